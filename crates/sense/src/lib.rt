@@ -1,0 +1,11 @@
+//! Sense data of SCSI Primary Commands: why a command failed, as key, code and qualifier and as
+//! 18 bytes, and the sense that a logical unit keeps for REQUEST SENSE.
+#![tactic(auto)]
+
+mod codes;
+#[cfg(test)]
+mod tests;
+mod waiting;
+
+pub use codes::{Sense, SenseKey};
+pub use waiting::Kept;

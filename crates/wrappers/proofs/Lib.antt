@@ -1,0 +1,3 @@
+pub mod CommandWrappers
+pub mod StatusWrappers
+pub mod ThirteenCases
