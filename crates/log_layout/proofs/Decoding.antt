@@ -1,0 +1,107 @@
+-- What a sector's numbers say of the value that it spells.
+use Rattle.std.proofs.Common.{◌≡◌, ℕ, zero, suc, ◌+◌, ◌^◌, ◌<◌, List, [], ◌∷◌, length, drop, get_or, ap, sym, ◌∙◌, arith}
+use Rattle.std.specs.Prelude.{All}
+use Rattle.std.proofs.lemmas.List.{ext_get_or}
+use Rattle.log_layout.specs.Places.{Shape, first_home}
+use Rattle.log_layout.specs.Spelling.{number_in, super_mark, head_mark, descriptor_mark, commit_mark}
+use Rattle.log_layout.specs.Sectors.{IsSuper, IsHead, IsDescriptor, IsCommit}
+use Rattle.log_layout.specs.SuperFaults.{HasMagic, HasVersion, HasZeroRest}
+use Rattle.log_layout.proofs.Spelling.{spelling-get, spelling-rest}
+
+-- the numbers of a descriptor fit eight bytes
+descriptor_fits : (stamp : ℕ) (numbers bytes : List ℕ) → IsDescriptor stamp numbers bytes
+    → All (λ n. n < 2 ^ 64) (descriptor_mark ∷ stamp ∷ length numbers ∷ numbers)
+descriptor_fits stamp numbers bytes d zero x below = omega arith
+descriptor_fits stamp numbers bytes d (suc zero) x below = omega (arith, d.most)
+descriptor_fits stamp numbers bytes d (suc (suc zero)) x below = omega (arith, d.block_numbers.few)
+descriptor_fits stamp numbers bytes d (suc (suc (suc k))) x below = omega (arith, d.block_numbers.fit k x (omega arith))
+
+-- a number behind three others
+behind_three : (a b c i : ℕ) (ns : List ℕ) → get_or (a ∷ b ∷ c ∷ ns) (3 + i) 0 ≡ get_or ns i 0
+behind_three a b c i ns = let e : 3 + i ≡ suc (suc (suc i)) = omega arith in ap (λ (k : ℕ). get_or (a ∷ b ∷ c ∷ ns) k 0) e
+
+module _ (stamp : ℕ) (numbers bytes : List ℕ) (d : IsDescriptor stamp numbers bytes) where
+  -- the stamp of a descriptor
+  pub descriptor_stamp : number_in bytes 1 ≡ stamp
+  descriptor_stamp = spelling-get 1 (descriptor_mark ∷ stamp ∷ length numbers ∷ numbers) bytes (omega arith) (descriptor_fits stamp numbers bytes d) d.spelled
+
+  -- how many block numbers it has
+  pub descriptor_count : number_in bytes 2 ≡ length numbers
+  descriptor_count = spelling-get 2 (descriptor_mark ∷ stamp ∷ length numbers ∷ numbers) bytes (omega arith) (descriptor_fits stamp numbers bytes d) d.spelled
+
+  -- a list that was read as its block numbers is its block numbers
+  pub descriptor_numbers : (count : ℕ) (list : List ℕ) → count ≡ number_in bytes 2
+      → length list ≡ count
+      → ((i : ℕ) → i < count → get_or list i 0 ≡ number_in bytes (3 + i)) → list ≡ numbers
+  descriptor_numbers count list is size read =
+      let same : count ≡ length numbers = is ∙ descriptor_count in
+      ext_get_or 0 list numbers (omega (arith, size, same)) (λ i below.
+      read i (omega (arith, size))
+      ∙ spelling-get (3 + i) (descriptor_mark ∷ stamp ∷ length numbers ∷ numbers) bytes (omega (arith, size, same)) (descriptor_fits stamp numbers bytes d) d.spelled
+      ∙ behind_three descriptor_mark stamp (length numbers) i numbers)
+
+-- the numbers of a super fit eight bytes
+super_fits : (shape : Shape) (bytes : List ℕ) → IsSuper shape bytes
+    → All (λ n. n < 2 ^ 64) (super_mark ∷ 1 ∷ shape.blocks ∷ shape.slots ∷ 2 ∷ first_home shape ∷ [])
+super_fits shape bytes s zero x below = omega arith
+super_fits shape bytes s (suc zero) x below = omega arith
+super_fits shape bytes s (suc (suc zero)) x below = omega (arith, s.most_blocks)
+super_fits shape bytes s (suc (suc (suc zero))) x below = omega (arith, s.most_slots)
+super_fits shape bytes s (suc (suc (suc (suc zero)))) x below = omega arith
+super_fits shape bytes s (suc (suc (suc (suc (suc zero))))) x below = omega (arith, s.most_slots)
+super_fits shape bytes s (suc (suc (suc (suc (suc (suc k)))))) x below = absurd (omega arith)
+
+module _ (shape : Shape) (bytes : List ℕ) (s : IsSuper shape bytes) where
+  -- how many blocks a super has
+  pub super_blocks : number_in bytes 2 ≡ shape.blocks
+  super_blocks = spelling-get 2 (super_mark ∷ 1 ∷ shape.blocks ∷ shape.slots ∷ 2 ∷ first_home shape ∷ []) bytes (omega arith) (super_fits shape bytes s) s.spelled
+
+  -- how many slots it has
+  pub super_slots : number_in bytes 3 ≡ shape.slots
+  super_slots = spelling-get 3 (super_mark ∷ 1 ∷ shape.blocks ∷ shape.slots ∷ 2 ∷ first_home shape ∷ []) bytes (omega arith) (super_fits shape bytes s) s.spelled
+
+  -- a super has no fault
+  pub super_begins : HasMagic bytes × HasVersion bytes × HasZeroRest bytes
+  super_begins = (
+    spelling-get 0 (super_mark ∷ 1 ∷ shape.blocks ∷ shape.slots ∷ 2 ∷ first_home shape ∷ []) bytes (omega arith) (super_fits shape bytes s) s.spelled,
+    spelling-get 1 (super_mark ∷ 1 ∷ shape.blocks ∷ shape.slots ∷ 2 ∷ first_home shape ∷ []) bytes (omega arith) (super_fits shape bytes s) s.spelled,
+    ap (λ (l : List ℕ). drop 48 l) s.spelled
+        ∙ spelling-rest (super_mark ∷ 1 ∷ shape.blocks ∷ shape.slots ∷ 2 ∷ first_home shape ∷ []),
+  )
+
+-- a super spells one shape
+pub IsSuper-one : (a b : Shape) (bytes : List ℕ) → IsSuper a bytes → IsSuper b bytes → a ≡ b
+IsSuper-one a b bytes s t =
+    let blocks : a.blocks ≡ b.blocks = sym (super_blocks a bytes s) ∙ super_blocks b bytes t in
+    let slots : a.slots ≡ b.slots = sym (super_slots a bytes s) ∙ super_slots b bytes t in
+    ap (λ (n : ℕ). make n a.slots) blocks ∙ ap (λ (n : ℕ). make b.blocks n) slots
+  where
+    make : ℕ → ℕ → Shape
+    make n k = record { blocks = n; slots = k }
+
+-- the stamp of a head
+pub head_stamp : (stamp : ℕ) (bytes : List ℕ) → IsHead stamp bytes → number_in bytes 1 ≡ stamp
+head_stamp stamp bytes h = spelling-get 1 (head_mark ∷ stamp ∷ []) bytes (omega arith) fits h.spelled
+  where
+    fits : All (λ n. n < 2 ^ 64) (head_mark ∷ stamp ∷ [])
+    fits zero x below = omega arith
+    fits (suc zero) x below = omega (arith, h.most)
+    fits (suc (suc k)) x below = absurd (omega arith)
+
+-- the numbers of a commit fit eight bytes
+commit_fits : (stamp count : ℕ) (bytes : List ℕ) → IsCommit stamp count bytes
+    → All (λ n. n < 2 ^ 64) (commit_mark ∷ stamp ∷ count ∷ [])
+commit_fits stamp count bytes c zero x below = omega arith
+commit_fits stamp count bytes c (suc zero) x below = omega (arith, c.most)
+commit_fits stamp count bytes c (suc (suc zero)) x below = omega (arith, c.few)
+commit_fits stamp count bytes c (suc (suc (suc k))) x below = absurd (omega arith)
+
+-- the stamp of a commit
+pub commit_stamp : (stamp count : ℕ) (bytes : List ℕ) → IsCommit stamp count bytes
+    → number_in bytes 1 ≡ stamp
+commit_stamp stamp count bytes c = spelling-get 1 (commit_mark ∷ stamp ∷ count ∷ []) bytes (omega arith) (commit_fits stamp count bytes c) c.spelled
+
+-- its count
+pub commit_count : (stamp count : ℕ) (bytes : List ℕ) → IsCommit stamp count bytes
+    → number_in bytes 2 ≡ count
+commit_count stamp count bytes c = spelling-get 2 (commit_mark ∷ stamp ∷ count ∷ []) bytes (omega arith) (commit_fits stamp count bytes c) c.spelled

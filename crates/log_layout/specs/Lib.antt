@@ -1,0 +1,9 @@
+pub mod Places
+pub mod Spelling
+pub mod Sectors
+pub mod SuperFaults
+pub mod Values
+pub mod Record
+pub mod Standing
+pub mod ImageFaults
+pub mod Laws

@@ -1,0 +1,28 @@
+-- Sectors as numbers: the marks, and the numbers of eight bytes, the lowest byte first.
+use Rattle.std.specs.Prelude.{ℕ, ◌*◌, ◌-◌, List, ◌++◌, length, replicate, drop, codes}
+use Rattle.std.specs.List.{flat_map}
+use Rattle.byteorder.specs.Endian.{little_bytes, little_number}
+
+-- a sector of these numbers, eight bytes each, and zeros behind them
+unfoldable pub spelling : List ℕ → List ℕ
+spelling numbers = flat_map (little_bytes 8) numbers ++ replicate (512 - 8 * length numbers) 0
+
+-- the i-th number of a sector
+unfoldable pub number_in : List ℕ → ℕ → ℕ
+number_in bytes i = little_number 8 (drop (8 * i) bytes)
+
+-- the first number of a sector that begins with this text of eight characters
+abbrev pub mark : List ℕ → ℕ
+mark text = little_number 8 text
+
+abbrev pub super_mark : ℕ
+super_mark = mark (codes "RDSUPER1")
+
+abbrev pub head_mark : ℕ
+head_mark = mark (codes "RDHEAD01")
+
+abbrev pub descriptor_mark : ℕ
+descriptor_mark = mark (codes "RDDESCR1")
+
+abbrev pub commit_mark : ℕ
+commit_mark = mark (codes "RDCOMMIT")

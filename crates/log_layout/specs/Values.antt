@@ -1,0 +1,7 @@
+-- The values that sectors spell, as contracts see them.
+use Rattle.log_layout.specs.declared.super_sector.Super.{Super}
+use Rattle.log_layout.specs.Places.{Shape}
+
+-- the shape of a medium with this super
+abbrev pub shape_of : Super → Shape
+shape_of sizes = record { blocks = sizes.blocks; slots = sizes.slots }

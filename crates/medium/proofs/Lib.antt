@@ -1,0 +1,7 @@
+pub mod Applied
+pub mod Blocks
+pub mod Flushed
+pub mod Keeping
+pub mod Moments
+pub mod Rows
+pub mod Walks

@@ -1,0 +1,9 @@
+pub mod Blocks
+pub mod Medium
+pub mod Moments
+pub mod Power
+pub mod Refusals
+pub mod Sim
+pub mod SimLaws
+pub mod SimView
+pub mod Writes

@@ -1,0 +1,117 @@
+-- A medium in memory: what its sectors hold, and what a cut may leave of them.
+use Rattle.std.specs.Prelude.{◌≡◌, ◌≢◌, ◌⊎◌, ℕ, ◌+◌, ◌-◌, ◌/◌, ◌%◌, ◌^◌, ◌<◌, ◌≤◌, min, Bool, true, false, None, Some, List, [], ◌∷◌, ◌++◌, length, if◌then◌else◌, nat_lt}
+use Rattle.medium.specs.Medium.{State, Image, Sets, CutLeaves}
+use Rattle.medium.specs.Power as power
+use Rattle.medium.specs.Power.{admits, powered}
+use Rattle.medium.specs.Refusals.{Refused, of_kind, of_all, one_more}
+use Rattle.medium.specs.Writes.{sector_of, applied, IsWritten, are_whole, kept_writes, LieWithin}
+use Rattle.medium.specs.declared.fault.MediumFault.{MediumFault}
+use Rattle.medium.specs.declared.fault.MediumFault.TheVariants.{Write, Flush}
+use Rattle.medium.specs.declared.power.Power.{Power}
+use Rattle.medium.specs.declared.unflushed.UnflushedWrite.{UnflushedWrite}
+
+pub record Sim : Type 0 where
+  -- the bytes of all sectors, without the unflushed writes
+  pub flushed : List ℕ
+  -- the writes since, in order of issue
+  pub unflushed : List UnflushedWrite
+  -- how many of them there is room for
+  pub room : ℕ
+  pub power : Power
+  -- how many flushes happened, up to the greatest number
+  pub flushes : ℕ
+  pub calls : ℕ
+  pub refused : Refused
+
+-- How many sectors there are. There is no medium whose unflushed writes are not of whole sectors.
+abbrev pub size_of : Sim → ℕ
+size_of m = if are_whole m.unflushed then length m.flushed / 512 else 0
+
+-- what a read gives
+abbrev pub content_of : Sim → Image
+content_of m = applied m.unflushed (sector_of m.flushed)
+
+-- a cut leaves a sector as it was flushed, or as one of the writes since would have it
+abbrev pub sets_of : Sim → Sets
+sets_of m s c = (c ≡ sector_of m.flushed s) ⊎ IsWritten m.unflushed s c
+
+-- earlier moments are answered with the sets of this one
+abbrev pub state_of : Sim → State
+state_of m = record {
+  size = size_of m;
+  content = content_of m;
+  may_leave = sets_of m;
+  left_since = λ t image. CutLeaves (sets_of m) image;
+  calls = m.calls;
+  failures = of_all m.refused;
+  refused = of_kind m.refused;
+}
+
+-- there is room for one more write
+abbrev pub fits : Sim → Bool
+fits m = nat_lt (length m.unflushed) m.room
+
+-- a call of this kind is counted, and moves the fuse, the failure and the power
+abbrev pub after_call : Sim → MediumFault → Bool → Sim
+after_call m kind room = record m {
+  power = power.after_call m.power kind room;
+  calls = m.calls + 1;
+  refused = if admits m.power kind room then m.refused else one_more m.refused kind;
+}
+
+-- a write that happens is the last of the unflushed ones
+abbrev pub after_write : Sim → ℕ → List ℕ → Sim
+after_write m s bytes =
+    if admits m.power Write (fits m)
+    then record (after_call m Write (fits m)) { unflushed = m.unflushed ++ record { sector = s; block = bytes } ∷ [] }
+    else after_call m Write (fits m)
+
+-- A flush that happens: each sector is flushed as a read gives it, and nothing is unflushed.
+pub record IsFlush (old new : Sim) : Type 0 where
+  pub image : (s : ℕ) → sector_of new.flushed s ≡ content_of old s
+  pub size_stays : length new.flushed ≡ length old.flushed
+  pub none : new.unflushed ≡ []
+  pub flushes_are : new.flushes ≡ min (2 ^ 64 - 1) (old.flushes + 1)
+  pub room_stays : new.room ≡ old.room
+  pub power_is : new.power ≡ power.after_call old.power Flush true
+  pub calls_are : new.calls ≡ old.calls + 1
+  pub refused_stay : new.refused ≡ old.refused
+
+-- A cut: the kept writes are applied in order of issue, and the others are lost.
+pub record IsCut (keep : ℕ → Bool) (old new : Sim) : Type 0 where
+  pub image : (s : ℕ) → sector_of new.flushed s
+      ≡ applied (kept_writes keep 0 old.unflushed) (sector_of old.flushed) s
+  pub size_stays : length new.flushed ≡ length old.flushed
+  pub none : new.unflushed ≡ []
+  pub power_on : new.power ≡ powered
+  pub room_stays : new.room ≡ old.room
+  pub flushes_stay : new.flushes ≡ old.flushes
+  pub calls_stay : new.calls ≡ old.calls
+  pub refused_stay : new.refused ≡ old.refused
+
+-- a fuse of so many writes and flushes is armed, and nothing else has changed
+abbrev pub IsFused : ℕ → Sim → Sim → Type 0
+IsFused writes old new = new ≡ record old { power = record old.power { fuse = Some writes } }
+
+-- a failure of the call so far from now is armed, and nothing else has changed
+abbrev pub IsFailing : ℕ → Sim → Sim → Type 0
+IsFailing call old new = new ≡ record old { power = record old.power { fail = Some call } }
+
+-- the second comes after the first, by calls of a medium alone
+pub record ComesAfter (old new : Sim) : Type 0 where
+  pub size_stays : length new.flushed ≡ length old.flushed
+  pub room_stays : new.room ≡ old.room
+  pub no_fuse_stays : old.power.fuse ≡ None → new.power.fuse ≡ None
+  pub off_stays : old.power.off ≡ true → new.power.off ≡ true
+  -- the power goes off in a call that the fuse refused
+  pub goes_off : old.power.off ≡ false → new.power.off ≡ true
+      → (old.power.fuse ≢ None) × (of_all old.refused < of_all new.refused)
+  pub failures_stay : of_all old.refused ≤ of_all new.refused
+
+-- what holds of every medium in memory
+pub record IsWellFormed (m : Sim) : Type 0 where
+  pub some : 0 < length m.flushed
+  pub whole : length m.flushed % 512 ≡ 0
+  pub within : LieWithin (length m.flushed) m.unflushed
+  pub whole_writes : are_whole m.unflushed ≡ true
+  pub held : length m.unflushed ≤ m.room

@@ -1,0 +1,22 @@
+//! Sectors of 512 bytes under a loss of power: what a read gives, and what a cut may leave.
+#![tactic(auto)]
+
+mod count;
+mod fault;
+mod kept;
+mod medium;
+mod power;
+mod refusals;
+mod sectors;
+mod sim;
+mod switch;
+mod unflushed;
+
+pub use fault::MediumFault;
+pub use kept::Kept;
+pub use medium::Medium;
+pub use sim::{SimError, SimMedium};
+pub use switch::Switch;
+
+#[cfg(test)]
+mod tests;

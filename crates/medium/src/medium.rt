@@ -1,0 +1,55 @@
+// Sectors that can be read, written and flushed.
+ghost use Rattle.std.specs.Prelude.{◌≡◌, ◌⊎◌, ◌<◌, ℕ, OnOk, OnErr};
+ghost use Rattle.medium.specs.declared.fault.MediumFault.TheVariants.{Read, Write, Flush};
+ghost use Rattle.medium.specs.Medium.{State, Stays, Holds, Within, Gains, Only, Passes, IsSound};
+
+use crate::fault::MediumFault;
+
+/// Sectors of 512 bytes, numbered from 0, of which each write is whole or absent after a cut.
+pub trait Medium {
+    /// What it holds, and what a cut may leave of it.
+    ghost state: { Self → State };
+
+    /// The second comes after the first, by calls of this trait alone.
+    ghost follows: { Self → Self → Type 0 };
+
+    /// How many sectors there are.
+    fn sectors(&self) -> u64
+        ensures { result ≡ (state self.now).size };
+
+    /// Reads one sector. At an `Err` the array may hold anything.
+    fn read(&mut self, sector: u64, to: &mut [u8; 512]) -> Result<(), MediumFault>
+        requires { sector < (state self.old).size }
+        ensures ok { OnOk result (to.new ≡ (state self.old).content sector) }
+        ensures content { Stays (state self.old).content (state self.new).content }
+        ensures sets { Within (state self.new).may_leave (state self.old).may_leave }
+        ensures passes { Passes Read result (state self.old) (state self.new) }
+        ensures follows { follows self.old self.new };
+
+    /// Writes one sector. A cut may lose the write until a good flush.
+    /// At an `Err` it may have happened or not.
+    fn write(&mut self, sector: u64, from: &[u8; 512]) -> Result<(), MediumFault>
+        requires { sector < (state self.old).size }
+        ensures ok { OnOk result
+            (Holds sector from.now (state self.old).content (state self.new).content) }
+        ensures err { OnErr result (Stays (state self.old).content (state self.new).content
+            ⊎ Holds sector from.now (state self.old).content (state self.new).content) }
+        ensures sets { Gains sector from.now (state self.old).may_leave (state self.new).may_leave }
+        ensures passes { Passes Write result (state self.old) (state self.new) }
+        ensures follows { follows self.old self.new };
+
+    /// Makes all sectors durable: a cut after it leaves what a read gives.
+    /// At an `Err` every write may still be lost.
+    fn flush(&mut self) -> Result<(), MediumFault>
+        ensures ok { OnOk result (Only (state self.old).content (state self.new).may_leave) }
+        ensures content { Stays (state self.old).content (state self.new).content }
+        ensures sets { Within (state self.new).may_leave (state self.old).may_leave }
+        ensures passes { Passes Flush result (state self.old) (state self.new) }
+        ensures follows { follows self.old self.new };
+
+    ghost sound: { (m : Self) → IsSound (state m) };
+
+    ghost follows_itself: { (m : Self) → follows m m };
+
+    ghost follows_through: { (a b c : Self) → follows a b → follows b c → follows a c };
+}
