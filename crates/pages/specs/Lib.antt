@@ -1,0 +1,3 @@
+pub mod Identification
+pub mod Inquiry
+pub mod Mode
