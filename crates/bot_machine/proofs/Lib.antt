@@ -1,0 +1,4 @@
+pub mod Packets
+pub mod Reading
+pub mod Alternation
+pub mod Runs

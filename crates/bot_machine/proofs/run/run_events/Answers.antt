@@ -1,0 +1,75 @@
+use Rattle.std.proofs.Common.{◌++◌, ◌∷◌, [], length, take, refl, sym, ap, ◌∙◌, arith, append_assoc, length-append}
+use Rattle.std.proofs.lemmas.List.{take_more, append-nil}
+use Rattle.medium.proofs.Moments.{quiet_start}
+use Rattle.bot_machine.specs.Answers.{Room}
+use Rattle.bot_machine.proofs.Runs.{IsRun-more}
+use Rattle.bot_machine.proofs.run.run_events.Goals as goal
+
+pub loop-event-init : goal.loop-event-init
+loop-event-init g c =
+    let m = g.M.Medium.state c.args.disk.now.medium in
+    record {
+      run = (
+        [],
+        ap (λ told. record c.args.answers.now { list = told }) (sym (append-nil
+            c.args.answers.now.list)),
+        record {
+          refusals = [];
+          refused = omega arith;
+          run = λ array holds. refl;
+          turns = λ none
+              array holds. tt;
+          quiet = quiet_start m;
+          identity = refl;
+        },
+      );
+      calls = omega arith;
+      follows = g.met.M.Medium.follows_itself c.args.disk.now.medium;
+      count = omega arith;
+      room = refl;
+    }
+
+pub push-requires : goal.push-requires
+push-requires g c =
+    rw (c.loop-event.invariant.room) (omega (
+      arith,
+      c.loop-event.invariant.count,
+      c.loop-event-test.true,
+      c.requires,
+    ))
+
+pub loop-event-preserved : goal.loop-event-preserved
+loop-event-preserved g c =
+    let state = g.M.Medium.state in
+    let old = c.args.disk.now in
+    let mid = c.loop-event.disk in
+    let new = c.answer_to.new.disk in
+    let first = c.args.answers.now in
+    let answer = c.answer_to.result in
+    let so_far = c.loop-event.invariant.run in
+    let i = c.loop-event.event-index in
+    let events = c.args.events.now in
+    let e = take_more events i c.event-item.result c.loop-event-test.true ∙ ap
+    (λ x. take i events ++ x ∷ []) (sym c.event-item.is) in
+    record {
+      run = (
+        so_far.0 ++ answer ∷ [],
+        c.push.ensures ∙ ap (λ (x : Room). record x { list = x.list ++ answer ∷ [] }) so_far.1
+            ∙ ap (λ told. record first { list = told }) (append_assoc first.list so_far.0
+            (answer ∷ [])),
+        rw e (IsRun-more (state old.medium) (state mid.medium) (state new.medium) old mid new
+            (take i events) so_far.0
+            c.event-item.result answer so_far.2 c.answer_to.ensures.step),
+      );
+      calls = omega (arith, c.loop-event.invariant.calls, c.answer_to.ensures.calls);
+      follows = g.met.M.Medium.follows_through old.medium mid.medium new.medium
+          c.loop-event.invariant.follows c.answer_to.ensures.follows;
+      count = omega (
+        arith,
+        ap (λ (x : Room). length x.list) c.push.ensures,
+        length-append
+            c.loop-event.answers.list (answer ∷ []),
+        c.loop-event.invariant.count,
+      );
+      room = ap (λ (x : Room). x.room) c.push.ensures ∙ c.loop-event.invariant.room;
+    }

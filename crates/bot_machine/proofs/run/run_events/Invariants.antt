@@ -1,0 +1,21 @@
+use Rattle.std.proofs.Common.{◌≡◌, ◌++◌, ◌+◌, ◌≤◌, List, take, length}
+use Rattle.bot_machine.specs.declared.event.Answer.{Answer}
+use Rattle.bot_machine.specs.Disk.{IsRun}
+use Rattle.bot_machine.proofs.run.run_events.Given as goal
+
+abbrev pub invariant-loop-event : goal.invariant-loop-event
+invariant-loop-event g l =
+    let medium = g.M.Medium in
+    let old = l.fn.disk in
+    record {
+      run : (told : List Answer) × (l.answers ≡ record l.fn.answers {
+        list = l.fn.answers.list ++
+            told;
+      })
+          × IsRun (medium.state old.medium) (medium.state l.disk.medium) old
+          (take l.event-index l.events) told l.disk;
+      calls : (medium.state l.disk.medium).calls ≤ (medium.state old.medium).calls + l.event-index;
+      follows : medium.follows old.medium l.disk.medium;
+      count : length l.answers.list ≡ length l.fn.answers.list + l.event-index;
+      room : l.answers.room ≡ l.fn.answers.room;
+    }

@@ -1,0 +1,10 @@
+pub mod Packets
+pub mod Requests
+pub mod Served
+pub mod Exchange
+pub mod Conversation
+pub mod Turns
+pub mod OneBlock
+pub mod Answers
+pub mod Disk
+pub mod Refinement

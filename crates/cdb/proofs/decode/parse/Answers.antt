@@ -1,0 +1,31 @@
+use Rattle.std.proofs.Common.{subst, sym, ap, ◌∙◌}
+use Rattle.std.specs.Prelude.{Result, IfOk, IfErr}
+use Rattle.sense.specs.declared.codes.Sense.{Sense}
+use Rattle.cdb.specs.declared.command.Command.{Command}
+use Rattle.cdb.specs.Supported.{IsSupported, IsRefusal}
+use Rattle.cdb.proofs.Laws.{supported, refused}
+use Rattle.cdb.proofs.Past.{past}
+use Rattle.cdb.proofs.Writing.{written}
+use Rattle.cdb.specs.Table.{command_of}
+use Rattle.cdb.proofs.decode.parse.Goals as goal
+
+pub returns-clause-supported : goal.returns-clause-supported
+returns-clause-supported c =
+    subst (λ (outcome : Result Command Sense). IfOk outcome (IsSupported c.args.n c.args.limit))
+    (sym c.by_operation_code.ensures) (supported c.args.n c.args.limit c.args.block.now)
+
+pub returns-clause-refusal : goal.returns-clause-refusal
+returns-clause-refusal c =
+    subst (λ (outcome : Result Command Sense). IfErr outcome IsRefusal)
+    (sym c.by_operation_code.ensures) (refused c.args.n c.args.limit c.args.block.now)
+
+pub returns-clause-past : goal.returns-clause-past
+returns-clause-past c =
+    λ more enough. past c.args.n c.args.limit c.args.block.now more c.requires enough
+    ∙ sym c.by_operation_code.ensures
+
+pub returns-clause-written : goal.returns-clause-written
+returns-clause-written c =
+    λ command supported fits same. c.by_operation_code.ensures
+    ∙ ap (command_of c.args.n c.args.limit) same
+    ∙ written c.args.n c.args.limit command supported fits

@@ -1,0 +1,4 @@
+pub mod Judging
+pub mod Table
+pub mod Supported
+pub mod Written
