@@ -1,52 +1,14 @@
 // Events played on a disk over a medium in memory, byte by byte.
 ghost use Rattle.std.specs.Prelude.{◌≤◌};
-ghost use Rattle.std.proofs.Common.{arith};
 
-use crate::{Answer, Answers, Disk, Event, Identity, StartFault, run_events};
+use crate::{Answer, Answers, Disk, Event, Identity, run_events};
 use arrayvec::ArrayVec;
-use medium::{Medium, MediumFault, SimMedium, Switch};
+use medium::{Medium, SimMedium, Switch};
 use std::test::Fail;
 
 const STATUS: [u8; 13] = [0x55, 0x53, 0x42, 0x53, 4, 0, 0, 0, 0, 0, 0, 0, 0];
 
 const RESET: [u8; 8] = [0x21, 0xff, 0, 0, 0, 0, 0, 0];
-
-// A medium that hides its sectors.
-#[derive(Drop)]
-struct NoSectors<M: Medium>(M);
-
-impl<M: Medium> Medium for NoSectors<M> {
-    ghost state = { λ m. record (M.state m.0) { size = 0 } };
-
-    ghost follows = { λ old new. M.follows old.0 new.0 };
-
-    ghost sound = { λ m. let s = M.sound m.0 in record {
-      holds_content = s.holds_content;
-      counts_now = s.counts_now;
-      only_now = s.only_now;
-      sized = λ b c below left. Prim.omega arith;
-    } };
-
-    ghost follows_itself = { λ m. M.follows_itself m.0 };
-
-    ghost follows_through = { λ a b c. M.follows_through a.0 b.0 c.0 };
-
-    fn sectors(&self) -> u64 {
-        0
-    }
-
-    fn read(&mut self, _sector: u64, _to: &mut [u8; 512]) -> Result<(), MediumFault> {
-        unreachable!()
-    }
-
-    fn write(&mut self, _sector: u64, _from: &[u8; 512]) -> Result<(), MediumFault> {
-        unreachable!()
-    }
-
-    fn flush(&mut self) -> Result<(), MediumFault> {
-        self.0.flush()
-    }
-}
 
 fn identity() -> Result<Identity, Fail> {
     let identity = Identity::new(
@@ -181,10 +143,5 @@ fn a_disk_gives_its_medium_back(rt: HostRuntime) -> Result<(), Fail> {
         .ok_or("no start")?;
     assert_eq!(rt; disk.medium().sectors(), 2);
     assert_eq!(rt; disk.into_medium().image().len(), 1024);
-    let Err(error) = Disk::start(NoSectors(two_sectors(rt)?), identity()?) else {
-        return Err(Fail::from("started"));
-    };
-    assert_eq!(rt; error.fault, StartFault::BadSize);
-    assert_eq!(rt; error.medium.0.image().len(), 1024);
     Ok(())
 }
