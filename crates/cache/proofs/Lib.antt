@@ -1,0 +1,5 @@
+pub mod Arrays
+pub mod Kept
+pub mod Maps
+pub mod Pairs
+pub mod Ranges

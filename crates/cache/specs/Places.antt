@@ -1,0 +1,34 @@
+-- Numbers that rise beside blocks in the same order, and the place of a number among them.
+use Rattle.std.specs.Prelude.{◌≡◌, ◌<◌, ◌≤◌, ℕ, ◌+◌, List, length, slice_index}
+use Rattle.std.specs.List.{All, flat_map}
+use Rattle.cache.specs.Blocks.{blocks_of, with_block, IsRising, absent}
+
+-- blocks one after the other
+abbrev pub joined : List (List ℕ) → List ℕ
+joined blocks = flat_map (λ (block : List ℕ). block) blocks
+
+-- a block of 512 bytes for each number, and the numbers rise
+pub record ArePaired (numbers : List ℕ) (blocks : List (List ℕ)) : Type 0 where
+  pub alike : length blocks ≡ length numbers
+  pub sized : All (λ (block : List ℕ). length block ≡ 512) blocks
+  pub rising : IsRising numbers
+
+-- the number stands at this place
+pub record StandsAt (numbers : List ℕ) (number place : ℕ) : Type 0 where
+  pub inside : place < length numbers
+  pub here : slice_index numbers place ≡ number
+  pub before : (k : ℕ) → k < place → slice_index numbers k < number
+
+-- the number is not there, and would stand at this place
+pub record WouldStandAt (numbers : List ℕ) (number place : ℕ) : Type 0 where
+  pub inside : place ≤ length numbers
+  pub before : (k : ℕ) → k < place → slice_index numbers k < number
+  pub past : (k : ℕ) → place ≤ k → k < length numbers → number < slice_index numbers k
+
+-- one block was put at its number: in place of the one that was there, or as one more
+pub record PutsEntry (number : ℕ) (block : List ℕ) (old_numbers new_numbers : List ℕ)
+    (old_blocks new_blocks : List (List ℕ)) : Type 0 where
+  pub paired : ArePaired new_numbers new_blocks
+  pub map : (b : ℕ) → blocks_of new_numbers (joined new_blocks) b
+      ≡ with_block (blocks_of old_numbers (joined old_blocks)) number block b
+  pub count : length new_numbers ≡ length old_numbers + absent old_numbers number

@@ -1,0 +1,147 @@
+// A bounded map from block numbers to blocks.
+ghost use Rattle.std.specs.Prelude.{◌≡◌, ◌⊎◌, ◌↔◌, ◌+◌, ◌*◌, ◌/◌, ◌%◌, ◌^◌, ◌<◌, ◌≤◌, ℕ, [], length, Some, None, IsTrue, IfOk, IfSome, IsNone};
+ghost use Rattle.cache.specs.Blocks.{with_range, InRange, Listed, absent, unlisted};
+ghost use Rattle.cache.specs.Entries.{IsWellFormed, Fits, PutsBlock, map_of};
+
+use crate::entry::{BLOCK, put_entry};
+use crate::place::{count_missing, place_of};
+use std::alloc::Global;
+use std::marker::Model;
+use thiserror::Error;
+
+/// Why no batch was made.
+#[derive(Error, Clone, Copy, Debug, PartialEq, Eq)]
+pub enum BatchError {
+    #[error("out of memory")]
+    NoMemory = 1,
+}
+
+/// Blocks of 512 bytes by their numbers, at most as many as there is room for.
+/// After `new` no call takes memory.
+#[derive(Drop)]
+pub struct Batch {
+    numbers: Vec<u64>,
+    blocks: Vec<[u8; BLOCK]>,
+    room: usize,
+}
+
+impl Model for Batch {
+    ghost use Rattle.cache.specs.Entries.{Entries};
+
+    ghost Value = { Entries };
+
+    ghost use Rattle.cache.specs.View.{view_of, IsKept};
+
+    ghost view = { view_of };
+
+    ghost invariant = { IsKept };
+}
+
+impl Batch {
+    /// An empty batch with room for so many blocks.
+    ///
+    /// # Errors
+    /// `NoMemory` where the room could not be had.
+    pub fn new(alloc: Global, room: usize) -> Result<Batch, BatchError>
+        ensures { IfOk result
+            (λ batch. batch ≡ record { room = room; numbers = []; bytes = [] }) }
+    {
+        let numbers = Vec::with_capacity(alloc, room).map_err(|_| BatchError::NoMemory)?;
+        let blocks = Vec::with_capacity(alloc, room).map_err(|_| BatchError::NoMemory)?;
+        Ok(Batch {
+            numbers,
+            blocks,
+            room,
+        })
+    }
+
+    /// How many blocks there are.
+    pub fn len(&self) -> usize
+        ensures { result ≡ length self.now.numbers }
+    {
+        self.numbers.len()
+    }
+
+    /// Whether there is no block.
+    pub fn is_empty(&self) -> bool
+        ensures { IsTrue result ↔ (self.now.numbers ≡ []) }
+    {
+        self.numbers.is_empty()
+    }
+
+    /// The numbers of the blocks, which rise.
+    pub fn numbers(&self) -> &[u64]
+        ensures value { result.now ≡ self.now.numbers }
+        ensures well_formed { IsWellFormed self.now }
+    {
+        &self.numbers
+    }
+
+    /// The blocks in the order of their numbers, 512 bytes each.
+    pub fn bytes(&self) -> &[u8]
+        ensures value { result.now ≡ self.now.bytes }
+        ensures well_formed { IsWellFormed self.now }
+    {
+        self.blocks.as_flattened()
+    }
+
+    /// The 512 bytes of a block, where it is there.
+    pub fn get(&self, block: u64) -> Option<&[u8]>
+        ensures some { IfSome result (λ bytes. map_of self.now block ≡ Some bytes.now) }
+        ensures size { IfSome result (λ bytes. length bytes.now ≡ 512) }
+        ensures none { IsNone result ↔ (map_of self.now block ≡ None) }
+    {
+        match place_of(&self.numbers, block) {
+            Ok(place) => Some(&self.blocks[place]),
+            Err(_) => None,
+        }
+    }
+
+    /// Whether there is room for so many blocks from the address on, of which those that are there
+    /// already take no more. The range ends at 2^31 or before.
+    pub fn fits(&self, address: u64, count: usize) -> bool
+        requires { address + count ≤ 2 ^ 31 }
+        ensures { IsTrue result ↔ Fits self.now address count }
+    {
+        count_missing(&self.numbers, address, count) <= self.room - self.numbers.len()
+    }
+
+    /// Puts blocks at the numbers from the address on, each in place of the one that was there.
+    /// The bytes are whole blocks of 512 bytes, at least one, which fit.
+    pub fn put(&mut self, address: u64, bytes: &[u8])
+        requires some { 512 ≤ length bytes.now }
+        requires whole { length bytes.now % 512 ≡ 0 }
+        requires range { address + length bytes.now / 512 ≤ 2 ^ 31 }
+        requires fits { Fits self.old address (length bytes.now / 512) }
+        ensures map { (b : ℕ) → map_of self.new b
+            ≡ with_range (map_of self.old) address (length bytes.now / 512) bytes.now b }
+        ensures members { (n : ℕ) → Listed self.new.numbers n
+            ↔ (Listed self.old.numbers n ⊎ InRange address (length bytes.now / 512) n) }
+        ensures count { length self.new.numbers ≡ length self.old.numbers
+            + unlisted self.old.numbers address (length bytes.now / 512) }
+        ensures room_stays { self.new.room ≡ self.old.room }
+        ensures well_formed { IsWellFormed self.new }
+    {
+        for i in 0..bytes.len() / BLOCK {
+            let at = i * BLOCK;
+            self.put_block(address + i as u64, &bytes[at..at + BLOCK]);
+        }
+    }
+
+    /// Forgets all blocks. The room stays.
+    pub fn clear(&mut self)
+        ensures { self.new ≡ record self.old { numbers = []; bytes = [] } }
+    {
+        self.numbers.clear();
+        self.blocks.clear();
+    }
+
+    // Puts one block.
+    fn put_block(&mut self, number: u64, block: &[u8])
+        requires size { length block.now ≡ 512 }
+        requires room { length self.old.numbers + absent self.old.numbers number ≤ self.old.room }
+        ensures { PutsBlock number block.now self.old self.new }
+    {
+        put_entry(&mut self.numbers, &mut self.blocks, number, block);
+    }
+}

@@ -1,0 +1,12 @@
+//! One batch of a write cache: a bounded map from logical block addresses to blocks of 512 bytes.
+//! Its room is made once; no later call takes memory.
+#![tactic(auto)]
+
+mod batch;
+mod entry;
+mod place;
+
+pub use batch::{Batch, BatchError};
+
+#[cfg(test)]
+mod tests;

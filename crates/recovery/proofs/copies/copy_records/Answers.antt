@@ -1,0 +1,87 @@
+use Rattle.std.proofs.Common.{◌≡◌, ◌∙◌, ◌+◌, ◌<◌, List, ℕ, [], length, get_or, refl, sym, ap, arith}
+use Rattle.std.proofs.lemmas.List.{take_all}
+use Rattle.log_layout.specs.Places.{first_home}
+use Rattle.log_layout.specs.Values.{shape_of}
+use Rattle.log_layout.specs.Record.{Entry, IsWhole, with_records, home_of}
+use Rattle.log_layout.proofs.Wholeness.{IsWhole-same}
+use Rattle.recovery.specs.Copies.{copy_calls, IsHomeInRecord, IsHomeInRecords}
+use Rattle.recovery.proofs.Copying.{none_copied, copies_joined, one_more_home, in_slot, not_in_log, home_same, copy_calls-more}
+use Rattle.recovery.proofs.copies.copy_records.Goals as goal
+
+pub copy_record-requires : goal.copy_record-requires
+copy_record-requires g c = let size = c.loop-j.invariant.within.size_stays in omega (arith, c.requires.fits, size)
+
+pub loop-j-init : goal.loop-j-init
+loop-j-init g c = record {
+  home = λ records count whole b. refl;
+  elsewhere = λ x not. refl;
+  within = none_copied (IsHomeInRecords (shape_of c.args.found.now.sizes) (g.M.Medium.state c.args.m.now).content c.args.found.now.head c.args.found.now.count) (g.M.Medium.state c.args.m.now) (g.met.M.Medium.sound c.args.m.now);
+  calls = omega arith;
+  exact = λ records count whole. omega arith;
+  follows = g.met.M.Medium.follows_itself c.args.m.now;
+}
+
+pub returns-in_err-copy_record-clause-within : goal.returns-in_err-copy_record-clause-within
+returns-in_err-copy_record-clause-within g c =
+    let found = c.args.found.now in
+    let shape = shape_of found.sizes in
+    let old = g.M.Medium.state c.args.m.now in
+    let mid = g.M.Medium.state c.loop-j.m in
+    let inv = c.loop-j.invariant in
+    let log : (y : ℕ) → y < first_home shape → mid.content y ≡ old.content y = λ y below. inv.elsewhere y (not_in_log shape old.content found.head found.count y below) in
+    copies_joined (IsHomeInRecords shape old.content found.head found.count) (IsHomeInRecord shape mid.content (found.head + c.loop-j.j)) (IsHomeInRecords shape old.content found.head found.count)
+    old mid (g.M.Medium.state c.copy_record.new.m) (g.met.M.Medium.sound c.loop-j.m) (λ x h. h)
+    (λ x h. (c.loop-j.j, c.loop-j-test.true, home_same shape mid.content old.content (found.head + c.loop-j.j) x found.sizes.some_slots (λ y below. sym (log y below)) h)) inv.within c.copy_record.ensures.within
+
+pub returns-in_err-copy_record-clause-elsewhere : goal.returns-in_err-copy_record-clause-elsewhere
+returns-in_err-copy_record-clause-elsewhere g c x not =
+    let found = c.args.found.now in
+    let shape = shape_of found.sizes in
+    let old = g.M.Medium.state c.args.m.now in
+    let mid = g.M.Medium.state c.loop-j.m in
+    let inv = c.loop-j.invariant in
+    let log : (y : ℕ) → y < first_home shape → mid.content y ≡ old.content y = λ y below. inv.elsewhere y (not_in_log shape old.content found.head found.count y below) in
+    c.copy_record.ensures.elsewhere x (λ h. not (c.loop-j.j, c.loop-j-test.true, home_same shape mid.content old.content (found.head + c.loop-j.j) x found.sizes.some_slots (λ y below. sym (log y below)) h)) ∙ inv.elsewhere x not
+
+pub loop-j-preserved : goal.loop-j-preserved
+loop-j-preserved g c =
+    let found = c.args.found.now in
+    let shape = shape_of found.sizes in
+    let old = g.M.Medium.state c.args.m.now in
+    let mid = g.M.Medium.state c.loop-j.m in
+    let new = g.M.Medium.state c.copy_record.new.m in
+    let inv = c.loop-j.invariant in
+    let j = c.loop-j.j in
+    let inside = c.loop-j-test.true in
+    let log : (y : ℕ) → y < first_home shape → mid.content y ≡ old.content y = λ y below. inv.elsewhere y (not_in_log shape old.content found.head found.count y below) in
+    record {
+      home = λ records count whole.
+          let short : j < length records = omega (arith, inside, count) in
+          let here : IsWhole shape mid.content (found.head + j) (get_or records j []) =
+          IsWhole-same shape old.content mid.content (found.head + j) (get_or records j []) (λ x low high. log x (in_slot shape (found.head + j) x found.sizes.some_slots high)) (whole j short) in
+          one_more_home shape old.content mid.content new.content records j short (inv.home records count whole) (c.in_ok-copy_record.ensures.home (get_or records j []) here);
+      elsewhere = λ x not. c.copy_record.ensures.elsewhere x (λ h. not (j, inside, home_same shape mid.content old.content (found.head + j) x found.sizes.some_slots (λ y below. sym (log y below)) h)) ∙ inv.elsewhere x not;
+      within = copies_joined (IsHomeInRecords shape old.content found.head found.count) (IsHomeInRecord shape mid.content (found.head + j)) (IsHomeInRecords shape old.content found.head found.count)
+          old mid new (g.met.M.Medium.sound c.loop-j.m) (λ x h. h)
+          (λ x h. (j, inside, home_same shape mid.content old.content (found.head + j) x found.sizes.some_slots (λ y below. sym (log y below)) h)) inv.within c.copy_record.ensures.within;
+      calls = omega (arith, inv.calls, c.copy_record.ensures.calls);
+      exact = λ records count whole.
+          let short : j < length records = omega (arith, inside, count) in
+          let here : IsWhole shape mid.content (found.head + j) (get_or records j []) =
+          IsWhole-same shape old.content mid.content (found.head + j) (get_or records j []) (λ x low high. log x (in_slot shape (found.head + j) x found.sizes.some_slots high)) (whole j short) in
+          let before = inv.exact records count whole in
+          let made = c.in_ok-copy_record.ensures.exact (get_or records j []) here in
+          let more = copy_calls-more j records short in
+          omega (arith, before, made, more);
+      follows = g.met.M.Medium.follows_through c.args.m.now c.loop-j.m c.copy_record.new.m inv.follows c.copy_record.ensures.follows;
+    }
+
+pub returns-clause-home : goal.returns-clause-home
+returns-clause-home g c records count whole b =
+    c.loop-j.invariant.home records count whole b
+    ∙ ap (λ (l : List (List Entry)). with_records l (home_of (shape_of c.args.found.now.sizes) (g.M.Medium.state c.args.m.now).content) b) (take_all c.loop-j.j records (omega (arith, c.loop-j-test.false)))
+
+pub returns-clause-exact : goal.returns-clause-exact
+returns-clause-exact g c records count whole =
+    c.loop-j.invariant.exact records count whole
+    ∙ ap (λ (l : List (List Entry)). (g.M.Medium.state c.args.m.now).calls + copy_calls l) (take_all c.loop-j.j records (omega (arith, c.loop-j-test.false)))

@@ -1,0 +1,9 @@
+use Rattle.recovery.proofs.Copying.{sector_copied}
+use Rattle.recovery.proofs.copies.copy_sector.Goals as goal
+
+pub returns-clause-within : goal.returns-clause-within
+returns-clause-within g c =
+    let old = g.M.Medium.state c.args.m.now in
+    let mid = g.M.Medium.state c.read.new.self in
+    let new = g.M.Medium.state c.write.new.self in
+    sector_copied c.args.to c.read.new.to old mid new (g.met.M.Medium.sound c.args.m.now) c.read.ensures.passes c.read.ensures.sets c.write.ensures.passes c.write.ensures.sets

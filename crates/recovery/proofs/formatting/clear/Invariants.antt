@@ -1,0 +1,12 @@
+use Rattle.std.proofs.Common.{◌≡◌, ◌<◌, ◌≤◌, ◌+◌, ◌-◌, ℕ}
+use Rattle.std.specs.Prelude.{replicate}
+use Rattle.recovery.proofs.formatting.clear.Given as goal
+
+abbrev pub invariant-loop-sector : goal.invariant-loop-sector
+invariant-loop-sector g l = record {
+  zeros : (x : ℕ) → l.from ≤ x → x < l.sector → (g.M.Medium.state l.m).content x ≡ replicate 512 0;
+  size : (g.M.Medium.state l.m).size ≡ (g.M.Medium.state l.fn.m).size;
+  calls : (g.M.Medium.state l.m).calls ≡ (g.M.Medium.state l.fn.m).calls + (l.sector - l.from);
+  failures : (g.M.Medium.state l.fn.m).failures ≤ (g.M.Medium.state l.m).failures;
+  follows : g.M.Medium.follows l.fn.m l.m;
+}

@@ -1,0 +1,183 @@
+use Rattle.std.proofs.Common.{arith}
+use Rattle.std.proofs.lemmas.Result.{err_from_is_err_and}
+use Rattle.medium.proofs.Moments.{quiet_call, quiet_joined}
+use Rattle.log_layout.specs.Values.{shape_of}
+use Rattle.recovery.proofs.Causes.{cause_before, served}
+use Rattle.recovery.proofs.Recovering.{quiet_cuts, quiet_made, calls_made, made_joined, seen_cuts, seen_after, later_cuts, later_after, one_shape, copied_leaves, moved_leaves, recovered_fresh, recovered_from}
+use Rattle.recovery.proofs.recovery.recover.Goals as goal
+
+pub copy_records-requires-clause-fits : goal.copy_records-requires-clause-fits
+copy_records-requires-clause-fits g c =
+    let fits = c.in_ok-found.ensures.ok.shape.fits in let size = c.inspect.ensures.quiet.size_stays in omega (arith, fits, size)
+
+pub copy_records-requires-clause-stamps : goal.copy_records-requires-clause-stamps
+copy_records-requires-clause-stamps g c =
+    let left = c.in_ok-found.ensures.ok.stamp_left in omega (arith, left)
+
+pub move_head-requires-clause-inside : goal.move_head-requires-clause-inside
+move_head-requires-clause-inside g c =
+    let fits = c.in_ok-found.ensures.ok.shape.fits in let size = c.inspect.ensures.quiet.size_stays in let same = c.copy_records.ensures.within.size_stays in omega (arith, fits, size, same)
+
+pub returns-in_err-flush-clause-cuts : goal.returns-in_err-flush-clause-cuts
+returns-in_err-flush-clause-cuts g c each =
+    let old = g.M.Medium.state c.args.m.now in
+    let mid = g.M.Medium.state c.flush.new.self in
+    let flushed = quiet_call old mid c.flush.ensures.passes c.flush.ensures.content c.flush.ensures.sets in
+    quiet_cuts old mid (g.met.M.Medium.sound c.args.m.now) flushed each
+
+pub returns-in_err-flush-clause-moments : goal.returns-in_err-flush-clause-moments
+returns-in_err-flush-clause-moments g c =
+    let old = g.M.Medium.state c.args.m.now in
+    let mid = g.M.Medium.state c.flush.new.self in
+    let flushed = quiet_call old mid c.flush.ensures.passes c.flush.ensures.content c.flush.ensures.sets in
+    quiet_made old mid (g.met.M.Medium.sound c.args.m.now) flushed
+
+pub returns-in_err-found-clause-cuts : goal.returns-in_err-found-clause-cuts
+returns-in_err-found-clause-cuts g c each =
+    let old = g.M.Medium.state c.args.m.now in
+    let mid = g.M.Medium.state c.flush.new.self in
+    let flushed = quiet_call old mid c.flush.ensures.passes c.flush.ensures.content c.flush.ensures.sets in
+    let seen = g.M.Medium.state c.inspect.new.m in
+    seen_cuts old mid seen (g.met.M.Medium.sound c.args.m.now) (g.met.M.Medium.sound c.flush.new.self) flushed c.flush.ensures.passes.calls_are c.in_ok-flush.ensures.ok c.inspect.ensures.quiet each
+
+pub returns-in_err-found-clause-after_flush : goal.returns-in_err-found-clause-after_flush
+returns-in_err-found-clause-after_flush g c shape array next ours later image since =
+    let old = g.M.Medium.state c.args.m.now in
+    let mid = g.M.Medium.state c.flush.new.self in
+    let flushed = quiet_call old mid c.flush.ensures.passes c.flush.ensures.content c.flush.ensures.sets in
+    let seen = g.M.Medium.state c.inspect.new.m in
+    seen_after old mid seen (g.met.M.Medium.sound c.args.m.now) (g.met.M.Medium.sound c.flush.new.self) flushed c.flush.ensures.passes.calls_are c.in_ok-flush.ensures.ok c.inspect.ensures.quiet shape array next ours image since
+
+pub returns-in_err-found-clause-moments : goal.returns-in_err-found-clause-moments
+returns-in_err-found-clause-moments g c =
+    let old = g.M.Medium.state c.args.m.now in
+    let mid = g.M.Medium.state c.flush.new.self in
+    let flushed = quiet_call old mid c.flush.ensures.passes c.flush.ensures.content c.flush.ensures.sets in
+    let seen = g.M.Medium.state c.inspect.new.m in
+    quiet_made old seen (g.met.M.Medium.sound c.args.m.now) (quiet_joined old mid seen flushed c.inspect.ensures.quiet)
+
+pub returns-in_err-copy_records-clause-cuts : goal.returns-in_err-copy_records-clause-cuts
+returns-in_err-copy_records-clause-cuts g c each =
+    let old = g.M.Medium.state c.args.m.now in
+    let mid = g.M.Medium.state c.flush.new.self in
+    let flushed = quiet_call old mid c.flush.ensures.passes c.flush.ensures.content c.flush.ensures.sets in
+    let seen = g.M.Medium.state c.inspect.new.m in
+    let copied = g.M.Medium.state c.copy_records.new.m in
+    later_cuts old mid seen (g.met.M.Medium.sound c.args.m.now) (g.met.M.Medium.sound c.flush.new.self) flushed c.flush.ensures.passes.calls_are c.in_ok-flush.ensures.ok c.inspect.ensures.quiet copied (shape_of c.in_ok-found.found.sizes) (copied_leaves old mid seen (g.met.M.Medium.sound c.args.m.now) (g.met.M.Medium.sound c.flush.new.self) flushed c.flush.ensures.passes.calls_are c.in_ok-flush.ensures.ok c.inspect.ensures.quiet c.in_ok-found.found c.in_ok-found.ensures.ok copied (g.met.M.Medium.sound c.copy_records.new.m) c.copy_records.ensures.within) (one_shape old mid seen (g.met.M.Medium.sound c.args.m.now) (g.met.M.Medium.sound c.flush.new.self) flushed c.flush.ensures.passes.calls_are c.in_ok-flush.ensures.ok c.inspect.ensures.quiet c.in_ok-found.found c.in_ok-found.ensures.ok) each
+
+pub returns-in_err-copy_records-clause-after_flush : goal.returns-in_err-copy_records-clause-after_flush
+returns-in_err-copy_records-clause-after_flush g c shape array next ours later image since =
+    let old = g.M.Medium.state c.args.m.now in
+    let mid = g.M.Medium.state c.flush.new.self in
+    let flushed = quiet_call old mid c.flush.ensures.passes c.flush.ensures.content c.flush.ensures.sets in
+    let seen = g.M.Medium.state c.inspect.new.m in
+    let copied = g.M.Medium.state c.copy_records.new.m in
+    later_after old mid seen (g.met.M.Medium.sound c.args.m.now) (g.met.M.Medium.sound c.flush.new.self) flushed c.flush.ensures.passes.calls_are c.in_ok-flush.ensures.ok c.inspect.ensures.quiet copied (shape_of c.in_ok-found.found.sizes) (copied_leaves old mid seen (g.met.M.Medium.sound c.args.m.now) (g.met.M.Medium.sound c.flush.new.self) flushed c.flush.ensures.passes.calls_are c.in_ok-flush.ensures.ok c.inspect.ensures.quiet c.in_ok-found.found c.in_ok-found.ensures.ok copied (g.met.M.Medium.sound c.copy_records.new.m) c.copy_records.ensures.within) (one_shape old mid seen (g.met.M.Medium.sound c.args.m.now) (g.met.M.Medium.sound c.flush.new.self) flushed c.flush.ensures.passes.calls_are c.in_ok-flush.ensures.ok c.inspect.ensures.quiet c.in_ok-found.found c.in_ok-found.ensures.ok) shape array next ours image since
+
+pub returns-in_err-copy_records-clause-moments : goal.returns-in_err-copy_records-clause-moments
+returns-in_err-copy_records-clause-moments g c =
+    let old = g.M.Medium.state c.args.m.now in
+    let mid = g.M.Medium.state c.flush.new.self in
+    let flushed = quiet_call old mid c.flush.ensures.passes c.flush.ensures.content c.flush.ensures.sets in
+    let seen = g.M.Medium.state c.inspect.new.m in
+    let copied = g.M.Medium.state c.copy_records.new.m in
+    made_joined old seen copied (quiet_made old seen (g.met.M.Medium.sound c.args.m.now) (quiet_joined old mid seen flushed c.inspect.ensures.quiet)) (calls_made _ seen copied c.copy_records.ensures.within)
+
+pub returns-in_err-move_head-clause-cuts : goal.returns-in_err-move_head-clause-cuts
+returns-in_err-move_head-clause-cuts g c each =
+    let old = g.M.Medium.state c.args.m.now in
+    let mid = g.M.Medium.state c.flush.new.self in
+    let flushed = quiet_call old mid c.flush.ensures.passes c.flush.ensures.content c.flush.ensures.sets in
+    let seen = g.M.Medium.state c.inspect.new.m in
+    let copied = g.M.Medium.state c.copy_records.new.m in
+    let new = g.M.Medium.state c.move_head.new.m in
+    later_cuts old mid seen (g.met.M.Medium.sound c.args.m.now) (g.met.M.Medium.sound c.flush.new.self) flushed c.flush.ensures.passes.calls_are c.in_ok-flush.ensures.ok c.inspect.ensures.quiet new (shape_of c.in_ok-found.found.sizes) (moved_leaves old mid seen (g.met.M.Medium.sound c.args.m.now) (g.met.M.Medium.sound c.flush.new.self) flushed c.flush.ensures.passes.calls_are c.in_ok-flush.ensures.ok c.inspect.ensures.quiet c.in_ok-found.found c.in_ok-found.ensures.ok copied (g.met.M.Medium.sound c.copy_records.new.m) c.copy_records.ensures.within c.copy_records.ensures.elsewhere c.in_ok-copy_records.ensures.home new c.move_head.ensures.moments) (one_shape old mid seen (g.met.M.Medium.sound c.args.m.now) (g.met.M.Medium.sound c.flush.new.self) flushed c.flush.ensures.passes.calls_are c.in_ok-flush.ensures.ok c.inspect.ensures.quiet c.in_ok-found.found c.in_ok-found.ensures.ok) each
+
+pub returns-in_err-move_head-clause-after_flush : goal.returns-in_err-move_head-clause-after_flush
+returns-in_err-move_head-clause-after_flush g c shape array next ours later image since =
+    let old = g.M.Medium.state c.args.m.now in
+    let mid = g.M.Medium.state c.flush.new.self in
+    let flushed = quiet_call old mid c.flush.ensures.passes c.flush.ensures.content c.flush.ensures.sets in
+    let seen = g.M.Medium.state c.inspect.new.m in
+    let copied = g.M.Medium.state c.copy_records.new.m in
+    let new = g.M.Medium.state c.move_head.new.m in
+    later_after old mid seen (g.met.M.Medium.sound c.args.m.now) (g.met.M.Medium.sound c.flush.new.self) flushed c.flush.ensures.passes.calls_are c.in_ok-flush.ensures.ok c.inspect.ensures.quiet new (shape_of c.in_ok-found.found.sizes) (moved_leaves old mid seen (g.met.M.Medium.sound c.args.m.now) (g.met.M.Medium.sound c.flush.new.self) flushed c.flush.ensures.passes.calls_are c.in_ok-flush.ensures.ok c.inspect.ensures.quiet c.in_ok-found.found c.in_ok-found.ensures.ok copied (g.met.M.Medium.sound c.copy_records.new.m) c.copy_records.ensures.within c.copy_records.ensures.elsewhere c.in_ok-copy_records.ensures.home new c.move_head.ensures.moments) (one_shape old mid seen (g.met.M.Medium.sound c.args.m.now) (g.met.M.Medium.sound c.flush.new.self) flushed c.flush.ensures.passes.calls_are c.in_ok-flush.ensures.ok c.inspect.ensures.quiet c.in_ok-found.found c.in_ok-found.ensures.ok) shape array next ours image since
+
+pub returns-in_err-move_head-clause-moments : goal.returns-in_err-move_head-clause-moments
+returns-in_err-move_head-clause-moments g c =
+    let old = g.M.Medium.state c.args.m.now in
+    let mid = g.M.Medium.state c.flush.new.self in
+    let flushed = quiet_call old mid c.flush.ensures.passes c.flush.ensures.content c.flush.ensures.sets in
+    let seen = g.M.Medium.state c.inspect.new.m in
+    let copied = g.M.Medium.state c.copy_records.new.m in
+    let new = g.M.Medium.state c.move_head.new.m in
+    made_joined old copied new (made_joined old seen copied (quiet_made old seen (g.met.M.Medium.sound c.args.m.now) (quiet_joined old mid seen flushed c.inspect.ensures.quiet)) (calls_made _ seen copied c.copy_records.ensures.within)) (calls_made _ copied new c.move_head.ensures.moments)
+
+pub returns-clause-cuts : goal.returns-clause-cuts
+returns-clause-cuts g c each =
+    let old = g.M.Medium.state c.args.m.now in
+    let mid = g.M.Medium.state c.flush.new.self in
+    let flushed = quiet_call old mid c.flush.ensures.passes c.flush.ensures.content c.flush.ensures.sets in
+    let seen = g.M.Medium.state c.inspect.new.m in
+    let copied = g.M.Medium.state c.copy_records.new.m in
+    let new = g.M.Medium.state c.move_head.new.m in
+    later_cuts old mid seen (g.met.M.Medium.sound c.args.m.now) (g.met.M.Medium.sound c.flush.new.self) flushed c.flush.ensures.passes.calls_are c.in_ok-flush.ensures.ok c.inspect.ensures.quiet new (shape_of c.in_ok-found.found.sizes) (moved_leaves old mid seen (g.met.M.Medium.sound c.args.m.now) (g.met.M.Medium.sound c.flush.new.self) flushed c.flush.ensures.passes.calls_are c.in_ok-flush.ensures.ok c.inspect.ensures.quiet c.in_ok-found.found c.in_ok-found.ensures.ok copied (g.met.M.Medium.sound c.copy_records.new.m) c.copy_records.ensures.within c.copy_records.ensures.elsewhere c.in_ok-copy_records.ensures.home new c.move_head.ensures.moments) (one_shape old mid seen (g.met.M.Medium.sound c.args.m.now) (g.met.M.Medium.sound c.flush.new.self) flushed c.flush.ensures.passes.calls_are c.in_ok-flush.ensures.ok c.inspect.ensures.quiet c.in_ok-found.found c.in_ok-found.ensures.ok) each
+
+pub returns-clause-after_flush : goal.returns-clause-after_flush
+returns-clause-after_flush g c shape array next ours later image since =
+    let old = g.M.Medium.state c.args.m.now in
+    let mid = g.M.Medium.state c.flush.new.self in
+    let flushed = quiet_call old mid c.flush.ensures.passes c.flush.ensures.content c.flush.ensures.sets in
+    let seen = g.M.Medium.state c.inspect.new.m in
+    let copied = g.M.Medium.state c.copy_records.new.m in
+    let new = g.M.Medium.state c.move_head.new.m in
+    later_after old mid seen (g.met.M.Medium.sound c.args.m.now) (g.met.M.Medium.sound c.flush.new.self) flushed c.flush.ensures.passes.calls_are c.in_ok-flush.ensures.ok c.inspect.ensures.quiet new (shape_of c.in_ok-found.found.sizes) (moved_leaves old mid seen (g.met.M.Medium.sound c.args.m.now) (g.met.M.Medium.sound c.flush.new.self) flushed c.flush.ensures.passes.calls_are c.in_ok-flush.ensures.ok c.inspect.ensures.quiet c.in_ok-found.found c.in_ok-found.ensures.ok copied (g.met.M.Medium.sound c.copy_records.new.m) c.copy_records.ensures.within c.copy_records.ensures.elsewhere c.in_ok-copy_records.ensures.home new c.move_head.ensures.moments) (one_shape old mid seen (g.met.M.Medium.sound c.args.m.now) (g.met.M.Medium.sound c.flush.new.self) flushed c.flush.ensures.passes.calls_are c.in_ok-flush.ensures.ok c.inspect.ensures.quiet c.in_ok-found.found c.in_ok-found.ensures.ok) shape array next ours image since
+
+pub returns-clause-moments : goal.returns-clause-moments
+returns-clause-moments g c =
+    let old = g.M.Medium.state c.args.m.now in
+    let mid = g.M.Medium.state c.flush.new.self in
+    let flushed = quiet_call old mid c.flush.ensures.passes c.flush.ensures.content c.flush.ensures.sets in
+    let seen = g.M.Medium.state c.inspect.new.m in
+    let copied = g.M.Medium.state c.copy_records.new.m in
+    let new = g.M.Medium.state c.move_head.new.m in
+    made_joined old copied new (made_joined old seen copied (quiet_made old seen (g.met.M.Medium.sound c.args.m.now) (quiet_joined old mid seen flushed c.inspect.ensures.quiet)) (calls_made _ seen copied c.copy_records.ensures.within)) (calls_made _ copied new c.move_head.ensures.moments)
+
+pub returns-clause-ok : goal.returns-clause-ok
+returns-clause-ok g c =
+    let old = g.M.Medium.state c.args.m.now in
+    let mid = g.M.Medium.state c.flush.new.self in
+    let flushed = quiet_call old mid c.flush.ensures.passes c.flush.ensures.content c.flush.ensures.sets in
+    let seen = g.M.Medium.state c.inspect.new.m in
+    let copied = g.M.Medium.state c.copy_records.new.m in
+    let new = g.M.Medium.state c.move_head.new.m in
+    recovered_from old mid seen (g.met.M.Medium.sound c.args.m.now) (g.met.M.Medium.sound c.flush.new.self) flushed c.flush.ensures.passes.calls_are c.in_ok-flush.ensures.ok c.inspect.ensures.quiet c.in_ok-found.found c.in_ok-found.ensures.ok copied (g.met.M.Medium.sound c.copy_records.new.m) c.copy_records.ensures.within c.copy_records.ensures.elsewhere c.in_ok-copy_records.ensures.home new c.move_head.ensures.moments c.in_ok-move_head.ensures.moved c.in_ok-move_head.ensures.flushed
+    c.in_ok-found.ensures.exact c.in_ok-copy_records.ensures.exact c.in_ok-move_head.ensures.exact
+
+pub returns-clause-fresh : goal.returns-clause-fresh
+returns-clause-fresh g c shape array next ours =
+    let old = g.M.Medium.state c.args.m.now in
+    let mid = g.M.Medium.state c.flush.new.self in
+    let flushed = quiet_call old mid c.flush.ensures.passes c.flush.ensures.content c.flush.ensures.sets in
+    let seen = g.M.Medium.state c.inspect.new.m in
+    let copied = g.M.Medium.state c.copy_records.new.m in
+    let new = g.M.Medium.state c.move_head.new.m in
+    recovered_fresh old mid seen (g.met.M.Medium.sound c.args.m.now) (g.met.M.Medium.sound c.flush.new.self) flushed c.flush.ensures.passes.calls_are c.in_ok-flush.ensures.ok c.inspect.ensures.quiet c.in_ok-found.found c.in_ok-found.ensures.ok copied (g.met.M.Medium.sound c.copy_records.new.m) c.copy_records.ensures.within c.copy_records.ensures.elsewhere c.in_ok-copy_records.ensures.home new c.move_head.ensures.moments c.in_ok-move_head.ensures.moved c.in_ok-move_head.ensures.flushed shape array next ours
+
+pub returns-in_err-found-clause-err : goal.returns-in_err-found-clause-err
+returns-in_err-found-clause-err g c =
+    let old = g.M.Medium.state c.args.m.now in
+    let mid = g.M.Medium.state c.flush.new.self in
+    let flushed = quiet_call old mid c.flush.ensures.passes c.flush.ensures.content c.flush.ensures.sets in
+    let seen = g.M.Medium.state c.inspect.new.m in
+    let p = err_from_is_err_and c.from_residual-in_err-found.result c.from_residual-in_err-found.ensures.1 in
+    rw (p.1, p.2) (cause_before old mid seen flushed c.in_err-found.field-0.0 c.in_err-found.ensures.err)
+
+pub returns-in_err-found-clause-served : goal.returns-in_err-found-clause-served
+returns-in_err-found-clause-served g c shape array next s left =
+    let old = g.M.Medium.state c.args.m.now in
+    let mid = g.M.Medium.state c.flush.new.self in
+    let flushed = quiet_call old mid c.flush.ensures.passes c.flush.ensures.content c.flush.ensures.sets in
+    let seen = g.M.Medium.state c.inspect.new.m in
+    let p = err_from_is_err_and c.from_residual-in_err-found.result c.from_residual-in_err-found.ensures.1 in
+    rw (p.1, p.2) (served old seen c.in_err-found.field-0.0 (cause_before old mid seen flushed c.in_err-found.field-0.0 c.in_err-found.ensures.err) shape array next s left)

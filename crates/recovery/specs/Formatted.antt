@@ -1,0 +1,31 @@
+-- What a format makes.
+use Rattle.std.specs.Prelude.{◌≡◌, ℕ, ◌≤◌, ◌<◌, ◌^◌, replicate}
+use Rattle.medium.specs.Medium.{State}
+use Rattle.medium.specs.Moments.{IsFlushed}
+use Rattle.log_layout.specs.Places.{Shape, sectors_of}
+use Rattle.log_layout.specs.Sectors.{IsSuper, IsHead}
+use Rattle.log_layout.specs.Standing.{IsOurs}
+use Rattle.recovery.specs.declared.format_fault.FormatFault.{FormatFault}
+use Rattle.recovery.specs.declared.format_fault.FormatFault.TheVariants.{BadSize, Medium}
+
+-- the sizes are in their limits, and so many sectors are enough for them
+pub record AreSizes (size : ℕ) (shape : Shape) : Type 0 where
+  pub some_blocks : 1 ≤ shape.blocks
+  pub most_blocks : shape.blocks ≤ 2 ^ 31
+  pub some_slots : 1 ≤ shape.slots
+  pub most_slots : shape.slots ≤ 64
+  pub fits : sectors_of shape ≤ size
+
+-- The one image that a cut may leave has these sizes, the head at stamp 1, and zeros everywhere else;
+-- it is ours, for blocks of zeros, and its next stamp is 2.
+pub record IsFormatted (shape : Shape) (m : State) : Type 0 where
+  pub flushed : IsFlushed m
+  pub super : IsSuper shape (m.content 0)
+  pub head : IsHead 1 (m.content 1)
+  pub zeros : (x : ℕ) → 2 ≤ x → x < sectors_of shape → m.content x ≡ replicate 512 0
+  pub ours : IsOurs m.size shape m.content (λ b. replicate 512 0) 2
+
+-- why a format is refused: by the sizes, or, where they are good, by the medium
+abbrev pub IsFormatCause : Shape → State → State → FormatFault → Type 0
+IsFormatCause shape old new BadSize = ¬ AreSizes old.size shape
+IsFormatCause shape old new Medium = AreSizes old.size shape × (old.failures < new.failures)

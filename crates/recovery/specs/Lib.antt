@@ -1,0 +1,5 @@
+pub mod Causes
+pub mod Found
+pub mod Copies
+pub mod Recovered
+pub mod Formatted

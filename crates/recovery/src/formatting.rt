@@ -1,0 +1,99 @@
+//! The making of an image.
+ghost use Rattle.std.specs.Prelude.{◌≡◌, ◌<◌, ◌≤◌, ◌+◌, ◌-◌, ◌*◌, ℕ, OnOk, OnErr, IfErr, MatchOption, replicate};
+ghost use Rattle.medium.specs.Medium.{Holds};
+ghost use Rattle.medium.specs.Moments.{IsFlushed};
+ghost use Rattle.log_layout.specs.Places.{Shape, sectors_of};
+ghost use Rattle.log_layout.specs.Values.{shape_of};
+ghost use Rattle.recovery.specs.Formatted.{AreSizes, IsFormatted, IsFormatCause};
+
+use crate::FormatFault;
+use log_layout::{Head, Super};
+use medium::{Medium, MediumFault};
+
+// These sizes, where they are in their limits and this many sectors are enough for them.
+fn sizes_of(sectors: u64, blocks: u64, slots: u64) -> Option<Super>
+    ensures { let shape : Shape = record { blocks = blocks; slots = slots } in
+        MatchOption result (¬ AreSizes sectors shape)
+        (λ sizes. (shape_of sizes ≡ shape) × AreSizes sectors shape) }
+{
+    if blocks < 1 || blocks > 1 << 31 || slots < 1 || slots > 64 {
+        return None;
+    }
+    let sizes = Super::new(blocks, slots);
+    if sizes.sectors() <= sectors {
+        Some(sizes)
+    } else {
+        None
+    }
+}
+
+// Writes zeros to each sector from this one up to that one.
+fn clear<M: Medium>(m: &mut M, from: u64, end: u64) -> Result<(), MediumFault>
+    requires inside { end ≤ (M.state m.old).size }
+    requires some { from ≤ end }
+    ensures zeros { OnOk result ((x : ℕ) → from ≤ x → x < end
+        → (M.state m.new).content x ≡ replicate 512 0) }
+    ensures size { (M.state m.new).size ≡ (M.state m.old).size }
+    ensures calls { OnOk result ((M.state m.new).calls ≡ (M.state m.old).calls + (end - from)) }
+    ensures failures { (M.state m.old).failures ≤ (M.state m.new).failures }
+    ensures cause { OnErr result ((M.state m.old).failures < (M.state m.new).failures) }
+    ensures follows { M.follows m.old m.new }
+{
+    for sector in from..end {
+        m.write(sector, &[0; 512])?;
+    }
+    Ok(())
+}
+
+// Writes a sector and flushes it.
+fn write_through<M: Medium>(m: &mut M, place: u64, sector: &[u8; 512]) -> Result<(), MediumFault>
+    requires { place < (M.state m.old).size }
+    ensures done { OnOk result
+        (Holds place sector.now (M.state m.old).content (M.state m.new).content
+        × IsFlushed (M.state m.new)) }
+    ensures size { (M.state m.new).size ≡ (M.state m.old).size }
+    ensures calls { OnOk result ((M.state m.new).calls ≡ (M.state m.old).calls + 2) }
+    ensures failures { (M.state m.old).failures ≤ (M.state m.new).failures }
+    ensures cause { OnErr result ((M.state m.old).failures < (M.state m.new).failures) }
+    ensures follows { M.follows m.old m.new }
+{
+    m.write(place, sector)?;
+    m.flush()
+}
+
+// Writes an image of these sizes. The super goes first and comes last, so that a format that was cut
+// leaves no image.
+fn write_image<M: Medium>(m: &mut M, sizes: &Super) -> Result<(), MediumFault>
+    requires { sectors_of (shape_of sizes.now) ≤ (M.state m.old).size }
+    ensures done { OnOk result (IsFormatted (shape_of sizes.now) (M.state m.new)) }
+    ensures size { (M.state m.new).size ≡ (M.state m.old).size }
+    ensures calls { OnOk result ((M.state m.new).calls
+        ≡ (M.state m.old).calls + sectors_of (shape_of sizes.now) + 5) }
+    ensures cause { OnErr result ((M.state m.old).failures < (M.state m.new).failures) }
+    ensures follows { M.follows m.old m.new }
+{
+    write_through(m, 0, &[0; 512])?;
+    clear(m, 1, sizes.sectors())?;
+    write_through(m, 1, &Head::new(1).encode())?;
+    write_through(m, 0, &sizes.encode())
+}
+
+/// Makes an image of so many blocks of zeros, 1 to 2^31, with so many log slots, 1 to 64.
+///
+/// It takes `2 + 50 * slots + blocks` sectors. Where it does not answer `Ok`, it promises nothing of
+/// what the medium then holds.
+pub fn format<M: Medium>(m: &mut M, blocks: u64, slots: u64) -> Result<(), FormatFault>
+    ensures ok { let shape : Shape = record { blocks = blocks; slots = slots } in
+        OnOk result (IsFormatted shape (M.state m.new)) }
+    ensures err { let shape : Shape = record { blocks = blocks; slots = slots } in
+        IfErr result (IsFormatCause shape (M.state m.old) (M.state m.new)) }
+    ensures untouched { IfErr result (λ fault. fault ≡ FormatFault.BadSize → m.new ≡ m.old) }
+    ensures size { (M.state m.new).size ≡ (M.state m.old).size }
+    ensures calls { OnOk result ((M.state m.new).calls
+        ≡ (M.state m.old).calls + 7 + 50 * slots + blocks) }
+    ensures follows { M.follows m.old m.new }
+{
+    let sizes = sizes_of(m.sectors(), blocks, slots).ok_or(FormatFault::BadSize)?;
+    write_image(m, &sizes)?;
+    Ok(())
+}

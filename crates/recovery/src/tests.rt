@@ -1,0 +1,186 @@
+//! Images of 16 blocks and 2 slots: 118 sectors, of which the first block is at home in sector 102.
+use super::*;
+use log_layout::Super;
+use medium::{Kept, SimMedium, Switch};
+use std::alloc::AllocError;
+use std::test::Fail;
+
+const SUPER: &[u8; 48] =
+    b"RDSUPER1\x01\0\0\0\0\0\0\0\x10\0\0\0\0\0\0\0\x02\0\0\0\0\0\0\0\x02\0\0\0\0\0\0\0\x66\0\0\0\0\0\0\0";
+
+// The record of stamp 1, which stands in slot 1: sectors 52 to 101.
+const DESCRIPTOR: &[u8; 40] =
+    b"RDDESCR1\x01\0\0\0\0\0\0\0\x02\0\0\0\0\0\0\0\x05\0\0\0\0\0\0\0\x06\0\0\0\0\0\0\0";
+
+const COMMIT: &[u8; 24] = b"RDCOMMIT\x01\0\0\0\0\0\0\0\x02\0\0\0\0\0\0\0";
+
+// A medium of bytes a5 that was formatted.
+fn formatted(rt: HostRuntime) -> Result<SimMedium, Fail> {
+    let image = vec![in rt.alloc(); 0xa5u8; 118 * 512]?;
+    let mut m = SimMedium::new(rt.alloc(), image, 128).map_err(|_| AllocError)?;
+    format(&mut m, 16, 2).map_err(|_| "no image")?;
+    Ok(m)
+}
+
+// A formatted medium with these bytes written over its own, each from its place on.
+fn changed(rt: HostRuntime, changes: &[(usize, &[u8])]) -> Result<SimMedium, Fail> {
+    let m = formatted(rt)?;
+    let mut image = m.image().to_vec(rt.alloc())?;
+    for (place, bytes) in changes {
+        for (to, from) in image.iter_mut().skip(*place).zip(bytes.iter()) {
+            *to = *from;
+        }
+    }
+    Ok(SimMedium::new(rt.alloc(), image, 128).map_err(|_| AllocError)?)
+}
+
+// What recovery answers for such an image.
+fn answer(
+    rt: HostRuntime,
+    changes: &[(usize, &[u8])],
+) -> Result<Result<Recovered, StartFault>, Fail> {
+    let mut m = changed(rt, changes)?;
+    Ok(recover(&mut m))
+}
+
+// The answer for this next stamp.
+fn with_next(next: u64) -> Result<Recovered, StartFault> {
+    Ok(Recovered {
+        sizes: Super::new(16, 2),
+        next,
+    })
+}
+
+// Byte i of a sector.
+fn byte_of(m: &SimMedium, sector: usize, i: usize) -> Option<u8> {
+    m.image()
+        .chunks(512)
+        .nth(sector)
+        .and_then(|bytes| bytes.get(i))
+        .copied()
+}
+
+#[test]
+fn a_format_writes_every_sector(rt: HostRuntime) -> Result<(), Fail> {
+    let m = formatted(rt)?;
+    assert_eq!(rt; (m.unflushed(), m.flushes()), (0, 3));
+    assert!(rt; m.image().starts_with(SUPER));
+    assert_eq!(rt; byte_of(&m, 1, 0), Some(b'R'));
+    assert_eq!(rt; byte_of(&m, 1, 8), Some(1));
+    assert!(rt; m.image().iter().skip(48).take(464).all(|b| *b == 0));
+    assert!(rt; m.image().iter().skip(512 + 16).all(|b| *b == 0));
+    Ok(())
+}
+
+#[test]
+fn a_format_of_bad_sizes_writes_nothing(rt: HostRuntime) -> Result<(), Fail> {
+    let mut m = formatted(rt)?;
+    for (blocks, slots) in [(0, 2), (17, 2), (16, 0), (16, 3), (1, 65)] {
+        assert_eq!(rt; format(&mut m, blocks, slots), Err(FormatFault::BadSize));
+    }
+    assert_eq!(rt; (m.unflushed(), m.flushes()), (0, 3));
+    Ok(())
+}
+
+#[test]
+fn a_formatted_image_is_recovered(rt: HostRuntime) -> Result<(), Fail> {
+    let mut m = formatted(rt)?;
+    assert_eq!(rt; recover(&mut m), with_next(2));
+    assert_eq!(rt; (byte_of(&m, 1, 8), m.flushes()), (Some(2), 6));
+    assert_eq!(rt; recover(&mut m), with_next(3));
+    Ok(())
+}
+
+#[test]
+fn a_cut_inside_recovery_loses_nothing(rt: HostRuntime) -> Result<(), Fail> {
+    for (fuse, kept, next) in [
+        (0, Kept::None, 2),
+        (1, Kept::All, 2),
+        (2, Kept::All, 2),
+        (3, Kept::None, 2),
+        (3, Kept::All, 3),
+    ] {
+        let mut m = formatted(rt)?;
+        m.fuse(fuse);
+        let refused = if fuse == 2 {
+            StartFault::Write
+        } else {
+            StartFault::Flush
+        };
+        assert_eq!(rt; recover(&mut m), Err(refused));
+        m.cut(&kept);
+        assert_eq!(rt; recover(&mut m), with_next(next));
+    }
+    Ok(())
+}
+
+#[test]
+fn a_whole_record_goes_home(rt: HostRuntime) -> Result<(), Fail> {
+    let whole: [(usize, &[u8]); 4] = [
+        (52 * 512, DESCRIPTOR),
+        (53 * 512, b"\x11"),
+        (54 * 512, b"\x22"),
+        (101 * 512, COMMIT),
+    ];
+    let mut m = changed(rt, &whole)?;
+    assert_eq!(rt; recover(&mut m), with_next(3));
+    assert_eq!(rt;
+        (byte_of(&m, 107, 0), byte_of(&m, 108, 0)),
+        (Some(0x11), Some(0x22))
+    );
+    Ok(())
+}
+
+#[test]
+fn a_record_that_is_not_whole_stays_where_it_is(rt: HostRuntime) -> Result<(), Fail> {
+    for (place, byte) in [(52 * 512 + 16, 3), (52 * 512 + 32, 16), (101 * 512 + 8, 2)] {
+        let changes: [(usize, &[u8]); 5] = [
+            (52 * 512, DESCRIPTOR),
+            (53 * 512, b"\x11"),
+            (54 * 512, b"\x22"),
+            (101 * 512, COMMIT),
+            (place, &[byte]),
+        ];
+        let mut m = changed(rt, &changes)?;
+        assert_eq!(rt; recover(&mut m), with_next(2));
+        assert_eq!(rt;
+            (byte_of(&m, 107, 0), byte_of(&m, 108, 0)),
+            (Some(0), Some(0))
+        );
+    }
+    Ok(())
+}
+
+#[test]
+fn a_faulty_image_is_refused_by_its_first_fault(rt: HostRuntime) -> Result<(), Fail> {
+    assert_eq!(rt;
+        answer(rt, &[(0, b"r"), (8, b"\x03")])?,
+        Err(StartFault::BadSuper)
+    );
+    assert_eq!(rt;
+        answer(rt, &[(8, b"\x03"), (100, b"\x01")])?,
+        Err(StartFault::BadVersion)
+    );
+    assert_eq!(rt;
+        answer(rt, &[(100, b"\x01"), (24, b"\x41")])?,
+        Err(StartFault::BadSuper)
+    );
+    assert_eq!(rt;
+        answer(rt, &[(16, b"\x11"), (512, b"\0")])?,
+        Err(StartFault::BadSize)
+    );
+    assert_eq!(rt; answer(rt, &[(24, b"\x41")])?, Err(StartFault::BadSize));
+    assert_eq!(rt; answer(rt, &[(40, b"\x67")])?, Err(StartFault::BadSize));
+    assert_eq!(rt; answer(rt, &[(512, b"\0")])?, Err(StartFault::BadHead));
+    assert_eq!(rt; answer(rt, &[(512 + 8, b"\0")])?, Err(StartFault::BadHead));
+    Ok(())
+}
+
+#[test]
+fn the_last_stamp_is_answered_once(rt: HostRuntime) -> Result<(), Fail> {
+    let mut m = changed(rt, &[(512 + 8, b"\xfe\xff\xff\xff\xff\xff\xff\x7f")])?;
+    assert_eq!(rt; recover(&mut m), with_next((1 << 63) - 1));
+    assert_eq!(rt; recover(&mut m), Err(StartFault::StampsUsedUp));
+    assert_eq!(rt; m.unflushed(), 0);
+    Ok(())
+}

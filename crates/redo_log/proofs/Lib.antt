@@ -1,0 +1,12 @@
+pub mod Keeping
+pub mod Logging
+pub mod Laying
+pub mod Storing
+pub mod Guarding
+pub mod Adding
+pub mod Batching
+pub mod Stepping
+pub mod Homing
+pub mod Closing
+pub mod Finding
+pub mod Handing

@@ -1,0 +1,9 @@
+use Rattle.redo_log.proofs.Adding.{quiet_write}
+use Rattle.redo_log.proofs.turn.copy_sector.Goals as goal
+
+pub returns-clause-adds : goal.returns-clause-adds
+returns-clause-adds g c =
+    let old = g.M.Medium.state c.args.m.now in
+    let mid = g.M.Medium.state c.read.new.self in
+    let new = g.M.Medium.state c.write.new.self in
+    quiet_write c.args.to (old.content c.args.from) c.read.new.to old mid new (g.met.M.Medium.sound c.args.m.now) c.in_ok-read.ensures.ok c.read.ensures.passes c.read.ensures.sets c.write.ensures.passes c.write.ensures.sets

@@ -1,0 +1,122 @@
+-- What a log and its medium hold together.
+use Rattle.std.specs.Prelude.{◌≡◌, ◌⊎◌, ℕ, ◌+◌, ◌-◌, ◌≤◌, ◌<◌, List, [], ◌∷◌, ◌++◌, length, get_or, drop, map, Bool, true, false}
+use Rattle.medium.specs.Medium.{State, Image}
+use Rattle.medium.specs.Moments.{EachCut}
+use Rattle.medium.specs.Blocks.{Array}
+use Rattle.log_layout.specs.Places.{Shape, slot_place, sectors_of}
+use Rattle.log_layout.specs.Sectors.{IsDescriptor}
+use Rattle.log_layout.specs.Record.{Entry, numbers_of, with_blocks}
+use Rattle.redo_log.specs.declared.progress.Progress.{Progress}
+use Rattle.redo_log.specs.declared.progress.Progress.TheVariants.{More, Durable}
+use Rattle.redo_log.specs.Value.{LogValue, behind_oldest}
+use Rattle.redo_log.specs.Logged.{HasRecords, Logged, HasPlaces, IsStaged, AreHome, Laid}
+
+-- what a log has
+pub record View : Type 0 where
+  -- the durable records that are not retired, the oldest first
+  pub records : List (List Entry)
+  -- the record under way; none where none is
+  pub under_way : List Entry
+  -- the array that the durable records and the blocks at home make
+  pub array : Array
+  -- whether every image that a cut could leave was ours
+  pub ours : Bool
+
+-- what a log has that holds no record
+abbrev pub resting_view : Array → Bool → View
+resting_view array ours = record { records = []; under_way = []; array = array; ours = ours }
+
+-- the record under way has become durable
+abbrev pub with_record : View → View
+with_record view = record {
+  records = view.records ++ view.under_way ∷ [];
+  under_way = [];
+  array = with_blocks view.under_way view.array;
+  ours = view.ours
+}
+
+-- what a log has after a step that answered so
+abbrev pub view_stepped : Progress → View → View
+view_stepped More view = view
+view_stepped Durable view = with_record view
+
+-- so many of the oldest durable records are retired
+abbrev pub view_retired : ℕ → View → View
+view_retired count view = record view { records = drop count view.records }
+
+-- this record is begun
+abbrev pub with_begun : List Entry → View → View
+with_begun entries view = record view { under_way = entries }
+
+-- the image has the durable records of this view whole, is ours, and stands for its array
+abbrev pub HasView : ℕ → Shape → ℕ → View → Image → Type 0
+HasView size shape head view image = HasRecords size shape head view.records view.array image
+
+module _ (size : ℕ) (log : LogValue) (view : View) (image : Image) where
+  -- the durable records are whole, and the image stands for the array that they make
+  abbrev pub HasDurable : Type 0
+  HasDurable = HasView size log.shape log.head view image
+
+  -- the commit may be there: with it the record under way is whole too
+  abbrev pub HasUnderWay : Type 0
+  HasUnderWay = (0 < log.steps_left) × (log.steps_left ≤ 2)
+      × HasView size log.shape log.head (with_record view) image
+
+  -- the oldest record's blocks are at home, and the head may go past it: the array is the same
+  abbrev pub HasRetired : Type 0
+  HasRetired = (0 < length view.records) × (log.retire_steps_left ≡ behind_oldest log + 1)
+      × HasView size log.shape (log.head + 1) (view_retired 1 view) image
+
+  -- what a cut may leave of the log
+  abbrev pub MayLeave : Type 0
+  MayLeave = HasDurable ⊎ HasUnderWay ⊎ HasRetired
+
+-- the stamp of the record behind the durable ones
+abbrev pub stamp_behind : ℕ → View → ℕ
+stamp_behind head view = head + length view.records
+
+-- the oldest durable record
+abbrev pub oldest_of : View → List Entry
+oldest_of view = get_or view.records 0 []
+
+-- the image has the durable records of this view, and no commit behind them
+abbrev pub IsLogged : Shape → ℕ → View → Image → Type 0
+IsLogged shape head view image = Logged shape head view.records view.array image
+
+-- what a medium stores of a log, where so many steps and so many retire steps are left
+pub record Stores (shape : Shape) (head : ℕ) (view : View) (steps retire : ℕ) (content : Image) : Type 0 where
+  pub laid : Laid shape head view.records view.array content
+  -- the record under way as far as it is written
+  pub written : HasPlaces shape (stamp_behind head view) view.under_way (length view.under_way + 3 - steps) content
+  -- the oldest record as far as it is copied home
+  pub copied : AreHome shape (oldest_of view) (length (oldest_of view) + 2 - retire) content
+
+-- what guards a log against a cut
+pub record Guards (shape : Shape) (head : ℕ) (view : View) (steps retire : ℕ) (m : State) : Type 0 where
+  -- each image has the durable records, and with the commit perhaps the record under way
+  pub each : EachCut (λ image. IsLogged shape head view image ⊎ ((steps ≡ 1) × IsLogged shape head (with_record view) image)) m
+  -- the descriptor of the record under way is written
+  pub described : 0 < steps → steps < length view.under_way + 4
+      → IsDescriptor (stamp_behind head view) (numbers_of view.under_way) (m.content (slot_place shape (stamp_behind head view)))
+  -- its descriptor and its blocks are flushed
+  pub flushed : 0 < steps → steps < 3 → EachCut (IsStaged shape (stamp_behind head view) view.under_way) m
+  -- its commit is written
+  pub committed : steps ≡ 1 → IsLogged shape head (with_record view) m.content
+  -- the oldest record's blocks are flushed at home
+  pub homed : retire ≡ 1 → EachCut (AreHome shape (oldest_of view) (length (oldest_of view))) m
+
+-- one stamp for a record that has blocks
+abbrev pub stamps_of : List ℕ → ℕ
+stamps_of [] = 0
+stamps_of (n ∷ numbers) = 1
+
+-- The log and its medium hold this: contents always, and, where every image was ours, all that a cut may leave.
+-- Of a dead log only what a cut may leave is known.
+pub record HoldsView (log : LogValue) (m : State) (view : View) : Type 0 where
+  pub fits : sectors_of log.shape ≤ m.size
+  pub durable : log.waiting ≡ map numbers_of view.records
+  pub under_way : log.under_way ≡ numbers_of view.under_way
+  pub next : log.next ≡ log.head + length view.records + stamps_of log.under_way
+  pub leaves : view.ours ≡ true → EachCut (MayLeave m.size log view) m
+  pub stores : log.dead ≡ false → Stores log.shape log.head view log.steps_left log.retire_steps_left m.content
+  pub guards : log.dead ≡ false → view.ours ≡ true → Guards log.shape log.head view log.steps_left log.retire_steps_left m

@@ -1,0 +1,83 @@
+-- What a caller sees of a redo log, and how its calls change that.
+use Rattle.std.specs.Prelude.{◌≡◌, ℕ, ◌+◌, ◌-◌, ◌%◌, ◌<◌, List, [], ◌∷◌, ◌++◌, length, get_or, slice_index, drop, sum_by, Contains, Bool, true, false}
+use Rattle.log_layout.specs.Places.{Shape}
+use Rattle.redo_log.specs.declared.progress.Progress.{Progress}
+use Rattle.redo_log.specs.declared.progress.Progress.TheVariants.{More, Durable}
+
+pub record LogValue : Type 0 where
+  pub shape : Shape
+  -- the stamp of the oldest record that may be needed
+  pub head : ℕ
+  -- the stamp of the next record, over those of all that were begun
+  pub next : ℕ
+  -- the block numbers of the record under way; none where none is
+  pub under_way : List ℕ
+  -- the block numbers of each durable record that is not retired, the oldest first
+  pub waiting : List (List ℕ)
+  -- how many steps the record under way still needs
+  pub steps_left : ℕ
+  -- how many retire steps all these records still need
+  pub retire_steps_left : ℕ
+  pub dead : Bool
+
+-- a log without records, whose first one takes this stamp
+abbrev pub idle_from : Shape → ℕ → LogValue
+idle_from shape next = record { shape = shape; head = next; next = next; under_way = []; waiting = []; steps_left = 0; retire_steps_left = 0; dead = false }
+
+-- a record may be begun: none is under way, and no durable one waits to be retired
+pub record HasRoom (log : LogValue) : Type 0 where
+  pub none_under_way : log.under_way ≡ []
+  pub none_waits : log.waiting ≡ []
+  pub no_steps : log.steps_left ≡ 0
+  pub no_retire_steps : log.retire_steps_left ≡ 0
+
+-- the same log, dead
+abbrev pub died : LogValue → LogValue
+died log = record log { dead = true }
+
+-- how many steps a record of these blocks needs
+abbrev pub steps_of : List ℕ → ℕ
+steps_of numbers = length numbers + 4
+
+-- how many retire steps it needs; none where there is no record
+abbrev pub retire_steps_of : List ℕ → ℕ
+retire_steps_of [] = 0
+retire_steps_of (n ∷ numbers) = length (n ∷ numbers) + 2
+
+-- a record of these blocks is begun, and takes the next stamp
+abbrev pub begun : List ℕ → LogValue → LogValue
+begun numbers log = record log {
+  next = log.next + 1;
+  under_way = numbers;
+  steps_left = steps_of numbers;
+  retire_steps_left = log.retire_steps_left + retire_steps_of numbers;
+}
+
+-- a step was made that answered so
+abbrev pub IsStepped : Progress → LogValue → LogValue → Type 0
+IsStepped More old new = (1 < old.steps_left) × (new ≡ record old { steps_left = old.steps_left - 1 })
+IsStepped Durable old new = (old.steps_left ≡ 1) × (new ≡ record old { under_way = []; waiting = old.waiting ++ old.under_way ∷ []; steps_left = 0 })
+
+-- how many retire steps are left when the oldest durable record is retired
+abbrev pub behind_oldest : LogValue → ℕ
+behind_oldest log = sum_by retire_steps_of (drop 1 log.waiting) + retire_steps_of log.under_way
+
+-- a retire step was made: it was the oldest record's last, which is retired then, or there are more
+pub record IsRetireStepped (old new : LogValue) : Type 0 where
+  pub some : behind_oldest old < old.retire_steps_left
+  pub more : behind_oldest old + 1 < old.retire_steps_left → new ≡ record old { retire_steps_left = old.retire_steps_left - 1 }
+  pub last : old.retire_steps_left ≡ behind_oldest old + 1
+      → new ≡ record old { head = old.head + 1; waiting = drop 1 old.waiting; retire_steps_left = behind_oldest old }
+
+-- the slot and the place hold the newest logged copy of this block: its number stands there in a durable record, and in no newer one
+pub record IsNewestCopy (log : LogValue) (block slot place : ℕ) : Type 0 where
+  pub age : ℕ
+  pub waits : age < length log.waiting
+  pub slot_is : slot ≡ (log.head + age) % log.shape.slots
+  pub inside : place < length (get_or log.waiting age [])
+  pub named : slice_index (get_or log.waiting age []) place ≡ block
+  pub newest : (newer : ℕ) → age < newer → newer < length log.waiting → ¬ Contains (get_or log.waiting newer []) block
+
+-- no durable record that is not retired has this block
+abbrev pub HasNoCopy : LogValue → ℕ → Type 0
+HasNoCopy log block = (age : ℕ) → age < length log.waiting → ¬ Contains (get_or log.waiting age []) block

@@ -1,0 +1,20 @@
+//! The life of a record of the redo log, format 1, on a medium that may lose power at any moment.
+//!
+//! At each moment of each call every image that a loss of power may leave has the durable records
+//! whole, perhaps with the record under way, whole too, and stands for the blocks that these make.
+//! At most one record is under way, or durable and not retired.
+#![tactic(auto)]
+
+mod call;
+mod fault;
+mod log;
+mod progress;
+mod stage;
+mod turn;
+
+pub use fault::LogFault;
+pub use log::Log;
+pub use progress::Progress;
+
+#[cfg(test)]
+mod tests;

@@ -1,0 +1,213 @@
+// One record on a small medium that tells its calls.
+ghost use Rattle.std.specs.Prelude.{◌≡◌, ◌≤◌, ◌<◌, ◌+◌, ◌*◌, ◌^◌, [], ◌∷◌, length};
+ghost use Rattle.std.specs.Prelude.{OnOk, IfOk, false};
+ghost use Rattle.medium.specs.Sim.{state_of};
+ghost use Rattle.log_layout.specs.Places.{sectors_of};
+ghost use Rattle.redo_log.specs.Value.{HasRoom, begun};
+
+use super::*;
+use log_layout::Super;
+use medium::{Medium, MediumFault, SimMedium, Switch};
+use std::alloc::AllocError;
+use std::test::Fail;
+
+#[derive(Clone, Copy, Debug, PartialEq, Eq)]
+enum Called {
+    Read(u64),
+    Write(u64),
+    Flush,
+}
+
+// A medium that tells its calls.
+#[derive(Drop)]
+struct Recorder<M> {
+    medium: M,
+    calls: Vec<Called>,
+}
+
+impl<M: Medium> Medium for Recorder<M> {
+    ghost state = { λ r. M.state r.medium };
+
+    ghost follows = { λ a b. M.follows a.medium b.medium };
+
+    ghost sound = { λ r. M.sound r.medium };
+
+    ghost follows_itself = { λ r. M.follows_itself r.medium };
+
+    ghost follows_through = { λ a b c. M.follows_through a.medium b.medium c.medium };
+
+    fn sectors(&self) -> u64 {
+        self.medium.sectors()
+    }
+
+    fn read(&mut self, sector: u64, to: &mut [u8; 512]) -> Result<(), MediumFault> {
+        let _ = self.calls.push(Called::Read(sector));
+        self.medium.read(sector, to)
+    }
+
+    fn write(&mut self, sector: u64, from: &[u8; 512]) -> Result<(), MediumFault> {
+        let _ = self.calls.push(Called::Write(sector));
+        self.medium.write(sector, from)
+    }
+
+    fn flush(&mut self) -> Result<(), MediumFault> {
+        let _ = self.calls.push(Called::Flush);
+        self.medium.flush()
+    }
+}
+
+// A log with room for so many blocks and slots, on a medium of zeros.
+fn zeros(rt: HostRuntime, sectors: usize) -> Result<Recorder<SimMedium>, AllocError>
+    requires { sectors ≤ 2000 }
+    ensures { IfOk result (λ r. (state_of r.medium).size ≡ sectors) }
+{
+    let image = vec![in rt.alloc(); 0u8; sectors * 512]?;
+    let medium = SimMedium::new(rt.alloc(), image, 64).map_err(|_| AllocError)?;
+    let calls = Vec::with_capacity(rt.alloc(), 32)?;
+    Ok(Recorder { medium, calls })
+}
+
+// The 16 bytes from here on.
+fn bytes_at(image: &[u8], from: usize) -> [u8; 16]
+    requires { from < 2 ^ 32 }
+{
+    let mut bytes = [0; 16];
+    if from + 16 <= image.len() {
+        bytes.copy_from_slice(&image[from..from + 16]);
+    }
+    bytes
+}
+
+// A record of blocks 0, 7 and 9 is begun.
+fn begin_three(log: &mut Log, bytes: &[u8]) -> Result<[u64; 3], LogFault>
+    requires live { log.old.dead ≡ false }
+    requires room { HasRoom log.old }
+    requires blocks { log.old.shape.blocks ≡ 1000 }
+    requires bytes { length bytes.now ≡ 1536 }
+    ensures ok { IfOk result (λ numbers. (numbers ≡ 0 ∷ 7 ∷ 9 ∷ [])
+        × (log.new ≡ begun numbers log.old)) }
+{
+    let numbers = [0, 7, 9];
+    log.begin(&numbers, bytes)?;
+    Ok(numbers)
+}
+
+// Makes all steps of the record under way.
+fn write_out<M: Medium>(
+    log: &mut Log,
+    m: &mut M,
+    numbers: &[u64],
+    bytes: &[u8],
+) -> Result<(), LogFault>
+    requires live { log.old.dead ≡ false }
+    requires under_way { 0 < log.old.steps_left }
+    requires numbers { numbers.now ≡ log.old.under_way }
+    requires bytes { length bytes.now ≡ 512 * length numbers.now }
+    requires fits { sectors_of log.old.shape ≤ (M.state m.old).size }
+    ensures live { OnOk result (log.new.dead ≡ false) }
+    ensures done { OnOk result (log.new.steps_left ≡ 0) }
+    ensures shape { OnOk result (log.new.shape ≡ log.old.shape) }
+    ensures size { OnOk result ((M.state m.new).size ≡ (M.state m.old).size) }
+{
+    while let Progress::More = log.step(m, numbers, bytes)? {}
+    Ok(())
+}
+
+// Makes all steps that retire what waits.
+fn retire<M: Medium>(log: &mut Log, m: &mut M) -> Result<(), LogFault>
+    requires live { log.old.dead ≡ false }
+    requires idle { log.old.steps_left ≡ 0 }
+    requires fits { sectors_of log.old.shape ≤ (M.state m.old).size }
+{
+    while !log.has_room() {
+        log.retire_step(m)?;
+    }
+    Ok(())
+}
+
+#[test]
+fn the_calls_of_a_record_and_of_its_retiring(rt: HostRuntime) -> Result<(), Fail> {
+    let mut m = zeros(rt, 1402)?;
+    let mut log = Log::idle(rt.alloc(), &Super::new(1000, 8), 3)?;
+    assert!(rt; log.has_room());
+    let bytes = vec![in rt.alloc(); 5u8; 1536]?;
+    let numbers = begin_three(&mut log, &bytes)?;
+    write_out(&mut log, &mut m, &numbers, &bytes)?;
+    let record = [
+        Called::Write(152),
+        Called::Write(153),
+        Called::Write(154),
+        Called::Write(155),
+        Called::Flush,
+        Called::Write(201),
+        Called::Flush,
+    ];
+    assert_eq!(rt; m.calls.as_slice(), record.as_slice());
+    assert!(rt; !log.has_room());
+    m.calls.clear();
+    retire(&mut log, &mut m)?;
+    let retiring = [
+        Called::Read(153),
+        Called::Write(402),
+        Called::Read(154),
+        Called::Write(409),
+        Called::Read(155),
+        Called::Write(411),
+        Called::Flush,
+        Called::Write(1),
+        Called::Flush,
+    ];
+    assert_eq!(rt; m.calls.as_slice(), retiring.as_slice());
+    let image = m.medium.image();
+    assert_eq!(rt; bytes_at(image, 512), *b"RDHEAD01\x04\0\0\0\0\0\0\0");
+    assert_eq!(rt; bytes_at(image, 512 * 409), [5; 16]);
+    Ok(())
+}
+
+#[test]
+fn the_newest_copy_is_found(rt: HostRuntime) -> Result<(), Fail> {
+    let mut m = zeros(rt, 1402)?;
+    let mut log = Log::idle(rt.alloc(), &Super::new(1000, 8), 3)?;
+    let mut bytes = vec![in rt.alloc(); 5u8; 512]?;
+    bytes.extend_from_slice(&[6; 512])?;
+    bytes.extend_from_slice(&[7; 512])?;
+    let numbers = begin_three(&mut log, &bytes)?;
+    assert_eq!(rt; log.find(7), None);
+    write_out(&mut log, &mut m, &numbers, &bytes)?;
+    assert_eq!(rt; log.find(8), None);
+    let mut block = [0; 512];
+    let Some((slot, place)) = log.find(7) else {
+        return Err(Fail::from("no copy"));
+    };
+    assert_eq!(rt; (slot, place), (3, 1));
+    assert_eq!(rt; log.read_copy(&mut m, slot, place, &mut block), Ok(()));
+    assert_eq!(rt; block, [6; 512]);
+    Ok(())
+}
+
+#[test]
+fn a_refused_call_is_the_last(rt: HostRuntime) -> Result<(), Fail> {
+    let mut m = zeros(rt, 1402)?;
+    let mut log = Log::idle(rt.alloc(), &Super::new(1000, 8), 3)?;
+    let bytes = vec![in rt.alloc(); 5u8; 1536]?;
+    let numbers = begin_three(&mut log, &bytes)?;
+    m.medium.fail(7);
+    assert_eq!(rt;
+        write_out(&mut log, &mut m, &numbers, &bytes),
+        Err(LogFault::Medium)
+    );
+    assert_eq!(rt; (m.calls.len(), log.is_dead()), (7, true));
+    Ok(())
+}
+
+#[test]
+fn the_last_stamp_is_not_a_record_s(rt: HostRuntime) -> Result<(), Fail> {
+    let mut log = Log::idle(rt.alloc(), &Super::new(1000, 8), (1 << 63) - 1)?;
+    let bytes = vec![in rt.alloc(); 5u8; 1536]?;
+    assert_eq!(rt;
+        begin_three(&mut log, &bytes).err(),
+        Some(LogFault::StampsUsedUp)
+    );
+    assert!(rt; log.is_dead());
+    Ok(())
+}

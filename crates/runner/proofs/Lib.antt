@@ -1,0 +1,9 @@
+pub mod LineFeeds
+pub mod Packets
+pub mod Checking
+pub mod Runs
+pub mod Known
+pub mod Printable
+pub mod Playing
+pub mod Refusals
+pub mod Words

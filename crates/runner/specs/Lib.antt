@@ -1,0 +1,13 @@
+pub mod Lines
+pub mod Line
+pub mod Text
+pub mod Script
+pub mod Streams
+pub mod Outcome
+pub mod Played
+pub mod Left
+pub mod Refused
+pub mod Task
+pub mod Status
+pub mod Program
+pub mod Parser

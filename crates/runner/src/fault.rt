@@ -1,0 +1,51 @@
+ghost use Rattle.std.specs.Prelude.{◌≡◌};
+
+use crate::read::ReadFault;
+use bot_machine::StartFault;
+use medium::Medium;
+use thiserror::Error;
+
+/// Why a script was not played to its end.
+#[derive(Clone, Copy, Debug, PartialEq, Eq, Error)]
+pub enum ScriptFault {
+    /// The first line that is none of a script, counted from 1. Nothing was played.
+    #[error("line {0}: not a script line")]
+    Line(u64),
+    /// The script has more than 1,048,576 bytes. Nothing was played.
+    #[error("script too long")]
+    TooLong,
+    /// The disk did not start.
+    #[error("start: {0}")]
+    Start(StartFault),
+    /// Memory ran out outside a start. Nothing was played.
+    #[error("no memory")]
+    NoMemory,
+    /// The script's reader failed. Nothing was played.
+    #[error("the script was not read")]
+    Reader,
+    /// The writer failed. The disk played the events before, and the one whose answer was not
+    /// written.
+    #[error("an answer was not written")]
+    Writer,
+}
+
+/// Why a script was not played to its end, and the medium of its disk.
+#[derive(Drop)]
+pub struct ScriptError<M: Medium> {
+    pub fault: ScriptFault,
+    pub medium: M,
+}
+
+impl From<ReadFault> for ScriptFault {
+    ghost use Rattle.runner.specs.Refused.{read_fault};
+
+    ghost from_gives = { λ fault refused. refused ≡ read_fault fault };
+
+    fn from(fault: ReadFault) -> ScriptFault {
+        match fault {
+            ReadFault::TooLong => ScriptFault::TooLong,
+            ReadFault::NoMemory => ScriptFault::NoMemory,
+            ReadFault::Reader => ScriptFault::Reader,
+        }
+    }
+}

@@ -1,0 +1,47 @@
+ghost use Rattle.std.specs.Prelude.{◌≡◌, ◌<◌, ◌≤◌, IfOk, IfSome, Err, length};
+ghost use Rattle.runner.specs.Streams.{IsAll};
+
+use std::alloc::Global;
+use std::io::{ErrorKind, Read};
+
+/// Why a reader was not read to its end.
+#[derive(Clone, Copy, Debug, PartialEq, Eq)]
+pub enum ReadFault {
+    /// It gave more bytes than the limit.
+    TooLong,
+    /// Memory ran out.
+    NoMemory,
+    /// It failed.
+    Reader,
+}
+
+/// Reads to the end, if that comes after at most so many bytes.
+pub fn read_to_limit<R: Read>(
+    alloc: Global,
+    reader: &mut R,
+    limit: usize,
+) -> Result<Vec<u8>, ReadFault>
+    ensures all { IfOk result (λ bytes. IsAll (R.remaining reader.old) bytes.items) }
+    ensures fits { IfOk result (λ bytes. length bytes.items ≤ limit) }
+    ensures too_long { result ≡ Err ReadFault.TooLong
+        → IfSome (R.remaining reader.old) (λ all. limit < length all) }
+{
+    let mut bytes = Vec::new(alloc);
+    let mut chunk = [0; 4096];
+    'reads: for _ in 0..u64::MAX {
+        match reader.read(&mut chunk) {
+            Ok(0) => return Ok(bytes),
+            Ok(count) => {
+                if count > limit - bytes.len() {
+                    return Err(ReadFault::TooLong);
+                }
+                let Ok(()) = bytes.extend_from_slice(&chunk[..count]) else {
+                    return Err(ReadFault::NoMemory);
+                };
+            }
+            Err(error) if error.kind() == ErrorKind::Interrupted => {}
+            Err(_) => return Err(ReadFault::Reader),
+        }
+    }
+    Err(ReadFault::Reader)
+}

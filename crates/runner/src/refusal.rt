@@ -1,0 +1,92 @@
+// Why a command was refused.
+ghost use Rattle.std.specs.Prelude.{◌≡◌};
+ghost use Rattle.clap.specs.Words.{kind_of};
+ghost use Rattle.runner.specs.declared.refusal.Refusal.TheVariants as refused;
+
+use crate::fault::ScriptFault;
+use clap::error::ErrorKind;
+use std::alloc::AllocError;
+use thiserror::Error;
+
+/// Why a command was refused. Its text is what standard error gets.
+#[derive(Clone, Copy, Debug, PartialEq, Eq, Error)]
+pub(crate) enum Refusal {
+    /// The number of the first line that is none of a script.
+    #[error("line {0}: not a script line")]
+    Line(u64),
+    /// The script has more bytes than the limit.
+    #[error("script too long")]
+    TooLong,
+    /// The words are none of a command.
+    #[error("bad command line")]
+    Words,
+    /// The image is empty, too long, or not of whole sectors.
+    #[error("image refused: length")]
+    ImageLength,
+    /// The disk does not start on the image: the number of the fault.
+    #[error("image refused: {0}")]
+    Image(u8),
+    /// A file was not read, or an answer not written.
+    #[error("file failed")]
+    File,
+    /// Memory ran out.
+    #[error("no memory")]
+    NoMemory,
+}
+
+impl Refusal {
+    ghost use Rattle.runner.specs.Status.{status_of};
+
+    /// The exit status.
+    pub(crate) fn status(self) -> u8
+        ensures { result ≡ status_of self }
+    {
+        match self {
+            Refusal::Line(_) => 1,
+            Refusal::TooLong => 1,
+            Refusal::Words => 2,
+            Refusal::ImageLength => 3,
+            Refusal::Image(_) => 3,
+            Refusal::File => 4,
+            Refusal::NoMemory => 5,
+        }
+    }
+}
+
+impl From<AllocError> for Refusal {
+    ghost from_gives = { λ _ e. e ≡ refused.NoMemory };
+
+    fn from(_error: AllocError) -> Refusal {
+        Refusal::NoMemory
+    }
+}
+
+impl From<clap::Error> for Refusal {
+    ghost use Rattle.runner.specs.Status.{refusal_of_kind};
+
+    ghost from_gives = { λ error e. e ≡ refusal_of_kind (kind_of error) };
+
+    fn from(error: clap::Error) -> Refusal {
+        match error.kind() {
+            ErrorKind::OutOfMemory => Refusal::NoMemory,
+            _ => Refusal::Words,
+        }
+    }
+}
+
+impl From<ScriptFault> for Refusal {
+    ghost use Rattle.runner.specs.Status.{refusal_of_fault};
+
+    ghost from_gives = { λ fault e. e ≡ refusal_of_fault fault };
+
+    fn from(fault: ScriptFault) -> Refusal {
+        match fault {
+            ScriptFault::Line(number) => Refusal::Line(number),
+            ScriptFault::TooLong => Refusal::TooLong,
+            ScriptFault::Start(fault) => Refusal::Image(fault as u8),
+            ScriptFault::NoMemory => Refusal::NoMemory,
+            ScriptFault::Reader => Refusal::File,
+            ScriptFault::Writer => Refusal::File,
+        }
+    }
+}
