@@ -32,7 +32,7 @@ with_record view = record {
   records = view.records ++ view.under_way ∷ [];
   under_way = [];
   array = with_blocks view.under_way view.array;
-  ours = view.ours
+  ours = view.ours;
 }
 
 -- what a log has after a step that answered so
