@@ -9,6 +9,7 @@ use Rattle.bot_machine.specs.declared.event.Event.{Event}
 use Rattle.bot_machine.specs.declared.event.Answer.{Answer}
 use Rattle.bot_machine.specs.Conversation.{Conversation, Run, refused_events}
 use Rattle.bot_machine.specs.OneBlock.{Intends, CarriesOut, Ticks}
+use Rattle.bot_machine.proofs.Alternation.{by_turns}
 use Rattle.bot_machine.specs.Disk.{Shown, IsStep, IsRun, HoldsArray, over}
 use Rattle.runner.specs.Text.{line_of}
 use Rattle.runner.specs.Script.{Tells}
@@ -47,6 +48,7 @@ module _ {M : Type 0} where
     refusals = [];
     refused = omega arith;
     run = λ array holds. refl;
+    turns = λ none array holds. tt;
     quiet = quiet_start state;
     identity = refl;
   }
@@ -57,6 +59,8 @@ module _ {M : Type 0} where
     refusals = nat_lt before.failures after.failures ∷ [];
     refused = one_refusal before.failures after.failures (nat_lt before.failures after.failures) refl step.quiet.failures_stay;
     run = λ array holds. (over new array, step.step array holds, refl);
+    turns = λ none array holds. by_turns (Intends before.size) CarriesOut Ticks (over old array) (event ∷ []) (answer ∷ [])
+        (nat_lt before.failures after.failures ∷ []) (over new array) (over new array, step.step array holds, refl) none;
     quiet = step.quiet;
     identity = step.identity;
   }
@@ -64,16 +68,22 @@ module _ {M : Type 0} where
   pub IsRun-append : (before mid after : State) (old between new : Shown M) (first rest : List Event) (told more : List Answer)
       → IsRun before mid old first told between → IsRun mid after between rest more new
       → IsRun before after old (first ++ rest) (told ++ more) new
-  IsRun-append before mid after old between new first rest told more done next = record {
-    refusals = done.refusals ++ next.refusals;
-    refused = omega (arith, refused_events-append done.refusals next.refusals, done.refused, next.refused);
-    run = λ array holds. Run-append before.size first rest told more done.refusals next.refusals (over old array) (over between array) (over new array)
-        (done.run array holds)
-        (subst (λ n. Run (Intends n) CarriesOut Ticks (over between array) rest more next.refusals (over new array)) done.quiet.size_stays
-        (next.run array (held before mid array done.quiet holds)));
-    quiet = quiet_joined before mid after done.quiet next.quiet;
-    identity = next.identity ∙ done.identity;
-  }
+  IsRun-append before mid after old between new first rest told more done next =
+      let run : (array : Array) → HoldsArray before array
+      → Run (Intends before.size) CarriesOut Ticks (over old array) (first ++ rest) (told ++ more) (done.refusals ++ next.refusals) (over new array)
+      = λ array holds. Run-append before.size first rest told more done.refusals next.refusals (over old array) (over between array) (over new array)
+      (done.run array holds)
+      (subst (λ n. Run (Intends n) CarriesOut Ticks (over between array) rest more next.refusals (over new array)) done.quiet.size_stays
+      (next.run array (held before mid array done.quiet holds)))
+      in record {
+        refusals = done.refusals ++ next.refusals;
+        refused = omega (arith, refused_events-append done.refusals next.refusals, done.refused, next.refused);
+        run = run;
+        turns = λ none array holds. by_turns (Intends before.size) CarriesOut Ticks (over old array) (first ++ rest) (told ++ more)
+            (done.refusals ++ next.refusals) (over new array) (run array holds) none;
+        quiet = quiet_joined before mid after done.quiet next.quiet;
+        identity = next.identity ∙ done.identity;
+      }
 
   pub tells-none : (state : M → State) (disk : Shown M) → Tells state disk [] [] disk
   tells-none state disk = record { answers = []; run = IsRun-none (state disk.medium) disk; told = refl }
