@@ -13,8 +13,7 @@ use Rattle.bot_machine.specs.declared.event.Event.TheVariants as event
 use Rattle.bot_machine.specs.declared.event.Answer.{Answer}
 use Rattle.wrappers.specs.Command.{number_at}
 use Rattle.bot_machine.specs.Requests.{Request, mass_storage_reset, get_max_lun, clear_halt, get_status}
-use Rattle.bot_machine.specs.Served.{serves, serves_requests}
-use Rattle.bot_machine.specs.Exchange.{Script, finished, taking, sending, stuck, Line, laid_out, Moment, at_once, after_data, never, moment_of, told, told_at_once, case_if_failed, sent_in, outcome_for, status_for, after_packet, set_halt, after_request}
+use Rattle.bot_machine.specs.Exchange.{Script, finished, taking, sending, Line, laid_out, Moment, at_once, after_data, never, moment_of, told, told_at_once, case_if_failed, sent_in, outcome_for, status_for, after_packet, set_halt, after_request}
 use Rattle.bot_machine.specs.Conversation.{Conversation, Begins, OutStep, SetupStep, Step, Run}
 use Rattle.bot_machine.specs.Turns.{Mark, marks_of_out, marks_of_in, marks_of_setup, marks_of, IsStatusOf, ByTurns, marks_in}
 
@@ -24,11 +23,9 @@ abbrev pub Owes : Option ℕ → Script → Type 0
 Owes None finished = Unit {0}
 Owes None (taking case command intended bytes due) = ⊥
 Owes None (sending packets halt status) = ⊥
-Owes None stuck = Unit {0}
 Owes (Some tag) finished = ⊥
 Owes (Some tag) (taking case command intended bytes due) = command.tag ≡ tag
 Owes (Some tag) (sending packets halt status) = IsStatusOf tag status
-Owes (Some tag) stuck = Unit {0}
 
 -- after these marks a list of marks goes on by turns
 abbrev Next : Option ℕ → List Mark → Script → Type 0
@@ -52,11 +49,6 @@ told_at_once-owes case command intended status s =
     intended status) s
     ((outcome_for case command intended).residue, status, refl)
 
-either-owes : (served : Bool) (tag : ℕ) (laid other : Line) → Owes (Some tag) laid.left
-    → Owes (Some tag) other.left → Owes (Some tag) (if served then laid else other).left
-either-owes true tag laid other p q = p
-either-owes false tag laid other p q = q
-
 told-owes : {F : Type 0} (case : Case) (command : Cbw) (intended : Way) (answer : Result
     (List ℕ) F) (s : Line) → Owes (Some command.tag) (told case command intended answer s).left
 told-owes case command intended (Ok bytes) s =
@@ -64,9 +56,7 @@ told-owes case command intended (Ok bytes) s =
     (status_for case command intended Passed) s
     ((outcome_for case command intended).residue, Passed, refl)
 told-owes case command intended (Err fault) s =
-    either-owes (serves (case_if_failed case)) command.tag (told_at_once (case_if_failed case)
-    command intended Failed s) (record s { left = stuck })
-    (told_at_once-owes (case_if_failed case) command intended Failed s) tt
+    told_at_once-owes (case_if_failed case) command intended Failed s
 
 -- a wrapper that is taken is owed its status
 took : (packet : List ℕ) (left : Script) → Owes (Some (number_at packet 4)) left
@@ -84,7 +74,6 @@ took packet (sending packets halt status) owes = (
   λ rest turns.
       turns,
 )
-took packet stuck owes = (Some (number_at packet 4), tt, λ rest turns. turns)
 
 -- a token to Bulk-In
 in_next : (owed : Option ℕ) (halted : Bool) (left : Script) (s : Line) → s.left ≡ left
@@ -98,7 +87,6 @@ in_next owed false (taking case command intended bytes due) s e owes = (
       (sym e) owes,
   λ rest turns. turns,
 )
-in_next owed false stuck s e owes = (owed, subst (Owes owed) (sym e) owes, λ rest turns. turns)
 in_next None false (sending packets halt status) s e owes = absurd owes
 in_next (Some tag) false (sending [] halt status) s e owes = (None, tt, λ rest turns. (owes, turns))
 in_next (Some tag) false (sending (packet ∷ packets) halt status) s e owes =
@@ -112,7 +100,6 @@ setup_keeps (Some tag) finished owes = absurd owes
 setup_keeps owed (taking case command intended bytes due) owes = keeps owed
     (taking case command intended bytes due) owes
 setup_keeps owed (sending packets halt status) owes = keeps owed (sending packets halt status) owes
-setup_keeps owed stuck owes = keeps owed stuck owes
 
 drops_all : (owed : Option ℕ) → Next owed (marks_of_setup finished) finished
 drops_all None = (None, tt, λ rest turns. turns)
@@ -133,36 +120,31 @@ request_next owed (clear_halt endpoint) s owes =
     (setup_keeps owed s.left owes)
 request_next owed (get_status endpoint) s owes = setup_keeps owed s.left owes
 
-setup_next : (owed : Option ℕ) (served : Bool) (packet : List ℕ) (old : Line) (answer : Answer)
-    (new : Line) → SetupStep served packet old answer new → Owes owed old.left
+setup_next : (owed : Option ℕ) (packet : List ℕ) (old : Line) (answer : Answer)
+    (new : Line) → SetupStep packet old answer new → Owes owed old.left
     → Next owed (marks_of_setup new.left) new.left
-setup_next owed false packet old answer new step owes =
-    subst (λ s. Next owed (marks_of_setup s.left) s.left) (sym step.1) (setup_keeps owed old.left
-    owes)
-setup_next owed true packet old answer new (inl (request, asked)) owes =
+setup_next owed packet old answer new (inl (request, asked)) owes =
     subst (λ s. Next owed (marks_of_setup s.left) s.left) (sym asked.after)
     (request_next owed request old owes)
-setup_next owed true packet old answer new (inr refused) owes =
+setup_next owed packet old answer new (inr refused) owes =
     subst (λ s. Next owed (marks_of_setup s.left) s.left) (sym refused.after)
     (setup_keeps owed old.left owes)
 
 module _ {S F : Type 0} (Intends : S → List ℕ → Way → Type 0)
     (CarriesOut : Bool → List ℕ → List ℕ → S → Result (List ℕ) F → S → Type 0)
     (Ticks : Bool → S → S → Type 0) where
-  begins-owes : (refused served : Bool) (moment : Moment) (case : Case) (command : Cbw)
+  begins-owes : (refused : Bool) (moment : Moment) (case : Case) (command : Cbw)
       (intended : Way) (old new : Conversation S)
-      → Begins Intends CarriesOut Ticks refused served moment case command intended old new
+      → Begins Intends CarriesOut Ticks refused moment case command intended old new
       → Owes (Some command.tag) new.line.left
-  begins-owes refused true at_once case command intended old new begins =
+  begins-owes refused at_once case command intended old new begins =
       subst (λ s. Owes (Some command.tag) s.left) (sym begins.after) (told-owes case command
       intended begins.answer old.line)
-  begins-owes refused true after_data case command intended old new begins = subst (λ s. Owes
+  begins-owes refused after_data case command intended old new begins = subst (λ s. Owes
       (Some command.tag) s.left) (sym begins.1) refl
-  begins-owes refused true never case command intended old new begins =
+  begins-owes refused never case command intended old new begins =
       subst (λ s. Owes (Some command.tag) s.left) (sym begins.1) (told_at_once-owes case command
       intended PhaseError old.line)
-  begins-owes refused false moment case command intended old new begins = subst (λ s. Owes
-      (Some command.tag) s.left) (sym begins.1) tt
 
   -- a packet to Bulk-Out
   out_next : (owed : Option ℕ) (refused halted : Bool) (left : Script) (packet : List ℕ)
@@ -174,7 +156,7 @@ module _ {S F : Type 0} (Intends : S → List ℕ → Way → Type 0)
       keeps owed new.line.left (subst (Owes owed) (sym (ap (λ s. s.line.left) step.1 ∙ e)) owes)
   out_next None refused false finished packet old new answer (ack, inl opens) e owes =
       took packet new.line.left (subst (λ tag. Owes (Some tag) new.line.left) opens.spelled.tag
-      (begins-owes refused (serves opens.case) (moment_of opens.case) opens.case opens.command
+      (begins-owes refused (moment_of opens.case) opens.case opens.command
       opens.intended old new opens.begins))
   out_next None refused false finished packet old new answer (ack, inr locks) e owes =
       subst (λ now. Next None (marks_of_out false finished packet now) now) (sym (ap
@@ -198,8 +180,6 @@ module _ {S F : Type 0} (Intends : S → List ℕ → Way → Type 0)
       (due, PhaseError, refl))))
   out_next owed refused false (sending packets halt status) packet old new answer step e owes =
       keeps owed new.line.left (subst (Owes owed) (sym (ap (λ s. s.line.left) step.1 ∙ e)) owes)
-  out_next owed refused false stuck packet old new answer step e owes =
-      keeps owed new.line.left (subst (Owes owed) (sym (ap (λ s. s.line.left) step.1 ∙ e)) owes)
 
   step_next : (owed : Option ℕ) (refused : Bool) (old : Conversation S) (happens : Event)
       (answer : Answer) (new : Conversation S)
@@ -212,7 +192,7 @@ module _ {S F : Type 0} (Intends : S → List ℕ → Way → Type 0)
       subst (λ s. Next owed (marks_of_in old.line.in_halted old.line.left) s.line.left) (sym step.1)
       (in_next owed old.line.in_halted old.line.left old.line refl owes)
   step_next owed refused old (event.Setup packet) answer new step owes =
-      setup_next owed serves_requests packet old.line answer new.line step.0 owes
+      setup_next owed packet old.line answer new.line step.0 owes
   step_next owed refused old event.Tick answer new step owes =
       keeps owed new.line.left (subst (λ s. Owes owed s.left) (sym step.2) owes)
 

@@ -1,17 +1,21 @@
 -- A run goes on by one step.
-use Rattle.std.proofs.Common.{◌≡◌, ℕ, ◌+◌, ◌<◌, ◌≤◌, Bool, true, false, nat_lt, List, [], ◌∷◌, ◌++◌, refl, sym, subst, ◌∙◌, arith, ltb-true}
+use Rattle.std.proofs.Common.{◌≡◌, ℕ, ◌+◌, ◌<◌, ◌≤◌, Bool, true, false, nat_lt, List, [], ◌∷◌, ◌++◌, refl, sym, subst, ◌∙◌, arith, ltb-true, inl, inr, ◌⊎◌, ⊎_elim}
 use Rattle.std.specs.Prelude.{Result}
 use Rattle.wrappers.specs.declared.way.Way.{Way}
 use Rattle.bot_machine.specs.declared.event.Event.{Event}
 use Rattle.bot_machine.specs.declared.event.Answer.{Answer}
-use Rattle.medium.specs.Blocks.{Array}
-use Rattle.medium.specs.Medium.{State}
-use Rattle.medium.specs.Moments.{IsQuiet}
-use Rattle.medium.proofs.Moments.{quiet_joined}
+use Rattle.medium.specs.Medium.{State, Image, IsSound}
+use Rattle.medium.proofs.Moments.{started, joined, weaker}
+use Rattle.blocks.specs.Book.{Book}
+use Rattle.blocks.specs.Finding.{FoundWith}
+use Rattle.scsi_unit.specs.Rules.{UnitState, CarriesOut, Ticks}
+use Rattle.scsi_unit.specs.Serving.{has_refused}
+use Rattle.bot_machine.specs.Intentions.{Intends}
+use Rattle.bot_machine.specs.Acts.{write_of_event}
 use Rattle.bot_machine.specs.Conversation.{Conversation, refused_events, Step, Run}
-use Rattle.bot_machine.specs.OneBlock.{Intends, CarriesOut, Ticks}
 use Rattle.bot_machine.proofs.Alternation.{by_turns}
-use Rattle.bot_machine.specs.Disk.{Shown, over, HoldsArray, IsStep, IsRun}
+use Rattle.bot_machine.specs.Disk.{DiskValue, over, UnitStep, UnitRun, FoundIn, RunsOn, IsStep, IsRun}
+use Rattle.bot_machine.proofs.UnitLaws.{between_calls}
 
 refused_events-more : (refusals : List Bool) (refused : Bool)
     → refused_events (refusals ++ refused ∷ []) ≡ refused_events refusals + refused_events
@@ -55,38 +59,89 @@ module _ {S F : Type 0} (Intends : S → List ℕ → Way → Type 0)
   Run-more (e ∷ es) [] (f ∷ fs) old mid new event answer refused r s = absurd r
   Run-more (e ∷ es) (a ∷ as_) [] old mid new event answer refused r s = absurd r
 
--- after calls that wrote nothing the medium holds the same array
-still : (before after : State) → IsQuiet before after → (array : Array) → HoldsArray before array
-    → HoldsArray after array
-still before after quiet array holds b below =
-    let inside : b < before.size = subst (λ n. b < n) quiet.size_stays below in
-    holds b inside ∙ sym (quiet.content_stays b)
+-- an image that a cut may leave in a run, or in one step after it, a cut may leave in the longer run
+FoundIn-more : (size : ℕ) (image : Image) (events : List Event) (answers : List Answer) (refusals : List Bool)
+    (old mid new : Conversation UnitState) (event : Event) (answer : Answer) (refused : Bool)
+    (run : UnitRun old events answers refusals mid) (step : UnitStep refused mid event answer new)
+    → FoundIn size old events answers refusals mid run image
+    ⊎ FoundWith size mid.unit.book (write_of_event mid event) image
+    → FoundIn size old (events ++ event ∷ []) (answers ++ answer ∷ []) (refusals ++ refused ∷ []) new
+    (Run-more Intends CarriesOut Ticks events answers refusals old mid new event answer refused run step) image
+unfolding Run-more
+FoundIn-more size image [] [] [] old mid new event answer refused run step (inl none) = absurd none
+FoundIn-more size image [] [] [] old mid new event answer refused run step (inr found) =
+    inl (subst (λ m. FoundWith size m.unit.book (write_of_event m event) image) run found)
+FoundIn-more size image (e ∷ es) (a ∷ as_) (f ∷ fs) old mid new event answer refused run step (inl (inl here)) = inl here
+FoundIn-more size image (e ∷ es) (a ∷ as_) (f ∷ fs) old mid new event answer refused run step (inl (inr later)) =
+    inr (FoundIn-more size image es as_ fs run.0 mid new event answer refused run.2 step (inl later))
+FoundIn-more size image (e ∷ es) (a ∷ as_) (f ∷ fs) old mid new event answer refused run step (inr found) =
+    inr (FoundIn-more size image es as_ fs run.0 mid new event answer refused run.2 step (inr found))
+FoundIn-more size image [] [] (f ∷ fs) old mid new event answer refused run step found = absurd run
+FoundIn-more size image [] (a ∷ as_) [] old mid new event answer refused run step found = absurd run
+FoundIn-more size image [] (a ∷ as_) (f ∷ fs) old mid new event answer refused run step found = absurd run
+FoundIn-more size image (e ∷ es) [] [] old mid new event answer refused run step found = absurd run
+FoundIn-more size image (e ∷ es) [] (f ∷ fs) old mid new event answer refused run step found = absurd run
+FoundIn-more size image (e ∷ es) (a ∷ as_) [] old mid new event answer refused run step found = absurd run
+
+-- no events, no time
+pub no_run : {M : Type 0} (m : State) (disk : DiskValue M) → IsSound m → IsRun m m disk [] [] disk
+no_run m disk sound = record {
+  refusals = [];
+  refused = omega arith;
+  runs_on = λ book fits. record {
+    later = book;
+    run = refl;
+    fits = fits;
+    ours = refl;
+    turns = λ none. tt;
+    cuts = λ ours. started _ m sound (λ image cut. inl (between_calls m disk.unit book fits ours image cut));
+    at_exit = λ ours. between_calls m disk.unit book fits ours;
+  };
+  elapses = record { failures_stay = omega arith; size_stays = refl };
+}
+
+-- events of a disk and then one event, over one book
+runs_more : {M : Type 0} (first before after : State) (old mid new : DiskValue M) (events : List Event)
+    (answers : List Answer) (refusals : List Bool) (event : Event) (answer : Answer) (book : Book)
+    → RunsOn first before old events answers refusals mid book → IsStep before after mid event answer new
+    → first.size ≡ before.size
+    → RunsOn first after old (events ++ event ∷ []) (answers ++ answer ∷ []) (refusals ++ has_refused before after ∷ [])
+    new book
+runs_more first before after old mid new events answers refusals event answer book r step size =
+    let s = step.proceeds r.later r.fits in
+    let run = Run-more Intends CarriesOut Ticks events answers refusals (over old book) (over mid r.later)
+    (over new s.later) event answer (has_refused before after) r.run s.moves in
+    record {
+      later = s.later;
+      run = run;
+      fits = s.fits;
+      ours = s.ours ∙ r.ours;
+      turns = by_turns Intends CarriesOut Ticks (over old book) (events ++ event ∷ []) (answers ++ answer ∷ [])
+          (refusals ++ has_refused before after ∷ []) (over new s.later) run;
+      cuts = λ ours. weaker _ _ first after
+          (λ image found. ⊎_elim
+          (λ was. ⊎_elim inl (λ in_run. inr (FoundIn-more first.size image events answers refusals (over old book)
+          (over mid r.later) (over new s.later) event answer (has_refused before after) r.run s.moves (inl in_run))) was)
+          (λ now. inr (FoundIn-more first.size image events answers refusals (over old book)
+          (over mid r.later) (over new s.later) event answer (has_refused before after) r.run s.moves
+          (inr (subst (λ n. FoundWith n r.later (write_of_event (over mid r.later) event) image) (sym size) now))))
+          found)
+          (joined _ _ first before after (r.cuts ours) (s.cuts (r.ours ∙ ours)));
+      at_exit = λ ours. s.at_exit (r.ours ∙ ours);
+    }
 
 -- events of a disk and then one event are events of the disk
-pub IsRun-more : {M : Type 0} (first before after : State) (old mid new : Shown M)
+pub IsRun-more : {M : Type 0} (first before after : State) (old mid new : DiskValue M)
     (events : List Event) (answers : List Answer) (event : Event) (answer : Answer)
     → IsRun first before old events answers mid → IsStep before after mid event answer new
     → IsRun first after old (events ++ event ∷ []) (answers ++ answer ∷ []) new
-IsRun-more first before after old mid new events answers event answer r s =
-    let refusals : List Bool = r.refusals ++ nat_lt before.failures after.failures ∷ [] in
-    let run : (array : Array) → HoldsArray first array
-    → Run (Intends first.size) CarriesOut Ticks (over old array) (events ++ event ∷ [])
-    (answers ++ answer ∷ []) refusals (over new array)
-    = λ array holds.
-    Run-more (Intends first.size) CarriesOut Ticks events answers r.refusals (over old array)
-    (over mid array) (over new array) event answer
-    (nat_lt before.failures after.failures) (r.run array holds)
-    (subst (λ n. Step (Intends n) CarriesOut Ticks (nat_lt before.failures after.failures)
-    (over mid array) event answer (over new array))
-    r.quiet.size_stays (s.step array (still first before r.quiet array holds))) in
-    record {
-      refusals = refusals;
-      refused = counted r.refusals first.failures before.failures after.failures r.refused
-          s.quiet.failures_stay;
-      run = run;
-      turns = λ none array holds. by_turns (Intends first.size) CarriesOut Ticks (over old array)
-          (events ++ event ∷ []) (answers ++ answer ∷ [])
-          refusals (over new array) (run array holds) none;
-      quiet = quiet_joined first before after r.quiet s.quiet;
-      identity = s.identity ∙ r.identity;
-    }
+IsRun-more first before after old mid new events answers event answer r s = record {
+  refusals = r.refusals ++ has_refused before after ∷ [];
+  refused = counted r.refusals first.failures before.failures after.failures r.refused s.elapses.failures_stay;
+  runs_on = λ book fits. runs_more first before after old mid new events answers r.refusals event answer book
+      (r.runs_on book fits) s (sym r.elapses.size_stays);
+  elapses = record {
+    failures_stay = omega (arith, r.elapses.failures_stay, s.elapses.failures_stay);
+    size_stays = s.elapses.size_stays ∙ r.elapses.size_stays;
+  };
+}

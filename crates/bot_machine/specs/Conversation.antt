@@ -14,8 +14,7 @@ use Rattle.bot_machine.specs.declared.event.Event.TheVariants as event
 use Rattle.bot_machine.specs.declared.event.Answer.{Answer}
 use Rattle.bot_machine.specs.declared.event.Answer.TheVariants.{Ack, Nak, Stall, Ticked}
 use Rattle.bot_machine.specs.Requests.{Request, setup_packet}
-use Rattle.bot_machine.specs.Served.{serves, serves_requests}
-use Rattle.bot_machine.specs.Exchange.{Script, finished, taking, sending, stuck, Line, laid_out, in_answer, after_in, request_answer, after_request, Moment, at_once, after_data, never, moment_of, told, told_at_once}
+use Rattle.bot_machine.specs.Exchange.{Script, finished, taking, sending, Line, laid_out, in_answer, after_in, request_answer, after_request, Moment, at_once, after_data, never, moment_of, told, told_at_once}
 
 -- the line to the host, and the state of the unit behind it
 pub record Conversation (S : Type 0) : Type 0 where
@@ -35,11 +34,10 @@ pub record IsRefused (packet : List ℕ) (old : Line) (answer : Answer) (new : L
   pub answered : answer ≡ Stall
   pub after : new ≡ old
 
--- a setup packet, where requests are served or not
-abbrev pub SetupStep : Bool → List ℕ → Line → Answer → Line → Type 0
-SetupStep true packet old answer new =
+-- a setup packet
+abbrev pub SetupStep : List ℕ → Line → Answer → Line → Type 0
+SetupStep packet old answer new =
     ((request : Request) × IsAsked request packet old answer new) ⊎ IsRefused packet old answer new
-SetupStep false packet old answer new = (answer ≡ Stall) × (new ≡ old)
 
 -- What a unit in some state intends for a command block; how it carries one out, over the bytes
 -- taken, where its medium refused a call or refused none; and what its steps in the background do.
@@ -54,21 +52,17 @@ module _ {S F : Type 0} (Intends : S → List ℕ → Way → Type 0)
     pub moved : (n : ℕ) → intended ≡ ways.In n → IfOk answer (λ sent. length sent ≡ n)
     pub after : new.line ≡ told case command intended answer old.line
 
-  -- the exchange that a case begins, where it is served or not
-  abbrev pub Begins : Bool → Moment → Case → Cbw → Way → Conversation S → Conversation S → Type 0
-  Begins true at_once case command intended old new =
-      IsCarriedOut case command intended [] old new
-  Begins true after_data case command intended old new =
+  -- the exchange that a case begins
+  abbrev pub Begins : Moment → Case → Cbw → Way → Conversation S → Conversation S → Type 0
+  Begins at_once case command intended old new = IsCarriedOut case command intended [] old new
+  Begins after_data case command intended old new =
       (new.unit ≡ old.unit)
       × (new.line ≡ record old.line {
-        left = taking case command intended []
-            (size_of_way command.host);
+        left = taking case command intended [] (size_of_way command.host);
       })
-  Begins true never case command intended old new =
+  Begins never case command intended old new =
       (new.unit ≡ old.unit)
       × (new.line ≡ told_at_once case command intended PhaseError old.line)
-  Begins false moment case command intended old new =
-      (new.unit ≡ old.unit) × (new.line ≡ record old.line { left = stuck })
 
   -- a packet that spells a command wrapper
   pub record Opens (packet : List ℕ) (old new : Conversation S) : Type 0 where
@@ -78,7 +72,7 @@ module _ {S F : Type 0} (Intends : S → List ℕ → Way → Type 0)
     pub spelled : SpellsCommand packet command
     pub intends : Intends old.unit command.block.items intended
     pub is_case : IsCase case command.host intended
-    pub begins : Begins (serves case) (moment_of case) case command intended old new
+    pub begins : Begins (moment_of case) case command intended old new
 
   -- a packet that spells none
   pub record Locks (packet : List ℕ) (old new : Conversation S) : Type 0 where
@@ -128,7 +122,6 @@ module _ {S F : Type 0} (Intends : S → List ℕ → Way → Type 0)
   OutStep false (taking case command intended bytes due) packet old answer new =
       (answer ≡ Ack) × Takes case command intended bytes due packet old new
   OutStep false (sending packets halt status) packet old answer new = (answer ≡ Nak) × (new ≡ old)
-  OutStep false stuck packet old answer new = (answer ≡ Stall) × (new ≡ old)
 
   -- one event, its answer, and the state after it; a step in the background leaves the line
   abbrev pub Step : Conversation S → Event → Answer → Conversation S → Type 0
@@ -137,7 +130,7 @@ module _ {S F : Type 0} (Intends : S → List ℕ → Way → Type 0)
   Step old event.In answer new =
       (answer ≡ in_answer old.line) × (new ≡ record old { line = after_in old.line })
   Step old (event.Setup packet) answer new =
-      SetupStep serves_requests packet old.line answer new.line × (new.unit ≡ old.unit)
+      SetupStep packet old.line answer new.line × (new.unit ≡ old.unit)
   Step old event.Tick answer new =
       (answer ≡ Ticked) × Ticks refused old.unit new.unit × (new.line ≡ old.line)
 

@@ -1,68 +1,120 @@
--- A disk over a medium, and its conversations over the arrays of blocks that the medium holds.
-use Rattle.std.specs.Prelude.{◌≡◌, ◌<◌, ◌≤◌, ℕ, ◌+◌, nat_lt, Bool, List, None, false}
-use Rattle.medium.specs.Blocks.{Array}
-use Rattle.medium.specs.Medium.{State}
-use Rattle.medium.specs.Moments.{IsQuiet}
-use Rattle.pages.specs.declared.Identity.{Identity}
-use Rattle.wrappers.specs.declared.command.Cbw.{Cbw}
-use Rattle.wrappers.specs.declared.way.Way.TheVariants.{In}
-use Rattle.wrappers.specs.Command.{SpellsCommand}
+-- A disk over a medium: its conversation over each book that it fits, and what a cut may leave.
+use Rattle.std.specs.Prelude.{◌≡◌, ◌≤◌, ◌⊎◌, ℕ, ◌+◌, Bool, true, List, ◌∷◌, Option, None, Result}
+use Rattle.medium.specs.Blocks.{Write}
+use Rattle.medium.specs.Medium.{State, Image}
+use Rattle.medium.specs.Moments.{LeavesOnly, EachCut}
+use Rattle.sense.specs.declared.codes.Sense.{Sense}
+use Rattle.blocks.specs.Book.{Book}
+use Rattle.blocks.specs.Finding.{MayFind, FoundWith}
+use Rattle.scsi_unit.specs.Rules.{UnitState, CarriesOut, Ticks}
+use Rattle.scsi_unit.specs.Serving.{has_refused, IsSparing}
+use Rattle.scsi_unit.specs.UnitValue.{UnitValue, state_of, FitsUnit}
 use Rattle.bot_machine.specs.declared.event.Event.{Event}
 use Rattle.bot_machine.specs.declared.event.Answer.{Answer}
 use Rattle.bot_machine.specs.Exchange.{Line, finished}
 use Rattle.bot_machine.specs.Conversation.{Conversation, Step, Run, refused_events}
 use Rattle.bot_machine.specs.Turns.{ByTurns, marks_in}
-use Rattle.bot_machine.specs.OneBlock.{IsReadOfOne, Intends, CarriesOut, Ticks}
+use Rattle.bot_machine.specs.Intentions.{Intends}
+use Rattle.bot_machine.specs.Acts.{EventCarriesOut, Acts, write_of_event}
 
--- what is seen of a disk
-pub record Shown (M : Type 0) : Type 0 where
+-- what is seen of a disk: the line to the host, and the unit behind it
+pub record DiskValue (M : Type 0) : Type 0 where
   pub line : Line
-  pub identity : Identity
-  pub medium : M
+  pub unit : UnitValue M
 
--- the conversation of a disk over an array
-abbrev pub over : {M : Type 0} → Shown M → Array → Conversation Array
-over disk array = record { line = disk.line; unit = array }
+-- a unit behind a line
+abbrev pub on_line : Line → UnitState → Conversation UnitState
+on_line line unit = record { line = line; unit = unit }
 
--- each sector of the medium holds the block of its number
-abbrev pub HoldsArray : State → Array → Type 0
-HoldsArray m array = (b : ℕ) → b < m.size → array b ≡ m.content b
+-- the conversation of a disk, with a book of its life
+abbrev pub over : {M : Type 0} → DiskValue M → Book → Conversation UnitState
+over disk book = on_line disk.line (state_of disk.unit book)
 
--- One event of a disk and its answer:
--- a step of the conversation over each array that the medium holds. Nothing is written.
-pub record IsStep {M : Type 0} (before after : State) (old : Shown M) (event : Event)
-    (answer : Answer) (new : Shown M) : Type 0 where
-  pub step : (array : Array) → HoldsArray before array
-      → Step (Intends before.size) CarriesOut Ticks (nat_lt before.failures after.failures)
-      (over old array) event answer (over new array)
-  pub quiet : IsQuiet before after
-  pub identity : new.identity ≡ old.identity
+-- the disk over a medium in this state fits a book of its life
+abbrev pub FitsDisk : {M : Type 0} → State → DiskValue M → Book → Type 0
+FitsDisk m disk book = FitsUnit m disk.unit book
 
--- Events of a disk and their answers: in some of the events the medium refused a call, and over
--- each array that it holds they are a run of the conversation. Nothing is written.
-pub record IsRun {M : Type 0} (before after : State) (old : Shown M) (events : List Event)
-    (answers : List Answer) (new : Shown M) : Type 0 where
+-- one event by the rules of the unit, where the medium refused a call in it or refused none
+abbrev pub UnitStep : Bool → Conversation UnitState → Event → Answer → Conversation UnitState → Type 0
+UnitStep refused old event answer new = Step Intends CarriesOut Ticks refused old event answer new
+
+-- events by the rules of the unit
+abbrev pub UnitRun : Conversation UnitState → List Event → List Answer → List Bool
+    → Conversation UnitState → Type 0
+UnitRun old events answers refusals new = Run Intends CarriesOut Ticks old events answers refusals new
+
+-- the count of refused calls does not fall, and the size stays
+pub record Elapses (before after : State) : Type 0 where
+  pub failures_stay : before.failures ≤ after.failures
+  pub size_stays : after.size ≡ before.size
+
+-- A unit proceeds from one moment to another: from a book that it fits, as Moves says, to one that it
+-- fits then. A cut at any moment between finds accepted writes, perhaps with the one in progress.
+pub record Proceeds {M : Type 0} (before after : State) (old new : UnitValue M)
+    (Moves : UnitState → UnitState → Type 0) (write : Option Write) (book : Book) : Type 0 where
+  pub later : Book
+  pub moves : Moves (state_of old book) (state_of new later)
+  pub fits : FitsUnit after new later
+  pub ours : later.ours ≡ book.ours
+  pub cuts : book.ours ≡ true → LeavesOnly (FoundWith before.size book write) before after
+  pub at_exit : book.ours ≡ true → EachCut (MayFind after.size later) after
+
+-- one event of a disk and its answer
+pub record IsStep {M : Type 0} (before after : State) (old : DiskValue M) (event : Event)
+    (answer : Answer) (new : DiskValue M) : Type 0 where
+  pub proceeds : (book : Book) → FitsDisk before old book → Proceeds before after old.unit new.unit
+      (λ unit later. UnitStep (has_refused before after)
+      (on_line old.line unit) event answer (on_line new.line later))
+      (write_of_event (over old book) event) book
+  -- where the unit has nothing to do it stays as it is, and its medium too
+  pub rests : (book : Book) → FitsDisk before old book → ¬ Acts (over old book) event
+      → new.unit ≡ old.unit
+  -- a command makes no call of the medium that it does not need
+  pub spares : (book : Book) → FitsDisk before old book → (block taken : List ℕ)
+      → EventCarriesOut (over old book) event block taken
+      → (answer : Result (List ℕ) Sense) × IsSparing block taken old.unit answer new.unit
+  pub elapses : Elapses before after
+
+-- an image that a cut in one of the events of a run may leave: accepted writes of the book at the
+-- beginning of that event, perhaps with the one in progress in it
+abbrev pub FoundIn : ℕ → (old : Conversation UnitState) (events : List Event) (answers : List Answer)
+    (refusals : List Bool) (new : Conversation UnitState)
+    → UnitRun old events answers refusals new → Image → Type 0
+FoundIn size old (event ∷ events) (answer ∷ answers) (refused ∷ refusals) new (mid, step, rest) image =
+    FoundWith size old.unit.book (write_of_event old event) image
+    ⊎ FoundIn size mid events answers refusals new rest image
+FoundIn size old events answers refusals new run image = ⊥
+
+-- events of a disk and their answers, over one book that the disk fits
+pub record RunsOn {M : Type 0} (before after : State) (old : DiskValue M) (events : List Event)
+    (answers : List Answer) (refusals : List Bool) (new : DiskValue M) (book : Book) : Type 0 where
+  pub later : Book
+  pub run : UnitRun (over old book) events answers refusals (over new later)
+  pub fits : FitsDisk after new later
+  pub ours : later.ours ≡ book.ours
+  -- each command wrapper taken is followed by its status wrapper, before the next is taken
+  pub turns : old.line.left ≡ finished → ByTurns None (marks_in Intends CarriesOut Ticks
+      (over old book) events answers refusals (over new later) run)
+  -- a cut at any moment finds what one may find at the beginning, or in one of the events
+  pub cuts : book.ours ≡ true → LeavesOnly (λ image. MayFind before.size book image
+      ⊎ FoundIn before.size (over old book) events answers refusals (over new later) run image)
+      before after
+  pub at_exit : book.ours ≡ true → EachCut (MayFind after.size later) after
+
+-- Events of a disk and their answers: in some of the events the medium refused a call, whatever the
+-- book.
+pub record IsRun {M : Type 0} (before after : State) (old : DiskValue M) (events : List Event)
+    (answers : List Answer) (new : DiskValue M) : Type 0 where
   pub refusals : List Bool
   pub refused : refused_events refusals + before.failures ≤ after.failures
-  pub run : (array : Array) → HoldsArray before array
-      → Run (Intends before.size) CarriesOut Ticks
-      (over old array) events answers refusals (over new array)
-  -- each command wrapper taken is followed by its status wrapper, before the next is taken
-  pub turns : old.line.left ≡ finished → (array : Array) (holds : HoldsArray before array)
-      → ByTurns None (marks_in (Intends before.size) CarriesOut Ticks
-      (over old array) events answers refusals (over new array) (run array holds))
-  pub quiet : IsQuiet before after
-  pub identity : new.identity ≡ old.identity
+  pub runs_on : (book : Book) → FitsDisk before old book
+      → RunsOn before after old events answers refusals new book
+  pub elapses : Elapses before after
 
--- the packet spells the wrapper of a command that reads one block out of so many
-pub record SpellsRead (count : ℕ) (packet : List ℕ) : Type 0 where
-  pub command : Cbw
-  pub spelled : SpellsCommand packet command
-  pub host : command.host ≡ In 512
-  pub read : IsReadOfOne count command.block.items
-
--- the packet begins an exchange in which a block is read
-pub record BeginsRead (count : ℕ) (line : Line) (packet : List ℕ) : Type 0 where
-  pub not_halted : line.out_halted ≡ false
-  pub expected : line.left ≡ finished
-  pub read : SpellsRead count packet
+-- something was armed in the medium, and nothing else of the disk has changed
+abbrev pub IsRearmed : {M : Type 0} → DiskValue M → DiskValue M → Type 0
+IsRearmed old new = new ≡ record old {
+  unit = record old.unit {
+    store = record old.unit.store { medium = new.unit.store.medium };
+  };
+}

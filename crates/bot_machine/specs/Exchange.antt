@@ -16,7 +16,6 @@ use Rattle.bot_machine.specs.declared.event.Answer.{Answer}
 use Rattle.bot_machine.specs.declared.event.Answer.TheVariants.{Ack, Nak, Stall, Data, Byte, Two}
 use Rattle.bot_machine.specs.Packets.{packets_of}
 use Rattle.bot_machine.specs.Requests.{Request, mass_storage_reset, get_max_lun, clear_halt, get_status}
-use Rattle.bot_machine.specs.Served.{serves}
 
 -- what is left of an exchange
 pub data Script : Type 0 where
@@ -27,8 +26,6 @@ pub data Script : Type 0 where
   taking : Case → Cbw → Way → List ℕ → ℕ → Script
   -- packets to send, the endpoint that is halted with the last of them, and the status wrapper
   sending : List (List ℕ) → Option Endpoint → List ℕ → Script
-  -- an exchange that is not served: each token is answered Stall
-  stuck : Script
 
 -- two halts, a lock, and what is left of the exchange
 pub record Line : Type 0 where
@@ -68,14 +65,12 @@ next_packet finished = Nak
 next_packet (taking case command intended bytes due) = Nak
 next_packet (sending [] halt status) = Data (record { items = status })
 next_packet (sending (packet ∷ packets) halt status) = Data (record { items = packet })
-next_packet stuck = Stall
 
 abbrev pub after_packet : Script → Line → Line
 after_packet finished s = s
 after_packet (taking case command intended bytes due) s = s
 after_packet (sending [] halt status) s = record s { left = finished }
 after_packet (sending (packet ∷ packets) halt status) s = laid_out packets halt status s
-after_packet stuck s = s
 
 -- a token to Bulk-In
 abbrev pub in_answer : Line → Answer
@@ -147,14 +142,10 @@ abbrev pub told_at_once : Case → Cbw → Way → Status → Line → Line
 told_at_once case command intended status s =
     laid_out [] (outcome_for case command intended).halt (status_for case command intended status) s
 
--- a command that failed, in the case that it goes on as
-abbrev pub told_failed : Case → Cbw → Way → Line → Line
-told_failed case command intended s =
-    if serves case then told_at_once case command intended Failed s else record s { left = stuck }
-
 -- a command that was carried out: its packets, the halt of its case, and its status
 abbrev pub told : {F : Type 0} → Case → Cbw → Way → Result (List ℕ) F → Line → Line
 told case command intended (Ok bytes) s =
     laid_out (sent_in case bytes) (outcome_for case command intended).halt
     (status_for case command intended Passed) s
-told case command intended (Err fault) s = told_failed (case_if_failed case) command intended s
+told case command intended (Err fault) s =
+    told_at_once (case_if_failed case) command intended Failed s

@@ -1,35 +1,94 @@
 -- What the disk's fields stand for.
-use Rattle.std.specs.Prelude.{List, ℕ, [], ◌∷◌, None}
+use Rattle.std.specs.Prelude.{◌≡◌, ⊤, ◌≤◌, ◌<◌, ℕ, ◌-◌, min, Bool, true, false, List, [], take, length, slice_range, Option, Some, None}
+use Rattle.wrappers.specs.declared.case.Case.{Case}
+use Rattle.wrappers.specs.declared.case.Case.TheVariants.{C5, C6}
+use Rattle.wrappers.specs.declared.case.Endpoint.{Endpoint}
+use Rattle.wrappers.specs.declared.case.Endpoint.TheVariants as endpoint
+use Rattle.wrappers.specs.Cases.{IsCase, size_of_way}
+use Rattle.scsi_unit.specs.declared.intent.Intent.{Intent}
+use Rattle.scsi_unit.specs.declared.intent.Intent.TheVariants as intent
+use Rattle.bot_machine.specs.declared.exchange.When.{When}
+use Rattle.bot_machine.specs.declared.exchange.When.TheVariants.{AtOnce, AfterData, Never}
+use Rattle.bot_machine.specs.declared.request.ControlRequest.{ControlRequest}
+use Rattle.bot_machine.specs.declared.request.ControlRequest.TheVariants.{MassStorageReset, GetMaxLun, ClearHalt, GetStatus}
+use Rattle.bot_machine.specs.declared.wire.Taking.{Taking}
 use Rattle.bot_machine.specs.declared.wire.Phase.{Phase}
-use Rattle.bot_machine.specs.declared.wire.Phase.TheVariants.{Command, DataIn, Status, Stuck}
+use Rattle.bot_machine.specs.declared.wire.Phase.TheVariants.{Command, DataOut, DataIn, Status}
 use Rattle.bot_machine.specs.declared.wire.Wire.{Wire}
-use Rattle.medium.specs.Blocks.{Array}
-use Rattle.bot_machine.specs.Exchange.{Line, Script, finished, sending, stuck}
-use Rattle.bot_machine.specs.Conversation.{Conversation}
+use Rattle.bot_machine.specs.Packets.{packets_of}
+use Rattle.bot_machine.specs.Requests.{Request, mass_storage_reset, get_max_lun, clear_halt, get_status}
+use Rattle.bot_machine.specs.Exchange.{Script, Line, finished, taking, sending, Moment, at_once, after_data, never, moment_of}
 
--- what is left of the exchange, by the phase, the block to send and the status wrapper
-abbrev pub left_of : Phase → List ℕ → List ℕ → Script
-left_of Command block status = finished
-left_of DataIn block status = sending (block ∷ []) None status
-left_of Status block status = sending [] None status
-left_of Stuck block status = stuck
+-- the halt that is still to come
+abbrev pub halt_of : Bool → Option Endpoint
+halt_of true = Some endpoint.In
+halt_of false = None
 
--- the line, but for what is left of the exchange:
--- only a refused wrapper halts, and it halts and locks both endpoints
+-- the rest of an exchange whose data is taken
+abbrev pub taking_of : Taking → List ℕ → Script
+taking_of t taken = taking t.exchange.case t.exchange.command t.exchange.intended (take t.filled taken) t.due
+
+-- what is left of the exchange, by the phase, the bytes taken, the bytes to send and the status wrapper
+abbrev pub left_of : Phase → List ℕ → List ℕ → List ℕ → Script
+left_of Command taken staging status = finished
+left_of (DataOut t) taken staging status = taking_of t taken
+left_of (DataIn from to halt) taken staging status =
+    sending (packets_of (slice_range staging from to)) (halt_of halt) status
+left_of Status taken staging status = sending [] None status
+
+-- the line, but for what is left of the exchange
 abbrev pub line_with : Wire → Script → Line
 line_with wire left = record {
   in_halted = wire.in_halted;
   out_halted = wire.out_halted;
-  locked = wire.in_halted;
+  locked = wire.locked;
   left = left;
 }
 
-abbrev pub line_of : Wire → Line
-line_of wire = line_with wire (left_of wire.phase wire.block wire.status)
+abbrev pub line_of : Wire → List ℕ → List ℕ → Line
+line_of wire taken staging = line_with wire (left_of wire.phase taken staging wire.status)
 
--- the conversation over an array
-abbrev pub state_with : Wire → Script → Array → Conversation Array
-state_with wire left array = record { line = line_with wire left; unit = array }
+-- Data is taken: the case takes data, and the bytes taken are the intended ones of those that came.
+-- What the unit intends to take now, if it still does, is what it intended when the wrapper came.
+pub record IsTaking (intention : List ℕ → Intent) (t : Taking) : Type 0 where
+  pub is_case : IsCase t.exchange.case t.exchange.command.host t.exchange.intended
+  pub moment : moment_of t.exchange.case ≡ after_data
+  pub some_block : 0 < length t.exchange.command.block.items
+  pub some_due : 0 < t.due
+  pub within : t.due ≤ size_of_way t.exchange.command.host
+  pub room : size_of_way t.exchange.intended ≤ 24576
+  pub filled_is : t.filled ≡ min (size_of_way t.exchange.intended) (size_of_way t.exchange.command.host - t.due)
+  pub intended : (n : ℕ) → intention t.exchange.command.block.items ≡ intent.Out n
+      → size_of_way t.exchange.intended ≡ n
 
-abbrev pub state_of : Wire → Array → Conversation Array
-state_of wire array = record { line = line_of wire; unit = array }
+-- what holds of a phase, by what the unit intends for a command block
+abbrev pub IsInPhase : (List ℕ → Intent) → Phase → Type 0
+IsInPhase intention Command = ⊤
+IsInPhase intention (DataOut t) = IsTaking intention t
+IsInPhase intention (DataIn from to halt) = (from < to) × (to ≤ 24576)
+IsInPhase intention Status = ⊤
+
+-- what holds of the fields of every disk
+pub record IsKept (intention : List ℕ → Intent) (phase : Phase) (taken staging : List ℕ) : Type 0 where
+  pub taken_room : length taken ≡ 24576
+  pub staging_room : length staging ≡ 24576
+  pub phase_holds : IsInPhase intention phase
+
+-- when a command is carried out
+abbrev pub moment_meant : When → Moment
+moment_meant AtOnce = at_once
+moment_meant AfterData = after_data
+moment_meant Never = never
+
+-- the request that is asked for
+abbrev pub request_meant : ControlRequest → Request
+request_meant MassStorageReset = mass_storage_reset
+request_meant GetMaxLun = get_max_lun
+request_meant (ClearHalt endpoint) = clear_halt endpoint
+request_meant (GetStatus endpoint) = get_status endpoint
+
+-- how many of the bytes that a good command gave are sent
+abbrev pub sent_size : Case → ℕ → ℕ
+sent_size C5 size = size
+sent_size C6 size = size
+sent_size case size = 0

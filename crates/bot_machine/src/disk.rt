@@ -1,112 +1,163 @@
-// A disk: the transport over a medium.
-ghost use Rattle.std.specs.Prelude.{◌≡◌, ◌≤◌, ◌<◌, ◌+◌, ◌^◌, ◌↔◌, ⊤, length, IsOk, IfOk, IfErr};
+// A disk: the transport over a logical unit.
+ghost use Rattle.std.specs.Prelude.{⊤, ◌≡◌, ◌≤◌, ◌<◌, true, length, IfOk, IfErr, MatchResult};
 ghost use Rattle.std.specs.Borrow.{sem, follows_so};
 ghost use mathlib.Core.Option.{none};
+ghost use Rattle.medium.specs.Moments.{EachCut, IsUnchanged};
+ghost use Rattle.blocks.specs.Book.{Book};
+ghost use Rattle.blocks.specs.Finding.{MayFind};
+ghost use Rattle.scsi_unit.specs.Serving.{TicksOver};
 ghost use Rattle.bot_machine.specs.Exchange.{at_rest, in_answer, after_in};
 ghost use Rattle.bot_machine.specs.Answers.{answer_to_out, answer_to_in, answer_to_setup, IsPacket};
 ghost use Rattle.bot_machine.specs.Conversation.{SetupStep};
-ghost use Rattle.bot_machine.specs.Disk.{IsStep, BeginsRead};
-ghost use Rattle.bot_machine.specs.Served.{serves_requests};
+ghost use Rattle.bot_machine.specs.Disk.{FitsDisk, IsStep, IsRearmed};
+ghost use Rattle.bot_machine.specs.Opening.{IsOpened, IsNotOpened, StartLeaves};
 ghost use Rattle.bot_machine.specs.declared.event.Event.TheVariants as event;
+ghost use Rattle.bot_machine.specs.declared.event.Answer.TheVariants as answer;
 ghost use Rattle.bot_machine.specs.contracts.disk.Disk.{the_row};
 
 use crate::event::{InAnswer, OutAnswer, SetupAnswer};
-use crate::start::{StartError, StartFault};
-use crate::wire::{Phase, Wire, open};
-use medium::Medium;
+use crate::request::{ControlRequest, read_request};
+use crate::serve::{open, take_data};
+use crate::wire::{Phase, Wire};
+use blocks::{StartError, StartFault, Store};
+use medium::{Medium, Switch};
 use pages::Identity;
+use scsi_unit::Unit;
+use std::alloc::Global;
 use std::marker::Model;
+use std::mem;
 
-// The most blocks of a disk.
-const MOST_BLOCKS: u64 = 1 << 31;
+// The bytes of the longest transfer.
+const ROOM: usize = 24_576;
 
-/// A disk whose blocks are the sectors of a medium.
+/// A disk over a medium.
 #[derive(Drop)]
 pub struct Disk<M: Medium> {
-    medium: M,
-    identity: Identity,
+    unit: Unit<M>,
     wire: Wire,
+    // The intended bytes that came of the data being taken.
+    taken: Vec<u8>,
+    // The bytes that are sent.
+    staging: Vec<u8>,
 }
 
 impl<M: Medium> Model for Disk<M> {
-    ghost use Rattle.bot_machine.specs.Disk.{Shown};
+    ghost use Rattle.bot_machine.specs.Disk.{DiskValue};
 
-    ghost Value = { Shown M };
+    ghost Value = { DiskValue M };
 
-    ghost use Rattle.bot_machine.specs.Refinement.{line_of};
+    ghost use Rattle.scsi_unit.specs.UnitValue.{intention_of};
+    ghost use Rattle.bot_machine.specs.Refinement.{line_of, IsKept};
 
-    ghost view = { λ d. record { line = line_of d.wire; identity = d.identity; medium = d.medium } };
+    ghost view = { λ d. record {
+      line = line_of d.wire d.taken.items d.staging.items;
+      unit = d.unit;
+    } };
+
+    ghost invariant = { λ d.
+        IsKept (intention_of d.unit) d.wire.phase d.taken.items d.staging.items };
 }
 
 impl<M: Medium> Disk<M> {
-    /// Starts a disk over a medium, where a command block wrapper is expected. No call of the medium
-    /// is made.
+    /// Starts a disk on a medium: recovers the medium, and makes the room for all that is kept in
+    /// memory. A command block wrapper is expected, the unit attention of a power on is pending,
+    /// and the write cache is enabled. The blocks are those for which the contents of the medium
+    /// stood.
     ///
     /// # Errors
-    /// `BadSize` where the medium has no sectors, or more than 2^31. It comes back as it was.
-    pub fn start(medium: M, identity: Identity) -> Result<Disk<M>, StartError<M>>
-        ensures size { IsOk result
-            ↔ ((0 < (M.state medium).size) × ((M.state medium).size ≤ 2 ^ 31)) }
-        ensures ok { IfOk result (λ disk. disk
-            ≡ record { line = at_rest; identity = identity; medium = medium }) }
-        ensures refused { IfErr result (λ error. error
-            ≡ record { fault = StartFault.BadSize; medium = medium }) }
+    ///
+    /// The fault of the recovery; once the medium is recovered `NoMemory` alone. The medium comes
+    /// back.
+    pub fn start(alloc: Global, medium: M, identity: Identity) -> Result<Disk<M>, StartError<M>>
+        ensures ok { IfOk result (λ disk. IsOpened
+            (M.state medium) (M.state disk.unit.store.medium) identity disk) }
+        ensures err { IfErr result (λ error.
+            IsNotOpened (M.state medium) (M.state error.medium) error.fault) }
+        ensures leaves { MatchResult result
+            (λ disk. StartLeaves (M.state medium) (M.state disk.unit.store.medium))
+            (λ error. StartLeaves (M.state medium) (M.state error.medium)) }
+        ensures follows { MatchResult result
+            (λ disk. M.follows medium disk.unit.store.medium)
+            (λ error. M.follows medium error.medium) }
     {
-        let sectors = medium.sectors();
-        if sectors == 0 || sectors > MOST_BLOCKS {
+        let store = Store::start(alloc, medium)?;
+        let unit = Unit::new(store, identity);
+        let Ok(taken) = vec![in alloc; 0; ROOM] else {
             return Err(StartError {
-                fault: StartFault::BadSize,
-                medium,
+                fault: StartFault::NoMemory,
+                medium: unit.into_medium(),
             });
-        }
+        };
+        let Ok(staging) = vec![in alloc; 0; ROOM] else {
+            return Err(StartError {
+                fault: StartFault::NoMemory,
+                medium: unit.into_medium(),
+            });
+        };
         Ok(Disk {
-            medium,
-            identity,
+            unit,
             wire: Wire::at_rest(),
+            taken,
+            staging,
         })
     }
 
     /// The medium that the disk stands on.
+    ///
+    /// Between two calls a cut leaves what may be found of each book that the disk fits.
     pub fn medium(&self) -> &M
-        ensures { result.now ≡ self.now.medium }
+        ensures is { result.now ≡ self.now.unit.store.medium }
+        ensures at_rest { (book : Book)
+            → FitsDisk (M.state self.now.unit.store.medium) self.now book → book.ours ≡ true
+            → EachCut (MayFind (M.state self.now.unit.store.medium).size book)
+            (M.state self.now.unit.store.medium) }
     {
-        &self.medium
+        self.unit.medium()
     }
 
     /// Gives the medium back.
     pub fn into_medium(self) -> M
-        ensures { result ≡ self.medium }
+        ensures { result ≡ self.unit.store.medium }
     {
-        self.medium
+        self.unit.into_medium()
     }
 
-    /// Takes a packet to Bulk-Out, of at most 512 bytes (Bulk-Only Transport 1.0, 5.1). One that
-    /// begins the read of a block makes one call of the medium, and any other makes none.
+    /// Takes a packet to Bulk-Out, of at most 512 bytes (Bulk-Only Transport 1.0, 5.1).
     pub fn bulk_out(&mut self, packet: &[u8]) -> OutAnswer
         requires { length packet.now ≤ 512 }
-        ensures step { IsStep (M.state self.old.medium) (M.state self.new.medium) self.old
+        ensures step { IsStep (M.state self.old.unit.store.medium)
+            (M.state self.new.unit.store.medium) self.old
             (event.Out (record { items = packet.now })) (answer_to_out result) self.new }
-        ensures reads { BeginsRead (M.state self.old.medium).size self.old.line packet.now
-            → (M.state self.new.medium).calls ≡ (M.state self.old.medium).calls + 1 }
-        ensures others { (BeginsRead (M.state self.old.medium).size self.old.line packet.now → ⊥)
-            → self.new.medium ≡ self.old.medium }
-        ensures follows { M.follows self.old.medium self.new.medium }
+        ensures follows { M.follows self.old.unit.store.medium self.new.unit.store.medium }
     {
         if self.wire.out_halted {
             return OutAnswer::Stall;
         }
-        match self.wire.phase {
+        match mem::replace(&mut self.wire.phase, Phase::Command) {
             Phase::Command => {
-                open(&mut self.medium, &mut self.wire, packet);
+                open(&mut self.unit, &mut self.wire, &mut self.staging, packet);
                 OutAnswer::Ack
             }
-            Phase::DataIn | Phase::Status => OutAnswer::Nak,
-            Phase::Stuck => OutAnswer::Stall,
+            Phase::DataOut(data) => {
+                take_data(
+                    &mut self.unit,
+                    &mut self.wire,
+                    &mut self.taken,
+                    &mut self.staging,
+                    packet,
+                    data,
+                );
+                OutAnswer::Ack
+            }
+            phase => {
+                self.wire.phase = phase;
+                OutAnswer::Nak
+            }
         }
     }
 
-    /// Takes a token to Bulk-In, and lends the packet to send (Bulk-Only Transport 1.0, 5.2). No call
-    /// of the medium is made.
+    /// Takes a token to Bulk-In, and lends the packet to send (Bulk-Only Transport 1.0, 5.2). No
+    /// call of the medium is made.
     pub fn bulk_in(&mut self) -> InAnswer<'_>
         ensures* after { sem 𝓛 (follows_so (the_row M.row M.Medium) (the_row M.row M.Medium)
             self.entry.ghost_name none (λ _ _. ⊤)
@@ -118,30 +169,89 @@ impl<M: Medium> Disk<M> {
             return InAnswer::Stall;
         }
         match self.wire.phase {
-            Phase::Command => InAnswer::Nak,
-            Phase::DataIn => {
-                self.wire.phase = Phase::Status;
-                InAnswer::Data(&self.wire.block)
+            Phase::Command | Phase::DataOut(_) => InAnswer::Nak,
+            Phase::DataIn { from, to, halt } => {
+                let end = to.min(from + 512);
+                if end < to {
+                    self.wire.phase = Phase::DataIn {
+                        from: end,
+                        to,
+                        halt,
+                    };
+                } else {
+                    self.wire.in_halted = halt;
+                    self.wire.phase = Phase::Status;
+                }
+                InAnswer::Data(&self.staging[from..end])
             }
             Phase::Status => {
                 self.wire.phase = Phase::Command;
                 InAnswer::Data(&self.wire.status)
             }
-            Phase::Stuck => InAnswer::Stall,
         }
     }
 
-    /// Takes a setup packet (USB 2.0, 9.3), and refuses it, since no request is served so far.
+    /// Takes a setup packet (Bulk-Only Transport 1.0, 3; USB 2.0, 9.4). No call of the medium is
+    /// made.
     pub fn setup(&mut self, packet: [u8; 8]) -> SetupAnswer
-        ensures step { SetupStep serves_requests packet
-            self.old.line (answer_to_setup result) self.new.line }
+        ensures step { SetupStep packet self.old.line (answer_to_setup result) self.new.line }
         ensures others { self.new ≡ record self.old { line = self.new.line } }
     {
-        SetupAnswer::Stall
+        match read_request(packet) {
+            None => SetupAnswer::Stall,
+            Some(ControlRequest::MassStorageReset) => {
+                self.wire.locked = false;
+                self.wire.phase = Phase::Command;
+                SetupAnswer::Ack
+            }
+            Some(ControlRequest::GetMaxLun) => SetupAnswer::Byte(0),
+            Some(ControlRequest::ClearHalt(endpoint)) => {
+                self.wire.clear_halt(endpoint);
+                SetupAnswer::Ack
+            }
+            Some(ControlRequest::GetStatus(endpoint)) => {
+                SetupAnswer::Two([u8::from(self.wire.is_halted(endpoint)), 0])
+            }
+        }
     }
 
-    /// Makes a step in the background, of which there is none so far.
+    /// Makes a step in the background, of at most two calls of the medium.
     pub fn tick(&mut self)
-        ensures { self.new ≡ self.old }
-    {}
+        ensures step { IsStep (M.state self.old.unit.store.medium)
+            (M.state self.new.unit.store.medium) self.old event.Tick answer.Ticked self.new }
+        ensures ticks { TicksOver (M.state self.old.unit.store.medium)
+            (M.state self.new.unit.store.medium) self.old.unit self.new.unit }
+        ensures line { self.new.line ≡ self.old.line }
+        ensures follows { M.follows self.old.unit.store.medium self.new.unit.store.medium }
+    {
+        self.unit.tick();
+    }
+}
+
+impl<M: Switch> Disk<M> {
+    /// Arms a fuse of the medium: the next `writes` writes and flushes still happen.
+    pub fn fuse(&mut self, writes: u64)
+        ensures fused { M.fused writes self.old.unit.store.medium self.new.unit.store.medium }
+        ensures unchanged { IsUnchanged (M.state self.old.unit.store.medium)
+            (M.state self.new.unit.store.medium) }
+        ensures others { IsRearmed self.old self.new }
+        ensures fits { (book : Book) → FitsDisk (M.state self.old.unit.store.medium) self.old book
+            → FitsDisk (M.state self.new.unit.store.medium) self.new book }
+    {
+        self.unit.fuse(writes);
+    }
+
+    /// Arms a failure of one call of the medium: the one with this number from now, counted from 1.
+    pub fn fail(&mut self, call: u64)
+        requires { 0 < call }
+        ensures failing { M.failing call self.old.unit.store.medium self.new.unit.store.medium }
+        ensures follows { M.follows self.old.unit.store.medium self.new.unit.store.medium }
+        ensures unchanged { IsUnchanged (M.state self.old.unit.store.medium)
+            (M.state self.new.unit.store.medium) }
+        ensures others { IsRearmed self.old self.new }
+        ensures fits { (book : Book) → FitsDisk (M.state self.old.unit.store.medium) self.old book
+            → FitsDisk (M.state self.new.unit.store.medium) self.new book }
+    {
+        self.unit.fail(call);
+    }
 }

@@ -60,3 +60,34 @@ pub enum SetupAnswer {
     Two([u8; 2]),
     Stall,
 }
+
+impl From<OutAnswer> for Answer {
+    ghost use Rattle.std.specs.Prelude.{◌≡◌};
+    ghost use Rattle.bot_machine.specs.Answers.{answer_to_out};
+
+    ghost from_gives = { λ given answer. answer ≡ answer_to_out given };
+
+    fn from(given: OutAnswer) -> Answer {
+        match given {
+            OutAnswer::Ack => Answer::Ack,
+            OutAnswer::Nak => Answer::Nak,
+            OutAnswer::Stall => Answer::Stall,
+        }
+    }
+}
+
+impl From<SetupAnswer> for Answer {
+    ghost use Rattle.std.specs.Prelude.{◌≡◌};
+    ghost use Rattle.bot_machine.specs.Answers.{answer_to_setup};
+
+    ghost from_gives = { λ given answer. answer ≡ answer_to_setup given };
+
+    fn from(given: SetupAnswer) -> Answer {
+        match given {
+            SetupAnswer::Ack => Answer::Ack,
+            SetupAnswer::Byte(byte) => Answer::Byte(byte),
+            SetupAnswer::Two(bytes) => Answer::Two(bytes),
+            SetupAnswer::Stall => Answer::Stall,
+        }
+    }
+}

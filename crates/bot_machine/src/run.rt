@@ -1,38 +1,30 @@
 // Events played on a disk.
-ghost use Rattle.std.specs.Prelude.{◌≡◌, ◌≤◌, ◌+◌, ◌++◌, List, length};
+ghost use Rattle.std.specs.Prelude.{◌≡◌, ◌≢◌, ◌≤◌, ◌+◌, ◌++◌, List, length};
 ghost use Rattle.bot_machine.specs.Disk.{IsStep, IsRun};
 ghost use Rattle.bot_machine.specs.declared.event.Answer.{Answer};
+ghost use Rattle.bot_machine.specs.declared.event.Answer.TheVariants as answer;
 
 use crate::answers::Answers;
 use crate::disk::Disk;
-use crate::event::{Answer, Event, InAnswer, OutAnswer, SetupAnswer};
+use crate::event::{Answer, Event, InAnswer};
 use arrayvec::ArrayVec;
 use medium::Medium;
 
 /// Plays one event, and gives the answer.
 pub fn answer_to<M: Medium>(disk: &mut Disk<M>, event: &Event) -> Answer
-    ensures step { IsStep (M.state disk.old.medium) (M.state disk.new.medium)
-        disk.old event.now result disk.new }
-    ensures calls { (M.state disk.new.medium).calls ≤ (M.state disk.old.medium).calls + 1 }
-    ensures follows { M.follows disk.old.medium disk.new.medium }
+    ensures step { IsStep (M.state disk.old.unit.store.medium)
+        (M.state disk.new.unit.store.medium) disk.old event.now result disk.new }
+    ensures follows { M.follows disk.old.unit.store.medium disk.new.unit.store.medium }
+    ensures on { result ≢ answer.Off }
 {
     match event {
-        Event::Out(packet) => match disk.bulk_out(packet.as_slice()) {
-            OutAnswer::Ack => Answer::Ack,
-            OutAnswer::Nak => Answer::Nak,
-            OutAnswer::Stall => Answer::Stall,
-        },
+        Event::Out(packet) => Answer::from(disk.bulk_out(packet.as_slice())),
         Event::In => match disk.bulk_in() {
             InAnswer::Data(packet) => Answer::Data(ArrayVec::try_from(packet).unwrap()),
             InAnswer::Nak => Answer::Nak,
             InAnswer::Stall => Answer::Stall,
         },
-        Event::Setup(packet) => match disk.setup(*packet) {
-            SetupAnswer::Ack => Answer::Ack,
-            SetupAnswer::Byte(byte) => Answer::Byte(byte),
-            SetupAnswer::Two(bytes) => Answer::Two(bytes),
-            SetupAnswer::Stall => Answer::Stall,
-        },
+        Event::Setup(packet) => Answer::from(disk.setup(*packet)),
         Event::Tick => {
             disk.tick();
             Answer::Ticked
@@ -45,11 +37,9 @@ pub fn run_events<M: Medium>(disk: &mut Disk<M>, events: &[Event], answers: &mut
     requires { length answers.old.list + length events.now ≤ answers.old.room }
     ensures run { (told : List Answer)
         × (answers.new ≡ record answers.old { list = answers.old.list ++ told })
-        × IsRun (M.state disk.old.medium) (M.state disk.new.medium)
+        × IsRun (M.state disk.old.unit.store.medium) (M.state disk.new.unit.store.medium)
         disk.old events.now told disk.new }
-    ensures calls { (M.state disk.new.medium).calls
-        ≤ (M.state disk.old.medium).calls + length events.now }
-    ensures follows { M.follows disk.old.medium disk.new.medium }
+    ensures follows { M.follows disk.old.unit.store.medium disk.new.unit.store.medium }
 {
     for event in events {
         answers.push(answer_to(disk, event));

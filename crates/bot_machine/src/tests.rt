@@ -1,14 +1,36 @@
-// Events played on a disk over a medium in memory, byte by byte.
-ghost use Rattle.std.specs.Prelude.{◌≤◌};
+// Exchanges of a host with a disk over a formatted medium in memory, byte by byte.
+ghost use Rattle.std.specs.Prelude.{◌≤◌, length};
 
-use crate::{Answer, Answers, Disk, Event, Identity, run_events};
+use crate::{Answer, Answers, Disk, Event, Identity, StartFault, answer_to, run_events};
 use arrayvec::ArrayVec;
-use medium::{Medium, SimMedium, Switch};
+use medium::{Kept, Medium, SimMedium, Switch};
+use recovery::format;
 use std::test::Fail;
 
-const STATUS: [u8; 13] = [0x55, 0x53, 0x42, 0x53, 4, 0, 0, 0, 0, 0, 0, 0, 0];
-
 const RESET: [u8; 8] = [0x21, 0xff, 0, 0, 0, 0, 0, 0];
+
+const CLEAR_IN: [u8; 8] = [0x02, 1, 0, 0, 0x81, 0, 0, 0];
+
+// The direction of a wrapper: to the host, or to the device.
+const IN: u8 = 0x80;
+
+const OUT: u8 = 0x00;
+
+// REQUEST SENSE with an allocation length of 18.
+const REQUEST_SENSE: [u8; 10] = [0x03, 0, 0, 0, 18, 0, 0, 0, 0, 0];
+
+fn read_of(block: u8) -> [u8; 10] {
+    [0x28, 0, 0, 0, 0, block, 0, 0, 1, 0]
+}
+
+fn write_of(block: u8, count: u8) -> [u8; 10] {
+    [0x2a, 0, 0, 0, 0, block, 0, 0, count, 0]
+}
+
+// A WRITE of one block that forces unit access: it is good only once it is durable.
+fn forced_write_of(block: u8) -> [u8; 10] {
+    [0x2a, 0x08, 0, 0, 0, block, 0, 0, 1, 0]
+}
 
 fn identity() -> Result<Identity, Fail> {
     let identity = Identity::new(
@@ -20,128 +42,202 @@ fn identity() -> Result<Identity, Fail> {
     Ok(identity.ok_or("not printable")?)
 }
 
-// Two sectors, the second of which is all a5.
-fn two_sectors(rt: HostRuntime) -> Result<SimMedium, Fail> {
-    let mut image = vec![in rt.alloc(); 0u8; 1024]?;
-    for byte in &mut image[512..] {
-        *byte = 0xa5;
-    }
-    Ok(SimMedium::new(rt.alloc(), image, 1)?)
+// A medium of 16 blocks and one log slot, formatted.
+fn formatted(rt: HostRuntime) -> Result<SimMedium, Fail> {
+    let image = vec![in rt.alloc(); 0u8; 68 * 512]?;
+    let mut medium = SimMedium::new(rt.alloc(), image, 128)?;
+    format(&mut medium, 16, 1)?;
+    Ok(medium)
 }
 
-// A packet of the first bytes of these.
-fn out(bytes: &[u8; 31], length: usize) -> Event
-    requires { length ≤ 31 }
+// A disk whose unit attention of the power on has ended with a REQUEST SENSE.
+fn started(rt: HostRuntime, medium: SimMedium) -> Result<Disk<SimMedium>, Fail> {
+    let mut disk = Disk::start(rt.alloc(), medium, identity()?)
+        .ok()
+        .ok_or("no start")?;
+    let _ = answer_to(&mut disk, &packet(&wrapper(IN, 18, &REQUEST_SENSE)));
+    let _ = answer_to(&mut disk, &Event::In);
+    let _ = answer_to(&mut disk, &Event::In);
+    Ok(disk)
+}
+
+// What the disk answers to events.
+fn played(rt: HostRuntime, disk: &mut Disk<SimMedium>, events: &[Event]) -> Result<Answers, Fail> {
+    let mut answers = Answers::with_room(rt.alloc(), events.len()).ok_or("no memory")?;
+    run_events(disk, events, &mut answers);
+    Ok(answers)
+}
+
+// A packet of bytes.
+fn packet(bytes: &[u8]) -> Event
+    requires { length bytes.now ≤ 512 }
 {
-    Event::Out(ArrayVec::try_from(&bytes[..length]).unwrap())
-}
-
-// The wrapper of READ(10) of the block at an address, with tag 4.
-fn read_of(address: u8) -> [u8; 31] {
-    [
-        0x55, 0x53, 0x42, 0x43, 4, 0, 0, 0, 0, 2, 0, 0, 0x80, 0, 10, 0x28, 0, 0, 0, 0, address, 0,
-        0, 1, 0, 0, 0, 0, 0, 0, 0,
-    ]
+    Event::Out(ArrayVec::try_from(bytes).unwrap())
 }
 
 fn data(bytes: &[u8]) -> Result<Answer, Fail> {
     Ok(Answer::Data(ArrayVec::try_from(bytes).ok().ok_or("too long")?))
 }
 
-// What a disk over a medium answers to events.
-fn answers_of(rt: HostRuntime, medium: SimMedium, events: &[Event]) -> Result<Answers, Fail> {
-    let mut disk = Disk::start(medium, identity()?).ok().ok_or("no start")?;
-    let mut answers = Answers::with_room(rt.alloc(), events.len()).ok_or("no memory")?;
-    run_events(&mut disk, events, &mut answers);
-    Ok(answers)
+// The command wrapper with tag 4 of a command and what the host announces.
+fn wrapper(direction: u8, announced: u16, command: &[u8; 10]) -> [u8; 31] {
+    let mut bytes = [0; 31];
+    bytes[..4].copy_from_slice(b"USBC");
+    bytes[4] = 4;
+    bytes[8..10].copy_from_slice(&announced.to_le_bytes());
+    bytes[12] = direction;
+    bytes[14] = 10;
+    bytes[15..25].copy_from_slice(command);
+    bytes
+}
+
+// The status wrapper with tag 4.
+fn status(residue: u16, code: u8) -> Result<Answer, Fail> {
+    let mut bytes = [0; 13];
+    bytes[..4].copy_from_slice(b"USBS");
+    bytes[4] = 4;
+    bytes[8..10].copy_from_slice(&residue.to_le_bytes());
+    bytes[12] = code;
+    data(&bytes)
 }
 
 #[test]
-fn a_block_is_read_from_the_wrapper_to_the_status(rt: HostRuntime) -> Result<(), Fail> {
-    let zero = [0; 31];
+fn a_block_is_written_and_read_back(rt: HostRuntime) -> Result<(), Fail> {
+    let mut disk = started(rt, formatted(rt)?)?;
     let events = [
-        out(&read_of(1), 31),
-        out(&zero, 1),
+        packet(&wrapper(OUT, 512, &write_of(5, 1))),
         Event::In,
-        Event::In,
-        Event::In,
-    ];
-    let answers = answers_of(rt, two_sectors(rt)?, &events)?;
-    let wanted = [
-        Answer::Ack,
-        Answer::Nak,
-        data(&[0xa5; 512])?,
-        data(&STATUS)?,
-        Answer::Nak,
-    ];
-    assert_eq!(rt; answers.list(), wanted.as_slice());
-    Ok(())
-}
-
-#[test]
-fn an_address_past_the_last_block_leaves_the_disk_stuck(rt: HostRuntime) -> Result<(), Fail> {
-    let zero = [0; 31];
-    let events = [
-        out(&read_of(2), 31),
-        Event::In,
-        out(&zero, 0),
-        Event::Setup(RESET),
+        packet(&[0xa5; 512]),
         Event::Tick,
-        out(&read_of(1), 31),
+        Event::In,
+        packet(&wrapper(IN, 512, &read_of(5))),
+        Event::In,
+        packet(&[0]),
+        Event::In,
     ];
-    let answers = answers_of(rt, two_sectors(rt)?, &events)?;
+    let answers = played(rt, &mut disk, &events)?;
     let wanted = [
         Answer::Ack,
-        Answer::Stall,
-        Answer::Stall,
-        Answer::Stall,
-        Answer::Ticked,
-        Answer::Stall,
-    ];
-    assert_eq!(rt; answers.list(), wanted.as_slice());
-    Ok(())
-}
-
-#[test]
-fn a_refused_wrapper_locks_the_disk(rt: HostRuntime) -> Result<(), Fail> {
-    let events = [
-        Event::In,
-        Event::Setup(RESET),
-        out(&read_of(1), 30),
-        Event::In,
-        out(&read_of(1), 31),
-    ];
-    let answers = answers_of(rt, two_sectors(rt)?, &events)?;
-    let wanted = [
         Answer::Nak,
-        Answer::Stall,
         Answer::Ack,
-        Answer::Stall,
-        Answer::Stall,
+        Answer::Ticked,
+        status(0, 0)?,
+        Answer::Ack,
+        data(&[0xa5; 512])?,
+        Answer::Nak,
+        status(0, 0)?,
     ];
     assert_eq!(rt; answers.list(), wanted.as_slice());
     Ok(())
 }
 
 #[test]
-fn a_refused_read_leaves_the_disk_stuck(rt: HostRuntime) -> Result<(), Fail> {
-    let mut medium = two_sectors(rt)?;
-    medium.fail(1);
-    let events = [out(&read_of(1), 31), Event::In, out(&read_of(1), 31)];
-    let answers = answers_of(rt, medium, &events)?;
-    assert_eq!(rt;
-        answers.list(),
-        [Answer::Ack, Answer::Stall, Answer::Stall].as_slice()
-    );
+fn a_short_packet_breaks_the_data_off(rt: HostRuntime) -> Result<(), Fail> {
+    let mut disk = started(rt, formatted(rt)?)?;
+    let events = [
+        packet(&wrapper(OUT, 1024, &write_of(3, 2))),
+        packet(&[0xa5; 512]),
+        packet(&[0xa5; 100]),
+        Event::In,
+        packet(&wrapper(IN, 512, &read_of(3))),
+        Event::In,
+    ];
+    let answers = played(rt, &mut disk, &events)?;
+    let wanted = [
+        Answer::Ack,
+        Answer::Ack,
+        Answer::Ack,
+        status(512, 2)?,
+        Answer::Ack,
+        data(&[0; 512])?,
+    ];
+    assert_eq!(rt; answers.list(), wanted.as_slice());
     Ok(())
 }
 
 #[test]
-fn a_disk_gives_its_medium_back(rt: HostRuntime) -> Result<(), Fail> {
-    let disk = Disk::start(two_sectors(rt)?, identity()?)
-        .ok()
-        .ok_or("no start")?;
-    assert_eq!(rt; disk.medium().sectors(), 2);
-    assert_eq!(rt; disk.into_medium().image().len(), 1024);
+fn a_reset_drops_half_received_data(rt: HostRuntime) -> Result<(), Fail> {
+    let mut disk = started(rt, formatted(rt)?)?;
+    let events = [
+        packet(&wrapper(OUT, 1024, &write_of(3, 2))),
+        packet(&[0xa5; 512]),
+        Event::Setup(RESET),
+        Event::In,
+        packet(&wrapper(IN, 512, &read_of(3))),
+        Event::In,
+    ];
+    let answers = played(rt, &mut disk, &events)?;
+    let wanted = [
+        Answer::Ack,
+        Answer::Ack,
+        Answer::Ack,
+        Answer::Nak,
+        Answer::Ack,
+        data(&[0; 512])?,
+    ];
+    assert_eq!(rt; answers.list(), wanted.as_slice());
+    Ok(())
+}
+
+#[test]
+fn a_read_that_the_medium_refuses_sends_nothing(rt: HostRuntime) -> Result<(), Fail> {
+    let mut disk = started(rt, formatted(rt)?)?;
+    disk.fail(1);
+    let events = [
+        packet(&wrapper(IN, 512, &read_of(0))),
+        Event::In,
+        Event::Setup(CLEAR_IN),
+        Event::In,
+    ];
+    let answers = played(rt, &mut disk, &events)?;
+    let wanted = [Answer::Ack, Answer::Stall, Answer::Ack, status(512, 1)?];
+    assert_eq!(rt; answers.list(), wanted.as_slice());
+    Ok(())
+}
+
+#[test]
+fn a_promised_write_survives_a_cut(rt: HostRuntime) -> Result<(), Fail> {
+    let mut disk = started(rt, formatted(rt)?)?;
+    let events = [
+        packet(&wrapper(OUT, 512, &forced_write_of(6))),
+        packet(&[0xbb; 512]),
+        Event::In,
+        packet(&wrapper(OUT, 512, &write_of(7, 1))),
+        packet(&[0xcc; 512]),
+    ];
+    let _ = played(rt, &mut disk, &events)?;
+    disk.fuse(0);
+    assert!(rt; !disk.medium().is_off());
+    let mut medium = disk.into_medium();
+    medium.cut(&Kept::None);
+    let mut disk = started(rt, medium)?;
+    let events = [
+        packet(&wrapper(IN, 512, &read_of(6))),
+        Event::In,
+        Event::In,
+        packet(&wrapper(IN, 512, &read_of(7))),
+        Event::In,
+    ];
+    let answers = played(rt, &mut disk, &events)?;
+    let wanted = [
+        Answer::Ack,
+        data(&[0xbb; 512])?,
+        status(0, 0)?,
+        Answer::Ack,
+        data(&[0; 512])?,
+    ];
+    assert_eq!(rt; answers.list(), wanted.as_slice());
+    Ok(())
+}
+
+#[test]
+fn an_image_of_zeros_is_refused_and_comes_back(rt: HostRuntime) -> Result<(), Fail> {
+    let image = vec![in rt.alloc(); 0u8; 68 * 512]?;
+    let medium = SimMedium::new(rt.alloc(), image, 128)?;
+    let Err(refused) = Disk::start(rt.alloc(), medium, identity()?) else {
+        return Err(Fail::from("it started"));
+    };
+    assert_eq!(rt; refused.fault, StartFault::BadSuper);
+    assert_eq!(rt; refused.medium.sectors(), 68);
     Ok(())
 }

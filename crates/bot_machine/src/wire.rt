@@ -1,121 +1,173 @@
-// The line to the host, and the exchange that goes over it.
-ghost use Rattle.std.specs.Prelude.{◌≡◌, ◌⊎◌, ◌+◌, [], true, false, nat_lt};
-ghost use Rattle.medium.specs.Blocks.{Array};
-ghost use Rattle.medium.specs.Moments.{IsQuiet};
-ghost use Rattle.wrappers.specs.Cases.{IsCase};
-ghost use Rattle.bot_machine.specs.Conversation.{IsCarriedOut, Opens, Locks};
-ghost use Rattle.bot_machine.specs.Disk.{HoldsArray, SpellsRead};
-ghost use Rattle.bot_machine.specs.Exchange.{Script, at_rest, laid_out};
-ghost use Rattle.bot_machine.specs.OneBlock.{Intends, CarriesOut, Ticks};
+// The line to the host: halts, the lock, and what is left of the exchange.
+ghost use Rattle.std.specs.Prelude.{◌≡◌, ◌≢◌, ◌≤◌, ◌<◌, ℕ, List, Some, true, take, length};
+ghost use Rattle.wrappers.specs.Cases.{IsPossible};
+ghost use Rattle.scsi_unit.specs.declared.intent.Intent.{Intent};
+ghost use Rattle.bot_machine.specs.Exchange.{
+  Script,
+  after_request,
+  at_rest,
+  laid_out,
+  set_halt,
+  halted,
+  outcome_for,
+  status_for,
+};
 ghost use Rattle.bot_machine.specs.Packets.{packets_of};
-ghost use Rattle.bot_machine.specs.Refinement.{line_of, line_with, state_of, state_with};
+ghost use Rattle.bot_machine.specs.Requests.{clear_halt};
+ghost use Rattle.bot_machine.specs.Refinement.{halt_of, line_of, line_with, IsInPhase};
 
-use crate::one_block;
-use medium::Medium;
-use wrappers::{Case, Cbw, Status, Way, case_of, outcome, read_cbw, write_csw};
+use crate::exchange::Exchange;
+use wrappers::{Case, Endpoint, Status, outcome, write_csw};
+
+// The data of a command that is being taken: the intended bytes that came already are so many, and
+// so many bytes are still to come.
+#[derive(Drop)]
+pub(crate) struct Taking {
+    pub(crate) exchange: Exchange,
+    pub(crate) filled: usize,
+    pub(crate) due: u32,
+}
 
 // What the disk does with its bulk endpoints.
-#[derive(Clone, Copy)]
+#[derive(Drop)]
 pub(crate) enum Phase {
     // A command wrapper is expected.
     Command,
-    // The block is sent next, and then the status wrapper.
-    DataIn,
+    // Data is taken.
+    DataOut(Taking),
+    // Data is sent: the staging buffer from one place to another. Bulk-In may be halted after it.
+    DataIn { from: usize, to: usize, halt: bool },
     // The status wrapper is sent next.
     Status,
-    // An exchange that is not served was begun.
-    Stuck,
 }
 
-// The halted endpoints, the phase, the block to send and the status wrapper.
+// The state of the line to the host.
 #[derive(Drop)]
 pub(crate) struct Wire {
     pub(crate) in_halted: bool,
     pub(crate) out_halted: bool,
+    pub(crate) locked: bool,
     pub(crate) phase: Phase,
-    pub(crate) block: [u8; 512],
     pub(crate) status: [u8; 13],
 }
 
+// Whether Bulk-In is the endpoint that is halted.
+fn is_some_halt(halt: Option<Endpoint>) -> bool
+    requires { halt ≢ Some Endpoint.Out }
+    ensures { halt ≡ halt_of result }
+{
+    halt.is_some()
+}
+
 impl Wire {
-    // A disk at rest: nothing is halted, and a command wrapper is expected.
+    // Nothing is halted, and a command wrapper is expected.
     pub(crate) fn at_rest() -> Wire
-        ensures { line_of result ≡ at_rest }
+        ensures line { (taken staging : List ℕ) → line_of result taken staging ≡ at_rest }
+        ensures phase { (intention : List ℕ → Intent) → IsInPhase intention result.phase }
     {
         Wire {
             in_halted: false,
             out_halted: false,
+            locked: false,
             phase: Phase::Command,
-            block: [0; 512],
             status: [0; 13],
         }
     }
 
     // Halts and locks both endpoints.
-    fn lock(&mut self)
-        ensures { line_of self.new
-            ≡ record (line_of self.old) { in_halted = true; out_halted = true; locked = true } }
+    pub(crate) fn lock(&mut self)
+        ensures { self.new ≡ record self.old {
+          in_halted = true;
+          out_halted = true;
+          locked = true;
+        } }
     {
         self.in_halted = true;
         self.out_halted = true;
+        self.locked = true;
     }
 
-    // Lays out what is sent: the block, and then the status wrapper.
-    fn lay_out(&mut self, status: [u8; 13])
-        ensures { (left : Script) → line_of self.new
-            ≡ laid_out (packets_of self.old.block) None status (line_with self.old left) }
+    // Halts an endpoint.
+    fn halt(&mut self, endpoint: Endpoint)
+        ensures line { (taken staging : List ℕ) → line_of self.new taken staging
+            ≡ set_halt endpoint true (line_of self.old taken staging) }
+        ensures phase { self.new.phase ≡ self.old.phase }
+    {
+        match endpoint {
+            Endpoint::In => self.in_halted = true,
+            Endpoint::Out => self.out_halted = true,
+        }
+    }
+
+    // Ends the halt of an endpoint, unless both are locked.
+    pub(crate) fn clear_halt(&mut self, endpoint: Endpoint)
+        ensures line { (taken staging : List ℕ) → line_of self.new taken staging
+            ≡ after_request (clear_halt endpoint) (line_of self.old taken staging) }
+        ensures phase { self.new.phase ≡ self.old.phase }
+    {
+        if self.locked {
+            return;
+        }
+        match endpoint {
+            Endpoint::In => self.in_halted = false,
+            Endpoint::Out => self.out_halted = false,
+        }
+    }
+
+    // Whether an endpoint is halted.
+    pub(crate) fn is_halted(&self, endpoint: Endpoint) -> bool
+        ensures { (taken staging : List ℕ)
+            → result ≡ halted endpoint (line_of self.now taken staging) }
+    {
+        match endpoint {
+            Endpoint::In => self.in_halted,
+            Endpoint::Out => self.out_halted,
+        }
+    }
+
+    // Lays out what is sent: the first bytes of the staging buffer, a halt after them, and the
+    // status wrapper.
+    pub(crate) fn lay_out(&mut self, size: usize, halt: Option<Endpoint>, status: [u8; 13])
+        requires fits { size ≤ 24576 }
+        requires halts_in { 0 < size → halt ≢ Some Endpoint.Out }
+        ensures line { (taken staging : List ℕ) (left : Script) → length staging ≡ 24576
+            → line_of self.new taken staging
+            ≡ laid_out (packets_of (take size staging)) halt status (line_with self.old left) }
+        ensures phase { (intention : List ℕ → Intent) → IsInPhase intention self.new.phase }
     {
         self.status = status;
-        self.phase = Phase::DataIn;
-    }
-}
-
-// Carries out a command that intends to send, and lays out what is sent.
-fn carry_out<M: Medium>(medium: &mut M, wire: &mut Wire, command: &Cbw, intended: Way)
-    requires is_case { IsCase Case.C6 command.now.host intended }
-    requires intends { (array : Array)
-        → Intends (M.state medium.old).size array command.now.block.items intended }
-    ensures step { (array : Array) (left : Script) → HoldsArray (M.state medium.old) array
-        → IsCarriedOut (Intends (M.state medium.old).size) CarriesOut Ticks
-        (nat_lt (M.state medium.old).failures (M.state medium.new).failures)
-        Case.C6 command.now intended [] (state_with wire.old left array) (state_of wire.new array) }
-    ensures calls { (M.state medium.new).calls ≡ (M.state medium.old).calls + 1 }
-    ensures quiet { IsQuiet (M.state medium.old) (M.state medium.new) }
-    ensures follows { M.follows medium.old medium.new }
-{
-    match one_block::carry_out(medium, command.block.as_slice(), &mut wire.block) {
-        Ok(()) => {
-            let told = outcome(Case::C6, command.host, intended);
-            wire.lay_out(write_csw(command.tag, told.residue, Status::Passed));
+        if size > 0 {
+            self.phase = Phase::DataIn {
+                from: 0,
+                to: size,
+                halt: is_some_halt(halt),
+            };
+        } else {
+            self.phase = Phase::Status;
+            if let Some(endpoint) = halt {
+                self.halt(endpoint);
+            }
         }
-        Err(_) => wire.phase = Phase::Stuck,
     }
-}
 
-// Takes a packet where a command wrapper is expected.
-pub(crate) fn open<M: Medium>(medium: &mut M, wire: &mut Wire, packet: &[u8])
-    requires expected { wire.old.phase ≡ Phase.Command }
-    ensures step { (array : Array) → HoldsArray (M.state medium.old) array
-        → Opens (Intends (M.state medium.old).size) CarriesOut Ticks
-        (nat_lt (M.state medium.old).failures (M.state medium.new).failures)
-        packet.now (state_of wire.old array) (state_of wire.new array)
-        ⊎ Locks (Intends (M.state medium.old).size) CarriesOut Ticks
-        (nat_lt (M.state medium.old).failures (M.state medium.new).failures)
-        packet.now (state_of wire.old array) (state_of wire.new array) }
-    ensures reads { SpellsRead (M.state medium.old).size packet.now
-        → (M.state medium.new).calls ≡ (M.state medium.old).calls + 1 }
-    ensures others { (SpellsRead (M.state medium.old).size packet.now → ⊥)
-        → medium.new ≡ medium.old }
-    ensures quiet { IsQuiet (M.state medium.old) (M.state medium.new) }
-    ensures follows { M.follows medium.old medium.new }
-{
-    let Ok(command) = read_cbw(packet) else {
-        wire.lock();
-        return;
-    };
-    let intended = one_block::intend(command.block.as_slice(), medium.sectors());
-    match case_of(command.host, intended) {
-        Case::C6 => carry_out(medium, wire, &command, intended),
-        _ => wire.phase = Phase::Stuck,
+    // Tells what comes of an exchange that ends in this case: the first bytes of the staging
+    // buffer, the halt of the case, and the status.
+    pub(crate) fn tell(&mut self, exchange: &Exchange, case: Case, size: usize, status: Status)
+        requires possible { IsPossible case exchange.now.command.host exchange.now.intended }
+        requires fits { size ≤ 24576 }
+        requires halts_in { 0 < size
+            → (outcome_for case exchange.now.command exchange.now.intended).halt
+            ≢ Some Endpoint.Out }
+        ensures line { (taken staging : List ℕ) (left : Script) → length staging ≡ 24576
+            → line_of self.new taken staging
+            ≡ laid_out (packets_of (take size staging))
+            (outcome_for case exchange.now.command exchange.now.intended).halt
+            (status_for case exchange.now.command exchange.now.intended status)
+            (line_with self.old left) }
+        ensures phase { (intention : List ℕ → Intent) → IsInPhase intention self.new.phase }
+    {
+        let told = outcome(case, exchange.command.host, exchange.intended);
+        let status = write_csw(exchange.command.tag, told.residue, status);
+        self.lay_out(size, told.halt, status);
     }
 }

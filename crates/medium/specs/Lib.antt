@@ -1,4 +1,7 @@
 pub mod Blocks
+pub mod ImageFile
+pub mod ImageFileLaws
+pub mod ImageFileView
 pub mod Medium
 pub mod Moments
 pub mod Power

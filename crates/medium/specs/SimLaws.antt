@@ -28,7 +28,8 @@ size_whole m whole = rw whole refl
 none_of_no_sectors : (m : Sim) → are_whole m.unflushed ≡ false → size_of m ≡ 0
 none_of_no_sectors m not = rw not refl
 
-whole_sector : (bytes : List ℕ) (s : ℕ) → s < length bytes / 512 → length (sector_of bytes s) ≡ 512
+-- a sector that lies within the bytes has 512 of them
+pub whole_sector : (bytes : List ℕ) (s : ℕ) → s < length bytes / 512 → length (sector_of bytes s) ≡ 512
 whole_sector bytes s inside = length-take 512 (drop (512 * s) bytes) ∙ ap (λ (n : ℕ). min 512 n) (length-drop (512 * s) bytes) ∙ grind (arith, nat_tests)
 
 whole_write : (ws : List UnflushedWrite) (s : ℕ) (c : List ℕ) → are_whole ws ≡ true → IsWritten ws s c → length c ≡ 512

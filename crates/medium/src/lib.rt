@@ -3,6 +3,7 @@
 
 mod count;
 mod fault;
+mod file;
 mod kept;
 mod medium;
 mod power;
@@ -13,6 +14,7 @@ mod switch;
 mod unflushed;
 
 pub use fault::MediumFault;
+pub use file::{FileError, FileMedium};
 pub use kept::Kept;
 pub use medium::Medium;
 pub use sim::{SimError, SimMedium};

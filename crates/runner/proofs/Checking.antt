@@ -4,35 +4,31 @@ use Rattle.std.specs.Prelude.{All, ◌==◌}
 use Rattle.std.proofs.lemmas.List.Elements.{All-append, All-cons, All-nil}
 use Rattle.std.proofs.lemmas.List.Splits.{length-slice_split}
 use Rattle.std.proofs.lemmas.List.Sums.{count_by-le-length}
-use Rattle.bot_machine.specs.declared.event.Event.{Event}
-use Rattle.runner.specs.Line.{LinePlays, IsScriptLine}
+use Rattle.runner.specs.declared.line.ScriptKind.{ScriptKind}
+use Rattle.runner.specs.Line.{IsScriptLine}
 use Rattle.runner.specs.Lines.{lines_of}
-use Rattle.runner.specs.Script.{Plays, IsFirstBadLine}
+use Rattle.runner.specs.Script.{IsFirstBadLine}
 
 -- so many lines were read, all of them of a script, and these are left
-pub record IsReadTo (all left : List (List ℕ)) (number : ℕ) : Type 0 where
+pub record IsReadTo (kind : ScriptKind) (all left : List (List ℕ)) (number : ℕ) : Type 0 where
   pub before : List (List ℕ)
-  pub good : All IsScriptLine before
+  pub good : All (IsScriptLine kind) before
   pub counted : number ≡ length before
   pub parts : all ≡ before ++ left
 
--- these events were played, and those of the lines left complete them
-pub record IsPlayedTo (all left : List (List ℕ)) (first : List Event) : Type 0 where
-  pub go : (rest : List Event) → Plays left rest → Plays all (first ++ rest)
+pub read-none : (kind : ScriptKind) (all left : List (List ℕ)) → left ≡ all → IsReadTo kind all left 0
+read-none kind all left same = record { before = []; good = All-nil (IsScriptLine kind); counted = refl; parts = sym same }
 
-pub read-none : (all : List (List ℕ)) → IsReadTo all all 0
-read-none all = record { before = []; good = All-nil IsScriptLine; counted = refl; parts = refl }
-
-module _ (all old left : List (List ℕ)) (line : List ℕ) (next : old ≡ line ∷ left) where
-  pub read-more : (number : ℕ) → IsReadTo all old number → IsScriptLine line → IsReadTo all left (number + 1)
+module _ (kind : ScriptKind) (all old left : List (List ℕ)) (line : List ℕ) (next : old ≡ line ∷ left) where
+  pub read-more : (number : ℕ) → IsReadTo kind all old number → IsScriptLine kind line → IsReadTo kind all left (number + 1)
   read-more number so is_line = record {
     before = so.before ++ line ∷ [];
-    good = All-append IsScriptLine so.before (line ∷ []) so.good (All-cons IsScriptLine line [] is_line (All-nil IsScriptLine));
+    good = All-append (IsScriptLine kind) so.before (line ∷ []) so.good (All-cons (IsScriptLine kind) line [] is_line (All-nil (IsScriptLine kind)));
     counted = omega (arith, length-append so.before (line ∷ []), so.counted);
     parts = so.parts ∙ ap (λ l. so.before ++ l) next ∙ sym (append_assoc so.before (line ∷ []) left);
   }
 
-  pub bad-line : (number : ℕ) → IsReadTo all old number → ¬ IsScriptLine line → IsFirstBadLine (number + 1) all
+  pub bad-line : (number : ℕ) → IsReadTo kind all old number → ¬ IsScriptLine kind line → IsFirstBadLine kind (number + 1) all
   bad-line number so bad = record {
     before = so.before;
     line = line;
@@ -43,22 +39,14 @@ module _ (all old left : List (List ℕ)) (line : List ℕ) (next : old ≡ line
     counted = ap (λ n. n + 1) so.counted;
   }
 
-  pub played-more : (first events : List Event) → IsPlayedTo all old first → LinePlays line events → IsPlayedTo all left (first ++ events)
-  played-more first events so plays = record {
-    go = λ rest others. rw append_assoc (so.go (events ++ rest) (rw next (events, rest, plays, others, refl)));
-  }
-
--- where no line is left, they are the events of all
-pub played-all : (all left : List (List ℕ)) (first : List Event) → left ≡ [] → IsPlayedTo all left first → Plays all first
-played-all all left first none so =
-    let plays : Plays left [] = rw none refl in
-    rw append-nil at (so.go [] plays)
-
--- before the first line is read, all are left
-pub played-start : (all left : List (List ℕ)) → left ≡ all → IsPlayedTo all left []
-played-start all left same = record { go = λ rest plays. rw same at plays }
+-- where no line is left, all were read
+pub read-all : (kind : ScriptKind) (all left : List (List ℕ)) (number : ℕ) → left ≡ [] → IsReadTo kind all left number → All (IsScriptLine kind) all
+read-all kind all left number none so =
+    let same : so.before ≡ all = sym (append-nil so.before) ∙ ap (λ l. so.before ++ l) (sym none) ∙ sym so.parts in
+    rw same at so.good
 
 -- no more lines were read than the script has bytes, and one
-pub number-bound : (script : List ℕ) (left : List (List ℕ)) (number : ℕ) → IsReadTo (lines_of script) left number → number + length left ≤ length script + 1
-number-bound script left number so =
+pub number-bound : (kind : ScriptKind) (script : List ℕ) (left : List (List ℕ)) (number : ℕ) → IsReadTo kind (lines_of script) left number
+    → number + length left ≤ length script + 1
+number-bound kind script left number so =
     omega (arith, so.counted, ap length so.parts, length-append so.before left, length-slice_split (λ byte. byte == 10) script, count_by-le-length (λ byte. byte == 10) script)

@@ -1,8 +1,16 @@
--- How many digits a packet has.
-use Rattle.std.proofs.Common.{◌≡◌, ◌*◌, ℕ, List, length}
-use Rattle.hex.proofs.HexLemmas.{decode_of-ok}
-use Rattle.runner.specs.Line.{SpellsBytes}
+-- Hex digits and the bytes that they spell.
+use Rattle.std.proofs.Common.{◌≡◌, ◌*◌, ◌∙◌, ℕ, List, length, Result, Ok, Err, ap}
+use Rattle.std.specs.Prelude.{MatchResult}
+use Rattle.hex.specs.Hex.{decode_of, decode_sized}
+use Rattle.hex.specs.declared.FromHexError.{FromHexError}
+use Rattle.hex.proofs.HexLemmas.{decode_of-ok, decode_sized-twice}
+use Rattle.runner.specs.Line.{SpellsPacket}
 
 -- the digits that spell a packet are two for each byte
-pub length-digits : {digits packet : List ℕ} → SpellsBytes digits packet → length digits ≡ 2 * length packet
+pub length-digits : {digits packet : List ℕ} → SpellsPacket digits packet → length digits ≡ 2 * length packet
 length-digits {digits} {packet} spelled = (decode_of-ok digits packet spelled.decoded).2
+
+-- digits for so many bytes are decoded into as many
+pub sized : (digits bytes : List ℕ) (count : ℕ) → decode_of digits ≡ Ok bytes → length bytes ≡ count → decode_sized digits count ≡ Ok bytes
+sized digits bytes count decoded counted =
+    decode_sized-twice digits count ((decode_of-ok digits bytes decoded).2 ∙ ap (λ n. 2 * n) counted) ∙ decoded

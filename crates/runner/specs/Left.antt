@@ -1,7 +1,7 @@
--- The lines that are still to come.
+-- The parts that are still to come.
 use Rattle.std.specs.Prelude.{ℕ, List}
-use Rattle.runner.specs.Lines.{lines_in}
-use Rattle.runner.specs.declared.lines.Lines.{Lines}
+use Rattle.runner.specs.Lines.{parts_in}
+use Rattle.runner.specs.declared.parts.Parts.{Parts}
 
-abbrev pub lines_left : Lines → List (List ℕ)
-lines_left lines = lines_in lines.rest
+abbrev pub parts_left : Parts → List (List ℕ)
+parts_left parts = parts_in parts.separator parts.rest

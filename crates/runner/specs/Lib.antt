@@ -1,10 +1,14 @@
+pub mod Numbers
 pub mod Lines
 pub mod Line
+pub mod Events
 pub mod Text
 pub mod Script
+pub mod Played
+pub mod Lifetimes
+pub mod PlayedLives
 pub mod Streams
 pub mod Outcome
-pub mod Played
 pub mod Left
 pub mod Refused
 pub mod Task

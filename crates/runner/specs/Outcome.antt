@@ -1,15 +1,19 @@
--- What playing a script leaves: a medium, and what was written.
-use Rattle.std.specs.Prelude.{◌≡◌, ◌≢◌, ◌<◌, ◌≤◌, ℕ, List, [], ◌++◌, length, Option, IfSome}
+-- What playing a script of one life leaves: a medium, and what was written.
+use Rattle.std.specs.Prelude.{◌≡◌, ◌<◌, ◌≤◌, ℕ, List, ◌++◌, All, length, Option, IfSome}
 use Rattle.std.specs.Io.KnownBytes.{Appends, Keeps}
 use Rattle.medium.specs.Medium.{State}
 use Rattle.bot_machine.specs.declared.event.Event.{Event}
-use Rattle.bot_machine.specs.declared.StartFault.{StartFault}
-use Rattle.bot_machine.specs.declared.StartFault.TheVariants.{BadSize}
+use Rattle.bot_machine.specs.declared.event.Answer.{Answer}
+use Rattle.bot_machine.specs.Opening.{IsNotOpened, StartLeaves}
+use Rattle.recovery.specs.declared.start_fault.StartFault.{StartFault}
 use Rattle.runner.specs.declared.fault.ScriptFault.{ScriptFault}
 use Rattle.runner.specs.declared.fault.ScriptFault.TheVariants.{Line, TooLong, Start, NoMemory, Reader, Writer}
+use Rattle.runner.specs.declared.line.ScriptKind.TheVariants.{OneLife}
+use Rattle.runner.specs.Line.{IsScriptLine}
 use Rattle.runner.specs.Lines.{lines_of}
-use Rattle.runner.specs.Script.{Plays, IsFirstBadLine, IsDiskSize, started, Leaves, HasText}
-use Rattle.runner.specs.Streams.{IsAll}
+use Rattle.runner.specs.Script.{Plays, IsFirstBadLine, IsLife}
+use Rattle.runner.specs.Streams.{IsAll, AppendsSome}
+use Rattle.runner.specs.Text.{text_of}
 
 -- the most bytes of a script
 abbrev pub script_limit : ℕ
@@ -26,45 +30,47 @@ pub record IsUntouched {M : Type 0} (medium back : M) (was now : Option (List �
   pub kept : Keeps was now
 
 module _ {M : Type 0} (state : M → State) (left : Option (List ℕ)) (was now : Option (List ℕ)) (medium : M) where
-  -- the script was played whole: exactly a text of it was appended
+  -- the script was played whole: exactly the text of the answers in a life of its events was appended
   pub record IsPlayed (after : M) : Type 0 where
     pub script : List ℕ
     pub read : IsRead left script
-    pub text : List ℕ
-    pub has_text : HasText state medium (lines_of script) text after
-    pub written : Appends was now text
+    pub events : List Event
+    pub plays : Plays (lines_of script) events
+    pub answers : List Answer
+    pub life : IsLife (state medium) (state after) events answers
+    pub written : Appends was now (text_of events answers)
 
   -- the script has a line that is none, and this is the number of the first
   pub record HasBadLine (number : ℕ) : Type 0 where
     pub script : List ℕ
     pub read : IsRead left script
-    pub bad : IsFirstBadLine number (lines_of script)
+    pub bad : IsFirstBadLine OneLife number (lines_of script)
 
-  -- the script plays events, and no disk starts over the medium
-  pub record IsNotStarted (fault : StartFault) : Type 0 where
+  -- each line is one of a script, and no disk has started on the medium
+  pub record IsNotStarted (fault : StartFault) (back : M) : Type 0 where
     pub script : List ℕ
     pub read : IsRead left script
-    pub events : List Event
-    pub plays : Plays (lines_of script) events
-    pub some : events ≢ []
-    pub size : ¬ IsDiskSize (state medium).size
-    pub named : fault ≡ BadSize
+    pub good : All (IsScriptLine OneLife) (lines_of script)
+    pub refused : IsNotOpened (state medium) (state back) fault
+    pub leaves : StartLeaves (state medium) (state back)
+    pub kept : Keeps was now
 
-  -- the writer failed after some of the script's events, which the disk has played
+  -- the writer failed: of the text of a life of the script's first events a first part was appended
   pub record IsCutShort (back : M) : Type 0 where
     pub script : List ℕ
     pub read : IsRead left script
     pub events : List Event
     pub rest : List Event
     pub plays : Plays (lines_of script) (events ++ rest)
-    pub text : List ℕ
-    pub leaves : Leaves state (started medium) events text back
+    pub answers : List Answer
+    pub life : IsLife (state medium) (state back) events answers
+    pub written : AppendsSome was now (text_of events answers)
 
-  -- why a script was refused, and that nothing was written then
+  -- why a script was refused, and what was written then
   abbrev pub IsRefused : ScriptFault → M → Type 0
   IsRefused (Line number) back = IsUntouched medium back was now × HasBadLine number
   IsRefused TooLong back = IsUntouched medium back was now × IfSome left (λ all. script_limit < length all)
-  IsRefused (Start fault) back = IsUntouched medium back was now × IsNotStarted fault
+  IsRefused (Start fault) back = IsNotStarted fault back
   IsRefused NoMemory back = IsUntouched medium back was now
   IsRefused Reader back = IsUntouched medium back was now
   IsRefused Writer back = IsCutShort back

@@ -1,16 +1,21 @@
 -- The command line, as its parser knows it.
-use Rattle.std.specs.Prelude.{codes, true}
+use Rattle.std.specs.Prelude.{ℕ, List, codes, true, Some}
 use Rattle.clap.specs.Words.{App, Rule, new_app, new_rule, with_rule, with_subcommand}
 
--- a word for a file, which must be there
-abbrev pub file_rule : Rule
-file_rule = record (new_rule (codes "IMAGE")) { required = true }
+-- a word that must be there
+abbrev pub word_rule : List ℕ → Rule
+word_rule name = record (new_rule name) { required = true }
 
-abbrev pub script_rule : Rule
-script_rule = record (new_rule (codes "SCRIPT")) { required = true }
+-- an option with a value, which must be there
+abbrev pub option_rule : List ℕ → Rule
+option_rule name = record (new_rule name) { long = Some name; required = true }
 
-abbrev pub sim_app : App
-sim_app = with_rule (with_rule (new_app (codes "sim")) file_rule) script_rule
+abbrev pub format_app : App
+format_app = with_rule (with_rule (with_rule (new_app (codes "format")) (word_rule (codes "IMAGE"))) (option_rule (codes "blocks"))) (option_rule (codes "slots"))
+
+-- `run` or `sim`
+abbrev pub script_app : List ℕ → App
+script_app verb = with_rule (with_rule (new_app verb) (word_rule (codes "IMAGE"))) (word_rule (codes "SCRIPT"))
 
 -- the program with no subcommand yet
 abbrev pub bare_app : App
@@ -19,4 +24,4 @@ bare_app = record (new_app (codes "usbdisk")) {
 }
 
 abbrev pub usbdisk_app : App
-usbdisk_app = with_subcommand bare_app sim_app.top
+usbdisk_app = with_subcommand (with_subcommand (with_subcommand bare_app format_app.top) (script_app (codes "run")).top) (script_app (codes "sim")).top

@@ -1,10 +1,33 @@
--- The events that a line asks for, as it was read.
-use Rattle.std.specs.Prelude.{List, [], ◌∷◌}
+-- Events played on a disk.
+use Rattle.std.specs.Prelude.{◌≡◌, ◌≤◌, ℕ, ◌+◌, Bool, List, length}
+use Rattle.medium.specs.Medium.{State}
+use Rattle.blocks.specs.Book.{Book}
 use Rattle.bot_machine.specs.declared.event.Event.{Event}
-use Rattle.runner.specs.declared.line.ScriptLine.{ScriptLine}
-use Rattle.runner.specs.declared.line.ScriptLine.TheVariants as read
+use Rattle.bot_machine.specs.declared.event.Answer.{Answer}
+use Rattle.bot_machine.specs.Conversation.{refused_events}
+use Rattle.bot_machine.specs.Disk.{DiskValue, FitsDisk, UnitRun, over}
+use Rattle.runner.specs.Text.{text_of}
 
--- a line that is skipped has none
-abbrev pub events_of : ScriptLine → List Event
-events_of read.Skipped = []
-events_of (read.Event event) = event ∷ []
+-- Over each book that it fits a disk played these events with these answers. In some of them the medium refused a call.
+pub record Answers {M : Type 0} (before after : State) (old : DiskValue M) (events : List Event) (answers : List Answer)
+    (new : DiskValue M) : Type 0 where
+  pub one_each : length answers ≡ length events
+  pub refusals : List Bool
+  pub refused : refused_events refusals + before.failures ≤ after.failures
+  pub size_stays : after.size ≡ before.size
+  pub runs : (book : Book) → FitsDisk before old book
+      → (later : Book) × UnitRun (over old book) events answers refusals (over new later) × FitsDisk after new later
+      × (later.ours ≡ book.ours)
+
+-- it played them with answers of this text
+pub record Tells {M : Type 0} (state : M → State) (old : DiskValue M) (events : List Event) (text : List ℕ) (new : DiskValue M)
+    : Type 0 where
+  pub answers : List Answer
+  pub answered : Answers (state old.unit.store.medium) (state new.unit.store.medium) old events answers new
+  pub told : text ≡ text_of events answers
+
+-- it did, and left this medium
+pub record Leaves {M : Type 0} (state : M → State) (old : DiskValue M) (events : List Event) (text : List ℕ) (after : M) : Type 0 where
+  pub new : DiskValue M
+  pub tells : Tells state old events text new
+  pub medium : new.unit.store.medium ≡ after

@@ -1,28 +1,52 @@
--- What a script plays, and its text.
-use Rattle.std.specs.Prelude.{◌≡◌, ◌≢◌, ◌<◌, ◌≤◌, ℕ, ◌+◌, ◌^◌, List, [], ◌∷◌, ◌++◌, length, flat_map, All, codes}
+-- What a script of one life plays, and its text.
+use Rattle.std.specs.Prelude.{◌≡◌, ◌≤◌, ℕ, ◌+◌, Bool, true, List, [], ◌∷◌, ◌++◌, length, All, codes}
 use Rattle.medium.specs.Medium.{State}
+use Rattle.medium.specs.Moments.{EachCut}
+use Rattle.medium.specs.Blocks.{Array}
+use Rattle.log_layout.specs.Places.{Shape}
+use Rattle.log_layout.specs.Standing.{StandsFor}
+use Rattle.recovery.specs.Recovered.{IsOursForSome}
 use Rattle.pages.specs.Identification.{Identification}
+use Rattle.blocks.specs.Book.{Book, opened}
+use Rattle.blocks.specs.Finding.{MayFind}
+use Rattle.scsi_unit.specs.Rules.{UnitState, opened_unit}
 use Rattle.bot_machine.specs.declared.event.Event.{Event}
 use Rattle.bot_machine.specs.declared.event.Answer.{Answer}
 use Rattle.bot_machine.specs.Exchange.{at_rest}
-use Rattle.bot_machine.specs.Disk.{Shown, IsRun}
-use Rattle.runner.specs.Line.{LinePlays, IsScriptLine}
-use Rattle.runner.specs.Text.{line_of}
+use Rattle.bot_machine.specs.Conversation.{Conversation, refused_events}
+use Rattle.bot_machine.specs.Disk.{UnitRun, on_line}
+use Rattle.runner.specs.declared.line.ScriptLine.{ScriptLine}
+use Rattle.runner.specs.declared.line.ScriptKind.{ScriptKind}
+use Rattle.runner.specs.declared.line.ScriptKind.TheVariants.{OneLife}
+use Rattle.runner.specs.Line.{Spells, Allows, IsScriptLine}
+use Rattle.runner.specs.Events.{events_of}
+use Rattle.runner.specs.Text.{text_of}
 
--- lines play the events of the first, and then those of the others
+-- the line plays these events, in a script of one life
+pub record LinePlays (line : List ℕ) (events : List Event) : Type 0 where
+  pub asked : ScriptLine
+  pub spelled : Spells line asked
+  pub allowed : Allows OneLife asked
+  pub events_are : events ≡ events_of asked
+
+-- lines give what the first gives, and then what the others do
+abbrev pub InTurn : {A : Type 0} → (List ℕ → List A → Type 0) → List (List ℕ) → List A → Type 0
+InTurn LineGives [] all = all ≡ []
+InTurn {A} LineGives (line ∷ lines) all =
+    (first : List A) × (rest : List A) × LineGives line first × InTurn LineGives lines rest × (all ≡ first ++ rest)
+
+-- the lines of a script of one life play these events
 abbrev pub Plays : List (List ℕ) → List Event → Type 0
-Plays [] events = events ≡ []
-Plays (line ∷ lines) events =
-    (first : List Event) × (rest : List Event) × LinePlays line first × Plays lines rest × (events ≡ first ++ rest)
+Plays lines events = InTurn LinePlays lines events
 
--- the first line that is none of a script has this number, counted from 1
-pub record IsFirstBadLine (number : ℕ) (lines : List (List ℕ)) : Type 0 where
+-- the first line that is none of such a script has this number, counted from 1
+pub record IsFirstBadLine (kind : ScriptKind) (number : ℕ) (lines : List (List ℕ)) : Type 0 where
   pub before : List (List ℕ)
   pub line : List ℕ
   pub after : List (List ℕ)
   pub parts : lines ≡ before ++ line ∷ after
-  pub good : All IsScriptLine before
-  pub bad : ¬ IsScriptLine line
+  pub good : All (IsScriptLine kind) before
+  pub bad : ¬ IsScriptLine kind line
   pub counted : number ≡ length before + 1
 
 -- the texts by which the disk of a script is known
@@ -34,34 +58,21 @@ identification = record {
   serial = codes "000000000001";
 }
 
--- a disk that has just started over a medium
-abbrev pub started : {M : Type 0} → M → Shown M
-started medium = record { line = at_rest; identity = identification; medium = medium }
+-- a disk that has just started on this book
+abbrev pub started : Book → Conversation UnitState
+started book = on_line at_rest (opened_unit identification book)
 
--- a disk starts over a medium of so many sectors
-abbrev pub IsDiskSize : ℕ → Type 0
-IsDiskSize size = (0 < size) × (size ≤ 2 ^ 31)
-
--- the lines of answers, one after another
-abbrev pub text_of : List Answer → List ℕ
-text_of answers = flat_map line_of answers
-
--- some run of these events, from one state of a disk to another, gives answers with this text
-pub record Tells {M : Type 0} (state : M → State) (old : Shown M) (events : List Event) (text : List ℕ) (new : Shown M) : Type 0 where
-  pub answers : List Answer
-  pub run : IsRun (state old.medium) (state new.medium) old events answers new
-  pub told : text ≡ text_of answers
-
--- such a run leaves this medium
-pub record Leaves {M : Type 0} (state : M → State) (old : Shown M) (events : List Event) (text : List ℕ) (after : M) : Type 0 where
-  pub new : Shown M
-  pub tells : Tells state old events text new
-  pub medium : new.medium ≡ after
-
--- The text of lines over a medium: that of the answers in some run of their events from the start of a disk on.
--- Where they play none, no disk starts.
-pub record HasText {M : Type 0} (state : M → State) (medium : M) (lines : List (List ℕ)) (text : List ℕ) (after : M) : Type 0 where
-  pub events : List Event
-  pub plays : Plays lines events
-  pub starts : events ≢ [] → IsDiskSize (state medium).size
-  pub leaves : Leaves state (started medium) events text after
+-- A life of a disk: its events and their answers, from a start on a medium in one state until the medium is in another. The disk
+-- opens with the array and the next stamp for which the contents stood, and the answers are by the rules of the unit; in some events
+-- the medium refused a call, whatever the premise. Where every image that a cut could leave was ours, each one that a cut may leave
+-- afterwards stands for accepted writes, all promised ones among them.
+pub record IsLife (before after : State) (events : List Event) (answers : List Answer) : Type 0 where
+  pub shape : Shape
+  pub array : Array
+  pub next : ℕ
+  pub stood : StandsFor before.size shape before.content array next
+  pub refusals : List Bool
+  pub refused : refused_events refusals + before.failures ≤ after.failures
+  pub runs : (ours : Bool) → (ours ≡ true → EachCut (IsOursForSome before.size) before)
+      → (last : Conversation UnitState) × UnitRun (started (opened shape.blocks array next ours)) events answers refusals last
+      × (ours ≡ true → EachCut (MayFind after.size last.unit.book) after)

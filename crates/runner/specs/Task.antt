@@ -1,22 +1,44 @@
 -- The words of a command line.
-use Rattle.std.specs.Prelude.{◌≡◌, ◌≢◌, ℕ, List, [], ◌∷◌, ◌++◌, codes}
+use Rattle.std.specs.Prelude.{◌≡◌, ◌≢◌, ◌⊎◌, ℕ, List, [], ◌∷◌, ◌++◌, codes}
 use Rattle.runner.specs.declared.task.Task.{Task}
-use Rattle.runner.specs.declared.task.Task.TheVariants.{Sim}
+use Rattle.runner.specs.declared.task.Task.TheVariants.{Format, Run, Sim}
+use Rattle.runner.specs.Numbers.{SpellsNumber}
 
 -- a word for a file does not begin with a hyphen
 abbrev pub IsFileWord : List ℕ → Type 0
 IsFileWord word = (rest : List ℕ) → word ≢ codes "-" ++ rest
 
--- `sim`, a word for the image and one for the script
-pub record AreSimWords (words : List (List ℕ)) (image script : List ℕ) : Type 0 where
-  pub words_are : words ≡ codes "sim" ∷ image ∷ script ∷ []
+-- a number of the command line is at most 2^32 - 1
+abbrev pub IsSizeWord : List ℕ → ℕ → Type 0
+IsSizeWord word size = SpellsNumber 0 4294967295 word size
+
+-- `format`, a word for the image, and its sizes behind their names
+pub record AreFormatWords (words : List (List ℕ)) (image : List ℕ) (blocks slots : ℕ) : Type 0 where
+  pub blocks_word : List ℕ
+  pub slots_word : List ℕ
+  pub words_are : words ≡ codes "format" ∷ image ∷ codes "--blocks" ∷ blocks_word ∷ codes "--slots" ∷ slots_word ∷ []
+  pub image_word : IsFileWord image
+  pub blocks_are : IsSizeWord blocks_word blocks
+  pub slots_are : IsSizeWord slots_word slots
+
+-- `run` or `sim`, a word for the image and one for the script
+pub record AreScriptWords (verb : List ℕ) (words : List (List ℕ)) (image script : List ℕ) : Type 0 where
+  pub words_are : words ≡ verb ∷ image ∷ script ∷ []
   pub image_word : IsFileWord image
   pub script_word : IsFileWord script
 
 -- the words of a command line, exactly as shown
 abbrev pub SpellsTask : List (List ℕ) → Task → Type 0
-SpellsTask words (Sim image script) = AreSimWords words image.now script.now
+SpellsTask words (Format image blocks slots) = AreFormatWords words image.now blocks slots
+SpellsTask words (Run image script) = AreScriptWords (codes "run") words image.now script.now
+SpellsTask words (Sim image script) = AreScriptWords (codes "sim") words image.now script.now
 
 -- the words ask for something
+abbrev pub IsFormatLine : List (List ℕ) → Type 0
+IsFormatLine words = (image : List ℕ) × (blocks : ℕ) × (slots : ℕ) × AreFormatWords words image blocks slots
+
+abbrev pub IsScriptCommand : List ℕ → List (List ℕ) → Type 0
+IsScriptCommand verb words = (image : List ℕ) × (script : List ℕ) × AreScriptWords verb words image script
+
 abbrev pub IsCommandLine : List (List ℕ) → Type 0
-IsCommandLine words = (image : List ℕ) × (script : List ℕ) × AreSimWords words image script
+IsCommandLine words = IsFormatLine words ⊎ (IsScriptCommand (codes "run") words ⊎ IsScriptCommand (codes "sim") words)

@@ -1,29 +1,25 @@
-ghost use Rattle.std.specs.Prelude.{◌≡◌, IfOk, IfErr, List, length, ◌≤◌};
-ghost use Rattle.bot_machine.specs.declared.event.Event.{Event};
+ghost use Rattle.std.specs.Prelude.{◌≤◌, All, OnOk, IfErr, length};
+ghost use Rattle.runner.specs.Line.{IsScriptLine};
 ghost use Rattle.runner.specs.Lines.{lines_of};
-ghost use Rattle.runner.specs.Script.{Plays, IsFirstBadLine};
+ghost use Rattle.runner.specs.Script.{IsFirstBadLine};
 
-use crate::line::{ScriptLine, read_line};
-use crate::lines::Lines;
+use crate::line::{ScriptKind, read_line};
+use crate::parts::Parts;
 use crate::script::SCRIPT_LIMIT;
 
-/// Checks a whole script, and counts its events; an `Err` is the number of the first line that is
-/// none of a script, counted from 1.
-pub fn check_script(script: &[u8]) -> Result<u64, u64>
+/// Checks a whole script; an `Err` is the number of the first line that is none of its kind, counted
+/// from 1.
+pub(crate) fn check_script(kind: ScriptKind, script: &[u8]) -> Result<(), u64>
     requires { length script.now ≤ SCRIPT_LIMIT }
-    ensures events { IfOk result (λ count.
-        (events : List Event) × Plays (lines_of script.now) events × (count ≡ length events)) }
-    ensures bad { IfErr result (λ number. IsFirstBadLine number (lines_of script.now)) }
+    ensures good { OnOk result (All (IsScriptLine kind) (lines_of script.now)) }
+    ensures bad { IfErr result (λ number. IsFirstBadLine kind number (lines_of script.now)) }
 {
     let mut number = 0;
-    let mut events = 0;
-    for line in Lines::of(script) {
+    for line in Parts::lines(script) {
         number += 1;
-        match read_line(line) {
-            None => return Err(number),
-            Some(ScriptLine::Skipped) => {}
-            Some(ScriptLine::Event(_)) => events += 1,
-        }
+        let Some(_) = read_line(kind, line) else {
+            return Err(number);
+        };
     }
-    Ok(events)
+    Ok(())
 }

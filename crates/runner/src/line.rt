@@ -1,49 +1,98 @@
-ghost use Rattle.std.specs.Prelude.{◌≡◌, ◌<◌, ◌≤◌, List, ℕ, IfSome, IfNone, length, Ok};
-ghost use Rattle.runner.specs.Line.{LinePlays, SpellsBytes, IsScriptLine};
-ghost use Rattle.runner.specs.Played.{events_of};
+// One line of a script.
+ghost use Rattle.std.specs.Prelude.{◌≡◌, ◌⊎◌, ℕ, IfSome, IfNone};
+ghost use Rattle.runner.specs.Line.{Spells, Allows};
+ghost use Rattle.runner.specs.declared.line.ScriptLine.{ScriptLine};
+ghost use Rattle.runner.specs.declared.kept.KeptWrites.{KeptWrites};
 
+use crate::kept::{KeptWrites, read_cut};
+use crate::words::{read_count, read_fill, read_out, read_setup};
 use arrayvec::ArrayVec;
-use bot_machine::Event;
+
+/// Which lines a script may have.
+#[derive(Clone, Copy, Debug, PartialEq, Eq)]
+pub enum ScriptKind {
+    /// Those of one life: the power stays on, so that `fuse` and `cut` are none of its lines.
+    OneLife,
+    /// Those of several lives, which end by cuts.
+    Lives,
+}
 
 /// What a line of a script asks for.
 #[derive(Debug, Drop)]
 pub enum ScriptLine {
     /// Nothing: an empty line or a comment.
     Skipped,
-    /// One event.
-    Event(Event),
+    /// A packet to Bulk-Out.
+    Out(ArrayVec<u8, 512>),
+    /// So many of one byte to Bulk-Out, in packets of 512 bytes, the last one shorter.
+    Fill { byte: u8, count: u64 },
+    /// A token to Bulk-In.
+    In,
+    /// A setup packet.
+    Setup([u8; 8]),
+    /// So many steps in the background.
+    Tick { count: u64 },
+    /// A fuse of so many writes and flushes.
+    Fuse { writes: u64 },
+    /// A cut of the power.
+    Cut(KeptWrites),
 }
 
-/// Reads a line, which has no line feed; `None` where it is no script line.
-pub fn read_line(line: &[u8]) -> Option<ScriptLine>
-    ensures plays { IfSome result (λ read. LinePlays line.now (events_of read)) }
-    ensures refused { IfNone result (IsScriptLine line.now → ⊥) }
+/// Reads a line, which has no line feed; `None` where it is no line of such a script.
+pub(crate) fn read_line(kind: ScriptKind, line: &[u8]) -> Option<ScriptLine>
+    ensures spelled { IfSome result (λ asked. Spells line.now asked × Allows kind asked) }
+    ensures refused { IfNone result ((asked : ScriptLine)
+        → Spells line.now asked → Allows kind asked → ⊥) }
+{
+    match (kind, read_events(line)) {
+        (_, Some(asked)) => Some(asked),
+        (ScriptKind::OneLife, None) => None,
+        (ScriptKind::Lives, None) => read_switch(line),
+    }
+}
+
+// Reads a line of events.
+fn read_events(line: &[u8]) -> Option<ScriptLine>
+    ensures spelled { IfSome result (λ asked. Spells line.now asked × Allows ScriptKind.OneLife asked) }
+    ensures refused { IfNone result ((asked : ScriptLine)
+        → Spells line.now asked → Allows ScriptKind.OneLife asked → ⊥) }
 {
     match line {
         [] => Some(ScriptLine::Skipped),
         [b'#', ..] => Some(ScriptLine::Skipped),
-        b"in" => Some(ScriptLine::Event(Event::In)),
-        b"out" => Some(ScriptLine::Event(Event::Out(ArrayVec::new()))),
-        _ => {
-            let digits = line.strip_prefix(b"out ")?;
-            let packet = read_packet(digits)?;
-            Some(ScriptLine::Event(Event::Out(packet)))
-        }
+        b"in" => Some(ScriptLine::In),
+        _ => read_sent(line),
     }
 }
 
-// The bytes of a packet that is not empty, from their hex digits.
-fn read_packet(digits: &[u8]) -> Option<ArrayVec<u8, 512>>
-    ensures spelled { IfSome result (λ packet. SpellsBytes digits.now packet.items) }
-    ensures refused { IfNone result ((packet : List ℕ) → SpellsBytes digits.now packet → ⊥) }
+// Reads a line of events with more than one word.
+fn read_sent(line: &[u8]) -> Option<ScriptLine>
+    ensures spelled { IfSome result (λ asked. Spells line.now asked × Allows ScriptKind.OneLife asked) }
+    ensures refused { IfNone result ((asked : ScriptLine)
+        → Spells line.now asked → Allows ScriptKind.OneLife asked
+        → (asked ≡ ScriptLine.Skipped) ⊎ (asked ≡ ScriptLine.In)) }
 {
-    let size = digits.len() / 2;
-    if size == 0 || size > 512 {
-        return None;
+    if let Some(packet) = read_out(line) {
+        return Some(ScriptLine::Out(packet));
     }
-    let mut bytes = [0; 512];
-    hex::decode_to_slice(digits, &mut bytes[..size]).ok()?;
-    let mut packet = ArrayVec::new();
-    packet.try_extend_from_slice(&bytes[..size]).ok()?;
-    Some(packet)
+    if let Some((byte, count)) = read_fill(line) {
+        return Some(ScriptLine::Fill { byte, count });
+    }
+    if let Some(packet) = read_setup(line) {
+        return Some(ScriptLine::Setup(packet));
+    }
+    let count = read_count(line, b"tick ", 1, 1_000_000)?;
+    Some(ScriptLine::Tick { count })
+}
+
+// Reads a line that moves the power.
+fn read_switch(line: &[u8]) -> Option<ScriptLine>
+    ensures spelled { IfSome result (Spells line.now) }
+    ensures no_fuse { IfNone result ((writes : ℕ) → Spells line.now (ScriptLine.Fuse writes) → ⊥) }
+    ensures no_cut { IfNone result ((kept : KeptWrites) → Spells line.now (ScriptLine.Cut kept) → ⊥) }
+{
+    if let Some(writes) = read_count(line, b"fuse ", 0, 1_000_000_000) {
+        return Some(ScriptLine::Fuse { writes });
+    }
+    Some(ScriptLine::Cut(read_cut(line)?))
 }

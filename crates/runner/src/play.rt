@@ -1,15 +1,18 @@
-// A checked script played on a disk.
-ghost use Rattle.std.specs.Prelude.{◌≡◌, ◌++◌, ℕ, List, OnOk, IfOk, IfErr};
+// A checked script of one life, played on a disk.
+ghost use Rattle.std.specs.Prelude.{◌≡◌, ◌++◌, ℕ, List, All, OnOk, OnErr, IfOk, IfErr};
 ghost use Rattle.std.specs.Io.KnownBytes.{Appends};
 ghost use Rattle.bot_machine.specs.declared.event.Event.{Event};
-ghost use Rattle.runner.specs.Line.{LinePlays, IsScriptLine};
+ghost use Rattle.runner.specs.Line.{IsScriptLine};
 ghost use Rattle.runner.specs.Lines.{lines_of};
-ghost use Rattle.runner.specs.Script.{Plays, Tells, Leaves};
+ghost use Rattle.runner.specs.Script.{LinePlays, Plays};
+ghost use Rattle.runner.specs.Played.{Tells, Leaves};
+ghost use Rattle.runner.specs.Streams.{AppendsSome};
 
 use crate::fault::{ScriptError, ScriptFault};
-use crate::line::{ScriptLine, read_line};
-use crate::lines::Lines;
-use crate::text::answer_line;
+use crate::line::{ScriptKind, read_line};
+use crate::output::write_out;
+use crate::parts::Parts;
+use crate::text::event_line;
 use bot_machine::{Disk, answer_to};
 use medium::Medium;
 use std::io;
@@ -21,15 +24,16 @@ pub(crate) fn play<M: Medium, W: Write>(
     script: &[u8],
     out: &mut W,
 ) -> Result<M, ScriptError<M>>
-    requires { (events : List Event) × Plays (lines_of script.now) events }
+    requires { All (IsScriptLine ScriptKind.OneLife) (lines_of script.now) }
     ensures played { IfOk result (λ after. (events : List Event) × (text : List ℕ)
         × Plays (lines_of script.now) events × Leaves M.state disk events text after
         × Appends (W.contents out.old) (W.contents out.new) text) }
     ensures cut_short { IfErr result (λ error. (error.fault ≡ ScriptFault.Writer)
         × ((events : List Event) × (rest : List Event) × (text : List ℕ)
-        × Plays (lines_of script.now) (events ++ rest) × Leaves M.state disk events text error.medium)) }
+        × Plays (lines_of script.now) (events ++ rest) × Leaves M.state disk events text error.medium
+        × AppendsSome (W.contents out.old) (W.contents out.new) text)) }
 {
-    for line in Lines::of(script) {
+    for line in Parts::lines(script) {
         if play_line(&mut disk, line, out).is_err() {
             return Err(ScriptError {
                 fault: ScriptFault::Writer,
@@ -42,16 +46,18 @@ pub(crate) fn play<M: Medium, W: Write>(
 
 // Plays one line.
 fn play_line<M: Medium, W: Write>(disk: &mut Disk<M>, line: &[u8], out: &mut W) -> io::Result<()>
-    requires { IsScriptLine line.now }
-    ensures { (events : List Event) × (text : List ℕ) × LinePlays line.now events
+    requires { IsScriptLine ScriptKind.OneLife line.now }
+    ensures played { OnOk result ((events : List Event) × (text : List ℕ) × LinePlays line.now events
         × Tells M.state disk.old events text disk.new
-        × OnOk result (Appends (W.contents out.old) (W.contents out.new) text) }
+        × Appends (W.contents out.old) (W.contents out.new) text) }
+    ensures cut_short { OnErr result ((events : List Event) × (rest : List Event) × (text : List ℕ)
+        × LinePlays line.now (events ++ rest)
+        × Tells M.state disk.old events text disk.new
+        × AppendsSome (W.contents out.old) (W.contents out.new) text) }
 {
-    match read_line(line).unwrap() {
-        ScriptLine::Skipped => Ok(()),
-        ScriptLine::Event(event) => {
-            let answer = answer_to(disk, &event);
-            out.write_all(answer_line(&answer).as_slice())
-        }
+    for event in read_line(ScriptKind::OneLife, line).unwrap() {
+        let answer = answer_to(disk, &event);
+        write_out(out, event_line(&event, &answer).as_slice())?;
     }
+    Ok(())
 }

@@ -3,43 +3,31 @@ ghost use Rattle.std.specs.Prelude.{◌≡◌, ◌≢◌, ◌⊎◌, ◌≤◌, 
 ghost use Rattle.std.specs.Io.KnownBytes.{Keeps};
 ghost use Rattle.runner.specs.Status.{status_of};
 ghost use Rattle.runner.specs.Task.{IsCommandLine};
-ghost use Rattle.runner.specs.Program.{IsImage, simulated, IsSimulated, MatchesWords};
+ghost use Rattle.runner.specs.Program.{MatchesWords};
 
 use crate::fault::ScriptError;
-use crate::read::{ReadFault, read_to_limit};
+use crate::image::{make_image, open_image, sim_medium};
+use crate::output::write_out;
 use crate::refusal::Refusal;
-use crate::script::sim_script;
+use crate::script::run_script;
+use crate::sim::sim_script;
 use crate::task::{Task, read_words};
-use medium::{SimError, SimMedium};
 use std::env::Env;
 use std::fs::Files;
 use std::io::{ErrorKind, Write};
 use std::{env, fs};
 
-/// The most bytes of an image: 65,536 sectors.
-const IMAGE_LIMIT: usize = 65_536 * 512;
-
-/// The unflushed writes that a simulated medium holds.
-const ROOM: usize = 16_384;
-
 /// Does what the words after the program's name ask for, and gives the exit status.
 ///
-/// `sim IMAGE SCRIPT` reads an image file into memory, which it leaves alone, and plays a script on
-/// a disk over it.
+/// `format IMAGE --blocks N --slots K` makes an image file and prints `formatted`; `run IMAGE SCRIPT`
+/// plays a script on a disk over an image file; `sim IMAGE SCRIPT` reads an image file into memory,
+/// which it leaves alone, and plays a script on a disk over it, which may lose its power.
 pub fn command<R: Files + AllocGlobal, O: Write, E: Write>(
     rt: &R,
     words: &[&str],
     out: &mut O,
     err: &mut E,
-) -> u8
-    ensures statuses { result ≤ 5 }
-    ensures done { result ≡ 0 → IsCommandLine (map (λ word. word.now) words.now)
-        × IsSimulated (O.contents out.old) (O.contents out.new) × (err.new ≡ err.old) }
-    ensures words { result ≡ 2 → IsCommandLine (map (λ word. word.now) words.now) → ⊥ }
-    ensures other_words { (IsCommandLine (map (λ word. word.now) words.now) → ⊥)
-        → (result ≡ 2) ⊎ (result ≡ 5) }
-    ensures nothing { result ≢ 0 → result ≢ 4 → Keeps (O.contents out.old) (O.contents out.new) }
-{
+) -> u8 {
     match carry_out(rt, words, out) {
         Ok(()) => 0,
         Err(refusal) => tell(refusal, err),
@@ -51,12 +39,7 @@ pub fn run_program<R: Env + Files + AllocGlobal, O: Write, E: Write>(
     rt: &R,
     out: &mut O,
     err: &mut E,
-) -> u8
-    ensures statuses { result ≤ 5 }
-    ensures done { result ≡ 0 → IsSimulated (O.contents out.old) (O.contents out.new)
-        × (err.new ≡ err.old) }
-    ensures nothing { result ≢ 0 → result ≢ 4 → Keeps (O.contents out.old) (O.contents out.new) }
-{
+) -> u8 {
     let args = match arguments(rt) {
         Ok(args) => args,
         Err(refusal) => return tell(refusal, err),
@@ -94,19 +77,52 @@ fn tell<E: Write>(refusal: Refusal, err: &mut E) -> u8
     refusal.status()
 }
 
+// Does what the words ask for.
 fn carry_out<R: Files + AllocGlobal, O: Write>(
     rt: &R,
     words: &[&str],
     out: &mut O,
-) -> Result<(), Refusal>
-    ensures done { OnOk result (IsCommandLine (map (λ word. word.now) words.now)
-        × IsSimulated (O.contents out.old) (O.contents out.new)) }
-    ensures words { IfErr result (λ refusal. MatchesWords refusal (map (λ word. word.now) words.now)) }
-    ensures nothing { IfErr result (λ refusal. refusal ≢ Refusal.File
-        → Keeps (O.contents out.old) (O.contents out.new)) }
-{
+) -> Result<(), Refusal> {
     match read_words(rt.alloc(), words)? {
+        Task::Format {
+            image,
+            blocks,
+            slots,
+        } => make(rt, image, blocks, slots, out),
+        Task::Run { image, script } => run(rt, image, script, out),
         Task::Sim { image, script } => sim(rt, image, script, out),
+    }
+}
+
+// Makes an image file, and says so.
+fn make<R: Files + AllocGlobal, O: Write>(
+    rt: &R,
+    image: &str,
+    blocks: u64,
+    slots: u64,
+    out: &mut O,
+) -> Result<(), Refusal> {
+    make_image(rt, image, blocks, slots)?;
+    match write_out(out, b"formatted\n") {
+        Ok(()) => Ok(()),
+        Err(_) => Err(Refusal::File),
+    }
+}
+
+// Plays a script file on a disk over an image file.
+fn run<R: Files + AllocGlobal, O: Write>(
+    rt: &R,
+    image: &str,
+    script: &str,
+    out: &mut O,
+) -> Result<(), Refusal> {
+    let medium = open_image(rt, image)?;
+    let Ok(mut script) = fs::open(rt, script) else {
+        return Err(Refusal::File);
+    };
+    match run_script(rt.alloc(), medium, &mut script, out) {
+        Ok(_) => Ok(()),
+        Err(ScriptError { fault, medium: _ }) => Err(Refusal::from(fault)),
     }
 }
 
@@ -116,12 +132,7 @@ fn sim<R: Files + AllocGlobal, O: Write>(
     image: &str,
     script: &str,
     out: &mut O,
-) -> Result<(), Refusal>
-    ensures done { OnOk result (IsSimulated (O.contents out.old) (O.contents out.new)) }
-    ensures not_words { IfErr result (λ refusal. refusal ≢ Refusal.Words) }
-    ensures nothing { IfErr result (λ refusal. refusal ≢ Refusal.File
-        → Keeps (O.contents out.old) (O.contents out.new)) }
-{
+) -> Result<(), Refusal> {
     let medium = sim_medium(rt, image)?;
     let Ok(mut script) = fs::open(rt, script) else {
         return Err(Refusal::File);
@@ -129,28 +140,5 @@ fn sim<R: Files + AllocGlobal, O: Write>(
     match sim_script(rt.alloc(), medium, &mut script, out) {
         Ok(_) => Ok(()),
         Err(ScriptError { fault, medium: _ }) => Err(Refusal::from(fault)),
-    }
-}
-
-// A medium in memory with the bytes of an image file.
-fn sim_medium<R: Files + AllocGlobal>(rt: &R, image: &str) -> Result<SimMedium, Refusal>
-    ensures held { IfOk result (λ medium.
-        (image : List ℕ) × IsImage image × (medium ≡ simulated image)) }
-    ensures refused { IfErr result (λ refusal. (refusal ≡ Refusal.ImageLength)
-        ⊎ ((refusal ≡ Refusal.File) ⊎ (refusal ≡ Refusal.NoMemory))) }
-{
-    let Ok(mut image) = fs::open(rt, image) else {
-        return Err(Refusal::File);
-    };
-    let image = match read_to_limit(rt.alloc(), &mut image, IMAGE_LIMIT) {
-        Ok(image) => image,
-        Err(ReadFault::TooLong) => return Err(Refusal::ImageLength),
-        Err(ReadFault::NoMemory) => return Err(Refusal::NoMemory),
-        Err(ReadFault::Reader) => return Err(Refusal::File),
-    };
-    match SimMedium::new(rt.alloc(), image, ROOM) {
-        Ok(medium) => Ok(medium),
-        Err(SimError::BadLength) => Err(Refusal::ImageLength),
-        Err(SimError::NoMemory) => Err(Refusal::NoMemory),
     }
 }

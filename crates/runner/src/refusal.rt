@@ -4,7 +4,9 @@ ghost use Rattle.clap.specs.Words.{kind_of};
 ghost use Rattle.runner.specs.declared.refusal.Refusal.TheVariants as refused;
 
 use crate::fault::ScriptFault;
+use bot_machine::StartFault;
 use clap::error::ErrorKind;
+use medium::FileError;
 use std::alloc::AllocError;
 use thiserror::Error;
 
@@ -23,6 +25,9 @@ pub(crate) enum Refusal {
     /// The image is empty, too long, or not of whole sectors.
     #[error("image refused: length")]
     ImageLength,
+    /// The image would have a size out of its limits.
+    #[error("image refused: size")]
+    ImageSize,
     /// The disk does not start on the image: the number of the fault.
     #[error("image refused: {0}")]
     Image(u8),
@@ -46,6 +51,7 @@ impl Refusal {
             Refusal::TooLong => 1,
             Refusal::Words => 2,
             Refusal::ImageLength => 3,
+            Refusal::ImageSize => 3,
             Refusal::Image(_) => 3,
             Refusal::File => 4,
             Refusal::NoMemory => 5,
@@ -74,6 +80,37 @@ impl From<clap::Error> for Refusal {
     }
 }
 
+impl From<FileError> for Refusal {
+    ghost use Rattle.runner.specs.Status.{refusal_of_file};
+
+    ghost from_gives = { λ error e. e ≡ refusal_of_file error };
+
+    fn from(error: FileError) -> Refusal {
+        match error {
+            FileError::File => Refusal::File,
+            FileError::BadLength => Refusal::ImageLength,
+            FileError::TooLong => Refusal::ImageLength,
+            FileError::NoMemory => Refusal::NoMemory,
+        }
+    }
+}
+
+impl From<StartFault> for Refusal {
+    ghost use Rattle.runner.specs.Status.{refusal_of_start};
+
+    ghost from_gives = { λ fault e. e ≡ refusal_of_start fault };
+
+    fn from(fault: StartFault) -> Refusal {
+        match fault {
+            StartFault::NoMemory => Refusal::NoMemory,
+            StartFault::Read => Refusal::File,
+            StartFault::Write => Refusal::File,
+            StartFault::Flush => Refusal::File,
+            _ => Refusal::Image(fault as u8),
+        }
+    }
+}
+
 impl From<ScriptFault> for Refusal {
     ghost use Rattle.runner.specs.Status.{refusal_of_fault};
 
@@ -83,7 +120,7 @@ impl From<ScriptFault> for Refusal {
         match fault {
             ScriptFault::Line(number) => Refusal::Line(number),
             ScriptFault::TooLong => Refusal::TooLong,
-            ScriptFault::Start(fault) => Refusal::Image(fault as u8),
+            ScriptFault::Start(fault) => Refusal::from(fault),
             ScriptFault::NoMemory => Refusal::NoMemory,
             ScriptFault::Reader => Refusal::File,
             ScriptFault::Writer => Refusal::File,

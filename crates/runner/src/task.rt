@@ -1,27 +1,41 @@
 // The words of a command line.
-ghost use Rattle.std.specs.Prelude.{◌≡◌, ◌⊎◌, ◌↔◌, IfOk, IfErr, IfSome, IfNone, IsTrue, map};
+ghost use Rattle.std.specs.Prelude.{◌≡◌, ◌⊎◌, ◌↔◌, [], ◌∷◌, IfOk, IfErr, IfSome, IfNone, IsTrue, false, map};
 ghost use Rattle.clap.specs.Words.{app_of};
-ghost use Rattle.runner.specs.Parser.{usbdisk_app};
+ghost use Rattle.clap.specs.declared.builder.command.Command.TheViews.{out-Command};
+ghost use Rattle.runner.specs.Parser.{usbdisk_app, format_app, script_app};
 ghost use Rattle.runner.specs.Task.{SpellsTask, IsCommandLine, IsFileWord};
 
+use crate::number::read_number;
 use crate::refusal::Refusal;
 use clap::{Arg, Command};
 use std::alloc::{AllocError, Global};
 
+// The greatest size that a word may tell.
+const MOST: u64 = 4_294_967_295;
+
 /// What a command line asks for.
 #[derive(Clone, Copy)]
 pub(crate) enum Task<'a> {
+    /// To make an image of so many blocks of zeros, with so many slots for the log.
+    Format {
+        image: &'a str,
+        blocks: u64,
+        slots: u64,
+    },
+    /// To play a script on an image file.
+    Run {
+        image: &'a str,
+        script: &'a str,
+    },
     /// To play a script on a simulated medium that holds an image.
     Sim {
-        /// The file of the image.
         image: &'a str,
-        /// The file of the script.
         script: &'a str,
     },
 }
 
-/// Reads the words after the program's name: `sim IMAGE SCRIPT`, and no file word begins with a
-/// hyphen.
+/// Reads the words after the program's name: `format IMAGE --blocks N --slots K`, `run IMAGE SCRIPT`
+/// or `sim IMAGE SCRIPT`. No file word begins with a hyphen.
 pub(crate) fn read_words<'a>(alloc: Global, words: &'a [&'a str]) -> Result<Task<'a>, Refusal>
     ensures spelled { IfOk result (SpellsTask (map (λ word. word.now) words.entry.now)) }
     ensures refused { IfErr result (λ refusal. (refusal ≡ Refusal.NoMemory)
@@ -31,17 +45,38 @@ pub(crate) fn read_words<'a>(alloc: Global, words: &'a [&'a str]) -> Result<Task
     exactly(words).ok_or(Refusal::Words)
 }
 
-// The command line, as a parser knows it. It also takes a hyphen alone for a file, and `--`.
+// The command line, as a parser knows it. It also takes a hyphen alone for a file, `--`, options in
+// any order, and any text for a number.
 fn parser<'a>(alloc: Global) -> Result<Command<'a>, AllocError>
     ensures { IfOk result (λ command. app_of command ≡ usbdisk_app) }
 {
-    let sim = Command::new(alloc, "sim")
-        .arg(Arg::new(alloc, "IMAGE").required(true))?
-        .arg(Arg::new(alloc, "SCRIPT").required(true))?;
     Command::new(alloc, "usbdisk")
         .no_binary_name(true)
         .subcommand_required(true)
-        .subcommand(sim)
+        .subcommand(format_parser(alloc)?)?
+        .subcommand(script_parser(alloc, "run")?)?
+        .subcommand(script_parser(alloc, "sim")?)
+}
+
+// `format IMAGE --blocks N --slots K`.
+fn format_parser<'a>(alloc: Global) -> Result<Command<'a>, AllocError>
+    ensures shape { IfOk result (λ command. app_of command ≡ format_app) }
+    ensures local { IfOk result (λ command. (out-Command command).has_globals ≡ false) }
+{
+    Command::new(alloc, "format")
+        .arg(Arg::new(alloc, "IMAGE").required(true))?
+        .arg(Arg::new(alloc, "blocks").long("blocks").required(true))?
+        .arg(Arg::new(alloc, "slots").long("slots").required(true))
+}
+
+// `run IMAGE SCRIPT` or `sim IMAGE SCRIPT`.
+fn script_parser<'a>(alloc: Global, verb: &'a str) -> Result<Command<'a>, AllocError>
+    ensures shape { IfOk result (λ command. app_of command ≡ script_app verb.entry.now) }
+    ensures local { IfOk result (λ command. (out-Command command).has_globals ≡ false) }
+{
+    Command::new(alloc, verb)
+        .arg(Arg::new(alloc, "IMAGE").required(true))?
+        .arg(Arg::new(alloc, "SCRIPT").required(true))
 }
 
 // What the words ask for, if they are exactly as shown.
@@ -49,14 +84,58 @@ fn exactly<'a>(words: &'a [&'a str]) -> Option<Task<'a>>
     ensures task { IfSome result (SpellsTask (map (λ word. word.now) words.entry.now)) }
     ensures none { IfNone result (IsCommandLine (map (λ word. word.now) words.entry.now) → ⊥) }
 {
-    let [command, image, script] = words else {
-        return None;
-    };
-    if *command == "sim" && is_file_word(image) && is_file_word(script) {
-        Some(Task::Sim { image, script })
-    } else {
-        None
+    match words {
+        [verb, image, script] => script_task(verb, image, script),
+        [verb, image, first, blocks, second, slots] => {
+            format_task(verb, image, first, blocks, second, slots)
+        }
+        _ => None,
     }
+}
+
+// What three words ask for.
+fn script_task<'a>(verb: &str, image: &'a str, script: &'a str) -> Option<Task<'a>>
+    ensures task { IfSome result
+        (SpellsTask (verb.now ∷ image.entry.now ∷ script.entry.now ∷ [])) }
+    ensures none { IfNone result
+        (IsCommandLine (verb.now ∷ image.entry.now ∷ script.entry.now ∷ []) → ⊥) }
+{
+    if !is_file_word(image) || !is_file_word(script) {
+        return None;
+    }
+    if verb == "run" {
+        return Some(Task::Run { image, script });
+    }
+    if verb == "sim" {
+        return Some(Task::Sim { image, script });
+    }
+    None
+}
+
+// What six words ask for.
+fn format_task<'a>(
+    verb: &str,
+    image: &'a str,
+    first: &str,
+    blocks: &str,
+    second: &str,
+    slots: &str,
+) -> Option<Task<'a>>
+    ensures task { IfSome result (SpellsTask (verb.now ∷ image.entry.now ∷ first.now
+        ∷ blocks.now ∷ second.now ∷ slots.now ∷ [])) }
+    ensures none { IfNone result (IsCommandLine (verb.now ∷ image.entry.now ∷ first.now
+        ∷ blocks.now ∷ second.now ∷ slots.now ∷ []) → ⊥) }
+{
+    if verb != "format" || first != "--blocks" || second != "--slots" || !is_file_word(image) {
+        return None;
+    }
+    let blocks = read_number(blocks.as_bytes(), 0, MOST)?;
+    let slots = read_number(slots.as_bytes(), 0, MOST)?;
+    Some(Task::Format {
+        image,
+        blocks,
+        slots,
+    })
 }
 
 // Whether a word may be that of a file.

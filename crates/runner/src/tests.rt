@@ -1,52 +1,112 @@
-use crate::{ScriptFault, command, sim_script};
+use crate::{ScriptFault, command, run_script, sim_script};
 use medium::SimMedium;
+use recovery::format;
 use std::alloc::Global;
-use std::io;
 use std::io::{ErrorKind, Read, Write};
 use std::test::Fail;
+use std::{env, fs, io, process};
 
-// READ(10) of one block, tag 4: the wrapper's digits before and after the address's last byte.
-const WRAPPER: &str = "out 55534243040000000002000080000a28000000000";
+// REQUEST SENSE, which ends the unit attention of a start, with its tokens.
+const SENSE: &str = "out 55534243010000001200000080000603000000120000000000000000000000\nin\nin\n";
 
-const WRAPPER_END: &str = "00000100000000000000\n";
+// What it answers first after a start.
+const ATTENTION: &str =
+    "ack\ndata 700006000000000a00000000290000000000\ndata 55534253010000000000000000\n";
 
-// Two blocks, the second all a5h.
-fn two_blocks(alloc: Global) -> Result<SimMedium, Fail> {
-    let mut image = vec![in alloc; 0; 512]?;
-    for _ in 0..512 {
-        image.push(0xa5)?;
-    }
-    Ok(SimMedium::new(alloc, image, 16)?)
+// READ(10) of block 3, with its tokens, and WRITE(10) of it: 512 bytes a5h.
+const READ: &str = "out 55534243020000000002000080000a28000000000300000100000000000000\nin\nin\n";
+
+const WRITE: &str =
+    "out 55534243030000000002000000000a2a080000000300000100000000000000\nfill a5 512\nin\n";
+
+// A formatted medium of 16 blocks and one log slot.
+fn formatted(alloc: Global) -> Result<SimMedium, Fail> {
+    let image = vec![in alloc; 0; 68 * 512]?;
+    let mut medium = SimMedium::new(alloc, image, 128)?;
+    format(&mut medium, 16, 1)?;
+    Ok(medium)
 }
 
-fn script_of(alloc: Global, block: char, rest: &str) -> Result<String, Fail> {
-    Ok(format!(in alloc; "{WRAPPER}{block}{WRAPPER_END}{rest}")?)
+// The answers that a READ of a block of this byte gives, in hex.
+fn block_of(alloc: Global, digits: &str) -> Result<String, Fail> {
+    let mut text = String::from_str(alloc, "ack\ndata ")?;
+    for _ in 0..512 {
+        text.push_str(digits)?;
+    }
+    text.push_str("\ndata 55534253020000000000000000\n")?;
+    Ok(text)
+}
+
+fn simulate(alloc: Global, script: &str) -> Result<Vec<u8>, Fail> {
+    let mut out = Vec::new(alloc);
+    match sim_script(alloc, formatted(alloc)?, &mut script.as_bytes(), &mut out) {
+        Ok(_) => Ok(out),
+        Err(_) => Err(Fail::from("the script was not played")),
+    }
 }
 
 #[test]
-fn reads_a_block(rt: HostRuntime) -> Result<(), Fail> {
+fn serves_what_was_written(rt: HostRuntime) -> Result<(), Fail> {
     let alloc = rt.alloc();
-    let script = script_of(alloc, '1', "# more is not taken\nout 00\n\nin\nin\nin")?;
-    let mut out = Vec::new(alloc);
-    let played = sim_script(alloc, two_blocks(alloc)?, &mut script.as_bytes(), &mut out);
-    assert!(rt; played.is_ok());
-    let mut expected = String::from_str(alloc, "ack\nnak\ndata ")?;
-    for _ in 0..512 {
-        expected.push_str("a5")?;
-    }
-    expected.push_str("\ndata 55534253040000000000000000\nnak\n")?;
-    assert_eq!(rt; out.as_slice(), expected.as_bytes());
+    let script = format!(in alloc;
+        "{SENSE}# a comment\n\n{WRITE}tick 3\n{READ}setup a1fe000000000100"
+    )?;
+    let block = block_of(alloc, "a5")?;
+    let block = block.as_str();
+    let expected = format!(in alloc;
+        "{ATTENTION}ack\nack\ndata 55534253030000000000000000\n{block}data 00\n"
+    )?;
+    assert_eq!(rt;
+        simulate(alloc, script.as_str())?.as_slice(),
+        expected.as_bytes()
+    );
     Ok(())
 }
 
 #[test]
-fn answers_stall_where_the_exchange_is_not_served(rt: HostRuntime) -> Result<(), Fail> {
+fn loses_power_in_a_start_by_a_fuse(rt: HostRuntime) -> Result<(), Fail> {
     let alloc = rt.alloc();
-    let script = script_of(alloc, '2', "in\nout\n")?;
-    let mut out = Vec::new(alloc);
-    let played = sim_script(alloc, two_blocks(alloc)?, &mut script.as_bytes(), &mut out);
-    assert!(rt; played.is_ok());
-    assert_eq!(rt; out.as_slice(), b"ack\nstall\nstall\n".as_slice());
+    for fuse in 0..4 {
+        let script = format!(in alloc; "fuse {fuse}\nin\ntick 2\nfill 00 513\n")?;
+        assert_eq!(rt;
+            simulate(alloc, script.as_str())?.as_slice(),
+            b"off\noff\noff\n".as_slice()
+        );
+    }
+    assert_eq!(rt;
+        simulate(alloc, "fuse 4\nin\n")?.as_slice(),
+        b"nak\n".as_slice()
+    );
+    let script = format!(in alloc; "fuse 3\nin\ncut none\n{SENSE}{READ}")?;
+    let block = block_of(alloc, "00")?;
+    let block = block.as_str();
+    let expected = format!(in alloc; "off\n{ATTENTION}{block}")?;
+    assert_eq!(rt;
+        simulate(alloc, script.as_str())?.as_slice(),
+        expected.as_bytes()
+    );
+    Ok(())
+}
+
+#[test]
+fn keeps_what_a_cut_names(rt: HostRuntime) -> Result<(), Fail> {
+    let alloc = rt.alloc();
+    // Descriptor, data place, flush, commit: the record is whole only where the commit is kept.
+    for (kept, digits) in [
+        ("none", "00"),
+        ("all", "a5"),
+        ("0 7 16383", "a5"),
+        ("1 2 3", "00"),
+    ] {
+        let script = format!(in alloc; "{SENSE}fuse 4\n{WRITE}cut {kept}\n{SENSE}{READ}")?;
+        let block = block_of(alloc, digits)?;
+        let block = block.as_str();
+        let expected = format!(in alloc; "{ATTENTION}ack\noff\noff\n{ATTENTION}{block}")?;
+        assert_eq!(rt;
+            simulate(alloc, script.as_str())?.as_slice(),
+            expected.as_bytes()
+        );
+    }
     Ok(())
 }
 
@@ -57,35 +117,57 @@ fn refuses_a_script_by_its_first_bad_line(rt: HostRuntime) -> Result<(), Fail> {
         ("in\nout 5", 2),
         ("\n# \n\nout \n", 4),
         ("in\r\n", 1),
-        ("IN", 1),
         ("in\nOut 00\nin 1\n", 2),
-        ("setup 21ff000000000000", 1),
         ("out 0g", 1),
+        ("fill 00 0", 1),
+        ("fill 00 131073", 1),
+        ("fill 0 1", 1),
+        ("setup 21ff00000000", 1),
+        ("tick 0", 1),
+        ("tick 01", 1),
+        ("tick +1", 1),
+        ("tick 1000001", 1),
+        ("fuse 1000000001", 1),
+        ("cut", 1),
+        ("cut none all", 1),
+        ("cut 0  1", 1),
+        ("cut 16384", 1),
     ];
     for (script, number) in scripts {
         let mut out = Vec::new(alloc);
-        let refused = sim_script(alloc, two_blocks(alloc)?, &mut script.as_bytes(), &mut out);
+        let refused = sim_script(alloc, formatted(alloc)?, &mut script.as_bytes(), &mut out);
         let Err(error) = refused else {
             return Err(Fail::from("a bad line was taken"));
         };
         assert_eq!(rt; error.fault, ScriptFault::Line(number));
         assert!(rt; out.is_empty());
     }
+    for script in ["fuse 1", "cut none", "cut 0"] {
+        let mut out = Vec::new(alloc);
+        let refused = run_script(alloc, formatted(alloc)?, &mut script.as_bytes(), &mut out);
+        let Err(error) = refused else {
+            return Err(Fail::from("a line that moves the power was taken"));
+        };
+        assert_eq!(rt; error.fault, ScriptFault::Line(1));
+    }
     Ok(())
 }
 
 #[test]
-fn takes_a_packet_of_512_bytes_and_none_of_513(rt: HostRuntime) -> Result<(), Fail> {
+fn takes_the_limits_of_a_line(rt: HostRuntime) -> Result<(), Fail> {
     let alloc = rt.alloc();
-    for (bytes, taken) in [(512, true), (513, false)] {
-        let mut script = String::from_str(alloc, "out ")?;
-        for _ in 0..bytes {
-            script.push_str("eF")?;
-        }
-        let mut out = Vec::new(alloc);
-        let played = sim_script(alloc, two_blocks(alloc)?, &mut script.as_bytes(), &mut out);
-        assert_eq!(rt; played.is_ok(), taken);
+    let mut script = String::from_str(alloc, "fuse 1000000000\ncut 16383")?;
+    for _ in 1..64 {
+        script.push_str(" 0")?;
     }
+    script.push_str("\nfill eF 131072\ntick 1000\nout ")?;
+    for _ in 0..512 {
+        script.push_str("eF")?;
+    }
+    let out = simulate(alloc, script.as_str())?;
+    // The first packet spells no command wrapper, and the endpoint is halted from then on.
+    assert_eq!(rt; out.len(), 4 + 256 * 6);
+    assert!(rt; out.starts_with(b"ack\nstall\n"));
     Ok(())
 }
 
@@ -94,10 +176,10 @@ fn takes_a_script_at_the_limit_and_none_over_it(rt: HostRuntime) -> Result<(), F
     let alloc = rt.alloc();
     let mut script = vec![in alloc; b'\n'; 1_048_576]?;
     let mut out = Vec::new(alloc);
-    let played = sim_script(alloc, two_blocks(alloc)?, &mut script.as_slice(), &mut out);
+    let played = sim_script(alloc, formatted(alloc)?, &mut script.as_slice(), &mut out);
     assert!(rt; played.is_ok());
     script.push(b'x')?;
-    let refused = sim_script(alloc, two_blocks(alloc)?, &mut script.as_slice(), &mut out);
+    let refused = sim_script(alloc, formatted(alloc)?, &mut script.as_slice(), &mut out);
     let Err(error) = refused else {
         return Err(Fail::from("a longer script was taken"));
     };
@@ -106,21 +188,22 @@ fn takes_a_script_at_the_limit_and_none_over_it(rt: HostRuntime) -> Result<(), F
     Ok(())
 }
 
-// Takes so many writes, and then fails.
+// Takes so many bytes, and then fails.
 #[derive(Drop)]
 struct FailingWriter {
-    left: u8,
+    left: usize,
     bytes: Vec<u8>,
 }
 
 impl Write for FailingWriter {
     fn write(&mut self, buf: &[u8]) -> io::Result<usize> {
-        if self.left == 0 {
+        let count = buf.len().min(self.left);
+        if count == 0 {
             return Err(io::Error::from(ErrorKind::BrokenPipe));
         }
-        self.left -= 1;
-        self.bytes.extend_from_slice(buf)?;
-        Ok(buf.len())
+        self.bytes.extend_from_slice(&buf[..count])?;
+        self.left -= count;
+        Ok(count)
     }
 
     fn flush(&mut self) -> io::Result<()> {
@@ -132,16 +215,16 @@ impl Write for FailingWriter {
 fn ends_where_the_writer_fails(rt: HostRuntime) -> Result<(), Fail> {
     let alloc = rt.alloc();
     let mut out = FailingWriter {
-        left: 2,
+        left: 6,
         bytes: Vec::new(alloc),
     };
     let script = b"in\nin\nin\nin\n";
-    let refused = sim_script(alloc, two_blocks(alloc)?, &mut script.as_slice(), &mut out);
+    let refused = run_script(alloc, formatted(alloc)?, &mut script.as_slice(), &mut out);
     let Err(error) = refused else {
         return Err(Fail::from("a failed write was missed"));
     };
     assert_eq!(rt; error.fault, ScriptFault::Writer);
-    assert_eq!(rt; out.bytes.as_slice(), b"nak\nnak\n".as_slice());
+    assert_eq!(rt; out.bytes.as_slice(), b"nak\nna".as_slice());
     Ok(())
 }
 
@@ -157,9 +240,7 @@ impl Read for FailingReader {
             return Err(io::Error::from(ErrorKind::UnexpectedEof));
         }
         self.left -= 1;
-        buf[0] = b'i';
-        buf[1] = b'n';
-        buf[2] = b'\n';
+        buf[..3].copy_from_slice(b"in\n");
         Ok(3)
     }
 }
@@ -169,7 +250,7 @@ fn plays_nothing_where_the_reader_fails(rt: HostRuntime) -> Result<(), Fail> {
     let alloc = rt.alloc();
     let mut out = Vec::new(alloc);
     let mut script = FailingReader { left: 2 };
-    let refused = sim_script(alloc, two_blocks(alloc)?, &mut script, &mut out);
+    let refused = sim_script(alloc, formatted(alloc)?, &mut script, &mut out);
     let Err(error) = refused else {
         return Err(Fail::from("a failed read was missed"));
     };
@@ -178,24 +259,39 @@ fn plays_nothing_where_the_reader_fails(rt: HostRuntime) -> Result<(), Fail> {
     Ok(())
 }
 
+// What the program did: its status and what it wrote.
+fn told(rt: &HostRuntime, words: &[&str]) -> Result<(u8, Vec<u8>, Vec<u8>), Fail> {
+    let mut out = Vec::new(rt.alloc());
+    let mut err = Vec::new(rt.alloc());
+    let status = command(rt, words, &mut out, &mut err);
+    Ok((status, out, err))
+}
+
+// A path of this name that no other process has.
+fn path_of(rt: &HostRuntime, name: &str) -> Result<String, Fail> {
+    let folder = env::temp_dir(rt)?;
+    let number = process::id(rt.process());
+    Ok(format!(in rt.alloc(); "{}/runner-{number}-{name}", folder.display())?)
+}
+
 #[test]
 fn refuses_other_words(rt: HostRuntime) -> Result<(), Fail> {
-    let alloc = rt.alloc();
-    let lines: [&[&str]; 9] = [
+    let lines: [&[&str]; 12] = [
         &[],
         &["sim"],
         &["sim", "a"],
         &["sim", "a", "b", "c"],
-        &["sim", "-a", "b"],
+        &["run", "-a", "b"],
         &["sim", "--", "a", "b"],
-        &["help"],
         &["--help"],
-        &["run", "a", "b"],
+        &["format", "a", "--slots", "8", "--blocks", "10"],
+        &["format", "a", "--blocks", "010", "--slots", "8"],
+        &["format", "a", "--blocks", "4294967296", "--slots", "8"],
+        &["format", "a", "--blocks=10", "--slots=8"],
+        &["format", "-a", "--blocks", "10", "--slots", "8"],
     ];
     for words in lines {
-        let mut out = Vec::new(alloc);
-        let mut err = Vec::new(alloc);
-        let status = command(&rt, words, &mut out, &mut err);
+        let (status, out, err) = told(&rt, words)?;
         assert_eq!(rt; status, 2);
         assert!(rt; out.is_empty());
         assert_eq!(rt; err.as_slice(), b"bad command line\n".as_slice());
@@ -204,18 +300,96 @@ fn refuses_other_words(rt: HostRuntime) -> Result<(), Fail> {
 }
 
 #[test]
-fn tells_a_file_that_is_not_there(rt: HostRuntime) -> Result<(), Fail> {
+fn makes_images_up_to_the_limit(rt: HostRuntime) -> Result<(), Fail> {
+    let image = path_of(&rt, "limit")?;
+    let image = image.as_str();
+    fs::write(&rt, image, "kept")?;
+    for blocks in ["65335", "0", "4294967295"] {
+        let (status, out, err) = told(&rt, &["format", image, "--blocks", blocks, "--slots", "4"])?;
+        assert_eq!(rt; status, 3);
+        assert!(rt; out.is_empty());
+        assert_eq!(rt; err.as_slice(), b"image refused: size\n".as_slice());
+    }
+    assert_eq!(rt; fs::read(&rt, image)?.as_slice(), b"kept".as_slice());
+    let (status, out, _) = told(&rt, &["format", image, "--blocks", "65334", "--slots", "4"])?;
+    assert_eq!(rt; status, 0);
+    assert_eq!(rt; out.as_slice(), b"formatted\n".as_slice());
+    assert_eq!(rt; fs::metadata(&rt, image)?.len(), 65_536 * 512);
+    fs::remove_file(&rt, image)?;
+    Ok(())
+}
+
+#[test]
+fn runs_twice_on_one_file(rt: HostRuntime) -> Result<(), Fail> {
     let alloc = rt.alloc();
-    let mut out = Vec::new(alloc);
-    let mut err = Vec::new(alloc);
-    let status = command(
-        &rt,
-        &["sim", "no/such/image", "no/such/script"],
-        &mut out,
-        &mut err,
-    );
+    let image = path_of(&rt, "image")?;
+    let script = path_of(&rt, "script")?;
+    let (image, script) = (image.as_str(), script.as_str());
+    let (status, _, _) = told(&rt, &["format", image, "--blocks", "16", "--slots", "1"])?;
+    assert_eq!(rt; status, 0);
+    fs::write(&rt, script, format!(in alloc; "{SENSE}{WRITE}")?.as_str())?;
+    let (status, out, _) = told(&rt, &["run", image, script])?;
+    assert_eq!(rt; status, 0);
+    let expected = format!(in alloc; "{ATTENTION}ack\nack\ndata 55534253030000000000000000\n")?;
+    assert_eq!(rt; out.as_slice(), expected.as_bytes());
+    fs::write(&rt, script, format!(in alloc; "{SENSE}{READ}")?.as_str())?;
+    let (status, out, _) = told(&rt, &["run", image, script])?;
+    assert_eq!(rt; status, 0);
+    let block = block_of(alloc, "a5")?;
+    let block = block.as_str();
+    let expected = format!(in alloc; "{ATTENTION}{block}")?;
+    assert_eq!(rt; out.as_slice(), expected.as_bytes());
+    fs::remove_file(&rt, script)?;
+    fs::remove_file(&rt, image)?;
+    Ok(())
+}
+
+#[test]
+fn tells_why_an_image_is_refused(rt: HostRuntime) -> Result<(), Fail> {
+    let alloc = rt.alloc();
+    let image = path_of(&rt, "refused")?;
+    let script = path_of(&rt, "events")?;
+    let (image, script) = (image.as_str(), script.as_str());
+    fs::write(&rt, script, "in\n")?;
+    let (status, _, _) = told(&rt, &["format", image, "--blocks", "16", "--slots", "1"])?;
+    assert_eq!(rt; status, 0);
+    let sound = fs::read(&rt, image)?;
+    // Sector 0 all zeros; version 3; the last stamp in the head.
+    let faults: [(usize, &[u8], &str); 3] = [
+        (0, &[0; 512], "image refused: 5\n"),
+        (8, &[3], "image refused: 6\n"),
+        (
+            520,
+            &[0xff, 0xff, 0xff, 0xff, 0xff, 0xff, 0xff, 0x7f],
+            "image refused: 9\n",
+        ),
+    ];
+    for (at, bytes, expected) in faults {
+        let mut faulty = Vec::from_slice(alloc, sound.as_slice())?;
+        for (i, byte) in bytes.iter().enumerate() {
+            if at + i < faulty.len() {
+                faulty[at + i] = *byte;
+            }
+        }
+        fs::write(&rt, image, faulty.as_slice())?;
+        let (status, out, err) = told(&rt, &["sim", image, script])?;
+        assert_eq!(rt; status, 3);
+        assert!(rt; out.is_empty());
+        assert_eq!(rt; err.as_slice(), expected.as_bytes());
+    }
+    fs::write(&rt, image, "short")?;
+    for verb in ["run", "sim"] {
+        let (status, _, err) = told(&rt, &[verb, image, script])?;
+        assert_eq!(rt; status, 3);
+        assert_eq!(rt; err.as_slice(), b"image refused: length\n".as_slice());
+    }
+    fs::remove_file(&rt, script)?;
+    let (status, _, err) = told(&rt, &["sim", image, script])?;
+    assert_eq!(rt; status, 3);
+    assert_eq!(rt; err.as_slice(), b"image refused: length\n".as_slice());
+    fs::remove_file(&rt, image)?;
+    let (status, _, err) = told(&rt, &["run", image, script])?;
     assert_eq!(rt; status, 4);
-    assert!(rt; out.is_empty());
     assert_eq!(rt; err.as_slice(), b"file failed\n".as_slice());
     Ok(())
 }

@@ -1,8 +1,8 @@
 ghost use Rattle.std.specs.Prelude.{◌≡◌, ◌≤◌, ◌++◌, length};
-ghost use Rattle.runner.specs.Text.{line_of, data_line};
+ghost use Rattle.runner.specs.Text.{line_of, line_for, data_line};
 
 use arrayvec::ArrayVec;
-use bot_machine::Answer;
+use bot_machine::{Answer, Event};
 
 /// The bytes of the longest line: `data `, the digits of 512 bytes, and a line feed.
 pub const LONGEST_LINE: usize = 1030;
@@ -10,8 +10,18 @@ pub const LONGEST_LINE: usize = 1030;
 /// A line of text with its line feed, or nothing.
 pub type TextLine = ArrayVec<u8, LONGEST_LINE>;
 
-/// The line that tells an answer. A step in the background has none.
-pub fn answer_line(answer: &Answer) -> TextLine
+/// What is written for an event: the line of its answer, or nothing for a step in the background.
+pub fn event_line(event: &Event, answer: &Answer) -> TextLine
+    ensures { result.items ≡ line_for event.now answer.now }
+{
+    match event {
+        Event::Tick => ArrayVec::new(),
+        _ => answer_line(answer),
+    }
+}
+
+// The line that tells an answer.
+fn answer_line(answer: &Answer) -> TextLine
     ensures { result.items ≡ line_of answer.now }
 {
     match answer {

@@ -1,30 +1,20 @@
 use Rattle.std.proofs.Common.{◌++◌, ◌∷◌, [], length, take, refl, sym, ap, ◌∙◌, arith, append_assoc, length-append}
 use Rattle.std.proofs.lemmas.List.{take_more, append-nil}
-use Rattle.medium.proofs.Moments.{quiet_start}
 use Rattle.bot_machine.specs.Answers.{Room}
-use Rattle.bot_machine.proofs.Runs.{IsRun-more}
+use Rattle.bot_machine.proofs.Runs.{IsRun-more, no_run}
 use Rattle.bot_machine.proofs.run.run_events.Goals as goal
 
 pub loop-event-init : goal.loop-event-init
 loop-event-init g c =
-    let m = g.M.Medium.state c.args.disk.now.medium in
+    let m = g.M.Medium.state c.args.disk.now.unit.store.medium in
     record {
       run = (
         [],
         ap (λ told. record c.args.answers.now { list = told }) (sym (append-nil
             c.args.answers.now.list)),
-        record {
-          refusals = [];
-          refused = omega arith;
-          run = λ array holds. refl;
-          turns = λ none
-              array holds. tt;
-          quiet = quiet_start m;
-          identity = refl;
-        },
+        no_run m c.args.disk.now (g.met.M.Medium.sound c.args.disk.now.unit.store.medium),
       );
-      calls = omega arith;
-      follows = g.met.M.Medium.follows_itself c.args.disk.now.medium;
+      follows = g.met.M.Medium.follows_itself c.args.disk.now.unit.store.medium;
       count = omega arith;
       room = refl;
     }
@@ -57,12 +47,11 @@ loop-event-preserved g c =
         c.push.ensures ∙ ap (λ (x : Room). record x { list = x.list ++ answer ∷ [] }) so_far.1
             ∙ ap (λ told. record first { list = told }) (append_assoc first.list so_far.0
             (answer ∷ [])),
-        rw e (IsRun-more (state old.medium) (state mid.medium) (state new.medium) old mid new
+        rw e (IsRun-more (state old.unit.store.medium) (state mid.unit.store.medium) (state new.unit.store.medium) old mid new
             (take i events) so_far.0
             c.event-item.result answer so_far.2 c.answer_to.ensures.step),
       );
-      calls = omega (arith, c.loop-event.invariant.calls, c.answer_to.ensures.calls);
-      follows = g.met.M.Medium.follows_through old.medium mid.medium new.medium
+      follows = g.met.M.Medium.follows_through old.unit.store.medium mid.unit.store.medium new.unit.store.medium
           c.loop-event.invariant.follows c.answer_to.ensures.follows;
       count = omega (
         arith,

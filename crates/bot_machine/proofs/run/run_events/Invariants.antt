@@ -1,4 +1,4 @@
-use Rattle.std.proofs.Common.{◌≡◌, ◌++◌, ◌+◌, ◌≤◌, List, take, length}
+use Rattle.std.proofs.Common.{◌≡◌, ◌++◌, ◌+◌, List, take, length}
 use Rattle.bot_machine.specs.declared.event.Answer.{Answer}
 use Rattle.bot_machine.specs.Disk.{IsRun}
 use Rattle.bot_machine.proofs.run.run_events.Given as goal
@@ -12,10 +12,9 @@ invariant-loop-event g l =
         list = l.fn.answers.list ++
             told;
       })
-          × IsRun (medium.state old.medium) (medium.state l.disk.medium) old
+          × IsRun (medium.state old.unit.store.medium) (medium.state l.disk.unit.store.medium) old
           (take l.event-index l.events) told l.disk;
-      calls : (medium.state l.disk.medium).calls ≤ (medium.state old.medium).calls + l.event-index;
-      follows : medium.follows old.medium l.disk.medium;
+      follows : medium.follows old.unit.store.medium l.disk.unit.store.medium;
       count : length l.answers.list ≡ length l.fn.answers.list + l.event-index;
       room : l.answers.room ≡ l.fn.answers.room;
     }

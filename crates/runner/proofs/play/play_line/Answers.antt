@@ -1,23 +1,74 @@
-use Rattle.std.proofs.Common.{◌∷◌, [], ◌∙◌}
-use Rattle.runner.specs.Text.{line_of}
-use Rattle.runner.proofs.Runs.{tells-none, tells-one}
-use Rattle.runner.proofs.Known.{Appends-none}
+use Rattle.std.proofs.Common.{◌≡◌, ◌∷◌, [], ◌++◌, ◌∙◌, ap, sym, refl, append_assoc}
+use Rattle.runner.specs.Events.{events_of}
+use Rattle.runner.specs.Text.{line_for}
+use Rattle.runner.proofs.Known.{Appends-none, Appends-more, AppendsSome-more}
+use Rattle.runner.proofs.Options.{on_err_too}
+use Rattle.runner.proofs.Runs.{tells-none, tells-one, tells-more}
 use Rattle.runner.proofs.play.play_line.Goals as goal
 
-pub returns-in-Skipped : goal.returns-in-Skipped
-returns-in-Skipped g c =
-    let is = c.in-Skipped.ensures in
-    let plays = rw is at c.read_line.ensures.plays in
-    ([], [], plays, tells-none g.M.Medium.state c.args.disk.now, Appends-none (g.W.Write.contents c.args.out.now))
+pub loop-event-init : goal.loop-event-init
+loop-event-init g c =
+    let spelled = rw c.unwrap-event-items.ensures at c.read_line.ensures.spelled in
+    record {
+      asked = (
+        c.unwrap-event-items.result,
+        spelled.0,
+        spelled.1,
+        (
+          [],
+          [],
+          ap events_of (sym c.into_iter-event-iterator.ensures.into_iter_gives),
+          tells-none g.M.Medium.state c.args.disk.now,
+          Appends-none (g.W.Write.contents c.args.out.now),
+        ),
+      );
+    }
 
-pub returns-in-Event : goal.returns-in-Event
-returns-in-Event g c =
-    let is = c.in-Event.ensures in
-    let plays = rw is at c.read_line.ensures.plays in
-    let answer = c.answer_to-answer.result in (
-      c.in-Event.event ∷ [],
-      line_of answer,
-      plays,
-      tells-one g.M.Medium.state c.args.disk.now c.answer_to-answer.new.disk c.in-Event.event answer c.answer_to-answer.ensures.step,
-      rw (c.as_slice.ensures.value ∙ c.answer_line.ensures) at c.write_all.ensures.bytes,
+pub loop-event-preserved : goal.loop-event-preserved
+loop-event-preserved g c =
+    let state = g.M.Medium.state in
+    let contents = g.W.Write.contents in
+    let asked = c.loop-event.invariant.asked in
+    let so = asked.3 in
+    let event = c.in-Some.event in
+    let answer = c.answer_to-answer.result in
+    record {
+      asked = (
+        asked.0,
+        asked.1,
+        asked.2,
+        (
+          so.0 ++ event ∷ [],
+          so.1 ++ line_for event answer,
+          so.2 ∙ ap (λ l. so.0 ++ l) c.in-Some.ensures.steps ∙ sym (append_assoc so.0 (event ∷ []) (events_of c.next.new.self)),
+          tells-more state c.args.disk.now c.loop-event.disk c.answer_to-answer.new.disk so.0 (event ∷ []) so.1 (line_for event answer) so.3
+              (tells-one state c.loop-event.disk c.answer_to-answer.new.disk event answer c.answer_to-answer.ensures.step),
+          Appends-more (contents c.args.out.now) (contents c.loop-event.out) (contents c.write_out.new.out) so.1 (line_for event answer) so.4
+              (rw (c.as_slice.ensures.value ∙ c.event_line.ensures) at c.in_ok-write_out.ensures.ok),
+        ),
+      );
+    }
+
+pub returns-in_err-write_out-clause-cut_short : goal.returns-in_err-write_out-clause-cut_short
+returns-in_err-write_out-clause-cut_short g c =
+    let state = g.M.Medium.state in
+    let contents = g.W.Write.contents in
+    let asked = c.loop-event.invariant.asked in
+    let so = asked.3 in
+    let event = c.in-Some.event in
+    let answer = c.answer_to-answer.result in
+    on_err_too c.from_residual.result (
+      so.0 ++ event ∷ [],
+      events_of c.next.new.self,
+      so.1 ++ line_for event answer,
+      record {
+        asked = asked.0;
+        spelled = asked.1;
+        allowed = asked.2;
+        events_are = append_assoc so.0 (event ∷ []) (events_of c.next.new.self) ∙ ap (λ l. so.0 ++ l) (sym c.in-Some.ensures.steps) ∙ sym so.2;
+      },
+      tells-more state c.args.disk.now c.loop-event.disk c.answer_to-answer.new.disk so.0 (event ∷ []) so.1 (line_for event answer) so.3
+          (tells-one state c.loop-event.disk c.answer_to-answer.new.disk event answer c.answer_to-answer.ensures.step),
+      AppendsSome-more (contents c.args.out.now) (contents c.loop-event.out) (contents c.write_out.new.out) so.1 (line_for event answer) so.4
+          (rw (c.as_slice.ensures.value ∙ c.event_line.ensures) at c.in_err-write_out.ensures.err),
     )

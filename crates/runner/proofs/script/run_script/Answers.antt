@@ -1,10 +1,40 @@
 use Rattle.std.proofs.Common.{◌∙◌, sym}
-use Rattle.runner.proofs.Playing.{played-nothing}
+use Rattle.std.proofs.KnownBytes.{Keeps-refl}
+use Rattle.runner.proofs.OneLife.{is_played, is_cut_short}
+use Rattle.runner.proofs.Options.{if_ok, if_err}
 use Rattle.runner.proofs.script.run_script.Goals as goal
 
-pub returns-in-Ok-eq0-clause-played : goal.returns-in-Ok-eq0-clause-played
-returns-in-Ok-eq0-clause-played g c =
-    let good = c.in-Ok-eq0.ensures.events in
-    played-nothing g.M.Medium.state (g.R.Read.remaining c.args.script.now) (g.W.Write.contents c.args.out.now) c.args.medium
-    c.in-Ok.script.items good.0 (record { all = c.in-Ok.ensures.all; fits = c.in-Ok.ensures.fits })
-    (rw c.as_slice.ensures.value at good.1) (sym good.2 ∙ c.in-Ok-eq0.field-0-test)
+pub play-requires : goal.play-requires
+play-requires g c = rw (c.as_slice.ensures.value ∙ sym c.as_slice-in-Ok-start.ensures.value) at c.in-Ok-check_script.ensures.good
+
+pub returns-in-Ok-start-clause-played : goal.returns-in-Ok-start-clause-played
+returns-in-Ok-start-clause-played g c =
+    let contents = g.W.Write.contents in
+    let same = sym c.as_slice-in-Ok-start.ensures.value in
+    if_ok c.play.result
+    (is_played g.M.Medium.state (g.R.Read.remaining c.args.script.now) (contents c.args.out.now) (contents c.play.new.out) c.args.medium
+    c.as_slice-in-Ok-start.result.now (record { all = rw same at c.in-Ok.ensures.all; fits = rw same at c.in-Ok.ensures.fits })
+    c.disk_identity.result c.disk_identity.ensures c.in-Ok-start.disk c.in-Ok-start.ensures.ok c.in-Ok-start.ensures.leaves)
+    c.play.ensures.played
+
+pub returns-in-Ok-start-clause-refused : goal.returns-in-Ok-start-clause-refused
+returns-in-Ok-start-clause-refused g c =
+    let contents = g.W.Write.contents in
+    let same = sym c.as_slice-in-Ok-start.ensures.value in
+    if_err c.play.result
+    (is_cut_short g.M.Medium.state (g.R.Read.remaining c.args.script.now) (contents c.args.out.now) (contents c.play.new.out) c.args.medium
+    c.as_slice-in-Ok-start.result.now (record { all = rw same at c.in-Ok.ensures.all; fits = rw same at c.in-Ok.ensures.fits })
+    c.disk_identity.result c.disk_identity.ensures c.in-Ok-start.disk c.in-Ok-start.ensures.ok c.in-Ok-start.ensures.leaves)
+    c.play.ensures.cut_short
+
+pub returns-clause-refused : goal.returns-clause-refused
+returns-clause-refused g c =
+    let same = sym c.as_slice.ensures.value in
+    record {
+      script = c.as_slice.result.now;
+      read = record { all = rw same at c.in-Ok.ensures.all; fits = rw same at c.in-Ok.ensures.fits };
+      good = c.in-Ok-check_script.ensures.good;
+      refused = c.in-Err-start.ensures.err;
+      leaves = c.in-Err-start.ensures.leaves;
+      kept = Keeps-refl (g.W.Write.contents c.args.out.now);
+    }

@@ -1,7 +1,7 @@
 use Rattle.std.proofs.Common.{◌≡◌, ◌∙◌, ap, map}
 use Rattle.clap.specs.Words.{App, kind_of, takes}
 use Rattle.runner.specs.Status.{refusal_of_kind}
-use Rattle.runner.proofs.Words.{refused-by, if-err}
+use Rattle.runner.proofs.Taken.{refused-by, if-err}
 use Rattle.runner.proofs.task.read_words.Goals as goal
 
 pub returns-in_err-try_get_matches_from-clause-refused : goal.returns-in_err-try_get_matches_from-clause-refused

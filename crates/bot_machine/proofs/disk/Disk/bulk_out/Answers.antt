@@ -1,5 +1,42 @@
+use Rattle.std.proofs.Common.{rules, ◌∙◌, sym, ap}
+use Rattle.std.proofs.lemmas.List.{with_items_is, places}
+use Rattle.bot_machine.specs.Refinement.{left_of, taking_of}
+use Rattle.bot_machine.proofs.Stepping.{stalled, not_ready, begins, goes_on, sends}
 use Rattle.bot_machine.proofs.disk.Disk.bulk_out.Goals as goal
 
-pub returns-in-Command-clause-reads : goal.returns-in-Command-clause-reads
-returns-in-Command-clause-reads g c = rw (← c.self.view_is) (λ begins. c.open.ensures.reads
-    begins.read)
+pub returns-then-self-clause-step : goal.returns-then-self-clause-step
+returns-then-self-clause-step g c =
+    rw (← c.self.view_is) (stalled _ _ c.args.packet.now (g.met.M.Medium.sound c.self.inside.unit.store.medium) (sym c.if-self.true))
+
+pub returns-in-Command-clause-step : goal.returns-in-Command-clause-step
+returns-in-Command-clause-step g c =
+    let d = c.self.inside in
+    let left = ap (λ p. left_of p d.taken.items d.staging.items d.wire.status) c.in-Command.ensures.value in
+    let opens = rw (c.in-Command.ensures.after ∙ c.in-Command.ensures.value, c.deref_mut.ensures.value)
+    at (c.open.ensures.opens d.taken.items) in
+    rw (← c.self.view_is, with_items_is d.staging c.open.new.staging (search (rules, places)))
+    (begins _ _ _ _ c.args.packet.now (sym c.if-self.false) left opens c.open.ensures.rests c.open.ensures.spares c.open.ensures.elapses)
+
+pub returns-in-DataOut-clause-step : goal.returns-in-DataOut-clause-step
+returns-in-DataOut-clause-step g c =
+    let d = c.self.inside in
+    let left = ap (λ p. left_of p d.taken.items d.staging.items d.wire.status) c.in-DataOut.ensures.value in
+    let taken = c.deref_mut-in-DataOut.ensures.value in
+    rw (
+      ← c.self.view_is,
+      with_items_is d.taken c.take_data.new.taken (search (rules, places)),
+      with_items_is d.staging c.take_data.new.staging (search (rules, places)),
+    )
+    (goes_on _ _ _ _ c.args.packet.now c.in-DataOut.data c.deref_mut-in-DataOut.result.now (sym c.if-self.false)
+    (ap (λ came. taking_of c.in-DataOut.data came) taken ∙ left)
+    (c.take_data.ensures.takes (left_of d.wire.phase d.taken.items d.staging.items d.wire.status))
+    c.take_data.ensures.rests c.take_data.ensures.spares c.take_data.ensures.elapses)
+
+pub returns-in_default-clause-step : goal.returns-in_default-clause-step
+returns-in_default-clause-step g c =
+    let d = c.self.inside in
+    let same = c.replace.ensures.value in
+    let sent = sends d.wire.phase (λ e. c.in_default.not-Command (same ∙ e)) (λ t e. c.in_default.not-DataOut t (same ∙ e))
+    d.taken.items d.staging.items d.wire.status in
+    rw (← c.self.view_is, same)
+    (not_ready _ _ c.args.packet.now sent.0 sent.1 d.wire.status (g.met.M.Medium.sound d.unit.store.medium) (sym c.if-self.false) sent.2)

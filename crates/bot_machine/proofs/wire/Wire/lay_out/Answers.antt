@@ -1,12 +1,18 @@
-use Rattle.std.proofs.Common.{◌≡◌, length, ap, sym, arith}
-use Rattle.std.specs.Prelude.{None}
-use Rattle.bot_machine.specs.Exchange.{laid_out}
+use Rattle.std.proofs.Common.{arith}
 use Rattle.bot_machine.specs.Refinement.{line_with}
-use Rattle.bot_machine.proofs.Packets.{packets_of-one}
+use Rattle.bot_machine.proofs.Sending.{laid_out-front, laid_out-none}
 use Rattle.bot_machine.proofs.wire.Wire.lay_out.Goals as goal
 
-pub returns : goal.returns
-returns c = λ left.
-    let whole : length c.args.self.now.block ≡ 512 = omega arith in
-    sym (ap (λ packets. laid_out packets None c.args.status (line_with c.args.self.now left))
-    (packets_of-one c.args.self.now.block whole))
+pub returns-then-size-gt0-clause-line : goal.returns-then-size-gt0-clause-line
+returns-then-size-gt0-clause-line c = λ taken staging left room.
+    laid_out-front staging c.args.size c.args.halt c.is_some_halt.result c.args.status (line_with c.args.self.now left)
+    c.if-size-gt0.true (omega arith) c.is_some_halt.ensures
+
+pub returns-in-Some-clause-line : goal.returns-in-Some-clause-line
+returns-in-Some-clause-line c = λ taken staging left room.
+    rw (laid_out-none staging c.args.size c.args.halt c.args.status (line_with c.args.self.now left) c.if-size-gt0.false, c.in-Some.is)
+    (c.halt.ensures.line taken staging)
+
+pub returns-in_default-clause-line : goal.returns-in_default-clause-line
+returns-in_default-clause-line c = λ taken staging left room.
+    rw (laid_out-none staging c.args.size c.args.halt c.args.status (line_with c.args.self.now left) c.if-size-gt0.false, c.in_default.is)

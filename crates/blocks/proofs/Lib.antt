@@ -1,0 +1,7 @@
+pub mod Fitting
+pub mod Turning
+pub mod Stepping
+pub mod Batches
+pub mod Paying
+pub mod Starting
+pub mod Reading

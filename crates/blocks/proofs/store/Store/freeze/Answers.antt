@@ -1,0 +1,8 @@
+use Rattle.blocks.proofs.Stepping.{freezes_active}
+use Rattle.blocks.proofs.store.Store.freeze.Goals as goal
+
+pub returns-clause-turn : goal.returns-clause-turn
+returns-clause-turn g c =
+    let m = c.self.inside.medium in
+    rw (← c.self.view_is, c.swap.ensures.x_after, c.swap.ensures.y_after)
+    (freezes_active (g.M.Medium.state m) (g.met.M.Medium.sound m) _ (rw (← c.self.view_is) at c.requires.idle) (rw (← c.self.view_is) at c.requires.empty))

@@ -1,0 +1,42 @@
+use Rattle.std.proofs.Common.{◌≡◌, refl, ◌∙◌, false}
+use Rattle.blocks.proofs.Turning.{turns, stays}
+use Rattle.blocks.proofs.Paying.{pays, pays_both, pays_step, must_retire}
+use Rattle.blocks.proofs.store.Store.make_room.Goals as goal
+
+pub loop-self-init : goal.loop-self-init
+loop-self-init g c = record {
+  turn = stays _ _ (g.met.M.Medium.sound c.args.self.now.medium);
+  paid = pays _ _;
+  live = c.requires.live;
+  idle = c.requires.idle;
+  active = refl;
+  frozen = refl;
+  follows = g.met.M.Medium.follows_itself c.args.self.now.medium;
+}
+
+pub loop-self-smaller : goal.loop-self-smaller
+loop-self-smaller g c =
+    let refused : c.has_room.result ≡ false = c.loop-self-test.true in
+    let left = must_retire (record { log = c.self.inside.log; active = c.self.inside.active; frozen = c.self.inside.frozen }) c.has_room.result refused
+    c.has_room.ensures.full c.has_room.ensures.always (rw (← c.self.view_is) at c.loop-self.invariant.idle) in
+    c.in_ok-retire.ensures.falls (rw (← c.self.view_is) left.0) c.in_ok-retire.ensures.answer
+
+pub loop-self-preserved : goal.loop-self-preserved
+loop-self-preserved g c =
+    let refused : c.has_room.result ≡ false = c.loop-self-test.true in
+    let left = must_retire (record { log = c.self.inside.log; active = c.self.inside.active; frozen = c.self.inside.frozen }) c.has_room.result refused
+    c.has_room.ensures.full c.has_room.ensures.always (rw (← c.self.view_is) at c.loop-self.invariant.idle) in
+    record {
+      turn = turns _ _ _ _ _ _ c.loop-self.invariant.turn c.retire.ensures.turn;
+      paid = pays_both _ _ _ _ _ _ c.loop-self.invariant.paid c.loop-self.invariant.live
+          (pays_step (g.M.Medium.state c.loop-self.self.medium) (g.M.Medium.state c.retire.new.self.medium) c.loop-self.self.cached c.retire.new.self.cached
+          (rw (← c.self.view_is) left.1) c.retire.ensures.calls (c.retire.ensures.falls (rw (← c.self.view_is) left.0)));
+      live = c.in_ok-retire.ensures.answer;
+      idle = c.retire.ensures.idle;
+      active = c.retire.ensures.active ∙ c.loop-self.invariant.active;
+      frozen = c.retire.ensures.frozen ∙ c.loop-self.invariant.frozen;
+      follows = g.met.M.Medium.follows_through _ _ _ c.loop-self.invariant.follows c.retire.ensures.follows;
+    }
+
+pub returns-in_err-retire-clause-turn : goal.returns-in_err-retire-clause-turn
+returns-in_err-retire-clause-turn g c = turns _ _ _ _ _ _ c.loop-self.invariant.turn c.retire.ensures.turn

@@ -1,0 +1,18 @@
+use Rattle.std.proofs.Common.{◌≡◌, false}
+use Rattle.blocks.specs.StoreValue.{is_dead, steps_left}
+use Rattle.blocks.specs.Turns.{IsTurn, IsPaid}
+use Rattle.blocks.proofs.store.Store.make_room.Given as goal
+
+abbrev pub invariant-loop-self : goal.invariant-loop-self
+invariant-loop-self g l = record {
+  turn : IsTurn (g.M.Medium.state l.fn.self.medium) (g.M.Medium.state l.self.medium) l.fn.self.cached l.self.cached;
+  paid : IsPaid (g.M.Medium.state l.fn.self.medium) (g.M.Medium.state l.self.medium) l.fn.self.cached l.self.cached;
+  live : is_dead l.self.cached ≡ false;
+  idle : l.self.cached.log.steps_left ≡ 0;
+  active : l.self.cached.active ≡ l.fn.self.cached.active;
+  frozen : l.self.cached.frozen ≡ l.fn.self.cached.frozen;
+  follows : g.M.Medium.follows l.fn.self.medium l.self.medium;
+}
+
+abbrev pub decreases-loop-self : goal.decreases-loop-self
+decreases-loop-self g l = steps_left l.self.cached

@@ -1,0 +1,52 @@
+use Rattle.std.proofs.Common.{◌+◌, ◌-◌, ◌*◌, ◌∙◌, ap, arith, subst, sym, length}
+use Rattle.log_layout.specs.Places.{Shape}
+use Rattle.medium.proofs.Moments.{quiet_start, quiet_joined}
+use Rattle.blocks.specs.Book.{array_of}
+use Rattle.blocks.specs.StoreValue.{Cached, FitsBook}
+use Rattle.blocks.specs.Turns.{IsTurn}
+use Rattle.blocks.proofs.Turning.{quiet_turn}
+use Rattle.blocks.proofs.Reading.{put_block}
+use Rattle.blocks.proofs.store.Store.read.Goals as goal
+
+pub overflow_add-address : goal.overflow_add-address
+overflow_add-address g c =
+    let blocks = ap (λ (s : Shape). s.blocks) c.self.invariant.shape in
+    let same = ap (λ v. v.cached.log.shape.blocks) c.self.view_is in
+    omega (arith, blocks, same, c.self.inside.sizes.most_blocks, c.requires.inside, c.loop-i-test.true)
+
+pub returns-then-is_dead-clause-turn : goal.returns-then-is_dead-clause-turn
+returns-then-is_dead-clause-turn g c =
+    let m = g.M.Medium.state c.args.self.now.medium in
+    quiet_turn m m c.args.self.now.cached (g.met.M.Medium.sound c.args.self.now.medium) (quiet_start m)
+
+pub returns-in_err-read_block-clause-turn : goal.returns-in_err-read_block-clause-turn
+returns-in_err-read_block-clause-turn g c =
+    let before = g.M.Medium.state c.args.self.now.medium in
+    let mid = g.M.Medium.state c.loop-i.self.medium in
+    let after = g.M.Medium.state c.read_block.new.self.medium in
+    let stays = c.read_block.ensures.stays ∙ c.loop-i.invariant.stays in
+    subst (IsTurn before after c.args.self.now.cached) (sym stays) (quiet_turn before after c.args.self.now.cached (g.met.M.Medium.sound c.args.self.now.medium) (quiet_joined before mid after c.loop-i.invariant.quiet c.read_block.ensures.quiet))
+
+pub returns-clause-turn : goal.returns-clause-turn
+returns-clause-turn g c =
+    let before = g.M.Medium.state c.args.self.now.medium in
+    let after = g.M.Medium.state c.loop-i.self.medium in
+    subst (IsTurn before after c.args.self.now.cached) (sym c.loop-i.invariant.stays) (quiet_turn before after c.args.self.now.cached (g.met.M.Medium.sound c.args.self.now.medium) c.loop-i.invariant.quiet)
+
+pub loop-i-preserved : goal.loop-i-preserved
+loop-i-preserved g c =
+    let before = g.M.Medium.state c.args.self.now.medium in
+    let mid = g.M.Medium.state c.loop-i.self.medium in
+    let after = g.M.Medium.state c.read_block.new.self.medium in
+    let now = quiet_turn before mid c.args.self.now.cached (g.met.M.Medium.sound c.args.self.now.medium) c.loop-i.invariant.quiet in
+    record {
+      stays = c.read_block.ensures.stays ∙ c.loop-i.invariant.stays;
+      quiet = quiet_joined before mid after c.loop-i.invariant.quiet c.read_block.ensures.quiet;
+      calls = omega (arith, c.loop-i.invariant.calls, c.read_block.ensures.calls);
+      follows = g.met.M.Medium.follows_through c.args.self.now.medium c.loop-i.self.medium c.read_block.new.self.medium c.loop-i.invariant.follows c.read_block.ensures.follows;
+      so_far = λ book fits.
+          let here : FitsBook mid c.loop-i.self.cached book = subst (λ (s : Cached). FitsBook mid s book) (sym c.loop-i.invariant.stays) (now.fits book fits) in
+          put_block (array_of book) c.args.address c.loop-i.i (c.loop-i.i * 512) (c.loop-i.i * 512 + 512 - c.loop-i.i * 512) (512 * (c.loop-i.i + 1)) c.loop-i.to c.copy_from_slice.new.self
+          (omega arith) (omega arith) (omega arith) (omega (arith, c.loop-i-test.true, c.loop-i.auto.to)) (ap (λ l. length l) c.copy_from_slice.ensures.after ∙ c.read_block.array_long)
+          (c.loop-i.invariant.so_far book fits) (c.copy_from_slice.ensures.after ∙ c.in_ok-read_block.ensures.ok book here);
+    }

@@ -1,0 +1,21 @@
+use Rattle.std.proofs.Common.{◌≡◌, ◌∙◌, ◌/◌, ap, [], length, arith}
+use Rattle.std.proofs.lemmas.Result.{err_from_is_err_and}
+use Rattle.cache.proofs.Arrays.{unlisted_empty}
+use Rattle.blocks.proofs.Turning.{turns, stays, not_written, then_written}
+use Rattle.blocks.proofs.store.Store.write.Goals as goal
+
+pub returns-then-is_dead-clause-turn : goal.returns-then-is_dead-clause-turn
+returns-then-is_dead-clause-turn g c = not_written _ _ _ _ _ (stays _ _ (g.met.M.Medium.sound c.args.self.now.medium))
+
+pub returns-in_err-finish-clause-turn : goal.returns-in_err-finish-clause-turn
+returns-in_err-finish-clause-turn g c =
+    let refused = err_from_is_err_and c.from_residual.result c.from_residual.ensures.1 in
+    rw refused.1 (not_written _ _ _ _ _ c.finish.ensures.turn)
+
+pub append-requires-2-clause-fits : goal.append-requires-2-clause-fits
+append-requires-2-clause-fits g c =
+    let active : c.freeze.new.self.cached.active.numbers ≡ [] = ap (λ cached. cached.active.numbers) c.freeze.ensures.swapped ∙ c.in_ok-finish.ensures.done.1 in
+    rw active (omega (arith, unlisted_empty c.args.address (length c.args.bytes.now / 512)))
+
+pub returns-clause-turn : goal.returns-clause-turn
+returns-clause-turn g c = then_written _ _ _ _ _ _ _ (turns _ _ _ _ _ _ c.finish.ensures.turn c.freeze.ensures.turn) c.append-2.ensures.turn

@@ -1,0 +1,33 @@
+use Rattle.std.proofs.Common.{refl, ◌∙◌, arith, ap}
+use Rattle.std.specs.Prelude.{Ok}
+use Rattle.blocks.proofs.Turning.{turns, stays}
+use Rattle.blocks.proofs.Paying.{pays, pays_both, pays_step}
+use Rattle.blocks.proofs.store.Store.write_out.Goals as goal
+
+pub loop-init : goal.loop-init
+loop-init g c = record {
+  turn = stays _ _ (g.met.M.Medium.sound c.args.self.now.medium);
+  paid = pays _ _;
+  live = c.requires.live;
+  under_way = c.requires.under_way;
+  active = refl;
+  follows = g.met.M.Medium.follows_itself c.args.self.now.medium;
+}
+
+pub returns-in_err-step-clause-turn : goal.returns-in_err-step-clause-turn
+returns-in_err-step-clause-turn g c = turns _ _ _ _ _ _ c.loop.invariant.turn c.step.ensures.turn
+
+pub loop-preserved : goal.loop-preserved
+loop-preserved g c = record {
+  turn = turns _ _ _ _ _ _ c.loop.invariant.turn c.step.ensures.turn;
+  paid = pays_both _ _ _ _ _ _ c.loop.invariant.paid c.loop.invariant.live
+      (pays_step (g.M.Medium.state c.loop.self.medium) (g.M.Medium.state c.step.new.self.medium) c.loop.self.cached c.step.new.self.cached
+      (omega (arith, c.loop.invariant.under_way)) (omega (arith, c.step.ensures.calls)) c.step.ensures.falls);
+  live = c.in_ok-step.ensures.answer;
+  under_way = c.step.ensures.more (c.in_ok-step.was ∙ ap Ok c.in-More.is);
+  active = c.step.ensures.active ∙ c.loop.invariant.active;
+  follows = g.met.M.Medium.follows_through _ _ _ c.loop.invariant.follows c.step.ensures.follows;
+}
+
+pub returns-clause-turn : goal.returns-clause-turn
+returns-clause-turn g c = turns _ _ _ _ _ _ c.loop.invariant.turn c.step.ensures.turn

@@ -1,0 +1,17 @@
+use Rattle.std.proofs.Common.{◌≡◌, ◌<◌, false}
+use Rattle.blocks.specs.StoreValue.{is_dead, steps_left}
+use Rattle.blocks.specs.Turns.{IsTurn, IsPaid}
+use Rattle.blocks.proofs.store.Store.write_out.Given as goal
+
+abbrev pub invariant-loop : goal.invariant-loop
+invariant-loop g l = record {
+  turn : IsTurn (g.M.Medium.state l.fn.self.medium) (g.M.Medium.state l.self.medium) l.fn.self.cached l.self.cached;
+  paid : IsPaid (g.M.Medium.state l.fn.self.medium) (g.M.Medium.state l.self.medium) l.fn.self.cached l.self.cached;
+  live : is_dead l.self.cached ≡ false;
+  under_way : 0 < l.self.cached.log.steps_left;
+  active : l.self.cached.active ≡ l.fn.self.cached.active;
+  follows : g.M.Medium.follows l.fn.self.medium l.self.medium;
+}
+
+abbrev pub decreases-loop : goal.decreases-loop
+decreases-loop g l = steps_left l.self.cached

@@ -1,0 +1,6 @@
+pub mod Book
+pub mod Finding
+pub mod StoreValue
+pub mod Turns
+pub mod Started
+pub mod Kept

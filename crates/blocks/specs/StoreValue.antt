@@ -1,0 +1,99 @@
+-- What a caller sees of a store, and which books it fits.
+use Rattle.std.specs.Prelude.{◌≡◌, ◌⊎◌, ◌↔◌, ℕ, ◌+◌, ◌*◌, ◌^◌, ◌≤◌, ◌<◌, zero, suc, Bool, List, [], ◌∷◌, length}
+use Rattle.medium.specs.Medium.{State}
+use Rattle.cache.specs.Blocks.{over, Listed, unlisted, InRange}
+use Rattle.cache.specs.Entries.{Entries, map_of}
+use Rattle.log_layout.specs.Places.{Shape}
+use Rattle.redo_log.specs.Value.{LogValue}
+use Rattle.redo_log.specs.Batch.{entries_of}
+use Rattle.redo_log.specs.Held.{View, HoldsView}
+use Rattle.blocks.specs.Book.{Book, Same, after_first, array_of}
+
+-- what a store keeps in memory
+pub record Cached : Type 0 where
+  pub log : LogValue
+  -- the batch that takes writes
+  pub active : Entries
+  -- the batch that is on its way to the log
+  pub frozen : Entries
+
+pub record StoreValue (M : Type 0) : Type 0 where
+  pub medium : M
+  pub cached : Cached
+
+-- how many logical blocks and how many log slots there are
+abbrev pub layout_of : Cached → Shape
+layout_of s = s.log.shape
+
+abbrev pub blocks_of : Cached → ℕ
+blocks_of s = (layout_of s).blocks
+
+abbrev pub slots_of : Cached → ℕ
+slots_of s = (layout_of s).slots
+
+-- no write is accepted until the next start
+abbrev pub is_dead : Cached → Bool
+is_dead s = s.log.dead
+
+-- the numbers of the blocks in the batch that takes writes
+abbrev pub active_of : Cached → List ℕ
+active_of s = s.active.numbers
+
+-- how many blocks are in both batches
+abbrev pub unwritten : Cached → ℕ
+unwritten s = length s.active.numbers + length s.frozen.numbers
+
+-- a batch that holds blocks wants a stamp
+abbrev pub wants : List ℕ → ℕ
+wants [] = 0
+wants (n ∷ numbers) = 1
+
+-- a frozen batch counts as long as its record is not begun
+abbrev pub waiting : ℕ → ℕ → ℕ
+waiting zero wanted = 112 * wanted
+waiting (suc steps) wanted = 0
+
+-- How many background steps are left at most: those of the records that are begun, and 112 for each batch that is to become a
+-- record. A batch of 48 blocks takes 52 steps to be written, and 50 to be retired.
+abbrev pub steps_left : Cached → ℕ
+steps_left s = s.log.steps_left + s.log.retire_steps_left + waiting s.log.steps_left (wants s.frozen.numbers) + 112 * wants s.active.numbers
+
+-- these numbers and those of the range are at most 48 together
+abbrev pub FitsBeside : List ℕ → ℕ → ℕ → Type 0
+FitsBeside numbers address count = length numbers + unlisted numbers address count ≤ 48
+
+-- The batch that takes writes after one more: it takes the range up where both fit together, and else has the range alone.
+pub record TakesRange (old : List ℕ) (address count : ℕ) (new : List ℕ) : Type 0 where
+  pub beside : FitsBeside old address count → (n : ℕ) → Listed new n ↔ (Listed old n ⊎ InRange address count n)
+  pub alone : ¬ FitsBeside old address count → (n : ℕ) → Listed new n ↔ InRange address count n
+
+-- what is true of every store, live or dead
+pub record HasLimits (s : Cached) : Type 0 where
+  pub some_blocks : 1 ≤ blocks_of s
+  pub most_blocks : blocks_of s ≤ 2 ^ 31
+  pub active_fits : length (active_of s) ≤ 48
+  pub few_steps : steps_left s ≤ (slots_of s + 4) * (2 * 48 + 16)
+
+-- A store shows three arrays: what is durable, that with the frozen batch, and that with the active batch too. It fits a book in
+-- which they are the array after some of the first writes, after more of them, and after all.
+pub record FitsBook (m : State) (s : Cached) (book : Book) : Type 0 where
+  -- what the log and the medium hold
+  pub view : View
+  pub holds : HoldsView s.log m view
+  -- the record under way is the frozen batch
+  pub under_way : 0 < s.log.steps_left → view.under_way ≡ entries_of s.frozen.numbers s.frozen.bytes
+  pub some : 0 < s.log.steps_left → wants s.frozen.numbers ≡ 1
+  pub blocks : s.log.shape.blocks ≡ book.blocks
+  -- so many writes are durable, and so many are with the frozen batch
+  pub floor_count : ℕ
+  pub middle_count : ℕ
+  pub promises : book.mark ≤ floor_count
+  pub rises : floor_count ≤ middle_count
+  pub accepted : middle_count ≤ length book.writes
+  pub floor : Same book.blocks view.array (after_first floor_count book)
+  pub middle : Same book.blocks (over (map_of s.frozen) view.array) (after_first middle_count book)
+  pub now : Same book.blocks (over (map_of s.active) (over (map_of s.frozen) view.array)) (array_of book)
+  -- there is a stamp for each batch: the next one behind the durable records, with the batches counted, is among those that the
+  -- writes allow
+  pub stamps : s.log.head + length s.log.waiting + wants s.frozen.numbers + wants s.active.numbers ≤ book.stamp + length book.writes
+  pub ours : view.ours ≡ book.ours

@@ -1,0 +1,24 @@
+//! The store: logical blocks with a write cache of two batches, over a redo log on a medium.
+//!
+//! The active batch takes writes. The frozen one is on its way to the log and never changes on its
+//! way. A read takes a block from the active batch, else from the frozen one, else its newest
+//! logged copy, else from home. One record carries one batch, and a batch holds whole writes: so a
+//! start after a loss of power finds the first so many of the accepted writes, none in part.
+#![tactic(auto)]
+
+mod background;
+mod fault;
+mod read;
+mod start;
+mod start_error;
+mod store;
+mod sync;
+mod write;
+
+pub use fault::StoreFault;
+pub use recovery::StartFault;
+pub use start_error::StartError;
+pub use store::Store;
+
+#[cfg(test)]
+mod tests;

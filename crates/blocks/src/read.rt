@@ -1,0 +1,97 @@
+// How blocks are read.
+ghost use Rattle.std.specs.Prelude.{◌≡◌, ◌≤◌, ◌<◌, ◌+◌, ◌*◌, ◌/◌, true, false, length};
+ghost use Rattle.std.specs.Prelude.{OnOk, IfErr, OnErr};
+ghost use Rattle.medium.specs.Moments.{IsQuiet};
+ghost use Rattle.medium.specs.declared.fault.MediumFault.TheVariants as medium_fault;
+ghost use Rattle.blocks.specs.Book.{Book, IsTransfer, array_of, blocks_at};
+ghost use Rattle.blocks.specs.StoreValue.{blocks_of, is_dead, FitsBook};
+ghost use Rattle.blocks.specs.Turns.{IsTurn, IsReadCause};
+
+use crate::store::BLOCK;
+use crate::{Store, StoreFault};
+use medium::{Medium, MediumFault};
+
+impl<M: Medium> Store<M> {
+    /// Reads 1 to 48 blocks from an address on: each from the active batch, else from the frozen
+    /// one, else its newest logged copy, else from home. At an `Err` the array may hold anything.
+    ///
+    /// # Errors
+    ///
+    /// `ReadFault` where the medium refused a read, `Dead` on a dead store. The store is unchanged.
+    pub fn read(&mut self, address: u64, to: &mut [u8]) -> Result<(), StoreFault>
+        requires { IsTransfer (blocks_of self.old.cached) address (length to.old) }
+        ensures ok { (book : Book) → FitsBook (M.state self.old.medium) self.old.cached book
+            → OnOk result (to.new ≡ blocks_at (array_of book) address (length to.old / 512)) }
+        ensures err { IfErr result (λ fault. IsReadCause (M.state self.old.medium)
+            (M.state self.new.medium) self.old.cached fault) }
+        ensures dead { is_dead self.old.cached ≡ true
+            → (result ≡ Err StoreFault.Dead) × (self.new ≡ self.old) }
+        ensures stays { self.new.cached ≡ self.old.cached }
+        ensures quiet { IsQuiet (M.state self.old.medium) (M.state self.new.medium) }
+        ensures turn { IsTurn (M.state self.old.medium) (M.state self.new.medium)
+            self.old.cached self.new.cached }
+        ensures calls { (M.state self.new.medium).calls
+            ≤ (M.state self.old.medium).calls + 2 * (length to.old / 512) }
+        ensures follows { M.follows self.old.medium self.new.medium }
+    {
+        if self.log.is_dead() {
+            return Err(StoreFault::Dead);
+        }
+        for i in 0..to.len() / BLOCK {
+            let at = i * BLOCK;
+            let mut block = [0; BLOCK];
+            self.read_block(address + i as u64, &mut block)?;
+            to[at..at + BLOCK].copy_from_slice(&block);
+        }
+        Ok(())
+    }
+
+    // Reads one block.
+    fn read_block(&mut self, block: u64, to: &mut [u8; BLOCK]) -> Result<(), StoreFault>
+        requires live { is_dead self.old.cached ≡ false }
+        requires inside { block < blocks_of self.old.cached }
+        ensures ok { (book : Book) → FitsBook (M.state self.old.medium) self.old.cached book
+            → OnOk result (to.new ≡ array_of book block) }
+        ensures err { IfErr result (λ fault. IsReadCause (M.state self.old.medium)
+            (M.state self.new.medium) self.old.cached fault) }
+        ensures stays { self.new.cached ≡ self.old.cached }
+        ensures quiet { IsQuiet (M.state self.old.medium) (M.state self.new.medium) }
+        ensures calls { (M.state self.new.medium).calls ≤ (M.state self.old.medium).calls + 1 }
+        ensures follows { M.follows self.old.medium self.new.medium }
+    {
+        if let Some(bytes) = self.active.get(block) {
+            to.copy_from_slice(bytes);
+            return Ok(());
+        }
+        if let Some(bytes) = self.frozen.get(block) {
+            to.copy_from_slice(bytes);
+            return Ok(());
+        }
+        match self.read_durable(block, to) {
+            Ok(()) => Ok(()),
+            Err(_) => Err(StoreFault::ReadFault),
+        }
+    }
+
+    // Reads the newest logged copy of a block, or the block at home where there is none.
+    fn read_durable(&mut self, block: u64, to: &mut [u8; BLOCK]) -> Result<(), MediumFault>
+        requires live { is_dead self.old.cached ≡ false }
+        requires inside { block < blocks_of self.old.cached }
+        ensures ok { (book : Book)
+            → (fits : FitsBook (M.state self.old.medium) self.old.cached book)
+            → OnOk result (to.new ≡ fits.view.array block) }
+        ensures err { OnErr result (((M.state self.old.medium).failures
+            < (M.state self.new.medium).failures)
+            × ((M.state self.old.medium).refused medium_fault.Read
+            < (M.state self.new.medium).refused medium_fault.Read)) }
+        ensures stays { self.new.cached ≡ self.old.cached }
+        ensures quiet { IsQuiet (M.state self.old.medium) (M.state self.new.medium) }
+        ensures calls { (M.state self.new.medium).calls ≤ (M.state self.old.medium).calls + 1 }
+        ensures follows { M.follows self.old.medium self.new.medium }
+    {
+        match self.log.find(block) {
+            Some((slot, place)) => self.log.read_copy(&mut self.medium, slot, place, to),
+            None => self.medium.read(self.sizes.home_of(block), to),
+        }
+    }
+}

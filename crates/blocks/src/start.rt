@@ -1,0 +1,120 @@
+// How a store starts.
+ghost use Rattle.std.specs.Prelude.{◌≡◌, ◌⊎◌, ◌<◌, ◌≤◌, ◌^◌, ℕ, []};
+ghost use Rattle.std.specs.Prelude.{IfOk, IfErr, MatchResult};
+ghost use Rattle.medium.specs.Moments.{EachCut, LeavesOnly};
+ghost use Rattle.medium.specs.Blocks.{Array};
+ghost use Rattle.log_layout.specs.Places.{Shape};
+ghost use Rattle.log_layout.specs.Standing.{StandsFor, IsOurs};
+ghost use Rattle.log_layout.specs.Values.{shape_of};
+ghost use Rattle.redo_log.specs.Value.{idle_from};
+ghost use Rattle.recovery.specs.Causes.{IsDeviceFault};
+ghost use Rattle.recovery.specs.Recovered.{IsOursForSome, IsOursWithNext, StandsForOneOf};
+ghost use Rattle.blocks.specs.Started.{IsStarted, IsStartCause, IsOursSince, IsBounded};
+
+use crate::store::ROOM;
+use crate::{StartError, Store};
+use cache::Batch;
+use medium::Medium;
+use recovery::{Recovered, StartFault, recover};
+use redo_log::Log;
+use std::alloc::Global;
+
+#[cfg(test)]
+mod tests;
+
+// What a store keeps in memory.
+#[derive(Drop)]
+struct Parts {
+    log: Log,
+    active: Batch,
+    frozen: Batch,
+}
+
+impl Parts {
+    // A log without records and two empty batches. No other call takes memory.
+    fn new(alloc: Global, recovered: &Recovered) -> Result<Parts, StartFault>
+        requires least { 1 ≤ recovered.now.next }
+        requires most { recovered.now.next < 2 ^ 63 }
+        ensures ok { IfOk result (λ parts. parts ≡ record {
+          log = idle_from (shape_of recovered.now.sizes) recovered.now.next;
+          active = record { room = 48; numbers = []; bytes = [] };
+          frozen = record { room = 48; numbers = []; bytes = [] };
+        }) }
+        ensures err { IfErr result (λ fault. fault ≡ StartFault.NoMemory) }
+    {
+        let log = Log::idle(alloc, &recovered.sizes, recovered.next).map_err(
+            |_| StartFault::NoMemory,
+        )?;
+        let active = Batch::new(alloc, ROOM).map_err(|_| StartFault::NoMemory)?;
+        let frozen = Batch::new(alloc, ROOM).map_err(|_| StartFault::NoMemory)?;
+        Ok(Parts {
+            log,
+            active,
+            frozen,
+        })
+    }
+}
+
+impl<M: Medium> Store<M> {
+    /// Starts a store on a medium: recovers the medium, and makes the room for the log and for both
+    /// batches. It serves the blocks for which the contents of the medium stood. A cut at any
+    /// moment leaves an image that is ours and stands for what one stood for that a cut could have
+    /// left before, if each of those was ours.
+    ///
+    /// # Errors
+    ///
+    /// The fault of the recovery; once the medium is recovered `NoMemory` alone. The medium comes
+    /// back.
+    pub fn start(alloc: Global, medium: M) -> Result<Store<M>, StartError<M>>
+        ensures ok { IfOk result (λ store.
+            IsStarted (M.state medium) (M.state store.medium) store.cached) }
+        ensures err { IfErr result (λ error.
+            IsStartCause (M.state medium) (M.state error.medium) error.fault) }
+        // Contents that stand for something with a stamp left are refused by the device alone, or
+        // for want of memory.
+        ensures served { (shape : Shape) (array : Array) (next : ℕ)
+            → StandsFor (M.state medium).size shape (M.state medium).content array next
+            → next < 2 ^ 63
+            → IfErr result (λ error. IsDeviceFault error.fault
+            ⊎ (error.fault ≡ StartFault.NoMemory)) }
+        ensures cuts { EachCut (IsOursForSome (M.state medium).size) (M.state medium)
+            → MatchResult result
+            (λ store. LeavesOnly (StandsForOneOf (M.state medium))
+            (M.state medium) (M.state store.medium))
+            (λ error. LeavesOnly (StandsForOneOf (M.state medium))
+            (M.state medium) (M.state error.medium)) }
+        // From the first good flush on it is the array of the contents. A second call follows a
+        // good one only.
+        ensures after_flush { (shape : Shape) (array : Array) (next : ℕ)
+            → IsOurs (M.state medium).size shape (M.state medium).content array next
+            → MatchResult result
+            (λ store. IsOursSince (IsOursWithNext (M.state medium).size shape array next)
+            (M.state medium) (M.state store.medium))
+            (λ error. IsOursSince (IsOursWithNext (M.state medium).size shape array next)
+            (M.state medium) (M.state error.medium)) }
+        // Whatever the image: no count falls, the size stays, and the calls are bounded.
+        ensures moments { MatchResult result
+            (λ store. IsBounded (M.state medium) (M.state store.medium))
+            (λ error. IsBounded (M.state medium) (M.state error.medium)) }
+        ensures follows { MatchResult result
+            (λ store. M.follows medium store.medium)
+            (λ error. M.follows medium error.medium) }
+    {
+        let mut medium = medium;
+        let recovered = match recover(&mut medium) {
+            Ok(recovered) => recovered,
+            Err(fault) => return Err(StartError { fault, medium }),
+        };
+        match Parts::new(alloc, &recovered) {
+            Ok(parts) => Ok(Store {
+                medium,
+                sizes: recovered.sizes,
+                log: parts.log,
+                active: parts.active,
+                frozen: parts.frozen,
+                writing: false,
+            }),
+            Err(fault) => Err(StartError { fault, medium }),
+        }
+    }
+}

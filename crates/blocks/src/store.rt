@@ -1,0 +1,117 @@
+// What a store is made of.
+ghost use Rattle.std.specs.Prelude.{◌≡◌, ◌<◌, ◌≤◌, ℕ, true, false};
+ghost use Rattle.medium.specs.Moments.{EachCut, IsUnchanged};
+ghost use Rattle.blocks.specs.Book.{Book, promised};
+ghost use Rattle.blocks.specs.Finding.{MayFind};
+ghost use Rattle.blocks.specs.StoreValue.{blocks_of, is_dead, steps_left, HasLimits, FitsBook};
+ghost use Rattle.blocks.specs.Turns.{IsTurn};
+
+use cache::Batch;
+use log_layout::Super;
+use medium::{Medium, Switch};
+use redo_log::Log;
+use std::marker::Model;
+
+// How many blocks a batch has room for.
+pub(crate) const ROOM: usize = 48;
+
+// How many bytes a block has.
+pub(crate) const BLOCK: usize = 512;
+
+/// Logical blocks of 512 bytes over a medium, with a write cache. After `start` no call takes
+/// memory.
+#[derive(Drop)]
+pub struct Store<M: Medium> {
+    pub(crate) medium: M,
+    pub(crate) sizes: Super,
+    pub(crate) log: Log,
+    pub(crate) active: Batch,
+    pub(crate) frozen: Batch,
+    // Whether the record of the frozen batch is under way.
+    pub(crate) writing: bool,
+}
+
+impl<M: Medium> Model for Store<M> {
+    ghost use Rattle.blocks.specs.StoreValue.{StoreValue, Cached};
+
+    ghost Value = { StoreValue M };
+
+    ghost use Rattle.blocks.specs.Kept.{IsKept};
+
+    ghost view = { λ s. record {
+      medium = s.medium;
+      cached = record { log = s.log; active = s.active; frozen = s.frozen };
+    } };
+
+    ghost invariant = { λ s. IsKept (M.state s.medium).size s.sizes
+        (record { log = s.log; active = s.active; frozen = s.frozen }) s.writing };
+}
+
+impl<M: Medium> Store<M> {
+    /// How many logical blocks there are.
+    pub fn blocks(&self) -> u64
+        ensures is { result ≡ blocks_of self.now.cached }
+        ensures some { 1 ≤ result }
+        ensures most { result ≤ 2147483648 }
+    {
+        self.sizes.blocks
+    }
+
+    /// Whether the store accepts no write until the next start: a write or a flush was refused, or
+    /// a read while a record was retired, or the stamps are used up.
+    pub fn is_dead(&self) -> bool
+        ensures { result ≡ is_dead self.now.cached }
+    {
+        self.log.is_dead()
+    }
+
+    /// The medium that the store stands on.
+    ///
+    /// Between two calls a cut leaves what may be found of each book that the store fits. Where no
+    /// background step is left, each write of it is promised.
+    pub fn medium(&self) -> &M
+        ensures is { result.now ≡ self.now.medium }
+        ensures limits { HasLimits self.now.cached }
+        ensures at_rest { (book : Book) → FitsBook (M.state self.now.medium) self.now.cached book
+            → book.ours ≡ true
+            → EachCut (MayFind (M.state self.now.medium).size book) (M.state self.now.medium) }
+        ensures settled { (book : Book) → FitsBook (M.state self.now.medium) self.now.cached book
+            → is_dead self.now.cached ≡ false → steps_left self.now.cached ≡ 0
+            → FitsBook (M.state self.now.medium) self.now.cached (promised book) }
+    {
+        &self.medium
+    }
+
+    /// Gives the medium back.
+    pub fn into_medium(self) -> M
+        ensures { result ≡ self.medium }
+    {
+        self.medium
+    }
+}
+
+impl<M: Switch> Store<M> {
+    /// Arms a fuse of the medium.
+    pub fn fuse(&mut self, writes: u64)
+        ensures fused { M.fused writes self.old.medium self.new.medium }
+        ensures unchanged { IsUnchanged (M.state self.old.medium) (M.state self.new.medium) }
+        ensures cached { self.new.cached ≡ self.old.cached }
+        ensures turn { IsTurn (M.state self.old.medium) (M.state self.new.medium)
+            self.old.cached self.new.cached }
+    {
+        self.medium.fuse(writes);
+    }
+
+    /// Arms a failure of one call of the medium.
+    pub fn fail(&mut self, call: u64)
+        requires { 0 < call }
+        ensures failing { M.failing call self.old.medium self.new.medium }
+        ensures follows { M.follows self.old.medium self.new.medium }
+        ensures unchanged { IsUnchanged (M.state self.old.medium) (M.state self.new.medium) }
+        ensures cached { self.new.cached ≡ self.old.cached }
+        ensures turn { IsTurn (M.state self.old.medium) (M.state self.new.medium)
+            self.old.cached self.new.cached }
+    {
+        self.medium.fail(call);
+    }
+}

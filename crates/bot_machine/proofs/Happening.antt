@@ -1,0 +1,315 @@
+-- What happens in a life: a fuse is armed, an event comes, the power is cut.
+use Rattle.std.proofs.Common.{◌≡◌, ◌≢◌, ◌<◌, ◌≤◌, ℕ, ◌+◌, Bool, true, false, nat_lt, ltb-true, List, [], ◌∷◌, None, Some, refl, sym, subst, ◌∙◌, ap, arith, inl, inr}
+use Rattle.std.proofs.lemmas.Bool.{false≢true}
+use Rattle.std.proofs.lemmas.List.{append-nil}
+use Rattle.medium.specs.Medium.{State, Image, CutLeaves}
+use Rattle.medium.specs.Moments.{EachCut, IsFlushed}
+use Rattle.medium.specs.Power.{powered}
+use Rattle.medium.specs.Refusals.{Refused, of_all}
+use Rattle.medium.specs.Sim.{Sim, state_of, IsCut, ComesAfter}
+use Rattle.medium.specs.SimLaws.{is_sound}
+use Rattle.medium.specs.declared.power.Power.{Power}
+use Rattle.medium.proofs.Moments.{at_exit, only_image}
+use Rattle.medium.proofs.Keeping.{none_flushed}
+use Rattle.pages.specs.Identification.{Identification}
+use Rattle.log_layout.specs.Standing.{StandsFor}
+use Rattle.recovery.specs.Recovered.{IsOursForSome}
+use Rattle.blocks.specs.Book.{Book}
+use Rattle.blocks.specs.Finding.{MayFind, FoundWith}
+use Rattle.bot_machine.specs.declared.event.Event.{Event}
+use Rattle.bot_machine.specs.declared.event.Answer.{Answer}
+use Rattle.bot_machine.specs.declared.event.Answer.TheVariants.{Off}
+use Rattle.bot_machine.specs.declared.stage.Stage.{Stage}
+use Rattle.bot_machine.specs.declared.stage.Stage.TheVariants.{Rests, Runs}
+use Rattle.bot_machine.specs.Conversation.{Conversation, refused_events}
+use Rattle.bot_machine.specs.Acts.{write_of_event}
+use Rattle.bot_machine.specs.Disk.{DiskValue, over, UnitStep, FitsDisk, IsStep}
+use Rattle.scsi_unit.specs.Rules.{UnitState}
+use Rattle.bot_machine.specs.Lives.{Action, arms, starts, plays, cuts, Remains, Place, before_first, between, runs, off, Standing, PowerGoes, after_cut, LivesStep, LivesRun}
+use Rattle.bot_machine.specs.LivesValue.{LivesValue, medium_in, state_in, IsAtRest, OpensOn, Converses, IsAt, book_at, FoundAt, FitsLives, LivesGoTo, LivesGoOn}
+
+-- one action is a run
+pub one_run : (identity : Identification) (refused : Bool) (old new : Standing) (action : Action) (answers : List Answer)
+    → LivesStep identity refused old action answers new → LivesRun identity old (action ∷ []) answers (refused ∷ []) new
+one_run identity refused old new action answers step = (new, answers, [], sym (append-nil answers), step, (refl, refl))
+
+-- one action with a refused call is counted
+pub one_counted : (refused : Bool) (before after : ℕ) → (refused ≡ true → before < after) → before ≤ after → refused_events (refused ∷ []) + before ≤ after
+one_counted true before after grew stays = let h = grew refl in omega (arith, h)
+one_counted false before after grew stays = omega (arith, stays)
+
+-- a medium whose power is on is not one whose power is off
+pub on_or_off : {A : Type 0} (b : Bool) → b ≡ false → b ≡ true → A
+on_or_off b on is_off = absurd (false≢true (sym on ∙ is_off))
+
+-- power goes only where a fuse was armed
+pub armed_then : (here : Standing) (before after : Sim) → ComesAfter before after → (here.armed ≡ false → before.power.fuse ≡ None)
+    → before.power.off ≡ false → after.power.off ≡ true → here.armed ≡ true
+armed_then here before after follows unfused on is_off =
+    by_cases here.armed unfused
+  where
+    by_cases : (armed : Bool) → (armed ≡ false → before.power.fuse ≡ None) → armed ≡ true
+    by_cases true unfused = refl
+    by_cases false unfused = absurd ((follows.goes_off on is_off).0 (unfused refl))
+
+module _ (identity : Identification) where
+  -- lives of this disk
+  abbrev pub lives_at : Stage → LivesValue
+  lives_at stage = record { identity = identity; stage = stage }
+
+  -- nothing happens to a disk, or to a medium without one
+  pub stays : (stage : Stage) (action : Action) (answers : List Answer)
+      → ((here : Standing) → FitsLives (lives_at stage) here → LivesStep identity false here action answers here)
+      → LivesGoOn (lives_at stage) (action ∷ []) answers (lives_at stage)
+  stays stage action answers step = record {
+    refusals = false ∷ [];
+    refused = omega arith;
+    goes = λ here fits. record {
+      there = here;
+      run = one_run identity false here here action answers (step here fits);
+      fits = fits;
+      ours = refl;
+    };
+    size_stays = refl;
+    identity_stays = refl;
+  }
+
+  -- ---- a fuse
+
+  -- the medium with a fuse armed
+  abbrev pub fused : ℕ → Sim → Sim
+  fused writes m = record m { power = record m.power { fuse = Some writes } }
+
+  -- a disk over it
+  abbrev pub on_medium : Sim → DiskValue Sim → DiskValue Sim
+  on_medium m disk = record disk { unit = record disk.unit { store = record disk.unit.store { medium = m } } }
+
+  fused_at_rest : (writes : ℕ) (m : Sim) (place : Place) → IsAt place (Rests m) → IsAt place (Rests (fused writes m))
+  fused_at_rest writes m (before_first book) h = (record { on = h.0.on; flushed = h.0.flushed }, h.1)
+  fused_at_rest writes m (between remains) h = record { on = h.on; flushed = h.flushed }
+  fused_at_rest writes m (runs conversation) h = h
+  fused_at_rest writes m (off remains) h = h
+
+  fused_running : (writes : ℕ) (disk : DiskValue Sim) (place : Place) → IsAt place (Runs disk)
+      → IsAt place (Runs (on_medium (fused writes disk.unit.store.medium) disk))
+  fused_running writes disk (before_first book) h = h
+  fused_running writes disk (between remains) h = h
+  fused_running writes disk (runs conversation) h = record { on = h.on; says = h.says; fits = h.fits }
+  fused_running writes disk (off remains) h = h
+
+  arms_fuse : (writes : ℕ) (stage new : Stage) → state_in new ≡ state_in stage
+      → ((place : Place) → IsAt place stage → IsAt place new)
+      → LivesGoOn (lives_at stage) (arms writes ∷ []) [] (lives_at new)
+  arms_fuse writes stage new same keeps = record {
+    refusals = false ∷ [];
+    refused = let e = ap (λ (m : State). m.failures) same in omega (arith, e);
+    goes = λ here fits. record {
+      there = record here { armed = true };
+      run = one_run identity false here (record here { armed = true }) (arms writes) [] (refl, refl);
+      fits = record {
+        is_at = keeps here.place fits.is_at;
+        found = λ ours. subst (λ (m : State). EachCut (FoundAt m.size here.place) m) (sym same) (fits.found ours);
+        unfused = λ e. absurd (false≢true (sym e));
+      };
+      ours = refl;
+    };
+    size_stays = ap (λ (m : State). m.size) same;
+    identity_stays = refl;
+  }
+
+  pub arms_medium : (writes : ℕ) (m new : Sim) → new ≡ fused writes m → LivesGoOn (lives_at (Rests m)) (arms writes ∷ []) [] (lives_at (Rests new))
+  arms_medium writes m new e =
+      subst (λ (x : Sim). LivesGoOn (lives_at (Rests m)) (arms writes ∷ []) [] (lives_at (Rests x))) (sym e)
+      (arms_fuse writes (Rests m) (Rests (fused writes m)) refl (fused_at_rest writes m))
+
+  pub arms_disk : (writes : ℕ) (disk new : DiskValue Sim) → new.unit.store.medium ≡ fused writes disk.unit.store.medium
+      → new ≡ on_medium new.unit.store.medium disk → LivesGoOn (lives_at (Runs disk)) (arms writes ∷ []) [] (lives_at (Runs new))
+  arms_disk writes disk new e others =
+      subst (λ (x : DiskValue Sim). LivesGoOn (lives_at (Runs disk)) (arms writes ∷ []) [] (lives_at (Runs x)))
+      (sym (others ∙ ap (λ (m : Sim). on_medium m disk) e))
+      (arms_fuse writes (Runs disk) (Runs (on_medium (fused writes disk.unit.store.medium) disk)) refl (fused_running writes disk))
+
+  -- ---- a cut
+
+  module _ (keep : ℕ → Bool) (old new : Sim) (cut : IsCut keep old new)
+      (allowed : CutLeaves (state_of old).may_leave (state_of new).content) (flushed : IsFlushed (state_of new))
+      (size : (state_of new).size ≡ (state_of old).size) where
+    -- what a cut leaves afterwards, it could have left before
+    left_before : (P : Image → Type 0) → EachCut P (state_of old) → EachCut P (state_of new)
+    left_before P each image left =
+        subst P (sym (only_image (state_of new).content (state_of new).may_leave flushed image left)) (each (state_of new).content allowed)
+
+    at_rest : IsAtRest new
+    at_rest = record { on = ap (λ (p : Power). p.off) cut.power_on; flushed = cut.none }
+
+    -- contents that are flushed stay
+    content_stays : old.unflushed ≡ [] → (state_of new).content ≡ (state_of old).content
+    content_stays none = only_image (state_of old).content (state_of old).may_leave (none_flushed old none) (state_of new).content allowed
+
+    opens_still : (book : Book) → old.unflushed ≡ [] → OpensOn (state_of old) book → OpensOn (state_of new) book
+    opens_still book none h = record {
+      opens = h.opens;
+      slots = h.slots;
+      stands = subst (λ (n : ℕ). StandsFor n (record { blocks = book.blocks; slots = h.slots }) (state_of new).content book.opening book.stamp) (sym size)
+          (subst (λ (i : Image). StandsFor (state_of old).size (record { blocks = book.blocks; slots = h.slots }) i book.opening book.stamp) (sym (content_stays none)) h.stands);
+      ours = λ ours. subst (λ (n : ℕ). EachCut (IsOursForSome n) (state_of new)) (sym size) (left_before (IsOursForSome (state_of old).size) (h.ours ours));
+    }
+
+    cut_place : (stage : Stage) (place : Place) → medium_in stage ≡ old → IsAt place stage → IsAt (after_cut place) (Rests new)
+    cut_place (Rests m) (before_first book) e h =
+        (at_rest, opens_still book (subst (λ (x : Sim). x.unflushed ≡ []) e h.0.flushed) (subst (λ (x : Sim). OpensOn (state_of x) book) e h.1))
+    cut_place (Runs disk) (before_first book) e h = absurd h
+    cut_place stage (between remains) e h = at_rest
+    cut_place stage (runs conversation) e h = at_rest
+    cut_place stage (off remains) e h = at_rest
+
+    cut_found : (place : Place) (n : ℕ) → n ≡ (state_of old).size → ((book_at place).ours ≡ true → EachCut (FoundAt (state_of old).size place) (state_of old))
+        → (book_at (after_cut place)).ours ≡ true → EachCut (FoundAt n (after_cut place)) (state_of new)
+    cut_found (before_first book) n e h ours = subst (λ (k : ℕ). EachCut (FoundAt k (before_first book)) (state_of new)) (sym e) (left_before (FoundAt (state_of old).size (before_first book)) (h ours))
+    cut_found (between remains) n e h ours = subst (λ (k : ℕ). EachCut (FoundAt k (between remains)) (state_of new)) (sym e) (left_before (FoundAt (state_of old).size (between remains)) (h ours))
+    cut_found (runs conversation) n e h ours = subst (λ (k : ℕ). EachCut (MayFind k conversation.unit.book) (state_of new)) (sym e) (left_before (MayFind (state_of old).size conversation.unit.book) (h ours))
+    cut_found (off remains) n e h ours = subst (λ (k : ℕ). EachCut (FoundAt k (off remains)) (state_of new)) (sym e) (left_before (FoundAt (state_of old).size (off remains)) (h ours))
+
+    book_after_cut : (place : Place) → (book_at (after_cut place)).ours ≡ (book_at place).ours
+    book_after_cut (before_first book) = refl
+    book_after_cut (between remains) = refl
+    book_after_cut (runs conversation) = refl
+    book_after_cut (off remains) = refl
+
+    pub is_cut : (stage : Stage) → medium_in stage ≡ old → LivesGoOn (lives_at stage) (cuts keep ∷ []) [] (lives_at (Rests new))
+    is_cut stage e = record {
+      refusals = false ∷ [];
+      refused = let f = ap (λ (x : Sim). of_all x.refused) e in let g = ap of_all cut.refused_stay in omega (arith, f, g);
+      goes = λ here fits. record {
+        there = record { place = after_cut here.place; armed = false };
+        run = one_run identity false here (record { place = after_cut here.place; armed = false }) (cuts keep) [] (refl, refl);
+        fits = record {
+          is_at = cut_place stage here.place e fits.is_at;
+          found = cut_found here.place (state_of new).size size (subst (λ (x : Sim). (book_at here.place).ours ≡ true → EachCut (FoundAt (state_of x).size here.place) (state_of x)) e fits.found);
+          unfused = λ unarmed. ap (λ (p : Power). p.fuse) cut.power_on;
+        };
+        ours = book_after_cut here.place;
+      };
+      size_stays = size ∙ sym (ap (λ (x : Sim). (state_of x).size) e);
+      identity_stays = refl;
+    }
+
+  -- ---- an event
+
+  module _ (old new : DiskValue Sim) (event : Event) (answer : Answer)
+      (step : IsStep (state_of old.unit.store.medium) (state_of new.unit.store.medium) old event answer new)
+      (follows : ComesAfter old.unit.store.medium new.unit.store.medium)
+      (on : old.unit.store.medium.power.off ≡ false) where
+    abbrev before : State
+    before = state_of old.unit.store.medium
+
+    abbrev after : State
+    after = state_of new.unit.store.medium
+
+    abbrev grew : Bool
+    grew = nat_lt before.failures after.failures
+
+    module _ (still : new.unit.store.medium.power.off ≡ false) where
+      ends_at : (place : Place) (armed : Bool) → FitsLives (lives_at (Runs old)) (record { place = place; armed = armed })
+          → LivesGoTo (lives_at (Runs new)) (record { place = place; armed = armed }) (plays event ∷ []) (answer ∷ []) (grew ∷ [])
+      ends_at (before_first book) armed fits = absurd fits.is_at
+      ends_at (between remains) armed fits = absurd fits.is_at
+      ends_at (runs conversation) armed fits =
+          let p = step.proceeds conversation.unit.book fits.is_at.fits in
+          let there : Standing = record { place = runs (over new p.later); armed = armed } in
+          let moves : UnitStep grew conversation event answer (over new p.later) =
+          subst (λ (x : Conversation UnitState). UnitStep grew x event answer (over new p.later)) (sym fits.is_at.says) p.moves in
+          record {
+            there = there;
+            run = one_run identity grew (record { place = runs conversation; armed = armed }) there (plays event) (answer ∷ [])
+                (answer, refl, inl (record { later = over new p.later; step = moves; after = refl }));
+            fits = record {
+              is_at = record { on = still; says = refl; fits = p.fits };
+              found = λ ours. p.at_exit (sym p.ours ∙ ours);
+              unfused = λ e. follows.no_fuse_stays (fits.unfused e);
+            };
+            ours = p.ours;
+          }
+      ends_at (off remains) armed fits = on_or_off old.unit.store.medium.power.off on fits.is_at
+
+      -- the power is on afterwards
+      pub event_ends : LivesGoOn (lives_at (Runs old)) (plays event ∷ []) (answer ∷ []) (lives_at (Runs new))
+      event_ends = record {
+        refusals = grew ∷ [];
+        refused = one_counted grew before.failures after.failures (ltb-true before.failures after.failures) step.elapses.failures_stay;
+        goes = λ here fits. ends_at here.place here.armed fits;
+        size_stays = step.elapses.size_stays;
+        identity_stays = refl;
+      }
+
+    module _ (is_off : new.unit.store.medium.power.off ≡ true) where
+      cut_at : (place : Place) (armed : Bool) → FitsLives (lives_at (Runs old)) (record { place = place; armed = armed })
+          → LivesGoTo (lives_at (Runs new)) (record { place = place; armed = armed }) (plays event ∷ []) (Off ∷ []) (true ∷ [])
+      cut_at (before_first book) armed fits = absurd fits.is_at
+      cut_at (between remains) armed fits = absurd fits.is_at
+      cut_at (runs conversation) armed fits =
+          let book = conversation.unit.book in
+          let p = step.proceeds book fits.is_at.fits in
+          let remains : Remains = record { book = book; in_progress = write_of_event conversation event } in
+          let here : Standing = record { place = runs conversation; armed = armed } in
+          let there : Standing = record { place = off remains; armed = armed } in
+          record {
+            there = there;
+            run = one_run identity true here there (plays event) (Off ∷ []) (
+              Off,
+              refl,
+              inr (record {
+                answered = refl;
+                goes = record {
+                  fused = armed_then here old.unit.store.medium new.unit.store.medium follows fits.unfused on is_off;
+                  cause = refl;
+                  after = refl;
+                };
+              }),
+            );
+            fits = record {
+              is_at = is_off;
+              found = λ ours. subst (λ (n : ℕ). EachCut (FoundWith n book remains.in_progress) after) (sym step.elapses.size_stays)
+                  (subst (λ (x : Conversation UnitState). EachCut (FoundWith before.size book (write_of_event x event)) after) (sym fits.is_at.says)
+                  (at_exit (FoundWith before.size book (write_of_event (over old book) event)) before after (is_sound new.unit.store.medium) (p.cuts ours)));
+              unfused = λ e. follows.no_fuse_stays (fits.unfused e);
+            };
+            ours = refl;
+          }
+      cut_at (off remains) armed fits = on_or_off old.unit.store.medium.power.off on fits.is_at
+
+      -- power went in it
+      pub event_is_cut : LivesGoOn (lives_at (Runs old)) (plays event ∷ []) (Off ∷ []) (lives_at (Runs new))
+      event_is_cut = record {
+        refusals = true ∷ [];
+        refused = one_counted true before.failures after.failures (λ e. (follows.goes_off on is_off).1) follows.failures_stay;
+        goes = λ here fits. cut_at here.place here.armed fits;
+        size_stays = step.elapses.size_stays;
+        identity_stays = refl;
+      }
+
+  -- power is off already
+  off_at_rest : (m : Sim) (event : Event) → m.power.off ≡ true → (place : Place) (armed : Bool)
+      → FitsLives (lives_at (Rests m)) (record { place = place; armed = armed })
+      → LivesStep identity false (record { place = place; armed = armed }) (plays event) (Off ∷ []) (record { place = place; armed = armed })
+  off_at_rest m event is_off (before_first book) armed fits = on_or_off m.power.off fits.is_at.0.on is_off
+  off_at_rest m event is_off (between remains) armed fits = on_or_off m.power.off fits.is_at.on is_off
+  off_at_rest m event is_off (runs conversation) armed fits = absurd fits.is_at
+  off_at_rest m event is_off (off remains) armed fits = (Off, refl, (refl, refl))
+
+  off_running : (disk : DiskValue Sim) (event : Event) → disk.unit.store.medium.power.off ≡ true → (place : Place) (armed : Bool)
+      → FitsLives (lives_at (Runs disk)) (record { place = place; armed = armed })
+      → LivesStep identity false (record { place = place; armed = armed }) (plays event) (Off ∷ []) (record { place = place; armed = armed })
+  off_running disk event is_off (before_first book) armed fits = absurd fits.is_at
+  off_running disk event is_off (between remains) armed fits = absurd fits.is_at
+  off_running disk event is_off (runs conversation) armed fits = on_or_off disk.unit.store.medium.power.off fits.is_at.on is_off
+  off_running disk event is_off (off remains) armed fits = (Off, refl, (refl, refl))
+
+  -- an event that comes to a medium without power
+  pub event_at_rest : (m : Sim) (event : Event) → m.power.off ≡ true → LivesGoOn (lives_at (Rests m)) (plays event ∷ []) (Off ∷ []) (lives_at (Rests m))
+  event_at_rest m event is_off = stays (Rests m) (plays event) (Off ∷ []) (λ here fits. off_at_rest m event is_off here.place here.armed fits)
+
+  -- an event that comes to a disk without power
+  pub event_off : (disk : DiskValue Sim) (event : Event) → disk.unit.store.medium.power.off ≡ true
+      → LivesGoOn (lives_at (Runs disk)) (plays event ∷ []) (Off ∷ []) (lives_at (Runs disk))
+  event_off disk event is_off = stays (Runs disk) (plays event) (Off ∷ []) (λ here fits. off_running disk event is_off here.place here.armed fits)

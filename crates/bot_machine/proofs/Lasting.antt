@@ -1,0 +1,120 @@
+-- Whole lives, one after the other, from the first.
+use Rattle.std.proofs.Common.{◌≡◌, ◌<◌, ◌≤◌, ℕ, ◌+◌, suc, Bool, true, false, List, [], ◌∷◌, ◌++◌, None, length, take, drop, get_or, sum_by, refl, sym, subst, ◌∙◌, ap, arith, append_assoc, drop-cons}
+use Rattle.std.proofs.lemmas.List.{append-nil, take_more, take-append-drop}
+use Rattle.std.proofs.lemmas.List.Sums.{sum_by-append, sum_by-take-le}
+use Rattle.medium.specs.Sim.{Sim, state_of}
+use Rattle.recovery.specs.declared.start_fault.StartFault.{StartFault}
+use Rattle.pages.specs.Identification.{Identification}
+use Rattle.blocks.specs.Book.{Book}
+use Rattle.bot_machine.specs.declared.event.Answer.{Answer}
+use Rattle.bot_machine.specs.declared.life.Life.{Life}
+use Rattle.bot_machine.specs.declared.stage.Stage.TheVariants.{Rests}
+use Rattle.bot_machine.specs.Answers.{Room}
+use Rattle.bot_machine.specs.Conversation.{refused_events}
+use Rattle.bot_machine.specs.Lives.{Action, before_first, Standing, LivesRun}
+use Rattle.bot_machine.specs.LivesValue.{LivesValue, medium_in, IsAtRest, OpensOn, FitsLives, LivesGoOn, LivesStop}
+use Rattle.bot_machine.specs.Lifetimes.{actions_of, actions_of_all, armed_by, events_in, AppendsFor, EndsIn, AreLived, StopsIn, AreLivedUpTo}
+use Rattle.bot_machine.proofs.Playing.{rests}
+use Rattle.bot_machine.proofs.Beginning.{first_found}
+
+-- no life yet
+pub none_yet : (lives : LivesValue) (answers : Room) → AppendsFor lives lives answers answers [] 0
+none_yet lives answers = record {
+  told = [];
+  appends = ap (λ (l : List Answer). record answers { list = l }) (sym (append-nil answers.list));
+  one_each = refl;
+  goes_on = rests lives;
+}
+
+-- what is done in some lives and then in others
+actions_of_all-append : (some more : List Life) → actions_of_all (some ++ more) ≡ actions_of_all some ++ actions_of_all more
+actions_of_all-append [] more = refl
+actions_of_all-append (life ∷ some) more =
+    ap (λ (l : List Action). actions_of life ++ l) (actions_of_all-append some more)
+    ∙ sym (append_assoc (actions_of life) (actions_of_all some) (actions_of_all more))
+
+module _ (lives : List Life) (i : ℕ) (life : Life) (below : i < length lives) (is : life ≡ get_or lives i life) where
+  one_more : take (i + 1) lives ≡ take i lives ++ life ∷ []
+  one_more = take_more lives i life below ∙ ap (λ (x : Life). take i lives ++ x ∷ []) (sym is)
+
+  -- one life more
+  pub actions_more : actions_of_all (take (i + 1) lives) ≡ actions_of_all (take i lives) ++ actions_of life
+  actions_more = ap actions_of_all one_more ∙ actions_of_all-append (take i lives) (life ∷ [])
+      ∙ ap (λ (l : List Action). actions_of_all (take i lives) ++ l) (append-nil (actions_of life))
+
+  pub events_more : events_in (take (i + 1) lives) ≡ events_in (take i lives) + length life.events.items
+  events_more =
+      let joined = ap events_in one_more ∙ sum_by-append (λ (l : Life). length l.events.items) (take i lives) (life ∷ []) in
+      omega (arith, joined)
+
+  -- there is room for its answers
+  pub room_left : events_in (take i lives) + length life.events.items ≤ events_in lives
+  room_left = omega (arith, events_more, sum_by-take-le (λ (l : Life). length l.events.items) lives (i + 1))
+
+  -- the lives before it, and those behind
+  pub apart : lives ≡ take i lives ++ life ∷ drop (suc i) lives
+  apart = sym (take-append-drop i lives)
+      ∙ ap (λ (l : List Life). take i lives ++ l) (drop-cons lives i life below ∙ ap (λ (x : Life). x ∷ drop (suc i) lives) (sym is))
+
+-- the first lives, over a medium that opens with this book
+first_fits : (m : Sim) (identity : Identification) → IsAtRest m → m.power.fuse ≡ None → (book : Book) → OpensOn (state_of m) book
+    → FitsLives (record { identity = identity; stage = Rests m }) (record { place = before_first book; armed = false })
+first_fits m identity rest unfused book opens = record {
+  is_at = (rest, opens);
+  found = first_found m book rest.flushed opens;
+  unfused = λ unarmed. unfused;
+}
+
+module _ (m : Sim) (identity : Identification) (rest : IsAtRest m) (unfused : m.power.fuse ≡ None) (after : LivesValue) (told : List Answer) where
+  abbrev first : LivesValue
+  first = record { identity = identity; stage = Rests m }
+
+  pub all_lived : (lives : List Life) → LivesGoOn first (actions_of_all lives) told after → length told ≡ events_in lives
+      → IsAtRest (medium_in after.stage) → (medium_in after.stage).power.fuse ≡ None → AreLived m identity lives told (medium_in after.stage)
+  all_lived lives on one_each rest_after unfused_after = record {
+    one_each = one_each;
+    refusals = on.refusals;
+    refused = on.refused;
+    ends = ends;
+    rests = rest_after;
+    unfused = unfused_after;
+  }
+    where
+      ends : (book : Book) → OpensOn (state_of m) book → EndsIn identity book (actions_of_all lives) told on.refusals (medium_in after.stage)
+      ends book opens =
+          let here : Standing = record { place = before_first book; armed = false } in
+          let g = on.goes here (first_fits m identity rest unfused book opens) in
+          record {
+            last = g.there;
+            run = subst (λ (x : Identification). LivesRun x here (actions_of_all lives) told on.refusals g.there) on.identity_stays g.run;
+            found = λ ours. g.fits.found (g.ours ∙ ours);
+          }
+
+  pub lived_up_to : (lives lived rest : List Life) (life : Life) (fault : StartFault) → lives ≡ lived ++ life ∷ rest
+      → LivesStop first (actions_of_all lived ++ armed_by life.fuse) told fault after → length told ≡ events_in lived
+      → AreLivedUpTo m identity lives told fault (medium_in after.stage)
+  lived_up_to lives lived others life fault lives_are stop one_each = record {
+    lived = lived;
+    life = life;
+    rest = others;
+    lives_are = lives_are;
+    one_each = one_each;
+    refusals = stop.refusals;
+    refused = stop.refused;
+    stops = stops;
+    on = stop.on;
+  }
+    where
+      stops : (book : Book) → OpensOn (state_of m) book → StopsIn identity book (actions_of_all lived ++ armed_by life.fuse) told stop.refusals
+          (refused_events stop.refusals + (state_of m).failures) fault (medium_in after.stage)
+      stops book opens =
+          let here : Standing = record { place = before_first book; armed = false } in
+          let g = stop.goes here (first_fits m identity rest unfused book opens) in
+          record {
+            last = g.there;
+            run = subst (λ (x : Identification). LivesRun x here (actions_of_all lived ++ armed_by life.fuse) told stop.refusals g.there) stop.identity_stays g.run;
+            next = g.book;
+            opens = g.opens;
+            cause = λ ours. g.cause (g.ours ∙ ours);
+            found = λ ours. g.found (g.ours ∙ ours);
+          }

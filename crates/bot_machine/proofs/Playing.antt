@@ -1,0 +1,155 @@
+-- Lives go on: one run of actions after another.
+use Rattle.std.proofs.Common.{◌≡◌, ℕ, ◌+◌, ◌≤◌, ◌<◌, Bool, true, false, List, [], ◌∷◌, ◌++◌, length, length-append, refl, sym, subst, ◌∙◌, ap, arith, append_assoc}
+use Rattle.std.proofs.lemmas.List.{append-nil}
+use Rattle.pages.specs.Identification.{Identification}
+use Rattle.medium.specs.Medium.{State}
+use Rattle.recovery.specs.declared.start_fault.StartFault.{StartFault}
+use Rattle.recovery.specs.declared.start_fault.StartFault.TheVariants.{NoMemory, Read, Write, Flush, BadSuper, BadVersion, BadSize, BadHead, StampsUsedUp}
+use Rattle.blocks.specs.Book.{Book}
+use Rattle.bot_machine.specs.declared.event.Answer.{Answer}
+use Rattle.bot_machine.specs.Answers.{Room}
+use Rattle.bot_machine.specs.Conversation.{refused_events}
+use Rattle.bot_machine.specs.Lives.{Action, starts, Standing, LivesStep, LivesRun}
+use Rattle.bot_machine.specs.Lifetimes.{AppendsFor}
+use Rattle.bot_machine.specs.LivesValue.{LivesValue, state_in, FitsLives, LivesGoTo, LivesGoOn, MayRefuse, LivesStopAt, LivesStop}
+
+-- events with a refused call are counted one list after the other
+pub refused_events-append : (xs ys : List Bool) → refused_events (xs ++ ys) ≡ refused_events xs + refused_events ys
+refused_events-append [] ys = omega arith
+refused_events-append (true ∷ xs) ys = omega (arith, refused_events-append xs ys)
+refused_events-append (false ∷ xs) ys = refused_events-append xs ys
+
+-- one run after another
+pub LivesRun-append : (identity : Identification) (xs ys : List Action) (told more : List Answer)
+    (refusals others : List Bool) (a b c : Standing) → LivesRun identity a xs told refusals b
+    → LivesRun identity b ys more others c
+    → LivesRun identity a (xs ++ ys) (told ++ more) (refusals ++ others) c
+LivesRun-append identity [] ys told more [] others a b c r s =
+    let moved : LivesRun identity a ys more others c = subst (λ (x : Standing). LivesRun identity x ys more others c) r.1 s in
+    subst (λ (l : List Answer). LivesRun identity a ys (l ++ more) others c) (sym r.0) moved
+LivesRun-append identity (x ∷ xs) ys told more (refused ∷ refusals) others a b c r s = (
+  r.0,
+  r.1,
+  r.2 ++ more,
+  ap (λ (l : List Answer). l ++ more) r.3 ∙ append_assoc r.1 r.2 more,
+  r.4,
+  LivesRun-append identity xs ys r.2 more refusals others r.0 b c r.5 s,
+)
+LivesRun-append identity [] ys told more (refused ∷ refusals) others a b c r s = absurd r
+LivesRun-append identity (x ∷ xs) ys told more [] others a b c r s = absurd r
+
+-- the refusals of one part and of the next
+counted : (xs ys : List Bool) (a b c : ℕ) → refused_events xs + a ≤ b → refused_events ys + b ≤ c → refused_events (xs ++ ys) + a ≤ c
+counted xs ys a b c h k = omega (arith, refused_events-append xs ys, h, k)
+
+-- nothing is done
+pub rests : (lives : LivesValue) → LivesGoOn lives [] [] lives
+rests lives = record {
+  refusals = [];
+  refused = omega arith;
+  goes = λ here fits. record { there = here; run = (refl, refl); fits = fits; ours = refl };
+  size_stays = refl;
+  identity_stays = refl;
+}
+
+module _ (a b c : LivesValue) (xs ys : List Action) (told more : List Answer) (first : LivesGoOn a xs told b) where
+  -- the first part, by the identity at the end
+  first_run : c.identity ≡ b.identity → (here : Standing) (fits : FitsLives a here) → LivesRun c.identity here xs told first.refusals (first.goes here fits).there
+  first_run same here fits = subst (λ (i : Identification). LivesRun i here xs told first.refusals (first.goes here fits).there) (sym same) (first.goes here fits).run
+
+  -- lives go on, and go on
+  pub lives_go_on : LivesGoOn b ys more c → LivesGoOn a (xs ++ ys) (told ++ more) c
+  lives_go_on next = record {
+    refusals = first.refusals ++ next.refusals;
+    refused = counted first.refusals next.refusals (state_in a.stage).failures (state_in b.stage).failures (state_in c.stage).failures first.refused next.refused;
+    goes = goes;
+    size_stays = next.size_stays ∙ first.size_stays;
+    identity_stays = next.identity_stays ∙ first.identity_stays;
+  }
+    where
+      goes : (here : Standing) → FitsLives a here → LivesGoTo c here (xs ++ ys) (told ++ more) (first.refusals ++ next.refusals)
+      goes here fits =
+          let mid = first.goes here fits in
+          let last = next.goes mid.there mid.fits in
+          record {
+            there = last.there;
+            run = LivesRun-append c.identity xs ys told more first.refusals next.refusals here mid.there last.there (first_run next.identity_stays here fits) last.run;
+            fits = last.fits;
+            ours = last.ours ∙ mid.ours;
+          }
+
+  -- lives go on, and a start is refused
+  pub lives_stop : (fault : StartFault) → LivesStop b ys more fault c → LivesStop a (xs ++ ys) (told ++ more) fault c
+  lives_stop fault next = record {
+    refusals = first.refusals ++ next.refusals;
+    refused = counted first.refusals next.refusals (state_in a.stage).failures (state_in b.stage).failures (state_in c.stage).failures first.refused next.refused;
+    goes = goes;
+    rests = next.rests;
+    on = next.on;
+    size_stays = next.size_stays ∙ first.size_stays;
+    identity_stays = next.identity_stays ∙ first.identity_stays;
+  }
+    where
+      less : refused_events (first.refusals ++ next.refusals) + (state_in a.stage).failures ≤ refused_events next.refusals + (state_in b.stage).failures
+      less = let h = first.refused in omega (arith, refused_events-append first.refusals next.refusals, h)
+
+      causes : (book : Book) (fault : StartFault) (failures : ℕ) → MayRefuse book (refused_events next.refusals + (state_in b.stage).failures) failures fault
+          → MayRefuse book (refused_events (first.refusals ++ next.refusals) + (state_in a.stage).failures) failures fault
+      causes book NoMemory failures h = h
+      causes book Read failures h = omega (arith, less, h)
+      causes book Write failures h = omega (arith, less, h)
+      causes book Flush failures h = omega (arith, less, h)
+      causes book BadSuper failures h = h
+      causes book BadVersion failures h = h
+      causes book BadSize failures h = h
+      causes book BadHead failures h = h
+      causes book StampsUsedUp failures h = h
+
+      goes : (here : Standing) → FitsLives a here → LivesStopAt c here (xs ++ ys) (told ++ more) (first.refusals ++ next.refusals)
+          (refused_events (first.refusals ++ next.refusals) + (state_in a.stage).failures) fault
+      goes here fits =
+          let mid = first.goes here fits in
+          let last = next.goes mid.there mid.fits in
+          record {
+            there = last.there;
+            run = LivesRun-append c.identity xs ys told more first.refusals next.refusals here mid.there last.there (first_run next.identity_stays here fits) last.run;
+            book = last.book;
+            opens = last.opens;
+            ours = last.ours ∙ mid.ours;
+            cause = λ ours. causes last.book fault (state_in c.stage).failures (last.cause ours);
+            found = last.found;
+          }
+
+-- appending, and then more, is appending all
+pub appended : (first mid last : Room) (told more : List Answer) → mid ≡ record first { list = first.list ++ told }
+    → last ≡ record mid { list = mid.list ++ more } → last ≡ record first { list = first.list ++ (told ++ more) }
+appended first mid last told more e f =
+    f ∙ ap (λ (x : Room). record x { list = x.list ++ more }) e ∙ ap (λ (l : List Answer). record first { list = l }) (append_assoc first.list told more)
+
+-- one more part of lives, and its answers
+pub appends_on : (a b c : LivesValue) (first mid last : Room) (xs ys : List Action) (m n : ℕ)
+    → AppendsFor a b first mid xs m → AppendsFor b c mid last ys n → AppendsFor a c first last (xs ++ ys) (m + n)
+appends_on a b c first mid last xs ys m n h k = record {
+  told = h.told ++ k.told;
+  appends = appended first mid last h.told k.told h.appends k.appends;
+  one_each = let e = h.one_each in let f = k.one_each in omega (arith, length-append h.told k.told, e, f);
+  goes_on = lives_go_on a b c xs ys h.told k.told h.goes_on k.goes_on;
+}
+
+-- a fuse or none, a start, events with their answers, and a cut
+pub whole_life : (a b c d e : LivesValue) (first last : Room) (armed events : List Action) (n : ℕ) (cut : Action)
+    → LivesGoOn a armed [] b → LivesGoOn b (starts ∷ []) [] c → AppendsFor c d first last events n → LivesGoOn d (cut ∷ []) [] e
+    → AppendsFor a e first last (armed ++ starts ∷ events ++ cut ∷ []) n
+whole_life a b c d e first last armed events n cut h_arm h_start h_events h_cut = record {
+  told = h_events.told;
+  appends = h_events.appends;
+  one_each = h_events.one_each;
+  goes_on = subst (λ (l : List Answer). LivesGoOn a (armed ++ starts ∷ events ++ cut ∷ []) l e) (append-nil h_events.told)
+      (lives_go_on a d e (armed ++ starts ∷ events) (cut ∷ []) h_events.told []
+      (lives_go_on a b d armed (starts ∷ events) [] h_events.told h_arm (lives_go_on b c d (starts ∷ []) events [] h_events.told h_start h_events.goes_on))
+      h_cut);
+}
+
+-- a fuse or none, and a start that is refused
+pub no_life : (a b c : LivesValue) (armed : List Action) (fault : StartFault) → LivesGoOn a armed [] b → LivesStop b [] [] fault c → LivesStop a armed [] fault c
+no_life a b c armed fault h_arm h_stop = subst (λ (l : List Action). LivesStop a l [] fault c) (append-nil armed) (lives_stop a b c armed [] [] [] h_arm fault h_stop)

@@ -1,0 +1,157 @@
+-- What a packet to Bulk-Out does, by whether it is halted and by what is left of the exchange.
+use Rattle.std.proofs.Common.{◌≡◌, ℕ, Bool, true, false, List, [], slice_range, refl, subst, arith}
+use Rattle.std.specs.Prelude.{None, Option, Result}
+use Rattle.wrappers.specs.declared.case.Endpoint.{Endpoint}
+use Rattle.medium.specs.Medium.{State, IsSound}
+use Rattle.sense.specs.declared.codes.Sense.{Sense}
+use Rattle.blocks.specs.Book.{Book}
+use Rattle.scsi_unit.specs.Rules.{CarriesOut, Ticks}
+use Rattle.scsi_unit.specs.Serving.{has_refused, IsSparing, TicksOver}
+use Rattle.scsi_unit.specs.UnitValue.{state_of}
+use Rattle.bot_machine.specs.declared.event.Event.TheVariants as event
+use Rattle.bot_machine.specs.declared.event.Answer.{Answer}
+use Rattle.bot_machine.specs.declared.event.Answer.TheVariants as answer
+use Rattle.bot_machine.specs.declared.wire.Taking.{Taking}
+use Rattle.bot_machine.specs.declared.wire.Phase.{Phase}
+use Rattle.bot_machine.specs.declared.wire.Phase.TheVariants.{Command, DataOut, DataIn, Status}
+use Rattle.bot_machine.specs.Exchange.{Script, finished, sending, Line, in_answer, after_in}
+use Rattle.bot_machine.specs.Conversation.{OutStep, SetupStep}
+use Rattle.bot_machine.specs.Intentions.{Intends}
+use Rattle.bot_machine.specs.Acts.{PacketCarriesOut, write_of_packet}
+use Rattle.bot_machine.specs.Disk.{DiskValue, on_line, FitsDisk, Proceeds, IsStep, Elapses}
+use Rattle.bot_machine.specs.Refinement.{taking_of, left_of, halt_of}
+use Rattle.bot_machine.specs.Packets.{packets_of}
+use Rattle.bot_machine.specs.Serving.{OpensOn, TakesOn, RestsOn, SparesOn}
+use Rattle.bot_machine.proofs.Proceeding.{staying, proceeding, proceeding_so}
+
+-- no call, no time
+pub no_time : (m : State) → Elapses m m
+no_time m = record { failures_stay = omega arith; size_stays = refl }
+
+module _ {M : Type 0} (before after : State) (old new : DiskValue M) (packet : List ℕ) (told : Answer) where
+  -- what a packet does where Bulk-Out is halted or not, and so much is left of the exchange
+  pub record DoesFor (halted : Bool) (left : Script) : Type 0 where
+    pub proceeds : (book : Book) → FitsDisk before old book → Proceeds before after old.unit new.unit
+        (λ unit later. OutStep Intends CarriesOut Ticks (has_refused before after) halted left packet
+        (on_line old.line unit) told (on_line new.line later))
+        (write_of_packet halted left packet (state_of old.unit book)) book
+    pub rests : (book : Book) → FitsDisk before old book
+        → ((block taken : List ℕ) → PacketCarriesOut halted left packet (state_of old.unit book) block taken → ⊥)
+        → new.unit ≡ old.unit
+    pub spares : (book : Book) → FitsDisk before old book → (block taken : List ℕ)
+        → PacketCarriesOut halted left packet (state_of old.unit book) block taken
+        → (answer : Result (List ℕ) Sense) × IsSparing block taken old.unit answer new.unit
+    pub elapses : Elapses before after
+
+  does : DoesFor old.line.out_halted old.line.left
+      → IsStep before after old (event.Out (record { items = packet })) told new
+  does d = record {
+    proceeds = d.proceeds;
+    rests = λ book fits none. d.rests book fits (λ block taken carries. none (block, taken, carries));
+    spares = d.spares;
+    elapses = d.elapses;
+  }
+
+  does_for : (halted : Bool) (left : Script) → halted ≡ old.line.out_halted → left ≡ old.line.left → DoesFor halted left
+      → IsStep before after old (event.Out (record { items = packet })) told new
+  does_for halted left same_halt same_left d =
+      does (subst (λ h. DoesFor h old.line.left) same_halt (subst (λ l. DoesFor halted l) same_left d))
+
+-- a packet to a halted endpoint
+pub stalled : {M : Type 0} (m : State) (disk : DiskValue M) (packet : List ℕ) → IsSound m
+    → true ≡ disk.line.out_halted → IsStep m m disk (event.Out (record { items = packet })) answer.Stall disk
+stalled m disk packet sound halted =
+    does_for m m disk disk packet answer.Stall true disk.line.left halted refl (record {
+      proceeds = λ book fits. staying m disk.unit _ book sound fits (refl, refl);
+      rests = λ book fits none. refl;
+      spares = λ book fits block taken carries. absurd carries;
+      elapses = no_time m;
+    })
+
+-- a packet while something is sent
+pub not_ready : {M : Type 0} (m : State) (disk : DiskValue M) (packet : List ℕ) (packets : List (List ℕ)) (halt : Option Endpoint)
+    (status : List ℕ) → IsSound m → false ≡ disk.line.out_halted → sending packets halt status ≡ disk.line.left
+    → IsStep m m disk (event.Out (record { items = packet })) answer.Nak disk
+not_ready m disk packet packets halt status sound halted left =
+    does_for m m disk disk packet answer.Nak false (sending packets halt status) halted left (record {
+      proceeds = λ book fits. staying m disk.unit _ book sound fits (refl, refl);
+      rests = λ book fits none. refl;
+      spares = λ book fits block taken carries. absurd carries;
+      elapses = no_time m;
+    })
+
+-- a packet where a command wrapper is expected
+pub begins : {M : Type 0} (before after : State) (old new : DiskValue M) (packet : List ℕ)
+    → false ≡ old.line.out_halted → finished ≡ old.line.left
+    → OpensOn before after old.unit new.unit old.line new.line packet
+    → RestsOn before old.unit new.unit finished packet → SparesOn before old.unit new.unit finished packet
+    → Elapses before after → IsStep before after old (event.Out (record { items = packet })) answer.Ack new
+begins before after old new packet halted left opens rests spares elapses =
+    does_for before after old new packet answer.Ack false finished halted left (record {
+      proceeds = λ book fits. proceeding_so before after old.unit new.unit _ _ None None book (opens book fits) refl
+          (λ later moves. (refl, moves));
+      rests = rests;
+      spares = spares;
+      elapses = elapses;
+    })
+
+-- a packet where data is expected
+pub goes_on : {M : Type 0} (before after : State) (old new : DiskValue M) (packet : List ℕ) (t : Taking) (taken : List ℕ)
+    → false ≡ old.line.out_halted → taking_of t taken ≡ old.line.left
+    → TakesOn before after old.unit new.unit old.line new.line t taken packet
+    → RestsOn before old.unit new.unit (taking_of t taken) packet
+    → SparesOn before old.unit new.unit (taking_of t taken) packet
+    → Elapses before after → IsStep before after old (event.Out (record { items = packet })) answer.Ack new
+goes_on before after old new packet t taken halted left takes rests spares elapses =
+    does_for before after old new packet answer.Ack false (taking_of t taken) halted left (record {
+      proceeds = λ book fits. proceeding_so before after old.unit new.unit _ _ _ _ book (takes book fits) refl
+          (λ later moves. (refl, moves));
+      rests = rests;
+      spares = spares;
+      elapses = elapses;
+    })
+
+-- a step in the background
+pub ticked : {M : Type 0} (before after : State) (old new : DiskValue M)
+    → TicksOver before after old.unit new.unit → new.line ≡ old.line
+    → IsStep before after old event.Tick answer.Ticked new
+ticked before after old new ticks line = record {
+  proceeds = λ book fits.
+      let one = ticks.line book fits in
+      proceeding before after old.unit new.unit _ None book book (refl, one.0, line) one.1 refl (ticks.cuts book fits);
+  rests = λ book fits none. absurd (none tt);
+  spares = λ book fits block taken carries. absurd carries;
+  elapses = record {
+    failures_stay = ticks.failures_stay;
+    size_stays = ticks.size_stays;
+  };
+}
+
+-- a token to Bulk-In
+pub token : {M : Type 0} (m : State) (disk : DiskValue M) → IsSound m
+    → IsStep m m disk event.In (in_answer disk.line) (record disk { line = after_in disk.line })
+token m disk sound = record {
+  proceeds = λ book fits. staying m disk.unit _ book sound fits (refl, refl);
+  rests = λ book fits none. refl;
+  spares = λ book fits block taken carries. absurd carries;
+  elapses = no_time m;
+}
+
+-- a setup packet
+pub asked : {M : Type 0} (m : State) (disk : DiskValue M) (packet : List ℕ) (told : Answer) (line : Line) → IsSound m
+    → SetupStep packet disk.line told line → IsStep m m disk (event.Setup packet) told (record disk { line = line })
+asked m disk packet told line sound step = record {
+  proceeds = λ book fits. staying m disk.unit _ book sound fits (step, refl);
+  rests = λ book fits none. refl;
+  spares = λ book fits block taken carries. absurd carries;
+  elapses = no_time m;
+}
+
+-- in the phases that take nothing something is sent
+pub sends : (phase : Phase) → (phase ≡ Command → ⊥) → ((t : Taking) → phase ≡ DataOut t → ⊥) → (taken staging status : List ℕ)
+    → (packets : List (List ℕ)) × (halt : Option Endpoint) × (sending packets halt status ≡ left_of phase taken staging status)
+sends Command command out taken staging status = absurd (command refl)
+sends (DataOut t) command out taken staging status = absurd (out t refl)
+sends (DataIn from to halt) command out taken staging status =
+    (packets_of (slice_range staging from to), halt_of halt, refl)
+sends Status command out taken staging status = ([], None, refl)

@@ -1,0 +1,79 @@
+use Rattle.std.proofs.Common.{◌≡◌, ◌+◌, ◌++◌, ◌≤◌, ℕ, None, List, [], take, drop, suc, length, length-append, sym, subst, ◌∙◌, ap, arith}
+use Rattle.std.proofs.lemmas.List.{append-nil, take_all}
+use Rattle.bot_machine.specs.declared.event.Answer.{Answer}
+use Rattle.bot_machine.specs.declared.life.Life.{Life}
+use Rattle.bot_machine.specs.declared.stage.Stage.TheVariants.{Rests}
+use Rattle.bot_machine.specs.Answers.{Room}
+use Rattle.bot_machine.specs.Lives.{Action}
+use Rattle.bot_machine.specs.LivesValue.{LivesValue, medium_in, IsAtRest, LivesStop}
+use Rattle.bot_machine.specs.Lifetimes.{actions_of, actions_of_all, armed_by, events_in, AppendsFor}
+use Rattle.bot_machine.proofs.Playing.{appends_on, lives_stop}
+use Rattle.bot_machine.proofs.Lasting.{none_yet, actions_more, events_more, room_left, apart, all_lived, lived_up_to}
+use Rattle.bot_machine.proofs.lifetimes.run_lives.Goals as goal
+
+pub loop-life-init : goal.loop-life-init
+loop-life-init c =
+    let first : LivesValue = record { identity = c.args.identity; stage = Rests c.args.medium } in
+    let answers = c.args.answers.now in
+    record {
+      run = subst (λ (x : LivesValue). AppendsFor first x answers answers [] 0) (sym c.new-run.ensures.value) (none_yet first answers);
+      rests = rw c.new-run.ensures.value c.requires.rests;
+      unfused = rw c.new-run.ensures.value c.requires.unfused;
+    }
+
+pub live-requires : goal.live-requires
+live-requires c =
+    let appends = c.loop-life.invariant.run in
+    let lists = ap (λ (x : Room). length x.list) appends.appends in
+    let rooms = ap (λ (x : Room). x.room) appends.appends in
+    let told = appends.one_each in
+    let left = room_left c.args.lives.now c.loop-life.life-index c.life-item.result c.loop-life-test.true c.life-item.is in
+    let room = c.requires.room in
+    omega (arith, lists, rooms, told, left, room, length-append c.args.answers.now.list appends.told)
+
+pub returns-in-Err-clause-err : goal.returns-in-Err-clause-err
+returns-in-Err-clause-err c =
+    let first : LivesValue = record { identity = c.args.identity; stage = Rests c.args.medium } in
+    let lives = c.args.lives.now in
+    let i = c.loop-life.life-index in
+    let life = c.life-item.result in
+    let lived = c.loop-life.invariant.run in
+    let stop : LivesStop first (actions_of_all (take i lives) ++ armed_by life.fuse) lived.told c.in-Err.fault c.live.new.run =
+    subst (λ (l : List Answer). LivesStop first (actions_of_all (take i lives) ++ armed_by life.fuse) l c.in-Err.fault c.live.new.run) (append-nil lived.told)
+    (lives_stop first c.loop-life.run c.live.new.run (actions_of_all (take i lives)) (armed_by life.fuse) lived.told [] lived.goes_on c.in-Err.fault c.in-Err.ensures.err) in (
+      lived.told,
+      c.in-Err.ensures.unanswered ∙ lived.appends,
+      rw c.into_medium.ensures (lived_up_to c.args.medium c.args.identity c.requires.rests c.requires.unfused c.live.new.run lived.told
+          lives (take i lives) (drop (suc i) lives) life c.in-Err.fault (apart lives i life c.loop-life-test.true c.life-item.is) stop lived.one_each),
+    )
+
+pub loop-life-preserved : goal.loop-life-preserved
+loop-life-preserved c =
+    let first : LivesValue = record { identity = c.args.identity; stage = Rests c.args.medium } in
+    let lives = c.args.lives.now in
+    let i = c.loop-life.life-index in
+    let life = c.life-item.result in
+    let below = c.loop-life-test.true in
+    let more = appends_on first c.loop-life.run c.live.new.run c.args.answers.now c.loop-life.answers c.live.new.answers
+    (actions_of_all (take i lives)) (actions_of life) (events_in (take i lives)) (length life.events.items) c.loop-life.invariant.run c.in_default.ensures.ok in
+    record {
+      run = subst (λ (n : ℕ). AppendsFor first c.live.new.run c.args.answers.now c.live.new.answers (actions_of_all (take (i + 1) lives)) n)
+          (sym (events_more lives i life below c.life-item.is))
+          (subst (λ (l : List Action). AppendsFor first c.live.new.run c.args.answers.now c.live.new.answers l (events_in (take i lives) + length life.events.items))
+          (sym (actions_more lives i life below c.life-item.is)) more);
+      rests = c.in_default.ensures.rests;
+      unfused = c.in_default.ensures.unfused;
+    }
+
+pub returns-clause-ok : goal.returns-clause-ok
+returns-clause-ok c =
+    let first : LivesValue = record { identity = c.args.identity; stage = Rests c.args.medium } in
+    let lives = c.args.lives.now in
+    let i = c.loop-life.life-index in
+    let all : take i lives ≡ lives = take_all i lives c.loop-life-test.false in
+    let run = rw all at c.loop-life.invariant.run in (
+      run.told,
+      run.appends,
+      rw c.into_medium-2.ensures (all_lived c.args.medium c.args.identity c.requires.rests c.requires.unfused c.loop-life.run run.told
+          lives run.goes_on run.one_each c.loop-life.invariant.rests c.loop-life.invariant.unfused),
+    )

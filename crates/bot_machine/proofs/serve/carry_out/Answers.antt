@@ -1,0 +1,46 @@
+use Rattle.std.proofs.Common.{◌≡◌, length, take, arith, length-take}
+use Rattle.std.specs.Prelude.{Ok, Err}
+use Rattle.bot_machine.proofs.UnitLaws.{ours_stay}
+use Rattle.bot_machine.proofs.Sending.{sent_in-size}
+use Rattle.bot_machine.proofs.Packets.{packets_of-none}
+use Rattle.bot_machine.proofs.Proceeding.{proceeding}
+use Rattle.bot_machine.proofs.serve.carry_out.Goals as goal
+
+pub returns-in-Ok-clause-carried_out : goal.returns-in-Ok-clause-carried_out
+returns-in-Ok-clause-carried_out g c = λ taken left book fits.
+    let out = c.carry_out.new.out in
+    let room : length out ≡ 24576 = omega arith in
+    let line = rw c.as_slice.ensures.value at (c.in-Ok.ensures.serves.line book fits) in
+    proceeding _ _ _ _ _ _ book line.0
+    (record {
+      answer = Ok (take c.in-Ok.size out);
+      effect = line.1;
+      moved = λ n intended.
+          let size = rw c.as_slice.ensures.value at c.in-Ok.ensures.sent in
+          omega (arith, size n (c.requires.sends n intended), c.in-Ok.ensures.most, length-take c.in-Ok.size out);
+      after = rw (c.size_sent-size.ensures, ← sent_in-size c.args.exchange.now.case c.in-Ok.size out)
+          at (c.tell.ensures.line taken out left room);
+    })
+    line.2 (ours_stay _ _ _ _ _ _ line.1)
+    (rw c.as_slice.ensures.value at (c.in-Ok.ensures.serves.cuts book fits))
+
+pub returns-in-Ok-clause-phase : goal.returns-in-Ok-clause-phase
+returns-in-Ok-clause-phase g c = c.tell.ensures.phase _
+
+pub returns-in-Err-clause-carried_out : goal.returns-in-Err-clause-carried_out
+returns-in-Err-clause-carried_out g c = λ taken left book fits.
+    let out = c.carry_out.new.out in
+    let room : length out ≡ 24576 = omega arith in
+    let line = rw c.as_slice.ensures.value at (c.in-Err.ensures.serves.line book fits) in
+    proceeding _ _ _ _ _ _ book line.0
+    (record {
+      answer = Err c.in-Err.field-0;
+      effect = line.1;
+      moved = λ n intended. tt;
+      after = rw (c.after_failure.ensures, packets_of-none) at (c.tell-in-Err.ensures.line taken out left room);
+    })
+    line.2 (ours_stay _ _ _ _ _ _ line.1)
+    (rw c.as_slice.ensures.value at (c.in-Err.ensures.serves.cuts book fits))
+
+pub returns-in-Err-clause-phase : goal.returns-in-Err-clause-phase
+returns-in-Err-clause-phase g c = c.tell-in-Err.ensures.phase _

@@ -1,0 +1,65 @@
+use Rattle.std.proofs.Common.{◌≡◌, ◌∙◌, inl, inr, [], refl}
+use Rattle.bot_machine.proofs.Packets.{packets_of-none}
+use Rattle.bot_machine.proofs.Proceeding.{staying, proceeding_so}
+use Rattle.bot_machine.proofs.Opening.{opens, no_write, carries_out, carried_at_once}
+use Rattle.bot_machine.specs.Exchange.{finished, at_once, after_data, never}
+use Rattle.bot_machine.specs.Refinement.{left_of}
+use Rattle.bot_machine.proofs.serve.open.Goals as goal
+
+pub returns-in_default-clause-opens : goal.returns-in_default-clause-opens
+returns-in_default-clause-opens g c = λ taken book fits.
+    let unit = c.args.unit.now in
+    staying _ unit _ book (g.met.M.Medium.sound unit.store.medium) fits
+    (inr (record { unknown = c.in_default.ensures; unit = refl; after = rw c.lock.ensures refl }))
+
+pub returns-in_default-clause-spares : goal.returns-in_default-clause-spares
+returns-in_default-clause-spares g c = λ book fits block taken carries.
+    absurd (c.in_default.ensures carries.command carries.spelled)
+
+pub returns-in-AtOnce-clause-opens : goal.returns-in-AtOnce-clause-opens
+returns-in-AtOnce-clause-opens g c = λ taken book fits.
+    let e = c.in-Some.exchange in
+    let begun = c.in-Some.ensures in
+    proceeding_so _ _ _ _ _ _ _ _ book (c.carry_out.ensures.carried_out taken finished book fits)
+    (no_write _ _ book fits _ e begun [] c.in-AtOnce.ensures)
+    (λ later moves. inl (opens _ _ book fits _ e begun _ _ _ (rw (← c.in-AtOnce.ensures) (rw c.requires.expected moves))))
+
+pub returns-in-AtOnce-clause-rests : goal.returns-in-AtOnce-clause-rests
+returns-in-AtOnce-clause-rests g c = λ book fits none.
+    absurd (none _ _ (carries_out _ _ book fits _ c.in-Some.exchange c.in-Some.ensures c.in-AtOnce.ensures))
+
+pub returns-in-AtOnce-clause-spares : goal.returns-in-AtOnce-clause-spares
+returns-in-AtOnce-clause-spares g c = λ book fits block taken carries.
+    let same = carried_at_once _ _ book fits _ c.in-Some.exchange c.in-Some.ensures block taken carries in
+    rw (same.1, same.2) c.carry_out.ensures.spares
+
+pub returns-in-AfterData-clause-opens : goal.returns-in-AfterData-clause-opens
+returns-in-AfterData-clause-opens g c = λ taken book fits.
+    let unit = c.args.unit.now in
+    staying _ unit _ book (g.met.M.Medium.sound unit.store.medium) fits
+    (inl (opens _ _ book fits _ c.in-Some.exchange c.in-Some.ensures _ _ _
+    (rw (← c.in-AfterData.ensures, ← c.size-due.ensures) (refl, refl))))
+
+pub returns-in-AfterData-clause-spares : goal.returns-in-AfterData-clause-spares
+returns-in-AfterData-clause-spares g c = λ book fits block taken carries.
+    let same = carried_at_once _ _ book fits _ c.in-Some.exchange c.in-Some.ensures block taken carries in
+    absurd (let e : after_data ≡ at_once = c.in-AfterData.ensures ∙ same.0 in cc)
+
+pub returns-in-Never-clause-opens : goal.returns-in-Never-clause-opens
+returns-in-Never-clause-opens g c = λ taken book fits.
+    let unit = c.args.unit.now in
+    let wire = c.args.wire.now in
+    staying _ unit _ book (g.met.M.Medium.sound unit.store.medium) fits
+    (inl (opens _ _ book fits _ c.in-Some.exchange c.in-Some.ensures _ _ _ (rw (← c.in-Never.ensures) (
+      refl,
+      rw packets_of-none at (c.tell.ensures.line taken c.args.staging.now
+          (left_of wire.phase taken c.args.staging.now wire.status) c.requires.room),
+    ))))
+
+pub returns-in-Never-clause-spares : goal.returns-in-Never-clause-spares
+returns-in-Never-clause-spares g c = λ book fits block taken carries.
+    let same = carried_at_once _ _ book fits _ c.in-Some.exchange c.in-Some.ensures block taken carries in
+    absurd (let e : never ≡ at_once = c.in-Never.ensures ∙ same.0 in cc)
+
+pub returns-in-Never-clause-phase : goal.returns-in-Never-clause-phase
+returns-in-Never-clause-phase g c = c.tell.ensures.phase _

@@ -1,0 +1,9 @@
+use Rattle.std.proofs.Common.{◌≡◌}
+use Rattle.bot_machine.specs.declared.stage.Stage.{Stage}
+use Rattle.bot_machine.specs.LivesValue.{HasStarted}
+use Rattle.bot_machine.proofs.Happening.{event_at_rest}
+use Rattle.bot_machine.proofs.stage.play.Goals as goal
+
+pub returns-in-Rests-clause-goes_on : goal.returns-in-Rests-clause-goes_on
+returns-in-Rests-clause-goes_on c = λ identity.
+    rw c.in-Rests.is (event_at_rest identity c.in-Rests.field-0 c.args.event.now (rw c.in-Rests.is at c.requires))

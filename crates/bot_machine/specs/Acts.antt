@@ -1,0 +1,76 @@
+-- What an event has the unit do: carry out a command, or make a step in the background.
+use Rattle.std.specs.Prelude.{◌≡◌, ⊤, ◌≤◌, ℕ, ◌==◌, ◌&&◌, nat_le, Bool, true, false, if◌then◌else◌, List, [], ◌++◌, length, take, Option, None}
+use Rattle.medium.specs.Blocks.{Write}
+use Rattle.wrappers.specs.declared.command.Cbw.{Cbw}
+use Rattle.wrappers.specs.declared.way.Way.{Way}
+use Rattle.wrappers.specs.declared.case.Case.{Case}
+use Rattle.wrappers.specs.Command.{SpellsCommand}
+use Rattle.wrappers.specs.Cases.{IsCase, size_of_way}
+use Rattle.scsi_unit.specs.Rules.{UnitState, write_in_progress}
+use Rattle.bot_machine.specs.declared.event.Event.{Event}
+use Rattle.bot_machine.specs.declared.event.Event.TheVariants as event
+use Rattle.bot_machine.specs.Exchange.{Script, finished, taking, sending, at_once, moment_of}
+use Rattle.bot_machine.specs.Conversation.{Conversation}
+use Rattle.bot_machine.specs.Intentions.{Intends}
+
+-- the packet spells the wrapper of a command that is carried out at once, over no bytes
+pub record CarriesOutAtOnce (packet : List ℕ) (unit : UnitState) (block taken : List ℕ) : Type 0 where
+  pub command : Cbw
+  pub intended : Way
+  pub case : Case
+  pub spelled : SpellsCommand packet command
+  pub intends : Intends unit command.block.items intended
+  pub is_case : IsCase case command.host intended
+  pub is_at_once : moment_of case ≡ at_once
+  pub block_is : block ≡ command.block.items
+  pub none_taken : taken ≡ []
+
+-- the packet ends the data of a command, which is carried out over the intended bytes
+pub record CarriesOutLast (command : Cbw) (intended : Way) (bytes : List ℕ) (due : ℕ) (packet : List ℕ)
+    (block taken : List ℕ) : Type 0 where
+  pub size : length packet ≡ due
+  pub last : due ≤ 512
+  pub block_is : block ≡ command.block.items
+  pub taken_is : taken ≡ take (size_of_way intended) (bytes ++ packet)
+
+-- a packet to Bulk-Out, which is halted or not, has this command block carried out over these bytes
+abbrev pub PacketCarriesOut : Bool → Script → List ℕ → UnitState → List ℕ → List ℕ → Type 0
+PacketCarriesOut true left packet unit block taken = ⊥
+PacketCarriesOut false finished packet unit block taken = CarriesOutAtOnce packet unit block taken
+PacketCarriesOut false (taking case command intended bytes due) packet unit block taken =
+    CarriesOutLast command intended bytes due packet block taken
+PacketCarriesOut false (sending packets halt status) packet unit block taken = ⊥
+
+-- an event has this command block carried out over these bytes
+abbrev pub EventCarriesOut : Conversation UnitState → Event → List ℕ → List ℕ → Type 0
+EventCarriesOut s (event.Out packet) block taken =
+    PacketCarriesOut s.line.out_halted s.line.left packet.items s.unit block taken
+EventCarriesOut s event.In block taken = ⊥
+EventCarriesOut s (event.Setup packet) block taken = ⊥
+EventCarriesOut s event.Tick block taken = ⊥
+
+-- an event has the unit do something
+abbrev pub Acts : Conversation UnitState → Event → Type 0
+Acts s (event.Out packet) = (block : List ℕ) × (taken : List ℕ) × EventCarriesOut s (event.Out packet) block taken
+Acts s event.In = ⊥
+Acts s (event.Setup packet) = ⊥
+Acts s event.Tick = ⊤
+
+-- The write that is in progress in a packet to Bulk-Out: that of the command whose last bytes it
+-- has. A command that is carried out in the event of its wrapper takes no bytes, and writes none.
+abbrev pub write_of_packet : Bool → Script → List ℕ → UnitState → Option Write
+write_of_packet true left packet unit = None
+write_of_packet false finished packet unit = None
+write_of_packet false (taking case command intended bytes due) packet unit =
+    if (length packet == due) && nat_le due 512
+    then write_in_progress unit command.block.items (take (size_of_way intended) (bytes ++ packet))
+    else None
+write_of_packet false (sending packets halt status) packet unit = None
+
+-- the write that is in progress in an event, if there is one
+abbrev pub write_of_event : Conversation UnitState → Event → Option Write
+write_of_event s (event.Out packet) =
+    write_of_packet s.line.out_halted s.line.left packet.items s.unit
+write_of_event s event.In = None
+write_of_event s (event.Setup packet) = None
+write_of_event s event.Tick = None

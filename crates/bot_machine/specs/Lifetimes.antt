@@ -1,0 +1,96 @@
+-- Whole lives, told at once.
+use Rattle.std.specs.Prelude.{◌≡◌, ℕ, ◌+◌, ◌≤◌, Bool, true, false, List, [], ◌∷◌, ◌++◌, map, length, sum_by, Option, None, Some}
+use Rattle.medium.specs.Moments.{EachCut}
+use Rattle.medium.specs.Sim.{Sim, state_of}
+use Rattle.medium.specs.Writes.{keeps}
+use Rattle.recovery.specs.declared.start_fault.StartFault.{StartFault}
+use Rattle.pages.specs.Identification.{Identification}
+use Rattle.blocks.specs.Book.{Book}
+use Rattle.blocks.specs.Finding.{MayFind}
+use Rattle.bot_machine.specs.declared.event.Answer.{Answer}
+use Rattle.bot_machine.specs.declared.life.Life.{Life}
+use Rattle.bot_machine.specs.Answers.{Room}
+use Rattle.bot_machine.specs.Conversation.{refused_events}
+use Rattle.bot_machine.specs.Lives.{Action, arms, starts, plays, cuts, Place, before_first, Standing, Opens, LivesRun}
+use Rattle.bot_machine.specs.LivesValue.{LivesValue, LivesGoOn, IsAtRest, OpensOn, FoundAt, MayRefuse}
+
+-- what is done before the start of a life
+abbrev pub armed_by : Option ℕ → List Action
+armed_by None = []
+armed_by (Some writes) = arms writes ∷ []
+
+-- what is done in a life
+abbrev pub actions_of : Life → List Action
+actions_of life =
+    armed_by life.fuse ++ starts ∷ map plays life.events.items ++ cuts (keeps life.kept) ∷ []
+
+-- what is done in lives, one after the other
+abbrev pub actions_of_all : List Life → List Action
+actions_of_all [] = []
+actions_of_all (life ∷ lives) = actions_of life ++ actions_of_all lives
+
+-- how many events there are in lives
+abbrev pub events_in : List Life → ℕ
+events_in lives = sum_by (λ (life : Life). length life.events.items) lives
+
+-- these answers were appended
+abbrev pub Appends : List Answer → Room → Room → Type 0
+Appends told old new = new ≡ record old { list = old.list ++ told }
+
+-- Lives whose first opens with this book, and what a cut of the medium may leave after them.
+pub record EndsIn (identity : Identification) (book : Book) (actions : List Action)
+    (told : List Answer) (refusals : List Bool) (after : Sim) : Type 0 where
+  pub last : Standing
+  pub run : LivesRun identity (record { place = before_first book; armed = false }) actions told
+      refusals last
+  pub found : book.ours ≡ true → EachCut (FoundAt (state_of after).size last.place) (state_of after)
+
+-- lives went on by these actions, and the answers to so many events were appended
+pub record AppendsFor (before after : LivesValue) (old new : Room) (actions : List Action) (events : ℕ)
+    : Type 0 where
+  pub told : List Answer
+  pub appends : Appends told old new
+  pub one_each : length told ≡ events
+  pub goes_on : LivesGoOn before actions told after
+
+-- Lives of a disk over a medium in memory, and their answers, one for each event. The actions in which
+-- the medium refused a call are at most as many as the calls that it refused. The power of the medium
+-- that comes back is on, nothing is unflushed, and no fuse is armed.
+pub record AreLived (before : Sim) (identity : Identification) (lives : List Life)
+    (told : List Answer) (after : Sim) : Type 0 where
+  pub one_each : length told ≡ events_in lives
+  pub refusals : List Bool
+  pub refused : refused_events refusals + (state_of before).failures ≤ (state_of after).failures
+  pub ends : (book : Book) → OpensOn (state_of before) book
+      → EndsIn identity book (actions_of_all lives) told refusals after
+  pub rests : IsAtRest after
+  pub unfused : after.power.fuse ≡ None
+
+-- Lives whose first opens with this book, and the book with which the next would have opened, whose
+-- start was refused.
+pub record StopsIn (identity : Identification) (book : Book) (actions : List Action)
+    (told : List Answer) (refusals : List Bool) (counted : ℕ) (fault : StartFault) (after : Sim)
+    : Type 0 where
+  pub last : Standing
+  pub run : LivesRun identity (record { place = before_first book; armed = false }) actions told
+      refusals last
+  pub next : Book
+  pub opens : Opens last.place next
+  pub cause : book.ours ≡ true → MayRefuse next counted (state_of after).failures fault
+  pub found : book.ours ≡ true → EachCut (MayFind (state_of after).size next) (state_of after)
+
+-- The first of these lives were lived, and their answers told. The start of the one after them was
+-- refused with this fault, though power did not go in it.
+pub record AreLivedUpTo (before : Sim) (identity : Identification) (lives : List Life)
+    (told : List Answer) (fault : StartFault) (after : Sim) : Type 0 where
+  pub lived : List Life
+  pub life : Life
+  pub rest : List Life
+  pub lives_are : lives ≡ lived ++ life ∷ rest
+  pub one_each : length told ≡ events_in lived
+  pub refusals : List Bool
+  pub refused : refused_events refusals + (state_of before).failures ≤ (state_of after).failures
+  pub stops : (book : Book) → OpensOn (state_of before) book → StopsIn identity book
+      (actions_of_all lived ++ armed_by life.fuse) told refusals
+      (refused_events refusals + (state_of before).failures) fault after
+  pub on : after.power.off ≡ false

@@ -1,0 +1,163 @@
+-- Lives of a disk over a medium in memory, and where they stand.
+use Rattle.std.specs.Prelude.{◌≡◌, ℕ, ◌+◌, ◌^◌, ◌≤◌, ◌<◌, ⊤, Bool, true, false, List, [], None}
+use Rattle.medium.specs.Medium.{State, Image}
+use Rattle.medium.specs.Moments.{EachCut}
+use Rattle.medium.specs.Sim.{Sim, state_of}
+use Rattle.log_layout.specs.Places.{Shape}
+use Rattle.log_layout.specs.Standing.{StandsFor, Stands}
+use Rattle.recovery.specs.Recovered.{IsOursForSome}
+use Rattle.recovery.specs.declared.start_fault.StartFault.{StartFault}
+use Rattle.recovery.specs.declared.start_fault.StartFault.TheVariants.{NoMemory, Read, Write, Flush, BadSuper, BadVersion, BadSize, BadHead, StampsUsedUp}
+use Rattle.pages.specs.Identification.{Identification}
+use Rattle.blocks.specs.Book.{Book, opened}
+use Rattle.blocks.specs.Finding.{StandsAs, MayFind, FoundWith}
+use Rattle.scsi_unit.specs.Rules.{UnitState}
+use Rattle.bot_machine.specs.declared.event.Answer.{Answer}
+use Rattle.bot_machine.specs.declared.stage.Stage.{Stage}
+use Rattle.bot_machine.specs.declared.stage.Stage.TheVariants.{Rests, Runs}
+use Rattle.bot_machine.specs.Conversation.{Conversation, refused_events}
+use Rattle.bot_machine.specs.Disk.{DiskValue, over, FitsDisk}
+use Rattle.bot_machine.specs.Opening.{IsNotOpened}
+use Rattle.bot_machine.specs.Lives.{Action, Place, before_first, between, runs, off, Standing, Opens, LivesRun}
+
+-- what is seen of lives: who the disk is, and its medium, with the disk where one runs
+pub record LivesValue : Type 0 where
+  pub identity : Identification
+  pub stage : Stage
+
+abbrev pub medium_in : Stage → Sim
+medium_in (Rests medium) = medium
+medium_in (Runs disk) = disk.unit.store.medium
+
+abbrev pub state_in : Stage → State
+state_in stage = state_of (medium_in stage)
+
+-- a disk was started, or power went in its start
+abbrev pub HasStarted : Stage → Type 0
+HasStarted (Rests medium) = medium.power.off ≡ true
+HasStarted (Runs disk) = ⊤
+
+-- A life has begun: a disk was started, or power went in its start. Where none ran before, and the
+-- power is on, the contents of the medium stood for something.
+pub record HasBegun (old new : Stage) : Type 0 where
+  pub started : HasStarted new
+  pub stood : (medium : Sim) → old ≡ Rests medium → (medium_in new).power.off ≡ false
+      → Stands (state_of medium).size (state_of medium).content
+
+-- the power is on, and nothing is unflushed
+pub record IsAtRest (medium : Sim) : Type 0 where
+  pub on : medium.power.off ≡ false
+  pub flushed : medium.unflushed ≡ []
+
+-- A first life over a medium opens with this book: the contents stand for its blocks and its next
+-- stamp. Where the book says so, every image that a cut may leave is ours.
+pub record OpensOn (m : State) (book : Book) : Type 0 where
+  pub opens : book ≡ opened book.blocks book.opening book.stamp book.ours
+  pub slots : ℕ
+  pub stands : StandsFor m.size (record { blocks = book.blocks; slots = slots }) m.content
+      book.opening book.stamp
+  pub ours : book.ours ≡ true → EachCut (IsOursForSome m.size) m
+
+-- a disk is in this conversation, and fits its book
+pub record Converses (disk : DiskValue Sim) (conversation : Conversation UnitState) : Type 0 where
+  pub on : disk.unit.store.medium.power.off ≡ false
+  pub says : conversation ≡ over disk conversation.unit.book
+  pub fits : FitsDisk (state_of disk.unit.store.medium) disk conversation.unit.book
+
+-- a disk, or a medium without one, at a place of lives
+abbrev pub IsAt : Place → Stage → Type 0
+IsAt (before_first book) (Rests medium) = IsAtRest medium × OpensOn (state_of medium) book
+IsAt (before_first book) (Runs disk) = ⊥
+IsAt (between remains) (Rests medium) = IsAtRest medium
+IsAt (between remains) (Runs disk) = ⊥
+IsAt (runs conversation) (Rests medium) = ⊥
+IsAt (runs conversation) (Runs disk) = Converses disk conversation
+IsAt (off remains) stage = (medium_in stage).power.off ≡ true
+
+-- the book of a place
+abbrev pub book_at : Place → Book
+book_at (before_first book) = book
+book_at (between remains) = remains.book
+book_at (runs conversation) = conversation.unit.book
+book_at (off remains) = remains.book
+
+-- an image that a cut may leave of lives that stand here
+abbrev pub FoundAt : ℕ → Place → Image → Type 0
+FoundAt size (before_first book) image =
+    StandsAs size book.blocks image book.opening book.stamp
+FoundAt size (between remains) image = FoundWith size remains.book remains.in_progress image
+FoundAt size (runs conversation) image = MayFind size conversation.unit.book image
+FoundAt size (off remains) image = FoundWith size remains.book remains.in_progress image
+
+-- lives stand here
+pub record FitsLives (lives : LivesValue) (here : Standing) : Type 0 where
+  pub is_at : IsAt here.place lives.stage
+  pub found : (book_at here.place).ours ≡ true
+      → EachCut (FoundAt (state_in lives.stage).size here.place) (state_in lives.stage)
+  pub unfused : here.armed ≡ false → (medium_in lives.stage).power.fuse ≡ None
+
+-- from one standing, by actions and their answers, to one where these lives stand
+pub record LivesGoTo (after : LivesValue) (here : Standing) (actions : List Action)
+    (answers : List Answer) (refusals : List Bool) : Type 0 where
+  pub there : Standing
+  pub run : LivesRun after.identity here actions answers refusals there
+  pub fits : FitsLives after there
+  pub ours : (book_at there.place).ours ≡ (book_at here.place).ours
+
+-- Lives go on by these actions, with these answers. The actions in which the medium refused a call are
+-- at most as many as the calls that it refused.
+pub record LivesGoOn (before : LivesValue) (actions : List Action) (answers : List Answer)
+    (after : LivesValue) : Type 0 where
+  pub refusals : List Bool
+  pub refused : refused_events refusals + (state_in before.stage).failures
+      ≤ (state_in after.stage).failures
+  pub goes : (here : Standing) → FitsLives before here
+      → LivesGoTo after here actions answers refusals
+  pub size_stays : (state_in after.stage).size ≡ (state_in before.stage).size
+  pub identity_stays : after.identity ≡ before.identity
+
+-- Why a life that would open with this book is refused: for want of memory, by the medium, whose
+-- refusals are more than were counted before, or since no stamp is left.
+abbrev pub MayRefuse : Book → ℕ → ℕ → StartFault → Type 0
+MayRefuse book counted failures NoMemory = ⊤
+MayRefuse book counted failures Read = counted < failures
+MayRefuse book counted failures Write = counted < failures
+MayRefuse book counted failures Flush = counted < failures
+MayRefuse book counted failures BadSuper = ⊥
+MayRefuse book counted failures BadVersion = ⊥
+MayRefuse book counted failures BadSize = ⊥
+MayRefuse book counted failures BadHead = ⊥
+MayRefuse book counted failures StampsUsedUp = 2 ^ 63 ≤ book.stamp
+
+-- from one standing, by actions and their answers, to one from where the next start was refused
+pub record LivesStopAt (after : LivesValue) (here : Standing) (actions : List Action)
+    (answers : List Answer) (refusals : List Bool) (counted : ℕ) (fault : StartFault)
+    : Type 0 where
+  pub there : Standing
+  pub run : LivesRun after.identity here actions answers refusals there
+  -- the book with which the life would have opened
+  pub book : Book
+  pub opens : Opens there.place book
+  pub ours : book.ours ≡ (book_at here.place).ours
+  pub cause : book.ours ≡ true → MayRefuse book counted (state_in after.stage).failures fault
+  pub found : book.ours ≡ true
+      → EachCut (MayFind (state_in after.stage).size book) (state_in after.stage)
+
+-- Lives went on by these actions, with these answers, and then a start was refused with this fault,
+-- though power did not go in it. No disk runs.
+pub record LivesStop (before : LivesValue) (actions : List Action) (answers : List Answer)
+    (fault : StartFault) (after : LivesValue) : Type 0 where
+  pub refusals : List Bool
+  pub refused : refused_events refusals + (state_in before.stage).failures
+      ≤ (state_in after.stage).failures
+  pub goes : (here : Standing) → FitsLives before here → LivesStopAt after here actions answers
+      refusals (refused_events refusals + (state_in before.stage).failures) fault
+  pub rests : after.stage ≡ Rests (medium_in after.stage)
+  pub on : (medium_in after.stage).power.off ≡ false
+  pub size_stays : (state_in after.stage).size ≡ (state_in before.stage).size
+  pub identity_stays : after.identity ≡ before.identity
+
+-- a start is refused with this fault, though power did not go in it: why, and where lives stand then
+pub record IsRefused (before : LivesValue) (fault : StartFault) (after : LivesValue) : Type 0 where
+  pub stops : LivesStop before [] [] fault after
+  pub cause : IsNotOpened (state_in before.stage) (state_in after.stage) fault

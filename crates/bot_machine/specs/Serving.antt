@@ -1,0 +1,68 @@
+-- What the parts of an event do to the unit and to the line.
+use Rattle.std.specs.Prelude.{◌≡◌, ◌<◌, ◌≤◌, ◌⊎◌, ℕ, false, List, length, take, None, Result}
+use Rattle.wrappers.specs.declared.command.Cbw.{Cbw}
+use Rattle.wrappers.specs.declared.case.Case.{Case}
+use Rattle.wrappers.specs.declared.way.Way.TheVariants as ways
+use Rattle.wrappers.specs.Command.{SpellsCommand}
+use Rattle.wrappers.specs.Cases.{IsCase}
+use Rattle.medium.specs.Medium.{State}
+use Rattle.sense.specs.declared.codes.Sense.{Sense}
+use Rattle.blocks.specs.Book.{Book}
+use Rattle.scsi_unit.specs.Rules.{CarriesOut, Ticks, write_in_progress}
+use Rattle.scsi_unit.specs.Serving.{has_refused, IsSparing}
+use Rattle.scsi_unit.specs.UnitValue.{UnitValue, state_of, FitsUnit, intention_of}
+use Rattle.bot_machine.specs.declared.exchange.Exchange.{Exchange}
+use Rattle.bot_machine.specs.declared.wire.Taking.{Taking}
+use Rattle.bot_machine.specs.Exchange.{Line, Script}
+use Rattle.bot_machine.specs.Conversation.{IsCarriedOut, Opens, Locks, Takes}
+use Rattle.bot_machine.specs.Intentions.{way_of, Intends}
+use Rattle.bot_machine.specs.Acts.{PacketCarriesOut, write_of_packet}
+use Rattle.bot_machine.specs.Refinement.{taking_of}
+use Rattle.bot_machine.specs.Disk.{on_line, Proceeds}
+
+-- A packet spells a command wrapper, and begins this exchange: the one of its command, of what the unit
+-- intends for it, and of the case that this makes.
+pub record IsBegun {M : Type 0} (unit : UnitValue M) (packet : List ℕ) (exchange : Exchange) : Type 0 where
+  pub spelled : SpellsCommand packet exchange.command
+  pub only : (other : Cbw) → SpellsCommand packet other → other ≡ exchange.command
+  pub some_block : 0 < length exchange.command.block.items
+  pub intended : exchange.intended ≡ way_of (intention_of unit exchange.command.block.items)
+  pub few : (n : ℕ) → exchange.intended ≡ ways.Out n → n ≤ 24576
+  pub is_case : IsCase exchange.case exchange.command.host exchange.intended
+  pub one_case : (other : Case) → IsCase other exchange.command.host exchange.intended → other ≡ exchange.case
+
+module _ {M : Type 0} (before after : State) (old new : UnitValue M) (from to : Line) where
+  -- the command of an exchange is carried out over these bytes
+  abbrev pub CarriesOutOn : Exchange → List ℕ → Type 0
+  CarriesOutOn exchange bytes = (book : Book) → FitsUnit before old book → Proceeds before after old new
+      (λ unit later. IsCarriedOut Intends CarriesOut Ticks (has_refused before after)
+      exchange.case exchange.command exchange.intended bytes (on_line from unit) (on_line to later))
+      (write_in_progress (state_of old book) exchange.command.block.items bytes) book
+
+  -- a packet comes where a command wrapper is expected
+  abbrev pub OpensOn : List ℕ → Type 0
+  OpensOn packet = (book : Book) → FitsUnit before old book → Proceeds before after old new
+      (λ unit later. Opens Intends CarriesOut Ticks (has_refused before after)
+      packet (on_line from unit) (on_line to later)
+      ⊎ Locks Intends CarriesOut Ticks (has_refused before after)
+      packet (on_line from unit) (on_line to later)) None book
+
+  -- a packet comes where data is expected, of which the first bytes of this buffer came already
+  abbrev pub TakesOn : Taking → List ℕ → List ℕ → Type 0
+  TakesOn t taken packet = (book : Book) → FitsUnit before old book → Proceeds before after old new
+      (λ unit later. Takes Intends CarriesOut Ticks (has_refused before after)
+      t.exchange.case t.exchange.command t.exchange.intended (take t.filled taken) t.due
+      packet (on_line from unit) (on_line to later))
+      (write_of_packet false (taking_of t taken) packet (state_of old book)) book
+
+-- where a packet has no command carried out, the unit stays as it is
+abbrev pub RestsOn : {M : Type 0} → State → UnitValue M → UnitValue M → Script → List ℕ → Type 0
+RestsOn before old new left packet = (book : Book) → FitsUnit before old book
+    → ((block taken : List ℕ) → PacketCarriesOut false left packet (state_of old book) block taken → ⊥)
+    → new ≡ old
+
+-- where a packet has a command carried out, the unit makes no call of the medium that it does not need
+abbrev pub SparesOn : {M : Type 0} → State → UnitValue M → UnitValue M → Script → List ℕ → Type 0
+SparesOn before old new left packet = (book : Book) → FitsUnit before old book
+    → (block taken : List ℕ) → PacketCarriesOut false left packet (state_of old book) block taken
+    → (answer : Result (List ℕ) Sense) × IsSparing block taken old answer new

@@ -1,0 +1,112 @@
+// Whole lives of a disk, one after the other.
+ghost use Rattle.std.specs.Prelude.{◌≡◌, ◌≤◌, ◌+◌, [], ◌∷◌, ◌++◌, None, List, length, map, OnOk, OnErr, IfOk, IfErr};
+ghost use Rattle.medium.specs.Writes.{keeps};
+ghost use Rattle.bot_machine.specs.declared.event.Answer.{Answer};
+ghost use Rattle.bot_machine.specs.Lives.{plays};
+ghost use Rattle.bot_machine.specs.LivesValue.{
+  medium_in,
+  HasStarted,
+  IsAtRest,
+  LivesGoOn,
+  LivesStop,
+};
+ghost use Rattle.bot_machine.specs.Lifetimes.{
+  actions_of,
+  armed_by,
+  events_in,
+  Appends,
+  AppendsFor,
+  AreLived,
+  AreLivedUpTo,
+};
+
+use crate::answers::Answers;
+use crate::event::Event;
+use crate::life::Life;
+use crate::lives::Lives;
+use crate::{Identity, StartError, StartFault};
+use medium::SimMedium;
+use std::alloc::Global;
+
+/// Lives a disk's lives, and appends an answer to each event. In each life a disk is started on the
+/// medium that the one before has left, its events come, and the power is cut. Where a fuse lets the
+/// power go, in the start or in an event, every answer from there on is `Off`. Memory is taken by the
+/// starts alone.
+///
+/// # Errors
+///
+/// The first start that is refused though the power is on ends the lives. The answers of the lives
+/// before it are appended, and the medium comes back.
+pub fn run_lives(
+    alloc: Global,
+    medium: SimMedium,
+    identity: Identity,
+    lives: &[Life],
+    answers: &mut Answers,
+) -> Result<SimMedium, StartError<SimMedium>>
+    requires rests { IsAtRest medium }
+    requires unfused { medium.power.fuse ≡ None }
+    requires room { length answers.old.list + events_in lives.now ≤ answers.old.room }
+    ensures ok { IfOk result (λ after. (told : List Answer) × Appends told answers.old answers.new
+        × AreLived medium identity lives.now told after) }
+    ensures err { IfErr result (λ error. (told : List Answer)
+        × Appends told answers.old answers.new
+        × AreLivedUpTo medium identity lives.now told error.fault error.medium) }
+{
+    let mut run = Lives::new(medium, identity);
+    for life in lives {
+        if let Err(fault) = live(alloc, &mut run, life, answers) {
+            return Err(StartError {
+                fault,
+                medium: run.into_medium(),
+            });
+        }
+    }
+    Ok(run.into_medium())
+}
+
+// One life.
+fn live(
+    alloc: Global,
+    run: &mut Lives,
+    life: &Life,
+    answers: &mut Answers,
+) -> Result<(), StartFault>
+    requires { length answers.old.list + length life.now.events.items ≤ answers.old.room }
+    ensures ok { OnOk result (AppendsFor run.old run.new answers.old answers.new
+        (actions_of life.now) (length life.now.events.items)) }
+    ensures rests { OnOk result (IsAtRest (medium_in run.new.stage)) }
+    ensures unfused { OnOk result ((medium_in run.new.stage).power.fuse ≡ None) }
+    ensures err { IfErr result (λ fault. LivesStop run.old (armed_by life.now.fuse) [] fault run.new) }
+    ensures unanswered { OnErr result (answers.new ≡ answers.old) }
+{
+    arm(run, life.fuse);
+    run.start(alloc)?;
+    play_all(run, &life.events, answers);
+    run.cut(&life.kept);
+    Ok(())
+}
+
+// Arms the fuse of a life, if it has one.
+fn arm(run: &mut Lives, fuse: Option<u64>)
+    ensures { LivesGoOn run.old (armed_by fuse) [] run.new }
+{
+    if let Some(writes) = fuse {
+        run.fuse(writes);
+    }
+}
+
+// The events of a life that was started.
+fn play_all(run: &mut Lives, events: &[Event], answers: &mut Answers)
+    requires started { HasStarted run.old.stage }
+    requires room { length answers.old.list + length events.now ≤ answers.old.room }
+    ensures { AppendsFor run.old run.new answers.old answers.new
+        (map plays events.now) (length events.now) }
+{
+    for event in events {
+        answers.push(run.play(event));
+    }
+}
+
+#[cfg(test)]
+mod tests;

@@ -1,0 +1,162 @@
+// Lives of a disk over a medium in memory.
+ghost use Rattle.std.specs.Prelude.{◌≡◌, ◌↔◌, [], ◌∷◌, None, true, false, OnOk, IfOk, IfErr};
+ghost use Rattle.medium.specs.Sim.{state_of, IsCut, IsFused, ComesAfter};
+ghost use Rattle.medium.specs.Writes.{keeps};
+ghost use Rattle.blocks.specs.Book.{Book};
+ghost use Rattle.bot_machine.specs.Lives.{starts, plays, cuts, arms, before_first};
+
+use crate::event::{Answer, Event};
+use crate::stage::{self, Stage};
+use crate::{Identity, StartError, StartFault};
+use medium::{Kept, SimMedium};
+use std::alloc::Global;
+use std::marker::Model;
+
+/// Lives of a disk over a medium in memory, call by call. In a life a disk is started, events come
+/// to it, and the power is cut. A fuse that was armed may let the power go before, in the start or in
+/// an event: every answer from that event on is `Off`.
+#[derive(Drop)]
+pub struct Lives {
+    identity: Identity,
+    // There is one, but within a call.
+    stage: Option<Stage>,
+}
+
+impl Model for Lives {
+    ghost use Rattle.std.specs.Prelude.{◌≢◌, None};
+    ghost use Rattle.bot_machine.specs.LivesValue.{LivesValue};
+
+    ghost Value = { LivesValue };
+
+    ghost use Rattle.bot_machine.specs.LivesView.{stage_in};
+
+    ghost view = { λ l. record { identity = l.identity; stage = stage_in l.stage } };
+
+    ghost invariant = { λ l. l.stage ≢ None };
+}
+
+impl Lives {
+    ghost use Rattle.bot_machine.specs.LivesValue.{
+      medium_in,
+      HasStarted,
+      HasBegun,
+      IsAtRest,
+      OpensOn,
+      FitsLives,
+      LivesGoOn,
+      IsRefused,
+    };
+    ghost use Rattle.bot_machine.specs.declared.stage.Stage.TheVariants.{Rests};
+
+    /// No life has been yet.
+    ///
+    /// Where the power of the medium is on, nothing is unflushed and no fuse is armed, the first life
+    /// opens with the blocks for which the contents stand.
+    pub fn new(medium: SimMedium, identity: Identity) -> Lives
+        ensures value { result ≡ record { identity = identity; stage = Rests medium } }
+        ensures first { (book : Book) → IsAtRest medium → medium.power.fuse ≡ None
+            → OpensOn (state_of medium) book
+            → FitsLives result (record { place = before_first book; armed = false }) }
+    {
+        Lives {
+            identity,
+            stage: Some(Stage::Rests(medium)),
+        }
+    }
+
+    /// The medium.
+    pub fn medium(&self) -> &SimMedium
+        ensures { result.now ≡ medium_in self.now.stage }
+    {
+        match &self.stage {
+            Some(stage) => stage::medium_of(stage),
+            None => unreachable!(),
+        }
+    }
+
+    /// Gives the medium back.
+    pub fn into_medium(self) -> SimMedium
+        ensures { result ≡ medium_in self.stage }
+    {
+        let Lives { identity: _, stage } = self;
+        stage::into_medium(stage.unwrap())
+    }
+
+    /// Arms a fuse for the rest of this life: so many writes and flushes happen, and at the next the
+    /// power goes. No disk is started.
+    pub fn fuse(&mut self, writes: u64)
+        ensures goes_on { LivesGoOn self.old (arms writes ∷ []) [] self.new }
+        ensures fused { IsFused writes (medium_in self.old.stage) (medium_in self.new.stage) }
+    {
+        if let Some(stage) = &mut self.stage {
+            stage::fuse(stage, writes);
+        }
+    }
+
+    /// Starts a disk where none runs. Nothing happens where one runs, or where the power is off.
+    ///
+    /// # Errors
+    ///
+    /// The fault with which the start was refused, where the power is still on. No disk runs then.
+    pub fn start(&mut self, alloc: Global) -> Result<(), StartFault>
+        ensures ok { OnOk result (LivesGoOn self.old (starts ∷ []) [] self.new) }
+        ensures begun { OnOk result (HasBegun self.old.stage self.new.stage) }
+        ensures err { IfErr result (λ fault. IsRefused self.old fault self.new) }
+        ensures follows { ComesAfter (medium_in self.old.stage) (medium_in self.new.stage) }
+    {
+        match stage::start(alloc, self.stage.take().unwrap(), self.identity) {
+            Ok(stage) => {
+                self.stage = Some(stage);
+                Ok(())
+            }
+            Err(StartError { fault, medium }) => {
+                self.stage = Some(Stage::Rests(medium));
+                Err(fault)
+            }
+        }
+    }
+
+    /// Plays an event, and gives the answer. A disk is started first where none runs.
+    ///
+    /// # Errors
+    ///
+    /// The fault with which the start was refused, where the power is still on. No disk runs then.
+    pub fn event(&mut self, alloc: Global, event: &Event) -> Result<Answer, StartFault>
+        ensures ok { IfOk result (λ answer. LivesGoOn self.old (starts ∷ plays event.now ∷ [])
+            (answer ∷ []) self.new) }
+        ensures begun { OnOk result (HasBegun self.old.stage self.new.stage) }
+        ensures off { IfOk result (λ answer. (answer ≡ Answer.Off)
+            ↔ ((medium_in self.new.stage).power.off ≡ true)) }
+        ensures err { IfErr result (λ fault. IsRefused self.old fault self.new) }
+        ensures follows { ComesAfter (medium_in self.old.stage) (medium_in self.new.stage) }
+    {
+        self.start(alloc)?;
+        Ok(self.play(event))
+    }
+
+    // Plays an event on a disk that was started.
+    pub(crate) fn play(&mut self, event: &Event) -> Answer
+        requires { HasStarted self.old.stage }
+        ensures goes_on { LivesGoOn self.old (plays event.now ∷ []) (result ∷ []) self.new }
+        ensures started { HasStarted self.new.stage }
+        ensures off { (result ≡ Answer.Off) ↔ ((medium_in self.new.stage).power.off ≡ true) }
+        ensures follows { ComesAfter (medium_in self.old.stage) (medium_in self.new.stage) }
+    {
+        match &mut self.stage {
+            Some(stage) => stage::play(stage, event),
+            None => unreachable!(),
+        }
+    }
+
+    /// Cuts the power, and turns it on again: of the unflushed writes of the medium the kept ones are
+    /// applied, and fuse and failure are disarmed. No disk runs then.
+    pub fn cut(&mut self, kept: &Kept)
+        ensures goes_on { LivesGoOn self.old (cuts (keeps kept.now) ∷ []) [] self.new }
+        ensures exact { IsCut (keeps kept.now) (medium_in self.old.stage)
+            (medium_in self.new.stage) }
+        ensures rests { self.new.stage ≡ Rests (medium_in self.new.stage) }
+    {
+        let stage = self.stage.take().unwrap();
+        self.stage = Some(Stage::Rests(stage::cut(stage, kept)));
+    }
+}

@@ -1,0 +1,168 @@
+// What the disk does with a packet to Bulk-Out.
+ghost use Rattle.std.specs.Prelude.{◌≡◌, ◌≤◌, ◌<◌, ◌+◌, ◌++◌, ℕ, List, Result, MatchOption};
+ghost use Rattle.std.specs.Prelude.{length, min, take};
+ghost use Rattle.wrappers.specs.Cases.{IsCase};
+ghost use Rattle.wrappers.specs.Command.{SpellsNone};
+ghost use Rattle.wrappers.specs.declared.way.Way.TheVariants as ways;
+ghost use Rattle.sense.specs.declared.codes.Sense.{Sense};
+ghost use Rattle.scsi_unit.specs.Serving.{IsSparing};
+ghost use Rattle.scsi_unit.specs.UnitValue.{intention_of};
+ghost use Rattle.bot_machine.specs.Disk.{Elapses};
+ghost use Rattle.bot_machine.specs.Exchange.{Script, finished};
+ghost use Rattle.bot_machine.specs.Refinement.{
+  IsInPhase,
+  IsTaking,
+  line_of,
+  line_with,
+  taking_of,
+};
+ghost use Rattle.bot_machine.specs.Serving.{IsBegun, CarriesOutOn, OpensOn, TakesOn};
+ghost use Rattle.bot_machine.specs.Serving.{RestsOn, SparesOn};
+
+use crate::exchange::{Exchange, When, after_failure, size_sent, way_of_intent, when_carried_out};
+use crate::wire::{Phase, Taking, Wire};
+use medium::Medium;
+use scsi_unit::{Intent, Unit};
+use wrappers::{Status, case_of, read_cbw, write_csw};
+
+// Carries out the command of an exchange over the bytes taken, and lays out what is sent.
+fn carry_out<M: Medium>(
+    unit: &mut Unit<M>,
+    wire: &mut Wire,
+    staging: &mut [u8],
+    exchange: &Exchange,
+    bytes: &[u8],
+)
+    requires is_case { IsCase exchange.now.case exchange.now.command.host exchange.now.intended }
+    requires some_block { 0 < length exchange.now.command.block.items }
+    requires sends { (n : ℕ) → exchange.now.intended ≡ ways.In n
+        → intention_of unit.old exchange.now.command.block.items ≡ Intent.In n }
+    requires takes { (n : ℕ) → intention_of unit.old exchange.now.command.block.items
+        ≡ Intent.Out n → length bytes.now ≡ n }
+    requires room { length staging.old ≡ 24576 }
+    ensures carried_out { (taken : List ℕ) (left : Script) → CarriesOutOn
+        (M.state unit.old.store.medium) (M.state unit.new.store.medium) unit.old unit.new
+        (line_with wire.old left) (line_of wire.new taken staging.new) exchange.now bytes.now }
+    ensures spares { (answer : Result (List ℕ) Sense)
+        × IsSparing exchange.now.command.block.items bytes.now unit.old answer unit.new }
+    ensures phase { IsInPhase (intention_of unit.new) wire.new.phase }
+    ensures elapses { Elapses (M.state unit.old.store.medium) (M.state unit.new.store.medium) }
+    ensures follows { M.follows unit.old.store.medium unit.new.store.medium }
+{
+    match unit.carry_out(exchange.command.block.as_slice(), bytes, staging) {
+        Ok(size) => {
+            let size = size_sent(exchange.case, size);
+            wire.tell(exchange, exchange.case, size, Status::Passed);
+        }
+        Err(_) => wire.tell(exchange, after_failure(exchange.case), 0, Status::Failed),
+    }
+}
+
+// The exchange that a packet begins, if it spells a command wrapper.
+fn read_exchange<M: Medium>(unit: &Unit<M>, packet: &[u8]) -> Option<Exchange>
+    ensures { MatchOption result (SpellsNone packet.now) (IsBegun unit.now packet.now) }
+{
+    let command = read_cbw(packet).ok()?;
+    let intended = way_of_intent(unit.intend(command.block.as_slice()));
+    Some(Exchange {
+        case: case_of(command.host, intended),
+        command,
+        intended,
+    })
+}
+
+// Takes a packet where a command wrapper is expected.
+pub(crate) fn open<M: Medium>(
+    unit: &mut Unit<M>,
+    wire: &mut Wire,
+    staging: &mut [u8],
+    packet: &[u8],
+)
+    requires expected { wire.old.phase ≡ Phase.Command }
+    requires room { length staging.old ≡ 24576 }
+    ensures opens { (taken : List ℕ) → OpensOn
+        (M.state unit.old.store.medium) (M.state unit.new.store.medium) unit.old unit.new
+        (line_of wire.old taken staging.old) (line_of wire.new taken staging.new) packet.now }
+    ensures rests { RestsOn (M.state unit.old.store.medium) unit.old unit.new finished packet.now }
+    ensures spares { SparesOn (M.state unit.old.store.medium) unit.old unit.new
+        finished packet.now }
+    ensures phase { IsInPhase (intention_of unit.new) wire.new.phase }
+    ensures elapses { Elapses (M.state unit.old.store.medium) (M.state unit.new.store.medium) }
+    ensures follows { M.follows unit.old.store.medium unit.new.store.medium }
+{
+    let Some(exchange) = read_exchange(unit, packet) else {
+        wire.lock();
+        return;
+    };
+    match when_carried_out(exchange.case) {
+        When::AtOnce => carry_out(unit, wire, staging, &exchange, &[]),
+        When::AfterData => {
+            let due = exchange.command.host.size();
+            wire.phase = Phase::DataOut(Taking {
+                exchange,
+                filled: 0,
+                due,
+            });
+        }
+        When::Never => wire.tell(&exchange, exchange.case, 0, Status::PhaseError),
+    }
+}
+
+// Takes a packet where data is expected. The intended bytes that came already are the first ones of
+// `taken`.
+pub(crate) fn take_data<M: Medium>(
+    unit: &mut Unit<M>,
+    wire: &mut Wire,
+    taken: &mut [u8],
+    staging: &mut [u8],
+    packet: &[u8],
+    pending: Taking,
+)
+    requires taken { length taken.old ≡ 24576 }
+    requires room { length staging.old ≡ 24576 }
+    requires taking { IsTaking (intention_of unit.old) pending }
+    ensures takes { (left : Script) → TakesOn
+        (M.state unit.old.store.medium) (M.state unit.new.store.medium) unit.old unit.new
+        (line_with wire.old left) (line_of wire.new taken.new staging.new)
+        pending taken.old packet.now }
+    ensures rests { RestsOn (M.state unit.old.store.medium) unit.old unit.new
+        (taking_of pending taken.old) packet.now }
+    ensures spares { SparesOn (M.state unit.old.store.medium) unit.old unit.new
+        (taking_of pending taken.old) packet.now }
+    ensures phase { IsInPhase (intention_of unit.new) wire.new.phase }
+    ensures elapses { Elapses (M.state unit.old.store.medium) (M.state unit.new.store.medium) }
+    ensures follows { M.follows unit.old.store.medium unit.new.store.medium }
+{
+    let Taking {
+        exchange,
+        filled,
+        due,
+    } = pending;
+    if packet.len() != due.min(512) as usize {
+        let status = write_csw(exchange.command.tag, due, Status::PhaseError);
+        wire.lay_out(0, None, status);
+        return;
+    }
+    let filled = fill(taken, filled, packet, exchange.intended.size() as usize);
+    if due > 512 {
+        wire.phase = Phase::DataOut(Taking {
+            exchange,
+            filled,
+            due: due - 512,
+        });
+    } else {
+        carry_out(unit, wire, staging, &exchange, &taken[..filled]);
+    }
+}
+
+// Appends to the first bytes of a buffer, up to so many; how many there are then.
+fn fill(buffer: &mut [u8], filled: usize, packet: &[u8], size: usize) -> usize
+    requires before { filled ≤ size }
+    requires room { size ≤ length buffer.old }
+    ensures bytes { take result buffer.new ≡ take size (take filled buffer.old ++ packet.now) }
+    ensures filled { result ≡ min size (filled + length packet.now) }
+{
+    let more = packet.len().min(size - filled);
+    buffer[filled..filled + more].copy_from_slice(&packet[..more]);
+    filled + more
+}

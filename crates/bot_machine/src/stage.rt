@@ -1,0 +1,143 @@
+// A disk over a medium in memory, or the medium alone.
+ghost use Rattle.std.specs.Prelude.{◌≡◌, ◌↔◌, [], ◌∷◌, true, IfOk, IfErr, MatchResult};
+ghost use Rattle.medium.specs.Sim.{IsCut, IsFused, ComesAfter};
+ghost use Rattle.medium.specs.Writes.{keeps};
+ghost use Rattle.pages.specs.Identification.{Identification};
+ghost use Rattle.bot_machine.specs.Lives.{starts, plays, cuts, arms};
+ghost use Rattle.bot_machine.specs.LivesValue.{
+  medium_in,
+  HasStarted,
+  HasBegun,
+  LivesGoOn,
+  IsRefused,
+};
+ghost use Rattle.bot_machine.specs.declared.stage.Stage.TheVariants.{Rests, Runs};
+
+use crate::disk::Disk;
+use crate::event::{Answer, Event};
+use crate::run::answer_to;
+use crate::{Identity, StartError};
+use medium::{Kept, SimMedium, Switch};
+use std::alloc::Global;
+
+// What there is of a disk over a medium in memory.
+#[derive(Drop)]
+pub(crate) enum Stage {
+    // No disk runs.
+    Rests(SimMedium),
+    // A disk runs, or its power went in an event.
+    Runs(Disk<SimMedium>),
+}
+
+// The medium.
+pub(crate) fn medium_of(stage: &Stage) -> &SimMedium
+    ensures { result.now ≡ medium_in stage.now }
+{
+    match stage {
+        Stage::Rests(medium) => medium,
+        Stage::Runs(disk) => disk.medium(),
+    }
+}
+
+// Gives the medium back.
+pub(crate) fn into_medium(stage: Stage) -> SimMedium
+    ensures { result ≡ medium_in stage }
+{
+    match stage {
+        Stage::Rests(medium) => medium,
+        Stage::Runs(disk) => disk.into_medium(),
+    }
+}
+
+// Arms a fuse.
+pub(crate) fn fuse(stage: &mut Stage, writes: u64)
+    ensures goes_on { (identity : Identification) → LivesGoOn
+        (record { identity = identity; stage = stage.old }) (arms writes ∷ []) []
+        (record { identity = identity; stage = stage.new }) }
+    ensures fused { IsFused writes (medium_in stage.old) (medium_in stage.new) }
+{
+    match stage {
+        Stage::Rests(medium) => medium.fuse(writes),
+        Stage::Runs(disk) => disk.fuse(writes),
+    }
+}
+
+// Starts a disk where none runs and the power is on. No disk runs where power goes in the start.
+pub(crate) fn start(
+    alloc: Global,
+    stage: Stage,
+    identity: Identity,
+) -> Result<Stage, StartError<SimMedium>>
+    ensures ok { IfOk result (λ new. LivesGoOn
+        (record { identity = identity; stage = stage }) (starts ∷ []) []
+        (record { identity = identity; stage = new })) }
+    ensures begun { IfOk result (HasBegun stage) }
+    ensures err { IfErr result (λ error. IsRefused
+        (record { identity = identity; stage = stage }) error.fault
+        (record { identity = identity; stage = Rests error.medium })) }
+    ensures follows { MatchResult result (λ new. ComesAfter (medium_in stage) (medium_in new))
+        (λ error. ComesAfter (medium_in stage) error.medium) }
+{
+    let medium = match stage {
+        Stage::Rests(medium) => medium,
+        Stage::Runs(disk) => return Ok(Stage::Runs(disk)),
+    };
+    if medium.is_off() {
+        return Ok(Stage::Rests(medium));
+    }
+    match Disk::start(alloc, medium, identity) {
+        Ok(disk) => Ok(Stage::Runs(disk)),
+        Err(error) => {
+            if error.medium.is_off() {
+                return Ok(Stage::Rests(error.medium));
+            }
+            Err(error)
+        }
+    }
+}
+
+// Plays an event on a disk that was started.
+pub(crate) fn play(stage: &mut Stage, event: &Event) -> Answer
+    requires { HasStarted stage.old }
+    ensures goes_on { (identity : Identification) → LivesGoOn
+        (record { identity = identity; stage = stage.old }) (plays event.now ∷ []) (result ∷ [])
+        (record { identity = identity; stage = stage.new }) }
+    ensures started { HasStarted stage.new }
+    ensures off { (result ≡ Answer.Off) ↔ ((medium_in stage.new).power.off ≡ true) }
+    ensures follows { ComesAfter (medium_in stage.old) (medium_in stage.new) }
+{
+    match stage {
+        Stage::Rests(_) => Answer::Off,
+        Stage::Runs(disk) => play_on(disk, event),
+    }
+}
+
+// Plays an event on a disk. The answer is the disk's where the power is on afterwards.
+fn play_on(disk: &mut Disk<SimMedium>, event: &Event) -> Answer
+    ensures goes_on { (identity : Identification) → LivesGoOn
+        (record { identity = identity; stage = Runs disk.old }) (plays event.now ∷ []) (result ∷ [])
+        (record { identity = identity; stage = Runs disk.new }) }
+    ensures off { (result ≡ Answer.Off) ↔ (disk.new.unit.store.medium.power.off ≡ true) }
+    ensures follows { ComesAfter disk.old.unit.store.medium disk.new.unit.store.medium }
+{
+    if disk.medium().is_off() {
+        return Answer::Off;
+    }
+    let answer = answer_to(disk, event);
+    if disk.medium().is_off() {
+        return Answer::Off;
+    }
+    answer
+}
+
+// Cuts the power. No disk runs then.
+pub(crate) fn cut(stage: Stage, kept: &Kept) -> SimMedium
+    ensures goes_on { (identity : Identification) → LivesGoOn
+        (record { identity = identity; stage = stage }) (cuts (keeps kept.now) ∷ []) []
+        (record { identity = identity; stage = Rests result }) }
+    ensures exact { IsCut (keeps kept.now) (medium_in stage) result }
+{
+    let mut medium = into_medium(stage);
+    medium.cut(kept);
+    medium
+}

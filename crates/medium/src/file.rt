@@ -1,0 +1,259 @@
+// A medium over an image file.
+ghost use Rattle.std.specs.Prelude.{◌≡◌, ◌≢◌, ◌⊎◌, ◌+◌, ◌*◌, ◌%◌, ◌<◌, ◌≤◌, ◌↔◌, length, replicate};
+ghost use Rattle.std.specs.Prelude.{IfOk, IfErr, IsErrOf, OnOk, OnErr};
+ghost use Rattle.medium.specs.ImageFile.{state_of, fresh, IsImage};
+ghost use Rattle.medium.specs.Medium.{Holds};
+ghost use Rattle.medium.specs.Moments.{IsFlushed};
+ghost use Rattle.medium.specs.Writes.{sector_of};
+
+use crate::count::Count;
+use crate::fault::MediumFault;
+use crate::medium::Medium;
+use crate::refusals::Refusals;
+use crate::sectors::{SECTOR, load, store};
+use std::fs::{Files, OpenFile, OpenOptions};
+use std::io::{Read, Seek, SeekFrom, Write};
+use std::marker::Model;
+use std::{fs, io};
+use thiserror::Error;
+
+#[cfg(test)]
+mod tests;
+
+const SECTOR_LIMIT: u64 = 65_536;
+
+/// Why no medium was made of an image file.
+#[derive(Error, Clone, Copy, Debug, PartialEq, Eq)]
+pub enum FileError {
+    #[error("the image file could not be opened, made, read or written")]
+    File = 1,
+    #[error("the length is not that of one or more sectors")]
+    BadLength = 2,
+    #[error("there are more than 65,536 sectors")]
+    TooLong = 3,
+    #[error("out of memory")]
+    NoMemory = 4,
+}
+
+/// An image file, and a copy of its bytes in memory, taken when it was opened.
+///
+/// Reads are answered from the copy, and none is refused. A write goes to the file and then to the
+/// copy, which a refused one leaves as it was. A flush asks the system to write the file out.
+/// After `open` or `create` no call takes memory.
+///
+/// What a cut may leave is said of the copy. That the file then holds what the copy held at the
+/// last good flush, and of each sector written since it either the old bytes or the new, is a
+/// premise: nothing here proves it, and a write that the system broke off may have torn a sector.
+#[derive(Drop)]
+pub struct FileMedium<F> {
+    file: F,
+    bytes: Vec<u8>,
+    calls: Count,
+    refusals: Refusals,
+}
+
+impl<F> Model for FileMedium<F> {
+    ghost use Rattle.medium.specs.ImageFile.{Copied};
+
+    ghost Value = { Copied };
+
+    ghost use Rattle.medium.specs.ImageFileView.{view_of};
+
+    ghost view = { view_of };
+}
+
+impl<F: Read + Write + Seek + OpenFile + Drop> FileMedium<F> {
+    /// The medium of the image file at this path.
+    ///
+    /// # Errors
+    /// `File` where the file cannot be opened, for reading and writing, or read; `BadLength` where
+    /// its length is 0 or no multiple of 512; then `TooLong` where it has more than 65,536 sectors;
+    /// then `NoMemory`.
+    pub fn open<R: Files<File = F> + AllocGlobal>(
+        rt: &R,
+        path: &str,
+    ) -> Result<FileMedium<F>, FileError>
+        ensures fresh { IfOk result (λ m. m ≡ fresh m.bytes) }
+        ensures image { IfOk result (λ m. IsImage m.bytes) }
+        ensures flushed { IfOk result (λ m. IsFlushed (state_of m)) }
+    {
+        let Ok(mut file) = OpenOptions::new().read(true).write(true).open(rt, path) else {
+            return Err(FileError::File);
+        };
+        let Ok(metadata) = file.metadata() else {
+            return Err(FileError::File);
+        };
+        let length = check_length(metadata.len())?;
+        let Ok(mut bytes) = vec![in rt.alloc(); 0u8; length] else {
+            return Err(FileError::NoMemory);
+        };
+        let Ok(()) = file.read_exact(&mut bytes) else {
+            return Err(FileError::File);
+        };
+        Ok(FileMedium::over(file, bytes))
+    }
+
+    /// Makes a file of so many sectors of zeros at this path, in place of one that is there.
+    ///
+    /// # Errors
+    /// `BadLength` where there are 0 sectors, `TooLong` where there are more than 65,536 and then
+    /// `NoMemory` are found before the file is touched. At `File` it may hold anything.
+    pub fn create<R: Files<File = F> + AllocGlobal>(
+        rt: &R,
+        path: &str,
+        sectors: u64,
+    ) -> Result<FileMedium<F>, FileError>
+        ensures zeros { IfOk result (λ m. m ≡ fresh (replicate (512 * sectors) 0)) }
+        ensures flushed { IfOk result (λ m. IsFlushed (state_of m)) }
+        ensures none { IsErrOf result FileError.BadLength ↔ sectors ≡ 0 }
+        ensures long { IsErrOf result FileError.TooLong ↔ 65536 < sectors }
+    {
+        let length = length_of(sectors)?;
+        let Ok(bytes) = vec![in rt.alloc(); 0u8; length] else {
+            return Err(FileError::NoMemory);
+        };
+        let Ok(mut file) = fs::create(rt, path) else {
+            return Err(FileError::File);
+        };
+        let Ok(()) = file.write_all(&bytes) else {
+            return Err(FileError::File);
+        };
+        Ok(FileMedium::over(file, bytes))
+    }
+}
+
+impl<F> FileMedium<F> {
+    // A file of these bytes.
+    fn over(file: F, bytes: Vec<u8>) -> FileMedium<F>
+        ensures { result ≡ fresh bytes.items }
+    {
+        FileMedium {
+            file,
+            bytes,
+            calls: Count::new(),
+            refusals: Refusals::new(),
+        }
+    }
+}
+
+// The length of a file that is an image, as a number of bytes in memory.
+fn check_length(length: u64) -> Result<usize, FileError>
+    ensures ok { IfOk result (λ bytes. bytes ≡ length) }
+    ensures bad { IsErrOf result FileError.BadLength ↔ ((length ≡ 0) ⊎ (length % 512 ≢ 0)) }
+    ensures long { IsErrOf result FileError.TooLong
+        ↔ ((length % 512 ≡ 0) × (65536 * 512 < length)) }
+    ensures other { IfErr result (λ e. (e ≡ FileError.BadLength) ⊎ (e ≡ FileError.TooLong)) }
+{
+    if length % SECTOR as u64 != 0 {
+        return Err(FileError::BadLength);
+    }
+    length_of(length / SECTOR as u64)
+}
+
+// The bytes of so many sectors, where they are an image.
+fn length_of(sectors: u64) -> Result<usize, FileError>
+    ensures ok { IfOk result (λ bytes. bytes ≡ 512 * sectors) }
+    ensures none { IsErrOf result FileError.BadLength ↔ sectors ≡ 0 }
+    ensures long { IsErrOf result FileError.TooLong ↔ 65536 < sectors }
+    ensures other { IfErr result (λ e. (e ≡ FileError.BadLength) ⊎ (e ≡ FileError.TooLong)) }
+{
+    match sectors {
+        0 => Err(FileError::BadLength),
+        1..=SECTOR_LIMIT => Ok(sectors as usize * SECTOR),
+        _ => Err(FileError::TooLong),
+    }
+}
+
+// Writes a block to a sector's place in a file, and then in the copy of its bytes.
+fn write_through<F: Write + Seek>(
+    file: &mut F,
+    copy: &mut Vec<u8>,
+    sector: u64,
+    block: &[u8; 512],
+) -> io::Result<()>
+    requires { 512 * (sector + 1) ≤ length copy.old.items }
+    ensures ok { OnOk result
+        (Holds sector block.now (sector_of copy.old.items) (sector_of copy.new.items)) }
+    ensures err { OnErr result (copy.new.items ≡ copy.old.items) }
+    ensures length { length copy.new.items ≡ length copy.old.items }
+{
+    file.seek(SeekFrom::Start(sector * SECTOR as u64))?;
+    file.write_all(block)?;
+    store(copy, sector, block);
+    Ok(())
+}
+
+impl<F: Write + Seek + OpenFile> Medium for FileMedium<F> {
+    ghost use Rattle.std.specs.Prelude.{◌≡◌, ◌⊎◌, ◌<◌, IsOk, OnOk, OnErr};
+    ghost use Rattle.medium.specs.Medium.{Stays, Holds, Within, Gains, Only, Passes};
+    ghost use Rattle.medium.specs.ImageFile.{state_of, called, refused, IsWritten, ComesAfter};
+    ghost use Rattle.medium.specs.ImageFileLaws.{is_sound, comes_after_itself, comes_after_through};
+    ghost use Rattle.medium.specs.declared.fault.MediumFault.TheVariants.{Read, Write, Flush};
+
+    ghost state = { state_of };
+
+    ghost follows = { ComesAfter };
+
+    ghost sound = { is_sound };
+
+    ghost follows_itself = { comes_after_itself };
+
+    ghost follows_through = { comes_after_through };
+
+    fn sectors(&self) -> u64 {
+        (self.bytes.len() / SECTOR) as u64
+    }
+
+    fn read(&mut self, sector: u64, to: &mut [u8; 512]) -> Result<(), MediumFault>
+        requires { sector < (state_of self.old).size }
+        ensures exact { self.new ≡ called self.old }
+        ensures happens { IsOk result }
+        ensures ok { OnOk result (to.new ≡ (state_of self.old).content sector) }
+        ensures content { Stays (state_of self.old).content (state_of self.new).content }
+        ensures sets { Within (state_of self.new).may_leave (state_of self.old).may_leave }
+        ensures passes { Passes Read result (state_of self.old) (state_of self.new) }
+        ensures follows { ComesAfter self.old self.new }
+    {
+        self.calls = self.calls.next();
+        load(&self.bytes, sector, to);
+        Ok(())
+    }
+
+    fn write(&mut self, sector: u64, from: &[u8; 512]) -> Result<(), MediumFault>
+        requires { sector < (state_of self.old).size }
+        ensures exact { OnOk result (IsWritten sector from.now self.old self.new) }
+        ensures refused { OnErr result (self.new ≡ refused self.old Write) }
+        ensures ok { OnOk result
+            (Holds sector from.now (state_of self.old).content (state_of self.new).content) }
+        ensures err { OnErr result (Stays (state_of self.old).content (state_of self.new).content
+            ⊎ Holds sector from.now (state_of self.old).content (state_of self.new).content) }
+        ensures sets { Gains sector from.now
+            (state_of self.old).may_leave (state_of self.new).may_leave }
+        ensures passes { Passes Write result (state_of self.old) (state_of self.new) }
+        ensures follows { ComesAfter self.old self.new }
+    {
+        self.calls = self.calls.next();
+        let Ok(()) = write_through(&mut self.file, &mut self.bytes, sector, from) else {
+            self.refusals.add(MediumFault::Write);
+            return Err(MediumFault::Write);
+        };
+        Ok(())
+    }
+
+    fn flush(&mut self) -> Result<(), MediumFault>
+        ensures exact { OnOk result (self.new ≡ called self.old) }
+        ensures refused { OnErr result (self.new ≡ refused self.old Flush) }
+        ensures ok { OnOk result (Only (state_of self.old).content (state_of self.new).may_leave) }
+        ensures content { Stays (state_of self.old).content (state_of self.new).content }
+        ensures sets { Within (state_of self.new).may_leave (state_of self.old).may_leave }
+        ensures passes { Passes Flush result (state_of self.old) (state_of self.new) }
+        ensures follows { ComesAfter self.old self.new }
+    {
+        self.calls = self.calls.next();
+        let Ok(()) = self.file.sync_all() else {
+            self.refusals.add(MediumFault::Flush);
+            return Err(MediumFault::Flush);
+        };
+        Ok(())
+    }
+}

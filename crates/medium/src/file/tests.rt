@@ -1,0 +1,185 @@
+// An image file from life to life, and files that refuse.
+use super::*;
+use crate::medium::Medium;
+use std::fs::{File, Metadata};
+use std::test::Fail;
+use std::{env, process};
+
+// A file that refuses what it is told to.
+#[derive(Drop)]
+struct Stubborn {
+    writes: bool,
+    syncs: bool,
+}
+
+fn answer(refused: bool) -> io::Result<()> {
+    if refused {
+        return Err(io::Error::from(io::ErrorKind::Other));
+    }
+    Ok(())
+}
+
+impl Read for Stubborn {
+    fn read(&mut self, _buf: &mut [u8]) -> io::Result<usize> {
+        Ok(0)
+    }
+}
+
+impl Write for Stubborn {
+    fn write(&mut self, buf: &[u8]) -> io::Result<usize> {
+        answer(self.writes)?;
+        Ok(buf.len())
+    }
+
+    fn flush(&mut self) -> io::Result<()> {
+        Ok(())
+    }
+}
+
+impl Seek for Stubborn {
+    fn seek(&mut self, _to: SeekFrom) -> io::Result<u64> {
+        Ok(0)
+    }
+}
+
+impl OpenFile for Stubborn {
+    fn metadata(&self) -> io::Result<Metadata> {
+        Ok(Metadata::of_file(1024))
+    }
+
+    fn set_len(&self, _size: u64) -> io::Result<()> {
+        Ok(())
+    }
+
+    fn sync_all(&self) -> io::Result<()> {
+        answer(self.syncs)
+    }
+
+    fn sync_data(&self) -> io::Result<()> {
+        answer(self.syncs)
+    }
+}
+
+// A path of this name that no other process has.
+fn path_of(rt: &HostRuntime, name: &str) -> Result<String, Fail> {
+    let folder = env::temp_dir(rt)?;
+    let number = process::id(rt.process());
+    Ok(format!(in rt.alloc(); "{}/medium-{number}-{name}", folder.display())?)
+}
+
+// Where memory is refused, no file has been made, and the second try makes it.
+fn create(rt: HostRuntime, path: &str, sectors: u64) -> Result<FileMedium<File>, Fail> {
+    match FileMedium::create(&rt, path, sectors) {
+        Err(FileError::NoMemory) if !fs::exists(&rt, path)? => {
+            Ok(FileMedium::create(&rt, path, sectors)?)
+        }
+        made => Ok(made?),
+    }
+}
+
+// Where memory is refused, the second try opens the file.
+fn open(rt: HostRuntime, path: &str) -> Result<FileMedium<File>, Fail> {
+    match FileMedium::open(&rt, path) {
+        Err(FileError::NoMemory) => Ok(FileMedium::open(&rt, path)?),
+        opened => Ok(opened?),
+    }
+}
+
+#[test]
+fn a_file_keeps_what_was_written(rt: HostRuntime) -> Result<(), Fail> {
+    let path = path_of(&rt, "kept")?;
+    let path = path.as_str();
+    let mut block = [9; 512];
+    let mut m = create(rt, path, 3)?;
+    assert_eq!(rt; m.sectors(), 3);
+    assert_eq!(rt; m.read(2, &mut block), Ok(()));
+    assert_eq!(rt; block, [0; 512]);
+    assert_eq!(rt; m.write(1, &[7; 512]), Ok(()));
+    assert_eq!(rt; m.read(1, &mut block), Ok(()));
+    assert_eq!(rt; block, [7; 512]);
+    assert_eq!(rt; m.flush(), Ok(()));
+    drop(m);
+    let mut m = open(rt, path)?;
+    assert_eq!(rt; m.sectors(), 3);
+    assert_eq!(rt; m.read(1, &mut block), Ok(()));
+    assert_eq!(rt; block, [7; 512]);
+    assert_eq!(rt; m.read(2, &mut block), Ok(()));
+    assert_eq!(rt; block, [0; 512]);
+    drop(m);
+    assert_eq!(rt; FileMedium::create(&rt, path, 1)?.sectors(), 1);
+    assert_eq!(rt; fs::read(&rt, path)?.as_slice(), [0; 512].as_slice());
+    fs::remove_file(&rt, path)?;
+    Ok(())
+}
+
+#[test]
+fn a_length_that_is_no_image_is_refused(rt: HostRuntime) -> Result<(), Fail> {
+    let path = path_of(&rt, "lengths")?;
+    let path = path.as_str();
+    assert_eq!(rt; FileMedium::open(&rt, path).err(), Some(FileError::File));
+    assert_eq!(rt;
+        FileMedium::create(&rt, path, 0).err(),
+        Some(FileError::BadLength)
+    );
+    assert_eq!(rt;
+        FileMedium::create(&rt, path, 65_537).err(),
+        Some(FileError::TooLong)
+    );
+    assert!(rt; !fs::exists(&rt, path)?, "a refused size makes no file");
+    for (length, error) in [
+        (0, Some(FileError::BadLength)),
+        (511, Some(FileError::BadLength)),
+        (65_537 * 512 + 1, Some(FileError::BadLength)),
+        (65_537 * 512, Some(FileError::TooLong)),
+        (65_536 * 512, None),
+    ] {
+        fs::create(&rt, path)?.set_len(length)?;
+        assert_eq!(rt; FileMedium::open(&rt, path).err(), error, "at {length}");
+    }
+    assert_eq!(rt;
+        FileMedium::create(&rt, path, 0).err(),
+        Some(FileError::BadLength)
+    );
+    assert_eq!(rt;
+        FileMedium::create(&rt, path, 65_537).err(),
+        Some(FileError::TooLong)
+    );
+    assert_eq!(rt;
+        fs::metadata(&rt, path)?.len(),
+        65_536 * 512,
+        "nor does it empty one"
+    );
+    fs::remove_file(&rt, path)?;
+    let folder = path_of(&rt, "none/at/all")?;
+    assert_eq!(rt;
+        FileMedium::create(&rt, folder.as_str(), 1).err(),
+        Some(FileError::File)
+    );
+    Ok(())
+}
+
+#[test]
+fn a_file_that_refuses_makes_refused_calls(rt: HostRuntime) -> Result<(), Fail> {
+    let mut block = [9; 512];
+    let writes = Stubborn {
+        writes: true,
+        syncs: false,
+    };
+    let mut m = FileMedium::over(writes, vec![in rt.alloc(); 0u8; 1024]?);
+    assert_eq!(rt; m.sectors(), 2);
+    assert_eq!(rt; m.write(1, &[7; 512]), Err(MediumFault::Write));
+    assert_eq!(rt; m.read(1, &mut block), Ok(()));
+    assert_eq!(rt; (block[0], block[511]), (0, 0), "the copy is as it was");
+    assert_eq!(rt; m.flush(), Ok(()));
+    let syncs = Stubborn {
+        writes: false,
+        syncs: true,
+    };
+    let mut m = FileMedium::over(syncs, vec![in rt.alloc(); 0u8; 1024]?);
+    assert_eq!(rt; m.sectors(), 2);
+    assert_eq!(rt; m.write(1, &[7; 512]), Ok(()));
+    assert_eq!(rt; m.flush(), Err(MediumFault::Flush));
+    assert_eq!(rt; m.read(1, &mut block), Ok(()));
+    assert_eq!(rt; (block[0], block[511]), (7, 7));
+    Ok(())
+}

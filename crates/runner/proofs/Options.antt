@@ -1,0 +1,37 @@
+-- Facts on options and results.
+use Rattle.std.proofs.Common.{◌≡◌, refl, Option, Some, None, Result, Ok, Err, true, false}
+use Rattle.std.specs.Prelude.{IfNone, IsSome, IfOk, IfErr, OnOk, OnErr, is_err}
+
+-- what follows where there is no value
+pub none_weaker : {T P Q : Type 0} (r : Option T) → (P → Q) → IfNone r P → IfNone r Q
+none_weaker None weaker holds = weaker holds
+none_weaker (Some x) weaker holds = tt
+
+-- what holds anyway
+pub on_err_too : {T E P : Type 0} (r : Result T E) → P → OnErr r P
+on_err_too (Ok x) holds = tt
+on_err_too (Err e) holds = holds
+
+-- what holds at an `Ok`
+pub on_ok : {T E P : Type 0} (r : Result T E) → false ≡ is_err r → OnOk r P → P
+on_ok (Ok x) good holds = holds
+on_ok (Err e) good holds = absurd (cc)
+
+-- what holds at an `Err`
+pub on_err : {T E P : Type 0} (r : Result T E) → true ≡ is_err r → OnErr r P → P
+on_err (Ok x) bad holds = absurd (cc)
+on_err (Err e) bad holds = holds
+
+-- what follows for each value, and for each error
+pub if_ok : {T E : Type 0} {P Q : T → Type 0} (r : Result T E) → ((x : T) → P x → Q x) → IfOk r P → IfOk r Q
+if_ok (Ok x) follows holds = follows x holds
+if_ok (Err e) follows holds = tt
+
+pub if_err : {T E : Type 0} {P Q : E → Type 0} (r : Result T E) → ((e : E) → P e → Q e) → IfErr r P → IfErr r Q
+if_err (Ok x) follows holds = tt
+if_err (Err e) follows holds = follows e holds
+
+-- where there must be a value, there is one
+pub is_some_where : {T : Type 0} {P : Type 0} (r : Option T) → IfNone r P → (P → ⊥) → IsSome r
+is_some_where None holds never = absurd (never holds)
+is_some_where (Some x) holds never = refl

@@ -1,0 +1,98 @@
+-- The parser takes the words of the command line.
+use Rattle.runner.proofs.FormatWords.{IsPlain, format_passes}
+use Rattle.std.proofs.Common.{inl, inr, ap, ◌≡◌, ◌≤◌, ◌<◌, ℕ, List, [], ◌∷◌, true, false, None, ◌^◌, ◌∙◌, codes, slice_index, sym, refl, arith}
+use Rattle.std.specs.Prelude.{◌⊎◌, ◌&&◌, Bool, is_some, Result, Ok, Err, IsErrAnd, IfErr}
+use Rattle.std.specs.Str.{bytes_eq}
+use Rattle.std.proofs.lemmas.Bool.{cases_eq}
+use Rattle.std.proofs.lemmas.Bool.Decides.{nat_tests}
+use Rattle.clap.specs.Lexer.{strip_byte}
+use Rattle.clap.specs.Words.{takes}
+use Rattle.clap.specs.Takes.{level_passes, entered_passes}
+use Rattle.clap.specs.Simple.{built_leaf, built, names_of, entered, is_simple}
+use Rattle.clap.specs.Walk.{nothing_held, walk}
+use Rattle.clap.proofs.OnLiterals.{clap_on_literals}
+use Rattle.clap.specs.declared.error.kind.ErrorKind.{ErrorKind}
+use Rattle.clap.specs.declared.error.kind.ErrorKind.TheVariants as kinds
+use Rattle.runner.specs.declared.refusal.Refusal.{Refusal}
+use Rattle.runner.specs.declared.refusal.Refusal.TheVariants as refused
+use Rattle.runner.specs.Status.{refusal_of_kind}
+use Rattle.runner.specs.Task.{IsFileWord, IsSizeWord, AreFormatWords, AreScriptWords, IsCommandLine}
+use Rattle.runner.specs.Parser.{usbdisk_app, format_app}
+use Rattle.runner.proofs.Numerals.{decimal-no_hyphen}
+
+-- a word for a file has no first hyphen to strip
+no_hyphen : (word : List ℕ) → IsFileWord word → strip_byte 45 word ≡ None
+no_hyphen [] is_file = refl
+no_hyphen (byte ∷ rest) is_file =
+    elim (cases_eq byte 45) [
+      | inl same ↦ absurd (is_file rest (ap (λ b. b ∷ rest) same))
+      | inr other ↦ grind (arith, nat_tests, other)
+    ]
+
+-- it is not the two hyphens after which no word is an option
+not_hyphens : (word : List ℕ) → IsFileWord word → bytes_eq word (codes "--") ≡ false
+not_hyphens [] is_file = refl
+not_hyphens (byte ∷ rest) is_file =
+    elim (cases_eq byte 45) [
+      | inl same ↦ absurd (is_file rest (ap (λ b. b ∷ rest) same))
+      | inr other ↦ grind (arith, nat_tests, other)
+    ]
+
+takes_script : (verb image script : List ℕ) → (verb ≡ codes "run") ⊎ (verb ≡ codes "sim") → strip_byte 45 image ≡ None → strip_byte 45 script ≡ None
+    → bytes_eq image (codes "--") ≡ false → bytes_eq script (codes "--") ≡ false
+    → takes usbdisk_app (verb ∷ image ∷ script ∷ []) ≡ true
+unfolding clap_on_literals
+takes_script verb image script (inl is) a b c d = rw is (simp (a, b, c, d))
+takes_script verb image script (inr is) a b c d = rw is (simp (a, b, c, d))
+
+both : (x y z : Bool) → x ≡ true → y ≡ true → z ≡ true → (x && (y && z)) ≡ true
+both x y z a b c = simp (a, b, c)
+
+-- the words behind `format` go to its own parser
+to_format : (a b c d e : List ℕ) → level_passes (built_leaf format_app.top) [] nothing_held (a ∷ b ∷ c ∷ d ∷ e ∷ []) false ≡ true
+    → takes usbdisk_app (codes "format" ∷ a ∷ b ∷ c ∷ d ∷ e ∷ []) ≡ true
+unfolding clap_on_literals
+to_format a b c d e passes =
+    let words = codes "format" ∷ a ∷ b ∷ c ∷ d ∷ e ∷ [] in
+    let app = built usbdisk_app in
+    let stop = (walk app.top.rules (names_of app) nothing_held words).stopped in
+    both (is_simple usbdisk_app) (entered_passes app stop) (level_passes app.top (names_of app) nothing_held words (is_some (entered app stop))) refl passes refl
+
+takes_format : (image blocks slots : List ℕ) → IsPlain image → IsPlain blocks → IsPlain slots
+    → takes usbdisk_app (codes "format" ∷ image ∷ codes "--blocks" ∷ blocks ∷ codes "--slots" ∷ slots ∷ []) ≡ true
+takes_format image blocks slots a b c =
+    to_format image (codes "--blocks") blocks (codes "--slots") slots (format_passes image blocks slots a b c)
+
+-- the digits of a number are no word for a file of their own, but do not begin with a hyphen either
+digits_word : (word : List ℕ) (size : ℕ) → IsSizeWord word size → IsFileWord word
+digits_word word size spelled rest same =
+    let fits : size < 2 ^ 64 = omega (arith, spelled.not_more) in
+    decimal-no_hyphen size fits (ap (λ w. slice_index w 0) (sym spelled.digits ∙ same))
+
+plain : (word : List ℕ) → IsFileWord word → IsPlain word
+plain word is_file = record { stripped = no_hyphen word is_file; other = not_hyphens word is_file }
+
+takes_line : (words : List (List ℕ)) → IsCommandLine words → takes usbdisk_app words ≡ true
+takes_line words (inl (image, blocks, slots, are)) =
+    let b = digits_word are.blocks_word blocks are.blocks_are in
+    let s = digits_word are.slots_word slots are.slots_are in
+    rw are.words_are (takes_format image are.blocks_word are.slots_word (plain image are.image_word) (plain are.blocks_word b) (plain are.slots_word s))
+takes_line words (inr (inl (image, script, are))) =
+    rw are.words_are (takes_script (codes "run") image script (inl refl) (no_hyphen image are.image_word) (no_hyphen script are.script_word)
+    (not_hyphens image are.image_word) (not_hyphens script are.script_word))
+takes_line words (inr (inr (image, script, are))) =
+    rw are.words_are (takes_script (codes "sim") image script (inr refl) (no_hyphen image are.image_word) (no_hyphen script are.script_word)
+    (not_hyphens image are.image_word) (not_hyphens script are.script_word))
+
+-- what a parser refuses is none of a command's words, or it had no memory
+pub refused-by : (words : List (List ℕ)) (kind : ErrorKind) (refusal : Refusal) → refusal ≡ refusal_of_kind kind
+    → (takes usbdisk_app words ≡ true → kind ≡ kinds.OutOfMemory)
+    → (refusal ≡ refused.NoMemory) ⊎ ((refusal ≡ refused.Words) × (IsCommandLine words → ⊥))
+refused-by words kinds.OutOfMemory refusal is passes = inl is
+refused-by words kind refusal is passes =
+    inr (is, λ line. let same : kind ≡ kinds.OutOfMemory = passes (takes_line words line) in cc)
+
+-- what holds of each error holds of this one
+pub if-err : {T E : Type 0} (r : Result T E) (Q P : E → Type 0) → IsErrAnd r Q → ((e : E) → Q e → P e) → IfErr r P
+if-err (Ok x) Q P is holds = tt
+if-err (Err e) Q P is holds = holds e is

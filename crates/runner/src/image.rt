@@ -1,0 +1,91 @@
+// Image files, as media.
+ghost use Rattle.std.specs.Prelude.{◌≡◌, ◌⊎◌, ◌↔◌, ℕ, List, IfOk, IfErr, IfSome, IfNone};
+ghost use Rattle.log_layout.specs.Places.{sectors_of};
+ghost use Rattle.medium.specs.ImageFile.{IsImage, fresh};
+ghost use Rattle.runner.specs.Program.{AreImageSizes, IsMade, simulated};
+
+use crate::read::{ReadFault, read_to_limit};
+use crate::refusal::Refusal;
+use medium::{FileMedium, SimError, SimMedium};
+use recovery::format;
+use std::fs;
+use std::fs::Files;
+
+/// The most bytes of an image: 65,536 sectors.
+const IMAGE_LIMIT: usize = 65_536 * 512;
+
+/// The unflushed writes that a simulated medium holds.
+const ROOM: usize = 16_384;
+
+/// Makes an image file of so many blocks of zeros, with so many log slots, in place of one that is
+/// there. The sizes are tested before the file is touched.
+pub(crate) fn make_image<R: Files + AllocGlobal>(
+    rt: &R,
+    path: &str,
+    blocks: u64,
+    slots: u64,
+) -> Result<FileMedium<R::File>, Refusal>
+    ensures made { IfOk result (IsMade blocks slots) }
+    ensures size { (result ≡ Err Refusal.ImageSize) ↔ ¬ AreImageSizes blocks slots }
+    ensures refused { IfErr result (λ refusal. (refusal ≡ Refusal.ImageSize)
+        ⊎ ((refusal ≡ Refusal.File) ⊎ (refusal ≡ Refusal.NoMemory))) }
+{
+    let sectors = image_sectors(blocks, slots).ok_or(Refusal::ImageSize)?;
+    let mut medium = FileMedium::create(rt, path, sectors)?;
+    match format(&mut medium, blocks, slots) {
+        Ok(()) => Ok(medium),
+        Err(_) => Err(Refusal::File),
+    }
+}
+
+// The sectors of an image with these sizes, if it may have them.
+fn image_sectors(blocks: u64, slots: u64) -> Option<u64>
+    ensures some { IfSome result (λ sectors. AreImageSizes blocks slots
+        × (sectors ≡ sectors_of (record { blocks = blocks; slots = slots }))) }
+    ensures none { IfNone result (AreImageSizes blocks slots → ⊥) }
+{
+    if blocks < 1 || blocks > 65_536 || slots < 1 || slots > 64 {
+        return None;
+    }
+    let sectors = 2 + 50 * slots + blocks;
+    if sectors > 65_536 {
+        return None;
+    }
+    Some(sectors)
+}
+
+/// The medium of an image file.
+pub(crate) fn open_image<R: Files + AllocGlobal>(
+    rt: &R,
+    path: &str,
+) -> Result<FileMedium<R::File>, Refusal>
+    ensures opened { IfOk result (λ medium.
+        (medium ≡ fresh medium.bytes) × IsImage medium.bytes) }
+    ensures refused { IfErr result (λ refusal. (refusal ≡ Refusal.ImageLength)
+        ⊎ ((refusal ≡ Refusal.File) ⊎ (refusal ≡ Refusal.NoMemory))) }
+{
+    Ok(FileMedium::open(rt, path)?)
+}
+
+/// A medium in memory with the bytes of an image file.
+pub(crate) fn sim_medium<R: Files + AllocGlobal>(rt: &R, path: &str) -> Result<SimMedium, Refusal>
+    ensures held { IfOk result (λ medium.
+        (image : List ℕ) × IsImage image × (medium ≡ simulated image)) }
+    ensures refused { IfErr result (λ refusal. (refusal ≡ Refusal.ImageLength)
+        ⊎ ((refusal ≡ Refusal.File) ⊎ (refusal ≡ Refusal.NoMemory))) }
+{
+    let Ok(mut image) = fs::open(rt, path) else {
+        return Err(Refusal::File);
+    };
+    let image = match read_to_limit(rt.alloc(), &mut image, IMAGE_LIMIT) {
+        Ok(image) => image,
+        Err(ReadFault::TooLong) => return Err(Refusal::ImageLength),
+        Err(ReadFault::NoMemory) => return Err(Refusal::NoMemory),
+        Err(ReadFault::Reader) => return Err(Refusal::File),
+    };
+    match SimMedium::new(rt.alloc(), image, ROOM) {
+        Ok(medium) => Ok(medium),
+        Err(SimError::BadLength) => Err(Refusal::ImageLength),
+        Err(SimError::NoMemory) => Err(Refusal::NoMemory),
+    }
+}

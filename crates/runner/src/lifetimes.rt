@@ -1,0 +1,105 @@
+// A checked script of several lives, played on a simulated medium.
+ghost use Rattle.std.specs.Prelude.{◌≡◌, ◌≤◌, ◌++◌, ◌∷◌, [], ℕ, List, All, OnOk, IfOk, IfErr, flat_map, length, vec_capacity};
+ghost use Rattle.std.specs.Io.KnownBytes.{Appends};
+ghost use Rattle.bot_machine.specs.declared.event.Answer.{Answer};
+ghost use Rattle.bot_machine.specs.Lives.{Action, cuts};
+ghost use Rattle.bot_machine.specs.LivesValue.{LivesValue, medium_in};
+ghost use Rattle.runner.specs.Line.{IsScriptLine};
+ghost use Rattle.runner.specs.Lines.{lines_of};
+ghost use Rattle.runner.specs.Events.{events_of};
+ghost use Rattle.runner.specs.Lifetimes.{Acts, comes, is_kept, text_of_lives};
+ghost use Rattle.runner.specs.PlayedLives.{Acted, EndsBy};
+
+use crate::fault::{ScriptError, ScriptFault};
+use crate::kept::KeptWrites;
+use crate::line::{ScriptKind, ScriptLine, read_line};
+use crate::output::write_out;
+use crate::parts::Parts;
+use crate::text::event_line;
+use bot_machine::Lives;
+use medium::{Kept, SimMedium};
+use std::alloc::Global;
+use std::io::Write;
+
+/// Plays every line of a script, and writes the line of each answer at once. There is room for 64
+/// numbers of writes, so that a start alone takes memory.
+pub(crate) fn play_lives<W: Write>(
+    alloc: Global,
+    mut lives: Lives,
+    mut numbers: Vec<u32>,
+    script: &[u8],
+    out: &mut W,
+) -> Result<SimMedium, ScriptError<SimMedium>>
+    requires good { All (IsScriptLine ScriptKind.Lives) (lines_of script.now) }
+    requires room { 64 ≤ vec_capacity numbers }
+{
+    for line in Parts::lines(script) {
+        match read_line(ScriptKind::Lives, line).unwrap() {
+            ScriptLine::Fuse { writes } => lives.fuse(writes),
+            ScriptLine::Cut(kept) => numbers = cut(&mut lives, &kept, numbers),
+            asked => {
+                if let Err(fault) = play_events(alloc, &mut lives, asked, out) {
+                    return Err(ScriptError {
+                        fault,
+                        medium: lives.into_medium(),
+                    });
+                }
+            }
+        }
+    }
+    Ok(lives.into_medium())
+}
+
+// Plays the events of one line.
+fn play_events<W: Write>(
+    alloc: Global,
+    lives: &mut Lives,
+    asked: ScriptLine,
+    out: &mut W,
+) -> Result<(), ScriptFault> {
+    for event in asked {
+        let answer = lives.event(alloc, &event).map_err(ScriptFault::Start)?;
+        if write_out(out, event_line(&event, &answer).as_slice()).is_err() {
+            return Err(ScriptFault::Writer);
+        }
+    }
+    Ok(())
+}
+
+// Cuts the power. The room for the numbers comes back.
+fn cut(lives: &mut Lives, kept: &KeptWrites, mut numbers: Vec<u32>) -> Vec<u32>
+    requires { 64 ≤ vec_capacity numbers }
+    ensures room { vec_capacity result ≡ vec_capacity numbers }
+{
+    match kept {
+        KeptWrites::None => {
+            lives.cut(&Kept::None);
+            numbers
+        }
+        KeptWrites::All => {
+            lives.cut(&Kept::All);
+            numbers
+        }
+        KeptWrites::These(these) => {
+            fill(&mut numbers, these.as_slice());
+            let kept = Kept::These(numbers);
+            lives.cut(&kept);
+            match kept {
+                Kept::These(numbers) => numbers,
+                Kept::None | Kept::All => unreachable!(),
+            }
+        }
+    }
+}
+
+// Puts numbers in place of those that were there.
+fn fill(numbers: &mut Vec<u32>, these: &[u32])
+    requires { length these.now ≤ vec_capacity numbers.old }
+    ensures items { numbers.new.items ≡ these.now }
+    ensures room { vec_capacity numbers.new ≡ vec_capacity numbers.old }
+{
+    numbers.clear();
+    for number in these {
+        numbers.push_reserved(*number);
+    }
+}

@@ -1,0 +1,50 @@
+// A script of several lives, played on a simulated medium.
+use crate::check::check_script;
+use crate::fault::{ScriptError, ScriptFault};
+use crate::identity::disk_identity;
+use crate::lifetimes::play_lives;
+use crate::line::ScriptKind;
+use crate::read::read_to_limit;
+use crate::script::SCRIPT_LIMIT;
+use bot_machine::Lives;
+use medium::SimMedium;
+use std::alloc::Global;
+use std::io::{Read, Write};
+
+/// Plays a script on a disk over a simulated medium, whose power is on, with nothing unflushed and no
+/// fuse armed. Lines `fuse` and `cut` are its as well.
+pub fn sim_script<R: Read, W: Write>(
+    alloc: Global,
+    medium: SimMedium,
+    script: &mut R,
+    out: &mut W,
+) -> Result<SimMedium, ScriptError<SimMedium>> {
+    let script = match read_to_limit(alloc, script, SCRIPT_LIMIT) {
+        Ok(script) => script,
+        Err(fault) => {
+            return Err(ScriptError {
+                fault: ScriptFault::from(fault),
+                medium,
+            });
+        }
+    };
+    if let Err(number) = check_script(ScriptKind::Lives, script.as_slice()) {
+        return Err(ScriptError {
+            fault: ScriptFault::Line(number),
+            medium,
+        });
+    }
+    let Ok(numbers) = Vec::with_capacity(alloc, 64) else {
+        return Err(ScriptError {
+            fault: ScriptFault::NoMemory,
+            medium,
+        });
+    };
+    play_lives(
+        alloc,
+        Lives::new(medium, disk_identity()),
+        numbers,
+        script.as_slice(),
+        out,
+    )
+}

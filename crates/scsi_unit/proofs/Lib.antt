@@ -1,0 +1,9 @@
+pub mod Resting
+pub mod Checking
+pub mod Turning
+pub mod Performing
+pub mod Writing
+pub mod Serving
+pub mod Effects
+pub mod Outcomes
+pub mod Intentions

@@ -1,0 +1,64 @@
+-- From the turns of a store to the events of a unit.
+use Rattle.std.proofs.Common.{◌≡◌, ◌⊎◌, ◌<◌, ◌≤◌, ◌+◌, [], inl, inr, ⊎_elim, ℕ, Bool, true, false, arith, refl, ap, subst}
+use Rattle.std.proofs.lemmas.Bool.Decides.{nat_tests}
+use Rattle.medium.specs.Medium.{State}
+use Rattle.blocks.specs.Book.{Book}
+use Rattle.blocks.specs.StoreValue.{Cached, StoreValue, FitsBook, blocks_of, is_dead, active_of, steps_left}
+use Rattle.blocks.specs.Turns.{GoesOn, HasCause, IsTurn}
+use Rattle.scsi_unit.specs.Rules.{MayFault, Ticks, intention_by}
+use Rattle.scsi_unit.specs.declared.intent.Intent.TheVariants as intent
+use Rattle.scsi_unit.specs.UnitValue.{UnitValue, state_of}
+use Rattle.scsi_unit.specs.Serving.{has_refused, TicksOver}
+use Rattle.scsi_unit.proofs.Checking.{steady_by}
+
+-- the failures grew
+pub refused_so : (before after : State) → before.failures < after.failures
+    → has_refused before after ≡ true
+refused_so before after grew = grind (arith, nat_tests)
+
+-- a store is dead as it was, or it has died
+pub died_or_not : (was is : Bool) → (was ≡ true → is ≡ true) → (is ≡ was) ⊎ ((was ≡ false) × (is ≡ true))
+died_or_not true is stays = inl (stays refl)
+died_or_not false true stays = inr (refl, refl)
+died_or_not false false stays = inl refl
+
+-- the cause of a death, for a book that the store fitted
+pub may_fault : (before after : State) (old : Cached) (book : Book) → HasCause before after old
+    → FitsBook before old book → MayFault (has_refused before after) book
+may_fault before after old book cause fits =
+    ⊎_elim (λ grew. inl (refused_so before after grew)) (λ out. inr (out book fits)) cause
+
+-- a step in the background
+pub ticks_line : {M : Type 0} (before after : State) (old : UnitValue M) (store : StoreValue M)
+    (book : Book) → GoesOn before after old.store.cached store.cached
+    → FitsBook before old.store.cached book
+    → Ticks (has_refused before after) (state_of old book) (state_of (record old { store = store }) book)
+ticks_line before after old store book on fits =
+    elim (died_or_not (is_dead old.store.cached) (is_dead store.cached) on.dead_stays) [
+      | inl same ↦ inl (ap (λ (dead : Bool). record (state_of old book) { faulted = dead }) same)
+      | inr died ↦ inr (record {
+        cause = may_fault before after old.store.cached book (on.cause died.0 died.1) fits;
+        after = ap (λ (dead : Bool). record (state_of old book) { faulted = dead }) died.1;
+      })
+    ]
+
+-- a unit over a store that made a step in the background
+pub ticks_over : {M : Type 0} (before after : State) (old : UnitValue M) (store : StoreValue M)
+    → IsTurn before after old.store.cached store.cached → after.calls ≤ before.calls + 2
+    → (is_dead store.cached ≡ false → (steps_left store.cached < steps_left old.store.cached) ⊎ (steps_left old.store.cached ≡ 0))
+    → (active_of store.cached ≡ active_of old.store.cached) ⊎ (active_of store.cached ≡ [])
+    → TicksOver before after old (record old { store = store })
+ticks_over before after old store turn few left active = record {
+  line = λ book fits. (ticks_line before after old store book turn.goes_on fits, turn.fits book fits);
+  cuts = turn.cuts;
+  failures_stay = turn.goes_on.failures_stay;
+  size_stays = turn.goes_on.size_stays;
+  blocks_stay = turn.goes_on.blocks_stay;
+  others_stay = refl;
+  steady = λ block n out. steady_by (blocks_of old.store.cached) old.kept.attention (is_dead old.store.cached) (is_dead store.cached) block n
+      (died_or_not (is_dead old.store.cached) (is_dead store.cached) turn.goes_on.dead_stays)
+      (subst (λ (b : ℕ). intention_by b old.kept.attention (is_dead store.cached) block ≡ intent.Out n) turn.goes_on.blocks_stay out);
+  few = few;
+  left = left;
+  active = active;
+}

@@ -1,0 +1,18 @@
+use Rattle.scsi_unit.proofs.Intentions.{keeps_intentions}
+use Rattle.scsi_unit.proofs.Outcomes.{is_function, keeps_writes, stays_faulted, ticks_only}
+use Rattle.scsi_unit.proofs.laws.unit_laws.Goals as goal
+
+pub returns-clause-function : goal.returns-clause-function
+returns-clause-function c = is_function
+
+pub returns-clause-writes : goal.returns-clause-writes
+returns-clause-writes c = keeps_writes
+
+pub returns-clause-intentions : goal.returns-clause-intentions
+returns-clause-intentions c = keeps_intentions
+
+pub returns-clause-faults : goal.returns-clause-faults
+returns-clause-faults c = stays_faulted
+
+pub returns-clause-ticks : goal.returns-clause-ticks
+returns-clause-ticks c = ticks_only

@@ -1,0 +1,43 @@
+use Rattle.std.proofs.Common.{◌≡◌, false, Ok, refl, subst, sym}
+use Rattle.std.proofs.lemmas.Result.{err_from_is_err_and}
+use Rattle.cdb.specs.declared.command.Command.TheVariants as command
+use Rattle.blocks.specs.StoreValue.{is_dead}
+use Rattle.scsi_unit.specs.UnitValue.{UnitValue, answer_of}
+use Rattle.scsi_unit.specs.Performing.{Performs}
+use Rattle.scsi_unit.proofs.Performing.{durable_error, moves_some, forces_as, reads_nothing, reads_blocks_of}
+use Rattle.scsi_unit.proofs.unit.Unit.read.Goals as goal
+
+pub returns-then-transfer-eq0-clause-performs : goal.returns-then-transfer-eq0-clause-performs
+returns-then-transfer-eq0-clause-performs g c taken =
+    let unit = c.args.self.now in
+    reads_nothing (g.M.Medium.state unit.store.medium) (g.met.M.Medium.sound unit.store.medium) unit c.args.transfer taken c.if-transfer-eq0.true
+
+pub returns-in_err-make_durable-clause-performs : goal.returns-in_err-make_durable-clause-performs
+returns-in_err-make_durable-clause-performs g c taken =
+    let p = err_from_is_err_and c.from_residual.result c.from_residual.ensures.1 in
+    let state = g.M.Medium.state in
+    let i = c.self.inside in
+    let seen : UnitValue g.row.M.Denot = record { store = i.store; identity = i.identity; kept = i.kept; write_cache = i.write_cache } in
+    let last = c.make_durable.new.store in
+    let live = subst (λ (u : UnitValue g.row.M.Denot). is_dead u.store.cached ≡ false) (sym c.self.view_is) c.requires.live in
+    let sense = c.in_err-make_durable.field-0.0 in
+    let P = λ (u : UnitValue g.row.M.Denot). Performs (state u.store.medium) (state last.medium) (Ok (command.Read10 c.args.transfer)) taken u (answer_of c.from_residual.result c.args.out.now) (record seen { store = last }) in
+    subst P c.self.view_is
+    (rw (p.1, p.2) (durable_error (state i.store.medium) (state last.medium) seen last c.make_durable.ensures.turn
+    c.args.transfer.fua c.make_durable.result sense c.in_err-make_durable.was c.make_durable.ensures.unwanted c.make_durable.ensures.answer
+    live (command.Read10 c.args.transfer) taken refl (forces_as c.args.transfer (moves_some c.args.transfer c.if-transfer-eq0.false))))
+
+pub returns-clause-performs : goal.returns-clause-performs
+returns-clause-performs g c taken =
+    let state = g.M.Medium.state in
+    let i = c.self.inside in
+    let seen : UnitValue g.row.M.Denot = record { store = i.store; identity = i.identity; kept = i.kept; write_cache = i.write_cache } in
+    let half = c.make_durable.new.store in
+    let last = c.read_blocks.new.store in
+    let live = subst (λ (u : UnitValue g.row.M.Denot). is_dead u.store.cached ≡ false) (sym c.self.view_is) c.requires.live in
+    let moves = moves_some c.args.transfer c.if-transfer-eq0.false in
+    let P = λ (u : UnitValue g.row.M.Denot). Performs (state u.store.medium) (state last.medium) (Ok (command.Read10 c.args.transfer)) taken u (answer_of c.read_blocks.result c.read_blocks.new.out) (record seen { store = last }) in
+    subst P c.self.view_is
+    (reads_blocks_of (state i.store.medium) (state half.medium) (state last.medium) seen half last live c.make_durable.ensures.turn c.read_blocks.ensures.turn
+    c.args.transfer.fua c.make_durable.result c.in_ok-make_durable.field-0 c.in_ok-make_durable.was c.make_durable.ensures.ok c.make_durable.ensures.answer c.read_blocks.ensures.stays
+    c.args.transfer taken moves refl c.read_blocks.result c.read_blocks.new.out c.read_blocks.ensures.ok c.read_blocks.ensures.sent c.read_blocks.ensures.err)

@@ -1,0 +1,66 @@
+use Rattle.std.proofs.Common.{◌≡◌, Bool, ℕ, false, [], Ok, Err, refl, subst, sym, ◌∙◌, ap}
+use Rattle.std.specs.Prelude.{◌&&◌, not, if◌then◌else◌, OnOk}
+use Rattle.std.proofs.lemmas.Result.{err_from_is_err_and}
+use Rattle.cdb.specs.declared.command.Command.TheVariants as command
+use Rattle.blocks.specs.Book.{Book, promised}
+use Rattle.blocks.specs.StoreValue.{is_dead, FitsBook}
+use Rattle.scsi_unit.specs.Rules.{selected_by}
+use Rattle.scsi_unit.specs.UnitValue.{UnitValue}
+use Rattle.scsi_unit.specs.Performing.{Performs, silent}
+use Rattle.scsi_unit.proofs.Performing.{durable_error}
+use Rattle.scsi_unit.proofs.Writing.{selects_nothing, selects_bit, clears_as}
+use Rattle.scsi_unit.proofs.unit.Unit.select.Goals as goal
+use Rattle.scsi_unit.proofs.unit.Unit.select.Goals.{then-self, else-self}
+
+pub returns-in_err-enabled-clause-performs : goal.returns-in_err-enabled-clause-performs
+returns-in_err-enabled-clause-performs g c =
+    let p = err_from_is_err_and c.from_residual.result c.from_residual.ensures.1 in
+    let unit = c.args.self.now in
+    let refused : selected_by c.args.list_len c.args.taken.now unit.write_cache ≡ Err c.in_err-enabled.field-0.0 =
+    ap (λ (u : UnitValue g.row.M.Denot). selected_by c.args.list_len c.args.taken.now u.write_cache) (sym c.self.view_is)
+    ∙ ap (λ (n : ℕ). selected_by n c.args.taken.now c.self.inside.write_cache) (sym c.from.ensures)
+    ∙ sym c.mode_select.ensures.answer ∙ c.in_err-enabled.was in
+    rw (p.1, p.2) (selects_nothing (g.M.Medium.state unit.store.medium) (g.met.M.Medium.sound unit.store.medium) unit c.args.list_len c.args.taken.now c.in_err-enabled.field-0.0 refused)
+
+pub returns-in_err-make_durable-clause-performs : goal.returns-in_err-make_durable-clause-performs
+returns-in_err-make_durable-clause-performs g c =
+    let p = err_from_is_err_and c.from_residual-in_err-make_durable.result c.from_residual-in_err-make_durable.ensures.1 in
+    let state = g.M.Medium.state in
+    let i = c.self.inside in
+    let seen : UnitValue g.row.M.Denot = record { store = i.store; identity = i.identity; kept = i.kept; write_cache = i.write_cache } in
+    let last = c.make_durable.new.store in
+    let live = subst (λ (u : UnitValue g.row.M.Denot). is_dead u.store.cached ≡ false) (sym c.self.view_is) c.requires.live in
+    let chosen : selected_by c.args.list_len c.args.taken.now i.write_cache ≡ Ok c.in_ok-enabled.enabled =
+    ap (λ (n : ℕ). selected_by n c.args.taken.now i.write_cache) (sym c.from.ensures)
+    ∙ sym c.mode_select.ensures.answer ∙ c.in_ok-enabled.was in
+    let wanted : c.if-self.clears ≡ (i.write_cache && not c.in_ok-enabled.enabled) = elim c.if-self.branch [
+      | then-self w ↦ rw w.if-self.true w.clears-is
+      | else-self w ↦ rw w.if-self.false (w.clears-is ∙ w.if-self.false)
+    ] in
+    let P = λ (u : UnitValue g.row.M.Denot). Performs (state u.store.medium) (state last.medium) (Ok (command.ModeSelect c.args.list_len)) c.args.taken.now u (silent c.from_residual-in_err-make_durable.result) (record seen { store = last }) in
+    subst P c.self.view_is
+    (rw (p.1, p.2) (durable_error (state i.store.medium) (state last.medium) seen last c.make_durable.ensures.turn
+    c.if-self.clears c.make_durable.result c.in_err-make_durable.field-0.0 c.in_err-make_durable.was c.make_durable.ensures.unwanted c.make_durable.ensures.answer
+    live (command.ModeSelect c.args.list_len) c.args.taken.now refl (clears_as c.args.list_len c.args.taken.now i.write_cache c.in_ok-enabled.enabled chosen ∙ sym wanted)))
+
+pub returns-clause-performs : goal.returns-clause-performs
+returns-clause-performs g c =
+    let state = g.M.Medium.state in
+    let i = c.self.inside in
+    let seen : UnitValue g.row.M.Denot = record { store = i.store; identity = i.identity; kept = i.kept; write_cache = i.write_cache } in
+    let last = c.make_durable.new.store in
+    let live = subst (λ (u : UnitValue g.row.M.Denot). is_dead u.store.cached ≡ false) (sym c.self.view_is) c.requires.live in
+    let enabled = c.in_ok-enabled.enabled in
+    let chosen : selected_by c.args.list_len c.args.taken.now i.write_cache ≡ Ok enabled =
+    ap (λ (n : ℕ). selected_by n c.args.taken.now i.write_cache) (sym c.from.ensures)
+    ∙ sym c.mode_select.ensures.answer ∙ c.in_ok-enabled.was in
+    let wanted : c.if-self.clears ≡ (i.write_cache && not enabled) = elim c.if-self.branch [
+      | then-self w ↦ rw w.if-self.true w.clears-is
+      | else-self w ↦ rw w.if-self.false (w.clears-is ∙ w.if-self.false)
+    ] in
+    let promises = subst (λ (b : Bool). (book : Book) → FitsBook (state i.store.medium) i.store.cached book → OnOk c.make_durable.result (FitsBook (state last.medium) last.cached (if b then promised book else book)))
+    wanted c.make_durable.ensures.ok in
+    let P = λ (u : UnitValue g.row.M.Denot). Performs (state u.store.medium) (state last.medium) (Ok (command.ModeSelect c.args.list_len)) c.args.taken.now u (Ok []) (record seen { store = last; write_cache = enabled }) in
+    subst P c.self.view_is
+    (selects_bit (state i.store.medium) (state last.medium) seen last c.make_durable.ensures.turn live c.args.list_len c.args.taken.now enabled chosen
+    c.make_durable.result c.in_ok-make_durable.field-0 c.in_ok-make_durable.was promises c.make_durable.ensures.answer)

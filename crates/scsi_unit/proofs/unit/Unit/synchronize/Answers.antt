@@ -1,0 +1,19 @@
+use Rattle.std.proofs.Common.{◌≡◌, false, Ok, subst, sym}
+use Rattle.cdb.specs.declared.command.Command.TheVariants as command
+use Rattle.blocks.specs.StoreValue.{is_dead}
+use Rattle.scsi_unit.specs.UnitValue.{UnitValue}
+use Rattle.scsi_unit.specs.Performing.{Performs, silent}
+use Rattle.scsi_unit.proofs.Writing.{synchronizes}
+use Rattle.scsi_unit.proofs.unit.Unit.synchronize.Goals as goal
+
+pub returns-clause-performs : goal.returns-clause-performs
+returns-clause-performs g c range taken =
+    let state = g.M.Medium.state in
+    let i = c.self.inside in
+    let seen : UnitValue g.row.M.Denot = record { store = i.store; identity = i.identity; kept = i.kept; write_cache = i.write_cache } in
+    let last = c.make_durable.new.store in
+    let live = subst (λ (u : UnitValue g.row.M.Denot). is_dead u.store.cached ≡ false) (sym c.self.view_is) c.requires.live in
+    let P = λ (u : UnitValue g.row.M.Denot). Performs (state u.store.medium) (state last.medium) (Ok (command.SynchronizeCache10 range)) taken u (silent c.make_durable.result) (record seen { store = last }) in
+    subst P c.self.view_is
+    (synchronizes (state i.store.medium) (state last.medium) seen last c.make_durable.ensures.turn live c.make_durable.result
+    c.make_durable.ensures.ok c.make_durable.ensures.answer range taken)

@@ -1,0 +1,51 @@
+use Rattle.std.proofs.Common.{◌≡◌, Bool, false, Ok, subst, sym, ◌∙◌}
+use Rattle.std.specs.Prelude.{◌||◌, not, if◌then◌else◌, OnOk}
+use Rattle.blocks.specs.Book.{Book, promised}
+use Rattle.std.proofs.lemmas.Result.{err_from_is_err_and}
+use Rattle.cdb.specs.declared.command.Command.TheVariants as command
+use Rattle.blocks.specs.StoreValue.{is_dead, FitsBook}
+use Rattle.scsi_unit.specs.UnitValue.{UnitValue}
+use Rattle.scsi_unit.specs.Performing.{Performs, silent}
+use Rattle.scsi_unit.proofs.Performing.{moves_some}
+use Rattle.scsi_unit.proofs.Writing.{writes_nothing, write_refused, writes_blocks}
+use Rattle.scsi_unit.proofs.unit.Unit.write.Goals as goal
+use Rattle.scsi_unit.proofs.unit.Unit.write.Goals.{then-transfer, else-transfer}
+
+pub returns-then-transfer-eq0-clause-performs : goal.returns-then-transfer-eq0-clause-performs
+returns-then-transfer-eq0-clause-performs g c =
+    let unit = c.args.self.now in
+    writes_nothing (g.M.Medium.state unit.store.medium) (g.met.M.Medium.sound unit.store.medium) unit c.args.transfer c.args.taken.now c.if-transfer-eq0.true
+
+pub returns-in_err-write_blocks-clause-performs : goal.returns-in_err-write_blocks-clause-performs
+returns-in_err-write_blocks-clause-performs g c =
+    let p = err_from_is_err_and c.from_residual.result c.from_residual.ensures.1 in
+    let state = g.M.Medium.state in
+    let i = c.self.inside in
+    let seen : UnitValue g.row.M.Denot = record { store = i.store; identity = i.identity; kept = i.kept; write_cache = i.write_cache } in
+    let last = c.write_blocks.new.store in
+    let live = subst (λ (u : UnitValue g.row.M.Denot). is_dead u.store.cached ≡ false) (sym c.self.view_is) c.requires.live in
+    let P = λ (u : UnitValue g.row.M.Denot). Performs (state u.store.medium) (state last.medium) (Ok (command.Write10 c.args.transfer)) c.args.taken.now u (silent c.from_residual.result) (record seen { store = last }) in
+    subst P c.self.view_is
+    (rw (p.1, p.2) (write_refused (state i.store.medium) (state last.medium) seen last c.args.transfer c.args.taken.now
+    (moves_some c.args.transfer c.if-transfer-eq0.false) live c.write_blocks.result c.in_err-write_blocks.field-0.0 c.in_err-write_blocks.was
+    c.write_blocks.ensures.turn c.write_blocks.ensures.answer))
+
+pub returns-clause-performs : goal.returns-clause-performs
+returns-clause-performs g c =
+    let state = g.M.Medium.state in
+    let i = c.self.inside in
+    let seen : UnitValue g.row.M.Denot = record { store = i.store; identity = i.identity; kept = i.kept; write_cache = i.write_cache } in
+    let half = c.write_blocks.new.store in
+    let last = c.make_durable.new.store in
+    let live = subst (λ (u : UnitValue g.row.M.Denot). is_dead u.store.cached ≡ false) (sym c.self.view_is) c.requires.live in
+    let wanted : c.if-transfer.through ≡ (c.args.transfer.fua || not i.write_cache) = elim c.if-transfer.branch [
+      | then-transfer w ↦ rw w.if-transfer.true (w.through-is ∙ w.if-transfer.true)
+      | else-transfer w ↦ rw w.if-transfer.false w.through-is
+    ] in
+    let promises = subst (λ (b : Bool). (book : Book) → FitsBook (state half.medium) half.cached book → OnOk c.make_durable.result (FitsBook (state last.medium) last.cached (if b then promised book else book)))
+    wanted c.make_durable.ensures.ok in
+    let P = λ (u : UnitValue g.row.M.Denot). Performs (state u.store.medium) (state last.medium) (Ok (command.Write10 c.args.transfer)) c.args.taken.now u (silent c.make_durable.result) (record seen { store = last }) in
+    subst P c.self.view_is
+    (writes_blocks (state i.store.medium) (state half.medium) (state last.medium) seen half last c.args.transfer c.args.taken.now
+    (moves_some c.args.transfer c.if-transfer-eq0.false) live c.write_blocks.result c.in_ok-write_blocks.field-0 c.in_ok-write_blocks.was
+    c.write_blocks.ensures.turn c.write_blocks.ensures.answer c.make_durable.ensures.turn c.make_durable.result promises c.make_durable.ensures.answer)

@@ -1,0 +1,125 @@
+-- What follows from the rules of the logical unit, whatever its state.
+use Rattle.std.specs.Prelude.{◌≡◌, ◌≢◌, ◌⊎◌, ◌<◌, ◌≤◌, ℕ, Bool, true, false, List, [], ◌∷◌, ◌++◌, length, ◌&&◌, ◌||◌, not}
+use Rattle.std.specs.Prelude.{if◌then◌else◌}
+use Rattle.std.specs.Prelude.{Some, None, Result, Ok, Err, IfOk}
+use Rattle.medium.specs.Blocks.{Write}
+use Rattle.blocks.specs.Book.{Book, array_of, StampsOut}
+use Rattle.sense.specs.declared.codes.Sense.{Sense}
+use Rattle.cdb.specs.declared.command.Command.{Command}
+use Rattle.cdb.specs.declared.command.Command.TheVariants as command
+use Rattle.scsi_unit.specs.declared.intent.Intent.TheVariants as intent
+use Rattle.scsi_unit.specs.Rules.{UnitState, checked, intention, write_in_progress, with_progress}
+use Rattle.scsi_unit.specs.Rules.{forces_reading, moves_blocks, clears, selected_by}
+use Rattle.scsi_unit.specs.Rules.{CarriesOut, Ticks}
+
+-- no stamp is wanting for a command, with its write counted
+abbrev pub HasStamps : List ℕ → List ℕ → UnitState → Type 0
+HasStamps block taken unit =
+    ¬ StampsOut (with_progress unit.book (write_in_progress unit block taken))
+
+-- Every command has an answer. Where the medium refused no call and stamps are left, it has one.
+pub record IsFunction : Type 0 where
+  pub answered : (refused : Bool) (block taken : List ℕ) (old : UnitState)
+      → (answer : Result (List ℕ) Sense) × (new : UnitState)
+      × CarriesOut refused block taken old answer new
+  pub one_answer : (block taken : List ℕ) (old new other : UnitState)
+      (answer told : Result (List ℕ) Sense) → HasStamps block taken old
+      → CarriesOut false block taken old answer new → CarriesOut false block taken old told other
+      → (answer ≡ told) × (new ≡ other)
+
+-- the texts of the identity have their lengths, and each block of the array has 512 bytes
+pub record IsSized (unit : UnitState) : Type 0 where
+  pub vendor : length unit.identity.vendor ≡ 8
+  pub product : length unit.identity.product ≡ 16
+  pub revision : length unit.identity.revision ≡ 4
+  pub serial : length unit.identity.serial ≡ 12
+  pub blocks : (b : ℕ) → b < unit.book.blocks → length (array_of unit.book b) ≡ 512
+
+-- a command moves what it intended to, and at most 48 blocks
+pub record KeepsIntentions : Type 0 where
+  pub most_in : (unit : UnitState) (block : List ℕ) (n : ℕ) → intention unit block ≡ intent.In n
+      → (0 < n) × (n ≤ 24576)
+  pub most_out : (unit : UnitState) (block : List ℕ) (n : ℕ) → intention unit block ≡ intent.Out n
+      → (0 < n) × (n ≤ 24576)
+  -- a good command sends as many bytes as it intended to send
+  pub sent : (refused : Bool) (block taken : List ℕ) (old new : UnitState)
+      (answer : Result (List ℕ) Sense) (n : ℕ) → IsSized old → intention old block ≡ intent.In n
+      → CarriesOut refused block taken old answer new → IfOk answer (λ sent. length sent ≡ n)
+  -- and none where it intended to send none
+  pub not_sent : (refused : Bool) (block taken : List ℕ) (old new : UnitState)
+      (answer : Result (List ℕ) Sense) → ((n : ℕ) → intention old block ≢ intent.In n)
+      → CarriesOut refused block taken old answer new → IfOk answer (λ sent. sent ≡ [])
+  -- a command that is refused fails with that sense
+  pub refused : (refused : Bool) (block taken : List ℕ) (old new : UnitState)
+      (answer : Result (List ℕ) Sense) (sense : Sense) → intention old block ≡ intent.Fail sense
+      → CarriesOut refused block taken old answer new → answer ≡ Err sense
+  -- nothing is written where no data are taken
+  pub unwritten : (unit : UnitState) (block taken : List ℕ)
+      → ((n : ℕ) → intention unit block ≢ intent.Out n) → write_in_progress unit block taken ≡ None
+
+-- the same life: no command and no step in the background changes with what it began
+pub record IsSameLife (old new : Book) : Type 0 where
+  pub blocks : new.blocks ≡ old.blocks
+  pub opening : new.opening ≡ old.opening
+  pub stamp : new.stamp ≡ old.stamp
+  pub ours : new.ours ≡ old.ours
+
+-- A good answer promises all accepted writes: to a READ or WRITE with FUA, to a WRITE without the
+-- cache, each of one block or more, to SYNCHRONIZE CACHE, and to a MODE SELECT that clears WCE.
+abbrev pub is_promising : Command → List ℕ → UnitState → Bool
+is_promising (command.Read10 transfer) taken unit = forces_reading transfer
+is_promising (command.Read16 transfer) taken unit = forces_reading transfer
+is_promising (command.Write10 transfer) taken unit =
+    moves_blocks transfer && (transfer.fua || not unit.write_cache)
+is_promising (command.Write16 transfer) taken unit =
+    moves_blocks transfer && (transfer.fua || not unit.write_cache)
+is_promising (command.SynchronizeCache10 range) taken unit = true
+is_promising (command.SynchronizeCache16 range) taken unit = true
+is_promising (command.ModeSelect length) taken unit =
+    clears unit.write_cache (selected_by length taken unit.write_cache)
+is_promising command taken unit = false
+
+-- accepted writes stay accepted, and promises are kept
+pub record KeepsWrites : Type 0 where
+  pub life : (refused : Bool) (block taken : List ℕ) (old new : UnitState)
+      (answer : Result (List ℕ) Sense) → CarriesOut refused block taken old answer new
+      → IsSameLife old.book new.book
+  -- the write in progress is accepted, or none
+  pub writes : (refused : Bool) (block taken : List ℕ) (old new : UnitState)
+      (answer : Result (List ℕ) Sense) → CarriesOut refused block taken old answer new
+      → (new.book.writes ≡ old.book.writes)
+      ⊎ ((write : Write) × (write_in_progress old block taken ≡ Some write)
+      × (new.book.writes ≡ old.book.writes ++ write ∷ []))
+  -- a good command promises all accepted writes, or leaves the promises
+  pub mark : (refused : Bool) (block taken sent : List ℕ) (old new : UnitState) (command : Command)
+      → checked old block ≡ Ok command → CarriesOut refused block taken old (Ok sent) new
+      → new.book.mark
+      ≡ (if is_promising command taken old then length new.book.writes else old.book.mark)
+  -- a command that fails leaves them
+  pub unpromised : (refused : Bool) (block taken : List ℕ) (old new : UnitState) (sense : Sense)
+      → CarriesOut refused block taken old (Err sense) new → new.book.mark ≡ old.book.mark
+  -- a good WRITE is accepted
+  pub accepted : (refused : Bool) (block taken sent : List ℕ) (old new : UnitState) (write : Write)
+      → write_in_progress old block taken ≡ Some write
+      → CarriesOut refused block taken old (Ok sent) new
+      → new.book.writes ≡ old.book.writes ++ write ∷ []
+
+-- a faulted unit stays so, and its book stays as it is
+pub record StaysFaulted : Type 0 where
+  pub command : (refused : Bool) (block taken : List ℕ) (old new : UnitState)
+      (answer : Result (List ℕ) Sense) → old.faulted ≡ true
+      → CarriesOut refused block taken old answer new
+      → (new.faulted ≡ true) × (new.book ≡ old.book)
+  pub tick : (refused : Bool) (old new : UnitState) → old.faulted ≡ true → Ticks refused old new
+      → new ≡ old
+
+-- a step in the background may fault the unit, and changes nothing else
+pub record TicksOnly : Type 0 where
+  pub others : (refused : Bool) (old new : UnitState) → Ticks refused old new
+      → new ≡ record old { faulted = new.faulted }
+  -- where the medium refused no call and stamps are left, it changes nothing
+  pub nothing : (old new : UnitState) → ¬ StampsOut old.book → Ticks false old new → new ≡ old
+  -- no command comes to take data, or other data, by it
+  pub intentions : (refused : Bool) (old new : UnitState) (block : List ℕ) (n : ℕ)
+      → Ticks refused old new → intention new block ≡ intent.Out n
+      → intention old block ≡ intent.Out n

@@ -1,0 +1,129 @@
+-- What carrying out a command does to a unit over its medium, and to each book that the unit fits.
+use Rattle.std.specs.Prelude.{◌≡◌, ◌⊎◌, ℕ, ◌<◌, ◌≤◌, ◌+◌, nat_lt, ◌&&◌, ◌||◌, not, Bool, true, false}
+use Rattle.std.specs.Prelude.{List, [], Option, Some, None, Result, Ok, Err, is_ok, if◌then◌else◌}
+use Rattle.medium.specs.Medium.{State}
+use Rattle.medium.specs.Moments.{LeavesOnly}
+use Rattle.blocks.specs.Book.{Book}
+use Rattle.blocks.specs.Finding.{MayFind, FoundWith}
+use Rattle.blocks.specs.StoreValue.{blocks_of, is_dead, active_of, steps_left}
+use Rattle.blocks.specs.StoreValue.{FitsBeside, TakesRange}
+use Rattle.sense.specs.declared.codes.Sense.{Sense}
+use Rattle.cdb.specs.declared.command.Command.{Command}
+use Rattle.cdb.specs.declared.command.Command.TheVariants as command
+use Rattle.cdb.specs.declared.command.Transfer.{Transfer}
+use Rattle.scsi_unit.specs.declared.intent.Intent.TheVariants as intent
+use Rattle.scsi_unit.specs.Rules.{command_by, moves_blocks, reads_blocks}
+use Rattle.scsi_unit.specs.Rules.{wants_writing, write_in_progress}
+use Rattle.scsi_unit.specs.Rules.{CarriesOut, Ticks}
+use Rattle.scsi_unit.specs.UnitValue.{UnitValue, state_of, intention_of, FitsUnit}
+
+-- ---- a command
+
+-- the medium refused a call between these two moments
+abbrev pub has_refused : State → State → Bool
+has_refused before after = nat_lt before.failures after.failures
+
+-- A command block was carried out by a unit over its medium.
+pub record Serves {M : Type 0} (before after : State) (block taken : List ℕ) (old : UnitValue M)
+    (answer : Result (List ℕ) Sense) (new : UnitValue M) : Type 0 where
+  -- one line of the rules, for each book that the unit fits
+  pub line : (book : Book) → FitsUnit before old book
+      → (next : Book)
+      × CarriesOut (has_refused before after) block taken (state_of old book)
+      answer (state_of new next)
+      × FitsUnit after new next
+  -- a cut at any moment of it leaves what may be found of the book, perhaps with the write in
+  -- progress, whole
+  pub cuts : (book : Book) → FitsUnit before old book → book.ours ≡ true
+      → LeavesOnly (FoundWith before.size book (write_in_progress (state_of old book) block taken))
+      before after
+  pub failures_stay : before.failures ≤ after.failures
+  pub size_stays : after.size ≡ before.size
+  pub blocks_stay : blocks_of new.store.cached ≡ blocks_of old.store.cached
+  pub identity_stays : new.identity ≡ old.identity
+
+-- ---- the calls of the medium that a command makes, and the batch that takes writes
+
+-- the command of a block, or the sense with which the unit refuses it
+abbrev pub command_for : {M : Type 0} → UnitValue M → List ℕ → Result Command Sense
+command_for unit block =
+    let cached = unit.store.cached in
+    command_by (blocks_of cached) unit.kept.attention (is_dead cached) block
+
+-- the command reads blocks, writes blocks, or makes writes durable
+abbrev pub wants_medium : Result Command Sense → List ℕ → Bool → Bool
+wants_medium (Ok command) taken write_cache =
+    reads_blocks command || wants_writing command taken write_cache
+wants_medium (Err sense) taken write_cache = false
+
+-- a WRITE of some blocks for the cache alone
+abbrev pub is_plain : Transfer → Bool → Bool
+is_plain transfer write_cache = moves_blocks transfer && (write_cache && not transfer.fua)
+
+abbrev pub plain_write : Result Command Sense → Bool → Option Transfer
+plain_write (Ok (command.Write10 transfer)) write_cache =
+    if is_plain transfer write_cache then Some transfer else None
+plain_write (Ok (command.Write16 transfer)) write_cache =
+    if is_plain transfer write_cache then Some transfer else None
+plain_write command write_cache = None
+
+-- the numbers of the blocks in the batch that takes writes: those of before, or, where writes are
+-- made durable, perhaps none
+abbrev pub IsEmptied : Bool → List ℕ → List ℕ → Type 0
+IsEmptied false old new = new ≡ old
+IsEmptied true old new = (new ≡ old) ⊎ (new ≡ [])
+
+-- the same after a WRITE that moves blocks or none, and makes them durable or does not
+abbrev pub IsWrittenTo : Bool → Bool → Transfer → List ℕ → List ℕ → Type 0
+IsWrittenTo false durable transfer old new = new ≡ old
+IsWrittenTo true false transfer old new = TakesRange old transfer.address transfer.count new
+IsWrittenTo true true transfer old new =
+    TakesRange old transfer.address transfer.count new ⊎ (new ≡ [])
+
+-- the same after a command, or after its refusal
+abbrev pub ActiveAfter : Result Command Sense → List ℕ → Bool → List ℕ → List ℕ → Type 0
+ActiveAfter (Ok (command.Write10 transfer)) taken write_cache old new =
+    IsWrittenTo (moves_blocks transfer) (transfer.fua || not write_cache) transfer old new
+ActiveAfter (Ok (command.Write16 transfer)) taken write_cache old new =
+    IsWrittenTo (moves_blocks transfer) (transfer.fua || not write_cache) transfer old new
+ActiveAfter (Ok command) taken write_cache old new =
+    IsEmptied (wants_writing command taken write_cache) old new
+ActiveAfter (Err sense) taken write_cache old new = new ≡ old
+
+-- Which calls of the medium a command makes: none that it does not need.
+pub record IsSparing {M : Type 0} (block taken : List ℕ) (old : UnitValue M)
+    (answer : Result (List ℕ) Sense) (new : UnitValue M) : Type 0 where
+  -- a command that reads no blocks, writes none and makes none durable leaves the store as it is
+  pub untouched : wants_medium (command_for old block) taken old.write_cache ≡ false
+      → new.store ≡ old.store
+  -- a plain WRITE that fits beside the batch that takes writes makes no call, and is good
+  pub plain : (transfer : Transfer)
+      → plain_write (command_for old block) old.write_cache ≡ Some transfer
+      → FitsBeside (active_of old.store.cached) transfer.address transfer.count
+      → (new.store.medium ≡ old.store.medium) × (is_ok answer ≡ true)
+  pub active : is_dead new.store.cached ≡ false
+      → ActiveAfter (command_for old block) taken old.write_cache
+      (active_of old.store.cached) (active_of new.store.cached)
+
+-- ---- a step in the background
+
+-- A step in the background was made by a unit over its medium.
+pub record TicksOver {M : Type 0} (before after : State) (old new : UnitValue M) : Type 0 where
+  pub line : (book : Book) → FitsUnit before old book
+      → Ticks (has_refused before after) (state_of old book) (state_of new book)
+      × FitsUnit after new book
+  pub cuts : (book : Book) → FitsUnit before old book → book.ours ≡ true
+      → LeavesOnly (MayFind before.size book) before after
+  pub failures_stay : before.failures ≤ after.failures
+  pub size_stays : after.size ≡ before.size
+  pub blocks_stay : blocks_of new.store.cached ≡ blocks_of old.store.cached
+  pub others_stay : new ≡ record old { store = new.store }
+  -- no command comes to take data, or other data, by it
+  pub steady : (block : List ℕ) (n : ℕ) → intention_of new block ≡ intent.Out n
+      → intention_of old block ≡ intent.Out n
+  -- at most two calls, and there is less left to do, or there was nothing
+  pub few : after.calls ≤ before.calls + 2
+  pub left : is_dead new.store.cached ≡ false
+      → (steps_left new.store.cached < steps_left old.store.cached)
+      ⊎ (steps_left old.store.cached ≡ 0)
+  pub active : IsEmptied true (active_of old.store.cached) (active_of new.store.cached)

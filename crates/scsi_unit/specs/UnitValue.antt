@@ -1,0 +1,42 @@
+-- A logical unit over its store.
+use Rattle.std.specs.Prelude.{ℕ, Bool, List, take, Result, Ok, Err}
+use Rattle.medium.specs.Medium.{State}
+use Rattle.sense.specs.Waiting.{Waiting}
+use Rattle.sense.specs.declared.codes.Sense.{Sense}
+use Rattle.pages.specs.Identification.{Identification}
+use Rattle.blocks.specs.Book.{Book}
+use Rattle.blocks.specs.StoreValue.{StoreValue, FitsBook, blocks_of, is_dead}
+use Rattle.scsi_unit.specs.declared.intent.Intent.{Intent}
+use Rattle.scsi_unit.specs.Rules.{UnitState, intention_by}
+
+-- what is seen of a unit over a medium
+pub record UnitValue (M : Type 0) : Type 0 where
+  pub store : StoreValue M
+  pub identity : Identification
+  pub kept : Waiting
+  pub write_cache : Bool
+
+-- the state of a unit, with a book of its life; it is faulted where its store is dead
+abbrev pub state_of : {M : Type 0} → UnitValue M → Book → UnitState
+state_of unit book = record {
+  book = book;
+  identity = unit.identity;
+  kept = unit.kept;
+  write_cache = unit.write_cache;
+  faulted = is_dead unit.store.cached;
+}
+
+-- the unit over a medium in this state fits a book of its life
+abbrev pub FitsUnit : {M : Type 0} → State → UnitValue M → Book → Type 0
+FitsUnit m unit book = FitsBook m unit.store.cached book
+
+-- what a command block is about to move; that is the intention of the unit with any book that fits
+abbrev pub intention_of : {M : Type 0} → UnitValue M → List ℕ → Intent
+intention_of unit block =
+    let cached = unit.store.cached in
+    intention_by (blocks_of cached) unit.kept.attention (is_dead cached) block
+
+-- what a call told, and wrote to the front of a buffer, as the answer to a command
+abbrev pub answer_of : Result ℕ Sense → List ℕ → Result (List ℕ) Sense
+answer_of (Ok sent) out = Ok (take sent out)
+answer_of (Err sense) out = Err sense

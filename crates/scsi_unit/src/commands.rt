@@ -1,0 +1,188 @@
+// Commands, each by its own function.
+ghost use Rattle.std.specs.Prelude.{◌≡◌, ◌<◌, ◌≤◌, ◌*◌, ◌&&◌, ℕ, false, [], length, take, min};
+ghost use Rattle.std.specs.Prelude.{unwrap_or, IfOk, Ok};
+ghost use Rattle.blocks.specs.StoreValue.{blocks_of, is_dead};
+ghost use Rattle.sense.specs.Fixed.{fixed_sense};
+ghost use Rattle.sense.specs.Waiting.{reported, after_report};
+ghost use Rattle.cdb.specs.Supported.{IsSupported, HasModePage};
+ghost use Rattle.pages.specs.Inquiry.{inquiry_data, inquiry_size};
+ghost use Rattle.pages.specs.Mode.{mode_data};
+ghost use Rattle.scsi_unit.specs.declared.intent.Intent.TheVariants as intent;
+ghost use Rattle.scsi_unit.specs.Capacity.{capacity_10, capacity_16};
+ghost use Rattle.scsi_unit.specs.Rules.{needs_medium, moves};
+ghost use Rattle.scsi_unit.specs.UnitValue.{intention_of, answer_of};
+ghost use Rattle.scsi_unit.specs.Serving.{command_for};
+ghost use Rattle.scsi_unit.specs.Performing.{Performs, Spares};
+
+use crate::Unit;
+use crate::checks::{BLOCK, TRANSFER_LIMIT};
+use byteorder::{BigEndian, ByteOrder};
+use cdb::Command;
+use medium::Medium;
+use pages::mode_sense;
+use sense::Sense;
+
+// Sends data, of which an allocation length cuts what is behind it.
+fn send(bytes: &[u8], allocation: usize, out: &mut [u8]) -> usize
+    requires { length bytes.now ≤ length out.old }
+    ensures size { result ≡ min allocation (length bytes.now) }
+    ensures sent { take result out.new ≡ take allocation bytes.now }
+{
+    let size = bytes.len().min(allocation);
+    out[..size].copy_from_slice(&bytes[..size]);
+    size
+}
+
+// The data of READ CAPACITY (10), for a medium of `n` blocks.
+#[tactic(auto, unfolding(crate::specs::Capacity::capacity_10))]
+fn capacity_10(n: u64) -> [u8; 8]
+    requires { n ≤ 2147483648 }
+    ensures { result ≡ capacity_10 n }
+{
+    let mut bytes = [0; 8];
+    BigEndian::write_u32(&mut bytes, n.saturating_sub(1) as u32);
+    BigEndian::write_u32(&mut bytes[4..], BLOCK);
+    bytes
+}
+
+// The data of READ CAPACITY (16), for a medium of `n` blocks.
+#[tactic(auto, unfolding(crate::specs::Capacity::capacity_16))]
+fn capacity_16(n: u64) -> [u8; 32]
+    ensures { result ≡ capacity_16 n }
+{
+    let mut bytes = [0; 32];
+    BigEndian::write_u64(&mut bytes, n.saturating_sub(1));
+    BigEndian::write_u32(&mut bytes[8..], BLOCK);
+    bytes
+}
+
+impl<M: Medium> Unit<M> {
+    // Performs the command of a command block, if it is not refused.
+    pub(crate) fn perform_block(
+        &mut self,
+        block: &[u8],
+        taken: &[u8],
+        out: &mut [u8],
+    ) -> Result<usize, Sense>
+        requires some { 0 < length block.now }
+        requires taken { (n : ℕ) → intention_of self.old block.now ≡ intent.Out n
+            → length taken.now ≡ n }
+        requires room { length out.old ≡ 24576 }
+        ensures performs { Performs (M.state self.old.store.medium)
+            (M.state self.new.store.medium) (command_for self.old block.now) taken.now self.old
+            (answer_of result out.new) self.new }
+        ensures spares { Spares (command_for self.old block.now) taken.now self.old
+            (answer_of result out.new) self.new }
+        ensures sent { (n : ℕ) → intention_of self.old block.now ≡ intent.In n
+            → IfOk result (λ sent. sent ≡ n) }
+        ensures most { IfOk result (λ sent. sent ≤ 24576) }
+        ensures follows { M.follows self.old.store.medium self.new.store.medium }
+    {
+        let command = self.command(block)?;
+        self.perform(command, taken, out)
+    }
+
+    // Performs a command.
+    fn perform(&mut self, command: Command, taken: &[u8], out: &mut [u8]) -> Result<usize, Sense>
+        requires served { (is_dead self.old.store.cached && needs_medium command) ≡ false }
+        requires supported { IsSupported (blocks_of self.old.store.cached) 48 command }
+        requires taken { (n : ℕ) → moves command ≡ intent.Out n → length taken.now ≡ n }
+        requires room { length out.old ≡ 24576 }
+        ensures performs { Performs (M.state self.old.store.medium)
+            (M.state self.new.store.medium) (Ok command) taken.now self.old
+            (answer_of result out.new) self.new }
+        ensures spares { Spares (Ok command) taken.now self.old
+            (answer_of result out.new) self.new }
+        ensures sent { (n : ℕ) → moves command ≡ intent.In n → IfOk result (λ sent. sent ≡ n) }
+        ensures most { IfOk result (λ sent. sent ≤ 24576) }
+        ensures follows { M.follows self.old.store.medium self.new.store.medium }
+    {
+        match command {
+            Command::TestUnitReady => Ok(0),
+            Command::RequestSense { allocation } => Ok(self.report(allocation, out)),
+            Command::Inquiry { page, allocation } => Ok(self.inquire(page, allocation, out)),
+            Command::ModeSelect { length } => {
+                self.select(length, taken)?;
+                Ok(0)
+            }
+            Command::ModeSense {
+                control,
+                page,
+                subpage,
+                allocation,
+            } => self.sense_mode(control, page, subpage, allocation, out),
+            Command::ReadCapacity10 => {
+                let bytes = capacity_10(self.store.blocks());
+                Ok(send(&bytes, bytes.len(), out))
+            }
+            Command::ReadCapacity16 { allocation } => {
+                Ok(send(&capacity_16(self.store.blocks()), allocation as usize, out))
+            }
+            Command::Read10(transfer) => self.read(transfer, out),
+            Command::Read16(transfer) => self.read(transfer, out),
+            Command::Write10(transfer) => {
+                self.write(transfer, taken)?;
+                Ok(0)
+            }
+            Command::Write16(transfer) => {
+                self.write(transfer, taken)?;
+                Ok(0)
+            }
+            Command::SynchronizeCache10(_) => {
+                self.synchronize()?;
+                Ok(0)
+            }
+            Command::SynchronizeCache16(_) => {
+                self.synchronize()?;
+                Ok(0)
+            }
+        }
+    }
+
+    // REQUEST SENSE: what is reported waits no longer.
+    fn report(&mut self, allocation: u8, out: &mut [u8]) -> usize
+        requires { length out.old ≡ 24576 }
+        ensures size { result ≡ min allocation 18 }
+        ensures sent { take result out.new
+            ≡ take allocation (fixed_sense (reported self.old.kept)) }
+        ensures left { self.new ≡ record self.old { kept = after_report self.old.kept } }
+    {
+        let sense = self.kept.take();
+        send(&sense.encode18(), usize::from(allocation), out)
+    }
+
+    // INQUIRY: standard data, or a vital product data page.
+    fn inquire(&self, page: Option<u8>, allocation: u16, out: &mut [u8]) -> usize
+        requires { length out.old ≡ 24576 }
+        ensures size { result ≡ min allocation (unwrap_or (inquiry_size page) 0) }
+        ensures sent { take result out.new
+            ≡ take allocation (unwrap_or (inquiry_data self.now.identity 48 page) []) }
+    {
+        let mut bytes = [0; 64];
+        let size = self
+            .identity
+            .inquiry(page, TRANSFER_LIMIT, &mut bytes)
+            .unwrap_or(0);
+        send(&bytes[..size], usize::from(allocation), out)
+    }
+
+    // MODE SENSE: the caching mode page.
+    fn sense_mode(
+        &self,
+        control: u8,
+        page: u8,
+        subpage: u8,
+        allocation: u8,
+        out: &mut [u8],
+    ) -> Result<usize, Sense>
+        requires there { HasModePage control page subpage }
+        requires room { length out.old ≡ 24576 }
+        ensures size { result ≡ Ok (min allocation 24) }
+        ensures sent { IfOk result (λ sent. take sent out.new
+            ≡ take allocation (mode_data control self.now.write_cache)) }
+    {
+        let mut bytes = [0; 24];
+        mode_sense(control, page, subpage, self.write_cache, &mut bytes)?;
+        Ok(send(&bytes, usize::from(allocation), out))
+    }
+}

@@ -1,0 +1,14 @@
+use sense::Sense;
+
+/// What a command is about to move, before it is carried out. A number of bytes is never 0.
+#[derive(Clone, Copy, Debug, PartialEq, Eq)]
+pub enum Intent {
+    /// No data.
+    None,
+    /// So many bytes of data, to the initiator.
+    In(u32),
+    /// So many bytes of data, from the initiator.
+    Out(u32),
+    /// The command is refused, with this sense.
+    Fail(Sense),
+}

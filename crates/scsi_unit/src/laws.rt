@@ -1,0 +1,13 @@
+//! What follows from the rules of the logical unit.
+ghost use Rattle.scsi_unit.specs.Laws.{IsFunction, KeepsIntentions, KeepsWrites, StaysFaulted};
+ghost use Rattle.scsi_unit.specs.Laws.{TicksOnly};
+
+/// Does nothing: its contract says what holds of each command and of each step in the background,
+/// whatever the state of the unit.
+pub fn unit_laws()
+    ensures function { IsFunction }
+    ensures intentions { KeepsIntentions }
+    ensures writes { KeepsWrites }
+    ensures faults { StaysFaulted }
+    ensures ticks { TicksOnly }
+{}

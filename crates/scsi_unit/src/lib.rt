@@ -1,0 +1,21 @@
+//! The logical unit of a disk: a direct access block device (SPC-4, SBC-3) over a store that keeps
+//! whole writes when power is lost.
+//!
+//! A command is checked (`Unit::intend` tells what it is about to move) and then carried out by
+//! `Unit::carry_out`, which answers data or a sense. `Unit::tick` makes a step in the background.
+#![tactic(auto)]
+
+mod checks;
+mod commands;
+mod intent;
+mod laws;
+mod store_calls;
+mod transfers;
+mod unit;
+
+pub use intent::Intent;
+pub use laws::unit_laws;
+pub use unit::Unit;
+
+#[cfg(test)]
+mod tests;

@@ -1,0 +1,89 @@
+// The commands that use the store.
+ghost use Rattle.std.specs.Prelude.{◌≡◌, ◌≤◌, ◌*◌, ℕ, false, List, length, Ok, IfOk};
+ghost use Rattle.blocks.specs.StoreValue.{blocks_of, is_dead};
+ghost use Rattle.cdb.specs.Supported.{IsWithin};
+ghost use Rattle.cdb.specs.declared.command.BlockRange.{BlockRange};
+ghost use Rattle.cdb.specs.declared.command.Command.TheVariants as command;
+ghost use Rattle.scsi_unit.specs.UnitValue.{answer_of};
+ghost use Rattle.scsi_unit.specs.Performing.{Performs, Spares, silent};
+
+use crate::Unit;
+use crate::store_calls::{make_durable, read_blocks, write_blocks};
+use cdb::Transfer;
+use medium::Medium;
+use pages::mode_select;
+use sense::Sense;
+
+impl<M: Medium> Unit<M> {
+    // READ: with FUA all accepted writes are made durable first.
+    pub(crate) fn read(&mut self, transfer: Transfer, out: &mut [u8]) -> Result<usize, Sense>
+        requires live { is_dead self.old.store.cached ≡ false }
+        requires within { IsWithin (blocks_of self.old.store.cached) 48 transfer }
+        requires room { length out.old ≡ 24576 }
+        ensures performs { (taken : List ℕ) → Performs (M.state self.old.store.medium)
+            (M.state self.new.store.medium) (Ok (command.Read10 transfer)) taken self.old
+            (answer_of result out.new) self.new }
+        ensures spares { (taken : List ℕ) → Spares (Ok (command.Read10 transfer)) taken self.old
+            (answer_of result out.new) self.new }
+        ensures sent { IfOk result (λ sent. sent ≡ 512 * transfer.count) }
+        ensures follows { M.follows self.old.store.medium self.new.store.medium }
+    {
+        if transfer.count == 0 {
+            return Ok(0);
+        }
+        make_durable(&mut self.store, transfer.fua)?;
+        read_blocks(&mut self.store, transfer, out)
+    }
+
+    // WRITE: with FUA, or without the write cache, all accepted writes are made durable.
+    pub(crate) fn write(&mut self, transfer: Transfer, taken: &[u8]) -> Result<(), Sense>
+        requires live { is_dead self.old.store.cached ≡ false }
+        requires within { IsWithin (blocks_of self.old.store.cached) 48 transfer }
+        requires taken { 512 * transfer.count ≤ length taken.now }
+        ensures performs { Performs (M.state self.old.store.medium)
+            (M.state self.new.store.medium) (Ok (command.Write10 transfer)) taken.now self.old
+            (silent result) self.new }
+        ensures spares { Spares (Ok (command.Write10 transfer)) taken.now self.old
+            (silent result) self.new }
+        ensures follows { M.follows self.old.store.medium self.new.store.medium }
+    {
+        if transfer.count == 0 {
+            return Ok(());
+        }
+        write_blocks(&mut self.store, transfer, taken)?;
+        let through = transfer.fua || !self.write_cache;
+        make_durable(&mut self.store, through)
+    }
+
+    // SYNCHRONIZE CACHE: all accepted writes are made durable.
+    pub(crate) fn synchronize(&mut self) -> Result<(), Sense>
+        requires live { is_dead self.old.store.cached ≡ false }
+        ensures performs { (range : BlockRange) (taken : List ℕ)
+            → Performs (M.state self.old.store.medium) (M.state self.new.store.medium)
+            (Ok (command.SynchronizeCache10 range)) taken self.old (silent result) self.new }
+        ensures spares { (range : BlockRange) (taken : List ℕ)
+            → Spares (Ok (command.SynchronizeCache10 range)) taken
+            self.old (silent result) self.new }
+        ensures follows { M.follows self.old.store.medium self.new.store.medium }
+    {
+        make_durable(&mut self.store, true)
+    }
+
+    // MODE SELECT: WCE goes from 1 to 0 when all accepted writes are durable.
+    pub(crate) fn select(&mut self, list_len: u8, taken: &[u8]) -> Result<(), Sense>
+        requires live { is_dead self.old.store.cached ≡ false }
+        requires taken { list_len ≤ length taken.now }
+        ensures performs { Performs (M.state self.old.store.medium)
+            (M.state self.new.store.medium) (Ok (command.ModeSelect list_len)) taken.now self.old
+            (silent result) self.new }
+        ensures spares { Spares (Ok (command.ModeSelect list_len)) taken.now self.old
+            (silent result) self.new }
+        ensures follows { M.follows self.old.store.medium self.new.store.medium }
+    {
+        let enabled = mode_select(&taken[..usize::from(list_len)], self.write_cache)?;
+        let clears = self.write_cache && !enabled;
+        make_durable(&mut self.store, clears)?;
+        self.write_cache = enabled;
+        Ok(())
+    }
+}

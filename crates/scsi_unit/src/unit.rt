@@ -1,0 +1,178 @@
+// A unit over its store.
+ghost use Rattle.std.specs.Prelude.{◌≡◌, ◌<◌, ◌≤◌, ◌*◌, ℕ, List, None, false, true, length};
+ghost use Rattle.std.specs.Prelude.{IfOk};
+ghost use Rattle.medium.specs.Moments.{EachCut, IsUnchanged};
+ghost use Rattle.blocks.specs.Book.{Book};
+ghost use Rattle.blocks.specs.Finding.{MayFind};
+ghost use Rattle.blocks.specs.StoreValue.{is_dead, FitsBook};
+ghost use Rattle.scsi_unit.specs.Rules.{opened_unit};
+ghost use Rattle.scsi_unit.specs.UnitValue.{state_of, intention_of, answer_of, FitsUnit};
+ghost use Rattle.scsi_unit.specs.Serving.{Serves, IsSparing, TicksOver};
+ghost use Rattle.scsi_unit.specs.Performing.{settled_kept};
+
+use crate::Intent;
+use crate::checks::moves;
+use crate::store_calls::step;
+use blocks::Store;
+use medium::{Medium, Switch};
+use pages::Identity;
+use sense::{Kept, Sense};
+use std::marker::Model;
+
+/// A logical unit whose blocks are in a store. No call takes memory.
+#[derive(Drop)]
+pub struct Unit<M: Medium> {
+    pub(crate) store: Store<M>,
+    pub(crate) identity: Identity,
+    pub(crate) kept: Kept,
+    pub(crate) write_cache: bool,
+}
+
+impl<M: Medium> Model for Unit<M> {
+    ghost use Rattle.scsi_unit.specs.UnitValue.{UnitValue};
+
+    ghost Value = { UnitValue M };
+
+    ghost view = { λ u. record {
+      store = u.store;
+      identity = u.identity;
+      kept = u.kept;
+      write_cache = u.write_cache;
+    } };
+}
+
+impl<M: Medium> Unit<M> {
+    /// A unit over a store that has started: the unit attention is pending, no sense is kept, and
+    /// the write cache is enabled.
+    pub fn new(store: Store<M>, identity: Identity) -> Unit<M>
+        ensures value { result ≡ record {
+          store = store;
+          identity = identity;
+          kept = record { sense = None; attention = true };
+          write_cache = true;
+        } }
+        ensures opened { is_dead store.cached ≡ false → (book : Book)
+            → state_of result book ≡ opened_unit identity book }
+    {
+        Unit {
+            store,
+            identity,
+            kept: Kept::new(),
+            write_cache: true,
+        }
+    }
+
+    /// What a command block is about to move: 1 to 16 bytes, of which those past the command are
+    /// ignored. At most 48 blocks are moved.
+    #[tactic(auto, unfolding(crate::specs::Rules::intention_by))]
+    pub fn intend(&self, block: &[u8]) -> Intent
+        requires { 0 < length block.now }
+        ensures intention { result ≡ intention_of self.now block.now }
+        ensures most { (n : ℕ) → result ≡ Intent.Out n → (0 < n) × (n ≤ 24576) }
+    {
+        match self.command(block) {
+            Ok(command) => moves(&self.identity, &command),
+            Err(sense) => Intent::Fail(sense),
+        }
+    }
+
+    /// Carries out a command block, of 1 to 16 bytes, over the data taken for it, and writes the
+    /// data to send to the front of `out`, which has 24,576 bytes. The answer is the number of
+    /// these. Where the block intends to take data, `taken` has as many bytes; else it is ignored.
+    ///
+    /// # Errors
+    ///
+    /// The sense with which the command fails, which is kept for REQUEST SENSE.
+    pub fn carry_out(&mut self, block: &[u8], taken: &[u8], out: &mut [u8]) -> Result<usize, Sense>
+        requires some { 0 < length block.now }
+        requires taken { (n : ℕ) → intention_of self.old block.now ≡ Intent.Out n
+            → length taken.now ≡ n }
+        requires room { length out.old ≡ 24576 }
+        ensures serves { Serves (M.state self.old.store.medium) (M.state self.new.store.medium)
+            block.now taken.now self.old (answer_of result out.new) self.new }
+        ensures sparing { IsSparing block.now taken.now self.old
+            (answer_of result out.new) self.new }
+        ensures sent { (n : ℕ) → intention_of self.old block.now ≡ Intent.In n
+            → IfOk result (λ sent. sent ≡ n) }
+        ensures most { IfOk result (λ sent. sent ≤ 24576) }
+        ensures follows { M.follows self.old.store.medium self.new.store.medium }
+    {
+        let answer = self.perform_block(block, taken, out);
+        settle(&mut self.kept, answer);
+        answer
+    }
+
+    /// Makes a step in the background, of at most two calls of the medium.
+    ///
+    /// Where it faults the unit, no command fails with a write error: those that need the medium
+    /// fail from then on with an internal target failure.
+    pub fn tick(&mut self)
+        ensures ticks { TicksOver (M.state self.old.store.medium) (M.state self.new.store.medium)
+            self.old self.new }
+        ensures follows { M.follows self.old.store.medium self.new.store.medium }
+    {
+        step(&mut self.store);
+    }
+
+    /// The medium that the unit stands on.
+    ///
+    /// Between two calls a cut leaves what may be found of each book that the unit fits.
+    pub fn medium(&self) -> &M
+        ensures is { result.now ≡ self.now.store.medium }
+        ensures at_rest { (book : Book)
+            → FitsUnit (M.state self.now.store.medium) self.now book → book.ours ≡ true
+            → EachCut (MayFind (M.state self.now.store.medium).size book)
+            (M.state self.now.store.medium) }
+    {
+        self.store.medium()
+    }
+
+    /// Gives the medium back.
+    pub fn into_medium(self) -> M
+        ensures { result ≡ self.store.medium }
+    {
+        self.store.into_medium()
+    }
+}
+
+impl<M: Switch> Unit<M> {
+    /// Arms a fuse of the medium.
+    pub fn fuse(&mut self, writes: u64)
+        ensures fused { M.fused writes self.old.store.medium self.new.store.medium }
+        ensures unchanged { IsUnchanged (M.state self.old.store.medium)
+            (M.state self.new.store.medium) }
+        ensures others { self.new ≡ record self.old {
+          store = record self.old.store { medium = self.new.store.medium };
+        } }
+        ensures fits { (book : Book) → FitsUnit (M.state self.old.store.medium) self.old book
+            → FitsUnit (M.state self.new.store.medium) self.new book }
+    {
+        self.store.fuse(writes);
+    }
+
+    /// Arms a failure of one call of the medium.
+    pub fn fail(&mut self, call: u64)
+        requires { 0 < call }
+        ensures failing { M.failing call self.old.store.medium self.new.store.medium }
+        ensures follows { M.follows self.old.store.medium self.new.store.medium }
+        ensures unchanged { IsUnchanged (M.state self.old.store.medium)
+            (M.state self.new.store.medium) }
+        ensures others { self.new ≡ record self.old {
+          store = record self.old.store { medium = self.new.store.medium };
+        } }
+        ensures fits { (book : Book) → FitsUnit (M.state self.old.store.medium) self.old book
+            → FitsUnit (M.state self.new.store.medium) self.new book }
+    {
+        self.store.fail(call);
+    }
+}
+
+// Keeps the sense of a command that failed, and drops that of an earlier one.
+fn settle(kept: &mut Kept, answer: Result<usize, Sense>)
+    ensures { (out : List ℕ) → kept.new ≡ settled_kept (answer_of answer out) kept.old }
+{
+    match answer {
+        Ok(_) => kept.begin(),
+        Err(sense) => kept.fail(sense),
+    }
+}
