@@ -7,7 +7,7 @@ ghost use Rattle.runner.specs.Program.{AreImageSizes, IsMade, simulated};
 use crate::read::{ReadFault, read_to_limit};
 use crate::refusal::Refusal;
 use medium::{FileMedium, SimError, SimMedium};
-use recovery::format;
+use recovery::{FormatFault, format};
 use std::fs;
 use std::fs::Files;
 
@@ -34,7 +34,8 @@ pub(crate) fn make_image<R: Files + AllocGlobal>(
     let mut medium = FileMedium::create(rt, path, sectors)?;
     match format(&mut medium, blocks, slots) {
         Ok(()) => Ok(medium),
-        Err(_) => Err(Refusal::File),
+        Err(FormatFault::BadSize) => Err(Refusal::ImageSize),
+        Err(FormatFault::Medium) => Err(Refusal::File),
     }
 }
 
