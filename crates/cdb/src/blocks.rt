@@ -25,14 +25,14 @@ const IMMED: u8 = 0x02;
 /// The service action of READ CAPACITY (16), in byte 1.
 const READ_CAPACITY_16_ACTION: u8 = 0x10;
 
-pub fn read_capacity_10(block: &[u8]) -> Result<Command, Sense>
+pub(crate) fn read_capacity_10(block: &[u8]) -> Result<Command, Sense>
     ensures { result ≡ outcome_of block.now read_capacity_10 }
 {
     check_form(block, 10, &[0])?;
     Ok(Command::ReadCapacity10)
 }
 
-pub fn read_capacity_16(block: &[u8]) -> Result<Command, Sense>
+pub(crate) fn read_capacity_16(block: &[u8]) -> Result<Command, Sense>
     ensures { result ≡ outcome_of block.now (read_capacity_16 block.now) }
 {
     check_form(block, 16, &[READ_CAPACITY_16_ACTION])?;
@@ -41,7 +41,7 @@ pub fn read_capacity_16(block: &[u8]) -> Result<Command, Sense>
     })
 }
 
-pub fn transfer_10(block: &[u8], n: u64, limit: u32) -> Result<Transfer, Sense>
+pub(crate) fn transfer_10(block: &[u8], n: u64, limit: u32) -> Result<Transfer, Sense>
     ensures { let transfer = transfer_10 block.now in
         let tests = form_tests 10 transfer_flags block.now ++ transfer_tests n limit transfer in
         result ≡ judged tests transfer }
@@ -50,7 +50,7 @@ pub fn transfer_10(block: &[u8], n: u64, limit: u32) -> Result<Transfer, Sense>
     check_transfer(range_in_10(block), has_fua(block), n, limit)
 }
 
-pub fn transfer_16(block: &[u8], n: u64, limit: u32) -> Result<Transfer, Sense>
+pub(crate) fn transfer_16(block: &[u8], n: u64, limit: u32) -> Result<Transfer, Sense>
     ensures { let transfer = transfer_16 block.now in
         let tests = form_tests 16 transfer_flags block.now ++ transfer_tests n limit transfer in
         result ≡ judged tests transfer }
@@ -59,7 +59,7 @@ pub fn transfer_16(block: &[u8], n: u64, limit: u32) -> Result<Transfer, Sense>
     check_transfer(range_in_16(block), has_fua(block), n, limit)
 }
 
-pub fn synchronize_10(block: &[u8], n: u64) -> Result<BlockRange, Sense>
+pub(crate) fn synchronize_10(block: &[u8], n: u64) -> Result<BlockRange, Sense>
     ensures { let range = range_10 block.now in
         let tests = form_tests 10 synchronize_flags block.now ++ range_tests n range in
         result ≡ judged tests range }
@@ -68,7 +68,7 @@ pub fn synchronize_10(block: &[u8], n: u64) -> Result<BlockRange, Sense>
     check_range(range_in_10(block), n)
 }
 
-pub fn synchronize_16(block: &[u8], n: u64) -> Result<BlockRange, Sense>
+pub(crate) fn synchronize_16(block: &[u8], n: u64) -> Result<BlockRange, Sense>
     ensures { let range = range_16 block.now in
         let tests = form_tests 16 synchronize_flags block.now ++ range_tests n range in
         result ≡ judged tests range }

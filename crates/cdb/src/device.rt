@@ -35,14 +35,14 @@ const SAVED_VALUES: u8 = 3;
 /// the caching page.
 const LIST_LENGTHS: [u8; 3] = [0, 4, 24];
 
-pub fn test_unit_ready(block: &[u8]) -> Result<Command, Sense>
+pub(crate) fn test_unit_ready(block: &[u8]) -> Result<Command, Sense>
     ensures { result ≡ outcome_of block.now test_unit_ready }
 {
     check_form(block, 6, &[0])?;
     Ok(Command::TestUnitReady)
 }
 
-pub fn request_sense(block: &[u8]) -> Result<Command, Sense>
+pub(crate) fn request_sense(block: &[u8]) -> Result<Command, Sense>
     ensures { result ≡ outcome_of block.now (request_sense block.now) }
 {
     check_form(block, 6, &[0])?;
@@ -51,7 +51,7 @@ pub fn request_sense(block: &[u8]) -> Result<Command, Sense>
     })
 }
 
-pub fn inquiry(block: &[u8]) -> Result<Command, Sense>
+pub(crate) fn inquiry(block: &[u8]) -> Result<Command, Sense>
     ensures { result ≡ outcome_of block.now (inquiry block.now) }
 {
     check_form(block, 6, &[0, EVPD])?;
@@ -78,7 +78,7 @@ fn inquiry_page(block: &[u8]) -> Result<Option<u8>, Sense>
     Err(Sense::INVALID_FIELD_IN_CDB)
 }
 
-pub fn mode_select(block: &[u8]) -> Result<Command, Sense>
+pub(crate) fn mode_select(block: &[u8]) -> Result<Command, Sense>
     ensures { result ≡ outcome_of block.now (mode_select block.now) }
 {
     check_form(block, 6, &[PAGE_FORMAT])?;
@@ -90,7 +90,7 @@ pub fn mode_select(block: &[u8]) -> Result<Command, Sense>
 }
 
 #[tactic(auto, using(crate::proofs::Judging::judging, std::proofs::lemmas::Grind::common_steps))]
-pub fn mode_sense(block: &[u8]) -> Result<Command, Sense>
+pub(crate) fn mode_sense(block: &[u8]) -> Result<Command, Sense>
     ensures { result ≡ outcome_of block.now (mode_sense block.now) }
 {
     check_form(block, 6, &[0, DISABLE_BLOCK_DESCRIPTORS])?;

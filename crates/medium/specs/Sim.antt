@@ -23,7 +23,8 @@ pub record Sim : Type 0 where
   pub calls : ℕ
   pub refused : Refused
 
--- How many sectors there are. There is no medium whose unflushed writes are not of whole sectors.
+-- How many sectors there are. A model with an unflushed write of another length is given none, so that
+-- the law on lengths holds of every model; no real medium is such.
 abbrev pub size_of : Sim → ℕ
 size_of m = if are_whole m.unflushed then length m.flushed / 512 else 0
 

@@ -10,16 +10,20 @@ use Rattle.medium.specs.Sim.{Sim, size_of, sets_of, state_of, ComesAfter}
 use Rattle.medium.specs.Writes.{sector_of, latest, IsWritten, are_whole}
 use Rattle.medium.specs.declared.unflushed.UnflushedWrite.{UnflushedWrite}
 
-among_next : (w : UnflushedWrite) (ws : List UnflushedWrite) (s : ℕ) (c : List ℕ) → (((s == w.sector) ≡ true) × (s ≡ w.sector)) ⊎ (((s == w.sector) ≡ false) × (s ≡ w.sector → ⊥))
-    → (latest ws s w.block ≡ w.block) ⊎ IsWritten ws s (latest ws s w.block) → (latest ws s c ≡ c) ⊎ IsWritten ws s (latest ws s c)
+among_next : (w : UnflushedWrite) (ws : List UnflushedWrite) (s : ℕ) (c : List ℕ)
+    → (((s == w.sector) ≡ true) × (s ≡ w.sector)) ⊎ (((s == w.sector) ≡ false) × (s ≡ w.sector → ⊥))
+    → (latest ws s w.block ≡ w.block) ⊎ IsWritten ws s (latest ws s w.block)
+    → (latest ws s c ≡ c) ⊎ IsWritten ws s (latest ws s c)
     → (latest (w ∷ ws) s c ≡ c) ⊎ IsWritten (w ∷ ws) s (latest (w ∷ ws) s c)
-among_next w ws s c (inl here) of_block of_c = rw here.0 (⊎_elim (λ same. inr (inl (here.1, same))) (λ later. inr (inr later)) of_block)
+among_next w ws s c (inl here) of_block of_c = rw here.0
+    (⊎_elim (λ same. inr (inl (here.1, same))) (λ later. inr (inr later)) of_block)
 among_next w ws s c (inr other) of_block of_c = rw other.0 (⊎_elim inl (λ later. inr (inr later)) of_c)
 
 -- what a sector holds after some writes is what it held or what one of them put there
 pub among : (ws : List UnflushedWrite) (s : ℕ) (c : List ℕ) → (latest ws s c ≡ c) ⊎ IsWritten ws s (latest ws s c)
 among [] s c = inl refl
-among (w ∷ ws) s c = among_next w ws s c (eqb_tells s w.sector) (among ws s w.block) (among ws s c)
+among (w ∷ ws) s c =
+    among_next w ws s c (eqb_tells s w.sector) (among ws s w.block) (among ws s c)
 
 -- where the writes are of whole sectors, the size is that of the flushed bytes
 pub size_whole : (m : Sim) → are_whole m.unflushed ≡ true → size_of m ≡ length m.flushed / 512
@@ -30,13 +34,19 @@ none_of_no_sectors m not = rw not refl
 
 -- a sector that lies within the bytes has 512 of them
 pub whole_sector : (bytes : List ℕ) (s : ℕ) → s < length bytes / 512 → length (sector_of bytes s) ≡ 512
-whole_sector bytes s inside = length-take 512 (drop (512 * s) bytes) ∙ ap (λ (n : ℕ). min 512 n) (length-drop (512 * s) bytes) ∙ grind (arith, nat_tests)
+whole_sector bytes s inside =
+    length-take 512 (drop (512 * s) bytes)
+    ∙ ap (λ (n : ℕ). min 512 n) (length-drop (512 * s) bytes)
+    ∙ grind (arith, nat_tests)
 
-whole_write : (ws : List UnflushedWrite) (s : ℕ) (c : List ℕ) → are_whole ws ≡ true → IsWritten ws s c → length c ≡ 512
+whole_write : (ws : List UnflushedWrite) (s : ℕ) (c : List ℕ)
+    → are_whole ws ≡ true → IsWritten ws s c → length c ≡ 512
 whole_write [] s c whole h = absurd h
 whole_write (w ∷ ws) s c whole h =
     let parts = and_parts (length w.block == 512) (are_whole ws) whole in
-    ⊎_elim (λ here. ap (λ (l : List ℕ). length l) here.1 ∙ grind (arith, nat_tests, parts.0)) (λ later. whole_write ws s c parts.1 later) h
+    ⊎_elim
+    (λ here. ap (λ (l : List ℕ). length l) here.1 ∙ grind (arith, nat_tests, parts.0))
+    (λ later. whole_write ws s c parts.1 later) h
 
 sized : (m : Sim) (s : ℕ) (c : List ℕ) → s < size_of m → sets_of m s c → length c ≡ 512
 sized m s c inside left = elim (cases_Bool (are_whole m.unflushed)) [
@@ -64,10 +74,16 @@ comes_after_itself m = record {
   failures_stay = omega arith;
 }
 
-through_off : (a b c : Sim) → ComesAfter a b → ComesAfter b c → a.power.off ≡ false → c.power.off ≡ true
-    → (b.power.off ≡ true) ⊎ (b.power.off ≡ false) → (a.power.fuse ≢ None) × (of_all a.refused < of_all c.refused)
-through_off a b c f g on off (inl was) = let h = f.goes_off on was in (h.0, omega (arith, h.1, g.failures_stay))
-through_off a b c f g on off (inr still) = let h = g.goes_off still off in ((λ none. h.0 (f.no_fuse_stays none)), omega (arith, h.1, f.failures_stay))
+through_off : (a b c : Sim) → ComesAfter a b → ComesAfter b c
+    → a.power.off ≡ false → c.power.off ≡ true
+    → (b.power.off ≡ true) ⊎ (b.power.off ≡ false)
+    → (a.power.fuse ≢ None) × (of_all a.refused < of_all c.refused)
+through_off a b c f g on off (inl was) =
+    let h = f.goes_off on was in
+    (h.0, omega (arith, h.1, g.failures_stay))
+through_off a b c f g on off (inr still) =
+    let h = g.goes_off still off in
+    ((λ none. h.0 (f.no_fuse_stays none)), omega (arith, h.1, f.failures_stay))
 
 pub comes_after_through : (a b c : Sim) → ComesAfter a b → ComesAfter b c → ComesAfter a c
 comes_after_through a b c f g = record {
