@@ -1,4 +1,5 @@
 pub mod Arrays
+pub mod Halving
 pub mod Kept
 pub mod Maps
 pub mod Pairs

@@ -1,4 +1,5 @@
 pub mod Blocks
+pub mod Digits
 pub mod Entries
 pub mod Places
 pub mod View

@@ -3,8 +3,8 @@ ghost use Rattle.std.specs.Prelude.{◌≡◌, ◌⊎◌, ◌↔◌, ◌+◌, �
 ghost use Rattle.cache.specs.Blocks.{with_range, InRange, Listed, absent, unlisted};
 ghost use Rattle.cache.specs.Entries.{IsWellFormed, Fits, PutsBlock, map_of};
 
+use crate::counter::Steps;
 use crate::entry::{BLOCK, put_entry};
-use crate::place::{count_missing, place_of};
 use std::alloc::Global;
 use std::marker::Model;
 use thiserror::Error;
@@ -91,7 +91,7 @@ impl Batch {
         ensures size { IfSome result (λ bytes. length bytes.now ≡ 512) }
         ensures none { IsNone result ↔ (map_of self.now block ≡ None) }
     {
-        match place_of(&self.numbers, block) {
+        match self.search(block, &mut Steps::new()) {
             Ok(place) => Some(&self.blocks[place]),
             Err(_) => None,
         }
@@ -103,7 +103,7 @@ impl Batch {
         requires { address + count ≤ 2 ^ 31 }
         ensures { IsTrue result ↔ Fits self.now address count }
     {
-        count_missing(&self.numbers, address, count) <= self.room - self.numbers.len()
+        self.count_missing(address, count) <= self.room - self.numbers.len()
     }
 
     /// Puts blocks at the numbers from the address on, each in place of the one that was there.
@@ -142,6 +142,7 @@ impl Batch {
         requires room { length self.old.numbers + absent self.old.numbers number ≤ self.old.room }
         ensures { PutsBlock number block.now self.old self.new }
     {
-        put_entry(&mut self.numbers, &mut self.blocks, number, block);
+        let searched = self.search(number, &mut Steps::new());
+        put_entry(&mut self.numbers, &mut self.blocks, searched, number, block);
     }
 }

@@ -3,10 +3,12 @@
 #![tactic(auto)]
 
 mod batch;
+mod counter;
 mod entry;
 mod place;
 
 pub use batch::{Batch, BatchError};
+pub use counter::Steps;
 
 #[cfg(test)]
 mod tests;

@@ -1,5 +1,5 @@
 // Batches from their first block to the limit.
-ghost use Rattle.std.specs.Prelude.{◌≡◌, ◌+◌, ◌/◌, ◌%◌, ◌^◌, ◌≤◌, length};
+ghost use Rattle.std.specs.Prelude.{◌≡◌, ◌+◌, ◌/◌, ◌%◌, ◌^◌, ◌≤◌, [], length};
 
 use super::*;
 use std::process::Abort;
@@ -41,6 +41,42 @@ fn even_numbers_stand_in_order(rt: HostRuntime) -> Result<(), Fail> {
     assert!(rt; batch.fits(94, 1));
     assert!(rt; !batch.fits(94, 2));
     assert!(rt; !batch.fits(1, 1));
+    Ok(())
+}
+
+// A search among 48 blocks takes at most 6 steps.
+fn search_among_48(batch: &Batch, block: u64, steps: &mut Steps) -> Result<usize, usize>
+    requires { length batch.now.numbers ≡ 48 }
+    ensures { steps.new.count ≤ steps.old.count + 6 }
+{
+    batch.search(block, steps)
+}
+
+// A search among no blocks takes no step.
+fn search_among_none(batch: &Batch, block: u64, steps: &mut Steps) -> Result<usize, usize>
+    requires { batch.now.numbers ≡ [] }
+    ensures { steps.new.count ≡ steps.old.count }
+{
+    batch.search(block, steps)
+}
+
+#[test]
+fn a_search_halves_what_is_left(rt: HostRuntime) -> Result<(), Fail> {
+    let mut batch = Batch::new(rt.alloc(), 48)?;
+    let mut steps = Steps::new();
+    assert_eq!(rt; search_among_none(&batch, 1, &mut steps), Err(0));
+    for i in 0..48 {
+        put(&rt, &mut batch, 2 * i, &[0; 512]);
+    }
+    assert_eq!(rt; batch.len(), 48);
+    assert_eq!(rt; search_among_48(&batch, 94, &mut steps), Ok(47));
+    assert_eq!(rt; search_among_48(&batch, 95, &mut steps), Err(48));
+    assert_eq!(rt; search_among_48(&batch, 1, &mut steps), Err(1));
+    for i in 0..48 {
+        assert_eq!(rt; batch.search(2 * i, &mut steps), Ok(i as usize));
+        assert_eq!(rt; batch.search(2 * i + 1, &mut steps), Err(i as usize + 1));
+        assert_eq!(rt; batch.number_at(i as usize, &mut steps), 2 * i);
+    }
     Ok(())
 }
 

@@ -5,7 +5,7 @@ use Rattle.cache.proofs.batch.Batch.get.Goals as goal
 
 pub returns-in-Ok-clause-some : goal.returns-in-Ok-clause-some
 returns-in-Ok-clause-some c =
-    let stands = rw c.deref.ensures.value at c.in-Ok.ensures.found in
+    let stands = rw (← c.self.view_is) at c.in-Ok.ensures.found in
     rw (← c.self.view_is) (found c.self.inside.numbers.items c.self.inside.blocks.items c.args.block c.in-Ok.place c.index.result.now c.self.invariant.paired stands ∙ ap (λ (x : List ℕ). Some x) (sym c.index.ensures))
 
 pub returns-in-Ok-clause-none : goal.returns-in-Ok-clause-none
@@ -15,5 +15,5 @@ returns-in-Ok-clause-none c =
 
 pub returns-in-Err-clause-none : goal.returns-in-Err-clause-none
 returns-in-Err-clause-none c =
-    let stands = rw c.deref.ensures.value at c.in-Err.ensures.missing in
+    let stands = rw (← c.self.view_is) at c.in-Err.ensures.missing in
     (λ e. rw (← c.self.view_is) (missing c.self.inside.numbers.items (joined c.self.inside.blocks.items) c.args.block c.in-Err.field-0 stands), λ e. refl)
