@@ -19,6 +19,7 @@ use Rattle.cache.specs.Entries.{Entries}
 use Rattle.blocks.specs.Book.{opened}
 use Rattle.blocks.specs.StoreValue.{Cached, FitsBook}
 use Rattle.blocks.specs.Started.{IsStarted}
+use Rattle.blocks.proofs.Opening.{serves, opens_on}
 
 -- the log of an image that was recovered is fresh
 fresh_log : (shape : Shape) (array : Array) (next : ℕ) (image : Image) → recovered.IsFresh shape array next image → IsFresh shape next array image
@@ -77,13 +78,19 @@ module _ (before after : State) (answer : Recovered) (from : IsRecoveredFrom bef
   rests ours premise = idle_holds (shape_of answer.sizes) answer.next from.array ours after (omega (arith, from.stood.fits, size_stays)) from.home
       (λ is image cut. fresh_log (shape_of answer.sizes) from.array answer.next image (fresh (shape_of answer.sizes) from.array answer.next (was_ours (premise is)) image cut))
 
+  abbrev fits : (ours : Bool) → (ours ≡ true → EachCut (IsOursForSome before.size) before)
+      → FitsBook after (started (shape_of answer.sizes) answer.next) (opened answer.sizes.blocks from.array answer.next ours)
+  fits ours premise = opens (shape_of answer.sizes) from.array answer.next ours after (rests ours premise)
+
   pub starts : IsStarted before after (started (shape_of answer.sizes) answer.next)
   starts = record {
     array = from.array;
     next = answer.next;
     stood = from.stood;
     stamp_left = from.stamp_left;
-    fits = λ ours premise. opens (shape_of answer.sizes) from.array answer.next ours after (rests ours premise);
+    fits = fits;
+    serves = serves before after (started (shape_of answer.sizes) answer.next) from.array answer.next from.stood fits;
+    opens = opens_on before (shape_of answer.sizes) from.array answer.next from.stood;
     live = refl;
     empty = refl;
     rests = refl;

@@ -1,15 +1,18 @@
 -- How a store starts.
 use Rattle.std.specs.Prelude.{◌≡◌, ◌⊎◌, ℕ, ◌+◌, ◌*◌, ◌^◌, ◌<◌, ◌≤◌, Bool, true, false, []}
 use Rattle.medium.specs.Medium.{State, Image}
-use Rattle.medium.specs.Moments.{EachCut, LeavesOnly}
+use Rattle.medium.specs.Moments.{EachCut, LeavesOnly, IsFlushed}
 use Rattle.medium.specs.Blocks.{Array}
-use Rattle.log_layout.specs.Standing.{StandsFor}
+use Rattle.log_layout.specs.Places.{Shape}
+use Rattle.log_layout.specs.Standing.{StandsFor, IsOurs}
 use Rattle.recovery.specs.Causes.{IsCause}
-use Rattle.recovery.specs.Recovered.{IsRecoveredFrom, IsOursForSome}
+use Rattle.recovery.specs.Recovered.{IsRecoveredFrom, IsOursForSome, IsOursWithNext, StandsForOneOf}
 use Rattle.recovery.specs.declared.recovered.Recovered.{Recovered}
 use Rattle.recovery.specs.declared.start_fault.StartFault.{StartFault}
 use Rattle.recovery.specs.declared.start_fault.StartFault.TheVariants.{NoMemory}
-use Rattle.blocks.specs.Book.{opened}
+use Rattle.blocks.specs.Book.{Book, opened}
+use Rattle.blocks.specs.Finding.{MayFind}
+use Rattle.blocks.specs.Opening.{OpensOn}
 use Rattle.blocks.specs.StoreValue.{Cached, layout_of, blocks_of, is_dead, active_of, steps_left, FitsBook}
 
 -- A store that has started serves the array for which the contents of the medium stood. It fits a life that opens with it, under the
@@ -20,6 +23,9 @@ pub record IsStarted (before after : State) (new : Cached) : Type 0 where
   pub stood : StandsFor before.size (layout_of new) before.content array next
   pub stamp_left : next < 2 ^ 63
   pub fits : (ours : Bool) → (ours ≡ true → EachCut (IsOursForSome before.size) before) → FitsBook after new (opened (blocks_of new) array next ours)
+  -- over books: it fits each with which a life may open over the contents, and there is one
+  pub serves : (book : Book) → OpensOn before book → FitsBook after new book
+  pub opens : OpensOn before (opened (blocks_of new) array next false)
   pub live : is_dead new ≡ false
   pub empty : active_of new ≡ []
   pub rests : steps_left new ≡ 0
@@ -36,3 +42,18 @@ IsOursSince P before after = before.calls + 2 ≤ after.calls → (image : Image
 pub record IsBounded (before after : State) : Type 0 where
   pub moments : LeavesOnly (λ _. Unit {0}) before after
   pub calls : after.calls ≤ before.calls + 6 + 100 * 64
+
+-- What a start leaves at each moment, whether it is good or refused.
+pub record StartLeaves (before after : State) : Type 0 where
+  -- where every image was ours, one that is ours and stands for what one of them stood for
+  pub cuts : EachCut (IsOursForSome before.size) before
+      → LeavesOnly (StandsForOneOf before) before after
+  -- from the first good flush on, for what the contents stood for
+  pub after_flush : (shape : Shape) (array : Array) (next : ℕ)
+      → IsOurs before.size shape before.content array next
+      → IsOursSince (IsOursWithNext before.size shape array next) before after
+  -- over books: where nothing was unflushed, what may be found of each with which a life opens
+  pub finds : (book : Book) → OpensOn before book → book.ours ≡ true → IsFlushed before
+      → EachCut (MayFind after.size book) after
+  -- whatever the image, no count falls, the size stays, and the calls are bounded
+  pub bounded : IsBounded before after

@@ -1,21 +1,19 @@
 -- What happens in a life: a fuse is armed, an event comes, the power is cut.
-use Rattle.std.proofs.Common.{◌≡◌, ◌≢◌, ◌<◌, ◌≤◌, ℕ, ◌+◌, Bool, true, false, nat_lt, ltb-true, List, [], ◌∷◌, None, Some, refl, sym, subst, ◌∙◌, ap, arith, inl, inr}
+use Rattle.std.proofs.Common.{◌≡◌, ◌<◌, ◌≤◌, ℕ, ◌+◌, Bool, true, false, nat_lt, ltb-true, List, [], ◌∷◌, None, Some, refl, sym, subst, ◌∙◌, ap, arith, inl, inr}
 use Rattle.std.proofs.lemmas.Bool.{false≢true}
 use Rattle.std.proofs.lemmas.List.{append-nil}
 use Rattle.medium.specs.Medium.{State, Image, CutLeaves}
 use Rattle.medium.specs.Moments.{EachCut, IsFlushed}
-use Rattle.medium.specs.Power.{powered}
-use Rattle.medium.specs.Refusals.{Refused, of_all}
+use Rattle.medium.specs.Refusals.{of_all}
 use Rattle.medium.specs.Sim.{Sim, state_of, IsCut, ComesAfter}
 use Rattle.medium.specs.SimLaws.{is_sound}
 use Rattle.medium.specs.declared.power.Power.{Power}
 use Rattle.medium.proofs.Moments.{at_exit, only_image}
 use Rattle.medium.proofs.Keeping.{none_flushed}
-use Rattle.pages.specs.Identification.{Identification}
-use Rattle.log_layout.specs.Standing.{StandsFor}
-use Rattle.recovery.specs.Recovered.{IsOursForSome}
-use Rattle.blocks.specs.Book.{Book}
-use Rattle.blocks.specs.Finding.{MayFind, FoundWith}
+use Rattle.scsi_unit.specs.Identification.{Identification}
+use Rattle.scsi_unit.specs.Starting.{IsOursForSome, StandsForOpening}
+use Rattle.scsi_unit.specs.Books.{Book}
+use Rattle.scsi_unit.specs.Books.{MayFind, FoundWith}
 use Rattle.bot_machine.specs.declared.event.Event.{Event}
 use Rattle.bot_machine.specs.declared.event.Answer.{Answer}
 use Rattle.bot_machine.specs.declared.event.Answer.TheVariants.{Off}
@@ -23,10 +21,10 @@ use Rattle.bot_machine.specs.declared.stage.Stage.{Stage}
 use Rattle.bot_machine.specs.declared.stage.Stage.TheVariants.{Rests, Runs}
 use Rattle.bot_machine.specs.Conversation.{Conversation, refused_events}
 use Rattle.bot_machine.specs.Acts.{write_of_event}
-use Rattle.bot_machine.specs.Disk.{DiskValue, over, UnitStep, FitsDisk, IsStep}
+use Rattle.bot_machine.specs.Disk.{DiskValue, over, UnitStep, IsStep}
 use Rattle.scsi_unit.specs.Rules.{UnitState}
-use Rattle.bot_machine.specs.Lives.{Action, arms, starts, plays, cuts, Remains, Place, before_first, between, runs, off, Standing, PowerGoes, after_cut, LivesStep, LivesRun}
-use Rattle.bot_machine.specs.LivesValue.{LivesValue, medium_in, state_in, IsAtRest, OpensOn, Converses, IsAt, book_at, FoundAt, FitsLives, LivesGoTo, LivesGoOn}
+use Rattle.bot_machine.specs.Lives.{Action, arms, plays, cuts, Remains, Place, before_first, between, runs, off, Standing, after_cut, LivesStep, LivesRun}
+use Rattle.bot_machine.specs.LivesValue.{LivesValue, medium_in, state_in, IsAtRest, OpensOn, IsAt, book_at, FoundAt, FitsLives, LivesGoTo, LivesGoOn}
 
 -- one action is a run
 pub one_run : (identity : Identification) (refused : Bool) (old new : Standing) (action : Action) (answers : List Answer)
@@ -149,9 +147,8 @@ module _ (identity : Identification) where
     opens_still : (book : Book) → old.unflushed ≡ [] → OpensOn (state_of old) book → OpensOn (state_of new) book
     opens_still book none h = record {
       opens = h.opens;
-      slots = h.slots;
-      stands = subst (λ (n : ℕ). StandsFor n (record { blocks = book.blocks; slots = h.slots }) (state_of new).content book.opening book.stamp) (sym size)
-          (subst (λ (i : Image). StandsFor (state_of old).size (record { blocks = book.blocks; slots = h.slots }) i book.opening book.stamp) (sym (content_stays none)) h.stands);
+      stands = subst (λ (n : ℕ). StandsForOpening n book (state_of new).content) (sym size)
+          (subst (StandsForOpening (state_of old).size book) (sym (content_stays none)) h.stands);
       ours = λ ours. subst (λ (n : ℕ). EachCut (IsOursForSome n) (state_of new)) (sym size) (left_before (IsOursForSome (state_of old).size) (h.ours ours));
     }
 

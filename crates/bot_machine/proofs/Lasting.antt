@@ -1,18 +1,21 @@
 -- Whole lives, one after the other, from the first.
-use Rattle.std.proofs.Common.{◌≡◌, ◌<◌, ◌≤◌, ℕ, ◌+◌, suc, Bool, true, false, List, [], ◌∷◌, ◌++◌, None, length, take, drop, get_or, sum_by, refl, sym, subst, ◌∙◌, ap, arith, append_assoc, drop-cons}
+use Rattle.std.proofs.Common.{◌≡◌, ◌<◌, ◌≤◌, ℕ, ◌+◌, suc, false, List, [], ◌∷◌, ◌++◌, None, length, take, drop, get_or, refl, sym, subst, ◌∙◌, ap, arith, append_assoc, drop-cons}
 use Rattle.std.proofs.lemmas.List.{append-nil, take_more, take-append-drop}
 use Rattle.std.proofs.lemmas.List.Sums.{sum_by-append, sum_by-take-le}
-use Rattle.medium.specs.Sim.{Sim, state_of}
-use Rattle.recovery.specs.declared.start_fault.StartFault.{StartFault}
-use Rattle.pages.specs.Identification.{Identification}
-use Rattle.blocks.specs.Book.{Book}
+use Rattle.std.specs.Prelude.{Option, Some, MatchOption}
+use Rattle.medium.specs.Medium.{State}
+use Rattle.medium.specs.Sim.{Sim, state_of, IsFused}
+use Rattle.scsi_unit.specs.StartFaults.{StartFault}
+use Rattle.scsi_unit.specs.Identification.{Identification}
+use Rattle.scsi_unit.specs.Books.{Book}
 use Rattle.bot_machine.specs.declared.event.Answer.{Answer}
 use Rattle.bot_machine.specs.declared.life.Life.{Life}
 use Rattle.bot_machine.specs.declared.stage.Stage.TheVariants.{Rests}
 use Rattle.bot_machine.specs.Answers.{Room}
 use Rattle.bot_machine.specs.Conversation.{refused_events}
+use Rattle.bot_machine.specs.Opening.{IsNotOpened}
 use Rattle.bot_machine.specs.Lives.{Action, before_first, Standing, LivesRun}
-use Rattle.bot_machine.specs.LivesValue.{LivesValue, medium_in, IsAtRest, OpensOn, FitsLives, LivesGoOn, LivesStop}
+use Rattle.bot_machine.specs.LivesValue.{LivesValue, medium_in, state_in, IsAtRest, OpensOn, FitsLives, LivesGoOn, LivesStop}
 use Rattle.bot_machine.specs.Lifetimes.{actions_of, actions_of_all, armed_by, events_in, AppendsFor, EndsIn, AreLived, StopsIn, AreLivedUpTo}
 use Rattle.bot_machine.proofs.Playing.{rests}
 use Rattle.bot_machine.proofs.Beginning.{first_found}
@@ -56,6 +59,13 @@ module _ (lives : List Life) (i : ℕ) (life : Life) (below : i < length lives) 
   apart = sym (take-append-drop i lives)
       ∙ ap (λ (l : List Life). take i lives ++ l) (drop-cons lives i life below ∙ ap (λ (x : Life). x ∷ drop (suc i) lives) (sym is))
 
+-- a start is refused for another reason than a fuse that was armed before it
+pub not_for_a_fuse : (fuse : Option ℕ) (old armed : LivesValue) (after : State) (fault : StartFault)
+    → MatchOption fuse (armed ≡ old) (λ writes. IsFused writes (medium_in old.stage) (medium_in armed.stage))
+    → IsNotOpened (state_in armed.stage) after fault → IsNotOpened (state_in old.stage) after fault
+not_for_a_fuse None old armed after fault same h = subst (λ (x : LivesValue). IsNotOpened (state_in x.stage) after fault) same h
+not_for_a_fuse (Some writes) old armed after fault fused h = subst (λ (m : Sim). IsNotOpened (state_of m) after fault) fused h
+
 -- the first lives, over a medium that opens with this book
 first_fits : (m : Sim) (identity : Identification) → IsAtRest m → m.power.fuse ≡ None → (book : Book) → OpensOn (state_of m) book
     → FitsLives (record { identity = identity; stage = Rests m }) (record { place = before_first book; armed = false })
@@ -91,14 +101,16 @@ module _ (m : Sim) (identity : Identification) (rest : IsAtRest m) (unfused : m.
           }
 
   pub lived_up_to : (lives lived rest : List Life) (life : Life) (fault : StartFault) → lives ≡ lived ++ life ∷ rest
-      → LivesStop first (actions_of_all lived ++ armed_by life.fuse) told fault after → length told ≡ events_in lived
-      → AreLivedUpTo m identity lives told fault (medium_in after.stage)
-  lived_up_to lives lived others life fault lives_are stop one_each = record {
+      → (mid : Sim) → AreLived m identity lived told mid → IsNotOpened (state_of mid) (state_in after.stage) fault
+      → LivesStop first (actions_of_all lived ++ armed_by life.fuse) told fault after → AreLivedUpTo m identity lives told fault (medium_in after.stage)
+  lived_up_to lives lived others life fault lives_are mid were_lived cause stop = record {
     lived = lived;
     life = life;
     rest = others;
     lives_are = lives_are;
-    one_each = one_each;
+    at = mid;
+    were_lived = were_lived;
+    cause = cause;
     refusals = stop.refusals;
     refused = stop.refused;
     stops = stops;

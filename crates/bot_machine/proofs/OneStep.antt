@@ -9,7 +9,7 @@ use Rattle.wrappers.specs.Cases.{IsCase, size_of_way}
 use Rattle.wrappers.specs.Command.{SpellsCommand}
 use Rattle.wrappers.proofs.CommandWrappers.{one_wrapper}
 use Rattle.wrappers.proofs.ThirteenCases.{one_case}
-use Rattle.blocks.specs.Book.{StampsOut}
+use Rattle.scsi_unit.specs.Books.{StampsOut}
 use Rattle.scsi_unit.specs.Rules.{UnitState, intention, CarriesOut, Ticks, write_in_progress, with_progress}
 use Rattle.bot_machine.specs.declared.event.Event.{Event}
 use Rattle.bot_machine.specs.declared.event.Event.TheVariants as event

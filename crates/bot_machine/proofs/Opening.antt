@@ -2,7 +2,7 @@
 use Rattle.std.proofs.Common.{◌≡◌, ◌∙◌, ℕ, Bool, List, [], sym, ap, subst, refl}
 use Rattle.std.specs.Prelude.{None}
 use Rattle.medium.specs.Medium.{State}
-use Rattle.blocks.specs.Book.{Book}
+use Rattle.scsi_unit.specs.Books.{Book}
 use Rattle.wrappers.specs.Cases.{IsCase}
 use Rattle.scsi_unit.specs.Rules.{UnitState, CarriesOut, Ticks, intention, write_in_progress}
 use Rattle.scsi_unit.specs.UnitValue.{UnitValue, state_of, FitsUnit}
@@ -13,14 +13,14 @@ use Rattle.bot_machine.specs.Acts.{CarriesOutAtOnce}
 use Rattle.bot_machine.specs.declared.exchange.Exchange.{Exchange}
 use Rattle.bot_machine.specs.Disk.{on_line}
 use Rattle.bot_machine.specs.Serving.{IsBegun}
-use Rattle.bot_machine.proofs.UnitLaws.{intention-fits, writes_none}
+use Rattle.bot_machine.proofs.UnitLaws.{intends_by_book, writes_none}
 use Rattle.bot_machine.proofs.Cases.{at_once-takes_none}
 
 -- a unit and a book that it fits, and the exchange that a packet begins
 module _ {M : Type 0} (m : State) (unit : UnitValue M) (book : Book) (fits : FitsUnit m unit book)
     (packet : List ℕ) (exchange : Exchange) (begun : IsBegun unit packet exchange) where
   intends : Intends (state_of unit book) exchange.command.block.items exchange.intended
-  intends = begun.intended ∙ ap way_of (sym (intention-fits m unit book exchange.command.block.items fits))
+  intends = begun.intended ∙ ap way_of (intends_by_book m unit book exchange.command.block.items fits)
 
   -- what the case begins, the packet opens
   pub opens : (refused : Bool) (line : Line) (new : Conversation UnitState)

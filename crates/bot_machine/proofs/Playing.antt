@@ -1,15 +1,14 @@
 -- Lives go on: one run of actions after another.
-use Rattle.std.proofs.Common.{◌≡◌, ℕ, ◌+◌, ◌≤◌, ◌<◌, Bool, true, false, List, [], ◌∷◌, ◌++◌, length, length-append, refl, sym, subst, ◌∙◌, ap, arith, append_assoc}
+use Rattle.std.proofs.Common.{◌≡◌, ℕ, ◌+◌, ◌≤◌, Bool, true, false, List, [], ◌∷◌, ◌++◌, length-append, refl, sym, subst, ◌∙◌, ap, arith, append_assoc}
 use Rattle.std.proofs.lemmas.List.{append-nil}
-use Rattle.pages.specs.Identification.{Identification}
-use Rattle.medium.specs.Medium.{State}
-use Rattle.recovery.specs.declared.start_fault.StartFault.{StartFault}
-use Rattle.recovery.specs.declared.start_fault.StartFault.TheVariants.{NoMemory, Read, Write, Flush, BadSuper, BadVersion, BadSize, BadHead, StampsUsedUp}
-use Rattle.blocks.specs.Book.{Book}
+use Rattle.scsi_unit.specs.Identification.{Identification}
+use Rattle.scsi_unit.specs.StartFaults.{StartFault}
+use Rattle.scsi_unit.specs.StartFaults.{NoMemory, Read, Write, Flush, BadSuper, BadVersion, BadSize, BadHead, StampsUsedUp}
+use Rattle.scsi_unit.specs.Books.{Book}
 use Rattle.bot_machine.specs.declared.event.Answer.{Answer}
 use Rattle.bot_machine.specs.Answers.{Room}
 use Rattle.bot_machine.specs.Conversation.{refused_events}
-use Rattle.bot_machine.specs.Lives.{Action, starts, Standing, LivesStep, LivesRun}
+use Rattle.bot_machine.specs.Lives.{Action, starts, Standing, LivesRun}
 use Rattle.bot_machine.specs.Lifetimes.{AppendsFor}
 use Rattle.bot_machine.specs.LivesValue.{LivesValue, state_in, FitsLives, LivesGoTo, LivesGoOn, MayRefuse, LivesStopAt, LivesStop}
 

@@ -5,8 +5,8 @@ use Rattle.medium.specs.Blocks.{Write}
 use Rattle.medium.specs.Medium.{State, IsSound}
 use Rattle.medium.specs.Moments.{LeavesOnly}
 use Rattle.medium.proofs.Moments.{started}
-use Rattle.blocks.specs.Book.{Book}
-use Rattle.blocks.specs.Finding.{MayFind, FoundWith}
+use Rattle.scsi_unit.specs.Books.{Book}
+use Rattle.scsi_unit.specs.Books.{MayFind, FoundWith}
 use Rattle.scsi_unit.specs.Rules.{UnitState}
 use Rattle.scsi_unit.specs.UnitValue.{UnitValue, state_of, FitsUnit}
 use Rattle.bot_machine.specs.Disk.{Proceeds}

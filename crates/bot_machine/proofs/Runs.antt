@@ -6,8 +6,8 @@ use Rattle.bot_machine.specs.declared.event.Event.{Event}
 use Rattle.bot_machine.specs.declared.event.Answer.{Answer}
 use Rattle.medium.specs.Medium.{State, Image, IsSound}
 use Rattle.medium.proofs.Moments.{started, joined, weaker}
-use Rattle.blocks.specs.Book.{Book}
-use Rattle.blocks.specs.Finding.{FoundWith}
+use Rattle.scsi_unit.specs.Books.{Book}
+use Rattle.scsi_unit.specs.Books.{FoundWith}
 use Rattle.scsi_unit.specs.Rules.{UnitState, CarriesOut, Ticks}
 use Rattle.scsi_unit.specs.Serving.{has_refused}
 use Rattle.bot_machine.specs.Intentions.{Intends}

@@ -3,8 +3,8 @@ use Rattle.std.proofs.Common.{◌≡◌, ℕ, Bool, true, false, List, [], slice
 use Rattle.std.specs.Prelude.{None, Option, Result}
 use Rattle.wrappers.specs.declared.case.Endpoint.{Endpoint}
 use Rattle.medium.specs.Medium.{State, IsSound}
-use Rattle.sense.specs.declared.codes.Sense.{Sense}
-use Rattle.blocks.specs.Book.{Book}
+use Rattle.scsi_unit.specs.Rules.{Sense}
+use Rattle.scsi_unit.specs.Books.{Book}
 use Rattle.scsi_unit.specs.Rules.{CarriesOut, Ticks}
 use Rattle.scsi_unit.specs.Serving.{has_refused, IsSparing, TicksOver}
 use Rattle.scsi_unit.specs.UnitValue.{state_of}

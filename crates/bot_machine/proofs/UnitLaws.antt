@@ -1,29 +1,11 @@
 -- What the laws of the unit say of the commands and steps that a disk has it do.
-use Rattle.std.proofs.Common.{◌≡◌, ◌≢◌, ℕ, Bool, true, false, List, None, sym, ap}
+use Rattle.std.proofs.Common.{◌≡◌, ◌≢◌, ℕ, false, Bool, List, None}
 use Rattle.std.specs.Prelude.{Result}
-use Rattle.medium.specs.Medium.{State}
-use Rattle.medium.specs.Moments.{EachCut}
-use Rattle.sense.specs.declared.codes.Sense.{Sense}
-use Rattle.blocks.specs.Book.{Book, StampsOut}
-use Rattle.blocks.specs.Finding.{MayFind}
-use Rattle.blocks.specs.StoreValue.{is_dead}
+use Rattle.scsi_unit.specs.Books.{StampsOut}
 use Rattle.scsi_unit.specs.declared.intent.Intent.TheVariants as intent
-use Rattle.scsi_unit.specs.Rules.{UnitState, intention_by, intention, CarriesOut, Ticks, write_in_progress, with_progress}
-use Rattle.scsi_unit.specs.UnitValue.{UnitValue, state_of, FitsUnit, intention_of}
-use Rattle.scsi_unit.proofs.Resting.{exits}
-use Rattle.scsi_unit.proofs.Outcomes.{is_function, keeps_writes, ticks_only}
-use Rattle.scsi_unit.proofs.Intentions.{keeps_intentions}
-
--- between two calls a cut leaves what may be found of a book that the unit fits
-pub between_calls : {M : Type 0} (m : State) (unit : UnitValue M) (book : Book) → FitsUnit m unit book
-    → book.ours ≡ true → EachCut (MayFind m.size book) m
-between_calls m unit book fits ours = exits m unit book fits ours
-
--- what the unit intends is what its state with any book that it fits does
-pub intention-fits : {M : Type 0} (m : State) (unit : UnitValue M) (book : Book) (block : List ℕ)
-    → FitsUnit m unit book → intention (state_of unit book) block ≡ intention_of unit block
-intention-fits m unit book block fits =
-    ap (λ n. intention_by n unit.kept.attention (is_dead unit.store.cached) block) (sym fits.blocks)
+use Rattle.scsi_unit.specs.Rules.{Sense, UnitState, intention, CarriesOut, Ticks, write_in_progress, with_progress}
+use Rattle.scsi_unit.proofs.UnitLaws.{is_function, keeps_writes, keeps_intentions, ticks_only}
+pub use Rattle.scsi_unit.proofs.UnitLaws.{between_calls, intends_by_book, knows_images}
 
 -- a command leaves it as it was whether every image was ours when the life began
 pub ours_stay : (refused : Bool) (block taken : List ℕ) (old new : UnitState)

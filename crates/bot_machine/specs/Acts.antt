@@ -1,5 +1,6 @@
 -- What an event has the unit do: carry out a command, or make a step in the background.
-use Rattle.std.specs.Prelude.{◌≡◌, ⊤, ◌≤◌, ℕ, ◌==◌, ◌&&◌, nat_le, Bool, true, false, if◌then◌else◌, List, [], ◌++◌, length, take, Option, None}
+use Rattle.std.specs.Prelude.{◌≡◌, ⊤, ◌≤◌, ℕ, ◌==◌, ◌&&◌, nat_le, Bool, true, false, if◌then◌else◌, List}
+use Rattle.std.specs.Prelude.{[], ◌++◌, length, take, Option, None}
 use Rattle.medium.specs.Blocks.{Write}
 use Rattle.wrappers.specs.declared.command.Cbw.{Cbw}
 use Rattle.wrappers.specs.declared.way.Way.{Way}
@@ -51,7 +52,8 @@ EventCarriesOut s event.Tick block taken = ⊥
 
 -- an event has the unit do something
 abbrev pub Acts : Conversation UnitState → Event → Type 0
-Acts s (event.Out packet) = (block : List ℕ) × (taken : List ℕ) × EventCarriesOut s (event.Out packet) block taken
+Acts s (event.Out packet) =
+    (block : List ℕ) × (taken : List ℕ) × EventCarriesOut s (event.Out packet) block taken
 Acts s event.In = ⊥
 Acts s (event.Setup packet) = ⊥
 Acts s event.Tick = ⊤

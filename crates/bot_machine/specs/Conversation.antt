@@ -1,6 +1,7 @@
 -- The conversation of a host and a disk:
 -- the events matched in order against the exchanges that the wrappers begin.
-use Rattle.std.specs.Prelude.{◌≡◌, ◌≢◌, ◌⊎◌, ◌<◌, ◌≤◌, ℕ, ◌+◌, ◌-◌, min, Bool, true, false, List, [], ◌∷◌, ◌++◌, length, take, None, Result, IfOk}
+use Rattle.std.specs.Prelude.{◌≡◌, ◌≢◌, ◌⊎◌, ◌<◌, ◌≤◌, ℕ, ◌+◌, ◌-◌, min, Bool, true, false, List, []}
+use Rattle.std.specs.Prelude.{◌∷◌, ◌++◌, length, take, None, Result, IfOk}
 use Rattle.wrappers.specs.declared.command.Cbw.{Cbw}
 use Rattle.wrappers.specs.declared.way.Way.{Way}
 use Rattle.wrappers.specs.declared.way.Way.TheVariants as ways
@@ -14,7 +15,9 @@ use Rattle.bot_machine.specs.declared.event.Event.TheVariants as event
 use Rattle.bot_machine.specs.declared.event.Answer.{Answer}
 use Rattle.bot_machine.specs.declared.event.Answer.TheVariants.{Ack, Nak, Stall, Ticked}
 use Rattle.bot_machine.specs.Requests.{Request, setup_packet}
-use Rattle.bot_machine.specs.Exchange.{Script, finished, taking, sending, Line, laid_out, in_answer, after_in, request_answer, after_request, Moment, at_once, after_data, never, moment_of, told, told_at_once}
+use Rattle.bot_machine.specs.Exchange.{Script, finished, taking, sending, Line, laid_out, in_answer}
+use Rattle.bot_machine.specs.Exchange.{after_in, request_answer, after_request, Moment, at_once}
+use Rattle.bot_machine.specs.Exchange.{after_data, never, moment_of, told, told_at_once}
 
 -- the line to the host, and the state of the unit behind it
 pub record Conversation (S : Type 0) : Type 0 where

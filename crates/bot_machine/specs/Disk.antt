@@ -3,9 +3,9 @@ use Rattle.std.specs.Prelude.{◌≡◌, ◌≤◌, ◌⊎◌, ℕ, ◌+◌, Boo
 use Rattle.medium.specs.Blocks.{Write}
 use Rattle.medium.specs.Medium.{State, Image}
 use Rattle.medium.specs.Moments.{LeavesOnly, EachCut}
-use Rattle.sense.specs.declared.codes.Sense.{Sense}
-use Rattle.blocks.specs.Book.{Book}
-use Rattle.blocks.specs.Finding.{MayFind, FoundWith}
+use Rattle.scsi_unit.specs.Rules.{Sense}
+use Rattle.scsi_unit.specs.Books.{Book}
+use Rattle.scsi_unit.specs.Books.{MayFind, FoundWith}
 use Rattle.scsi_unit.specs.Rules.{UnitState, CarriesOut, Ticks}
 use Rattle.scsi_unit.specs.Serving.{has_refused, IsSparing}
 use Rattle.scsi_unit.specs.UnitValue.{UnitValue, state_of, FitsUnit}

@@ -1,10 +1,12 @@
 -- The exchange of a command, laid out at once, and the line to the host that it goes over
 -- (Bulk-Only Transport 1.0, 5 and 6).
-use Rattle.std.specs.Prelude.{ℕ, Bool, true, false, if◌then◌else◌, List, [], ◌∷◌, Option, Some, None, Result, Ok, Err}
+use Rattle.std.specs.Prelude.{ℕ, Bool, true, false, if◌then◌else◌, List, [], ◌∷◌, Option, Some, None}
+use Rattle.std.specs.Prelude.{Result, Ok, Err}
 use Rattle.wrappers.specs.declared.command.Cbw.{Cbw}
 use Rattle.wrappers.specs.declared.way.Way.{Way}
 use Rattle.wrappers.specs.declared.case.Case.{Case}
-use Rattle.wrappers.specs.declared.case.Case.TheVariants.{C1, C2, C3, C4, C5, C6, C7, C8, C9, C10, C11, C12, C13}
+use Rattle.wrappers.specs.declared.case.Case.TheVariants.{C1, C2, C3, C4, C5, C6, C7, C8, C9, C10, C11}
+use Rattle.wrappers.specs.declared.case.Case.TheVariants.{C12, C13}
 use Rattle.wrappers.specs.declared.case.Endpoint.{Endpoint}
 use Rattle.wrappers.specs.declared.case.Endpoint.TheVariants as endpoint
 use Rattle.wrappers.specs.declared.case.Outcome.{Outcome}

@@ -1,3 +1,10 @@
+-- Words of which the public contracts speak, handed on to the layers above.
+pub use Rattle.scsi_unit.specs.Books
+pub use Rattle.scsi_unit.specs.Identification
+pub use Rattle.scsi_unit.specs.StartFaults
+pub use Rattle.scsi_unit.specs.Starting
+pub use Rattle.scsi_unit.specs.Rules
+pub use Rattle.scsi_unit.specs.UnitValue
 pub mod Packets
 pub mod Requests
 pub mod Exchange

@@ -1,17 +1,20 @@
 -- Whole lives, told at once.
-use Rattle.std.specs.Prelude.{◌≡◌, ℕ, ◌+◌, ◌≤◌, Bool, true, false, List, [], ◌∷◌, ◌++◌, map, length, sum_by, Option, None, Some}
+use Rattle.std.specs.Prelude.{◌≡◌, ℕ, ◌+◌, ◌≤◌, Bool, true, false, List, [], ◌∷◌, ◌++◌, map, length}
+use Rattle.std.specs.Prelude.{sum_by, Option, None, Some}
 use Rattle.medium.specs.Moments.{EachCut}
 use Rattle.medium.specs.Sim.{Sim, state_of}
 use Rattle.medium.specs.Writes.{keeps}
-use Rattle.recovery.specs.declared.start_fault.StartFault.{StartFault}
-use Rattle.pages.specs.Identification.{Identification}
-use Rattle.blocks.specs.Book.{Book}
-use Rattle.blocks.specs.Finding.{MayFind}
+use Rattle.scsi_unit.specs.StartFaults.{StartFault}
+use Rattle.scsi_unit.specs.Identification.{Identification}
+use Rattle.scsi_unit.specs.Books.{Book}
+use Rattle.scsi_unit.specs.Books.{MayFind}
 use Rattle.bot_machine.specs.declared.event.Answer.{Answer}
 use Rattle.bot_machine.specs.declared.life.Life.{Life}
 use Rattle.bot_machine.specs.Answers.{Room}
 use Rattle.bot_machine.specs.Conversation.{refused_events}
-use Rattle.bot_machine.specs.Lives.{Action, arms, starts, plays, cuts, Place, before_first, Standing, Opens, LivesRun}
+use Rattle.bot_machine.specs.Opening.{IsNotOpened}
+use Rattle.bot_machine.specs.Lives.{Action, arms, starts, plays, cuts, before_first, Standing}
+use Rattle.bot_machine.specs.Lives.{Opens, LivesRun}
 use Rattle.bot_machine.specs.LivesValue.{LivesValue, LivesGoOn, IsAtRest, OpensOn, FoundAt, MayRefuse}
 
 -- what is done before the start of a life
@@ -79,15 +82,17 @@ pub record StopsIn (identity : Identification) (book : Book) (actions : List Act
   pub cause : book.ours ≡ true → MayRefuse next counted (state_of after).failures fault
   pub found : book.ours ≡ true → EachCut (MayFind (state_of after).size next) (state_of after)
 
--- The first of these lives were lived, and their answers told. The start of the one after them was
--- refused with this fault, though power did not go in it.
+-- The first of these lives were lived, and left a medium in this state. The start of the one after them
+-- was refused with this fault, though power did not go in it: why, whatever the medium held at first.
 pub record AreLivedUpTo (before : Sim) (identity : Identification) (lives : List Life)
     (told : List Answer) (fault : StartFault) (after : Sim) : Type 0 where
   pub lived : List Life
   pub life : Life
   pub rest : List Life
   pub lives_are : lives ≡ lived ++ life ∷ rest
-  pub one_each : length told ≡ events_in lived
+  pub at : Sim
+  pub were_lived : AreLived before identity lived told at
+  pub cause : IsNotOpened (state_of at) (state_of after) fault
   pub refusals : List Bool
   pub refused : refused_events refusals + (state_of before).failures ≤ (state_of after).failures
   pub stops : (book : Book) → OpensOn (state_of before) book → StopsIn identity book

@@ -1,10 +1,11 @@
 -- Lives of a disk: each opens with a start, and ends with a loss of power.
 -- They are told by books and conversations alone: an array, whole writes to it, and what a host and a
 -- disk say to one another.
-use Rattle.std.specs.Prelude.{◌≡◌, ◌⊎◌, ℕ, ◌+◌, ◌≤◌, Bool, true, false, List, [], ◌∷◌, ◌++◌, length, Option, None}
+use Rattle.std.specs.Prelude.{◌≡◌, ◌⊎◌, ℕ, ◌+◌, ◌≤◌, Bool, true, false, List, [], ◌∷◌, ◌++◌, length}
+use Rattle.std.specs.Prelude.{Option, None}
 use Rattle.medium.specs.Blocks.{Write}
-use Rattle.pages.specs.Identification.{Identification}
-use Rattle.blocks.specs.Book.{Book, after_first, opened}
+use Rattle.scsi_unit.specs.Identification.{Identification}
+use Rattle.scsi_unit.specs.Books.{Book, after_first, opened}
 use Rattle.scsi_unit.specs.Rules.{UnitState, opened_unit, with_progress}
 use Rattle.bot_machine.specs.declared.event.Event.{Event}
 use Rattle.bot_machine.specs.declared.event.Answer.{Answer}

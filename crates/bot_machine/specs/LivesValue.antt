@@ -3,14 +3,13 @@ use Rattle.std.specs.Prelude.{◌≡◌, ℕ, ◌+◌, ◌^◌, ◌≤◌, ◌<�
 use Rattle.medium.specs.Medium.{State, Image}
 use Rattle.medium.specs.Moments.{EachCut}
 use Rattle.medium.specs.Sim.{Sim, state_of}
-use Rattle.log_layout.specs.Places.{Shape}
-use Rattle.log_layout.specs.Standing.{StandsFor, Stands}
-use Rattle.recovery.specs.Recovered.{IsOursForSome}
-use Rattle.recovery.specs.declared.start_fault.StartFault.{StartFault}
-use Rattle.recovery.specs.declared.start_fault.StartFault.TheVariants.{NoMemory, Read, Write, Flush, BadSuper, BadVersion, BadSize, BadHead, StampsUsedUp}
-use Rattle.pages.specs.Identification.{Identification}
-use Rattle.blocks.specs.Book.{Book, opened}
-use Rattle.blocks.specs.Finding.{StandsAs, MayFind, FoundWith}
+use Rattle.scsi_unit.specs.StartFaults.{StartFault, NoMemory, Read, Write, Flush}
+use Rattle.scsi_unit.specs.StartFaults.{BadSuper, BadVersion, BadSize, BadHead, StampsUsedUp}
+use Rattle.scsi_unit.specs.Starting.{Stands}
+-- a first life over a medium opens with a book as its unit does
+pub use Rattle.scsi_unit.specs.Starting.{OpensOn}
+use Rattle.scsi_unit.specs.Identification.{Identification}
+use Rattle.scsi_unit.specs.Books.{Book, StandsAs, MayFind, FoundWith}
 use Rattle.scsi_unit.specs.Rules.{UnitState}
 use Rattle.bot_machine.specs.declared.event.Answer.{Answer}
 use Rattle.bot_machine.specs.declared.stage.Stage.{Stage}
@@ -18,7 +17,8 @@ use Rattle.bot_machine.specs.declared.stage.Stage.TheVariants.{Rests, Runs}
 use Rattle.bot_machine.specs.Conversation.{Conversation, refused_events}
 use Rattle.bot_machine.specs.Disk.{DiskValue, over, FitsDisk}
 use Rattle.bot_machine.specs.Opening.{IsNotOpened}
-use Rattle.bot_machine.specs.Lives.{Action, Place, before_first, between, runs, off, Standing, Opens, LivesRun}
+use Rattle.bot_machine.specs.Lives.{Action, Place, before_first, between, runs, off, Standing, Opens}
+use Rattle.bot_machine.specs.Lives.{LivesRun}
 
 -- what is seen of lives: who the disk is, and its medium, with the disk where one runs
 pub record LivesValue : Type 0 where
@@ -48,15 +48,6 @@ pub record HasBegun (old new : Stage) : Type 0 where
 pub record IsAtRest (medium : Sim) : Type 0 where
   pub on : medium.power.off ≡ false
   pub flushed : medium.unflushed ≡ []
-
--- A first life over a medium opens with this book: the contents stand for its blocks and its next
--- stamp. Where the book says so, every image that a cut may leave is ours.
-pub record OpensOn (m : State) (book : Book) : Type 0 where
-  pub opens : book ≡ opened book.blocks book.opening book.stamp book.ours
-  pub slots : ℕ
-  pub stands : StandsFor m.size (record { blocks = book.blocks; slots = slots }) m.content
-      book.opening book.stamp
-  pub ours : book.ours ≡ true → EachCut (IsOursForSome m.size) m
 
 -- a disk is in this conversation, and fits its book
 pub record Converses (disk : DiskValue Sim) (conversation : Conversation UnitState) : Type 0 where

@@ -5,7 +5,15 @@ use Rattle.medium.specs.Refusals.{none}
 use Rattle.bot_machine.specs.declared.stage.Stage.{Stage}
 use Rattle.bot_machine.specs.declared.stage.Stage.TheVariants.{Rests}
 
--- a medium of no sectors, where none is kept; that is so within a call alone
+-- a medium that holds nothing, where none is kept; that is so within a call alone
 abbrev pub stage_in : Option Stage → Stage
-stage_in None = Rests (record { flushed = []; unflushed = []; room = 0; power = powered; flushes = 0; calls = 0; refused = none })
+stage_in None = Rests (record {
+  flushed = [];
+  unflushed = [];
+  room = 0;
+  power = powered;
+  flushes = 0;
+  calls = 0;
+  refused = none;
+})
 stage_in (Some stage) = stage

@@ -1,5 +1,6 @@
 -- What the disk's fields stand for.
-use Rattle.std.specs.Prelude.{◌≡◌, ⊤, ◌≤◌, ◌<◌, ℕ, ◌-◌, min, Bool, true, false, List, [], take, length, slice_range, Option, Some, None}
+use Rattle.std.specs.Prelude.{◌≡◌, ⊤, ◌≤◌, ◌<◌, ℕ, ◌-◌, min, Bool, true, false, List, [], take, length}
+use Rattle.std.specs.Prelude.{slice_range, Option, Some, None}
 use Rattle.wrappers.specs.declared.case.Case.{Case}
 use Rattle.wrappers.specs.declared.case.Case.TheVariants.{C5, C6}
 use Rattle.wrappers.specs.declared.case.Endpoint.{Endpoint}
@@ -10,14 +11,16 @@ use Rattle.scsi_unit.specs.declared.intent.Intent.TheVariants as intent
 use Rattle.bot_machine.specs.declared.exchange.When.{When}
 use Rattle.bot_machine.specs.declared.exchange.When.TheVariants.{AtOnce, AfterData, Never}
 use Rattle.bot_machine.specs.declared.request.ControlRequest.{ControlRequest}
-use Rattle.bot_machine.specs.declared.request.ControlRequest.TheVariants.{MassStorageReset, GetMaxLun, ClearHalt, GetStatus}
+use Rattle.bot_machine.specs.declared.request.ControlRequest.TheVariants.{MassStorageReset, GetMaxLun}
+use Rattle.bot_machine.specs.declared.request.ControlRequest.TheVariants.{ClearHalt, GetStatus}
 use Rattle.bot_machine.specs.declared.wire.Taking.{Taking}
 use Rattle.bot_machine.specs.declared.wire.Phase.{Phase}
 use Rattle.bot_machine.specs.declared.wire.Phase.TheVariants.{Command, DataOut, DataIn, Status}
 use Rattle.bot_machine.specs.declared.wire.Wire.{Wire}
 use Rattle.bot_machine.specs.Packets.{packets_of}
 use Rattle.bot_machine.specs.Requests.{Request, mass_storage_reset, get_max_lun, clear_halt, get_status}
-use Rattle.bot_machine.specs.Exchange.{Script, Line, finished, taking, sending, Moment, at_once, after_data, never, moment_of}
+use Rattle.bot_machine.specs.Exchange.{Script, Line, finished, taking, sending, Moment, at_once}
+use Rattle.bot_machine.specs.Exchange.{after_data, never, moment_of}
 
 -- the halt that is still to come
 abbrev pub halt_of : Bool → Option Endpoint
@@ -57,7 +60,8 @@ pub record IsTaking (intention : List ℕ → Intent) (t : Taking) : Type 0 wher
   pub some_due : 0 < t.due
   pub within : t.due ≤ size_of_way t.exchange.command.host
   pub room : size_of_way t.exchange.intended ≤ 24576
-  pub filled_is : t.filled ≡ min (size_of_way t.exchange.intended) (size_of_way t.exchange.command.host - t.due)
+  pub filled_is : t.filled
+      ≡ min (size_of_way t.exchange.intended) (size_of_way t.exchange.command.host - t.due)
   pub intended : (n : ℕ) → intention t.exchange.command.block.items ≡ intent.Out n
       → size_of_way t.exchange.intended ≡ n
 

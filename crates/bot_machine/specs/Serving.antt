@@ -6,8 +6,8 @@ use Rattle.wrappers.specs.declared.way.Way.TheVariants as ways
 use Rattle.wrappers.specs.Command.{SpellsCommand}
 use Rattle.wrappers.specs.Cases.{IsCase}
 use Rattle.medium.specs.Medium.{State}
-use Rattle.sense.specs.declared.codes.Sense.{Sense}
-use Rattle.blocks.specs.Book.{Book}
+use Rattle.scsi_unit.specs.Rules.{Sense}
+use Rattle.scsi_unit.specs.Books.{Book}
 use Rattle.scsi_unit.specs.Rules.{CarriesOut, Ticks, write_in_progress}
 use Rattle.scsi_unit.specs.Serving.{has_refused, IsSparing}
 use Rattle.scsi_unit.specs.UnitValue.{UnitValue, state_of, FitsUnit, intention_of}

@@ -1,6 +1,6 @@
 -- Steps in the background may be struck: a host sees nothing of them.
 use Rattle.std.specs.Prelude.{◌≡◌, ⊤, Bool, false, List, [], ◌∷◌}
-use Rattle.blocks.specs.Book.{StampsOut}
+use Rattle.scsi_unit.specs.Books.{StampsOut}
 use Rattle.scsi_unit.specs.Rules.{UnitState, with_progress}
 use Rattle.bot_machine.specs.declared.event.Event.{Event}
 use Rattle.bot_machine.specs.declared.event.Event.TheVariants as event
@@ -19,9 +19,12 @@ without_ticks (event.Tick ∷ events) = without_ticks events
 
 -- the answers to these
 abbrev pub answers_without_ticks : List Event → List Answer → List Answer
-answers_without_ticks (event.Out packet ∷ events) (answer ∷ answers) = answer ∷ answers_without_ticks events answers
-answers_without_ticks (event.In ∷ events) (answer ∷ answers) = answer ∷ answers_without_ticks events answers
-answers_without_ticks (event.Setup packet ∷ events) (answer ∷ answers) = answer ∷ answers_without_ticks events answers
+answers_without_ticks (event.Out packet ∷ events) (answer ∷ answers) =
+    answer ∷ answers_without_ticks events answers
+answers_without_ticks (event.In ∷ events) (answer ∷ answers) =
+    answer ∷ answers_without_ticks events answers
+answers_without_ticks (event.Setup packet ∷ events) (answer ∷ answers) =
+    answer ∷ answers_without_ticks events answers
 answers_without_ticks (event.Tick ∷ events) (answer ∷ answers) = answers_without_ticks events answers
 answers_without_ticks events answers = []
 

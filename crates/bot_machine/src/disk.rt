@@ -3,8 +3,8 @@ ghost use Rattle.std.specs.Prelude.{⊤, ◌≡◌, ◌≤◌, ◌<◌, true, le
 ghost use Rattle.std.specs.Borrow.{sem, follows_so};
 ghost use mathlib.Core.Option.{none};
 ghost use Rattle.medium.specs.Moments.{EachCut, IsUnchanged};
-ghost use Rattle.blocks.specs.Book.{Book};
-ghost use Rattle.blocks.specs.Finding.{MayFind};
+ghost use Rattle.scsi_unit.specs.Books.{Book};
+ghost use Rattle.scsi_unit.specs.Books.{MayFind};
 ghost use Rattle.scsi_unit.specs.Serving.{TicksOver};
 ghost use Rattle.bot_machine.specs.Exchange.{at_rest, in_answer, after_in};
 ghost use Rattle.bot_machine.specs.Answers.{answer_to_out, answer_to_in, answer_to_setup, IsPacket};
@@ -19,10 +19,8 @@ use crate::event::{InAnswer, OutAnswer, SetupAnswer};
 use crate::request::{ControlRequest, read_request};
 use crate::serve::{open, take_data};
 use crate::wire::{Phase, Wire};
-use blocks::{StartError, StartFault, Store};
 use medium::{Medium, Switch};
-use pages::Identity;
-use scsi_unit::Unit;
+use scsi_unit::{Identity, StartError, StartFault, Unit};
 use std::alloc::Global;
 use std::marker::Model;
 use std::mem;
@@ -80,8 +78,7 @@ impl<M: Medium> Disk<M> {
             (λ disk. M.follows medium disk.unit.store.medium)
             (λ error. M.follows medium error.medium) }
     {
-        let store = Store::start(alloc, medium)?;
-        let unit = Unit::new(store, identity);
+        let unit = Unit::start(alloc, medium, identity)?;
         let Ok(taken) = vec![in alloc; 0; ROOM] else {
             return Err(StartError {
                 fault: StartFault::NoMemory,

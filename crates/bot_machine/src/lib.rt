@@ -17,15 +17,14 @@ mod stage;
 mod wire;
 
 pub use answers::Answers;
-pub use blocks::{StartError, StartFault};
 pub use disk::Disk;
 pub use event::{Answer, Event, InAnswer, OutAnswer, SetupAnswer};
 pub use laws::conversation_laws;
 pub use life::Life;
 pub use lifetimes::run_lives;
 pub use lives::Lives;
-pub use pages::Identity;
 pub use run::{answer_to, run_events};
+pub use scsi_unit::{Identity, StartError, StartFault};
 
 #[cfg(test)]
 mod tests;

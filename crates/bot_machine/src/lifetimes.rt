@@ -1,10 +1,14 @@
 // Whole lives of a disk, one after the other.
-ghost use Rattle.std.specs.Prelude.{◌≡◌, ◌≤◌, ◌+◌, [], ◌∷◌, ◌++◌, None, List, length, map, OnOk, OnErr, IfOk, IfErr};
+ghost use Rattle.std.specs.Prelude.{◌≡◌, ◌≤◌, ◌+◌, [], ◌∷◌, ◌++◌, None, List, length, map};
+ghost use Rattle.std.specs.Prelude.{OnOk, OnErr, IfOk, IfErr, MatchOption};
+ghost use Rattle.medium.specs.Sim.{IsFused};
 ghost use Rattle.medium.specs.Writes.{keeps};
 ghost use Rattle.bot_machine.specs.declared.event.Answer.{Answer};
 ghost use Rattle.bot_machine.specs.Lives.{plays};
+ghost use Rattle.bot_machine.specs.Opening.{IsNotOpened};
 ghost use Rattle.bot_machine.specs.LivesValue.{
   medium_in,
+  state_in,
   HasStarted,
   IsAtRest,
   LivesGoOn,
@@ -78,6 +82,8 @@ fn live(
     ensures rests { OnOk result (IsAtRest (medium_in run.new.stage)) }
     ensures unfused { OnOk result ((medium_in run.new.stage).power.fuse ≡ None) }
     ensures err { IfErr result (λ fault. LivesStop run.old (armed_by life.now.fuse) [] fault run.new) }
+    ensures cause { IfErr result (λ fault.
+        IsNotOpened (state_in run.old.stage) (state_in run.new.stage) fault) }
     ensures unanswered { OnErr result (answers.new ≡ answers.old) }
 {
     arm(run, life.fuse);
@@ -89,7 +95,9 @@ fn live(
 
 // Arms the fuse of a life, if it has one.
 fn arm(run: &mut Lives, fuse: Option<u64>)
-    ensures { LivesGoOn run.old (armed_by fuse) [] run.new }
+    ensures goes_on { LivesGoOn run.old (armed_by fuse) [] run.new }
+    ensures fused { MatchOption fuse (run.new ≡ run.old) (λ writes. IsFused writes
+        (medium_in run.old.stage) (medium_in run.new.stage)) }
 {
     if let Some(writes) = fuse {
         run.fuse(writes);

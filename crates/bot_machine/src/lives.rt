@@ -2,7 +2,7 @@
 ghost use Rattle.std.specs.Prelude.{◌≡◌, ◌↔◌, [], ◌∷◌, None, true, false, OnOk, IfOk, IfErr};
 ghost use Rattle.medium.specs.Sim.{state_of, IsCut, IsFused, ComesAfter};
 ghost use Rattle.medium.specs.Writes.{keeps};
-ghost use Rattle.blocks.specs.Book.{Book};
+ghost use Rattle.scsi_unit.specs.Books.{Book};
 ghost use Rattle.bot_machine.specs.Lives.{starts, plays, cuts, arms, before_first};
 
 use crate::event::{Answer, Event};

@@ -4,7 +4,7 @@ ghost use Rattle.std.specs.Prelude.{length, min, take};
 ghost use Rattle.wrappers.specs.Cases.{IsCase};
 ghost use Rattle.wrappers.specs.Command.{SpellsNone};
 ghost use Rattle.wrappers.specs.declared.way.Way.TheVariants as ways;
-ghost use Rattle.sense.specs.declared.codes.Sense.{Sense};
+ghost use Rattle.scsi_unit.specs.Rules.{Sense};
 ghost use Rattle.scsi_unit.specs.Serving.{IsSparing};
 ghost use Rattle.scsi_unit.specs.UnitValue.{intention_of};
 ghost use Rattle.bot_machine.specs.Disk.{Elapses};

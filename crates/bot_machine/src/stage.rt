@@ -2,7 +2,7 @@
 ghost use Rattle.std.specs.Prelude.{◌≡◌, ◌↔◌, [], ◌∷◌, true, IfOk, IfErr, MatchResult};
 ghost use Rattle.medium.specs.Sim.{IsCut, IsFused, ComesAfter};
 ghost use Rattle.medium.specs.Writes.{keeps};
-ghost use Rattle.pages.specs.Identification.{Identification};
+ghost use Rattle.scsi_unit.specs.Identification.{Identification};
 ghost use Rattle.bot_machine.specs.Lives.{starts, plays, cuts, arms};
 ghost use Rattle.bot_machine.specs.LivesValue.{
   medium_in,

@@ -1,11 +1,17 @@
 // Exchanges of a host with a disk over a formatted medium in memory, byte by byte.
-ghost use Rattle.std.specs.Prelude.{◌≤◌, length};
+ghost use Rattle.std.specs.Prelude.{◌≡◌, ◌≤◌, None, length, IfOk};
+ghost use Rattle.bot_machine.specs.LivesValue.{IsAtRest};
 
 use crate::{Answer, Answers, Disk, Event, Identity, StartFault, answer_to, run_events};
 use arrayvec::ArrayVec;
 use medium::{Kept, Medium, SimMedium, Switch};
-use recovery::format;
 use std::test::Fail;
+
+// The first two sectors of an image of 16 blocks and two slots of the log, before their zeros.
+const SUPER: &[u8; 48] =
+    b"RDSUPER1\x01\0\0\0\0\0\0\0\x10\0\0\0\0\0\0\0\x02\0\0\0\0\0\0\0\x02\0\0\0\0\0\0\0\x66\0\0\0\0\0\0\0";
+
+const HEAD: &[u8; 16] = b"RDHEAD01\x01\0\0\0\0\0\0\0";
 
 const RESET: [u8; 8] = [0x21, 0xff, 0, 0, 0, 0, 0, 0];
 
@@ -32,7 +38,7 @@ fn forced_write_of(block: u8) -> [u8; 10] {
     [0x2a, 0x08, 0, 0, 0, block, 0, 0, 1, 0]
 }
 
-fn identity() -> Result<Identity, Fail> {
+pub(crate) fn identity() -> Result<Identity, Fail> {
     let identity = Identity::new(
         *b"USBDISK ",
         *b"POWER SAFE DISK ",
@@ -42,12 +48,19 @@ fn identity() -> Result<Identity, Fail> {
     Ok(identity.ok_or("not printable")?)
 }
 
-// A medium of 16 blocks and one log slot, formatted.
-fn formatted(rt: HostRuntime) -> Result<SimMedium, Fail> {
-    let image = vec![in rt.alloc(); 0u8; 68 * 512]?;
-    let mut medium = SimMedium::new(rt.alloc(), image, 128)?;
-    format(&mut medium, 16, 1)?;
-    Ok(medium)
+// A medium of 16 blocks of zeros.
+pub(crate) fn formatted(rt: HostRuntime) -> Result<SimMedium, Fail>
+    ensures rests { IfOk result IsAtRest }
+    ensures unfused { IfOk result (λ m. m.power.fuse ≡ None) }
+{
+    let mut image = vec![in rt.alloc(); 0u8; 118 * 512]?;
+    for (to, from) in image.iter_mut().zip(SUPER.iter()) {
+        *to = *from;
+    }
+    for (to, from) in image.iter_mut().skip(512).zip(HEAD.iter()) {
+        *to = *from;
+    }
+    Ok(SimMedium::new(rt.alloc(), image, 128)?)
 }
 
 // A disk whose unit attention of the power on has ended with a REQUEST SENSE.

@@ -3,6 +3,7 @@ use Rattle.std.proofs.Common.{◌≡◌, ◌<◌, ◌^◌, ℕ, refl, subst, ari
 use Rattle.medium.specs.Medium.{State, Image}
 use Rattle.medium.specs.Moments.{IsQuiet}
 use Rattle.medium.specs.Blocks.{Array}
+use Rattle.medium.specs.declared.fault.MediumFault.{MediumFault}
 use Rattle.medium.specs.declared.fault.MediumFault.TheVariants as medium
 use Rattle.medium.proofs.Moments.{quiet_joined}
 use Rattle.log_layout.specs.Places.{Shape}
@@ -11,7 +12,7 @@ use Rattle.log_layout.specs.Values.{shape_of}
 use Rattle.log_layout.specs.ImageFaults as image
 use Rattle.log_layout.proofs.StandingLaws.{StandsFor-one}
 use Rattle.log_layout.proofs.FaultLaws.{HasFault-stands}
-use Rattle.recovery.specs.Causes.{IsCause, IsDeviceFault}
+use Rattle.recovery.specs.Causes.{IsRefusedCall, IsCause, IsDeviceFault}
 use Rattle.recovery.specs.Recovered.{IsRecoveredFrom}
 use Rattle.recovery.specs.declared.recovered.Recovered.{Recovered}
 use Rattle.recovery.specs.declared.start_fault.StartFault.{StartFault}
@@ -27,12 +28,15 @@ module _ (old mid new : State) (quiet : IsQuiet old mid) where
   none_left_before : image.HasNoStampLeft mid.size mid.content → image.HasNoStampLeft old.size old.content
   none_left_before h = subst (λ (n : ℕ). image.HasNoStampLeft n old.content) quiet.size_stays (subst (λ (i : Image). image.HasNoStampLeft mid.size i) same h)
 
+  refused_before : (kind : MediumFault) → IsRefusedCall mid new kind → IsRefusedCall old new kind
+  refused_before kind h = let stays = quiet.refused_stay kind in record { grew = omega (arith, quiet.failures_stay, h.grew); kind_grew = omega (arith, stays, h.kind_grew) }
+
   -- a cause after calls that wrote nothing is one before them
   pub cause_before : (fault : StartFault) → IsCause mid new fault → IsCause old new fault
   cause_before NoMemory h = h
-  cause_before Read h = let stays = quiet.refused_stay medium.Read in omega (arith, stays, h)
-  cause_before Write h = let stays = quiet.refused_stay medium.Write in omega (arith, stays, h)
-  cause_before Flush h = let stays = quiet.refused_stay medium.Flush in omega (arith, stays, h)
+  cause_before Read h = refused_before medium.Read h
+  cause_before Write h = refused_before medium.Write h
+  cause_before Flush h = refused_before medium.Flush h
   cause_before BadSuper h = (fault_before image.BadSuper h.0, quiet_joined old mid new quiet h.1)
   cause_before BadVersion h = (fault_before image.BadVersion h.0, quiet_joined old mid new quiet h.1)
   cause_before BadSize h = (fault_before image.BadSize h.0, quiet_joined old mid new quiet h.1)

@@ -14,9 +14,10 @@ start_fault_of medium.Read = Read
 start_fault_of medium.Write = Write
 start_fault_of medium.Flush = Flush
 
--- a call of this kind was refused
-abbrev pub IsRefusedCall : State → State → MediumFault → Type 0
-IsRefusedCall old new kind = old.refused kind < new.refused kind
+-- a call of this kind was refused, and counted as one and as one of its kind
+pub record IsRefusedCall (old new : State) (kind : MediumFault) : Type 0 where
+  pub grew : old.failures < new.failures
+  pub kind_grew : old.refused kind < new.refused kind
 
 -- Why a recovery is refused: the medium refused a call of the kind that the fault names,
 -- or the image has this fault, and nothing was written.

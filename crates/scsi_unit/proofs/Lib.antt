@@ -1,4 +1,3 @@
-pub mod Resting
 pub mod Checking
 pub mod Turning
 pub mod Performing
@@ -7,3 +6,6 @@ pub mod Serving
 pub mod Effects
 pub mod Outcomes
 pub mod Intentions
+pub mod Books
+pub mod Starting
+pub mod UnitLaws

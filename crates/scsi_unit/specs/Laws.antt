@@ -1,9 +1,13 @@
 -- What follows from the rules of the logical unit, whatever its state.
-use Rattle.std.specs.Prelude.{◌≡◌, ◌≢◌, ◌⊎◌, ◌<◌, ◌≤◌, ℕ, Bool, true, false, List, [], ◌∷◌, ◌++◌, length, ◌&&◌, ◌||◌, not}
+use Rattle.std.specs.Prelude.{◌≡◌, ◌≢◌, ◌⊎◌, ◌<◌, ◌≤◌, ℕ, Bool, true, false, List, [], ◌∷◌, ◌++◌, length}
+use Rattle.std.specs.Prelude.{◌&&◌, ◌||◌, not}
 use Rattle.std.specs.Prelude.{if◌then◌else◌}
-use Rattle.std.specs.Prelude.{Some, None, Result, Ok, Err, IfOk}
+use Rattle.std.specs.Prelude.{Option, Some, None, Result, Ok, Err, IfOk}
+use Rattle.medium.specs.Medium.{Image}
 use Rattle.medium.specs.Blocks.{Write}
 use Rattle.blocks.specs.Book.{Book, array_of, StampsOut}
+use Rattle.blocks.specs.Finding.{StandsAs, FoundWith}
+use Rattle.blocks.specs.Opening.{IsOursForSome, Stands, StandsForOpening}
 use Rattle.sense.specs.declared.codes.Sense.{Sense}
 use Rattle.cdb.specs.declared.command.Command.{Command}
 use Rattle.cdb.specs.declared.command.Command.TheVariants as command
@@ -123,3 +127,17 @@ pub record TicksOnly : Type 0 where
   pub intentions : (refused : Bool) (old new : UnitState) (block : List ℕ) (n : ℕ)
       → Ticks refused old new → intention new block ≡ intent.Out n
       → intention old block ≡ intent.Out n
+
+-- what is known of an image by the books for which it stands
+pub record KnowsImages : Type 0 where
+  -- what may be found of a book is ours
+  pub found_ours : (size : ℕ) (book : Book) (write : Option Write) (image : Image)
+      → FoundWith size book write image → IsOursForSome size image
+  -- an image that is ours, and stands for the opening of a book, is ours for it
+  pub ours_for : (size : ℕ) (book : Book) (image : Image) → StandsForOpening size book image
+      → IsOursForSome size image → StandsAs size book.blocks image book.opening book.stamp
+  -- it stands for the opening of each such book
+  pub stands_for : (size : ℕ) (book : Book) (image : Image)
+      → StandsAs size book.blocks image book.opening book.stamp → StandsForOpening size book image
+  pub stands : (size : ℕ) (book : Book) (image : Image) → StandsForOpening size book image
+      → Stands size image

@@ -1,6 +1,10 @@
+pub mod Books
+pub mod Identification
+pub mod StartFaults
 pub mod Capacity
 pub mod Rules
 pub mod UnitValue
+pub mod Starting
 pub mod Laws
 pub mod Serving
 pub mod Performing

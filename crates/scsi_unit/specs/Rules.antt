@@ -5,7 +5,8 @@ use Rattle.std.specs.Prelude.{List, [], take, Option, Some, None, unwrap_or, Res
 use Rattle.std.specs.Prelude.{if◌then◌else◌}
 use Rattle.medium.specs.Blocks.{Write}
 use Rattle.blocks.specs.Book.{Book, array_of, blocks_at, promised, with_write, write_of, StampsOut}
-use Rattle.sense.specs.declared.codes.Sense.{Sense}
+-- the sense with which a command fails, handed on to the layers above
+pub use Rattle.sense.specs.declared.codes.Sense.{Sense}
 use Rattle.sense.specs.declared.codes.TheConstants.Sense.{POWER_ON_OR_RESET_OCCURRED}
 use Rattle.sense.specs.declared.codes.TheConstants.Sense.{INTERNAL_TARGET_FAILURE}
 use Rattle.sense.specs.declared.codes.TheConstants.Sense.{UNRECOVERED_READ_ERROR, WRITE_ERROR}

@@ -1,13 +1,14 @@
 //! What follows from the rules of the logical unit.
 ghost use Rattle.scsi_unit.specs.Laws.{IsFunction, KeepsIntentions, KeepsWrites, StaysFaulted};
-ghost use Rattle.scsi_unit.specs.Laws.{TicksOnly};
+ghost use Rattle.scsi_unit.specs.Laws.{TicksOnly, KnowsImages};
 
 /// Does nothing: its contract says what holds of each command and of each step in the background,
-/// whatever the state of the unit.
+/// whatever the state of the unit, and what books tell of an image.
 pub fn unit_laws()
     ensures function { IsFunction }
     ensures intentions { KeepsIntentions }
     ensures writes { KeepsWrites }
     ensures faults { StaysFaulted }
     ensures ticks { TicksOnly }
+    ensures images { KnowsImages }
 {}

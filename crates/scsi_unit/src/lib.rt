@@ -9,12 +9,16 @@ mod checks;
 mod commands;
 mod intent;
 mod laws;
+mod start;
 mod store_calls;
 mod transfers;
 mod unit;
 
+pub use blocks::{StartError, StartFault};
 pub use intent::Intent;
 pub use laws::unit_laws;
+pub use pages::Identity;
+pub use sense::Sense;
 pub use unit::Unit;
 
 #[cfg(test)]

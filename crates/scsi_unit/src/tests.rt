@@ -2,10 +2,7 @@
 ghost use Rattle.std.specs.Prelude.{◌≡◌, ◌<◌, length};
 
 use super::*;
-use blocks::Store;
 use medium::{Medium, SimMedium, Switch};
-use pages::Identity;
-use sense::Sense;
 use std::alloc::AllocError;
 use std::test::Fail;
 
@@ -33,7 +30,6 @@ fn fresh(rt: HostRuntime) -> Result<Unit<SimMedium>, Fail> {
         *to = *from;
     }
     let medium = SimMedium::new(rt.alloc(), image, 64).map_err(|_| AllocError)?;
-    let store = Store::start(rt.alloc(), medium).map_err(|_| "no store")?;
     let identity = Identity::new(
         *b"USBDISK ",
         *b"POWER SAFE DISK ",
@@ -41,7 +37,7 @@ fn fresh(rt: HostRuntime) -> Result<Unit<SimMedium>, Fail> {
         *b"000000000001",
     )
     .ok_or("no identity")?;
-    Ok(Unit::new(store, identity))
+    Ok(Unit::start(rt.alloc(), medium, identity).map_err(|_| "no start")?)
 }
 
 // Carries out a command over data, of which there are as many as it takes.

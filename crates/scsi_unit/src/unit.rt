@@ -5,7 +5,7 @@ ghost use Rattle.medium.specs.Moments.{EachCut, IsUnchanged};
 ghost use Rattle.blocks.specs.Book.{Book};
 ghost use Rattle.blocks.specs.Finding.{MayFind};
 ghost use Rattle.blocks.specs.StoreValue.{is_dead, FitsBook};
-ghost use Rattle.scsi_unit.specs.Rules.{opened_unit};
+ghost use Rattle.scsi_unit.specs.Rules.{opened_unit, intention};
 ghost use Rattle.scsi_unit.specs.UnitValue.{state_of, intention_of, answer_of, FitsUnit};
 ghost use Rattle.scsi_unit.specs.Serving.{Serves, IsSparing, TicksOver};
 ghost use Rattle.scsi_unit.specs.Performing.{settled_kept};
@@ -42,9 +42,9 @@ impl<M: Medium> Model for Unit<M> {
 }
 
 impl<M: Medium> Unit<M> {
-    /// A unit over a store that has started: the unit attention is pending, no sense is kept, and
-    /// the write cache is enabled.
-    pub fn new(store: Store<M>, identity: Identity) -> Unit<M>
+    // A unit over a store that has started: the unit attention is pending, no sense is kept, and
+    // the write cache is enabled.
+    pub(crate) fn new(store: Store<M>, identity: Identity) -> Unit<M>
         ensures value { result ≡ record {
           store = store;
           identity = identity;
@@ -68,6 +68,8 @@ impl<M: Medium> Unit<M> {
     pub fn intend(&self, block: &[u8]) -> Intent
         requires { 0 < length block.now }
         ensures intention { result ≡ intention_of self.now block.now }
+        ensures by_book { (book : Book) → FitsUnit (M.state self.now.store.medium) self.now book
+            → result ≡ intention (state_of self.now book) block.now }
         ensures most { (n : ℕ) → result ≡ Intent.Out n → (0 < n) × (n ≤ 24576) }
     {
         match self.command(block) {

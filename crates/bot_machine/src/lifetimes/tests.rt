@@ -1,41 +1,16 @@
 // Lives of a disk of 16 blocks over a medium in memory, packet by packet.
-ghost use Rattle.std.specs.Prelude.{◌≡◌, ◌≤◌, None, length, IfOk};
-ghost use Rattle.bot_machine.specs.LivesValue.{IsAtRest};
+ghost use Rattle.std.specs.Prelude.{◌≡◌, ◌≤◌, length, IfOk};
 ghost use Rattle.bot_machine.specs.Lifetimes.{events_in};
 
 use super::*;
 use crate::event::Answer;
+use crate::tests::{formatted, identity};
 use arrayvec::ArrayVec;
 use medium::Kept;
-use recovery::format;
 use std::alloc::AllocError;
 use std::test::Fail;
 
-const SECTORS: usize = 2 + 50 * 2 + 16;
-
 const GOOD: [u8; 13] = [0x55, 0x53, 0x42, 0x53, 7, 0, 0, 0, 0, 0, 0, 0, 0];
-
-fn identity() -> Result<Identity, Fail> {
-    let identity = Identity::new(
-        *b"USBDISK ",
-        *b"POWER SAFE DISK ",
-        *b"0001",
-        *b"000000000001",
-    );
-    Ok(identity.ok_or("not printable")?)
-}
-
-// A medium of blocks of zeros.
-fn formatted(rt: HostRuntime) -> Result<SimMedium, Fail>
-    ensures rests { IfOk result IsAtRest }
-    ensures unfused { IfOk result (λ m. m.power.fuse ≡ None) }
-{
-    let image = vec![in rt.alloc(); 0xa5u8; SECTORS * 512]?;
-    let mut medium = SimMedium::new(rt.alloc(), image, SECTORS).map_err(|_| AllocError)?;
-    format(&mut medium, 16, 2).map_err(|_| "no image")?;
-    medium.cut(&Kept::None);
-    Ok(medium)
-}
 
 // A packet of these bytes.
 fn out(bytes: &[u8]) -> Event

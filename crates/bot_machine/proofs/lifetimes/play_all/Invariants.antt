@@ -1,4 +1,4 @@
-use Rattle.std.proofs.Common.{◌≡◌, ◌+◌, List, map, take, length}
+use Rattle.std.proofs.Common.{map, take}
 use Rattle.bot_machine.specs.Lives.{plays}
 use Rattle.bot_machine.specs.LivesValue.{HasStarted}
 use Rattle.bot_machine.specs.Lifetimes.{AppendsFor}

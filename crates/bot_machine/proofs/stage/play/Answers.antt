@@ -1,6 +1,3 @@
-use Rattle.std.proofs.Common.{◌≡◌}
-use Rattle.bot_machine.specs.declared.stage.Stage.{Stage}
-use Rattle.bot_machine.specs.LivesValue.{HasStarted}
 use Rattle.bot_machine.proofs.Happening.{event_at_rest}
 use Rattle.bot_machine.proofs.stage.play.Goals as goal
 

@@ -1,6 +1,4 @@
-use Rattle.std.proofs.Common.{◌≡◌, true, sym, ◌∙◌}
-use Rattle.medium.specs.Sim.{state_of}
-use Rattle.bot_machine.specs.declared.stage.Stage.{Stage}
+use Rattle.std.proofs.Common.{sym, ◌∙◌}
 use Rattle.bot_machine.proofs.Begun.{start_has_disk, start_is_cut, start_is_refused, start_of_disk, start_without_power, begun_running, begun_with, begun_without_power}
 use Rattle.bot_machine.proofs.stage.start.Goals as goal
 

@@ -1,5 +1,4 @@
-use Rattle.scsi_unit.proofs.Intentions.{keeps_intentions}
-use Rattle.scsi_unit.proofs.Outcomes.{is_function, keeps_writes, stays_faulted, ticks_only}
+use Rattle.scsi_unit.proofs.UnitLaws.{keeps_intentions, is_function, keeps_writes, stays_faulted, ticks_only, knows_images}
 use Rattle.scsi_unit.proofs.laws.unit_laws.Goals as goal
 
 pub returns-clause-function : goal.returns-clause-function
@@ -16,3 +15,6 @@ returns-clause-faults c = stays_faulted
 
 pub returns-clause-ticks : goal.returns-clause-ticks
 returns-clause-ticks c = ticks_only
+
+pub returns-clause-images : goal.returns-clause-images
+returns-clause-images c = knows_images

@@ -1,0 +1,41 @@
+-- The books with which a life may open over a medium. A layer above knows an image by these words
+-- alone, and opens none of them: what it needs of the layers below the store is handed on here.
+use Rattle.std.specs.Prelude.{◌≡◌, ◌^◌, ◌≤◌, ⊤, ℕ, true}
+use Rattle.medium.specs.Medium.{State, Image}
+use Rattle.medium.specs.Moments.{EachCut}
+use Rattle.medium.specs.declared.fault.MediumFault.TheVariants as medium
+pub use Rattle.log_layout.specs.Places.{Shape}
+pub use Rattle.log_layout.specs.Standing.{StandsFor, IsOurs, Stands}
+pub use Rattle.recovery.specs.Causes.{IsRefusedCall}
+pub use Rattle.recovery.specs.Recovered.{IsOursForSome, IsOursWithNext, StandsForOneOf}
+pub use Rattle.recovery.specs.declared.start_fault.StartFault.{StartFault}
+pub use Rattle.recovery.specs.declared.start_fault.StartFault.TheVariants.{NoMemory, Read, Write, Flush}
+pub use Rattle.recovery.specs.declared.start_fault.StartFault.TheVariants.{BadSuper, BadVersion}
+pub use Rattle.recovery.specs.declared.start_fault.StartFault.TheVariants.{BadSize, BadHead, StampsUsedUp}
+use Rattle.blocks.specs.Book.{Book, opened}
+
+-- the image stands for the blocks and the next stamp with which the book opens
+abbrev pub StandsForOpening : ℕ → Book → Image → Type 0
+StandsForOpening size book image = (slots : ℕ)
+    × (let shape : Shape = record { blocks = book.blocks; slots = slots } in
+    StandsFor size shape image book.opening book.stamp)
+
+-- A first life over a medium opens with this book: the contents stand for its blocks and its next
+-- stamp. Where the book says so, every image that a cut may leave is ours.
+pub record OpensOn (m : State) (book : Book) : Type 0 where
+  pub opens : book ≡ opened book.blocks book.opening book.stamp book.ours
+  pub stands : StandsForOpening m.size book m.content
+  pub ours : book.ours ≡ true → EachCut (IsOursForSome m.size) m
+
+-- Why a start is refused over contents with which a life opens with this book: for want of memory,
+-- since the medium refused a call of the kind that the fault names, or since no stamp is left.
+abbrev pub IsCauseFor : Book → State → State → StartFault → Type 0
+IsCauseFor book before after NoMemory = ⊤
+IsCauseFor book before after Read = IsRefusedCall before after medium.Read
+IsCauseFor book before after Write = IsRefusedCall before after medium.Write
+IsCauseFor book before after Flush = IsRefusedCall before after medium.Flush
+IsCauseFor book before after BadSuper = ⊥
+IsCauseFor book before after BadVersion = ⊥
+IsCauseFor book before after BadSize = ⊥
+IsCauseFor book before after BadHead = ⊥
+IsCauseFor book before after StampsUsedUp = 2 ^ 63 ≤ book.stamp

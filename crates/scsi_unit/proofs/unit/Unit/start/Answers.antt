@@ -1,0 +1,22 @@
+use Rattle.std.proofs.lemmas.Result.{err_from_is_err_and}
+use Rattle.scsi_unit.proofs.Starting.{leaves, not_started}
+use Rattle.scsi_unit.proofs.unit.Unit.start.Goals as goal
+
+pub returns-in_err-store-clause-err : goal.returns-in_err-store-clause-err
+returns-in_err-store-clause-err g c =
+    let p = err_from_is_err_and c.from_residual.result c.from_residual.ensures.1 in
+    let error = c.in_err-store.field-0.0 in
+    rw (p.1, p.2) (not_started (g.M.Medium.state c.args.medium) (g.M.Medium.state error.medium) error.fault c.in_err-store.ensures.err)
+
+pub returns-in_err-store-clause-leaves : goal.returns-in_err-store-clause-leaves
+returns-in_err-store-clause-leaves g c =
+    let p = err_from_is_err_and c.from_residual.result c.from_residual.ensures.1 in
+    let error = c.in_err-store.field-0.0 in
+    rw (p.1, p.2) (leaves (g.M.Medium.state c.args.medium) (g.M.Medium.state error.medium) (g.met.M.Medium.sound error.medium)
+    c.in_err-store.ensures.cuts c.in_err-store.ensures.after_flush c.in_err-store.ensures.moments)
+
+pub returns-clause-leaves : goal.returns-clause-leaves
+returns-clause-leaves g c =
+    let medium = c.in_ok-store.store.medium in
+    rw c.new.ensures.value (leaves (g.M.Medium.state c.args.medium) (g.M.Medium.state medium) (g.met.M.Medium.sound medium)
+    c.in_ok-store.ensures.cuts c.in_ok-store.ensures.after_flush c.in_ok-store.ensures.moments)
