@@ -2,7 +2,7 @@
 use Rattle.std.specs.Prelude.{◌≡◌, ℕ, ◌≤◌, ◌<◌, ◌^◌, replicate}
 use Rattle.medium.specs.Medium.{State}
 use Rattle.medium.specs.Moments.{IsFlushed}
-use Rattle.log_layout.specs.Places.{Shape, sectors_of}
+pub use Rattle.log_layout.specs.Places.{Shape, sectors_of}
 use Rattle.log_layout.specs.Sectors.{IsSuper, IsHead}
 use Rattle.log_layout.specs.Standing.{IsOurs}
 use Rattle.recovery.specs.declared.format_fault.FormatFault.{FormatFault}

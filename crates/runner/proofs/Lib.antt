@@ -14,4 +14,6 @@ pub mod Readings
 pub mod Uniform
 pub mod InTurn
 pub mod FormatWords
-pub mod Chains
+pub mod Acting
+pub mod ActingLines
+pub mod SeveralLives

@@ -2,13 +2,13 @@
 use Rattle.std.proofs.Common.{◌≡◌, ◌≤◌, ◌+◌, ℕ, Bool, true, List, refl, sym, ap, ap₂, ◌∙◌, subst, arith}
 use Rattle.medium.specs.Medium.{State}
 use Rattle.medium.specs.Moments.{EachCut}
-use Rattle.recovery.specs.Recovered.{IsOursForSome}
-use Rattle.pages.specs.Identification.{Identification}
-use Rattle.blocks.specs.Book.{Book, opened}
-use Rattle.blocks.specs.StoreValue.{blocks_of, layout_of}
-use Rattle.blocks.proofs.Turning.{exits}
-use Rattle.scsi_unit.specs.UnitValue.{state_of}
-use Rattle.scsi_unit.specs.Rules.{UnitState, opened_unit}
+use Rattle.bot_machine.specs.Starting.{IsOursForSome}
+use Rattle.bot_machine.specs.Identification.{Identification}
+use Rattle.bot_machine.specs.Books.{Book, opened}
+use Rattle.bot_machine.specs.Starting.{blocks_of, layout_of}
+use Rattle.bot_machine.proofs.UnitLaws.{between_calls}
+use Rattle.bot_machine.specs.UnitValue.{state_of}
+use Rattle.bot_machine.specs.Rules.{UnitState, opened_unit}
 use Rattle.bot_machine.specs.declared.event.Event.{Event}
 use Rattle.bot_machine.specs.declared.event.Answer.{Answer}
 use Rattle.bot_machine.specs.Conversation.{Conversation}
@@ -42,7 +42,7 @@ life before mid after old new events answers opening leaves so = record {
       let start : over old book ≡ started book = ap₂ on_line opening.line (opening.unit book) in (
         over new ran.0,
         subst (λ (c : Conversation UnitState). UnitRun c events answers so.refusals (over new ran.0)) start ran.1,
-        λ is_ours. exits after new.unit.store.cached ran.0 ran.2 (ran.3 ∙ is_ours),
+        λ is_ours. between_calls after new.unit ran.0 ran.2 (ran.3 ∙ is_ours),
       );
 }
 

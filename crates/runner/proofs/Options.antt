@@ -22,6 +22,11 @@ pub on_err : {T E P : Type 0} (r : Result T E) → true ≡ is_err r → OnErr r
 on_err (Ok x) bad holds = absurd (cc)
 on_err (Err e) bad holds = holds
 
+-- what follows at an `Ok`
+pub on_ok_weaker : {T E P Q : Type 0} (r : Result T E) → (P → Q) → OnOk r P → OnOk r Q
+on_ok_weaker (Ok x) weaker holds = weaker holds
+on_ok_weaker (Err e) weaker holds = tt
+
 -- what follows for each value, and for each error
 pub if_ok : {T E : Type 0} {P Q : T → Type 0} (r : Result T E) → ((x : T) → P x → Q x) → IfOk r P → IfOk r Q
 if_ok (Ok x) follows holds = follows x holds

@@ -1,8 +1,8 @@
 -- Runs of a disk, one after another.
 use Rattle.std.proofs.Common.{◌≡◌, ◌≤◌, ◌<◌, ℕ, ◌+◌, Bool, true, false, List, [], ◌∷◌, ◌++◌, length, nat_lt, refl, sym, ap, ◌∙◌, subst, arith, append_assoc, append-nil, length-append, ltb-true}
 use Rattle.medium.specs.Medium.{State}
-use Rattle.blocks.specs.Book.{Book}
-use Rattle.scsi_unit.specs.Rules.{UnitState, CarriesOut, Ticks}
+use Rattle.bot_machine.specs.Books.{Book}
+use Rattle.bot_machine.specs.Rules.{UnitState, CarriesOut, Ticks}
 use Rattle.bot_machine.specs.declared.event.Event.{Event}
 use Rattle.bot_machine.specs.declared.event.Answer.{Answer}
 use Rattle.bot_machine.specs.Intentions.{Intends}

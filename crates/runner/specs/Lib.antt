@@ -9,6 +9,7 @@ pub mod Lifetimes
 pub mod PlayedLives
 pub mod Streams
 pub mod Outcome
+pub mod OutcomeOfLives
 pub mod Left
 pub mod Refused
 pub mod Task

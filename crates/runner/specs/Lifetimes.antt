@@ -1,15 +1,17 @@
 -- What a script of several lives plays, and its text.
 use Rattle.std.specs.Prelude.{◌≡◌, ◌≤◌, ℕ, ◌+◌, Bool, true, false, List, [], ◌∷◌, ◌++◌, flat_map, ◌==◌}
 use Rattle.std.specs.List.{list_any}
-use Rattle.medium.specs.Moments.{EachCut}
-use Rattle.medium.specs.Sim.{Sim, state_of}
-use Rattle.blocks.specs.Book.{Book}
+use Rattle.medium.specs.Sim.{Sim, state_of, IsCut, IsFused, ComesAfter}
+use Rattle.bot_machine.specs.StartFaults.{StartFault}
+use Rattle.bot_machine.specs.Books.{Book}
 use Rattle.bot_machine.specs.declared.event.Event.{Event}
 use Rattle.bot_machine.specs.declared.event.Answer.{Answer}
 use Rattle.bot_machine.specs.declared.event.Answer.TheVariants.{Off}
 use Rattle.bot_machine.specs.Conversation.{refused_events}
-use Rattle.bot_machine.specs.Lives.{Action, arms, starts, plays, cuts, Standing, before_first, LivesRun}
-use Rattle.bot_machine.specs.LivesValue.{OpensOn, FoundAt, book_at}
+use Rattle.bot_machine.specs.Lifetimes.{EndsIn, StopsIn}
+use Rattle.bot_machine.specs.Lives.{Action, arms, starts, plays, cuts}
+use Rattle.bot_machine.specs.LivesValue.{OpensOn}
+use Rattle.bot_machine.specs.Opening.{IsNotOpened}
 use Rattle.runner.specs.declared.kept.KeptWrites.{KeptWrites}
 use Rattle.runner.specs.declared.kept.KeptWrites.TheVariants as kept
 use Rattle.runner.specs.declared.line.ScriptLine.{ScriptLine}
@@ -76,16 +78,35 @@ fused_after fused (starts ∷ actions) = fused_after fused actions
 fused_after fused (cuts keeps ∷ actions) = fused_after false actions
 fused_after fused (plays event ∷ actions) = fused_after fused actions
 
--- before the first life
-abbrev pub first_of : Book → Standing
-first_of book = record { place = before_first book; armed = false }
+-- What an action does to the medium: a fuse and a cut do exactly what they say, and a start and an event call it.
+abbrev pub Moves : Sim → Action → Sim → Type 0
+Moves old (arms writes) new = IsFused writes old new
+Moves old starts new = ComesAfter old new
+Moves old (plays event) new = ComesAfter old new
+Moves old (cuts keeps) new = IsCut keeps old new
+
+-- what actions do to it, one after another
+abbrev pub MovesBy : Sim → List Action → Sim → Type 0
+MovesBy old [] new = new ≡ old
+MovesBy old (action ∷ actions) new = (mid : Sim) × Moves old action mid × MovesBy mid actions new
 
 -- Lives of a disk over a medium in memory, and the answers. In some actions the medium refused a call, whatever the premise. For each
 -- book with which a first life opens over the contents they are a run of lives; a cut afterwards leaves what may be found.
 pub record AreLives (before after : Sim) (actions : List Action) (answers : List Answer) : Type 0 where
   pub fits : AnswersFit false actions answers
+  pub moves : MovesBy before actions after
   pub refusals : List Bool
   pub refused : refused_events refusals + (state_of before).failures ≤ (state_of after).failures
-  pub runs : (book : Book) → OpensOn (state_of before) book
-      → (last : Standing) × LivesRun identification (first_of book) actions answers refusals last
-      × ((book_at last.place).ours ≡ true → EachCut (FoundAt (state_of after).size last.place) (state_of after))
+  pub ends : (book : Book) → OpensOn (state_of before) book → EndsIn identification book actions answers refusals after
+
+-- Lives of a disk, and then a start that was refused with this fault, though power did not go in it. For each book with which a first
+-- life opens it was refused for a cause, and a cut afterwards leaves what may be found.
+pub record AreStopped (before after : Sim) (actions : List Action) (answers : List Answer) (fault : StartFault) : Type 0 where
+  pub mid : Sim
+  pub lives : AreLives before mid actions answers
+  pub refused : IsNotOpened (state_of mid) (state_of after) fault
+  pub on : after.power.off ≡ false
+  pub refusals : List Bool
+  pub counted : refused_events refusals + (state_of before).failures ≤ (state_of after).failures
+  pub stops : (book : Book) → OpensOn (state_of before) book → StopsIn identification book actions answers refusals
+      (refused_events refusals + (state_of before).failures) fault after

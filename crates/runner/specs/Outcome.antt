@@ -5,9 +5,10 @@ use Rattle.medium.specs.Medium.{State}
 use Rattle.bot_machine.specs.declared.event.Event.{Event}
 use Rattle.bot_machine.specs.declared.event.Answer.{Answer}
 use Rattle.bot_machine.specs.Opening.{IsNotOpened, StartLeaves}
-use Rattle.recovery.specs.declared.start_fault.StartFault.{StartFault}
+use Rattle.bot_machine.specs.StartFaults.{StartFault}
 use Rattle.runner.specs.declared.fault.ScriptFault.{ScriptFault}
 use Rattle.runner.specs.declared.fault.ScriptFault.TheVariants.{Line, TooLong, Start, NoMemory, Reader, Writer}
+use Rattle.runner.specs.declared.line.ScriptKind.{ScriptKind}
 use Rattle.runner.specs.declared.line.ScriptKind.TheVariants.{OneLife}
 use Rattle.runner.specs.Line.{IsScriptLine}
 use Rattle.runner.specs.Lines.{lines_of}
@@ -29,6 +30,12 @@ pub record IsUntouched {M : Type 0} (medium back : M) (was now : Option (List �
   pub same : back ≡ medium
   pub kept : Keeps was now
 
+-- the script has a line that is none of its kind, and this is the number of the first
+pub record HasBadLine (kind : ScriptKind) (left : Option (List ℕ)) (number : ℕ) : Type 0 where
+  pub script : List ℕ
+  pub read : IsRead left script
+  pub bad : IsFirstBadLine kind number (lines_of script)
+
 module _ {M : Type 0} (state : M → State) (left : Option (List ℕ)) (was now : Option (List ℕ)) (medium : M) where
   -- the script was played whole: exactly the text of the answers in a life of its events was appended
   pub record IsPlayed (after : M) : Type 0 where
@@ -39,12 +46,6 @@ module _ {M : Type 0} (state : M → State) (left : Option (List ℕ)) (was now 
     pub answers : List Answer
     pub life : IsLife (state medium) (state after) events answers
     pub written : Appends was now (text_of events answers)
-
-  -- the script has a line that is none, and this is the number of the first
-  pub record HasBadLine (number : ℕ) : Type 0 where
-    pub script : List ℕ
-    pub read : IsRead left script
-    pub bad : IsFirstBadLine OneLife number (lines_of script)
 
   -- each line is one of a script, and no disk has started on the medium
   pub record IsNotStarted (fault : StartFault) (back : M) : Type 0 where
@@ -68,7 +69,7 @@ module _ {M : Type 0} (state : M → State) (left : Option (List ℕ)) (was now 
 
   -- why a script was refused, and what was written then
   abbrev pub IsRefused : ScriptFault → M → Type 0
-  IsRefused (Line number) back = IsUntouched medium back was now × HasBadLine number
+  IsRefused (Line number) back = IsUntouched medium back was now × HasBadLine OneLife left number
   IsRefused TooLong back = IsUntouched medium back was now × IfSome left (λ all. script_limit < length all)
   IsRefused (Start fault) back = IsNotStarted fault back
   IsRefused NoMemory back = IsUntouched medium back was now

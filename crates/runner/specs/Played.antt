@@ -1,7 +1,7 @@
 -- Events played on a disk.
 use Rattle.std.specs.Prelude.{◌≡◌, ◌≤◌, ℕ, ◌+◌, Bool, List, length}
 use Rattle.medium.specs.Medium.{State}
-use Rattle.blocks.specs.Book.{Book}
+use Rattle.bot_machine.specs.Books.{Book}
 use Rattle.bot_machine.specs.declared.event.Event.{Event}
 use Rattle.bot_machine.specs.declared.event.Answer.{Answer}
 use Rattle.bot_machine.specs.Conversation.{refused_events}

@@ -1,24 +1,22 @@
 -- What the program's commands do.
-use Rattle.std.specs.Prelude.{◌≡◌, ◌⊎◌, ◌<◌, ◌≤◌, ◌+◌, ◌*◌, ◌%◌, ℕ, List, [], length, codes, Option}
-use Rattle.std.specs.Io.KnownBytes.{Appends}
+use Rattle.std.specs.Prelude.{◌≡◌, ◌⊎◌, ◌*◌, ℕ, List, [], length, codes, Option}
+use Rattle.std.specs.Io.KnownBytes.{Appends, Keeps}
 use Rattle.medium.specs.ImageFile as file
-use Rattle.medium.specs.ImageFile.{Copied, IsImage}
+use Rattle.medium.specs.ImageFile.{Copied, IsImage, fresh}
 use Rattle.medium.specs.Sim.{Sim}
 use Rattle.medium.specs.Power.{powered}
 use Rattle.medium.specs.Refusals.{none}
 use Rattle.recovery.specs.Formatted.{AreSizes, IsFormatted}
-use Rattle.log_layout.specs.Places.{Shape, sectors_of}
-use Rattle.bot_machine.specs.declared.event.Event.{Event}
-use Rattle.bot_machine.specs.declared.event.Answer.{Answer}
+use Rattle.recovery.specs.Formatted.{Shape, sectors_of}
+use Rattle.runner.specs.declared.fault.ScriptFault.{ScriptFault}
 use Rattle.runner.specs.declared.refusal.Refusal.{Refusal}
-use Rattle.runner.specs.declared.refusal.Refusal.TheVariants.{Words, NoMemory}
-use Rattle.runner.specs.declared.task.Task.{Task}
-use Rattle.runner.specs.declared.task.Task.TheVariants as task
-use Rattle.runner.specs.Lines.{lines_of}
-use Rattle.runner.specs.Outcome.{script_limit}
-use Rattle.runner.specs.Script.{Plays, IsLife}
-use Rattle.runner.specs.Task.{SpellsTask, IsCommandLine}
-use Rattle.runner.specs.Text.{text_of, ended}
+use Rattle.runner.specs.declared.refusal.Refusal.TheVariants as refused
+use Rattle.runner.specs.Outcome.{IsPlayed, IsRefused}
+use Rattle.runner.specs.OutcomeOfLives.{ArePlayed, AreRefused}
+use Rattle.runner.specs.Status.{refusal_of_fault}
+use Rattle.runner.specs.Streams.{AppendsSome}
+use Rattle.runner.specs.Task.{AreFormatWords, IsScriptCommand, IsCommandLine}
+use Rattle.runner.specs.Text.{ended}
 
 -- so many blocks and log slots make an image of at most 65,536 sectors
 abbrev pub AreImageSizes : ℕ → ℕ → Type 0
@@ -29,19 +27,6 @@ pub record IsMade (blocks slots : ℕ) (made : Copied) : Type 0 where
   pub sizes : AreImageSizes blocks slots
   pub exact : length made.bytes ≡ 512 * sectors_of (record { blocks = blocks; slots = slots })
   pub formatted : IsFormatted (record { blocks = blocks; slots = slots }) (file.state_of made)
-
--- exactly the text of a life of the events of some script on some image file was appended
-pub record IsRun (was now : Option (List ℕ)) : Type 0 where
-  pub opened : Copied
-  pub is_image : IsImage opened.bytes
-  pub script : List ℕ
-  pub fits : length script ≤ script_limit
-  pub events : List Event
-  pub plays : Plays (lines_of script) events
-  pub answers : List Answer
-  pub after : Copied
-  pub life : IsLife (file.state_of opened) (file.state_of after) events answers
-  pub written : Appends was now (text_of events answers)
 
 -- a simulated medium of these bytes, all flushed, with room for 16,384 unflushed writes
 abbrev pub simulated : List ℕ → Sim
@@ -55,8 +40,78 @@ simulated image = record {
   refused = none;
 }
 
--- words are refused where they are no command line, and only there
-abbrev pub MatchesWords : Refusal → List (List ℕ) → Type 0
-MatchesWords Words words = IsCommandLine words → ⊥
-MatchesWords NoMemory words = Unit {0}
-MatchesWords _ words = IsCommandLine words
+-- a file was not read, or was no image, or there was no memory for it
+abbrev pub IsUnread : Refusal → Type 0
+IsUnread refusal = (refusal ≡ refused.ImageLength) ⊎ ((refusal ≡ refused.File) ⊎ (refusal ≡ refused.NoMemory))
+
+module _ (was now : Option (List ℕ)) where
+  -- an image file of these sizes was made, and exactly this was appended
+  pub record IsFormat (blocks slots : ℕ) : Type 0 where
+    pub made : Copied
+    pub is_made : IsMade blocks slots made
+    pub written : Appends was now (ended (codes "formatted"))
+
+  -- exactly the text of a life of some script's events on some image file was appended
+  pub record IsRun : Type 0 where
+    pub opened : Copied
+    pub is_fresh : opened ≡ fresh opened.bytes
+    pub is_image : IsImage opened.bytes
+    pub left : Option (List ℕ)
+    pub after : Copied
+    pub played : IsPlayed file.state_of left was now opened after
+
+  -- exactly the text of lives by some script's lines over a copy of some image was appended
+  pub record IsSim : Type 0 where
+    pub image : List ℕ
+    pub is_image : IsImage image
+    pub left : Option (List ℕ)
+    pub after : Sim
+    pub played : ArePlayed left was now (simulated image) after
+
+  -- what the words ask for was done
+  abbrev pub HasDone : List (List ℕ) → Type 0
+  HasDone words = ((image : List ℕ) × (blocks : ℕ) × (slots : ℕ) × AreFormatWords words image blocks slots × IsFormat blocks slots)
+      ⊎ ((IsScriptCommand (codes "run") words × IsRun) ⊎ (IsScriptCommand (codes "sim") words × IsSim))
+
+  -- no image file was made: the sizes are out of their limits; or there was no memory; or a file failed, the output perhaps
+  abbrev pub IsFormatRefused : ℕ → ℕ → Refusal → Type 0
+  IsFormatRefused blocks slots refusal = ((refusal ≡ refused.ImageSize) × (¬ AreImageSizes blocks slots) × Keeps was now)
+      ⊎ (((refusal ≡ refused.NoMemory) × Keeps was now) ⊎ ((refusal ≡ refused.File) × AppendsSome was now (ended (codes "formatted"))))
+
+  -- a script on an image file was refused, and this is why
+  pub record IsPlayRefused (refusal : Refusal) : Type 0 where
+    pub opened : Copied
+    pub is_fresh : opened ≡ fresh opened.bytes
+    pub is_image : IsImage opened.bytes
+    pub left : Option (List ℕ)
+    pub fault : ScriptFault
+    pub back : Copied
+    pub refused : IsRefused file.state_of left was now opened fault back
+    pub told : refusal ≡ refusal_of_fault fault
+
+  -- a script over a copy of an image was refused, and this is why
+  pub record ArePlaysRefused (refusal : Refusal) : Type 0 where
+    pub image : List ℕ
+    pub is_image : IsImage image
+    pub left : Option (List ℕ)
+    pub fault : ScriptFault
+    pub back : Sim
+    pub refused : AreRefused left was now (simulated image) fault back
+    pub told : refusal ≡ refusal_of_fault fault
+
+  abbrev pub IsRunRefused : Refusal → Type 0
+  IsRunRefused refusal = (IsUnread refusal × Keeps was now) ⊎ IsPlayRefused refusal
+
+  abbrev pub IsSimRefused : Refusal → Type 0
+  IsSimRefused refusal = (IsUnread refusal × Keeps was now) ⊎ ArePlaysRefused refusal
+
+  -- what the words ask for was not done
+  abbrev pub HasNotDone : List (List ℕ) → Refusal → Type 0
+  HasNotDone words refusal =
+      ((image : List ℕ) × (blocks : ℕ) × (slots : ℕ) × AreFormatWords words image blocks slots × IsFormatRefused blocks slots refusal)
+      ⊎ ((IsScriptCommand (codes "run") words × IsRunRefused refusal) ⊎ (IsScriptCommand (codes "sim") words × IsSimRefused refusal))
+
+  -- why words were refused: there was no memory to read them; or they are no command line; or what they ask for was not done
+  abbrev pub IsRefusedFor : List (List ℕ) → Refusal → Type 0
+  IsRefusedFor words refusal = ((refusal ≡ refused.NoMemory) × Keeps was now)
+      ⊎ (((refusal ≡ refused.Words) × (¬ IsCommandLine words) × Keeps was now) ⊎ HasNotDone words refusal)

@@ -3,13 +3,13 @@ use Rattle.std.specs.Prelude.{◌≡◌, ◌≤◌, ℕ, ◌+◌, Bool, true, Li
 use Rattle.medium.specs.Medium.{State}
 use Rattle.medium.specs.Moments.{EachCut}
 use Rattle.medium.specs.Blocks.{Array}
-use Rattle.log_layout.specs.Places.{Shape}
-use Rattle.log_layout.specs.Standing.{StandsFor}
-use Rattle.recovery.specs.Recovered.{IsOursForSome}
-use Rattle.pages.specs.Identification.{Identification}
-use Rattle.blocks.specs.Book.{Book, opened}
-use Rattle.blocks.specs.Finding.{MayFind}
-use Rattle.scsi_unit.specs.Rules.{UnitState, opened_unit}
+use Rattle.bot_machine.specs.Starting.{Shape}
+use Rattle.bot_machine.specs.Starting.{StandsFor}
+use Rattle.bot_machine.specs.Starting.{IsOursForSome}
+use Rattle.bot_machine.specs.Identification.{Identification}
+use Rattle.bot_machine.specs.Books.{Book, opened}
+use Rattle.bot_machine.specs.Books.{MayFind}
+use Rattle.bot_machine.specs.Rules.{UnitState, opened_unit}
 use Rattle.bot_machine.specs.declared.event.Event.{Event}
 use Rattle.bot_machine.specs.declared.event.Answer.{Answer}
 use Rattle.bot_machine.specs.Exchange.{at_rest}

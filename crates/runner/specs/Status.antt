@@ -4,8 +4,8 @@ use Rattle.clap.specs.declared.error.kind.ErrorKind.{ErrorKind}
 use Rattle.clap.specs.declared.error.kind.ErrorKind.TheVariants.{OutOfMemory}
 use Rattle.medium.specs.declared.file.FileError.{FileError}
 use Rattle.medium.specs.declared.file.FileError.TheVariants as file
-use Rattle.recovery.specs.declared.start_fault.StartFault.{StartFault}
-use Rattle.recovery.specs.declared.start_fault.StartFault.TheVariants as start
+use Rattle.bot_machine.specs.StartFaults.{StartFault}
+use Rattle.bot_machine.specs.StartFaults as start
 use Rattle.runner.specs.declared.fault.ScriptFault.{ScriptFault}
 use Rattle.runner.specs.declared.fault.ScriptFault.TheVariants as script
 use Rattle.runner.specs.declared.refusal.Refusal.{Refusal}

@@ -36,6 +36,16 @@ pub struct ScriptError<M: Medium> {
     pub medium: M,
 }
 
+impl From<StartFault> for ScriptFault {
+    ghost use Rattle.runner.specs.declared.fault.ScriptFault.TheVariants.{Start};
+
+    ghost from_gives = { λ fault refused. refused ≡ Start fault };
+
+    fn from(fault: StartFault) -> ScriptFault {
+        ScriptFault::Start(fault)
+    }
+}
+
 impl From<ReadFault> for ScriptFault {
     ghost use Rattle.runner.specs.Refused.{read_fault};
 

@@ -1,6 +1,6 @@
 // Image files, as media.
 ghost use Rattle.std.specs.Prelude.{◌≡◌, ◌⊎◌, ◌↔◌, ℕ, List, IfOk, IfErr, IfSome, IfNone};
-ghost use Rattle.log_layout.specs.Places.{sectors_of};
+ghost use Rattle.recovery.specs.Formatted.{sectors_of};
 ghost use Rattle.medium.specs.ImageFile.{IsImage, fresh};
 ghost use Rattle.runner.specs.Program.{AreImageSizes, IsMade, simulated};
 

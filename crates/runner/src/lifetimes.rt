@@ -1,14 +1,11 @@
 // A checked script of several lives, played on a simulated medium.
-ghost use Rattle.std.specs.Prelude.{◌≡◌, ◌≤◌, ◌++◌, ◌∷◌, [], ℕ, List, All, OnOk, IfOk, IfErr, flat_map, length, vec_capacity};
-ghost use Rattle.std.specs.Io.KnownBytes.{Appends};
-ghost use Rattle.bot_machine.specs.declared.event.Answer.{Answer};
-ghost use Rattle.bot_machine.specs.Lives.{Action, cuts};
-ghost use Rattle.bot_machine.specs.LivesValue.{LivesValue, medium_in};
+ghost use Rattle.std.specs.Prelude.{◌≡◌, ◌≤◌, ◌∷◌, [], All, OnOk, IfOk, IfErr, flat_map, length, vec_capacity};
+ghost use Rattle.bot_machine.specs.Lives.{cuts};
 ghost use Rattle.runner.specs.Line.{IsScriptLine};
 ghost use Rattle.runner.specs.Lines.{lines_of};
 ghost use Rattle.runner.specs.Events.{events_of};
-ghost use Rattle.runner.specs.Lifetimes.{Acts, comes, is_kept, text_of_lives};
-ghost use Rattle.runner.specs.PlayedLives.{Acted, EndsBy};
+ghost use Rattle.runner.specs.Lifetimes.{comes, is_kept};
+ghost use Rattle.runner.specs.PlayedLives.{Acted, TellsLives, BreaksOff, PlaysAll, PlaysUpTo};
 
 use crate::fault::{ScriptError, ScriptFault};
 use crate::kept::KeptWrites;
@@ -32,6 +29,10 @@ pub(crate) fn play_lives<W: Write>(
 ) -> Result<SimMedium, ScriptError<SimMedium>>
     requires good { All (IsScriptLine ScriptKind.Lives) (lines_of script.now) }
     requires room { 64 ≤ vec_capacity numbers }
+    ensures played { IfOk result
+        (PlaysAll (W.contents out.old) (W.contents out.new) lives (lines_of script.now)) }
+    ensures broken { IfErr result (λ error. PlaysUpTo (W.contents out.old) (W.contents out.new) lives
+        (lines_of script.now) error.fault error.medium) }
 {
     for line in Parts::lines(script) {
         match read_line(ScriptKind::Lives, line).unwrap() {
@@ -56,9 +57,14 @@ fn play_events<W: Write>(
     lives: &mut Lives,
     asked: ScriptLine,
     out: &mut W,
-) -> Result<(), ScriptFault> {
+) -> Result<(), ScriptFault>
+    ensures played { OnOk result (TellsLives (W.contents out.old) (W.contents out.new) lives.old
+        (flat_map comes (events_of asked)) lives.new) }
+    ensures broken { IfErr result (BreaksOff (W.contents out.old) (W.contents out.new) lives.old
+        (flat_map comes (events_of asked)) lives.new) }
+{
     for event in asked {
-        let answer = lives.event(alloc, &event).map_err(ScriptFault::Start)?;
+        let answer = lives.event(alloc, &event)?;
         if write_out(out, event_line(&event, &answer).as_slice()).is_err() {
             return Err(ScriptFault::Writer);
         }
@@ -70,6 +76,7 @@ fn play_events<W: Write>(
 fn cut(lives: &mut Lives, kept: &KeptWrites, mut numbers: Vec<u32>) -> Vec<u32>
     requires { 64 ≤ vec_capacity numbers }
     ensures room { vec_capacity result ≡ vec_capacity numbers }
+    ensures acted { Acted lives.old (cuts (is_kept kept.now) ∷ []) [] lives.new }
 {
     match kept {
         KeptWrites::None => {

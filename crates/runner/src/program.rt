@@ -1,9 +1,18 @@
 // The work of the program.
-ghost use Rattle.std.specs.Prelude.{◌≡◌, ◌≢◌, ◌⊎◌, ◌≤◌, List, ℕ, IfOk, IfErr, OnOk, map};
-ghost use Rattle.std.specs.Io.KnownBytes.{Keeps};
+ghost use Rattle.std.specs.Prelude.{◌≡◌, ◌≢◌, ◌⊎◌, ◌≤◌, List, ℕ, IfOk, IfErr, OnOk, map, drop, string_bytes};
+ghost use Rattle.runner.specs.declared.refusal.Refusal.{Refusal};
 ghost use Rattle.runner.specs.Status.{status_of};
 ghost use Rattle.runner.specs.Task.{IsCommandLine};
-ghost use Rattle.runner.specs.Program.{MatchesWords};
+ghost use Rattle.runner.specs.Program.{
+  HasDone,
+  IsFormat,
+  IsFormatRefused,
+  IsRefusedFor,
+  IsRun,
+  IsRunRefused,
+  IsSim,
+  IsSimRefused,
+};
 
 use crate::fault::ScriptError;
 use crate::image::{make_image, open_image, sim_medium};
@@ -12,6 +21,7 @@ use crate::refusal::Refusal;
 use crate::script::run_script;
 use crate::sim::sim_script;
 use crate::task::{Task, read_words};
+use std::alloc::{AllocError, Global};
 use std::env::Env;
 use std::fs::Files;
 use std::io::{ErrorKind, Write};
@@ -27,7 +37,17 @@ pub fn command<R: Files + AllocGlobal, O: Write, E: Write>(
     words: &[&str],
     out: &mut O,
     err: &mut E,
-) -> u8 {
+) -> u8
+    ensures statuses { result ≤ 5 }
+    ensures done { result ≡ 0 → HasDone (O.contents out.old) (O.contents out.new)
+        (map (λ word. word.now) words.now) × (err.new ≡ err.old) }
+    ensures words { result ≡ 2 → IsCommandLine (map (λ word. word.now) words.now) → ⊥ }
+    ensures other_words { (IsCommandLine (map (λ word. word.now) words.now) → ⊥)
+        → (result ≡ 2) ⊎ (result ≡ 5) }
+    ensures refused { result ≢ 0 → (refusal : Refusal) × (result ≡ status_of refusal)
+        × IsRefusedFor (O.contents out.old) (O.contents out.new)
+        (map (λ word. word.now) words.now) refusal }
+{
     match carry_out(rt, words, out) {
         Ok(()) => 0,
         Err(refusal) => tell(refusal, err),
@@ -39,23 +59,37 @@ pub fn run_program<R: Env + Files + AllocGlobal, O: Write, E: Write>(
     rt: &R,
     out: &mut O,
     err: &mut E,
-) -> u8 {
+) -> u8
+    ensures statuses { result ≤ 5 }
+    ensures done { result ≡ 0 → ((args : List (List ℕ))
+        × HasDone (O.contents out.old) (O.contents out.new) (drop 1 args)) × (err.new ≡ err.old) }
+    ensures refused { result ≢ 0 → (args : List (List ℕ)) × (refusal : Refusal)
+        × (result ≡ status_of refusal)
+        × IsRefusedFor (O.contents out.old) (O.contents out.new) (drop 1 args) refusal }
+{
     let args = match arguments(rt) {
         Ok(args) => args,
         Err(refusal) => return tell(refusal, err),
     };
-    match args
-        .iter()
-        .skip(1)
-        .map(|arg| arg.as_str())
-        .collect(rt.alloc())
-    {
-        Ok(words) => {
-            let words: Vec<&str> = words;
-            command(rt, words.as_slice(), out, err)
-        }
+    match words_of(rt.alloc(), args.as_slice()) {
+        Ok(words) => command(rt, words.as_slice(), out, err),
         Err(_) => tell(Refusal::NoMemory, err),
     }
+}
+
+// The words after the program's name.
+fn words_of<'a>(alloc: Global, args: &'a [String]) -> Result<Vec<&'a str>, AllocError>
+    ensures { IfOk result (λ words. map (λ word. word.now) words.items
+        ≡ drop 1 (map string_bytes args.entry.now)) }
+{
+    let mut words = Vec::new(alloc);
+    let [_, behind @ ..] = args else {
+        return Ok(words);
+    };
+    for arg in behind {
+        words.push(arg.as_str())?;
+    }
+    Ok(words)
 }
 
 // The program's arguments, its name first; one that is no text is no word of a command.
@@ -82,7 +116,12 @@ fn carry_out<R: Files + AllocGlobal, O: Write>(
     rt: &R,
     words: &[&str],
     out: &mut O,
-) -> Result<(), Refusal> {
+) -> Result<(), Refusal>
+    ensures done { OnOk result (HasDone (O.contents out.old) (O.contents out.new)
+        (map (λ word. word.now) words.now)) }
+    ensures refused { IfErr result (IsRefusedFor (O.contents out.old) (O.contents out.new)
+        (map (λ word. word.now) words.now)) }
+{
     match read_words(rt.alloc(), words)? {
         Task::Format {
             image,
@@ -101,7 +140,11 @@ fn make<R: Files + AllocGlobal, O: Write>(
     blocks: u64,
     slots: u64,
     out: &mut O,
-) -> Result<(), Refusal> {
+) -> Result<(), Refusal>
+    ensures done { OnOk result (IsFormat (O.contents out.old) (O.contents out.new) blocks slots) }
+    ensures refused { IfErr result (IsFormatRefused (O.contents out.old) (O.contents out.new)
+        blocks slots) }
+{
     make_image(rt, image, blocks, slots)?;
     match write_out(out, b"formatted\n") {
         Ok(()) => Ok(()),
@@ -115,7 +158,10 @@ fn run<R: Files + AllocGlobal, O: Write>(
     image: &str,
     script: &str,
     out: &mut O,
-) -> Result<(), Refusal> {
+) -> Result<(), Refusal>
+    ensures done { OnOk result (IsRun (O.contents out.old) (O.contents out.new)) }
+    ensures refused { IfErr result (IsRunRefused (O.contents out.old) (O.contents out.new)) }
+{
     let medium = open_image(rt, image)?;
     let Ok(mut script) = fs::open(rt, script) else {
         return Err(Refusal::File);
@@ -132,7 +178,10 @@ fn sim<R: Files + AllocGlobal, O: Write>(
     image: &str,
     script: &str,
     out: &mut O,
-) -> Result<(), Refusal> {
+) -> Result<(), Refusal>
+    ensures done { OnOk result (IsSim (O.contents out.old) (O.contents out.new)) }
+    ensures refused { IfErr result (IsSimRefused (O.contents out.old) (O.contents out.new)) }
+{
     let medium = sim_medium(rt, image)?;
     let Ok(mut script) = fs::open(rt, script) else {
         return Err(Refusal::File);

@@ -1,4 +1,8 @@
 // A script of several lives, played on a simulated medium.
+ghost use Rattle.std.specs.Prelude.{◌≡◌, None, IfOk, IfErr};
+ghost use Rattle.bot_machine.specs.LivesValue.{IsAtRest};
+ghost use Rattle.runner.specs.OutcomeOfLives.{ArePlayed, AreRefused};
+
 use crate::check::check_script;
 use crate::fault::{ScriptError, ScriptFault};
 use crate::identity::disk_identity;
@@ -18,7 +22,14 @@ pub fn sim_script<R: Read, W: Write>(
     medium: SimMedium,
     script: &mut R,
     out: &mut W,
-) -> Result<SimMedium, ScriptError<SimMedium>> {
+) -> Result<SimMedium, ScriptError<SimMedium>>
+    requires rests { IsAtRest medium }
+    requires unfused { medium.power.fuse ≡ None }
+    ensures played { IfOk result (ArePlayed (R.remaining script.old)
+        (W.contents out.old) (W.contents out.new) medium) }
+    ensures refused { IfErr result (λ error. AreRefused (R.remaining script.old)
+        (W.contents out.old) (W.contents out.new) medium error.fault error.medium) }
+{
     let script = match read_to_limit(alloc, script, SCRIPT_LIMIT) {
         Ok(script) => script,
         Err(fault) => {

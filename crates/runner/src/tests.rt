@@ -1,5 +1,8 @@
+ghost use Rattle.std.specs.Prelude.{◌≡◌, None, IfOk};
+ghost use Rattle.bot_machine.specs.LivesValue.{IsAtRest};
+
 use crate::{ScriptFault, command, run_script, sim_script};
-use medium::SimMedium;
+use medium::{Kept, SimMedium};
 use recovery::format;
 use std::alloc::Global;
 use std::io::{ErrorKind, Read, Write};
@@ -19,11 +22,15 @@ const READ: &str = "out 55534243020000000002000080000a28000000000300000100000000
 const WRITE: &str =
     "out 55534243030000000002000000000a2a080000000300000100000000000000\nfill a5 512\nin\n";
 
-// A formatted medium of 16 blocks and one log slot.
-fn formatted(alloc: Global) -> Result<SimMedium, Fail> {
+// A formatted medium of 16 blocks and one log slot, with nothing unflushed.
+fn formatted(alloc: Global) -> Result<SimMedium, Fail>
+    ensures rests { IfOk result IsAtRest }
+    ensures unfused { IfOk result (λ medium. medium.power.fuse ≡ None) }
+{
     let image = vec![in alloc; 0; 68 * 512]?;
     let mut medium = SimMedium::new(alloc, image, 128)?;
     format(&mut medium, 16, 1)?;
+    medium.cut(&Kept::None);
     Ok(medium)
 }
 

@@ -1,12 +1,15 @@
-use Rattle.std.proofs.Common.{◌≡◌, ◌≤◌}
+use Rattle.std.proofs.Common.{◌≤◌}
 use Rattle.std.specs.Prelude.{All, vec_capacity}
 use Rattle.runner.specs.declared.line.ScriptKind.TheVariants.{Lives}
 use Rattle.runner.specs.Left.{parts_left}
 use Rattle.runner.specs.Line.{IsScriptLine}
+use Rattle.runner.specs.Lines.{lines_of}
+use Rattle.runner.proofs.ActingLines.{ArePlayedTo}
 use Rattle.runner.proofs.lifetimes.play_lives.Given as goal
 
 abbrev pub invariant-loop-line : goal.invariant-loop-line
 invariant-loop-line g l = record {
   left : All (IsScriptLine Lives) (parts_left l.line-iterator);
   room : 64 ≤ vec_capacity l.numbers;
+  so_far : ArePlayedTo (g.W.Write.contents l.fn.out) (g.W.Write.contents l.out) l.fn.lives (lines_of l.script) (parts_left l.line-iterator) l.lives;
 }

@@ -1,5 +1,27 @@
 use Rattle.std.proofs.Common.{◌∙◌, sym}
+use Rattle.runner.proofs.Options.{if_ok, if_err}
+use Rattle.runner.proofs.SeveralLives.{is_played, is_refused}
 use Rattle.runner.proofs.sim.sim_script.Goals as goal
 
 pub play_lives-requires-clause-good : goal.play_lives-requires-clause-good
 play_lives-requires-clause-good g c = rw (c.as_slice.ensures.value ∙ sym c.as_slice-2.ensures.value) at c.in_default.ensures.good
+
+pub returns-clause-played : goal.returns-clause-played
+returns-clause-played g c =
+    let contents = g.W.Write.contents in
+    let same = sym c.as_slice-2.ensures.value in
+    if_ok c.play_lives.result
+    (is_played c.args.medium c.requires.rests c.requires.unfused c.disk_identity.result c.disk_identity.ensures c.new.result c.new.ensures.value
+    c.new.ensures.first (g.R.Read.remaining c.args.script.now) (contents c.args.out.now) (contents c.play_lives.new.out) c.as_slice-2.result.now
+    (record { all = rw same at c.in-Ok.ensures.all; fits = rw same at c.in-Ok.ensures.fits }))
+    c.play_lives.ensures.played
+
+pub returns-clause-refused : goal.returns-clause-refused
+returns-clause-refused g c =
+    let contents = g.W.Write.contents in
+    let same = sym c.as_slice-2.ensures.value in
+    if_err c.play_lives.result
+    (is_refused c.args.medium c.requires.rests c.requires.unfused c.disk_identity.result c.disk_identity.ensures c.new.result c.new.ensures.value
+    c.new.ensures.first (g.R.Read.remaining c.args.script.now) (contents c.args.out.now) (contents c.play_lives.new.out) c.as_slice-2.result.now
+    (record { all = rw same at c.in-Ok.ensures.all; fits = rw same at c.in-Ok.ensures.fits }))
+    c.play_lives.ensures.broken

@@ -1,0 +1,18 @@
+use Rattle.std.proofs.Common.{inl, inr}
+use Rattle.runner.proofs.Options.{on_ok_weaker}
+use Rattle.runner.proofs.program.carry_out.Goals as goal
+
+pub returns-in-Format-clause-done : goal.returns-in-Format-clause-done
+returns-in-Format-clause-done g c =
+    let spelled = rw c.in-Format.is at c.in_ok-image.ensures.spelled in
+    on_ok_weaker c.make.result (λ done. inl (c.in-Format.image.now, _, _, spelled, done)) c.make.ensures.done
+
+pub returns-in-Run-clause-done : goal.returns-in-Run-clause-done
+returns-in-Run-clause-done g c =
+    let spelled = rw c.in-Run.is at c.in_ok-image.ensures.spelled in
+    on_ok_weaker c.run.result (λ done. inr (inl ((c.in-Run.image.now, c.in-Run.script.now, spelled), done))) c.run.ensures.done
+
+pub returns-in-Sim-clause-done : goal.returns-in-Sim-clause-done
+returns-in-Sim-clause-done g c =
+    let spelled = rw c.in-Sim.is at c.in_ok-image.ensures.spelled in
+    on_ok_weaker c.sim.result (λ done. inr (inr ((c.in-Sim.image.now, c.in-Sim.script.now, spelled), done))) c.sim.ensures.done

@@ -1,0 +1,39 @@
+use Rattle.std.proofs.Common.{◌∙◌, ℕ, List, [], refl, ap, subst, inl, inr, ⊎_elim, map, drop, length, arith}
+use Rattle.std.specs.Prelude.{string_bytes}
+use Rattle.std.proofs.KnownBytes.{Keeps-refl}
+use Rattle.runner.specs.declared.refusal.Refusal.TheVariants.{NoMemory}
+use Rattle.runner.specs.Program.{HasDone, IsRefusedFor}
+use Rattle.runner.specs.Task.{IsCommandLine}
+use Rattle.runner.proofs.program.run_program.Goals as goal
+
+-- no words are no command line
+no_words : IsCommandLine [] → ⊥
+no_words (inl line) = absurd (omega (arith, ap length line.3.words_are))
+no_words (inr (inl line)) = absurd (omega (arith, ap length line.2.words_are))
+no_words (inr (inr line)) = absurd (omega (arith, ap length line.2.words_are))
+
+pub returns-in-Err-clause-refused : goal.returns-in-Err-clause-refused
+returns-in-Err-clause-refused g c not =
+    let kept = Keeps-refl (g.O.Write.contents c.args.out.now) in
+    ([], c.in-Err.refusal, c.tell.ensures, ⊎_elim (λ is. inl (is, kept)) (λ is. inr (inl (is, no_words, kept))) c.in-Err.ensures)
+
+pub returns-in-Ok-words_of-clause-done : goal.returns-in-Ok-words_of-clause-done
+returns-in-Ok-words_of-clause-done g c zero =
+    let contents = g.O.Write.contents in
+    let done = c.command.ensures.done zero in
+    let same = ap (map (λ word. word.now)) c.as_slice-in-Ok-words_of.ensures.value ∙ c.in-Ok-words_of.ensures in
+    ((map string_bytes c.as_slice.result.now, subst (HasDone (contents c.args.out.now) (contents c.command.new.out)) same done.0), done.1)
+
+pub returns-in-Ok-words_of-clause-refused : goal.returns-in-Ok-words_of-clause-refused
+returns-in-Ok-words_of-clause-refused g c not =
+    let contents = g.O.Write.contents in
+    let so = c.command.ensures.refused not in
+    let same = ap (map (λ word. word.now)) c.as_slice-in-Ok-words_of.ensures.value ∙ c.in-Ok-words_of.ensures in (
+      map string_bytes c.as_slice.result.now,
+      so.0,
+      so.1,
+      subst (λ (words : List (List ℕ)). IsRefusedFor (contents c.args.out.now) (contents c.command.new.out) words so.0) same so.2,
+    )
+
+pub returns-clause-refused : goal.returns-clause-refused
+returns-clause-refused g c not = ([], NoMemory, c.tell-in-Err-words_of.ensures, inl (refl, Keeps-refl (g.O.Write.contents c.args.out.now)))

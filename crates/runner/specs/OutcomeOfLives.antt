@@ -1,0 +1,56 @@
+-- What playing a script of several lives leaves: a medium, and what was written.
+use Rattle.std.specs.Prelude.{◌<◌, ℕ, List, ◌∷◌, ◌++◌, length, Option, IfSome}
+use Rattle.std.specs.Io.KnownBytes.{Appends}
+use Rattle.medium.specs.Sim.{Sim}
+use Rattle.bot_machine.specs.StartFaults.{StartFault}
+use Rattle.bot_machine.specs.declared.event.Answer.{Answer}
+use Rattle.bot_machine.specs.Lives.{Action, starts}
+use Rattle.runner.specs.declared.fault.ScriptFault.{ScriptFault}
+use Rattle.runner.specs.declared.fault.ScriptFault.TheVariants.{Line, TooLong, Start, NoMemory, Reader, Writer}
+use Rattle.runner.specs.declared.line.ScriptKind.TheVariants.{Lives}
+use Rattle.runner.specs.Lifetimes.{Acts, AreLives, AreStopped, text_of_lives}
+use Rattle.runner.specs.Lines.{lines_of}
+use Rattle.runner.specs.Outcome.{script_limit, IsRead, IsUntouched, HasBadLine}
+use Rattle.runner.specs.Streams.{AppendsSome}
+
+module _ (left was now : Option (List ℕ)) (medium : Sim) where
+  -- the script was played whole: exactly the text of the answers in lives of its actions was appended
+  pub record ArePlayed (after : Sim) : Type 0 where
+    pub script : List ℕ
+    pub read : IsRead left script
+    pub actions : List Action
+    pub acts : Acts (lines_of script) actions
+    pub answers : List Answer
+    pub lives : AreLives medium after actions answers
+    pub written : Appends was now (text_of_lives actions answers)
+
+  -- a start that the script came to was refused: the text of the lives before it was appended
+  pub record AreRefusedAStart (fault : StartFault) (back : Sim) : Type 0 where
+    pub script : List ℕ
+    pub read : IsRead left script
+    pub actions : List Action
+    pub rest : List Action
+    pub acts : Acts (lines_of script) (actions ++ starts ∷ rest)
+    pub answers : List Answer
+    pub stopped : AreStopped medium back actions answers fault
+    pub written : Appends was now (text_of_lives actions answers)
+
+  -- the writer failed: of the text of lives of the script's first actions a first part was appended
+  pub record AreCutShort (back : Sim) : Type 0 where
+    pub script : List ℕ
+    pub read : IsRead left script
+    pub actions : List Action
+    pub rest : List Action
+    pub acts : Acts (lines_of script) (actions ++ rest)
+    pub answers : List Answer
+    pub lives : AreLives medium back actions answers
+    pub written : AppendsSome was now (text_of_lives actions answers)
+
+  -- why a script was refused, and what was written then
+  abbrev pub AreRefused : ScriptFault → Sim → Type 0
+  AreRefused (Line number) back = IsUntouched medium back was now × HasBadLine Lives left number
+  AreRefused TooLong back = IsUntouched medium back was now × IfSome left (λ all. script_limit < length all)
+  AreRefused (Start fault) back = AreRefusedAStart fault back
+  AreRefused NoMemory back = IsUntouched medium back was now
+  AreRefused Reader back = IsUntouched medium back was now
+  AreRefused Writer back = AreCutShort back
