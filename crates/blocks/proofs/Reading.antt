@@ -1,5 +1,6 @@
 -- What a read gives.
-use Rattle.std.proofs.Common.{◌≡◌, ℕ, zero, suc, ◌+◌, ◌*◌, ◌≤◌, ◌<◌, List, ◌++◌, length, take, Option, None, sym, ◌∙◌, ap, arith, append_assoc, append-nil, add-zero, add-one}
+use Rattle.std.proofs.Common.{◌≡◌, ℕ, zero, suc, ◌+◌, ◌*◌, ◌≤◌, ◌<◌, List, ◌++◌, length, take, drop, Option, None, sym, ◌∙◌, ap, arith, append_assoc, append-nil, add-zero, add-one}
+use Rattle.std.proofs.lemmas.List.{length-drop, length-take-le}
 use Rattle.std.proofs.lemmas.Slice.{take-put_mid}
 use borrow.Rule.Slice.PartMut.{put_mid}
 use Rattle.std.specs.Prelude.{unwrap_or}
@@ -30,10 +31,11 @@ pub one_more : (array : Array) (address i : ℕ) → blocks_at array address (i 
 one_more array address i = rw add-one (one_more_suc array address i)
 
 -- a slice that begins with so many blocks begins with one more where the next block is put behind them
-pub put_block : (array : Array) (address i at size end : ℕ) (to block : List ℕ) → at ≡ 512 * i → size ≡ 512 → end ≡ 512 * (i + 1) → end ≤ length to → length block ≡ 512
+pub put_block : (array : Array) (address i at size end : ℕ) (to block : List ℕ) → at ≡ 512 * i → size ≡ 512 → end ≡ 512 * (i + 1) → end ≤ length to → length block ≡ length (take size (drop at to))
     → take (512 * i) to ≡ blocks_at array address i → block ≡ array (address + i) → take end (put_mid at size to block) ≡ blocks_at array address (i + 1)
-put_block array address i at size end to block at_is size_is end_is inside long so_far is =
-    take-put_mid at size to block end (omega (arith, at_is, end_is, long)) (omega (arith, at_is, end_is, inside))
+put_block array address i at size end to block at_is size_is end_is inside alike so_far is =
+    let part : length (take size (drop at to)) ≡ size = length-take-le size (drop at to) (omega (arith, length-drop at to, at_is, size_is, end_is, inside)) in
+    take-put_mid at size to block end (omega (arith, at_is, size_is, end_is, alike, part)) (omega (arith, at_is, end_is, inside))
     ∙ (ap (λ (n : ℕ). take n to ++ block) at_is
     ∙ (ap (λ (l : List ℕ). l ++ block) so_far
     ∙ (ap (λ (l : List ℕ). blocks_at array address i ++ l) is

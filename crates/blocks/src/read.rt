@@ -39,17 +39,16 @@ impl<M: Medium> Store<M> {
         }
         for i in 0..to.len() / BLOCK {
             let at = i * BLOCK;
-            let mut block = [0; BLOCK];
-            self.read_block(address + i as u64, &mut block)?;
-            to[at..at + BLOCK].copy_from_slice(&block);
+            self.read_block(address + i as u64, &mut to[at..at + BLOCK])?;
         }
         Ok(())
     }
 
     // Reads one block.
-    fn read_block(&mut self, block: u64, to: &mut [u8; BLOCK]) -> Result<(), StoreFault>
+    fn read_block(&mut self, block: u64, to: &mut [u8]) -> Result<(), StoreFault>
         requires live { is_dead self.old.cached ≡ false }
         requires inside { block < blocks_of self.old.cached }
+        requires size { length to.old ≡ 512 }
         ensures ok { (book : Book) → FitsBook (M.state self.old.medium) self.old.cached book
             → OnOk result (to.new ≡ array_of book block) }
         ensures err { IfErr result (λ fault. IsReadCause (M.state self.old.medium)
@@ -67,6 +66,9 @@ impl<M: Medium> Store<M> {
             to.copy_from_slice(bytes);
             return Ok(());
         }
+        let Some(to) = to.as_mut_array() else {
+            unreachable!()
+        };
         match self.read_durable(block, to) {
             Ok(()) => Ok(()),
             Err(_) => Err(StoreFault::ReadFault),

@@ -196,3 +196,107 @@ fn a_refused_flush_is_the_end(rt: HostRuntime) -> Result<(), Fail> {
     );
     Ok(())
 }
+
+// Writes one block, and makes it durable.
+fn write_through(store: &mut Store<SimMedium>, block: u64, byte: u8) -> Result<(), StoreFault>
+    requires size { blocks_of store.old.cached ≡ 1000 }
+    requires inside { block < 1000 }
+    ensures { blocks_of store.new.cached ≡ 1000 }
+{
+    store.write(block, &[byte; 512])?;
+    store.sync()
+}
+
+// Makes blocks 0 to 7 durable, each in a record of its own.
+fn fill(store: &mut Store<SimMedium>) -> Result<(), StoreFault>
+    requires { blocks_of store.old.cached ≡ 1000 }
+    ensures { blocks_of store.new.cached ≡ 1000 }
+{
+    for block in 0..8 {
+        write_through(store, block, 7)?;
+    }
+    Ok(())
+}
+
+// A store whose eight log slots all hold a record.
+fn filled(rt: HostRuntime, image: &[u8]) -> Result<Store<SimMedium>, Fail>
+    ensures { IfOk result (λ store. blocks_of store.cached ≡ 1000) }
+{
+    let mut store = started(rt, image)?;
+    fill(&mut store).map_err(|_| "dead")?;
+    Ok(store)
+}
+
+// The first bytes of blocks 0 to 8.
+fn nine_bytes(store: &mut Store<SimMedium>) -> Result<[u8; 9], StoreFault>
+    requires { blocks_of store.old.cached ≡ 1000 }
+{
+    let mut bytes = [0; 9];
+    for block in 0..9 {
+        bytes[block as usize] = byte_of(store, block)?;
+    }
+    Ok(bytes)
+}
+
+#[test]
+fn a_record_is_retired_where_no_slot_is_left(rt: HostRuntime) -> Result<(), Fail> {
+    let mut store = started(rt, &formatted(rt)?)?;
+    let first = store.medium().flushes();
+    assert_eq!(rt; fill(&mut store), Ok(()));
+    let second = store.medium().flushes();
+    assert_eq!(rt; write_through(&mut store, 8, 9), Ok(()));
+    let third = store.medium().flushes();
+    assert_eq!(rt; second.checked_sub(first), Some(16));
+    assert_eq!(rt; third.checked_sub(second), Some(4));
+    assert_eq!(rt; nine_bytes(&mut store), Ok([7, 7, 7, 7, 7, 7, 7, 7, 9]));
+    Ok(())
+}
+
+// Whether a store with a full log lives when it writes block 8 under a fuse, and what a start after
+// a cut finds.
+fn fused_ninth(
+    rt: HostRuntime,
+    image: &[u8],
+    fuse: u64,
+    kept: &Kept,
+) -> Result<(bool, [u8; 9]), Fail> {
+    let mut store = filled(rt, image)?;
+    store.fuse(fuse);
+    let lives = write_through(&mut store, 8, 9) == Ok(());
+    let mut store = restarted(rt, store, kept)?;
+    Ok((lives, nine_bytes(&mut store)?))
+}
+
+#[test]
+fn no_record_is_lost_where_the_oldest_is_retired(rt: HostRuntime) -> Result<(), Fail> {
+    let image = formatted(rt)?;
+    let without = [7, 7, 7, 7, 7, 7, 7, 7, 0];
+    let with = [7, 7, 7, 7, 7, 7, 7, 7, 9];
+    for fuse in 0..9 {
+        assert_eq!(rt;
+            fused_ninth(rt, &image, fuse, &Kept::None)?,
+            (false, without)
+        );
+    }
+    for fuse in 0..8 {
+        assert_eq!(rt;
+            fused_ninth(rt, &image, fuse, &Kept::All)?,
+            (false, without)
+        );
+    }
+    assert_eq!(rt; fused_ninth(rt, &image, 8, &Kept::All)?, (false, with));
+    assert_eq!(rt; fused_ninth(rt, &image, 9, &Kept::None)?, (true, with));
+    Ok(())
+}
+
+#[test]
+fn ticks_retire_every_record(rt: HostRuntime) -> Result<(), Fail> {
+    let mut store = filled(rt, &formatted(rt)?)?;
+    let full = store.medium().flushes();
+    rest(&mut store);
+    let empty = store.medium().flushes();
+    assert_eq!(rt; empty.checked_sub(full), Some(16));
+    assert_eq!(rt; write_through(&mut store, 8, 9), Ok(()));
+    assert_eq!(rt; store.medium().flushes().checked_sub(empty), Some(2));
+    Ok(())
+}

@@ -88,7 +88,7 @@ fn live(
 {
     arm(run, life.fuse);
     run.start(alloc)?;
-    play_all(run, &life.events, answers);
+    play_all(run, life.events.as_slice(), answers);
     run.cut(&life.kept);
     Ok(())
 }

@@ -2,7 +2,7 @@
 use Rattle.std.proofs.Common.{◌≡◌, ℕ, ◌+◌, ◌*◌, List, [], ◌∷◌, length, get_or, arith, refl, ◌∙◌, suc, ◌<◌, ◌≤◌}
 use Rattle.std.proofs.lemmas.List.{length-append}
 use Rattle.cache.specs.Entries.{IsWellFormed, PutsBlock}
-use Rattle.cache.specs.Places.{joined, ArePaired, PutsEntry}
+use Rattle.cache.specs.Places.{joined, held, ArePaired, PutsEntry}
 use Rattle.cache.specs.Blocks.{absent}
 use Rattle.cache.specs.View.{view_of}
 use Rattle.cache.specs.declared.batch.Batch.TheInside.{Inside}
@@ -16,16 +16,19 @@ length-joined (block ∷ blocks) sized =
     length-append block (joined blocks) ∙ omega (arith, size, more)
 
 -- a batch as it is kept is well-formed
-pub well_formed : (batch : Inside) → ArePaired batch.numbers.items batch.blocks.items → length batch.numbers.items ≤ batch.room → IsWellFormed (view_of batch)
-well_formed batch paired within = record {
-  rising = paired.rising;
-  sized = let all : length (joined batch.blocks.items) ≡ 512 * length batch.blocks.items = length-joined batch.blocks.items (λ k h. paired.sized k [] h) in
-      omega (arith, all, paired.alike);
-  within = within;
-}
+pub well_formed : (batch : Inside) → ArePaired batch.numbers.items (held batch.numbers.items batch.row.items) → length batch.numbers.items ≤ batch.room → IsWellFormed (view_of batch)
+well_formed batch paired within =
+    let blocks : List (List ℕ) = held batch.numbers.items batch.row.items in
+    record {
+      rising = paired.rising;
+      sized = let all : length (joined blocks) ≡ 512 * length blocks = length-joined blocks (λ k h. paired.sized k [] h) in
+          omega (arith, all, paired.alike);
+      within = within;
+    }
 
 -- one entry was put, and the room stayed
-pub put_one : (old new : Inside) (number : ℕ) (block : List ℕ) → new.room ≡ old.room → length old.numbers.items + absent old.numbers.items number ≤ old.room → PutsEntry number block old.numbers.items new.numbers.items old.blocks.items new.blocks.items → PutsBlock number block (view_of old) (view_of new)
+pub put_one : (old new : Inside) (number : ℕ) (block : List ℕ) → new.room ≡ old.room → length old.numbers.items + absent old.numbers.items number ≤ old.room
+    → PutsEntry number block old.numbers.items new.numbers.items (held old.numbers.items old.row.items) (held new.numbers.items new.row.items) → PutsBlock number block (view_of old) (view_of new)
 put_one old new number block same fits put = record {
   well_formed = well_formed new put.paired (omega (arith, put.count, same, fits));
   map = put.map;

@@ -1,5 +1,5 @@
 -- Numbers that rise beside blocks in the same order, and the place of a number among them.
-use Rattle.std.specs.Prelude.{◌≡◌, ◌<◌, ◌≤◌, ℕ, ◌+◌, List, length, slice_index}
+use Rattle.std.specs.Prelude.{◌≡◌, ◌<◌, ◌≤◌, ℕ, ◌+◌, List, length, take, slice_index}
 use Rattle.std.specs.List.{All, flat_map}
 use Rattle.cache.specs.Blocks.{blocks_of, with_block, IsRising, absent}
 
@@ -13,6 +13,10 @@ pub record ArePaired (numbers : List ℕ) (blocks : List (List ℕ)) : Type 0 wh
   pub sized : All (λ (block : List ℕ). length block ≡ 512) blocks
   pub rising : IsRising numbers
 
+-- the blocks of a row beside which the numbers stand: as many of the first as there are numbers
+abbrev pub held : List ℕ → List (List ℕ) → List (List ℕ)
+held numbers row = take (length numbers) row
+
 -- the number stands at this place
 pub record StandsAt (numbers : List ℕ) (number place : ℕ) : Type 0 where
   pub inside : place < length numbers
@@ -24,6 +28,12 @@ pub record WouldStandAt (numbers : List ℕ) (number place : ℕ) : Type 0 where
   pub inside : place ≤ length numbers
   pub before : (k : ℕ) → k < place → slice_index numbers k < number
   pub past : (k : ℕ) → place ≤ k → k < length numbers → number < slice_index numbers k
+
+-- the number stands at this place, or would stand there: the numbers before it are smaller, and the one at it is not
+pub record HasPlace (numbers : List ℕ) (number place : ℕ) : Type 0 where
+  pub inside : place ≤ length numbers
+  pub before : (k : ℕ) → k < place → slice_index numbers k < number
+  pub here : place < length numbers → number ≤ slice_index numbers place
 
 -- one block was put at its number: in place of the one that was there, or as one more
 pub record PutsEntry (number : ℕ) (block : List ℕ) (old_numbers new_numbers : List ℕ)

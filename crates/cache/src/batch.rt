@@ -2,6 +2,7 @@
 ghost use Rattle.std.specs.Prelude.{◌≡◌, ◌⊎◌, ◌↔◌, ◌+◌, ◌*◌, ◌/◌, ◌%◌, ◌^◌, ◌<◌, ◌≤◌, ℕ, [], length, Some, None, IsTrue, IfOk, IfSome, IsNone};
 ghost use Rattle.cache.specs.Blocks.{with_range, InRange, Listed, absent, unlisted};
 ghost use Rattle.cache.specs.Entries.{IsWellFormed, Fits, PutsBlock, map_of};
+ghost use Rattle.cache.specs.Places.{HasPlace};
 
 use crate::counter::Steps;
 use crate::entry::{BLOCK, put_entry};
@@ -21,7 +22,8 @@ pub enum BatchError {
 #[derive(Drop)]
 pub struct Batch {
     numbers: Vec<u64>,
-    blocks: Vec<[u8; BLOCK]>,
+    // As long as the room: the first blocks are those of the numbers, the others are free.
+    row: Vec<[u8; BLOCK]>,
     room: usize,
 }
 
@@ -47,12 +49,8 @@ impl Batch {
             (λ batch. batch ≡ record { room = room; numbers = []; bytes = [] }) }
     {
         let numbers = Vec::with_capacity(alloc, room).map_err(|_| BatchError::NoMemory)?;
-        let blocks = Vec::with_capacity(alloc, room).map_err(|_| BatchError::NoMemory)?;
-        Ok(Batch {
-            numbers,
-            blocks,
-            room,
-        })
+        let row = vec![in alloc; [0; BLOCK]; room].map_err(|_| BatchError::NoMemory)?;
+        Ok(Batch { numbers, row, room })
     }
 
     /// How many blocks there are.
@@ -82,7 +80,7 @@ impl Batch {
         ensures value { result.now ≡ self.now.bytes }
         ensures well_formed { IsWellFormed self.now }
     {
-        self.blocks.as_flattened()
+        self.row[..self.numbers.len()].as_flattened()
     }
 
     /// The 512 bytes of a block, where it is there.
@@ -92,7 +90,7 @@ impl Batch {
         ensures none { IsNone result ↔ (map_of self.now block ≡ None) }
     {
         match self.search(block, &mut Steps::new()) {
-            Ok(place) => Some(&self.blocks[place]),
+            Ok(place) => Some(&self.row[place]),
             Err(_) => None,
         }
     }
@@ -103,7 +101,12 @@ impl Batch {
         requires { address + count ≤ 2 ^ 31 }
         ensures { IsTrue result ↔ Fits self.now address count }
     {
-        self.count_missing(address, count) <= self.room - self.numbers.len()
+        let free = self.room - self.numbers.len();
+        if count <= free {
+            return true;
+        }
+        let present = self.place_of(address + count as u64) - self.place_of(address);
+        count - present <= free
     }
 
     /// Puts blocks at the numbers from the address on, each in place of the one that was there.
@@ -122,9 +125,10 @@ impl Batch {
         ensures room_stays { self.new.room ≡ self.old.room }
         ensures well_formed { IsWellFormed self.new }
     {
+        let mut place = self.place_of(address);
         for i in 0..bytes.len() / BLOCK {
             let at = i * BLOCK;
-            self.put_block(address + i as u64, &bytes[at..at + BLOCK]);
+            place = self.put_block(place, address + i as u64, &bytes[at..at + BLOCK]);
         }
     }
 
@@ -133,16 +137,17 @@ impl Batch {
         ensures { self.new ≡ record self.old { numbers = []; bytes = [] } }
     {
         self.numbers.clear();
-        self.blocks.clear();
     }
 
-    // Puts one block.
-    fn put_block(&mut self, number: u64, block: &[u8])
+    // Puts one block where the place of its number is known, and gives the place of the next number.
+    fn put_block(&mut self, place: usize, number: u64, block: &[u8]) -> usize
+        requires place { HasPlace self.old.numbers number place }
         requires size { length block.now ≡ 512 }
         requires room { length self.old.numbers + absent self.old.numbers number ≤ self.old.room }
-        ensures { PutsBlock number block.now self.old self.new }
+        ensures put { PutsBlock number block.now self.old self.new }
+        ensures next { HasPlace self.new.numbers (number + 1) result }
     {
-        let searched = self.search(number, &mut Steps::new());
-        put_entry(&mut self.numbers, &mut self.blocks, searched, number, block);
+        put_entry(&mut self.numbers, &mut self.row, place, number, block);
+        place + 1
     }
 }

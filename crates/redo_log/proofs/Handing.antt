@@ -1,17 +1,16 @@
 -- What a store on top of a log cites.
-use Rattle.std.proofs.Common.{◌≡◌, ◌⊎◌, inl, inr, ⊎_elim, ℕ, ◌+◌, ◌<◌, ◌≤◌, List, [], ◌∷◌, ◌++◌, length, get_or, drop, refl, sym, ap, subst, arith, length-append}
+use Rattle.std.proofs.Common.{◌≡◌, ◌⊎◌, inl, inr, ⊎_elim, ℕ, ◌+◌, ◌-◌, ◌<◌, ◌≤◌, List, [], ◌∷◌, ◌++◌, length, drop, refl, sym, ap, subst, arith, length-append}
 use Rattle.std.specs.Prelude.{Bool, true, false}
-use Rattle.std.proofs.lemmas.List.{length-map}
 use Rattle.medium.specs.Medium.{State, Image}
 use Rattle.medium.specs.Moments.{EachCut}
 use Rattle.medium.specs.Blocks.{Array}
 use Rattle.log_layout.specs.Places.{Shape, first_home, sectors_of}
-use Rattle.log_layout.specs.Record.{Entry, numbers_of, with_blocks}
+use Rattle.log_layout.specs.Record.{Entry, with_blocks}
 use Rattle.log_layout.specs.Standing.{IsOurs}
-use Rattle.redo_log.specs.Value.{LogValue, HasRoom, retire_steps_of, idle_from, begun, died}
+use Rattle.redo_log.specs.Value.{LogValue, HasRoom, retire_steps_of, behind_oldest, of_oldest, idle_from, begun, died}
 use Rattle.redo_log.specs.Batch.{IsBatch, entries_of}
-use Rattle.redo_log.specs.Logged.{Logged, IsFresh}
-use Rattle.redo_log.specs.Held.{View, resting_view, with_begun, MayLeave, Guards, stamps_of, HoldsView}
+use Rattle.redo_log.specs.Logged.{Logged, IsFresh, AreHome}
+use Rattle.redo_log.specs.Held.{View, resting_view, with_begun, oldest_of, MayLeave, Guards, stamps_of, HoldsView}
 use Rattle.redo_log.proofs.Batching.{numbers_of_batch, length_of_batch}
 use Rattle.redo_log.proofs.Stepping.{guards_leave}
 use Rattle.redo_log.proofs.Guarding.{resting}
@@ -79,38 +78,31 @@ may_leave_ours size log view image found = ⊎_elim
 pub begun_holds : (log : LogValue) (m : State) (view : View) (numbers bytes : List ℕ) → HoldsView log m view → HasRoom log → IsBatch log.shape.blocks numbers bytes
     → HoldsView (begun numbers log) m (with_begun (entries_of numbers bytes) view)
 begun_holds log m view numbers bytes holds room batch =
-    let f : List Entry → List ℕ = λ r. numbers_of r in
     let many : length (entries_of numbers bytes) ≡ length numbers = length_of_batch numbers bytes in
-    let more : 3 ≤ retire_steps_of numbers = retire_steps numbers batch.some in
-    let guards : log.dead ≡ false → view.ours ≡ true → Guards log.shape log.head (with_begun (entries_of numbers bytes) view) (length numbers + 4) (log.retire_steps_left + retire_steps_of numbers) m = λ live ours. record {
+    let none : retire_steps_of log.under_way ≡ 0 = ap (λ (l : List ℕ). retire_steps_of l) room.none_under_way in
+    let behind : behind_oldest (begun numbers log) ≡ behind_oldest log + retire_steps_of numbers = omega (arith, none) in
+    let same : of_oldest log ≡ of_oldest (begun numbers log) = omega (arith, behind) in
+    let guards : log.dead ≡ false → view.ours ≡ true → Guards log.shape log.head (with_begun (entries_of numbers bytes) view) (length numbers + 4) (of_oldest log) m = λ live ours. record {
       each = λ image cut. ⊎_elim (λ rest. inl rest) (λ both. absurd (omega (arith, both.0, room.no_steps))) ((holds.guards live ours).each image cut);
       described = λ some less. absurd (omega arith);
       flushed = λ some less. absurd (omega arith);
       committed = λ is. absurd (omega arith);
-      homed = λ is. absurd (omega arith);
+      homed = (holds.guards live ours).homed;
     } in
     record {
       fits = holds.fits;
       durable = holds.durable;
       under_way = sym (numbers_of_batch numbers bytes);
       next = omega (arith, holds.next, ap (λ (l : List ℕ). stamps_of l) room.none_under_way, one_stamp numbers batch.some);
-      leaves = λ ours image cut. ⊎_elim (λ rest. inl rest) (λ other. ⊎_elim (λ both. absurd (omega (arith, both.0, room.no_steps))) (λ less. absurd (omega (arith, less.1, room.no_retire_steps))) other) (holds.leaves ours image cut);
+      leaves = λ ours image cut. ⊎_elim (λ rest. inl rest) (λ other. ⊎_elim (λ both. absurd (omega (arith, both.0, room.no_steps))) (λ less. inr (inr (less.0, omega (arith, less.1, behind), less.2))) other) (holds.leaves ours image cut);
       stores = λ live. record {
         laid = (holds.stores live).laid;
         written = λ i low high. absurd (omega arith);
-        copied = λ i low high. absurd (omega (arith, high, ap (λ (l : List (List ℕ)). length l) room.none_waits, ap (λ (l : List (List ℕ)). length l) holds.durable, length-map view.records f, empty_first view.records));
+        copied = subst (λ (n : ℕ). AreHome log.shape (oldest_of view) (length (oldest_of view) + 2 - n) m.content) same (holds.stores live).copied;
       };
-      guards = guards;
+      guards = λ live ours. subst (λ (n : ℕ). Guards log.shape log.head (with_begun (entries_of numbers bytes) view) (length numbers + 4) n m) same (guards live ours);
     }
   where
-    retire_steps : (numbers : List ℕ) → 1 ≤ length numbers → 3 ≤ retire_steps_of numbers
-    retire_steps [] some = absurd (omega arith)
-    retire_steps (n ∷ numbers) some = omega arith
-
     one_stamp : (numbers : List ℕ) → 1 ≤ length numbers → stamps_of numbers ≡ 1
     one_stamp [] some = absurd (omega arith)
     one_stamp (n ∷ numbers) some = refl
-
-    empty_first : (records : List (List Entry)) → length records ≡ 0 → length (get_or records 0 []) ≡ 0
-    empty_first [] none = refl
-    empty_first (r ∷ records) none = absurd (omega arith)

@@ -3,10 +3,14 @@ pub mod Logging
 pub mod Laying
 pub mod Storing
 pub mod Guarding
-pub mod Adding
-pub mod Batching
 pub mod Stepping
 pub mod Homing
-pub mod Closing
 pub mod Finding
+pub mod Closing
 pub mod Handing
+pub mod Ringing
+pub mod Indexing
+pub mod Newest
+pub mod Entering
+pub mod Adding
+pub mod Batching

@@ -1,5 +1,6 @@
 -- What a medium stores of a log, after each call of a record's life.
-use Rattle.std.proofs.Common.{◌≡◌, ℕ, ◌+◌, ◌-◌, ◌%◌, ◌<◌, ◌≤◌, List, [], ◌∷◌, ◌++◌, length, get_or, drop, refl, sym, ◌∙◌, ap, subst, arith}
+use Rattle.std.proofs.Common.{◌≡◌, inl, inr, ℕ, ◌+◌, ◌-◌, ◌%◌, ◌<◌, ◌≤◌, List, [], ◌∷◌, ◌++◌, length, get_or, drop, refl, sym, ◌∙◌, ap, subst, arith}
+use Rattle.std.proofs.lemmas.Bool.{cases_eq}
 use Rattle.std.proofs.lemmas.Nat.{mod_below}
 use Rattle.std.proofs.Math.Seq.{get_or-append_seam}
 use Rattle.medium.specs.Medium.{Image, Stays, Holds}
@@ -7,7 +8,7 @@ use Rattle.log_layout.specs.Places.{Shape, slot_place, first_home}
 use Rattle.log_layout.specs.Sectors.{IsRising}
 use Rattle.log_layout.specs.Record.{Entry, numbers_of, home_of}
 use Rattle.log_layout.proofs.Overlay.{records-hide, with_records-same}
-use Rattle.redo_log.specs.Logged.{HasPlaces, Laid}
+use Rattle.redo_log.specs.Logged.{HasPlaces, AreHome, Laid}
 use Rattle.redo_log.specs.Held.{View, with_record, view_retired, Stores}
 use Rattle.redo_log.proofs.Laying.{AreSmall, HasPlaces-elsewhere, AreHome-log, Laid-slot, Laid-home, AreHome-write, HasPlaces-write, Laid-oldest, Laid-more}
 
@@ -18,11 +19,15 @@ pub record HasSlot (shape : Shape) (view : View) : Type 0 where
   pub small : AreSmall view.records
   pub few : length view.under_way ≤ 48
 
--- one record without the first
-pub drop_one : (records : List (List Entry)) → length records ≡ 1 → drop 1 records ≡ []
-drop_one [] one = refl
-drop_one (r ∷ []) one = refl
-drop_one (r ∷ x ∷ rest) one = absurd (omega arith)
+-- the oldest record stays the oldest where there is one
+pub oldest-append : (records : List (List Entry)) (entries : List Entry) → 0 < length records → get_or (records ++ entries ∷ []) 0 [] ≡ get_or records 0 []
+oldest-append [] entries some = absurd (omega arith)
+oldest-append (r ∷ records) entries some = refl
+
+-- one record less
+pub drop-length : (records : List (List Entry)) → 0 < length records → length records ≡ length (drop 1 records) + 1
+drop-length [] some = absurd (omega arith)
+drop-length (r ∷ records) some = omega arith
 
 module _ (shape : Shape) (head : ℕ) (view : View) where
   -- the stamp of the record behind the durable ones
@@ -91,17 +96,24 @@ module _ (shape : Shape) (head : ℕ) (view : View) where
       copied = AreHome-log shape old new place bytes write _ _ (in_log (omega arith)) s.copied;
     }
 
-  -- the record under way is the oldest durable one
-  pub durable_stores : (retire : ℕ) (content : Image) → length view.records ≡ 0
-      → Stores shape head view 1 retire content → Stores shape head (with_record view) 0 (length view.under_way + 2) content
-  durable_stores retire content none s =
-      let oldest : get_or (view.records ++ view.under_way ∷ []) 0 [] ≡ view.under_way = ap (λ (k : ℕ). get_or (view.records ++ view.under_way ∷ []) k []) (sym none) ∙ get_or-append_seam view.records view.under_way [] [] in
-      let long : length (get_or (view.records ++ view.under_way ∷ []) 0 []) ≡ length view.under_way = ap (λ (r : List Entry). length r) oldest in
-      record {
-        laid = Laid-more shape content head view.records view.under_way view.array (λ i low high. s.written i (omega arith) high) s.laid;
-        written = λ i low high. absurd (omega arith);
-        copied = λ i low high. absurd (omega arith);
-      }
+  -- the record under way is durable, and where it is the only one nothing of it is home
+  pub durable_stores : (retire left : ℕ) (content : Image) → (length view.records ≡ 0 → left ≡ length view.under_way + 2) → (0 < length view.records → left ≡ retire)
+      → Stores shape head view 1 retire content → Stores shape head (with_record view) 0 left content
+  durable_stores retire left content alone more s = record {
+    laid = Laid-more shape content head view.records view.under_way view.array (λ i low high. s.written i (omega arith) high) s.laid;
+    written = λ i low high. absurd (omega arith);
+    copied = elim (cases_eq (length view.records) 0) [
+      | inl none ↦
+          let oldest : get_or (view.records ++ view.under_way ∷ []) 0 [] ≡ view.under_way = ap (λ (k : ℕ). get_or (view.records ++ view.under_way ∷ []) k []) (sym none) ∙ get_or-append_seam view.records view.under_way [] [] in
+          let long : length (get_or (view.records ++ view.under_way ∷ []) 0 []) ≡ length view.under_way = ap (λ (r : List Entry). length r) oldest in
+          λ i low high. absurd (omega (arith, alone none))
+      | inr some ↦
+          let waits : 0 < length view.records = omega arith in
+          let P : List Entry → ℕ → Type 0 = λ r n. AreHome shape r (length r + 2 - n) content in
+          subst (λ (n : ℕ). P (get_or (view.records ++ view.under_way ∷ []) 0 []) n) (sym (more waits))
+          (subst (λ (r : List Entry). P r retire) (sym (oldest-append view.records view.under_way waits)) s.copied)
+    ];
+  }
 
   -- a block of the oldest record is written home
   pub home_stores : (steps : ℕ) (old new : Image) (place : ℕ) (bytes : List ℕ) (write : Holds place bytes old new) (i : ℕ) → 0 < shape.slots → AreSmall view.records → 0 < length view.records → length view.under_way ≤ 48
@@ -116,15 +128,15 @@ module _ (shape : Shape) (head : ℕ) (view : View) where
         copied = λ j low high. AreHome-write shape old new place bytes write (get_or view.records 0 []) i rising below at is (λ k less inside. s.copied k (omega arith) inside) j (omega arith) high;
       }
 
-  -- the head goes past the oldest record
-  pub head_stores : (steps : ℕ) (old new : Image) (bytes : List ℕ) → Holds 1 bytes old new → length view.records ≡ 1
-      → Stores shape head view steps 1 old → Stores shape (head + 1) (view_retired 1 view) steps 0 new
-  head_stores steps old new bytes write one s =
-      let none : drop 1 view.records ≡ [] = drop_one view.records one in
-      let same : head + length view.records ≡ head + 1 + length (drop 1 view.records) = omega (arith, ap (λ (r : List (List Entry)). length r) none) in
+  -- the head goes past the oldest record, and nothing of the next one is home
+  pub head_stores : (steps left : ℕ) (old new : Image) (bytes : List ℕ) → Holds 1 bytes old new → 0 < length view.records
+      → (0 < length (get_or (drop 1 view.records) 0 []) → length (get_or (drop 1 view.records) 0 []) + 2 ≤ left)
+      → Stores shape head view steps 1 old → Stores shape (head + 1) (view_retired 1 view) steps left new
+  head_stores steps left old new bytes write waits more s =
+      let same : head + length view.records ≡ head + 1 + length (drop 1 view.records) = omega (arith, drop-length view.records waits) in
       record {
-        laid = Laid-oldest shape old new bytes write head view.records view.array (omega arith) (λ i low high. s.copied i (omega arith) high) s.laid;
+        laid = Laid-oldest shape old new bytes write head view.records view.array waits (λ i low high. s.copied i (omega arith) high) s.laid;
         written = subst (λ (n : ℕ). HasPlaces shape n view.under_way (length view.under_way + 3 - steps) new) same
             (HasPlaces-elsewhere shape old new 1 bytes write stamp view.under_way _ (λ k less inside e. omega arith) s.written);
-        copied = λ i low high. absurd (omega (arith, high, ap (λ (r : List (List Entry)). length (get_or r 0 [])) none));
+        copied = λ i low high. absurd (omega (arith, low, more (omega (arith, high))));
       }

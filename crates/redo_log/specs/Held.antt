@@ -8,7 +8,7 @@ use Rattle.log_layout.specs.Sectors.{IsDescriptor}
 use Rattle.log_layout.specs.Record.{Entry, numbers_of, with_blocks}
 use Rattle.redo_log.specs.declared.progress.Progress.{Progress}
 use Rattle.redo_log.specs.declared.progress.Progress.TheVariants.{More, Durable}
-use Rattle.redo_log.specs.Value.{LogValue, behind_oldest}
+use Rattle.redo_log.specs.Value.{LogValue, behind_oldest, of_oldest}
 use Rattle.redo_log.specs.Logged.{HasRecords, Logged, HasPlaces, IsStaged, AreHome, Laid}
 
 -- what a log has
@@ -83,7 +83,7 @@ oldest_of view = get_or view.records 0 []
 abbrev pub IsLogged : Shape → ℕ → View → Image → Type 0
 IsLogged shape head view image = Logged shape head view.records view.array image
 
--- what a medium stores of a log, where so many steps and so many retire steps are left
+-- what a medium stores of a log, where so many steps are left, and so many retire steps of its oldest record
 pub record Stores (shape : Shape) (head : ℕ) (view : View) (steps retire : ℕ) (content : Image) : Type 0 where
   pub laid : Laid shape head view.records view.array content
   -- the record under way as far as it is written
@@ -118,5 +118,5 @@ pub record HoldsView (log : LogValue) (m : State) (view : View) : Type 0 where
   pub under_way : log.under_way ≡ numbers_of view.under_way
   pub next : log.next ≡ log.head + length view.records + stamps_of log.under_way
   pub leaves : view.ours ≡ true → EachCut (MayLeave m.size log view) m
-  pub stores : log.dead ≡ false → Stores log.shape log.head view log.steps_left log.retire_steps_left m.content
-  pub guards : log.dead ≡ false → view.ours ≡ true → Guards log.shape log.head view log.steps_left log.retire_steps_left m
+  pub stores : log.dead ≡ false → Stores log.shape log.head view log.steps_left (of_oldest log) m.content
+  pub guards : log.dead ≡ false → view.ours ≡ true → Guards log.shape log.head view log.steps_left (of_oldest log) m

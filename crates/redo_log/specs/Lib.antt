@@ -2,6 +2,7 @@ pub mod Value
 pub mod Batch
 pub mod Logged
 pub mod Held
+pub mod Index
 pub mod Stages
 pub mod Calls
 pub mod Turns

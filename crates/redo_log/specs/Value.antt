@@ -24,12 +24,11 @@ pub record LogValue : Type 0 where
 abbrev pub idle_from : Shape → ℕ → LogValue
 idle_from shape next = record { shape = shape; head = next; next = next; under_way = []; waiting = []; steps_left = 0; retire_steps_left = 0; dead = false }
 
--- a record may be begun: none is under way, and no durable one waits to be retired
+-- a record may be begun: none is under way, and the stamps from the durable head's on leave a slot free
 pub record HasRoom (log : LogValue) : Type 0 where
   pub none_under_way : log.under_way ≡ []
-  pub none_waits : log.waiting ≡ []
   pub no_steps : log.steps_left ≡ 0
-  pub no_retire_steps : log.retire_steps_left ≡ 0
+  pub free : log.next - log.head < log.shape.slots
 
 -- the same log, dead
 abbrev pub died : LogValue → LogValue
@@ -61,6 +60,15 @@ IsStepped Durable old new = (old.steps_left ≡ 1) × (new ≡ record old { unde
 -- how many retire steps are left when the oldest durable record is retired
 abbrev pub behind_oldest : LogValue → ℕ
 behind_oldest log = sum_by retire_steps_of (drop 1 log.waiting) + retire_steps_of log.under_way
+
+-- how many retire steps the oldest durable record itself still needs
+abbrev pub of_oldest : LogValue → ℕ
+of_oldest log = log.retire_steps_left - behind_oldest log
+
+-- retire steps are owed for each record that waits, and for the one under way alone where none waits
+pub record Owes (log : LogValue) : Type 0 where
+  pub none_waits : log.waiting ≡ [] → log.retire_steps_left ≡ retire_steps_of log.under_way
+  pub some_wait : 0 < length log.waiting → 0 < log.retire_steps_left
 
 -- a retire step was made: it was the oldest record's last, which is retired then, or there are more
 pub record IsRetireStepped (old new : LogValue) : Type 0 where

@@ -1,12 +1,14 @@
-//! The life of a record of the redo log, format 1, on a medium that may lose power at any moment.
+//! The records of the redo log, format 1, on a medium that may lose power at any moment.
 //!
 //! At each moment of each call every image that a loss of power may leave has the durable records
 //! whole, perhaps with the record under way, whole too, and stands for the blocks that these make.
-//! At most one record is under way, or durable and not retired.
+//! Each slot has one record at most. Durable ones wait there until they are retired, the oldest
+//! alone, and one may be under way behind them.
 #![tactic(auto)]
 
 mod call;
 mod fault;
+mod index;
 mod log;
 mod progress;
 mod stage;

@@ -1,6 +1,6 @@
-// A redo log and its one record.
+// A redo log and its records.
 ghost use Rattle.std.specs.Prelude.{◌≡◌, ℕ, ◌+◌, ◌-◌, ◌*◌, ◌^◌, ◌<◌, ◌≤◌, ◌↔◌, true, false, []};
-ghost use Rattle.std.specs.Prelude.{length, slice_index, Contains, vec_capacity};
+ghost use Rattle.std.specs.Prelude.{length};
 ghost use Rattle.std.specs.Prelude.{IsTrue, IsOk, is_ok};
 ghost use Rattle.std.specs.Prelude.{OnOk, OnErr, IfOk, IfErr, MatchResult, MatchOption};
 ghost use Rattle.std.specs.Prelude.{if◌then◌else◌};
@@ -9,23 +9,36 @@ ghost use Rattle.medium.specs.declared.fault.MediumFault.TheVariants.{Read};
 ghost use Rattle.medium.specs.Moments.{EachCut, LeavesOnly, IsQuiet};
 
 use crate::call::next_call;
-use crate::stage::{Stage, Writing};
+use crate::index::{Copied, drop_slot, enter_record, newest};
+use crate::stage::{Retiring, Writing};
 use crate::turn::next_turn;
 use crate::{LogFault, Progress};
+use arrayvec::ArrayVec;
 use log_layout::{Super, data_place, slot_of};
 use medium::{Medium, MediumFault};
 use std::alloc::Global;
+use std::collections::VecDeque;
 use std::marker::Model;
 
-/// A redo log on a medium: one record at most, under way or durable and not retired.
+// The block numbers of a record.
+type Numbers = ArrayVec<u64, 48>;
+
+/// A redo log on a medium, with a record in each slot at most: durable ones that are not retired,
+/// and behind them perhaps one under way.
 #[derive(Drop)]
 pub struct Log {
     sizes: Super,
-    // The stamp of the record, or of the next one where there is none.
+    // The stamp in the durable head, which is that of the oldest record.
     head: u64,
-    // The block numbers of the record.
-    numbers: Vec<u64>,
-    stage: Stage,
+    // The durable records that are not retired, the oldest first.
+    waiting: VecDeque<Numbers>,
+    // How far the oldest of them is retired.
+    retiring: Retiring,
+    // The record under way, empty where none is.
+    under_way: Numbers,
+    writing: Option<Writing>,
+    // The newest copies of the durable records' blocks.
+    index: Vec<Copied>,
     dead: bool,
 }
 
@@ -44,7 +57,7 @@ impl Model for Log {
 impl Log {
     ghost use Rattle.log_layout.specs.Places.{sectors_of};
     ghost use Rattle.log_layout.specs.Values.{shape_of};
-    ghost use Rattle.redo_log.specs.Value.{HasRoom, HasNoCopy, IsNewestCopy, idle_from};
+    ghost use Rattle.redo_log.specs.Value.{HasRoom, Owes, HasNoCopy, IsNewestCopy, idle_from};
     ghost use Rattle.redo_log.specs.Value.{begun, died, IsStepped, IsRetireStepped};
     ghost use Rattle.redo_log.specs.Batch.{IsBatch, entries_of};
     ghost use Rattle.redo_log.specs.Held.{View, HoldsView, HasDurable, MayLeave};
@@ -52,7 +65,7 @@ impl Log {
     ghost use Rattle.redo_log.specs.declared.progress.Progress.TheVariants.{Durable};
 
     /// A log without records on a medium with this super. Its first record takes the stamp `next`.
-    /// The memory for block numbers is taken here, and none later.
+    /// The memory for the records' block numbers and for their index is taken here, and none later.
     ///
     /// # Errors
     ///
@@ -63,14 +76,20 @@ impl Log {
         ensures ok { IfOk result (λ log. log ≡ idle_from (shape_of sup.now) next) }
         ensures err { IfErr result (λ fault. fault ≡ LogFault.NoMemory) }
     {
-        let Ok(numbers) = Vec::with_capacity(alloc, 48) else {
+        let Ok(waiting) = VecDeque::with_capacity(alloc, sup.slots as usize) else {
+            return Err(LogFault::NoMemory);
+        };
+        let Ok(index) = Vec::with_capacity(alloc, 48 * sup.slots as usize) else {
             return Err(LogFault::NoMemory);
         };
         Ok(Log {
             sizes: *sup,
             head: next,
-            numbers,
-            stage: Stage::Idle,
+            waiting,
+            retiring: Retiring::Copying(0),
+            under_way: ArrayVec::new(),
+            writing: None,
+            index,
             dead: false,
         })
     }
@@ -82,13 +101,15 @@ impl Log {
         self.dead
     }
 
-    /// Whether a record may be begun: none is under way, and no durable one waits to be retired.
+    /// Whether a record may be begun: none is under way, and a slot is free, which those of the
+    /// durable records are not until they are retired.
     pub fn has_room(&self) -> bool
         ensures room { IsTrue result ↔ HasRoom self.now }
         ensures full { result ≡ false → 0 < self.now.steps_left + length self.now.waiting }
         ensures always { self.now.steps_left + self.now.retire_steps_left ≡ 0 → result ≡ true }
+        ensures owes { Owes self.now }
     {
-        matches!(self.stage, Stage::Idle)
+        self.writing.is_none() && (self.waiting.len() as u64) < self.sizes.slots
     }
 
     /// Begins a record of these blocks, 512 bytes for each number. It takes the next stamp,
@@ -105,15 +126,17 @@ impl Log {
             × (self.new ≡ begun numbers.now self.old)) }
         ensures err { IfErr result (λ fault. (fault ≡ LogFault.StampsUsedUp)
             × (self.old.next ≡ 2 ^ 63 - 1) × (self.new ≡ died self.old)) }
+        // At most 50 retire steps for each slot are left.
+        ensures few { OnOk result (self.new.retire_steps_left ≤ 50 * self.old.shape.slots) }
     {
         // The bytes are written by the steps.
         let _ = bytes;
-        if self.head == (1 << 63) - 1 {
+        if self.head + self.waiting.len() as u64 == (1 << 63) - 1 {
             self.dead = true;
             return Err(LogFault::StampsUsedUp);
         }
-        set_numbers(&mut self.numbers, numbers);
-        self.stage = Stage::UnderWay(Writing::Begun);
+        self.under_way = numbers_of(numbers);
+        self.writing = Some(Writing::Begun);
         Ok(())
     }
 
@@ -156,17 +179,24 @@ impl Log {
         ensures cuts { (view : View) → HoldsView self.old (M.state m.old) view → view.ours ≡ true
             → LeavesOnly (MayLeave (M.state m.old).size self.old view)
             (M.state m.old) (M.state m.new) }
+        ensures moments { LeavesOnly (λ _. Unit {0}) (M.state m.old) (M.state m.new) }
     {
-        let Stage::UnderWay(writing) = self.stage else {
+        let Some(writing) = self.writing else {
             unreachable!()
         };
-        let call = next_call(&self.sizes, self.head, numbers, bytes, writing);
+        let stamp = self.head + self.waiting.len() as u64;
+        let call = next_call(&self.sizes, stamp, numbers, bytes, writing);
         if call.make(m).is_err() {
             self.dead = true;
             return Err(LogFault::Medium);
         }
-        self.stage = writing.after(numbers.len());
-        Ok(self.stage.progress())
+        self.writing = writing.after(numbers.len());
+        if self.writing.is_some() {
+            return Ok(Progress::More);
+        }
+        enter_record(&mut self.index, slot_of(stamp, self.sizes.slots), numbers);
+        self.waiting.push_back_reserved(self.under_way.take());
+        Ok(Progress::Durable)
     }
 
     /// Makes the next one or two calls that retire the oldest durable record, none where none
@@ -196,17 +226,25 @@ impl Log {
         ensures cuts { (view : View) → HoldsView self.old (M.state m.old) view → view.ours ≡ true
             → LeavesOnly (MayLeave (M.state m.old).size self.old view)
             (M.state m.old) (M.state m.new) }
+        ensures moments { LeavesOnly (λ _. Unit {0}) (M.state m.old) (M.state m.new) }
     {
-        let Stage::Waiting(retiring) = self.stage else {
+        let Some(oldest) = self.waiting.front() else {
             return Ok(());
         };
-        let turn = next_turn(&self.sizes, self.head, &self.numbers, retiring);
+        let turn = next_turn(&self.sizes, self.head, oldest.as_slice(), self.retiring);
+        let next = self.retiring.after(oldest.len());
         if turn.make(m).is_err() {
             self.dead = true;
             return Err(LogFault::Medium);
         }
-        self.stage = retiring.after(self.numbers.len());
-        self.head += retiring.records_retired();
+        if let Some(retiring) = next {
+            self.retiring = retiring;
+            return Ok(());
+        }
+        drop_slot(&mut self.index, slot_of(self.head, self.sizes.slots));
+        let _ = self.waiting.pop_front();
+        self.head += 1;
+        self.retiring = Retiring::Copying(0);
         Ok(())
     }
 
@@ -217,11 +255,7 @@ impl Log {
         ensures { MatchOption result (HasNoCopy self.now block)
             (λ copy. IsNewestCopy self.now block copy.0 copy.1) }
     {
-        let Stage::Waiting(_) = self.stage else {
-            return None;
-        };
-        let place = place_in(&self.numbers, block)?;
-        Some((slot_of(self.head, self.sizes.slots), place))
+        newest(&self.index, block)
     }
 
     /// Reads a copy that `find` gave. At an `Err` the array may hold anything.
@@ -251,22 +285,14 @@ impl Log {
     }
 }
 
-// Makes these the numbers of the list, which has room for them.
-fn set_numbers(list: &mut Vec<u64>, numbers: &[u64])
-    requires { length numbers.now ≤ vec_capacity list.old }
-    ensures items { list.new.items ≡ numbers.now }
-    ensures capacity { vec_capacity list.new ≡ vec_capacity list.old }
+// These numbers, of which there are no more than a record has.
+fn numbers_of(numbers: &[u64]) -> Numbers
+    requires { length numbers.now ≤ 48 }
+    ensures { result.items ≡ numbers.now }
 {
-    list.clear();
+    let mut list = Numbers::new();
     for number in numbers {
-        list.push_reserved(*number);
+        list.push(*number);
     }
-}
-
-// Where a block's number stands among those of a record.
-fn place_in(numbers: &[u64], block: u64) -> Option<usize>
-    ensures { MatchOption result (¬ Contains numbers.now block)
-        (λ place. (place < length numbers.now) × (slice_index numbers.now place ≡ block)) }
-{
-    numbers.iter().position(|number| *number == block)
+    list
 }

@@ -1,4 +1,4 @@
-// One record on a small medium that tells its calls.
+// Records on a small medium that tells its calls.
 ghost use Rattle.std.specs.Prelude.{◌≡◌, ◌≤◌, ◌<◌, ◌+◌, ◌*◌, ◌^◌, [], ◌∷◌, length};
 ghost use Rattle.std.specs.Prelude.{OnOk, IfOk, false};
 ghost use Rattle.medium.specs.Sim.{state_of};
@@ -113,13 +113,15 @@ fn write_out<M: Medium>(
     Ok(())
 }
 
-// Makes all steps that retire what waits.
-fn retire<M: Medium>(log: &mut Log, m: &mut M) -> Result<(), LogFault>
+// Makes the steps that retire one record of three blocks.
+fn retire_three<M: Medium>(log: &mut Log, m: &mut M) -> Result<(), LogFault>
     requires live { log.old.dead ≡ false }
-    requires idle { log.old.steps_left ≡ 0 }
     requires fits { sectors_of log.old.shape ≤ (M.state m.old).size }
+    ensures live { OnOk result (log.new.dead ≡ false) }
+    ensures shape { log.new.shape ≡ log.old.shape }
+    ensures size { (M.state m.new).size ≡ (M.state m.old).size }
 {
-    while !log.has_room() {
+    for _ in 0..5 {
         log.retire_step(m)?;
     }
     Ok(())
@@ -132,6 +134,7 @@ fn the_calls_of_a_record_and_of_its_retiring(rt: HostRuntime) -> Result<(), Fail
     assert!(rt; log.has_room());
     let bytes = vec![in rt.alloc(); 5u8; 1536]?;
     let numbers = begin_three(&mut log, &bytes)?;
+    assert!(rt; !log.has_room());
     write_out(&mut log, &mut m, &numbers, &bytes)?;
     let record = [
         Called::Write(152),
@@ -143,9 +146,9 @@ fn the_calls_of_a_record_and_of_its_retiring(rt: HostRuntime) -> Result<(), Fail
         Called::Flush,
     ];
     assert_eq!(rt; m.calls.as_slice(), record.as_slice());
-    assert!(rt; !log.has_room());
+    assert!(rt; log.has_room());
     m.calls.clear();
-    retire(&mut log, &mut m)?;
+    retire_three(&mut log, &mut m)?;
     let retiring = [
         Called::Read(153),
         Called::Write(402),
@@ -158,30 +161,81 @@ fn the_calls_of_a_record_and_of_its_retiring(rt: HostRuntime) -> Result<(), Fail
         Called::Flush,
     ];
     assert_eq!(rt; m.calls.as_slice(), retiring.as_slice());
+    retire_three(&mut log, &mut m)?;
+    assert_eq!(rt; m.calls.len(), 9);
     let image = m.medium.image();
     assert_eq!(rt; bytes_at(image, 512), *b"RDHEAD01\x04\0\0\0\0\0\0\0");
     assert_eq!(rt; bytes_at(image, 512 * 409), [5; 16]);
     Ok(())
 }
 
+// A record of blocks 0, 7 and 9, all of one byte, is begun and written out.
+fn log_three<M: Medium>(rt: HostRuntime, log: &mut Log, m: &mut M, byte: u8) -> Result<(), Fail>
+    requires live { log.old.dead ≡ false }
+    requires blocks { log.old.shape.blocks ≡ 1000 }
+    requires fits { sectors_of log.old.shape ≤ (M.state m.old).size }
+    ensures live { OnOk result (log.new.dead ≡ false) }
+    ensures shape { OnOk result (log.new.shape ≡ log.old.shape) }
+    ensures size { OnOk result ((M.state m.new).size ≡ (M.state m.old).size) }
+{
+    let bytes = vec![in rt.alloc(); byte; 1536]?;
+    if !log.has_room() {
+        return Err(Fail::from("no room"));
+    }
+    let numbers = begin_three(log, &bytes)?;
+    write_out(log, m, &numbers, &bytes)?;
+    Ok(())
+}
+
+// The slot and the place of the newest copy of a block, and its first byte.
+fn copy_of<M: Medium>(log: &Log, m: &mut M, block: u64) -> Result<(u64, usize, u8), Fail>
+    requires live { log.now.dead ≡ false }
+    requires fits { sectors_of log.now.shape ≤ (M.state m.old).size }
+    ensures { (M.state m.new).size ≡ (M.state m.old).size }
+{
+    let Some((slot, place)) = log.find(block) else {
+        return Err(Fail::from("no copy"));
+    };
+    let mut bytes = [0; 512];
+    log.read_copy(m, slot, place, &mut bytes)
+        .map_err(|_| "no read")?;
+    Ok((slot, place, bytes[0]))
+}
+
 #[test]
 fn the_newest_copy_is_found(rt: HostRuntime) -> Result<(), Fail> {
     let mut m = zeros(rt, 1402)?;
     let mut log = Log::idle(rt.alloc(), &Super::new(1000, 8), 3)?;
-    let mut bytes = vec![in rt.alloc(); 5u8; 512]?;
-    bytes.extend_from_slice(&[6; 512])?;
-    bytes.extend_from_slice(&[7; 512])?;
-    let numbers = begin_three(&mut log, &bytes)?;
     assert_eq!(rt; log.find(7), None);
-    write_out(&mut log, &mut m, &numbers, &bytes)?;
+    log_three(rt, &mut log, &mut m, 5)?;
     assert_eq!(rt; log.find(8), None);
-    let mut block = [0; 512];
-    let Some((slot, place)) = log.find(7) else {
-        return Err(Fail::from("no copy"));
-    };
-    assert_eq!(rt; (slot, place), (3, 1));
-    assert_eq!(rt; log.read_copy(&mut m, slot, place, &mut block), Ok(()));
-    assert_eq!(rt; block, [6; 512]);
+    assert_eq!(rt; copy_of(&log, &mut m, 7)?, (3, 1, 5));
+    log_three(rt, &mut log, &mut m, 6)?;
+    assert_eq!(rt; copy_of(&log, &mut m, 7)?, (4, 1, 6));
+    retire_three(&mut log, &mut m)?;
+    assert_eq!(rt; bytes_at(m.medium.image(), 512 * 409), [5; 16]);
+    assert_eq!(rt; copy_of(&log, &mut m, 7)?, (4, 1, 6));
+    retire_three(&mut log, &mut m)?;
+    assert_eq!(rt; bytes_at(m.medium.image(), 512 * 409), [6; 16]);
+    assert_eq!(rt; log.find(7), None);
+    Ok(())
+}
+
+#[test]
+fn a_full_ring_waits_for_its_oldest_record(rt: HostRuntime) -> Result<(), Fail> {
+    let mut m = zeros(rt, 1102)?;
+    let mut log = Log::idle(rt.alloc(), &Super::new(1000, 2), 3)?;
+    log_three(rt, &mut log, &mut m, 5)?;
+    log_three(rt, &mut log, &mut m, 6)?;
+    assert!(rt; !log.has_room());
+    retire_three(&mut log, &mut m)?;
+    assert!(rt; log.has_room());
+    log_three(rt, &mut log, &mut m, 7)?;
+    assert!(rt; !log.has_room());
+    let image = m.medium.image();
+    assert_eq!(rt; bytes_at(image, 512), *b"RDHEAD01\x04\0\0\0\0\0\0\0");
+    assert_eq!(rt; bytes_at(image, 512 * 52), *b"RDDESCR1\x05\0\0\0\0\0\0\0");
+    assert_eq!(rt; copy_of(&log, &mut m, 9)?, (1, 2, 7));
     Ok(())
 }
 

@@ -1,5 +1,5 @@
 -- The parser of `format` takes its words: word by word, since at once they are too much for one computation.
-use Rattle.std.proofs.Common.{◌≡◌, ◌∙◌, ℕ, List, [], ◌∷◌, Bool, true, false, None, Some, codes, ap, refl}
+use Rattle.std.proofs.Common.{◌≡◌, ◌∙◌, ℕ, List, [], ◌∷◌, true, false, None, Some, codes, ap, refl}
 use Rattle.std.specs.Prelude.{◌&&◌}
 use Rattle.std.specs.Cmp.Derive.{both_true}
 use Rattle.std.specs.List.{list_all}
@@ -7,7 +7,7 @@ use Rattle.std.specs.Str.{bytes_eq}
 use Rattle.clap.specs.Lexer.{strip_byte}
 use Rattle.clap.specs.Takes.{level_passes, walk_passes, turn_passes, settle_passes, default_passes, is_valid}
 use Rattle.clap.specs.Simple.{Shape, built_leaf}
-use Rattle.clap.specs.Walk.{Rule, Walk, walk, walked, walk_from, nothing_held, after_step, Held, plain_word, settled, value, option, next, finished}
+use Rattle.clap.specs.Walk.{Rule, Walk, walked, walk_from, nothing_held, after_step, Held, plain_word, settled, value, option, next, finished}
 use Rattle.clap.proofs.OnLiterals.{clap_on_literals}
 use Rattle.runner.specs.Parser.{format_app}
 

@@ -1,20 +1,16 @@
 -- A life of a disk, from its start on.
-use Rattle.std.proofs.Common.{◌≡◌, ◌≤◌, ◌+◌, ℕ, Bool, true, List, refl, sym, ap, ap₂, ◌∙◌, subst, arith}
+use Rattle.std.proofs.Common.{◌≡◌, ℕ, List, ap₂, ◌∙◌, subst, arith}
 use Rattle.medium.specs.Medium.{State}
-use Rattle.medium.specs.Moments.{EachCut}
-use Rattle.bot_machine.specs.Starting.{IsOursForSome}
 use Rattle.bot_machine.specs.Identification.{Identification}
-use Rattle.bot_machine.specs.Books.{Book, opened}
+use Rattle.bot_machine.specs.Books.{opened}
 use Rattle.bot_machine.specs.Starting.{blocks_of, layout_of}
 use Rattle.bot_machine.proofs.UnitLaws.{between_calls}
-use Rattle.bot_machine.specs.UnitValue.{state_of}
-use Rattle.bot_machine.specs.Rules.{UnitState, opened_unit}
+use Rattle.bot_machine.specs.Rules.{UnitState}
 use Rattle.bot_machine.specs.declared.event.Event.{Event}
 use Rattle.bot_machine.specs.declared.event.Answer.{Answer}
 use Rattle.bot_machine.specs.Conversation.{Conversation}
 use Rattle.bot_machine.specs.Disk.{DiskValue, UnitRun, on_line, over}
 use Rattle.bot_machine.specs.Opening.{IsOpened, StartLeaves}
-use Rattle.bot_machine.specs.Exchange.{at_rest}
 use Rattle.std.proofs.Common.{Option, ◌++◌}
 use Rattle.std.specs.Io.KnownBytes.{Appends}
 use Rattle.runner.specs.declared.fault.ScriptError.{ScriptError as ErrorOf}

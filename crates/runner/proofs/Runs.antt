@@ -1,13 +1,13 @@
 -- Runs of a disk, one after another.
-use Rattle.std.proofs.Common.{◌≡◌, ◌≤◌, ◌<◌, ℕ, ◌+◌, Bool, true, false, List, [], ◌∷◌, ◌++◌, length, nat_lt, refl, sym, ap, ◌∙◌, subst, arith, append_assoc, append-nil, length-append, ltb-true}
+use Rattle.std.proofs.Common.{◌≡◌, ℕ, Bool, List, [], ◌∷◌, ◌++◌, length, nat_lt, refl, sym, ap, ◌∙◌, subst, arith, append_assoc, append-nil, length-append, ltb-true}
 use Rattle.medium.specs.Medium.{State}
-use Rattle.bot_machine.specs.Books.{Book}
-use Rattle.bot_machine.specs.Rules.{UnitState, CarriesOut, Ticks}
+use Rattle.bot_machine.specs.Rules.{UnitState}
 use Rattle.bot_machine.specs.declared.event.Event.{Event}
 use Rattle.bot_machine.specs.declared.event.Answer.{Answer}
-use Rattle.bot_machine.specs.Intentions.{Intends}
-use Rattle.bot_machine.specs.Conversation.{Conversation, Run, refused_events}
-use Rattle.bot_machine.specs.Disk.{DiskValue, FitsDisk, UnitRun, IsStep, over}
+use Rattle.bot_machine.specs.Conversation.{Conversation}
+use Rattle.bot_machine.specs.Disk.{DiskValue, UnitRun, IsStep, over}
+use Rattle.bot_machine.proofs.Happening.{one_counted}
+use Rattle.bot_machine.proofs.Playing.{refused_events-append}
 use Rattle.runner.specs.Text.{line_for, text_of}
 use Rattle.runner.specs.Played.{Answers, Tells}
 
@@ -25,11 +25,6 @@ UnitRun-append (event ∷ first) rest [] more [] later old mid new done next = a
 UnitRun-append (event ∷ first) rest [] more (refusal ∷ refused) later old mid new done next = absurd done
 UnitRun-append (event ∷ first) rest (answer ∷ told) more [] later old mid new done next = absurd done
 
-pub refused_events-append : (refused later : List Bool) → refused_events (refused ++ later) ≡ refused_events refused + refused_events later
-refused_events-append [] later = omega arith
-refused_events-append (true ∷ refused) later = omega (arith, refused_events-append refused later)
-refused_events-append (false ∷ refused) later = refused_events-append refused later
-
 pub text_of-append : (first rest : List Event) (told more : List Answer) → length told ≡ length first
     → text_of (first ++ rest) (told ++ more) ≡ text_of first told ++ text_of rest more
 text_of-append [] rest [] more each = refl
@@ -38,10 +33,6 @@ text_of-append (event ∷ first) rest (answer ∷ told) more each =
     ∙ sym (append_assoc (line_for event answer) (text_of first told) (text_of rest more))
 text_of-append [] rest (answer ∷ told) more each = absurd (omega (arith, each))
 text_of-append (event ∷ first) rest [] more each = absurd (omega (arith, each))
-
-one_refusal : (m n : ℕ) (b : Bool) → nat_lt m n ≡ b → m ≤ n → refused_events (b ∷ []) + m ≤ n
-one_refusal m n true e h = let k : m < n = ltb-true m n e in omega arith
-one_refusal m n false e h = omega arith
 
 module _ {M : Type 0} where
   answers-none : (state : State) (disk : DiskValue M) → Answers state state disk [] [] disk
@@ -58,7 +49,7 @@ module _ {M : Type 0} where
   answers-one before after old event answer new step = record {
     one_each = refl;
     refusals = nat_lt before.failures after.failures ∷ [];
-    refused = one_refusal before.failures after.failures (nat_lt before.failures after.failures) refl step.elapses.failures_stay;
+    refused = one_counted (nat_lt before.failures after.failures) before.failures after.failures (ltb-true before.failures after.failures) step.elapses.failures_stay;
     size_stays = step.elapses.size_stays;
     runs = λ book fits.
         let on = step.proceeds book fits in

@@ -1,6 +1,5 @@
 -- Lives of a disk over a medium in memory, from the first on.
-use Rattle.std.proofs.Common.{◌≡◌, ℕ, ◌+◌, ◌≤◌, Bool, true, false, List, [], ◌∷◌, ◌++◌, None, Option, refl, sym, ap, subst, ◌∙◌, arith, append-nil}
-use Rattle.std.specs.Io.KnownBytes.{Appends}
+use Rattle.std.proofs.Common.{◌≡◌, ℕ, ◌+◌, false, List, [], ◌++◌, None, Option, subst, ◌∙◌, append-nil}
 use Rattle.medium.specs.Sim.{Sim, state_of}
 use Rattle.bot_machine.specs.StartFaults.{StartFault}
 use Rattle.bot_machine.specs.Identification.{Identification}
@@ -9,19 +8,18 @@ use Rattle.bot_machine.specs.declared.event.Answer.{Answer}
 use Rattle.bot_machine.specs.declared.stage.Stage.TheVariants.{Rests}
 use Rattle.bot_machine.specs.Conversation.{refused_events}
 use Rattle.bot_machine.specs.Lifetimes.{EndsIn, StopsIn}
-use Rattle.bot_machine.specs.Lives.{Action, before_first, Standing, LivesRun, starts}
-use Rattle.bot_machine.specs.LivesValue.{LivesValue, LivesGoOn, LivesStop, IsRefused, FitsLives, OpensOn, IsAtRest, medium_in}
+use Rattle.bot_machine.specs.Lives.{Action, before_first, Standing, LivesRun}
+use Rattle.bot_machine.specs.LivesValue.{LivesValue, LivesStop, IsRefused, FitsLives, OpensOn, IsAtRest, medium_in}
 use Rattle.bot_machine.proofs.Playing.{lives_stop}
 use Rattle.runner.specs.declared.fault.ScriptError.{ScriptError as ErrorOf}
 use Rattle.runner.specs.declared.fault.ScriptFault.{ScriptFault}
 use Rattle.runner.specs.declared.fault.ScriptFault.TheVariants.{Line, TooLong, Start, NoMemory, Reader, Writer}
-use Rattle.runner.specs.Lifetimes.{Acts, AreLives, AreStopped, text_of_lives}
+use Rattle.runner.specs.Lifetimes.{Acts, AreLives, AreStopped}
 use Rattle.runner.specs.Lines.{lines_of}
 use Rattle.runner.specs.Outcome.{IsRead}
 use Rattle.runner.specs.OutcomeOfLives.{ArePlayed, AreRefused}
 use Rattle.runner.specs.PlayedLives.{Acted, EndsBy, PlaysAll, PlaysUpTo}
 use Rattle.runner.specs.Script.{identification}
-use Rattle.runner.specs.Streams.{AppendsSome}
 
 -- no life has been yet
 abbrev first_over : Sim → LivesValue

@@ -1,6 +1,6 @@
 -- The parser takes the words of the command line.
 use Rattle.runner.proofs.FormatWords.{IsPlain, format_passes}
-use Rattle.std.proofs.Common.{inl, inr, ap, ◌≡◌, ◌≤◌, ◌<◌, ℕ, List, [], ◌∷◌, true, false, None, ◌^◌, ◌∙◌, codes, slice_index, sym, refl, arith}
+use Rattle.std.proofs.Common.{inl, inr, ap, ◌≡◌, ◌<◌, ℕ, List, [], ◌∷◌, true, false, None, ◌^◌, ◌∙◌, codes, slice_index, sym, refl, arith}
 use Rattle.std.specs.Prelude.{◌⊎◌, ◌&&◌, Bool, is_some, Result, Ok, Err, IsErrAnd, IfErr}
 use Rattle.std.specs.Str.{bytes_eq}
 use Rattle.std.proofs.lemmas.Bool.{cases_eq}
@@ -16,7 +16,7 @@ use Rattle.clap.specs.declared.error.kind.ErrorKind.TheVariants as kinds
 use Rattle.runner.specs.declared.refusal.Refusal.{Refusal}
 use Rattle.runner.specs.declared.refusal.Refusal.TheVariants as refused
 use Rattle.runner.specs.Status.{refusal_of_kind}
-use Rattle.runner.specs.Task.{IsFileWord, IsSizeWord, AreFormatWords, AreScriptWords, IsCommandLine}
+use Rattle.runner.specs.Task.{IsFileWord, IsSizeWord, IsCommandLine}
 use Rattle.runner.specs.Parser.{usbdisk_app, format_app}
 use Rattle.runner.proofs.Numerals.{decimal-no_hyphen}
 

@@ -1,6 +1,6 @@
 -- Packets of one byte alone.
-use Rattle.std.proofs.Common.{◌≡◌, ◌∙◌, ◌<◌, ◌≤◌, ◌+◌, ◌-◌, ◌/◌, ℕ, suc, min, List, [], ◌∷◌, length, take, drop, refl, ap, ap₂, sym, arith, inl, inr}
-use Rattle.std.specs.Prelude.{◌⊎◌, replicate}
+use Rattle.std.proofs.Common.{◌≡◌, ◌∙◌, ◌<◌, ◌+◌, ◌-◌, ◌/◌, ℕ, suc, min, List, [], ◌∷◌, take, ap, ap₂, sym, arith, inl, inr}
+use Rattle.std.specs.Prelude.{replicate}
 use Rattle.std.proofs.lemmas.Bool.{cases_lt}
 use Rattle.std.proofs.lemmas.List.{length-replicate, take-replicate, drop-replicate, take_all}
 use Rattle.bot_machine.specs.Packets.{packets_of, cut_into}

@@ -1,5 +1,5 @@
 -- Actions done to lives of a disk, and how they end early.
-use Rattle.std.specs.Prelude.{◌≡◌, ℕ, Bool, true, false, List, [], ◌∷◌, ◌++◌, None, Option}
+use Rattle.std.specs.Prelude.{◌≡◌, ℕ, Bool, false, List, ◌∷◌, ◌++◌, None, Option}
 use Rattle.std.specs.Io.KnownBytes.{Appends}
 use Rattle.medium.specs.Sim.{Sim}
 use Rattle.bot_machine.specs.declared.event.Answer.{Answer}

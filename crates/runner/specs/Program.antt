@@ -7,7 +7,7 @@ use Rattle.medium.specs.Sim.{Sim}
 use Rattle.medium.specs.Power.{powered}
 use Rattle.medium.specs.Refusals.{none}
 use Rattle.recovery.specs.Formatted.{AreSizes, IsFormatted}
-use Rattle.recovery.specs.Formatted.{Shape, sectors_of}
+use Rattle.recovery.specs.Formatted.{sectors_of}
 use Rattle.runner.specs.declared.fault.ScriptFault.{ScriptFault}
 use Rattle.runner.specs.declared.refusal.Refusal.{Refusal}
 use Rattle.runner.specs.declared.refusal.Refusal.TheVariants as refused

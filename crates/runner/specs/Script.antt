@@ -20,7 +20,6 @@ use Rattle.runner.specs.declared.line.ScriptKind.{ScriptKind}
 use Rattle.runner.specs.declared.line.ScriptKind.TheVariants.{OneLife}
 use Rattle.runner.specs.Line.{Spells, Allows, IsScriptLine}
 use Rattle.runner.specs.Events.{events_of}
-use Rattle.runner.specs.Text.{text_of}
 
 -- the line plays these events, in a script of one life
 pub record LinePlays (line : List ℕ) (events : List Event) : Type 0 where

@@ -22,6 +22,6 @@ returns-in_err-start-clause-cause c =
 pub returns-clause-ok : goal.returns-clause-ok
 returns-clause-ok c =
     let life = c.args.life.now in
-    let events = rw c.deref.ensures.value at c.play_all.ensures in
+    let events = rw c.as_slice.ensures.value at c.play_all.ensures in
     whole_life c.args.run.now c.arm.new.run c.start.new.self c.play_all.new.run c.cut.new.self c.args.answers.now c.play_all.new.answers
     (armed_by life.fuse) (map plays life.events.items) (length life.events.items) (cuts (keeps life.kept)) c.arm.ensures.goes_on c.in_ok-start.ensures.ok events c.cut.ensures.goes_on

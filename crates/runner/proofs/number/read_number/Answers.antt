@@ -1,4 +1,4 @@
-use Rattle.std.proofs.Common.{◌≡◌, ◌∙◌, sym, ap, arith}
+use Rattle.std.proofs.Common.{◌≡◌, ◌∙◌, sym, arith}
 use Rattle.std.proofs.lemmas.Fmt.{decimal_injective}
 use Rattle.runner.proofs.number.read_number.Goals as goal
 use Rattle.runner.proofs.number.read_number.Goals.{then-number-least-via-then-number-least, then-number-least-via-else-number-least+then-number-most}

@@ -1,4 +1,4 @@
-use Rattle.std.proofs.Common.{◌≡◌, ◌∷◌, [], ◌++◌, ◌∙◌, suc, ap, sym, refl, arith}
+use Rattle.std.proofs.Common.{[], ◌++◌, ◌∙◌, suc, ap, sym, refl, arith}
 use Rattle.runner.specs.Left.{parts_left}
 use Rattle.runner.specs.Lines.{lines_of}
 use Rattle.runner.specs.declared.line.ScriptKind.TheVariants.{OneLife}

@@ -1,4 +1,4 @@
-use Rattle.std.proofs.Common.{◌≡◌, ◌∷◌, [], ◌++◌, ◌∙◌, ap, sym, refl, append_assoc}
+use Rattle.std.proofs.Common.{◌∷◌, [], ◌++◌, ◌∙◌, ap, sym, append_assoc}
 use Rattle.runner.specs.Events.{events_of}
 use Rattle.runner.specs.Text.{line_for}
 use Rattle.runner.proofs.Known.{Appends-none, Appends-more, AppendsSome-more}

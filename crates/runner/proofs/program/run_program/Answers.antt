@@ -1,4 +1,4 @@
-use Rattle.std.proofs.Common.{◌∙◌, ℕ, List, [], refl, ap, subst, inl, inr, ⊎_elim, map, drop, length, arith}
+use Rattle.std.proofs.Common.{◌∙◌, ℕ, List, [], refl, ap, subst, inl, inr, ⊎_elim, map, length, arith}
 use Rattle.std.specs.Prelude.{string_bytes}
 use Rattle.std.proofs.KnownBytes.{Keeps-refl}
 use Rattle.runner.specs.declared.refusal.Refusal.TheVariants.{NoMemory}

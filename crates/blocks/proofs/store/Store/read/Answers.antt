@@ -1,4 +1,4 @@
-use Rattle.std.proofs.Common.{◌+◌, ◌-◌, ◌*◌, ◌∙◌, ap, arith, subst, sym, length}
+use Rattle.std.proofs.Common.{◌+◌, ◌-◌, ◌*◌, ◌∙◌, ap, arith, subst, sym}
 use Rattle.log_layout.specs.Places.{Shape}
 use Rattle.medium.proofs.Moments.{quiet_start, quiet_joined}
 use Rattle.blocks.specs.Book.{array_of}
@@ -46,7 +46,7 @@ loop-i-preserved g c =
       follows = g.met.M.Medium.follows_through c.args.self.now.medium c.loop-i.self.medium c.read_block.new.self.medium c.loop-i.invariant.follows c.read_block.ensures.follows;
       so_far = λ book fits.
           let here : FitsBook mid c.loop-i.self.cached book = subst (λ (s : Cached). FitsBook mid s book) (sym c.loop-i.invariant.stays) (now.fits book fits) in
-          put_block (array_of book) c.args.address c.loop-i.i (c.loop-i.i * 512) (c.loop-i.i * 512 + 512 - c.loop-i.i * 512) (512 * (c.loop-i.i + 1)) c.loop-i.to c.copy_from_slice.new.self
-          (omega arith) (omega arith) (omega arith) (omega (arith, c.loop-i-test.true, c.loop-i.auto.to)) (ap (λ l. length l) c.copy_from_slice.ensures.after ∙ c.read_block.array_long)
-          (c.loop-i.invariant.so_far book fits) (c.copy_from_slice.ensures.after ∙ c.in_ok-read_block.ensures.ok book here);
+          put_block (array_of book) c.args.address c.loop-i.i (c.loop-i.i * 512) (c.loop-i.i * 512 + 512 - c.loop-i.i * 512) (512 * (c.loop-i.i + 1)) c.loop-i.to c.read_block.new.to
+          (omega arith) (omega arith) (omega arith) (omega (arith, c.loop-i-test.true, c.loop-i.auto.to)) c.read_block.auto.to
+          (c.loop-i.invariant.so_far book fits) (c.in_ok-read_block.ensures.ok book here);
     }

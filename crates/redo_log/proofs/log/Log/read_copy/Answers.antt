@@ -3,6 +3,7 @@ use Rattle.std.proofs.lemmas.Result.{on_ok_weaker}
 use Rattle.medium.proofs.Moments.{quiet_call, quiet_leaves}
 use Rattle.log_layout.specs.Values.{shape_of}
 use Rattle.redo_log.specs.Held.{MayLeave}
+use Rattle.redo_log.specs.Shown.{lists_of}
 use Rattle.redo_log.proofs.Closing.{quiet_held, copy_read}
 use Rattle.redo_log.proofs.log.Log.read_copy.Goals as goal
 
@@ -11,7 +12,7 @@ returns-clause-ok g c view block holds copy =
     let i = c.self.inside in
     let old = g.M.Medium.state c.args.m.now in
     on_ok_weaker c.read.result (λ read. read ∙ ap old.content c.data_place.ensures
-    ∙ copy_read (shape_of i.sizes) i.head i.numbers.items i.dead i.stage c.args.self.now c.self.view_is c.requires.live c.self.invariant.stage old view holds block c.args.slot c.args.place copy) c.read.ensures.ok
+    ∙ copy_read (shape_of i.sizes) i.head (lists_of i.waiting.items) i.retiring i.under_way.items i.writing i.dead c.args.self.now i.sizes.some_slots c.self.view_is c.requires.live c.self.invariant.ring old view holds block c.args.slot c.args.place copy) c.read.ensures.ok
 
 pub returns-clause-holds : goal.returns-clause-holds
 returns-clause-holds g c view holds =

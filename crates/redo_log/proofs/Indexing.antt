@@ -1,0 +1,181 @@
+-- What a search finds among entries that are sorted by block, and what an edit at that place does.
+use Rattle.std.proofs.Common.{◌≡◌, ◌≢◌, ◌⊎◌, inl, inr, ℕ, zero, suc, ◌+◌, ◌-◌, ◌<◌, ◌≤◌, List, [], ◌∷◌, length, get_or, set, if◌then◌else◌, Some, None, Result, Ok, Err, IfOk, IfErr, refl, sym, ◌∙◌, ap, subst, arith}
+use Rattle.std.specs.Prelude.{◌==◌, Bool, true, false}
+use Rattle.std.specs.List.{insert, filter}
+use Rattle.std.specs.List.Sorted.{IsSearchInRange, IsBinarySearchResult, IsNonDecreasingBy}
+use Rattle.std.specs.Ordering.{nat_cmp, ordering_index}
+use Rattle.std.proofs.lemmas.Cmp.{ranked}
+use Rattle.std.proofs.lemmas.Bool.{cases_eq}
+use Rattle.std.proofs.lemmas.Bool.Decides.{nat_tests}
+use Rattle.std.proofs.lemmas.Grind.{common_steps}
+use Rattle.std.proofs.lemmas.List.Sorted.{IsNonDecreasingBy-from_default}
+use Rattle.std.proofs.lemmas.List.Edits.{length-insert, get_or-insert_below, get_or-insert_at, get_or-insert_above}
+use Rattle.redo_log.specs.declared.index.Copied.{Copied}
+use Rattle.redo_log.specs.Index.{look, with_copy, outside, block_at, IsSorted, IsGapFor}
+
+-- no entry
+abbrev pub blank : Copied
+blank = record { block = 0; slot = 0; place = 0 }
+
+-- no entry before place i has the block
+abbrev NoneBefore : List Copied → ℕ → ℕ → Type 0
+NoneBefore index block i = (j : ℕ) → j < i → block_at index j ≢ block
+
+none_in_tail : (c : Copied) (index : List Copied) (block i : ℕ) → NoneBefore (c ∷ index) block (suc i) → NoneBefore index block i
+none_in_tail c index block i none j less = none (suc j) (omega arith)
+
+pub look-absent : (index : List Copied) (block : ℕ) → NoneBefore index block (length index) → look index block ≡ None
+look-absent [] block none = refl
+look-absent (c ∷ index) block none = grind (arith, nat_tests, none 0 (omega arith), look-absent index block (none_in_tail c index block _ none))
+
+pub look-present : (index : List Copied) (block i : ℕ) → i < length index → block_at index i ≡ block → NoneBefore index block i → look index block ≡ Some ((get_or index i blank).slot, (get_or index i blank).place)
+look-present [] block i below is none = absurd (omega (arith, below))
+look-present (c ∷ index) block zero below is none = grind (arith, nat_tests, is)
+look-present (c ∷ index) block (suc i) below is none = grind (arith, nat_tests, none 0 (omega arith), look-present index block i (omega arith) is (none_in_tail c index block i none))
+
+-- the entry at the place is written over
+look-set : (index : List Copied) (c : Copied) (i : ℕ) → i < length index → block_at index i ≡ c.block → NoneBefore index c.block i → (b : ℕ) → look (set index i c) b ≡ with_copy c.block (c.slot, c.place) (look index) b
+look-set [] c i below is none b = absurd (omega (arith, below))
+look-set (x ∷ index) c zero below is none b = grind (arith, nat_tests, is)
+look-set (x ∷ index) c (suc i) below is none b = grind (arith, nat_tests, none 0 (omega arith), look-set index c i (omega arith) is (none_in_tail x index c.block i none) b)
+
+-- an entry comes before any with its block
+look-insert : (index : List Copied) (c : Copied) (i : ℕ) → NoneBefore index c.block i → (b : ℕ) → look (insert index i c) b ≡ with_copy c.block (c.slot, c.place) (look index) b
+look-insert index c zero none b = refl
+look-insert [] c (suc i) none b = refl
+look-insert (x ∷ index) c (suc i) none b = grind (arith, nat_tests, none 0 (omega arith), look-insert index c i (none_in_tail x index c.block i none) b)
+
+module _ (index : List Copied) (sorted : IsSorted index) (block : ℕ) where
+  -- the comparisons with the block rise along the list, as a binary search asks
+  comparisons_rise : IsNonDecreasingBy (λ c. ordering_index (nat_cmp c.block block)) index
+  comparisons_rise = IsNonDecreasingBy-from_default (λ c. ordering_index (nat_cmp c.block block)) index blank (λ i j le in_range.
+      let rise : block_at index i ≤ block_at index j = grind (arith, sorted i j, λ (same : i ≡ j). ap (block_at index) same) in
+      grind (arith, nat_tests))
+
+  -- a binary search ends at the block, or at the gap for it
+  pub searched : (r : Result ℕ ℕ) → IsSearchInRange r (length index) → IsBinarySearchResult (λ c. nat_cmp c.block block) index r
+      → record { found : IfOk r (λ at. (at < length index) × (block_at index at ≡ block)); absent : IfErr r (IsGapFor index block) }
+  searched (Ok at) in_range equal = record { found = (in_range, ranked _ block _ (sym (equal blank))); absent = tt }
+  searched (Err at) in_range parted = record {
+    found = tt;
+    absent = record {
+      in_range = in_range;
+      smaller = λ j lt. ranked _ block _ (sym ((parted comparisons_rise).0 j blank (omega arith) lt));
+      greater = λ j le lt. ranked _ block _ (sym ((parted comparisons_rise).1 j blank le lt));
+    };
+  }
+
+-- the block is found at its place
+pub look_found : (index : List Copied) → IsSorted index → (at block : ℕ) → at < length index → block_at index at ≡ block → look index block ≡ Some ((get_or index at blank).slot, (get_or index at blank).place)
+look_found index sorted at block below is = look-present index block at below is (λ j lt same. omega (arith, sorted j at lt below, is))
+
+-- and not where there is a gap
+pub look_gap : (index : List Copied) (at block : ℕ) → IsGapFor index block at → look index block ≡ None
+look_gap index at block gap = look-absent index block (λ j lt same. grind (arith, gap.smaller j, gap.greater j))
+
+module _ (index : List Copied) (sorted : IsSorted index) (at : ℕ) (c : Copied) (below : at < length index) (is : block_at index at ≡ c.block) where
+  none_before_at : NoneBefore index c.block at
+  none_before_at j lt same = omega (arith, sorted j at lt below, is)
+
+  pub look_set : (b : ℕ) → look (set index at c) b ≡ with_copy c.block (c.slot, c.place) (look index) b
+  look_set b = look-set index c at below is none_before_at b
+
+  pub sorted_set : IsSorted (set index at c)
+  sorted_set i j lt in_range = grind (arith, common_steps, sorted i j, sorted i at, sorted at j, below, is)
+
+module _ (index : List Copied) (at : ℕ) (c : Copied) (gap : IsGapFor index c.block at) where
+  pub look_insert : (b : ℕ) → look (insert index at c) b ≡ with_copy c.block (c.slot, c.place) (look index) b
+  look_insert b = look-insert index c at (λ j lt same. omega (arith, gap.smaller j lt)) b
+
+  pub sorted_insert : IsSorted index → IsSorted (insert index at c)
+  sorted_insert sorted i j lt in_range =
+      let new = insert index at c in
+      let block = λ (x : Copied). x.block in
+      let long = length-insert index at c gap.in_range in
+      let under : (i : ℕ) → i < at → block_at new i ≡ block_at index i = λ i less. ap block (get_or-insert_below index at c blank i less gap.in_range) in
+      let here : (i : ℕ) → i ≡ at → block_at new i ≡ c.block = λ i is. rw is (ap block (get_or-insert_at index at c blank gap.in_range)) in
+      let over : (i : ℕ) → at < i → block_at new i ≡ block_at index (i - 1) = λ i more. subst (λ q. block_at new q ≡ block_at index (i - 1)) {x = i - 1 + 1} (omega arith) (ap block (get_or-insert_above index at c blank (i - 1) (omega arith) gap.in_range)) in
+      grind (arith, under i, here i, over i, under j, here j, over j, sorted i j, sorted i (j - 1), sorted (i - 1) (j - 1), gap.smaller i, gap.greater (j - 1))
+
+-- sorted, by recursion
+abbrev IsAbove : ℕ → List Copied → Type 0
+IsAbove least index = (i : ℕ) → i < length index → least ≤ block_at index i
+
+sorted_tail : (c : Copied) (index : List Copied) → IsSorted (c ∷ index) → IsSorted index
+sorted_tail c index sorted i j less below = sorted (suc i) (suc j) (omega arith) (omega arith)
+
+above_tail : (c : Copied) (index : List Copied) → IsSorted (c ∷ index) → IsAbove (c.block + 1) index
+above_tail c index sorted i below = omega (arith, sorted 0 (suc i) (omega arith) (omega arith))
+
+above_cons : (least : ℕ) (c : Copied) (index : List Copied) → least ≤ c.block → IsAbove least index → IsAbove least (c ∷ index)
+above_cons least c index first above zero below = first
+above_cons least c index first above (suc i) below = above i (omega arith)
+
+sorted_cons : (c : Copied) (index : List Copied) → IsAbove (c.block + 1) index → IsSorted index → IsSorted (c ∷ index)
+sorted_cons c index above sorted zero zero less below = absurd (omega arith)
+sorted_cons c index above sorted zero (suc j) less below = omega (arith, above j (omega arith))
+sorted_cons c index above sorted (suc i) zero less below = absurd (omega arith)
+sorted_cons c index above sorted (suc i) (suc j) less below = sorted i j (omega arith) (omega arith)
+
+-- a block below all entries is not found
+look_above : (index : List Copied) (block : ℕ) → IsAbove (block + 1) index → look index block ≡ None
+look_above index block above = look-absent index block (λ j less same. omega (arith, above j less))
+
+decided : (t : Bool) → (t ≡ true) ⊎ (t ≡ false)
+decided true = inl refl
+decided false = inr refl
+
+module _ (slot : ℕ) where
+  -- the entry stands in another slot
+  abbrev pub is_outside : Copied → Bool
+  is_outside c = if c.slot == slot then false else true
+
+  filter_yes : (c : Copied) (index : List Copied) → is_outside c ≡ true → filter is_outside (c ∷ index) ≡ c ∷ filter is_outside index
+  filter_yes c index stays = ap (λ (t : Bool). if t then c ∷ filter is_outside index else filter is_outside index) stays
+
+  filter_no : (c : Copied) (index : List Copied) → is_outside c ≡ false → filter is_outside (c ∷ index) ≡ filter is_outside index
+  filter_no c index goes = ap (λ (t : Bool). if t then c ∷ filter is_outside index else filter is_outside index) goes
+
+  above_filter : (least : ℕ) (index : List Copied) → IsAbove least index → IsAbove least (filter is_outside index)
+  above_filter least [] above = above
+  above_filter least (c ∷ index) above =
+      let rest = above_filter least index (λ i below. above (suc i) (omega arith)) in
+      elim (decided (is_outside c)) [
+        | inl stays ↦ subst (IsAbove least) (sym (filter_yes c index stays)) (above_cons least c (filter is_outside index) (above zero (omega arith)) rest)
+        | inr goes ↦ subst (IsAbove least) (sym (filter_no c index goes)) rest
+      ]
+
+  -- what is left is sorted
+  pub sorted_filter : (index : List Copied) → IsSorted index → IsSorted (filter is_outside index)
+  sorted_filter [] sorted = sorted
+  sorted_filter (c ∷ index) sorted =
+      let rest = sorted_filter index (sorted_tail c index sorted) in
+      elim (decided (is_outside c)) [
+        | inl stays ↦ subst IsSorted (sym (filter_yes c index stays)) (sorted_cons c (filter is_outside index) (above_filter (c.block + 1) index (above_tail c index sorted)) rest)
+        | inr goes ↦ subst IsSorted (sym (filter_no c index goes)) rest
+      ]
+
+  -- and has the copies outside the slot
+  pub look_filter : (index : List Copied) → IsSorted index → (b : ℕ) → look (filter is_outside index) b ≡ outside slot (look index b)
+  look_filter [] sorted b = refl
+  look_filter (c ∷ index) sorted b =
+      let rest : look (filter is_outside index) b ≡ outside slot (look index b) = look_filter index (sorted_tail c index sorted) b in
+      let gone : c.block ≡ b → look (filter is_outside index) b ≡ None = λ same. look_above (filter is_outside index) b
+      (above_filter (b + 1) index (subst (λ (n : ℕ). IsAbove (n + 1) index) same (above_tail c index sorted))) in
+      elim (cases_eq c.slot slot) [
+        | inl here ↦
+            let goes : is_outside c ≡ false = grind (arith, nat_tests, here) in
+            ap (λ (l : List Copied). look l b) (filter_no c index goes) ∙ dropped here rest gone (cases_eq c.block b)
+        | inr there ↦
+            let stays : is_outside c ≡ true = grind (arith, nat_tests, there) in
+            ap (λ (l : List Copied). look l b) (filter_yes c index stays) ∙ kept there rest (cases_eq c.block b)
+      ]
+    where
+      dropped : c.slot ≡ slot → look (filter is_outside index) b ≡ outside slot (look index b) → (c.block ≡ b → look (filter is_outside index) b ≡ None) → (c.block ≡ b) ⊎ (c.block ≢ b)
+          → look (filter is_outside index) b ≡ outside slot (look (c ∷ index) b)
+      dropped here rest gone (inl same) = gone same ∙ grind (arith, nat_tests, same, here)
+      dropped here rest gone (inr not) = rest ∙ grind (arith, nat_tests, not)
+
+      kept : c.slot ≢ slot → look (filter is_outside index) b ≡ outside slot (look index b) → (c.block ≡ b) ⊎ (c.block ≢ b) → look (c ∷ filter is_outside index) b ≡ outside slot (look (c ∷ index) b)
+      kept there rest (inl same) = grind (arith, nat_tests, same, there)
+      kept there rest (inr not) = grind (arith, nat_tests, not, rest)

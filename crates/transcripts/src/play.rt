@@ -1,0 +1,94 @@
+// The play of an exchange.
+ghost use Rattle.std.specs.Prelude.{◌≡◌, ◌<◌, ◌+◌, ◌++◌, ◌↔◌, length, take, drop, IsNone, IsSome};
+
+use crate::compare::compare;
+use crate::exchange::{Exchange, Image, Patch, Step};
+use crate::fault::Fault;
+use runner::command;
+use std::fs;
+use std::fs::Files;
+
+// The files in the current folder, as the words of a command name them.
+const IMAGE: &str = "image";
+
+const SCRIPT: &str = "script";
+
+/// Plays the commands of an exchange on an image file of its own, up to the first that differs from
+/// what is written.
+pub(crate) fn play_exchange<R: Files + AllocGlobal>(
+    rt: &R,
+    exchange: &Exchange,
+) -> Result<(), Fault> {
+    make_image(rt, &exchange.image)?;
+    patch_image(rt, exchange.patches.as_slice())?;
+    let mut number: u64 = 0;
+    for step in &exchange.steps {
+        number = number.saturating_add(1);
+        play_step(rt, number, step)?;
+    }
+    Ok(())
+}
+
+// Makes the image file.
+fn make_image<R: Files + AllocGlobal>(rt: &R, image: &Image) -> Result<(), Fault> {
+    match image {
+        Image::Bytes(bytes) => fs::write(rt, IMAGE, bytes.as_slice())?,
+        Image::Formatted(size) => {
+            let words = [
+                "format",
+                IMAGE,
+                "--blocks",
+                size.blocks.as_str(),
+                "--slots",
+                size.slots.as_str(),
+            ];
+            let mut out = Vec::new(rt.alloc());
+            let mut err = Vec::new(rt.alloc());
+            if command(rt, &words, &mut out, &mut err) != 0 {
+                return Err(Fault::Image);
+            }
+        }
+    }
+    Ok(())
+}
+
+// Changes bytes of the image file.
+fn patch_image<R: Files + AllocGlobal>(rt: &R, patches: &[Patch]) -> Result<(), Fault> {
+    if patches.is_empty() {
+        return Ok(());
+    }
+    let mut image = fs::read(rt, IMAGE)?;
+    for patch in patches {
+        put(image.as_mut_slice(), patch.offset, patch.bytes.as_slice()).ok_or(Fault::Patch)?;
+    }
+    fs::write(rt, IMAGE, image.as_slice())?;
+    Ok(())
+}
+
+// Puts bytes at a place, if they lie within.
+fn put(image: &mut [u8], offset: usize, bytes: &[u8]) -> Option<()>
+    ensures outside { IsNone result ↔ (length image.old < offset + length bytes.now) }
+    ensures written { IsSome result → image.new ≡ take offset image.old ++ bytes.now
+        ++ drop (offset + length bytes.now) image.old }
+    ensures same { IsNone result → image.new ≡ image.old }
+{
+    let end = offset.checked_add(bytes.len())?;
+    if end > image.len() {
+        return None;
+    }
+    image[offset..end].copy_from_slice(bytes);
+    Some(())
+}
+
+// Plays a command and compares what came of it.
+fn play_step<R: Files + AllocGlobal>(rt: &R, number: u64, step: &Step) -> Result<(), Fault> {
+    fs::write(rt, SCRIPT, step.script.as_slice())?;
+    let words: Vec<&str> = step.words.split_whitespace().collect(rt.alloc())?;
+    let mut out = Vec::new(rt.alloc());
+    let mut err = Vec::new(rt.alloc());
+    let status = command(rt, words.as_slice(), &mut out, &mut err);
+    match compare(rt.alloc(), step, status, out.as_slice(), err.as_slice())? {
+        None => Ok(()),
+        Some(difference) => Err(Fault::Command { number, difference }),
+    }
+}
