@@ -89,6 +89,10 @@ impl Batch {
         ensures size { IfSome result (λ bytes. length bytes.now ≡ 512) }
         ensures none { IsNone result ↔ (map_of self.now block ≡ None) }
     {
+        let count = self.numbers.len();
+        if 0 < count && self.numbers[count - 1] < block {
+            return None;
+        }
         match self.search(block, &mut Steps::new()) {
             Ok(place) => Some(&self.row[place]),
             Err(_) => None,

@@ -14,6 +14,6 @@ returns-clause-put c =
     let numbers = rw c.unwrap.ensures at c.insert.ensures.items in
     let longer = length-insert old c.args.place c.args.number c.requires.place.inside in
     let moved : c.copy_within.new.self.items ≡ copy_within row c.args.place (length old) (c.args.place + 1) =
-        c.copy_within.ensures.items ∙ ap (λ (n : ℕ). copy_within row c.args.place n (c.args.place + 1)) count in
+    c.copy_within.ensures.items ∙ ap (λ (n : ℕ). copy_within row c.args.place n (c.args.place + 1)) count in
     let put = inserted old (held old row) c.args.number c.args.place c.args.block.now c.requires.paired c.requires.place c.requires.size in
     rw (numbers, longer, moved, c.copy_from_slice.ensures.after, put_among row c.args.place (length old) c.args.block.now c.requires.place.inside c.requires.room) put
