@@ -73,10 +73,12 @@ module _ (was now : Option (List ℕ)) where
   HasDone words = ((image : List ℕ) × (blocks : ℕ) × (slots : ℕ) × AreFormatWords words image blocks slots × IsFormat blocks slots)
       ⊎ ((IsScriptCommand (codes "run") words × IsRun) ⊎ (IsScriptCommand (codes "sim") words × IsSim))
 
-  -- no image file was made: the sizes are out of their limits; or there was no memory; or a file failed, the output perhaps
+  -- No image file was made: the sizes are out of their limits. Or they are not, and there was no memory, or a file failed, the output
+  -- perhaps.
   abbrev pub IsFormatRefused : ℕ → ℕ → Refusal → Type 0
   IsFormatRefused blocks slots refusal = ((refusal ≡ refused.ImageSize) × (¬ AreImageSizes blocks slots) × Keeps was now)
-      ⊎ (((refusal ≡ refused.NoMemory) × Keeps was now) ⊎ ((refusal ≡ refused.File) × AppendsSome was now (ended (codes "formatted"))))
+      ⊎ ((¬ (¬ AreImageSizes blocks slots))
+      × (((refusal ≡ refused.NoMemory) × Keeps was now) ⊎ ((refusal ≡ refused.File) × AppendsSome was now (ended (codes "formatted")))))
 
   -- a script on an image file was refused, and this is why
   pub record IsPlayRefused (refusal : Refusal) : Type 0 where
