@@ -9,7 +9,8 @@ use Rattle.blocks.specs.Book.{Book, after_first, with_write}
 -- the image of a medium of so many sectors, with so many logical blocks and some log slots, is ours, and stands for this array
 -- with this next stamp
 abbrev pub StandsAs : ℕ → ℕ → Image → Array → ℕ → Type 0
-StandsAs size blocks image array next = (slots : ℕ) × (let shape : Shape = record { blocks = blocks; slots = slots } in IsOurs size shape image array next)
+StandsAs size blocks image array next = (slots : ℕ)
+    × (let shape : Shape = record { blocks = blocks; slots = slots } in IsOurs size shape image array next)
 
 -- the image stands for the array after some of the first writes of the book, the promised ones at least
 pub record MayFind (size : ℕ) (book : Book) (image : Image) : Type 0 where

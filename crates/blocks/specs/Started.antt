@@ -15,14 +15,16 @@ use Rattle.blocks.specs.Finding.{MayFind}
 use Rattle.blocks.specs.Opening.{OpensOn}
 use Rattle.blocks.specs.StoreValue.{Cached, layout_of, blocks_of, is_dead, active_of, steps_left, FitsBook}
 
--- A store that has started serves the array for which the contents of the medium stood. It fits a life that opens with it, under the
--- premise that every image was ours only where every one was. Nothing is cached, and nothing is left to do.
+-- A store that has started serves the array for which the contents of the medium stood. It fits a life that
+-- opens with it, under the premise that every image was ours only where every one was. Nothing is cached, and
+-- nothing is left to do.
 pub record IsStarted (before after : State) (new : Cached) : Type 0 where
   pub array : Array
   pub next : ℕ
   pub stood : StandsFor before.size (layout_of new) before.content array next
   pub stamp_left : next < 2 ^ 63
-  pub fits : (ours : Bool) → (ours ≡ true → EachCut (IsOursForSome before.size) before) → FitsBook after new (opened (blocks_of new) array next ours)
+  pub fits : (ours : Bool) → (ours ≡ true → EachCut (IsOursForSome before.size) before)
+      → FitsBook after new (opened (blocks_of new) array next ours)
   -- over books: it fits each with which a life may open over the contents, and there is one
   pub serves : (book : Book) → OpensOn before book → FitsBook after new book
   pub opens : OpensOn before (opened (blocks_of new) array next false)
@@ -32,11 +34,14 @@ pub record IsStarted (before after : State) (new : Cached) : Type 0 where
 
 -- Why a start is refused: for want of memory only once the medium is recovered, else as recovery is.
 abbrev pub IsStartCause : State → State → StartFault → Type 0
-IsStartCause before after fault = IsCause before after fault ⊎ ((fault ≡ NoMemory) × (answer : Recovered) × IsRecoveredFrom before after answer)
+IsStartCause before after fault = IsCause before after fault
+    ⊎ ((fault ≡ NoMemory) × (answer : Recovered) × IsRecoveredFrom before after answer)
 
--- from the first call on a cut leaves only images with P, where there was a second call
+-- Every image that a cut may have left after the first call has P. A second call is made only where the
+-- first, a flush, was good.
 abbrev pub IsOursSince : (Image → Type 0) → State → State → Type 0
-IsOursSince P before after = before.calls + 2 ≤ after.calls → (image : Image) → after.left_since (before.calls + 1) image → P image
+IsOursSince P before after = before.calls + 2 ≤ after.calls
+    → (image : Image) → after.left_since (before.calls + 1) image → P image
 
 -- no count falls, the size stays, and the calls are those of a recovery at most
 pub record IsBounded (before after : State) : Type 0 where

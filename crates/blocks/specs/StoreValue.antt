@@ -56,7 +56,8 @@ waiting (suc steps) wanted = 0
 -- How many background steps are left at most: those of the records that are begun, and 112 for each batch that is to become a
 -- record. A batch of 48 blocks takes 52 steps to be written, and 50 to be retired.
 abbrev pub steps_left : Cached → ℕ
-steps_left s = s.log.steps_left + s.log.retire_steps_left + waiting s.log.steps_left (wants s.frozen.numbers) + 112 * wants s.active.numbers
+steps_left s = s.log.steps_left + s.log.retire_steps_left
+    + waiting s.log.steps_left (wants s.frozen.numbers) + 112 * wants s.active.numbers
 
 -- these numbers and those of the range are at most 48 together
 abbrev pub FitsBeside : List ℕ → ℕ → ℕ → Type 0

@@ -53,7 +53,8 @@ fn insert_entry(
     ensures capacity { vec_capacity numbers.new ≡ vec_capacity numbers.old }
     ensures row_stays { length row.new.items ≡ length row.old.items }
 {
-    row.copy_within(place..numbers.len(), place + 1);
+    // All blocks from the place on move at once: `copy_within` would copy them one by one.
+    row[place..=numbers.len()].rotate_right(1);
     row[place].copy_from_slice(block);
     // There is capacity for one more, so this cannot fail or take memory.
     numbers.insert(place, number).unwrap();

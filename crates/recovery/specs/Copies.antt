@@ -15,7 +15,8 @@ IsHomeOf shape numbers x = (i : ℕ) × (i < length numbers) × (x ≡ first_hom
 
 -- a block of the whole record of this stamp is at home in the sector
 abbrev pub IsHomeInRecord : Shape → Image → ℕ → ℕ → Type 0
-IsHomeInRecord shape image stamp x = (entries : List Entry) × IsWhole shape image stamp entries × IsHomeOf shape (numbers_of entries) x
+IsHomeInRecord shape image stamp x =
+    (entries : List Entry) × IsWhole shape image stamp entries × IsHomeOf shape (numbers_of entries) x
 
 -- a block of one of so many whole records from this stamp on is at home in the sector
 abbrev pub IsHomeInRecords : Shape → Image → ℕ → ℕ → ℕ → Type 0

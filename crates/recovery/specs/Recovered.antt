@@ -20,8 +20,11 @@ pub record IsRecoveredFrom (old new : State) (answer : Recovered) : Type 0 where
   pub flushed : IsFlushed new
   pub head : IsHead answer.next (new.content 1)
   pub home : (b : ℕ) → b < answer.sizes.blocks → new.content (first_home (shape_of answer.sizes) + b) ≡ array b
-  pub elsewhere : (x : ℕ) → x ≢ 1 → (x < first_home (shape_of answer.sizes)) ⊎ (sectors_of (shape_of answer.sizes) ≤ x) → new.content x ≡ old.content x
-  pub calls : new.calls ≡ old.calls + 6 + 2 * min (length stood.records + 1) answer.sizes.slots + copy_calls stood.records
+  pub elsewhere : (x : ℕ) → x ≢ 1
+      → (x < first_home (shape_of answer.sizes)) ⊎ (sectors_of (shape_of answer.sizes) ≤ x)
+      → new.content x ≡ old.content x
+  pub calls : new.calls
+      ≡ old.calls + 6 + 2 * min (length stood.records + 1) answer.sizes.slots + copy_calls stood.records
 
 -- no record waits: the image has this array at home and its head at this stamp, and nothing in its log
 -- carries this stamp or a later one
@@ -38,7 +41,8 @@ IsOursForSome size image = (shape : Shape) × (array : Array) × (next : ℕ) ×
 
 -- the image is ours for this array, with this next stamp or the one behind it
 abbrev pub IsOursWithNext : ℕ → Shape → Array → ℕ → Image → Type 0
-IsOursWithNext size shape array next image = IsOurs size shape image array next ⊎ IsOurs size shape image array (next + 1)
+IsOursWithNext size shape array next image =
+    IsOurs size shape image array next ⊎ IsOurs size shape image array (next + 1)
 
 -- the image is ours for an array that an image allowed before stood for, with its next stamp or the one behind it
 pub record StandsForOneOf (old : State) (image : Image) : Type 0 where

@@ -44,7 +44,9 @@ IsFlush Flush = Unit {0}
 abbrev pub IsNextCall : Shape → ℕ → List ℕ → List ℕ → Writing → Call → Type 0
 IsNextCall shape stamp numbers bytes Begun call = IsWriteOf (slot_place shape stamp) (IsDescriptor stamp numbers) call
 IsNextCall shape stamp numbers bytes (Placing i) call =
-    (i < length numbers → IsWriteOf (slot_place shape stamp + 1 + i) (λ sector. sector ≡ slice_range bytes (512 * i) (512 * i + 512)) call) × (length numbers ≤ i → IsFlush call)
+    (i < length numbers → IsWriteOf (slot_place shape stamp + 1 + i)
+    (λ sector. sector ≡ slice_range bytes (512 * i) (512 * i + 512)) call)
+    × (length numbers ≤ i → IsFlush call)
 IsNextCall shape stamp numbers bytes Flushed call = IsWriteOf (slot_place shape stamp + 49) (IsCommit stamp (length numbers)) call
 IsNextCall shape stamp numbers bytes Committed call = IsFlush call
 

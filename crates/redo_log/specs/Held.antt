@@ -94,7 +94,8 @@ pub record Stores (shape : Shape) (head : ℕ) (view : View) (steps retire : ℕ
 -- what guards a log against a cut
 pub record Guards (shape : Shape) (head : ℕ) (view : View) (steps retire : ℕ) (m : State) : Type 0 where
   -- each image has the durable records, and with the commit perhaps the record under way
-  pub each : EachCut (λ image. IsLogged shape head view image ⊎ ((steps ≡ 1) × IsLogged shape head (with_record view) image)) m
+  pub each : EachCut (λ image. IsLogged shape head view image
+      ⊎ ((steps ≡ 1) × IsLogged shape head (with_record view) image)) m
   -- the descriptor of the record under way is written
   pub described : 0 < steps → steps < length view.under_way + 4
       → IsDescriptor (stamp_behind head view) (numbers_of view.under_way) (m.content (slot_place shape (stamp_behind head view)))

@@ -21,12 +21,14 @@ with_copy block copy copies b = if block == b then Some copy else copies b
 -- these copies, with those of the record in this slot put over: its blocks stand from this place on
 abbrev pub with_copies : ℕ → ℕ → List ℕ → Copies → Copies
 with_copies slot place [] copies block = copies block
-with_copies slot place (n ∷ numbers) copies block = with_copies slot (place + 1) numbers (with_copy n (slot, place) copies) block
+with_copies slot place (n ∷ numbers) copies block =
+    with_copies slot (place + 1) numbers (with_copy n (slot, place) copies) block
 
 -- these copies, with those of the records from this stamp on put over
 abbrev pub copies_of : ℕ → ℕ → List (List ℕ) → Copies → Copies
 copies_of slots stamp [] copies block = copies block
-copies_of slots stamp (numbers ∷ records) copies block = copies_of slots (stamp + 1) records (with_copies (stamp % slots) 0 numbers copies) block
+copies_of slots stamp (numbers ∷ records) copies block =
+    copies_of slots (stamp + 1) records (with_copies (stamp % slots) 0 numbers copies) block
 
 -- the copy, unless it stands in this slot
 abbrev pub outside : ℕ → Option (ℕ × ℕ) → Option (ℕ × ℕ)
@@ -57,11 +59,14 @@ IsFrom index slot numbers block copy = (look index block ≡ Some copy) ⊎ IsCo
 
 -- an index with these copies fits in so many entries
 abbrev pub Fits : ℕ → Copies → Type 0
-Fits room copies = (index : List Copied) → IsSorted index → ((block : ℕ) → look index block ≡ copies block) → length index ≤ room
+Fits room copies = (index : List Copied) → IsSorted index
+    → ((block : ℕ) → look index block ≡ copies block) → length index ≤ room
 
 -- an index of copies of this one and of the record in this slot fits in so many entries
 abbrev pub FitsWith : ℕ → List Copied → ℕ → List ℕ → Type 0
-FitsWith room old slot numbers = (index : List Copied) → IsSorted index → ((block : ℕ) (copy : ℕ × ℕ) → look index block ≡ Some copy → IsFrom old slot numbers block copy) → length index ≤ room
+FitsWith room old slot numbers = (index : List Copied) → IsSorted index
+    → ((block : ℕ) (copy : ℕ × ℕ) → look index block ≡ Some copy → IsFrom old slot numbers block copy)
+    → length index ≤ room
 
 -- the index has the newest copies of these records, of which the first has this stamp
 pub record IsIndex (slots stamp : ℕ) (records : List (List ℕ)) (index : List Copied) : Type 0 where

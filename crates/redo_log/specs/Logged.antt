@@ -8,13 +8,15 @@ use Rattle.log_layout.specs.Record.{Entry, numbers_of, IsWhole, with_records, ho
 use Rattle.log_layout.specs.Standing.{Keeps, DescriptorsBelow, CommitsBelow, IsOurs}
 
 -- the image has these records whole from this stamp on, it is ours, and it stands for this array
-pub record HasRecords (size : ℕ) (shape : Shape) (head : ℕ) (records : List (List Entry)) (array : Array) (image : Image) : Type 0 where
+pub record HasRecords (size : ℕ) (shape : Shape) (head : ℕ) (records : List (List Entry)) (array : Array)
+    (image : Image) : Type 0 where
   pub whole : (j : ℕ) → j < length records → IsWhole shape image (head + j) (get_or records j [])
   pub ours : IsOurs size shape image array (head + length records + 1)
 
 -- The image has these records, no commit in its log carries the stamp behind them or a later one,
 -- and no descriptor one behind that.
-pub record Logged (shape : Shape) (head : ℕ) (records : List (List Entry)) (array : Array) (image : Image) : Type 0 where
+pub record Logged (shape : Shape) (head : ℕ) (records : List (List Entry)) (array : Array) (image : Image)
+    : Type 0 where
   pub keeps : Keeps shape image head records array
   pub few : length records ≤ shape.slots
   pub descriptors : DescriptorsBelow shape image (head + length records + 1)
@@ -28,7 +30,8 @@ pub record IsFresh (shape : Shape) (head : ℕ) (array : Array) (image : Image) 
 
 -- the first so many blocks of the record with this stamp stand in its data places
 abbrev pub HasPlaces : Shape → ℕ → List Entry → ℕ → Image → Type 0
-HasPlaces shape stamp entries count image = (i : ℕ) → i < count → i < length entries → image (slot_place shape stamp + 1 + i) ≡ (get_or entries i (0, [])).1
+HasPlaces shape stamp entries count image = (i : ℕ) → i < count → i < length entries
+    → image (slot_place shape stamp + 1 + i) ≡ (get_or entries i (0, [])).1
 
 -- the descriptor and the blocks of the record with this stamp stand in its slot
 pub record IsStaged (shape : Shape) (stamp : ℕ) (entries : List Entry) (image : Image) : Type 0 where
@@ -37,9 +40,12 @@ pub record IsStaged (shape : Shape) (stamp : ℕ) (entries : List Entry) (image 
 
 -- the first so many of these blocks stand at home
 abbrev pub AreHome : Shape → List Entry → ℕ → Image → Type 0
-AreHome shape entries count image = (i : ℕ) → i < count → i < length entries → image (first_home shape + (get_or entries i (0, [])).0) ≡ (get_or entries i (0, [])).1
+AreHome shape entries count image = (i : ℕ) → i < count → i < length entries
+    → image (first_home shape + (get_or entries i (0, [])).0) ≡ (get_or entries i (0, [])).1
 
 -- these records stand in their slots, and laid over the blocks at home they make this array
-pub record Laid (shape : Shape) (head : ℕ) (records : List (List Entry)) (array : Array) (image : Image) : Type 0 where
-  pub places : (j : ℕ) → j < length records → HasPlaces shape (head + j) (get_or records j []) (length (get_or records j [])) image
+pub record Laid (shape : Shape) (head : ℕ) (records : List (List Entry)) (array : Array) (image : Image)
+    : Type 0 where
+  pub places : (j : ℕ) → j < length records
+      → HasPlaces shape (head + j) (get_or records j []) (length (get_or records j [])) image
   pub blocks : (b : ℕ) → b < shape.blocks → with_records records (home_of shape image) b ≡ array b

@@ -96,7 +96,8 @@ IsUnderWay blocks numbers None = numbers ≡ []
 IsUnderWay blocks numbers (Some writing) = AreInside blocks numbers × IsWriting (length numbers) writing
 
 -- the records of a log with so many slots
-pub record IsRing (blocks slots : ℕ) (waiting : List (List ℕ)) (retiring : Retiring) (under_way : List ℕ) (writing : Option Writing) : Type 0 where
+pub record IsRing (blocks slots : ℕ) (waiting : List (List ℕ)) (retiring : Retiring) (under_way : List ℕ)
+    (writing : Option Writing) : Type 0 where
   pub each : All (AreInside blocks) waiting
   pub fits : length waiting + begun_at writing ≤ slots
   pub oldest : IsOldest waiting retiring

@@ -48,5 +48,6 @@ IsHeadTurn stamp (Head bytes) = IsHead stamp bytes
 -- the next turn of a record with this stamp: each block from its data place home, a flush, the head with the next stamp
 abbrev pub IsNextTurn : Shape → ℕ → List ℕ → Retiring → Turn → Type 0
 IsNextTurn shape stamp numbers (Copying i) turn =
-    (i < length numbers → IsCopyOf (slot_place shape stamp + 1 + i) (first_home shape + slice_index numbers i) turn) × (length numbers ≤ i → IsFlushTurn turn)
+    (i < length numbers → IsCopyOf (slot_place shape stamp + 1 + i) (first_home shape + slice_index numbers i) turn)
+    × (length numbers ≤ i → IsFlushTurn turn)
 IsNextTurn shape stamp numbers Homed turn = IsHeadTurn (stamp + 1) turn

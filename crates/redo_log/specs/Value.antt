@@ -22,7 +22,16 @@ pub record LogValue : Type 0 where
 
 -- a log without records, whose first one takes this stamp
 abbrev pub idle_from : Shape → ℕ → LogValue
-idle_from shape next = record { shape = shape; head = next; next = next; under_way = []; waiting = []; steps_left = 0; retire_steps_left = 0; dead = false }
+idle_from shape next = record {
+  shape = shape;
+  head = next;
+  next = next;
+  under_way = [];
+  waiting = [];
+  steps_left = 0;
+  retire_steps_left = 0;
+  dead = false;
+}
 
 -- a record may be begun: none is under way, and the stamps from the durable head's on leave a slot free
 pub record HasRoom (log : LogValue) : Type 0 where
@@ -55,7 +64,8 @@ begun numbers log = record log {
 -- a step was made that answered so
 abbrev pub IsStepped : Progress → LogValue → LogValue → Type 0
 IsStepped More old new = (1 < old.steps_left) × (new ≡ record old { steps_left = old.steps_left - 1 })
-IsStepped Durable old new = (old.steps_left ≡ 1) × (new ≡ record old { under_way = []; waiting = old.waiting ++ old.under_way ∷ []; steps_left = 0 })
+IsStepped Durable old new = (old.steps_left ≡ 1)
+    × (new ≡ record old { under_way = []; waiting = old.waiting ++ old.under_way ∷ []; steps_left = 0 })
 
 -- how many retire steps are left when the oldest durable record is retired
 abbrev pub behind_oldest : LogValue → ℕ
@@ -73,11 +83,13 @@ pub record Owes (log : LogValue) : Type 0 where
 -- a retire step was made: it was the oldest record's last, which is retired then, or there are more
 pub record IsRetireStepped (old new : LogValue) : Type 0 where
   pub some : behind_oldest old < old.retire_steps_left
-  pub more : behind_oldest old + 1 < old.retire_steps_left → new ≡ record old { retire_steps_left = old.retire_steps_left - 1 }
+  pub more : behind_oldest old + 1 < old.retire_steps_left
+      → new ≡ record old { retire_steps_left = old.retire_steps_left - 1 }
   pub last : old.retire_steps_left ≡ behind_oldest old + 1
       → new ≡ record old { head = old.head + 1; waiting = drop 1 old.waiting; retire_steps_left = behind_oldest old }
 
--- the slot and the place hold the newest logged copy of this block: its number stands there in a durable record, and in no newer one
+-- the slot and the place hold the newest logged copy of this block: its number stands there in a durable
+-- record, and in no newer one
 pub record IsNewestCopy (log : LogValue) (block slot place : ℕ) : Type 0 where
   pub age : ℕ
   pub waits : age < length log.waiting

@@ -61,7 +61,8 @@ text_of_lives (cuts keeps ∷ actions) answers = text_of_lives actions answers
 text_of_lives (plays event ∷ actions) [] = []
 text_of_lives (plays event ∷ actions) (answer ∷ answers) = line_for event answer ++ text_of_lives actions answers
 
--- Each event has one answer, which is Off only behind a fuse of the same life. The truth value says that one is armed before.
+-- Each event has one answer, which is Off only behind a fuse of the same life. The truth value says that one
+-- is armed before.
 abbrev pub AnswersFit : Bool → List Action → List Answer → Type 0
 AnswersFit fused [] answers = answers ≡ []
 AnswersFit fused (arms writes ∷ actions) answers = AnswersFit true actions answers
@@ -90,8 +91,9 @@ abbrev pub MovesBy : Sim → List Action → Sim → Type 0
 MovesBy old [] new = new ≡ old
 MovesBy old (action ∷ actions) new = (mid : Sim) × Moves old action mid × MovesBy mid actions new
 
--- Lives of a disk over a medium in memory, and the answers. In some actions the medium refused a call, whatever the premise. For each
--- book with which a first life opens over the contents they are a run of lives; a cut afterwards leaves what may be found.
+-- Lives of a disk over a medium in memory, and the answers. In some actions the medium refused a call, whatever
+-- the premise. For each book with which a first life opens over the contents they are a run of lives; a cut
+-- afterwards leaves what may be found.
 pub record AreLives (before after : Sim) (actions : List Action) (answers : List Answer) : Type 0 where
   pub fits : AnswersFit false actions answers
   pub moves : MovesBy before actions after

@@ -11,7 +11,9 @@ abbrev pub option_rule : List ℕ → Rule
 option_rule name = record (new_rule name) { long = Some name; required = true }
 
 abbrev pub format_app : App
-format_app = with_rule (with_rule (with_rule (new_app (codes "format")) (word_rule (codes "IMAGE"))) (option_rule (codes "blocks"))) (option_rule (codes "slots"))
+format_app =
+    with_rule (with_rule (with_rule (new_app (codes "format")) (word_rule (codes "IMAGE")))
+    (option_rule (codes "blocks"))) (option_rule (codes "slots"))
 
 -- `run` or `sim`
 abbrev pub script_app : List ℕ → App
@@ -24,4 +26,6 @@ bare_app = record (new_app (codes "usbdisk")) {
 }
 
 abbrev pub usbdisk_app : App
-usbdisk_app = with_subcommand (with_subcommand (with_subcommand bare_app format_app.top) (script_app (codes "run")).top) (script_app (codes "sim")).top
+usbdisk_app =
+    with_subcommand (with_subcommand (with_subcommand bare_app format_app.top)
+    (script_app (codes "run")).top) (script_app (codes "sim")).top

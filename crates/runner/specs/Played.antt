@@ -27,7 +27,8 @@ pub record Tells {M : Type 0} (state : M → State) (old : DiskValue M) (events 
   pub told : text ≡ text_of events answers
 
 -- it did, and left this medium
-pub record Leaves {M : Type 0} (state : M → State) (old : DiskValue M) (events : List Event) (text : List ℕ) (after : M) : Type 0 where
+pub record Leaves {M : Type 0} (state : M → State) (old : DiskValue M) (events : List Event) (text : List ℕ)
+    (after : M) : Type 0 where
   pub new : DiskValue M
   pub tells : Tells state old events text new
   pub medium : new.unit.store.medium ≡ after
