@@ -1,5 +1,6 @@
 // One entry among numbers that rise and the row of their blocks.
 ghost use Rattle.std.specs.Prelude.{◌≡◌, ◌+◌, ◌<◌, ◌≤◌, length, vec_capacity};
+ghost use Rattle.std.specs.List.{insert};
 ghost use Rattle.cache.specs.Blocks.{absent};
 ghost use Rattle.cache.specs.Places.{ArePaired, HasPlace, StandsAt, WouldStandAt, PutsEntry, held};
 
@@ -56,6 +57,20 @@ fn insert_entry(
     // All blocks from the place on move at once: `copy_within` would copy them one by one.
     row[place..=numbers.len()].rotate_right(1);
     row[place].copy_from_slice(block);
-    // There is capacity for one more, so this cannot fail or take memory.
-    numbers.insert(place, number).unwrap();
+    insert_number(numbers, place, number);
+}
+
+// Inserts a number within the capacity, mostly at the end.
+fn insert_number(numbers: &mut Vec<u64>, place: usize, number: u64)
+    requires place { place ≤ length numbers.old.items }
+    requires reserved { length numbers.old.items < vec_capacity numbers.old }
+    ensures items { numbers.new.items ≡ insert numbers.old.items place number }
+    ensures capacity { vec_capacity numbers.new ≡ vec_capacity numbers.old }
+{
+    if place == numbers.len() {
+        numbers.push_reserved(number);
+    } else {
+        // There is capacity for one more, so this cannot fail or take memory.
+        numbers.insert(place, number).unwrap();
+    }
 }
