@@ -42,9 +42,9 @@ impl<M: Medium> Model for Unit<M> {
 }
 
 impl<M: Medium> Unit<M> {
-    // A unit over a store that has started: the unit attention is pending, no sense is kept, and
-    // the write cache is enabled.
-    pub(crate) fn new(store: Store<M>, identity: Identity) -> Unit<M>
+    /// A unit over a store that has started: the unit attention is pending, no sense is kept, and
+    /// the write cache is enabled.
+    pub fn new(store: Store<M>, identity: Identity) -> Unit<M>
         ensures value { result ≡ record {
           store = store;
           identity = identity;
