@@ -5,4 +5,5 @@ pub mod ImageFile
 pub mod Keeping
 pub mod Moments
 pub mod Rows
+pub mod Sparing
 pub mod Walks

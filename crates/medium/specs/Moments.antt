@@ -1,5 +1,5 @@
 -- What calls of a medium leave at each moment of them.
-use Rattle.std.specs.Prelude.{◌≡◌, ◌⊎◌, ℕ, ◌≤◌}
+use Rattle.std.specs.Prelude.{◌≡◌, ◌⊎◌, ℕ, ◌≤◌, List}
 use Rattle.medium.specs.Medium.{State, Image, Sets, CutLeaves, Stays, Within, Only}
 use Rattle.medium.specs.declared.fault.MediumFault.{MediumFault}
 
@@ -25,6 +25,13 @@ pub record LeavesOnly (P : Image → Type 0) (old new : State) : Type 0 where
 -- a cut at any moment since old leaves each sector by one of these sets
 abbrev pub StaysWithin : Sets → State → State → Type 0
 StaysWithin bound old new = LeavesOnly (CutLeaves bound) old new
+
+-- The sectors from this one on are spared: they hold what they held, and a cut, now or at any moment since
+-- old, leaves in them only what it could have left before.
+pub record SparesFrom (first : ℕ) (old new : State) : Type 0 where
+  pub content : (s : ℕ) → first ≤ s → new.content s ≡ old.content s
+  pub sets : (s : ℕ) (c : List ℕ) → first ≤ s → new.may_leave s c → old.may_leave s c
+  pub moments : LeavesOnly (λ image. (s : ℕ) → first ≤ s → old.may_leave s (image s)) old new
 
 -- Calls that wrote nothing: no content changed,
 -- and what a cut may leave, now and at each moment between, could be left before.

@@ -1,5 +1,5 @@
 -- When a medium in memory refuses a call.
-use Rattle.std.specs.Prelude.{ℕ, ◌-◌, Bool, true, false, not, ◌&&◌, ◌||◌, Option, Some, None, if◌then◌else◌, ◌==◌, nat_lt}
+use Rattle.std.specs.Prelude.{⊤, ◌≤◌, ℕ, ◌-◌, Bool, true, false, not, ◌&&◌, ◌||◌, Option, Some, None, if◌then◌else◌, ◌==◌, nat_lt}
 use Rattle.medium.specs.declared.fault.MediumFault.{MediumFault}
 use Rattle.medium.specs.declared.fault.MediumFault.TheVariants.{Read, Write, Flush}
 use Rattle.medium.specs.declared.power.Power.{Power}
@@ -46,3 +46,9 @@ after_call p kind fits = record {
   fail = counted_down p.fail;
   off = p.off || (is_fused kind && is_used_up p.fuse);
 }
+
+-- an armed fuse stays armed, and lets no more writes and flushes happen than before
+abbrev pub StaysArmed : Option ℕ → Option ℕ → Type 0
+StaysArmed None new = ⊤
+StaysArmed (Some writes) None = ⊥
+StaysArmed (Some writes) (Some left) = left ≤ writes

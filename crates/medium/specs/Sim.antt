@@ -2,7 +2,7 @@
 use Rattle.std.specs.Prelude.{◌≡◌, ◌≢◌, ◌⊎◌, ℕ, ◌+◌, ◌-◌, ◌/◌, ◌%◌, ◌^◌, ◌<◌, ◌≤◌, min, Bool, true, false, None, Some, List, [], ◌∷◌, ◌++◌, length, if◌then◌else◌, nat_lt}
 use Rattle.medium.specs.Medium.{State, Image, Sets, CutLeaves}
 use Rattle.medium.specs.Power as power
-use Rattle.medium.specs.Power.{admits, powered}
+use Rattle.medium.specs.Power.{admits, powered, StaysArmed}
 use Rattle.medium.specs.Refusals.{Refused, of_kind, of_all, one_more}
 use Rattle.medium.specs.Writes.{sector_of, applied, IsWritten, are_whole, kept_writes, LieWithin}
 use Rattle.medium.specs.declared.fault.MediumFault.{MediumFault}
@@ -103,6 +103,7 @@ pub record ComesAfter (old new : Sim) : Type 0 where
   pub size_stays : length new.flushed ≡ length old.flushed
   pub room_stays : new.room ≡ old.room
   pub no_fuse_stays : old.power.fuse ≡ None → new.power.fuse ≡ None
+  pub fuse_stays : StaysArmed old.power.fuse new.power.fuse
   pub off_stays : old.power.off ≡ true → new.power.off ≡ true
   -- the power goes off in a call that the fuse refused
   pub goes_off : old.power.off ≡ false → new.power.off ≡ true
