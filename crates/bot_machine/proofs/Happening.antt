@@ -4,7 +4,7 @@ use Rattle.std.proofs.lemmas.Bool.{false≢true}
 use Rattle.std.proofs.lemmas.List.{append-nil}
 use Rattle.medium.specs.Medium.{State, Image, CutLeaves}
 use Rattle.medium.specs.Moments.{EachCut, IsFlushed}
-use Rattle.medium.specs.Refusals.{of_all}
+use Rattle.medium.specs.Tally.{of_all}
 use Rattle.medium.specs.Sim.{Sim, state_of, IsCut, ComesAfter}
 use Rattle.medium.specs.SimLaws.{is_sound}
 use Rattle.medium.specs.declared.power.Power.{Power}

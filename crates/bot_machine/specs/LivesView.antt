@@ -1,7 +1,7 @@
 -- How lives are kept.
 use Rattle.std.specs.Prelude.{[], None, Some, Option}
 use Rattle.medium.specs.Power.{powered}
-use Rattle.medium.specs.Refusals.{none}
+use Rattle.medium.specs.Tally.{none}
 use Rattle.bot_machine.specs.declared.stage.Stage.{Stage}
 use Rattle.bot_machine.specs.declared.stage.Stage.TheVariants.{Rests}
 
@@ -14,6 +14,7 @@ stage_in None = Rests (record {
   power = powered;
   flushes = 0;
   calls = 0;
+  made = none;
   refused = none;
 })
 stage_in (Some stage) = stage

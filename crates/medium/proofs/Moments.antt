@@ -236,6 +236,7 @@ unchanged m = record {
   left_shrinks = λ t image since. since;
   left_grows = λ t image since. since;
   calls_stay = refl;
+  made_stays = λ kind. refl;
   failures_stay = refl;
   refused_stay = λ kind. refl;
 }
@@ -250,6 +251,7 @@ unchanged_through old mid new first second = record {
   left_shrinks = λ t image since. first.left_shrinks t image (second.left_shrinks t image since);
   left_grows = λ t image since. second.left_grows t image (first.left_grows t image since);
   calls_stay = second.calls_stay ∙ first.calls_stay;
+  made_stays = λ kind. second.made_stays kind ∙ first.made_stays kind;
   failures_stay = second.failures_stay ∙ first.failures_stay;
   refused_stay = λ kind. second.refused_stay kind ∙ first.refused_stay kind;
 }

@@ -5,8 +5,8 @@ pub mod ImageFileView
 pub mod Medium
 pub mod Moments
 pub mod Power
-pub mod Refusals
 pub mod Sim
 pub mod SimLaws
 pub mod SimView
+pub mod Tally
 pub mod Writes

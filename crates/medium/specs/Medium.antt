@@ -22,6 +22,8 @@ pub record State : Type 1 where
   pub left_since : ℕ → Image → Type 0
   -- how many calls there were, which is also the moment
   pub calls : ℕ
+  -- how many of each kind, refused ones too
+  pub made : MediumFault → ℕ
   -- how many calls were refused
   pub failures : ℕ
   -- how many calls of each kind were refused
@@ -56,6 +58,9 @@ Only image sets = (s : ℕ) (c : List ℕ) → sets s c → c ≡ image s
 pub record Passes (fault : MediumFault) (result : Result (Unit {0}) MediumFault)
     (old new : State) : Type 0 where
   pub calls_are : new.calls ≡ old.calls + 1
+  pub made_is : new.made fault ≡ old.made fault + 1
+  -- no other kind is made
+  pub others_made : (kind : MediumFault) → kind ≢ fault → new.made kind ≡ old.made kind
   pub failures_are : new.failures ≡ (if is_ok result then old.failures else old.failures + 1)
   pub refused_are : new.refused fault
       ≡ (if is_ok result then old.refused fault else old.refused fault + 1)

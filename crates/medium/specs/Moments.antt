@@ -54,5 +54,6 @@ pub record IsUnchanged (old new : State) : Type 0 where
   pub left_shrinks : (t : ℕ) (image : Image) → new.left_since t image → old.left_since t image
   pub left_grows : (t : ℕ) (image : Image) → old.left_since t image → new.left_since t image
   pub calls_stay : new.calls ≡ old.calls
+  pub made_stays : (kind : MediumFault) → new.made kind ≡ old.made kind
   pub failures_stay : new.failures ≡ old.failures
   pub refused_stay : (kind : MediumFault) → new.refused kind ≡ old.refused kind

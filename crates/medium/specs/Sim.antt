@@ -3,7 +3,7 @@ use Rattle.std.specs.Prelude.{◌≡◌, ◌≢◌, ◌⊎◌, ℕ, ◌+◌, ◌
 use Rattle.medium.specs.Medium.{State, Image, Sets, CutLeaves}
 use Rattle.medium.specs.Power as power
 use Rattle.medium.specs.Power.{admits, powered, StaysArmed}
-use Rattle.medium.specs.Refusals.{Refused, of_kind, of_all, one_more}
+use Rattle.medium.specs.Tally.{Tally, of_kind, of_all, one_more}
 use Rattle.medium.specs.Writes.{sector_of, applied, IsWritten, are_whole, kept_writes, LieWithin}
 use Rattle.medium.specs.declared.fault.MediumFault.{MediumFault}
 use Rattle.medium.specs.declared.fault.MediumFault.TheVariants.{Write, Flush}
@@ -21,7 +21,9 @@ pub record Sim : Type 0 where
   -- how many flushes happened, up to the greatest number
   pub flushes : ℕ
   pub calls : ℕ
-  pub refused : Refused
+  -- how many calls of each kind, and how many of them were refused
+  pub made : Tally
+  pub refused : Tally
 
 -- How many sectors there are. A model with an unflushed write of another length is given none, so that
 -- the law on lengths holds of every model; no real medium is such.
@@ -44,6 +46,7 @@ state_of m = record {
   may_leave = sets_of m;
   left_since = λ t image. CutLeaves (sets_of m) image;
   calls = m.calls;
+  made = of_kind m.made;
   failures = of_all m.refused;
   refused = of_kind m.refused;
 }
@@ -57,6 +60,7 @@ abbrev pub after_call : Sim → MediumFault → Bool → Sim
 after_call m kind room = record m {
   power = power.after_call m.power kind room;
   calls = m.calls + 1;
+  made = one_more m.made kind;
   refused = if admits m.power kind room then m.refused else one_more m.refused kind;
 }
 
@@ -76,6 +80,7 @@ pub record IsFlush (old new : Sim) : Type 0 where
   pub room_stays : new.room ≡ old.room
   pub power_is : new.power ≡ power.after_call old.power Flush true
   pub calls_are : new.calls ≡ old.calls + 1
+  pub made_is : new.made ≡ one_more old.made Flush
   pub refused_stay : new.refused ≡ old.refused
 
 -- A cut: the kept writes are applied in order of issue, and the others are lost.
@@ -88,6 +93,7 @@ pub record IsCut (keep : ℕ → Bool) (old new : Sim) : Type 0 where
   pub room_stays : new.room ≡ old.room
   pub flushes_stay : new.flushes ≡ old.flushes
   pub calls_stay : new.calls ≡ old.calls
+  pub made_stays : new.made ≡ old.made
   pub refused_stay : new.refused ≡ old.refused
 
 -- a fuse of so many writes and flushes is armed, and nothing else has changed

@@ -6,7 +6,7 @@ use Rattle.std.proofs.lemmas.Bool.Decides.{eqb_tells, nat_tests}
 use Rattle.std.proofs.lemmas.List.{length-take, length-drop}
 use Rattle.medium.specs.Medium.{IsSound}
 use Rattle.medium.specs.Power.{StaysArmed}
-use Rattle.medium.specs.Refusals.{of_all}
+use Rattle.medium.specs.Tally.{of_all}
 use Rattle.medium.specs.Sim.{Sim, size_of, sets_of, state_of, ComesAfter}
 use Rattle.medium.specs.Writes.{sector_of, latest, IsWritten, are_whole}
 use Rattle.medium.specs.declared.unflushed.UnflushedWrite.{UnflushedWrite}

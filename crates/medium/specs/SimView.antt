@@ -1,12 +1,12 @@
 -- How a medium in memory is kept.
 use Rattle.std.specs.Prelude.{◌≤◌, vec_capacity}
-use Rattle.medium.specs.Refusals.{Refused}
+use Rattle.medium.specs.Tally.{Tally}
 use Rattle.medium.specs.Sim.{Sim, IsWellFormed}
-use Rattle.medium.specs.declared.refusals.Refusals.{Refusals}
+use Rattle.medium.specs.declared.tally.Calls.{Calls}
 use Rattle.medium.specs.declared.sim.SimMedium.TheInside.{Inside}
 
-abbrev pub refused_of : Refusals → Refused
-refused_of r = record { reads = r.reads.number; writes = r.writes.number; flushes = r.flushes.number }
+abbrev pub tally_of : Calls → Tally
+tally_of r = record { reads = r.reads.number; writes = r.writes.number; flushes = r.flushes.number }
 
 abbrev pub view_of : Inside → Sim
 view_of m = record {
@@ -16,7 +16,8 @@ view_of m = record {
   power = m.power;
   flushes = m.flushes;
   calls = m.calls.number;
-  refused = refused_of m.refusals;
+  made = tally_of m.made;
+  refused = tally_of m.refused;
 }
 
 pub record IsKept (m : Inside) : Type 0 where

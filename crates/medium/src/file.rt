@@ -9,8 +9,8 @@ ghost use Rattle.medium.specs.Writes.{sector_of};
 use crate::count::Count;
 use crate::fault::MediumFault;
 use crate::medium::Medium;
-use crate::refusals::Refusals;
 use crate::sectors::{SECTOR, load, store};
+use crate::tally::Calls;
 use std::fs::{Files, OpenFile, OpenOptions};
 use std::io::{Read, Seek, SeekFrom, Write};
 use std::marker::Model;
@@ -49,7 +49,8 @@ pub struct FileMedium<F> {
     file: F,
     bytes: Vec<u8>,
     calls: Count,
-    refusals: Refusals,
+    made: Calls,
+    refused: Calls,
 }
 
 impl<F> Model for FileMedium<F> {
@@ -131,7 +132,8 @@ impl<F> FileMedium<F> {
             file,
             bytes,
             calls: Count::new(),
-            refusals: Refusals::new(),
+            made: Calls::new(),
+            refused: Calls::new(),
         }
     }
 }
@@ -206,7 +208,7 @@ impl<F: Write + Seek + OpenFile> Medium for FileMedium<F> {
 
     fn read(&mut self, sector: u64, to: &mut [u8; 512]) -> Result<(), MediumFault>
         requires { sector < (state_of self.old).size }
-        ensures exact { self.new ≡ called self.old }
+        ensures exact { self.new ≡ called self.old Read }
         ensures happens { IsOk result }
         ensures ok { OnOk result (to.new ≡ (state_of self.old).content sector) }
         ensures content { Stays (state_of self.old).content (state_of self.new).content }
@@ -215,6 +217,7 @@ impl<F: Write + Seek + OpenFile> Medium for FileMedium<F> {
         ensures follows { ComesAfter self.old self.new }
     {
         self.calls = self.calls.next();
+        self.made.add(MediumFault::Read);
         load(&self.bytes, sector, to);
         Ok(())
     }
@@ -233,15 +236,16 @@ impl<F: Write + Seek + OpenFile> Medium for FileMedium<F> {
         ensures follows { ComesAfter self.old self.new }
     {
         self.calls = self.calls.next();
+        self.made.add(MediumFault::Write);
         let Ok(()) = write_through(&mut self.file, &mut self.bytes, sector, from) else {
-            self.refusals.add(MediumFault::Write);
+            self.refused.add(MediumFault::Write);
             return Err(MediumFault::Write);
         };
         Ok(())
     }
 
     fn flush(&mut self) -> Result<(), MediumFault>
-        ensures exact { OnOk result (self.new ≡ called self.old) }
+        ensures exact { OnOk result (self.new ≡ called self.old Flush) }
         ensures refused { OnErr result (self.new ≡ refused self.old Flush) }
         ensures ok { OnOk result (Only (state_of self.old).content (state_of self.new).may_leave) }
         ensures content { Stays (state_of self.old).content (state_of self.new).content }
@@ -250,8 +254,9 @@ impl<F: Write + Seek + OpenFile> Medium for FileMedium<F> {
         ensures follows { ComesAfter self.old self.new }
     {
         self.calls = self.calls.next();
+        self.made.add(MediumFault::Flush);
         let Ok(()) = self.file.sync_all() else {
-            self.refusals.add(MediumFault::Flush);
+            self.refused.add(MediumFault::Flush);
             return Err(MediumFault::Flush);
         };
         Ok(())

@@ -7,10 +7,10 @@ mod file;
 mod kept;
 mod medium;
 mod power;
-mod refusals;
 mod sectors;
 mod sim;
 mod switch;
+mod tally;
 mod unflushed;
 
 pub use fault::MediumFault;

@@ -3,7 +3,7 @@ ghost use Rattle.std.specs.Prelude.{◌≡◌, ◌≢◌, ◌⊎◌, ◌%◌, �
 ghost use Rattle.medium.specs.Medium.{CutLeaves};
 ghost use Rattle.medium.specs.Moments.{IsFlushed};
 ghost use Rattle.medium.specs.Power.{powered, admits};
-ghost use Rattle.medium.specs.Refusals.{none};
+ghost use Rattle.medium.specs.Tally.{none};
 ghost use Rattle.medium.specs.Sim.{state_of, after_call, IsCut};
 ghost use Rattle.medium.specs.Writes.{keeps};
 
@@ -12,9 +12,9 @@ use crate::fault::MediumFault;
 use crate::kept::Kept;
 use crate::medium::Medium;
 use crate::power::Power;
-use crate::refusals::Refusals;
 use crate::sectors::{SECTOR, load_after, settle};
 use crate::switch::Switch;
+use crate::tally::Calls;
 use crate::unflushed::UnflushedWrite;
 use std::alloc::Global;
 use std::marker::Model;
@@ -39,7 +39,8 @@ pub struct SimMedium {
     power: Power,
     flushes: u64,
     calls: Count,
-    refusals: Refusals,
+    made: Calls,
+    refused: Calls,
 }
 
 impl Model for SimMedium {
@@ -68,6 +69,7 @@ impl SimMedium {
           power = powered;
           flushes = 0;
           calls = 0;
+          made = none;
           refused = none;
         }) }
         ensures length { IsErrOf result SimError.BadLength
@@ -86,7 +88,8 @@ impl SimMedium {
             power: Power::on(),
             flushes: 0,
             calls: Count::new(),
-            refusals: Refusals::new(),
+            made: Calls::new(),
+            refused: Calls::new(),
         })
     }
 
@@ -137,8 +140,9 @@ impl SimMedium {
     {
         let happens = self.power.admit(kind, fits);
         self.calls = self.calls.next();
+        self.made.add(kind);
         if !happens {
-            self.refusals.add(kind);
+            self.refused.add(kind);
         }
         happens
     }

@@ -5,7 +5,7 @@ use Rattle.medium.specs.ImageFile as file
 use Rattle.medium.specs.ImageFile.{Copied, IsImage, fresh}
 use Rattle.medium.specs.Sim.{Sim}
 use Rattle.medium.specs.Power.{powered}
-use Rattle.medium.specs.Refusals.{none}
+use Rattle.medium.specs.Tally.{none}
 use Rattle.recovery.specs.Formatted.{AreSizes, IsFormatted}
 use Rattle.recovery.specs.Formatted.{sectors_of}
 use Rattle.runner.specs.declared.fault.ScriptFault.{ScriptFault}

@@ -2,7 +2,7 @@ use Rattle.std.proofs.Common.{◌≡◌, ℕ, true, length, if◌then◌else◌,
 use Rattle.medium.specs.Sim.{Sim, content_of}
 use Rattle.medium.specs.Writes.{sector_of}
 use Rattle.medium.specs.Power.{admits}
-use Rattle.medium.specs.Refusals.{one_more}
+use Rattle.medium.specs.Tally.{one_more}
 use Rattle.medium.specs.declared.fault.MediumFault.TheVariants.{Flush}
 use Rattle.medium.proofs.Flushed.{apply_all, flushed_content, flushed_only, flushed_set}
 use Rattle.medium.proofs.sim.SimMediumMedium.flush.Goals.{After-settle}
@@ -35,5 +35,6 @@ returns-clause-exact c =
       room_stays = ap (λ (m : Sim). m.room) view;
       power_is = ap (λ (m : Sim). m.power) view;
       calls_are = ap (λ (m : Sim). m.calls) view;
+      made_is = ap (λ (m : Sim). m.made) view;
       refused_stay = ap (λ (m : Sim). m.refused) view ∙ ap (λ b. if b then c.args.self.now.refused else one_more c.args.self.now.refused Flush) happens;
     }

@@ -1,23 +1,23 @@
-// How many calls of each kind were refused, as proofs count them.
+// How many calls of each kind there were, as proofs count them.
 ghost use Rattle.std.specs.Prelude.{◌≡◌};
-ghost use Rattle.medium.specs.Refusals.{none, one_more};
-ghost use Rattle.medium.specs.SimView.{refused_of};
+ghost use Rattle.medium.specs.Tally.{none, one_more};
+ghost use Rattle.medium.specs.SimView.{tally_of};
 
 use crate::count::Count;
 use crate::fault::MediumFault;
 
 #[derive(Drop)]
-pub(crate) struct Refusals {
+pub(crate) struct Calls {
     pub reads: Count,
     pub writes: Count,
     pub flushes: Count,
 }
 
-impl Refusals {
-    pub(crate) fn new() -> Refusals
-        ensures { refused_of result ≡ none }
+impl Calls {
+    pub(crate) fn new() -> Calls
+        ensures { tally_of result ≡ none }
     {
-        Refusals {
+        Calls {
             reads: Count::new(),
             writes: Count::new(),
             flushes: Count::new(),
@@ -26,7 +26,7 @@ impl Refusals {
 
     // Counts one of this kind.
     pub(crate) fn add(&mut self, kind: MediumFault)
-        ensures { refused_of self.new ≡ one_more (refused_of self.old) kind }
+        ensures { tally_of self.new ≡ one_more (tally_of self.old) kind }
     {
         match kind {
             MediumFault::Read => self.reads = self.reads.next(),
