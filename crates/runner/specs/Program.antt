@@ -37,6 +37,7 @@ simulated image = record {
   power = powered;
   flushes = 0;
   calls = 0;
+  made = none;
   refused = none;
 }
 
