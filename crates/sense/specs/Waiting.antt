@@ -1,7 +1,7 @@
 -- The sense that a logical unit keeps for REQUEST SENSE, and its pending unit attention.
 use Rattle.std.specs.Prelude.{◌==◌, ◌&&◌, Bool, true, false, Option, Some, None, if◌then◌else◌, is_some}
 use Rattle.sense.specs.declared.codes.Sense.{Sense}
-use Rattle.sense.specs.declared.codes.TheConstants.Sense.{NO_SENSE, POWER_ON_OR_RESET_OCCURRED}
+use Rattle.sense.specs.Codes.{no_sense, power_on_or_reset_occurred}
 use Rattle.sense.specs.Fixed.{key_number}
 
 -- what waits for REQUEST SENSE: a sense, or none, and perhaps a pending unit attention
@@ -21,8 +21,8 @@ after_failure sense waiting =
 -- what REQUEST SENSE reports: the kept sense, else the pending unit attention, else no sense
 abbrev pub reported_of : Option Sense → Bool → Sense
 reported_of (Some sense) attention = sense
-reported_of None true = POWER_ON_OR_RESET_OCCURRED
-reported_of None false = NO_SENSE
+reported_of None true = power_on_or_reset_occurred
+reported_of None false = no_sense
 
 abbrev pub reported : Waiting → Sense
 reported waiting = reported_of waiting.sense waiting.attention

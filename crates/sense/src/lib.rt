@@ -3,9 +3,11 @@
 #![tactic(auto)]
 
 mod codes;
+mod laws;
 #[cfg(test)]
 mod tests;
 mod waiting;
 
 pub use codes::{Sense, SenseKey};
+pub use laws::sense_codes;
 pub use waiting::Kept;
