@@ -3,10 +3,8 @@ use Rattle.std.proofs.Common.{true, false, Some, None, Result, refl, inl, inr}
 use Rattle.std.specs.Prelude.{IfOk, IfErr, if◌then◌else◌}
 use Rattle.std.proofs.lemmas.Bool.{leb-true, ltb-true, eqb-true}
 use Rattle.sense.specs.declared.codes.Sense.{Sense}
-use Rattle.sense.specs.declared.codes.TheConstants.Sense.{INVALID_FIELD_IN_CDB}
-use Rattle.sense.specs.declared.codes.TheConstants.Sense.{LOGICAL_BLOCK_ADDRESS_OUT_OF_RANGE}
-use Rattle.sense.specs.declared.codes.TheConstants.Sense.{PARAMETER_LIST_LENGTH_ERROR}
-use Rattle.sense.specs.declared.codes.TheConstants.Sense.{SAVING_PARAMETERS_NOT_SUPPORTED}
+use Rattle.sense.specs.Codes.{invalid_field_in_cdb, logical_block_address_out_of_range}
+use Rattle.sense.specs.Codes.{parameter_list_length_error, saving_parameters_not_supported}
 use Rattle.cdb.specs.declared.command.Command.{Command}
 use Rattle.cdb.specs.declared.command.Command.TheVariants.{Inquiry}
 use Rattle.cdb.specs.declared.command.Transfer.{Transfer}
@@ -123,16 +121,16 @@ supported n limit block =
       ),
     )
 
-invalid_field : IsRefusal INVALID_FIELD_IN_CDB
+invalid_field : IsRefusal invalid_field_in_cdb
 invalid_field = inr (inl refl)
 
-out_of_range : IsRefusal LOGICAL_BLOCK_ADDRESS_OUT_OF_RANGE
+out_of_range : IsRefusal logical_block_address_out_of_range
 out_of_range = inr (inr (inl refl))
 
-length_error : IsRefusal PARAMETER_LIST_LENGTH_ERROR
+length_error : IsRefusal parameter_list_length_error
 length_error = inr (inr (inr (inl refl)))
 
-saved_pages : IsRefusal SAVING_PARAMETERS_NOT_SUPPORTED
+saved_pages : IsRefusal saving_parameters_not_supported
 saved_pages = inr (inr (inr (inr refl)))
 
 row_refused : (block : List ℕ) (row : Row) → AllRefuse IsRefusal row.fields

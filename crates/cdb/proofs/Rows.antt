@@ -3,7 +3,7 @@ use Rattle.std.proofs.Common.{Err, refl, cond, ap}
 use Rattle.std.specs.Prelude.{⊤, find}
 use Rattle.std.proofs.lemmas.Bool.{eqb-true}
 use Rattle.sense.specs.declared.codes.Sense.{Sense}
-use Rattle.sense.specs.declared.codes.TheConstants.Sense.{INVALID_COMMAND_OPERATION_CODE}
+use Rattle.sense.specs.Codes.{invalid_command_operation_code}
 use Rattle.cdb.specs.declared.command.Command.{Command}
 use Rattle.cdb.specs.Table.{Row, outcome_of, outcome_of_row}
 
@@ -21,7 +21,7 @@ at_row P block row rest false here others = others
 
 -- then so has what the block says
 pub by_rows : (P : Result Command Sense → Type 0) (block : List ℕ) (code : ℕ) (rows : List Row)
-    → P (Err INVALID_COMMAND_OPERATION_CODE) → EachRow P block code rows
+    → P (Err invalid_command_operation_code) → EachRow P block code rows
     → P (outcome_of_row block (find (λ (row : Row). row.code == code) rows))
 by_rows P block code [] unknown each = unknown
 by_rows P block code (row ∷ rows) unknown each =

@@ -2,11 +2,9 @@
 use Rattle.std.specs.Prelude.{◌≡◌, ◌+◌, ◌<◌, ◌≤◌, ◌⊎◌, ℕ, [], ◌∷◌, Some, None, IsTrue, ⊤}
 use Rattle.std.specs.Prelude.{if◌then◌else◌, nat_lt}
 use Rattle.sense.specs.declared.codes.Sense.{Sense}
-use Rattle.sense.specs.declared.codes.TheConstants.Sense.{INVALID_COMMAND_OPERATION_CODE}
-use Rattle.sense.specs.declared.codes.TheConstants.Sense.{INVALID_FIELD_IN_CDB}
-use Rattle.sense.specs.declared.codes.TheConstants.Sense.{LOGICAL_BLOCK_ADDRESS_OUT_OF_RANGE}
-use Rattle.sense.specs.declared.codes.TheConstants.Sense.{PARAMETER_LIST_LENGTH_ERROR}
-use Rattle.sense.specs.declared.codes.TheConstants.Sense.{SAVING_PARAMETERS_NOT_SUPPORTED}
+use Rattle.sense.specs.Codes.{invalid_command_operation_code, invalid_field_in_cdb}
+use Rattle.sense.specs.Codes.{logical_block_address_out_of_range, parameter_list_length_error}
+use Rattle.sense.specs.Codes.{saving_parameters_not_supported}
 use Rattle.cdb.specs.declared.command.Transfer.{Transfer}
 use Rattle.cdb.specs.declared.command.Command.{Command}
 use Rattle.cdb.specs.declared.command.Command.TheVariants.{TestUnitReady, RequestSense, Inquiry}
@@ -48,11 +46,11 @@ IsSupported n limit (ReadCapacity16 allocation) = ⊤
 -- the senses with which command blocks are refused
 abbrev pub IsRefusal : Sense → Type 0
 IsRefusal sense =
-    (sense ≡ INVALID_COMMAND_OPERATION_CODE)
-    ⊎ (sense ≡ INVALID_FIELD_IN_CDB)
-    ⊎ (sense ≡ LOGICAL_BLOCK_ADDRESS_OUT_OF_RANGE)
-    ⊎ (sense ≡ PARAMETER_LIST_LENGTH_ERROR)
-    ⊎ (sense ≡ SAVING_PARAMETERS_NOT_SUPPORTED)
+    (sense ≡ invalid_command_operation_code)
+    ⊎ (sense ≡ invalid_field_in_cdb)
+    ⊎ (sense ≡ logical_block_address_out_of_range)
+    ⊎ (sense ≡ parameter_list_length_error)
+    ⊎ (sense ≡ saving_parameters_not_supported)
 
 -- how many bytes a command has, by the group in the highest three bits of its operation code
 -- (SPC-4 4.2.5.1); 0 in the groups that are reserved or a vendor's own

@@ -7,11 +7,9 @@ use Rattle.std.specs.List.{list_any}
 use Rattle.std.specs.Int.{bit_at}
 use Rattle.byteorder.specs.Endian.{big_number}
 use Rattle.sense.specs.declared.codes.Sense.{Sense}
-use Rattle.sense.specs.declared.codes.TheConstants.Sense.{INVALID_COMMAND_OPERATION_CODE}
-use Rattle.sense.specs.declared.codes.TheConstants.Sense.{INVALID_FIELD_IN_CDB}
-use Rattle.sense.specs.declared.codes.TheConstants.Sense.{LOGICAL_BLOCK_ADDRESS_OUT_OF_RANGE}
-use Rattle.sense.specs.declared.codes.TheConstants.Sense.{PARAMETER_LIST_LENGTH_ERROR}
-use Rattle.sense.specs.declared.codes.TheConstants.Sense.{SAVING_PARAMETERS_NOT_SUPPORTED}
+use Rattle.sense.specs.Codes.{invalid_command_operation_code, invalid_field_in_cdb}
+use Rattle.sense.specs.Codes.{logical_block_address_out_of_range, parameter_list_length_error}
+use Rattle.sense.specs.Codes.{saving_parameters_not_supported}
 use Rattle.cdb.specs.declared.command.BlockRange.{BlockRange}
 use Rattle.cdb.specs.declared.command.Transfer.{Transfer}
 use Rattle.cdb.specs.declared.command.Command.{Command}
@@ -79,7 +77,7 @@ inquiry_page block = if flag_at 0 block then Some (byte_at 2 block) else None
 abbrev pub inquiry_tests : List ℕ → List Test
 inquiry_tests block =
     must (is_one_of (if flag_at 0 block then vital_pages else 0x00 ∷ []) (byte_at 2 block))
-    INVALID_FIELD_IN_CDB ∷ []
+    invalid_field_in_cdb ∷ []
 
 abbrev pub inquiry : List ℕ → Row
 inquiry block = record {
@@ -97,7 +95,7 @@ mode_select block = record {
   code = 0x15;
   size = 6;
   byte_1 = 0x10 ∷ [];
-  fields = must (is_one_of (0 ∷ 4 ∷ 24 ∷ []) (byte_at 4 block)) PARAMETER_LIST_LENGTH_ERROR ∷ [];
+  fields = must (is_one_of (0 ∷ 4 ∷ 24 ∷ []) (byte_at 4 block)) parameter_list_length_error ∷ [];
   command = ModeSelect (byte_at 4 block);
 }
 
@@ -106,8 +104,8 @@ mode_select block = record {
 -- The page is the caching mode page or all pages; page control 3 would ask for saved values
 abbrev pub mode_sense_tests : ℕ → ℕ → ℕ → List Test
 mode_sense_tests control page subpage =
-    must (is_one_of (0x08 ∷ 0x3f ∷ []) page && subpage == 0x00) INVALID_FIELD_IN_CDB
-    ∷ must (nat_lt control 3) SAVING_PARAMETERS_NOT_SUPPORTED ∷ []
+    must (is_one_of (0x08 ∷ 0x3f ∷ []) page && subpage == 0x00) invalid_field_in_cdb
+    ∷ must (nat_lt control 3) saving_parameters_not_supported ∷ []
 
 abbrev pub mode_sense : List ℕ → Row
 mode_sense block =
@@ -150,8 +148,8 @@ transfer_flags = 0x00 ∷ 0x08 ∷ 0x10 ∷ 0x18 ∷ []
 
 abbrev pub transfer_tests : ℕ → ℕ → Transfer → List Test
 transfer_tests n limit transfer =
-    must (nat_le transfer.count limit) INVALID_FIELD_IN_CDB
-    ∷ must (ends_within n transfer.address transfer.count) LOGICAL_BLOCK_ADDRESS_OUT_OF_RANGE ∷ []
+    must (nat_le transfer.count limit) invalid_field_in_cdb
+    ∷ must (ends_within n transfer.address transfer.count) logical_block_address_out_of_range ∷ []
 
 -- 10 bytes: the address in bytes 2 to 5, the count in bytes 7 and 8
 abbrev pub transfer_10 : List ℕ → Transfer
@@ -210,7 +208,7 @@ synchronize_flags = 0x00 ∷ 0x02 ∷ []
 
 abbrev pub range_tests : ℕ → BlockRange → List Test
 range_tests n range =
-    must (ends_within n range.address range.count) LOGICAL_BLOCK_ADDRESS_OUT_OF_RANGE ∷ []
+    must (ends_within n range.address range.count) logical_block_address_out_of_range ∷ []
 
 -- 10 bytes: the address in bytes 2 to 5, the count in bytes 7 and 8
 abbrev pub range_10 : List ℕ → BlockRange
@@ -264,9 +262,9 @@ table n limit block =
 -- 0, and byte 1 has one of the values allowed
 unfoldable pub form_tests : ℕ → List ℕ → List ℕ → List Test
 form_tests size allowed block =
-    must (nat_le size (length block)) INVALID_FIELD_IN_CDB
-    ∷ must (byte_at (size - 1) block == 0) INVALID_FIELD_IN_CDB
-    ∷ must (is_one_of allowed (byte_at 1 block)) INVALID_FIELD_IN_CDB ∷ []
+    must (nat_le size (length block)) invalid_field_in_cdb
+    ∷ must (byte_at (size - 1) block == 0) invalid_field_in_cdb
+    ∷ must (is_one_of allowed (byte_at 1 block)) invalid_field_in_cdb ∷ []
 
 -- what a block says by a row: the command, or the sense of the first test that it does not pass
 abbrev pub outcome_of : List ℕ → Row → Result Command Sense
@@ -274,7 +272,7 @@ outcome_of block row = judged (form_tests row.size row.byte_1 block ++ row.field
 
 -- what a block says by the row of its operation code, if there is one
 abbrev pub outcome_of_row : List ℕ → Option Row → Result Command Sense
-outcome_of_row block None = Err INVALID_COMMAND_OPERATION_CODE
+outcome_of_row block None = Err invalid_command_operation_code
 outcome_of_row block (Some row) = outcome_of block row
 
 -- the command that a block says, or the sense with which it is refused
