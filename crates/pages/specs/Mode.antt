@@ -1,7 +1,8 @@
 -- Mode parameters (SPC-4, 7.5) with the caching mode page (SBC-3).
 use Rattle.std.specs.Prelude.{◌≡◌, ◌⊎◌, ◌+◌, slice_index, ◌==◌, ◌||◌, ◌&&◌, nat_lt, ℕ, Bool, true, false, List, [], ◌∷◌, ◌++◌, replicate, bytes_eq, Result, Ok, Err, Option, Some, None, unwrap_or, if◌then◌else◌}
 use Rattle.sense.specs.declared.codes.Sense.{Sense}
-use Rattle.sense.specs.declared.codes.TheConstants.Sense.{INVALID_FIELD_IN_CDB, INVALID_FIELD_IN_PARAMETER_LIST, SAVING_PARAMETERS_NOT_SUPPORTED}
+use Rattle.sense.specs.Codes.{invalid_field_in_cdb, invalid_field_in_parameter_list}
+use Rattle.sense.specs.Codes.{saving_parameters_not_supported}
 
 -- a mode parameter header: mode data length, medium type, device-specific parameter, block descriptor length
 abbrev pub mode_header : ℕ → ℕ → List ℕ
@@ -36,8 +37,8 @@ CountsItself bytes size = (slice_index bytes 0 + 1 ≡ size) × (slice_index byt
 abbrev pub mode_sense_answer : ℕ → ℕ → ℕ → Result ℕ Sense
 mode_sense_answer control page subpage =
     if ((page == 0x08) || (page == 0x3f)) && (subpage == 0x00)
-    then (if nat_lt control 3 then Ok 24 else Err SAVING_PARAMETERS_NOT_SUPPORTED)
-    else Err INVALID_FIELD_IN_CDB
+    then (if nat_lt control 3 then Ok 24 else Err saving_parameters_not_supported)
+    else Err invalid_field_in_cdb
 
 -- the bit WCE that the bytes behind a good header carry: none, or that of a caching page
 abbrev pub page_bit : List ℕ → Result (Option Bool) Sense
@@ -45,7 +46,7 @@ page_bit [] = Ok None
 page_bit (code ∷ page) =
     if bytes_eq (code ∷ page) (caching_page true) then Ok (Some true)
     else if bytes_eq (code ∷ page) (caching_page false) then Ok (Some false)
-    else Err INVALID_FIELD_IN_PARAMETER_LIST
+    else Err invalid_field_in_parameter_list
 
 -- the bit WCE that a parameter list of MODE SELECT carries, if it has a page. In a header all is 0 but
 -- the device-specific parameter, which is ignored.
@@ -53,8 +54,8 @@ abbrev pub selected_bit : List ℕ → Result (Option Bool) Sense
 selected_bit [] = Ok None
 selected_bit (following ∷ medium ∷ device ∷ descriptors ∷ page) =
     if (following == 0) && (medium == 0) && (descriptors == 0) then page_bit page
-    else Err INVALID_FIELD_IN_PARAMETER_LIST
-selected_bit _ = Err INVALID_FIELD_IN_PARAMETER_LIST
+    else Err invalid_field_in_parameter_list
+selected_bit _ = Err invalid_field_in_parameter_list
 
 -- WCE after MODE SELECT: the bit that the list carries, else as it was
 abbrev pub after_select : Result (Option Bool) Sense → Bool → Result Bool Sense
