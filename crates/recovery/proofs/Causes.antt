@@ -1,6 +1,6 @@
 -- Why a recovery is refused, and what that rules out.
-use Rattle.std.proofs.Common.{◌≡◌, ◌<◌, ◌^◌, ℕ, refl, subst, arith}
-use Rattle.medium.specs.Medium.{State, Image}
+use Rattle.std.proofs.Common.{◌≡◌, ◌∙◌, ◌<◌, ◌^◌, ℕ, Result, refl, subst, arith}
+use Rattle.medium.specs.Medium.{State, Image, Passes}
 use Rattle.medium.specs.Moments.{IsQuiet}
 use Rattle.medium.specs.Blocks.{Array}
 use Rattle.medium.specs.declared.fault.MediumFault.{MediumFault}
@@ -12,13 +12,13 @@ use Rattle.log_layout.specs.Values.{shape_of}
 use Rattle.log_layout.specs.ImageFaults as image
 use Rattle.log_layout.proofs.StandingLaws.{StandsFor-one}
 use Rattle.log_layout.proofs.FaultLaws.{HasFault-stands}
-use Rattle.recovery.specs.Causes.{IsRefusedCall, IsCause, IsDeviceFault}
+use Rattle.recovery.specs.Causes.{IsRefusedCall, MakesReadsAlone, WritesNothing, IsCauseBy, IsCause, IsDeviceFault}
 use Rattle.recovery.specs.Recovered.{IsRecoveredFrom}
 use Rattle.recovery.specs.declared.recovered.Recovered.{Recovered}
 use Rattle.recovery.specs.declared.start_fault.StartFault.{StartFault}
 use Rattle.recovery.specs.declared.start_fault.StartFault.TheVariants.{NoMemory, Read, Write, Flush, BadSuper, BadVersion, BadSize, BadHead, StampsUsedUp}
 
-module _ (old mid new : State) (quiet : IsQuiet old mid) where
+module _ (old mid new : State) {result : Result (Unit {0}) MediumFault} (flush : Passes medium.Flush result old mid) (quiet : IsQuiet old mid) (reads : MakesReadsAlone mid new) where
   same : mid.content ≡ old.content
   same = λ i s. quiet.content_stays s i
 
@@ -31,17 +31,24 @@ module _ (old mid new : State) (quiet : IsQuiet old mid) where
   refused_before : (kind : MediumFault) → IsRefusedCall mid new kind → IsRefusedCall old new kind
   refused_before kind h = let stays = quiet.refused_stay kind in record { grew = omega (arith, quiet.failures_stay, h.grew); kind_grew = omega (arith, stays, h.kind_grew) }
 
-  -- a cause after calls that wrote nothing is one before them
-  pub cause_before : (fault : StartFault) → IsCause mid new fault → IsCause old new fault
+  wrote_nothing : IsQuiet mid new → WritesNothing old new
+  wrote_nothing later = record {
+    quiet = quiet_joined old mid new quiet later;
+    no_write = reads medium.Write (λ e. absurd (cc e)) ∙ flush.others_made medium.Write (λ e. absurd (cc e));
+    one_flush = reads medium.Flush (λ e. absurd (cc e)) ∙ flush.made_is;
+  }
+
+  -- a cause by reads after a flush is one for both
+  pub cause_before : (fault : StartFault) → IsCauseBy IsQuiet mid new fault → IsCause old new fault
   cause_before NoMemory h = h
   cause_before Read h = refused_before medium.Read h
   cause_before Write h = refused_before medium.Write h
   cause_before Flush h = refused_before medium.Flush h
-  cause_before BadSuper h = (fault_before image.BadSuper h.0, quiet_joined old mid new quiet h.1)
-  cause_before BadVersion h = (fault_before image.BadVersion h.0, quiet_joined old mid new quiet h.1)
-  cause_before BadSize h = (fault_before image.BadSize h.0, quiet_joined old mid new quiet h.1)
-  cause_before BadHead h = (fault_before image.BadHead h.0, quiet_joined old mid new quiet h.1)
-  cause_before StampsUsedUp h = (none_left_before h.0, quiet_joined old mid new quiet h.1)
+  cause_before BadSuper h = (fault_before image.BadSuper h.0, wrote_nothing h.1)
+  cause_before BadVersion h = (fault_before image.BadVersion h.0, wrote_nothing h.1)
+  cause_before BadSize h = (fault_before image.BadSize h.0, wrote_nothing h.1)
+  cause_before BadHead h = (fault_before image.BadHead h.0, wrote_nothing h.1)
+  cause_before StampsUsedUp h = (none_left_before h.0, wrote_nothing h.1)
 
 -- contents that stand for something, with a stamp left, are no cause
 pub served : (old new : State) (fault : StartFault) → IsCause old new fault → (shape : Shape) (array : Array) (next : ℕ) → StandsFor old.size shape old.content array next → next < 2 ^ 63 → IsDeviceFault fault

@@ -1,5 +1,5 @@
 -- Why a start is refused.
-use Rattle.std.specs.Prelude.{◌≡◌, ◌<◌}
+use Rattle.std.specs.Prelude.{◌≡◌, ◌≢◌, ◌<◌, ◌+◌}
 use Rattle.medium.specs.Medium.{State}
 use Rattle.medium.specs.Moments.{IsQuiet}
 use Rattle.medium.specs.declared.fault.MediumFault.{MediumFault}
@@ -19,18 +19,32 @@ pub record IsRefusedCall (old new : State) (kind : MediumFault) : Type 0 where
   pub grew : old.failures < new.failures
   pub kind_grew : old.refused kind < new.refused kind
 
--- Why a recovery is refused: the medium refused a call of the kind that the fault names,
--- or the image has this fault, and nothing was written.
+-- no call but reads was made
+abbrev pub MakesReadsAlone : State → State → Type 0
+MakesReadsAlone old new = (kind : MediumFault) → kind ≢ medium.Read → new.made kind ≡ old.made kind
+
+-- Calls that wrote nothing: not one was a write, and one was a flush.
+pub record WritesNothing (old new : State) : Type 0 where
+  pub quiet : IsQuiet old new
+  pub no_write : new.made medium.Write ≡ old.made medium.Write
+  pub one_flush : new.made medium.Flush ≡ old.made medium.Flush + 1
+
+-- Why a start by calls such as these is refused: the medium refused a call of the kind that the fault names,
+-- or the image has this fault, and the calls were such.
+abbrev pub IsCauseBy : (State → State → Type 0) → State → State → StartFault → Type 0
+IsCauseBy Calls old new NoMemory = ⊥
+IsCauseBy Calls old new Read = IsRefusedCall old new medium.Read
+IsCauseBy Calls old new Write = IsRefusedCall old new medium.Write
+IsCauseBy Calls old new Flush = IsRefusedCall old new medium.Flush
+IsCauseBy Calls old new BadSuper = image.HasFault old.size old.content image.BadSuper × Calls old new
+IsCauseBy Calls old new BadVersion = image.HasFault old.size old.content image.BadVersion × Calls old new
+IsCauseBy Calls old new BadSize = image.HasFault old.size old.content image.BadSize × Calls old new
+IsCauseBy Calls old new BadHead = image.HasFault old.size old.content image.BadHead × Calls old new
+IsCauseBy Calls old new StampsUsedUp = image.HasNoStampLeft old.size old.content × Calls old new
+
+-- why a recovery is refused: by the medium, or by the image, and then nothing was written
 abbrev pub IsCause : State → State → StartFault → Type 0
-IsCause old new NoMemory = ⊥
-IsCause old new Read = IsRefusedCall old new medium.Read
-IsCause old new Write = IsRefusedCall old new medium.Write
-IsCause old new Flush = IsRefusedCall old new medium.Flush
-IsCause old new BadSuper = image.HasFault old.size old.content image.BadSuper × IsQuiet old new
-IsCause old new BadVersion = image.HasFault old.size old.content image.BadVersion × IsQuiet old new
-IsCause old new BadSize = image.HasFault old.size old.content image.BadSize × IsQuiet old new
-IsCause old new BadHead = image.HasFault old.size old.content image.BadHead × IsQuiet old new
-IsCause old new StampsUsedUp = image.HasNoStampLeft old.size old.content × IsQuiet old new
+IsCause old new fault = IsCauseBy WritesNothing old new fault
 
 -- the medium refused a call
 abbrev pub IsDeviceFault : StartFault → Type 0

@@ -6,7 +6,7 @@ ghost use Rattle.log_layout.specs.Values.{shape_of};
 ghost use Rattle.log_layout.specs.Record.{Entry, numbers_of, entries_in, IsWhole};
 ghost use Rattle.log_layout.specs.Standing.{IsCount};
 ghost use Rattle.log_layout.specs.ImageFaults.{HasShape};
-ghost use Rattle.recovery.specs.Causes.{IsRefusedCall, IsCause};
+ghost use Rattle.recovery.specs.Causes.{IsRefusedCall, IsCauseBy, MakesReadsAlone};
 ghost use Rattle.recovery.specs.Found.{IsFound};
 
 use crate::StartFault;
@@ -24,6 +24,7 @@ pub(crate) fn read_record<M: Medium>(
 ) -> Result<Option<Descriptor>, MediumFault>
     requires { sectors_of (shape_of sizes.now) ≤ (M.state m.old).size }
     ensures quiet { IsQuiet (M.state m.old) (M.state m.new) }
+    ensures reads { MakesReadsAlone (M.state m.old) (M.state m.new) }
     ensures calls { (M.state m.new).calls ≤ (M.state m.old).calls + 2 }
     ensures exact { OnOk result ((M.state m.new).calls ≡ (M.state m.old).calls + 2) }
     ensures cause { IfErr result (IsRefusedCall (M.state m.old) (M.state m.new)) }
@@ -49,6 +50,7 @@ fn count_whole<M: Medium>(m: &mut M, sizes: &Super, head: u64) -> Result<u64, Me
     requires fits { sectors_of (shape_of sizes.now) ≤ (M.state m.old).size }
     requires head { head < 2 ^ 63 }
     ensures quiet { IsQuiet (M.state m.old) (M.state m.new) }
+    ensures reads { MakesReadsAlone (M.state m.old) (M.state m.new) }
     ensures calls { (M.state m.new).calls ≤ (M.state m.old).calls + 2 * sizes.now.slots }
     ensures exact { IfOk result (λ count. (M.state m.new).calls
         ≡ (M.state m.old).calls + 2 * min (count + 1) sizes.now.slots) }
@@ -67,9 +69,10 @@ fn count_whole<M: Medium>(m: &mut M, sizes: &Super, head: u64) -> Result<u64, Me
 // Reads the super.
 fn read_super<M: Medium>(m: &mut M) -> Result<Super, StartFault>
     ensures quiet { IsQuiet (M.state m.old) (M.state m.new) }
+    ensures reads { MakesReadsAlone (M.state m.old) (M.state m.new) }
     ensures calls { (M.state m.new).calls ≤ (M.state m.old).calls + 1 }
     ensures exact { OnOk result ((M.state m.new).calls ≡ (M.state m.old).calls + 1) }
-    ensures err { IfErr result (IsCause (M.state m.old) (M.state m.new)) }
+    ensures err { IfErr result (IsCauseBy IsQuiet (M.state m.old) (M.state m.new)) }
     ensures ok { IfOk result (λ sizes.
         HasShape (M.state m.old).size (shape_of sizes) (M.state m.old).content) }
     ensures follows { M.follows m.old m.new }
@@ -97,10 +100,11 @@ fn read_super<M: Medium>(m: &mut M) -> Result<Super, StartFault>
 /// Reads all that recovery has to know before its first write.
 pub(crate) fn inspect<M: Medium>(m: &mut M) -> Result<Found, StartFault>
     ensures quiet { IsQuiet (M.state m.old) (M.state m.new) }
+    ensures reads { MakesReadsAlone (M.state m.old) (M.state m.new) }
     ensures calls { (M.state m.new).calls ≤ (M.state m.old).calls + 2 + 2 * 64 }
     ensures exact { IfOk result (λ found. (M.state m.new).calls
         ≡ (M.state m.old).calls + 2 + 2 * min (found.count + 1) found.sizes.slots) }
-    ensures err { IfErr result (IsCause (M.state m.old) (M.state m.new)) }
+    ensures err { IfErr result (IsCauseBy IsQuiet (M.state m.old) (M.state m.new)) }
     ensures ok { IfOk result (IsFound (M.state m.old).size (M.state m.old).content) }
     ensures follows { M.follows m.old m.new }
 {

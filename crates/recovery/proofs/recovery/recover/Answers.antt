@@ -171,7 +171,7 @@ returns-in_err-found-clause-err g c =
     let flushed = quiet_call old mid c.flush.ensures.passes c.flush.ensures.content c.flush.ensures.sets in
     let seen = g.M.Medium.state c.inspect.new.m in
     let p = err_from_is_err_and c.from_residual-in_err-found.result c.from_residual-in_err-found.ensures.1 in
-    rw (p.1, p.2) (cause_before old mid seen flushed c.in_err-found.field-0.0 c.in_err-found.ensures.err)
+    rw (p.1, p.2) (cause_before old mid seen c.flush.ensures.passes flushed c.inspect.ensures.reads c.in_err-found.field-0.0 c.in_err-found.ensures.err)
 
 pub returns-in_err-found-clause-served : goal.returns-in_err-found-clause-served
 returns-in_err-found-clause-served g c shape array next s left =
@@ -180,4 +180,4 @@ returns-in_err-found-clause-served g c shape array next s left =
     let flushed = quiet_call old mid c.flush.ensures.passes c.flush.ensures.content c.flush.ensures.sets in
     let seen = g.M.Medium.state c.inspect.new.m in
     let p = err_from_is_err_and c.from_residual-in_err-found.result c.from_residual-in_err-found.ensures.1 in
-    rw (p.1, p.2) (served old seen c.in_err-found.field-0.0 (cause_before old mid seen flushed c.in_err-found.field-0.0 c.in_err-found.ensures.err) shape array next s left)
+    rw (p.1, p.2) (served old seen c.in_err-found.field-0.0 (cause_before old mid seen c.flush.ensures.passes flushed c.inspect.ensures.reads c.in_err-found.field-0.0 c.in_err-found.ensures.err) shape array next s left)

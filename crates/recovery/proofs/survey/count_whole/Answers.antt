@@ -1,4 +1,4 @@
-use Rattle.std.proofs.Common.{inl, inr, ◌+◌, sym, subst, arith}
+use Rattle.std.proofs.Common.{inl, inr, ◌∙◌, ◌+◌, sym, subst, arith}
 use Rattle.std.proofs.lemmas.Bool.{cases_eq}
 use Rattle.medium.proofs.Moments.{quiet_joined}
 use Rattle.log_layout.specs.Values.{shape_of}
@@ -19,6 +19,7 @@ loop-j-preserved g c =
     let there = HasWhole-same shape mid.content old.content (c.args.head + c.loop-j.j) (λ x low high. sym (inv.quiet.content_stays x)) here in
     record {
       quiet = quiet_joined old mid new inv.quiet c.read_record.ensures.quiet;
+      reads = λ kind other. c.read_record.ensures.reads kind other ∙ inv.reads kind other;
       calls = omega (arith, inv.calls, c.in_ok-read_record.ensures.exact);
       whole = λ k below. elim (cases_eq c.loop-j.j k) [
         | inl is ↦ subst (λ n. HasWhole shape old.content (c.args.head + n)) is there
