@@ -8,7 +8,7 @@ use Rattle.medium.specs.Medium.{State, Image, Sets, CutLeaves, Within, Gains, Pa
 use Rattle.medium.specs.Moments.{StaysWithin, IsQuiet}
 use Rattle.medium.specs.declared.fault.MediumFault.{MediumFault}
 use Rattle.medium.proofs.Moments.{started_within, goes_on_within, joined_same, weaker, at_exit, quiet_leaves, updated, updated_here, updated_elsewhere}
-use Rattle.log_layout.specs.Places.{Shape, slot_place, first_home}
+use Rattle.log_layout.specs.Places.{Shape, slot_place, first_home, sectors_of}
 use Rattle.log_layout.specs.Record.{Entry, numbers_of, entries_in, IsWhole, with_blocks, with_records, home_of}
 use Rattle.log_layout.proofs.Overlay.{with_blocks-copied, with_blocks-same, with_records-append}
 use Rattle.log_layout.proofs.Wholeness.{IsWhole-same, numbers_of-entries_in}
@@ -90,6 +90,14 @@ in_slot shape stamp x some below =
 -- home is behind the log
 pub not_in_log : (shape : Shape) (image : Image) (head count x : ℕ) → x < first_home shape → ¬ IsHomeInRecords shape image head count x
 not_in_log shape image head count x below home = let is = home.2.2.2 in omega (arith, is)
+
+-- nothing behind the image is at home
+pub not_behind : (shape : Shape) (image : Image) (head count x : ℕ) → sectors_of shape ≤ x → ¬ IsHomeInRecords shape image head count x
+not_behind shape image head count x past home =
+    let whole = home.2.1 in
+    let below = whole.inside home.2.2.0 0 home.2.2.1 in
+    let is = home.2.2.2 in
+    omega (arith, below, is, past)
 
 -- the same record is in each image with the same log
 pub home_same : (shape : Shape) (before image : Image) (stamp x : ℕ) → 1 ≤ shape.slots → ((y : ℕ) → y < first_home shape → image y ≡ before y) → IsHomeInRecord shape before stamp x → IsHomeInRecord shape image stamp x

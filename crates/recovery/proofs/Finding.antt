@@ -1,7 +1,8 @@
 -- What was found is what the image stands for.
-use Rattle.std.proofs.Common.{◌≡◌, ℕ, ◌+◌, length, sym, ◌∙◌}
+use Rattle.std.proofs.Common.{◌≡◌, ℕ, ◌+◌, length, sym, subst, ◌∙◌}
 use Rattle.std.specs.Prelude.{true, false, Option, None, Some, is_some, IfSome}
-use Rattle.medium.specs.Medium.{Image}
+use Rattle.medium.specs.Medium.{State, Image}
+use Rattle.medium.specs.Moments.{IsQuiet}
 use Rattle.medium.specs.Blocks.{Array}
 use Rattle.log_layout.specs.Values.{shape_of}
 use Rattle.log_layout.specs.Standing.{StandsFor}
@@ -29,3 +30,9 @@ found_matches size image found f array next s =
       sym st.head_is ∙ heads size size (shape_of found.sizes) image st.array array (found.head + found.count + 1) next st.stands s,
       sym st.count_is ∙ counts size size (shape_of found.sizes) image st.array array (found.head + found.count + 1) next st.stands s,
     )
+
+-- what was found after calls that wrote nothing was there before
+pub found_before : (old mid : State) (found : Found) → IsQuiet old mid → IsFound mid.size mid.content found → IsFound old.size old.content found
+found_before old mid found quiet at_mid =
+    let path : mid.content ≡ old.content = λ i s. quiet.content_stays s i in
+    subst (λ (n : ℕ). IsFound n old.content found) quiet.size_stays (subst (λ (i : Image). IsFound mid.size i found) path at_mid)

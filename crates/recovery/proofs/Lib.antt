@@ -5,3 +5,4 @@ pub mod Moving
 pub mod Recovering
 pub mod Causes
 pub mod Zeros
+pub mod Sparing

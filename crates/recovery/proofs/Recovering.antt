@@ -1,11 +1,11 @@
 -- A whole recovery: a flush, reads, copies and the new head.
-use Rattle.std.proofs.Common.{◌≡◌, ◌⊎◌, inl, inr, ⊎_elim, ℕ, ◌+◌, ◌*◌, ◌<◌, ◌≤◌, List, [], length, get_or, sym, ◌∙◌, ap, subst, arith}
+use Rattle.std.proofs.Common.{◌≡◌, ◌⊎◌, inl, inr, ⊎_elim, ℕ, ◌+◌, ◌*◌, ◌<◌, List, [], length, get_or, sym, ◌∙◌, ap, subst, arith}
 use Rattle.std.specs.Prelude.{min}
 use Rattle.medium.specs.Medium.{State, Image, CutLeaves, Only, IsSound}
 use Rattle.medium.specs.Moments.{EachCut, IsFlushed, LeavesOnly, StaysWithin, IsQuiet}
 use Rattle.medium.specs.Blocks.{Array}
 use Rattle.medium.proofs.Moments.{joined_same, weaker, at_exit, only_image, quiet_joined, quiet_leaves}
-use Rattle.log_layout.specs.Places.{Shape, first_home, sectors_of}
+use Rattle.log_layout.specs.Places.{Shape, first_home}
 use Rattle.log_layout.specs.Sectors.{IsSuper}
 use Rattle.log_layout.specs.Values.{shape_of}
 use Rattle.log_layout.specs.Record.{Entry, IsWhole, with_records, home_of}
@@ -15,8 +15,8 @@ use Rattle.recovery.specs.Copies.{freed_at, copy_calls, IsHomeInRecords, HasNewH
 use Rattle.recovery.specs.Found.{IsFound}
 use Rattle.recovery.specs.Recovered.{IsRecoveredFrom, IsFresh, IsOursForSome, IsOursWithNext, StandsForOneOf}
 use Rattle.recovery.specs.declared.found.Found.{Found}
-use Rattle.recovery.proofs.Copying.{not_in_log}
-use Rattle.recovery.proofs.Finding.{found_stands, found_matches}
+use Rattle.recovery.proofs.Copying.{not_in_log, not_behind}
+use Rattle.recovery.proofs.Finding.{found_stands, found_matches, found_before}
 use Rattle.recovery.proofs.Replaying.{copies_ours, new_head_fresh, fresh_ours}
 
 -- before the first call an image that is allowed stands for itself
@@ -79,9 +79,7 @@ module _ (old mid seen : State) (sound : IsSound old) (sound_mid : IsSound mid) 
 
   module _ (found : Found) (at_mid : IsFound mid.size mid.content found) where
     at_old : IsFound old.size old.content found
-    at_old =
-        let path : mid.content ≡ old.content = λ i s. flushed.content_stays s i in
-        subst (λ (n : ℕ). IsFound n old.content found) flushed.size_stays (subst (λ (i : Image). IsFound mid.size i found) path at_mid)
+    at_old = found_before old mid found flushed at_mid
 
     pub one_shape : (other : Shape) → IsSuper other (old.content 0) → other ≡ shape_of found.sizes
     one_shape other s = IsSuper-one other (shape_of found.sizes) (old.content 0) s at_old.shape.super
@@ -172,14 +170,6 @@ module _ (old mid seen : State) (sound : IsSound old) (sound_mid : IsSound mid) 
                   flushed = done;
                   head = moved.head;
                   home = λ b below. moved.elsewhere (first_home (shape_of found.sizes) + b) (λ e. omega arith) ∙ copied_home st.array (found.head + found.count + 1) st.stands b below;
-                  elsewhere = λ x not other. moved.elsewhere x not ∙ ⊎_elim (copied_log x) (behind x) other;
+                  elsewhere = λ x not other. moved.elsewhere x not ∙ ⊎_elim (copied_log x) (λ past. elsewhere x (not_behind (shape_of found.sizes) seen.content found.head found.count x past) ∙ ap (λ (i : Image). i x) same) other;
                   calls = omega (arith, counted, inspected, copying, last, tried);
                 }
-              where
-                behind : (x : ℕ) → sectors_of (shape_of found.sizes) ≤ x → copied.content x ≡ old.content x
-                behind x past = elsewhere x (λ h.
-                    let whole = h.2.1 in
-                    let i = h.2.2.0 in
-                    let below = whole.inside i 0 h.2.2.1 in
-                    let is = h.2.2.2 in
-                    omega (arith, below, is, past)) ∙ ap (λ (i : Image). i x) same

@@ -1,12 +1,13 @@
 -- What recovery answers, and what it leaves.
 use Rattle.std.specs.Prelude.{◌≡◌, ◌≢◌, ◌⊎◌, ℕ, ◌+◌, ◌*◌, ◌^◌, ◌<◌, ◌≤◌, length, min}
 use Rattle.medium.specs.Medium.{State, Image, CutLeaves}
-use Rattle.medium.specs.Moments.{IsFlushed}
+use Rattle.medium.specs.Moments.{IsFlushed, SparesFrom}
 use Rattle.medium.specs.Blocks.{Array}
 use Rattle.log_layout.specs.Places.{Shape, first_home, sectors_of}
 use Rattle.log_layout.specs.Values.{shape_of}
 use Rattle.log_layout.specs.Sectors.{IsSuper, IsHead}
 use Rattle.log_layout.specs.Standing.{StandsFor, IsOurs, DescriptorsBelow, CommitsBelow}
+use Rattle.log_layout.specs.ImageFaults.{HasShape}
 use Rattle.recovery.specs.Copies.{copy_calls}
 use Rattle.recovery.specs.declared.recovered.Recovered.{Recovered}
 
@@ -53,3 +54,10 @@ pub record StandsForOneOf (old : State) (image : Image) : Type 0 where
   pub next : ℕ
   pub was : IsOurs old.size shape before array next
   pub is : IsOursWithNext old.size shape array next image
+
+-- The sectors behind the image are spared, and every sector where the contents stand for nothing
+-- with a stamp left.
+pub record SparesTheRest (old new : State) : Type 0 where
+  pub behind : (shape : Shape) → HasShape old.size shape old.content → SparesFrom (sectors_of shape) old new
+  pub unserved : ((shape : Shape) (array : Array) (next : ℕ)
+      → StandsFor old.size shape old.content array next → 2 ^ 63 ≤ next) → SparesFrom 0 old new

@@ -1,7 +1,7 @@
 //! The move of the head.
 ghost use Rattle.std.specs.Prelude.{◌≡◌, ◌⊎◌, ◌<◌, ◌≤◌, ◌+◌, ◌^◌, OnOk, IfErr};
 ghost use Rattle.medium.specs.Medium.{CutLeaves};
-ghost use Rattle.medium.specs.Moments.{LeavesOnly, IsFlushed};
+ghost use Rattle.medium.specs.Moments.{LeavesOnly, IsFlushed, SparesFrom};
 ghost use Rattle.recovery.specs.Causes.{IsRefusedCall};
 ghost use Rattle.recovery.specs.Copies.{HasNewHead};
 
@@ -18,6 +18,7 @@ pub(crate) fn move_head<M: Medium>(m: &mut M, stamp: u64) -> Result<(), MediumFa
     ensures flushed { OnOk result (IsFlushed (M.state m.new)) }
     ensures moments { LeavesOnly (λ image. CutLeaves (M.state m.old).may_leave image
         ⊎ HasNewHead stamp (M.state m.old).content image) (M.state m.old) (M.state m.new) }
+    ensures spares { SparesFrom 2 (M.state m.old) (M.state m.new) }
     ensures calls { (M.state m.new).calls ≤ (M.state m.old).calls + 3 }
     ensures exact { OnOk result ((M.state m.new).calls ≡ (M.state m.old).calls + 3) }
     ensures cause { IfErr result (IsRefusedCall (M.state m.old) (M.state m.new)) }

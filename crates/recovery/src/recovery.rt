@@ -7,7 +7,7 @@ ghost use Rattle.medium.specs.Blocks.{Array};
 ghost use Rattle.log_layout.specs.Places.{Shape};
 ghost use Rattle.log_layout.specs.Standing.{StandsFor, IsOurs};
 ghost use Rattle.recovery.specs.Causes.{IsCause, IsDeviceFault};
-ghost use Rattle.recovery.specs.Recovered.{IsRecoveredFrom, IsFresh, IsOursForSome, IsOursWithNext, StandsForOneOf};
+ghost use Rattle.recovery.specs.Recovered.{IsRecoveredFrom, IsFresh, IsOursForSome, IsOursWithNext, StandsForOneOf, SparesTheRest};
 
 use crate::copies::copy_records;
 use crate::new_head::move_head;
@@ -41,6 +41,8 @@ pub fn recover<M: Medium>(m: &mut M) -> Result<Recovered, StartFault>
         → (M.state m.old).calls + 2 ≤ (M.state m.new).calls
         → (image : Image) → (M.state m.new).left_since ((M.state m.old).calls + 1) image
         → IsOursWithNext (M.state m.old).size shape array next image }
+    // At each moment, good or refused.
+    ensures spares { SparesTheRest (M.state m.old) (M.state m.new) }
     // Whatever the image: no count falls, and the size stays.
     ensures moments { LeavesOnly (λ _. Unit {0}) (M.state m.old) (M.state m.new) }
     ensures calls { (M.state m.new).calls ≤ (M.state m.old).calls + 6 + 100 * 64 }

@@ -4,6 +4,8 @@ use Rattle.medium.proofs.Moments.{quiet_call, quiet_joined}
 use Rattle.log_layout.specs.Values.{shape_of}
 use Rattle.recovery.proofs.Causes.{cause_before, served}
 use Rattle.recovery.proofs.Recovering.{quiet_cuts, quiet_made, calls_made, made_joined, seen_cuts, seen_after, later_cuts, later_after, one_shape, copied_leaves, moved_leaves, recovered_fresh, recovered_from}
+use Rattle.recovery.proofs.Finding.{found_before}
+use Rattle.recovery.proofs.Sparing.{quiet_spares, copies_spare, moves_spare, found_spares}
 use Rattle.recovery.proofs.recovery.recover.Goals as goal
 
 pub copy_records-requires-clause-fits : goal.copy_records-requires-clause-fits
@@ -181,3 +183,50 @@ returns-in_err-found-clause-served g c shape array next s left =
     let seen = g.M.Medium.state c.inspect.new.m in
     let p = err_from_is_err_and c.from_residual-in_err-found.result c.from_residual-in_err-found.ensures.1 in
     rw (p.1, p.2) (served old seen c.in_err-found.field-0.0 (cause_before old mid seen c.flush.ensures.passes flushed c.inspect.ensures.reads c.in_err-found.field-0.0 c.in_err-found.ensures.err) shape array next s left)
+
+pub returns-in_err-flush-clause-spares : goal.returns-in_err-flush-clause-spares
+returns-in_err-flush-clause-spares g c =
+    let old = g.M.Medium.state c.args.m.now in
+    let mid = g.M.Medium.state c.flush.new.self in
+    let flushed = quiet_call old mid c.flush.ensures.passes c.flush.ensures.content c.flush.ensures.sets in
+    quiet_spares old mid (g.met.M.Medium.sound c.args.m.now) flushed
+
+pub returns-in_err-found-clause-spares : goal.returns-in_err-found-clause-spares
+returns-in_err-found-clause-spares g c =
+    let old = g.M.Medium.state c.args.m.now in
+    let mid = g.M.Medium.state c.flush.new.self in
+    let flushed = quiet_call old mid c.flush.ensures.passes c.flush.ensures.content c.flush.ensures.sets in
+    let seen = g.M.Medium.state c.inspect.new.m in
+    quiet_spares old seen (g.met.M.Medium.sound c.args.m.now) (quiet_joined old mid seen flushed c.inspect.ensures.quiet)
+
+pub returns-in_err-copy_records-clause-spares : goal.returns-in_err-copy_records-clause-spares
+returns-in_err-copy_records-clause-spares g c =
+    let old = g.M.Medium.state c.args.m.now in
+    let mid = g.M.Medium.state c.flush.new.self in
+    let flushed = quiet_call old mid c.flush.ensures.passes c.flush.ensures.content c.flush.ensures.sets in
+    let seen = g.M.Medium.state c.inspect.new.m in
+    let copied = g.M.Medium.state c.copy_records.new.m in
+    found_spares c.in_ok-found.found old seen copied (g.met.M.Medium.sound c.args.m.now) (quiet_joined old mid seen flushed c.inspect.ensures.quiet) (found_before old mid c.in_ok-found.found flushed c.in_ok-found.ensures.ok)
+    (copies_spare c.in_ok-found.found seen copied (g.met.M.Medium.sound c.copy_records.new.m) c.copy_records.ensures.elsewhere c.copy_records.ensures.within)
+
+pub returns-in_err-move_head-clause-spares : goal.returns-in_err-move_head-clause-spares
+returns-in_err-move_head-clause-spares g c =
+    let old = g.M.Medium.state c.args.m.now in
+    let mid = g.M.Medium.state c.flush.new.self in
+    let flushed = quiet_call old mid c.flush.ensures.passes c.flush.ensures.content c.flush.ensures.sets in
+    let seen = g.M.Medium.state c.inspect.new.m in
+    let copied = g.M.Medium.state c.copy_records.new.m in
+    let new = g.M.Medium.state c.move_head.new.m in
+    found_spares c.in_ok-found.found old seen new (g.met.M.Medium.sound c.args.m.now) (quiet_joined old mid seen flushed c.inspect.ensures.quiet) (found_before old mid c.in_ok-found.found flushed c.in_ok-found.ensures.ok)
+    (moves_spare c.in_ok-found.found seen copied new (copies_spare c.in_ok-found.found seen copied (g.met.M.Medium.sound c.copy_records.new.m) c.copy_records.ensures.elsewhere c.copy_records.ensures.within) c.move_head.ensures.spares)
+
+pub returns-clause-spares : goal.returns-clause-spares
+returns-clause-spares g c =
+    let old = g.M.Medium.state c.args.m.now in
+    let mid = g.M.Medium.state c.flush.new.self in
+    let flushed = quiet_call old mid c.flush.ensures.passes c.flush.ensures.content c.flush.ensures.sets in
+    let seen = g.M.Medium.state c.inspect.new.m in
+    let copied = g.M.Medium.state c.copy_records.new.m in
+    let new = g.M.Medium.state c.move_head.new.m in
+    found_spares c.in_ok-found.found old seen new (g.met.M.Medium.sound c.args.m.now) (quiet_joined old mid seen flushed c.inspect.ensures.quiet) (found_before old mid c.in_ok-found.found flushed c.in_ok-found.ensures.ok)
+    (moves_spare c.in_ok-found.found seen copied new (copies_spare c.in_ok-found.found seen copied (g.met.M.Medium.sound c.copy_records.new.m) c.copy_records.ensures.elsewhere c.copy_records.ensures.within) c.move_head.ensures.spares)
