@@ -14,3 +14,4 @@ pub mod Newest
 pub mod Entering
 pub mod Adding
 pub mod Batching
+pub mod Sparing

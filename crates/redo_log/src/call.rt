@@ -1,6 +1,7 @@
 // The calls of a medium that write a record, one after the other.
-ghost use Rattle.std.specs.Prelude.{◌≡◌, ◌≤◌, ◌<◌, ◌*◌, ◌+◌, length, OnOk, slice_range};
+ghost use Rattle.std.specs.Prelude.{◌≡◌, ℕ, ◌≤◌, ◌<◌, ◌*◌, ◌+◌, length, OnOk, slice_range};
 ghost use Rattle.medium.specs.Medium.{Passes};
+ghost use Rattle.medium.specs.Moments.{SparesFrom};
 ghost use Rattle.log_layout.specs.Places.{first_home};
 ghost use Rattle.log_layout.specs.Values.{shape_of};
 ghost use Rattle.redo_log.specs.Stages.{IsRecord, IsWriting};
@@ -22,6 +23,9 @@ impl Call {
         ensures done { OnOk result (IsDone self.now (M.state m.old) (M.state m.new)) }
         ensures adds { MayAdd self.now (M.state m.old) (M.state m.new) }
         ensures passes { Passes (fault_of self.now) result (M.state m.old) (M.state m.new) }
+        // A write goes to its own sector alone.
+        ensures spares { (first : ℕ) → IsWithin first self.now
+            → SparesFrom first (M.state m.old) (M.state m.new) }
         ensures follows { M.follows m.old m.new }
     {
         match self {

@@ -6,7 +6,7 @@ ghost use Rattle.std.specs.Prelude.{OnOk, OnErr, IfOk, IfErr, MatchResult, Match
 ghost use Rattle.std.specs.Prelude.{if◌then◌else◌};
 ghost use Rattle.medium.specs.Medium.{Passes};
 ghost use Rattle.medium.specs.declared.fault.MediumFault.TheVariants.{Read};
-ghost use Rattle.medium.specs.Moments.{EachCut, LeavesOnly, IsQuiet};
+ghost use Rattle.medium.specs.Moments.{EachCut, LeavesOnly, SparesFrom, IsQuiet};
 
 use crate::call::next_call;
 use crate::index::{Copied, drop_slot, enter_record, newest};
@@ -180,6 +180,9 @@ impl Log {
             → LeavesOnly (MayLeave (M.state m.old).size self.old view)
             (M.state m.old) (M.state m.new) }
         ensures moments { LeavesOnly (λ _. Unit {0}) (M.state m.old) (M.state m.new) }
+        // No sector behind the image is written.
+        ensures spares { SparesFrom (sectors_of self.old.shape)
+            (M.state m.old) (M.state m.new) }
     {
         let Some(writing) = self.writing else {
             unreachable!()
@@ -227,6 +230,9 @@ impl Log {
             → LeavesOnly (MayLeave (M.state m.old).size self.old view)
             (M.state m.old) (M.state m.new) }
         ensures moments { LeavesOnly (λ _. Unit {0}) (M.state m.old) (M.state m.new) }
+        // No sector behind the image is written.
+        ensures spares { SparesFrom (sectors_of self.old.shape)
+            (M.state m.old) (M.state m.new) }
     {
         let Some(oldest) = self.waiting.front() else {
             return Ok(());

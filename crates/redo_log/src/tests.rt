@@ -265,3 +265,11 @@ fn the_last_stamp_is_not_a_record_s(rt: HostRuntime) -> Result<(), Fail> {
     assert!(rt; log.is_dead());
     Ok(())
 }
+
+#[test]
+fn the_numbers_of_the_faults(rt: HostRuntime) -> Result<(), Fail> {
+    assert_eq!(rt; LogFault::Medium as u8, 1);
+    assert_eq!(rt; LogFault::StampsUsedUp as u8, 2);
+    assert_eq!(rt; LogFault::NoMemory as u8, 3);
+    Ok(())
+}

@@ -1,6 +1,7 @@
 // The turns that retire a durable record, one after the other.
-ghost use Rattle.std.specs.Prelude.{◌≡◌, ◌≤◌, ◌<◌, ◌+◌, length, OnOk, is_ok, if◌then◌else◌};
+ghost use Rattle.std.specs.Prelude.{◌≡◌, ℕ, ◌≤◌, ◌<◌, ◌+◌, length, OnOk, is_ok, if◌then◌else◌};
 ghost use Rattle.medium.specs.Medium.{Holds, Only};
+ghost use Rattle.medium.specs.Moments.{SparesFrom};
 ghost use Rattle.log_layout.specs.Places.{sectors_of};
 ghost use Rattle.log_layout.specs.Values.{shape_of};
 ghost use Rattle.redo_log.specs.Stages.{IsRecord, IsRetiring};
@@ -30,6 +31,8 @@ impl Turn {
         ensures failures { (M.state m.new).failures
             ≡ (if is_ok result then (M.state m.old).failures else (M.state m.old).failures + 1) }
         ensures size { (M.state m.new).size ≡ (M.state m.old).size }
+        ensures spares { (first : ℕ) → IsInside first self.now
+            → SparesFrom first (M.state m.old) (M.state m.new) }
         ensures follows { M.follows m.old m.new }
     {
         match self {
@@ -50,6 +53,8 @@ fn copy_sector<M: Medium>(m: &mut M, from: u64, to: u64) -> Result<(), MediumFau
     ensures calls { (M.state m.new).calls ≤ (M.state m.old).calls + 2 }
     ensures failures { (M.state m.new).failures
         ≡ (if is_ok result then (M.state m.old).failures else (M.state m.old).failures + 1) }
+    ensures spares { (first : ℕ) → to < first
+        → SparesFrom first (M.state m.old) (M.state m.new) }
     ensures follows { M.follows m.old m.new }
 {
     let mut sector = [0; 512];
@@ -67,6 +72,8 @@ fn write_through<M: Medium>(m: &mut M, place: u64, sector: &[u8; 512]) -> Result
     ensures calls { (M.state m.new).calls ≤ (M.state m.old).calls + 2 }
     ensures failures { (M.state m.new).failures
         ≡ (if is_ok result then (M.state m.old).failures else (M.state m.old).failures + 1) }
+    ensures spares { (first : ℕ) → place < first
+        → SparesFrom first (M.state m.old) (M.state m.new) }
     ensures follows { M.follows m.old m.new }
 {
     m.write(place, sector)?;

@@ -14,6 +14,7 @@ use Rattle.redo_log.specs.Index.{look, outside, IsIndex}
 use Rattle.redo_log.proofs.Entering.{index_fewer}
 use Rattle.redo_log.proofs.Ringing.{front_is, few_under_way, ring_retired, retired_last}
 use Rattle.redo_log.proofs.Closing.{on_ok_here, turn_moments, turn_cuts, turn_dead, turn_more, turn_retires}
+use Rattle.redo_log.proofs.Sparing.{turn_spares}
 use Rattle.redo_log.proofs.log.Log.retire_step.Goals as goal
 
 -- as many lists as records
@@ -156,3 +157,12 @@ returns-clause-moments g c = turn_moments c.next_turn-turn.result (g.M.Medium.st
 
 pub returns-in_default-clause-moments : goal.returns-in_default-clause-moments
 returns-in_default-clause-moments g c = started (λ _. Unit {0}) (g.M.Medium.state c.args.m.now) (g.met.M.Medium.sound c.args.m.now) (λ image cut. tt)
+
+pub returns-then-is_err-clause-spares : goal.returns-then-is_err-clause-spares
+returns-then-is_err-clause-spares g c = turn_spares (shape_of c.self.inside.sizes) c.args.self.now (g.M.Medium.state c.args.m.now) (g.M.Medium.state c.make.new.m) (ap (λ (v : LogValue). v.shape) c.self.view_is) c.next_turn-turn.result c.next_turn-turn.ensures.inside c.make.ensures.spares
+
+pub returns-in-Some-next-clause-spares : goal.returns-in-Some-next-clause-spares
+returns-in-Some-next-clause-spares g c = turn_spares (shape_of c.self.inside.sizes) c.args.self.now (g.M.Medium.state c.args.m.now) (g.M.Medium.state c.make.new.m) (ap (λ (v : LogValue). v.shape) c.self.view_is) c.next_turn-turn.result c.next_turn-turn.ensures.inside c.make.ensures.spares
+
+pub returns-clause-spares : goal.returns-clause-spares
+returns-clause-spares g c = turn_spares (shape_of c.self.inside.sizes) c.args.self.now (g.M.Medium.state c.args.m.now) (g.M.Medium.state c.make.new.m) (ap (λ (v : LogValue). v.shape) c.self.view_is) c.next_turn-turn.result c.next_turn-turn.ensures.inside c.make.ensures.spares

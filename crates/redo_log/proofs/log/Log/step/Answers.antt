@@ -13,6 +13,7 @@ use Rattle.redo_log.specs.Index.{look, with_copies, FitsWith, IsIndex}
 use Rattle.redo_log.proofs.Ringing.{lists_more, few_under_way, ring_durable}
 use Rattle.redo_log.proofs.Entering.{record_fits, index_more}
 use Rattle.redo_log.proofs.Closing.{on_ok_here, step_cuts, step_dead, step_goes_on, step_durable, step_whole, none_left}
+use Rattle.redo_log.proofs.Sparing.{call_spares}
 use Rattle.redo_log.proofs.log.Log.step.Goals as goal
 
 -- as many lists as records
@@ -145,3 +146,12 @@ enter_record-requires-clause-fits g c =
     (λ age below. (c.self.invariant.ring.each age [] below).few) few c.self.invariant.index_room in
     subst (λ (l : List ℕ). FitsWith (vec_capacity i.index) i.index.items c.slot_of.result l) (sym numbers)
     (subst (λ (n : ℕ). FitsWith (vec_capacity i.index) i.index.items n i.under_way.items) (sym (c.slot_of.ensures ∙ ap (λ (n : ℕ). n % i.sizes.slots) stamp)) fits)
+
+pub returns-then-is_err-clause-spares : goal.returns-then-is_err-clause-spares
+returns-then-is_err-clause-spares g c = call_spares (shape_of c.self.inside.sizes) c.args.self.now (g.M.Medium.state c.args.m.now) (g.M.Medium.state c.make.new.m) (ap (λ (v : LogValue). v.shape) c.self.view_is) c.next_call-call.result c.next_call-call.ensures.inside c.make.ensures.spares
+
+pub returns-then-is_some-clause-spares : goal.returns-then-is_some-clause-spares
+returns-then-is_some-clause-spares g c = call_spares (shape_of c.self.inside.sizes) c.args.self.now (g.M.Medium.state c.args.m.now) (g.M.Medium.state c.make.new.m) (ap (λ (v : LogValue). v.shape) c.self.view_is) c.next_call-call.result c.next_call-call.ensures.inside c.make.ensures.spares
+
+pub returns-clause-spares : goal.returns-clause-spares
+returns-clause-spares g c = call_spares (shape_of c.self.inside.sizes) c.args.self.now (g.M.Medium.state c.args.m.now) (g.M.Medium.state c.make.new.m) (ap (λ (v : LogValue). v.shape) c.self.view_is) c.next_call-call.result c.next_call-call.ensures.inside c.make.ensures.spares
