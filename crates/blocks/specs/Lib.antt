@@ -5,3 +5,4 @@ pub mod Opening
 pub mod Turns
 pub mod Started
 pub mod Kept
+pub mod Background

@@ -1,10 +1,11 @@
 // The background work, one step at a time.
-ghost use Rattle.std.specs.Prelude.{◌≡◌, ◌⊎◌, ◌≤◌, ◌<◌, ◌+◌, true, false, [], length};
+ghost use Rattle.std.specs.Prelude.{◌≡◌, ◌⊎◌, ◌≤◌, ◌<◌, ◌+◌, ◌-◌, ◌^◌, true, false, [], length};
 ghost use Rattle.std.specs.Prelude.{OnOk, MatchResult};
-ghost use Rattle.redo_log.specs.Value.{HasRoom};
+ghost use Rattle.redo_log.specs.Value.{HasRoom, begun, died};
 ghost use Rattle.redo_log.specs.declared.progress.Progress.TheVariants.{More, Durable};
 ghost use Rattle.blocks.specs.StoreValue.{is_dead, active_of, unwritten, steps_left};
 ghost use Rattle.blocks.specs.Turns.{IsTurn};
+ghost use Rattle.blocks.specs.Background.{IsRecordStep, IsBeginning, IsRetiring, IsBackgroundStep};
 
 use crate::{Store, StoreFault};
 use medium::Medium;
@@ -18,6 +19,8 @@ impl<M: Medium> Store<M> {
     /// Where it makes the store dead, the next call that writes tells.
     pub fn tick(&mut self)
         ensures turn { IsTurn (M.state self.old.medium) (M.state self.new.medium)
+            self.old.cached self.new.cached }
+        ensures order { IsBackgroundStep (M.state self.old.medium) (M.state self.new.medium)
             self.old.cached self.new.cached }
         ensures calls { (M.state self.new.medium).calls ≤ (M.state self.old.medium).calls + 2 }
         ensures left { is_dead self.new.cached ≡ false
@@ -49,6 +52,8 @@ impl<M: Medium> Store<M> {
         requires room { HasRoom self.old.cached.log }
         requires some { 0 < unwritten self.old.cached }
         ensures turn { IsTurn (M.state self.old.medium) (M.state self.new.medium)
+            self.old.cached self.new.cached }
+        ensures beginning { IsBeginning (M.state self.old.medium) (M.state self.new.medium)
             self.old.cached self.new.cached }
         ensures medium { self.new.medium ≡ self.old.medium }
         ensures falls { is_dead self.new.cached ≡ false
@@ -86,6 +91,10 @@ impl<M: Medium> Store<M> {
         requires some { 0 < length self.old.cached.frozen.numbers }
         ensures turn { IsTurn (M.state self.old.medium) (M.state self.new.medium)
             self.old.cached self.new.cached }
+        ensures live { is_dead self.new.cached ≡ false → (self.old.cached.log.next < 2 ^ 63 - 1)
+            × (self.new.cached.log ≡ begun self.old.cached.frozen.numbers self.old.cached.log) }
+        ensures dies { is_dead self.new.cached ≡ true → (self.old.cached.log.next ≡ 2 ^ 63 - 1)
+            × (self.new.cached.log ≡ died self.old.cached.log) }
         ensures medium { self.new.medium ≡ self.old.medium }
         ensures answer { MatchResult result (λ _. is_dead self.new.cached ≡ false)
             (λ fault. (fault ≡ StoreFault.Dead) × (is_dead self.new.cached ≡ true)) }
@@ -93,6 +102,7 @@ impl<M: Medium> Store<M> {
         ensures falls { is_dead self.new.cached ≡ false
             → steps_left self.new.cached < steps_left self.old.cached }
         ensures active { self.new.cached.active ≡ self.old.cached.active }
+        ensures frozen { self.new.cached.frozen ≡ self.old.cached.frozen }
     {
         match self.log.begin(self.frozen.numbers(), self.frozen.bytes()) {
             Ok(()) => {
@@ -108,6 +118,8 @@ impl<M: Medium> Store<M> {
         requires live { is_dead self.old.cached ≡ false }
         requires under_way { 0 < self.old.cached.log.steps_left }
         ensures turn { IsTurn (M.state self.old.medium) (M.state self.new.medium)
+            self.old.cached self.new.cached }
+        ensures record_step { IsRecordStep (M.state self.old.medium) (M.state self.new.medium)
             self.old.cached self.new.cached }
         ensures calls { (M.state self.new.medium).calls ≤ (M.state self.old.medium).calls + 1 }
         ensures answer { MatchResult result (λ _. is_dead self.new.cached ≡ false)
@@ -141,6 +153,8 @@ impl<M: Medium> Store<M> {
         requires live { is_dead self.old.cached ≡ false }
         requires idle { self.old.cached.log.steps_left ≡ 0 }
         ensures turn { IsTurn (M.state self.old.medium) (M.state self.new.medium)
+            self.old.cached self.new.cached }
+        ensures retiring { IsRetiring (M.state self.old.medium) (M.state self.new.medium)
             self.old.cached self.new.cached }
         ensures calls { (M.state self.new.medium).calls ≤ (M.state self.old.medium).calls + 2 }
         ensures answer { MatchResult result (λ _. is_dead self.new.cached ≡ false)

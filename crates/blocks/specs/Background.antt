@@ -1,0 +1,70 @@
+-- The order of the background work: what one step of it does.
+use Rattle.std.specs.Prelude.{◌≡◌, ◌+◌, ◌-◌, ◌^◌, ◌≤◌, ◌<◌, true, false, [], length}
+use Rattle.medium.specs.Medium.{State}
+use Rattle.medium.specs.Moments.{IsUnchanged}
+use Rattle.cache.specs.Entries.{Entries}
+use Rattle.redo_log.specs.Value.{HasRoom, begun, died, IsStepped, IsRetireStepped}
+use Rattle.redo_log.specs.declared.progress.Progress.{Progress}
+use Rattle.redo_log.specs.declared.progress.Progress.TheVariants.{More, Durable}
+use Rattle.blocks.specs.StoreValue.{Cached, is_dead, unwritten}
+
+-- The medium refused one call, and the log is dead. The batches are as they were.
+pub record HasDied (before after : State) (old new : Cached) : Type 0 where
+  pub is : new ≡ record old { log = died old.log }
+  pub failures : after.failures ≡ before.failures + 1
+
+-- the frozen batch stays while its record needs more steps, and is empty once that is durable
+abbrev pub LeavesFrozen : Progress → Entries → Entries → Type 0
+LeavesFrozen More old new = new ≡ old
+LeavesFrozen Durable old new = new ≡ record old { numbers = []; bytes = [] }
+
+-- the record under way came one step further, and the batch that takes writes stays
+pub record HasGoneOn (progress : Progress) (old new : Cached) : Type 0 where
+  pub log : IsStepped progress old.log new.log
+  pub active : new.active ≡ old.active
+  pub frozen : LeavesFrozen progress old.frozen new.frozen
+
+-- one step of the record under way, which is one call of the medium
+pub record IsRecordStep (before after : State) (old new : Cached) : Type 0 where
+  pub one_call : after.calls ≡ before.calls + 1
+  pub live : is_dead new ≡ false
+      → (after.failures ≡ before.failures) × (progress : Progress) × HasGoneOn progress old new
+  pub dies : is_dead new ≡ true → HasDied before after old new
+
+-- The frozen batch comes first: the batches stay as they are. Where it is empty the active batch takes its
+-- place.
+pub record FreezesNext (old new : Cached) : Type 0 where
+  pub frozen_first : 0 < length old.frozen.numbers → (new.active ≡ old.active) × (new.frozen ≡ old.frozen)
+  pub else_active : old.frozen.numbers ≡ [] → (new.active ≡ old.frozen) × (new.frozen ≡ old.active)
+
+-- The record of the next batch is begun, without a call of the medium. Where no stamp is left for it the log
+-- is dead.
+pub record IsBeginning (before after : State) (old new : Cached) : Type 0 where
+  pub unchanged : IsUnchanged before after
+  pub next : FreezesNext old new
+  pub live : is_dead new ≡ false
+      → (old.log.next < 2 ^ 63 - 1) × (new.log ≡ begun new.frozen.numbers old.log)
+  pub dies : is_dead new ≡ true → (old.log.next ≡ 2 ^ 63 - 1) × (new.log ≡ died old.log)
+
+-- The oldest record is retired by exactly one step, which is at most two calls, and both batches stay. Where
+-- no record waits nothing happens.
+pub record IsRetiring (before after : State) (old new : Cached) : Type 0 where
+  pub none_waits : old.log.waiting ≡ [] → (new ≡ old) × IsUnchanged before after
+  pub two_calls : after.calls ≤ before.calls + 2
+  pub active : new.active ≡ old.active
+  pub frozen : new.frozen ≡ old.frozen
+  pub live : 0 < length old.log.waiting → is_dead new ≡ false
+      → (after.failures ≡ before.failures) × IsRetireStepped old.log new.log
+  pub dies : is_dead new ≡ true → HasDied before after old new
+
+-- a record may be begun: none is under way, the log has room, and a batch holds blocks
+abbrev pub MayBegin : Cached → Type 0
+MayBegin s = HasRoom s.log × (0 < unwritten s)
+
+-- One background step. A dead store makes none. With a record under way only that record goes on; else the
+-- next batch is begun where it may be, and the oldest record is retired where none may.
+pub record IsBackgroundStep (before after : State) (old new : Cached) : Type 0 where
+  pub dead : is_dead old ≡ true → (new ≡ old) × IsUnchanged before after
+  pub goes_on : is_dead old ≡ false → 0 < old.log.steps_left → IsRecordStep before after old new
+  pub begins : is_dead old ≡ false → MayBegin old → IsBeginning before after old new
+  pub retires : is_dead old ≡ false → old.log.steps_left ≡ 0 → ¬ MayBegin old → IsRetiring before after old new
