@@ -328,12 +328,12 @@ of_fail (Ok command) sense is = absurd (no_fail command sense is)
 of_fail (Err other) sense is = cc
 
 -- a command that passed the checks is one that the unit carries out
-served_by : (unit : UnitState) (block : List ℕ) (command : Command) → checked unit block ≡ Ok command → IsSupported unit.book.blocks 48 command
+pub served_by : (unit : UnitState) (block : List ℕ) (command : Command) → checked unit block ≡ Ok command → IsSupported unit.book.blocks 48 command
 served_by unit block command passed =
     IfOk-at_ok (IsSupported unit.book.blocks 48) (passed_by unit.book.blocks unit.kept.attention unit.faulted block command passed).0
     (supported unit.book.blocks 48 block)
 
-moved_by : (unit : UnitState) (block : List ℕ) → intention unit block ≡ moves_after (checked unit block)
+pub moved_by : (unit : UnitState) (block : List ℕ) → intention unit block ≡ moves_after (checked unit block)
 moved_by unit block = intention_is unit.book.blocks unit.kept.attention unit.faulted block
 
 -- the data of each outcome, if there are any

@@ -6,6 +6,7 @@ pub mod Serving
 pub mod Effects
 pub mod Outcomes
 pub mod Intentions
+pub mod Appending
 pub mod Books
 pub mod Starting
 pub mod UnitLaws

@@ -4,7 +4,7 @@ use Rattle.std.specs.Prelude.{◌&&◌, ◌||◌, not}
 use Rattle.std.specs.Prelude.{if◌then◌else◌}
 use Rattle.std.specs.Prelude.{Option, Some, None, Result, Ok, Err, IfOk}
 use Rattle.medium.specs.Medium.{Image}
-use Rattle.medium.specs.Blocks.{Write}
+use Rattle.medium.specs.Blocks.{Write, IsWrite}
 use Rattle.blocks.specs.Book.{Book, array_of, StampsOut}
 use Rattle.blocks.specs.Finding.{StandsAs, FoundWith}
 use Rattle.blocks.specs.Opening.{IsOursForSome, Stands, StandsForOpening}
@@ -107,6 +107,13 @@ pub record KeepsWrites : Type 0 where
       → write_in_progress old block taken ≡ Some write
       → CarriesOut refused block taken old (Ok sent) new
       → new.book.writes ≡ old.book.writes ++ write ∷ []
+
+-- A write in progress, over as many bytes as were asked for, has at least one block, each of 512
+-- bytes, and all of them on the disk.
+pub record WritesAreWrites : Type 0 where
+  pub is_write : (unit : UnitState) (block taken : List ℕ) (write : Write)
+      → ((n : ℕ) → intention unit block ≡ intent.Out n → length taken ≡ n)
+      → write_in_progress unit block taken ≡ Some write → IsWrite unit.book.blocks write
 
 -- a faulted unit stays so, and its book stays as it is
 pub record StaysFaulted : Type 0 where

@@ -1,6 +1,6 @@
 //! What follows from the rules of the logical unit.
 ghost use Rattle.scsi_unit.specs.Laws.{IsFunction, KeepsIntentions, KeepsWrites, StaysFaulted};
-ghost use Rattle.scsi_unit.specs.Laws.{TicksOnly, KnowsImages};
+ghost use Rattle.scsi_unit.specs.Laws.{WritesAreWrites, TicksOnly, KnowsImages};
 
 /// Does nothing: its contract says what holds of each command and of each step in the background,
 /// whatever the state of the unit, and what books tell of an image.
@@ -8,6 +8,7 @@ pub fn unit_laws()
     ensures function { IsFunction }
     ensures intentions { KeepsIntentions }
     ensures writes { KeepsWrites }
+    ensures are_writes { WritesAreWrites }
     ensures faults { StaysFaulted }
     ensures ticks { TicksOnly }
     ensures images { KnowsImages }

@@ -1,4 +1,4 @@
-use Rattle.scsi_unit.proofs.UnitLaws.{keeps_intentions, is_function, keeps_writes, stays_faulted, ticks_only, knows_images}
+use Rattle.scsi_unit.proofs.UnitLaws.{keeps_intentions, is_function, keeps_writes, writes_are_writes, stays_faulted, ticks_only, knows_images}
 use Rattle.scsi_unit.proofs.laws.unit_laws.Goals as goal
 
 pub returns-clause-function : goal.returns-clause-function
@@ -6,6 +6,9 @@ returns-clause-function c = is_function
 
 pub returns-clause-writes : goal.returns-clause-writes
 returns-clause-writes c = keeps_writes
+
+pub returns-clause-are_writes : goal.returns-clause-are_writes
+returns-clause-are_writes c = writes_are_writes
 
 pub returns-clause-intentions : goal.returns-clause-intentions
 returns-clause-intentions c = keeps_intentions
