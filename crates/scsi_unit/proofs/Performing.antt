@@ -14,7 +14,7 @@ use Rattle.blocks.specs.StoreValue.{StoreValue, FitsBook, blocks_of, is_dead}
 use Rattle.blocks.specs.Turns.{IsTurn}
 use Rattle.blocks.proofs.Turning.{stays, turns}
 use Rattle.sense.specs.declared.codes.Sense.{Sense}
-use Rattle.sense.specs.declared.codes.TheConstants.Sense.{UNRECOVERED_READ_ERROR, WRITE_ERROR}
+use Rattle.sense.specs.Codes.{unrecovered_read_error, write_error}
 use Rattle.sense.specs.Fixed.{fixed_sense}
 use Rattle.sense.specs.Waiting.{after_failure, reported, after_report}
 use Rattle.scsi_unit.specs.declared.intent.Intent.TheVariants as intent
@@ -54,9 +54,9 @@ given false unit bytes faulted same = ap (λ (f : Bool). settled (Ok bytes) (bec
 
 -- a command that failed and faulted the unit
 pub died : (unit : UnitState) (book : Book) (faulted : Bool) → faulted ≡ true
-    → settled (Err WRITE_ERROR) (become unit book faulted)
-    ≡ record unit { book = book; kept = after_failure WRITE_ERROR unit.kept; faulted = true }
-died unit book faulted dead = ap (λ (f : Bool). settled (Err WRITE_ERROR) (become unit book f)) dead
+    → settled (Err write_error) (become unit book faulted)
+    ≡ record unit { book = book; kept = after_failure write_error unit.kept; faulted = true }
+died unit book faulted dead = ap (λ (f : Bool). settled (Err write_error) (become unit book f)) dead
 
 -- a command that failed and left the unit as it was
 failed : (unit : UnitState) (sense : Sense) (faulted : Bool) → faulted ≡ unit.faulted
@@ -91,11 +91,11 @@ module _ {M : Type 0} (before after : State) (old : UnitValue M) (last : StoreVa
   }
 
   -- the store died while it made writes durable
-  pub write_error : (command : Command) (taken : List ℕ) (sense : Sense) → write_of_command command taken ≡ None
+  pub dies_writing : (command : Command) (taken : List ℕ) (sense : Sense) → write_of_command command taken ≡ None
       → wants_writing command taken old.write_cache ≡ true → is_dead old.store.cached ≡ false
-      → (sense ≡ WRITE_ERROR) × (is_dead last.cached ≡ true)
+      → (sense ≡ write_error) × (is_dead last.cached ≡ true)
       → Performs before after (Ok command) taken old (Err sense) (record old { store = last })
-  write_error command taken sense none writing live dead = performs_by (record old { store = last }) refl refl (Ok command) taken (Err sense) none (λ book fits. (
+  dies_writing command taken sense none writing live dead = performs_by (record old { store = last }) refl refl (Ok command) taken (Err sense) none (λ book fits. (
     book,
     inr (inr (record {
       cause = subst (λ (w : Option Write). MayFault (has_refused before after) (with_progress book w)) (sym none)
@@ -104,7 +104,7 @@ module _ {M : Type 0} (before after : State) (old : UnitValue M) (last : StoreVa
       answered = ap Err dead.0;
       book = book;
       accepted = inl refl;
-      after = subst (λ (e : Sense). settled (Err e) (become (state_of old book) book (is_dead last.cached)) ≡ record (state_of old book) { book = book; kept = after_failure WRITE_ERROR old.kept; faulted = true })
+      after = subst (λ (e : Sense). settled (Err e) (become (state_of old book) book (is_dead last.cached)) ≡ record (state_of old book) { book = book; kept = after_failure write_error old.kept; faulted = true })
           (sym dead.0) (died (state_of old book) book (is_dead last.cached) dead.1);
     })),
     turn.fits book fits,
@@ -120,13 +120,13 @@ wanted_so false done sense was unwanted = absurd (false≢true (subst (λ (r : R
 pub durable_error : {M : Type 0} (before after : State) (old : UnitValue M) (last : StoreValue M) → IsTurn before after old.store.cached last.cached
     → (wanted : Bool) (done : Result (Unit {0}) Sense) (sense : Sense) → done ≡ Err sense
     → (wanted ≡ false → (last ≡ old.store) × (is_ok done ≡ true))
-    → MatchResult done (λ _. is_dead last.cached ≡ false) (λ sense. (sense ≡ WRITE_ERROR) × (is_dead last.cached ≡ true))
+    → MatchResult done (λ _. is_dead last.cached ≡ false) (λ sense. (sense ≡ write_error) × (is_dead last.cached ≡ true))
     → is_dead old.store.cached ≡ false → (command : Command) (taken : List ℕ) → write_of_command command taken ≡ None
     → wants_writing command taken old.write_cache ≡ wanted
     → Performs before after (Ok command) taken old (Err sense) (record old { store = last })
 durable_error before after old last turn wanted done sense was unwanted answer live command taken none wants =
-    write_error before after old last turn command taken sense none (wants ∙ wanted_so wanted done sense was unwanted) live
-    (MatchResult-at_err (λ _. is_dead last.cached ≡ false) (λ sense. (sense ≡ WRITE_ERROR) × (is_dead last.cached ≡ true)) sense was answer)
+    dies_writing before after old last turn command taken sense none (wants ∙ wanted_so wanted done sense was unwanted) live
+    (MatchResult-at_err (λ _. is_dead last.cached ≡ false) (λ sense. (sense ≡ write_error) × (is_dead last.cached ≡ true)) sense was answer)
 
 -- a transfer of some blocks
 pub moves_some : (transfer : Transfer) → transfer.count ≢ 0 → moves_blocks transfer ≡ true
@@ -157,20 +157,20 @@ module _ {M : Type 0} (before mid after : State) (old : UnitValue M) (half last 
   -- all accepted writes are durable, if that was wanted; and the store was read
   module _ (wanted : Bool) (done : Result (Unit {0}) Sense) (value : Unit {0}) (was : done ≡ Ok value)
       (promises : (book : Book) → FitsBook before old.store.cached book → OnOk done (FitsBook mid half.cached (durable_if wanted book)))
-      (alive : MatchResult done (λ _. is_dead half.cached ≡ false) (λ sense. (sense ≡ WRITE_ERROR) × (is_dead half.cached ≡ true)))
+      (alive : MatchResult done (λ _. is_dead half.cached ≡ false) (λ sense. (sense ≡ write_error) × (is_dead half.cached ≡ true)))
       (same : last.cached ≡ half.cached) where
     durable : (book : Book) → FitsBook before old.store.cached book → FitsBook mid half.cached (durable_if wanted book)
     durable book fits = IfOk-at_ok (λ _. FitsBook mid half.cached (durable_if wanted book)) was (promises book fits)
 
     -- the unit is not faulted
     lives : is_dead last.cached ≡ is_dead old.store.cached
-    lives = ap is_dead same ∙ MatchResult-at_ok (λ _. is_dead half.cached ≡ false) (λ sense. (sense ≡ WRITE_ERROR) × (is_dead half.cached ≡ true)) value was alive ∙ sym live
+    lives = ap is_dead same ∙ MatchResult-at_ok (λ _. is_dead half.cached ≡ false) (λ sense. (sense ≡ write_error) × (is_dead half.cached ≡ true)) value was alive ∙ sym live
 
     pub reads_blocks_of : (transfer : Transfer) (taken : List ℕ) → moves_blocks transfer ≡ true → transfer.fua ≡ wanted
         → (result : Result ℕ Sense) (out : List ℕ)
         → ((book : Book) → FitsBook mid half.cached book → OnOk result (take (512 * transfer.count) out ≡ blocks_at (array_of book) transfer.address transfer.count))
         → IfOk result (λ sent. sent ≡ 512 * transfer.count)
-        → IfErr result (λ sense. (sense ≡ UNRECOVERED_READ_ERROR) × (mid.failures < after.failures))
+        → IfErr result (λ sense. (sense ≡ unrecovered_read_error) × (mid.failures < after.failures))
         → Performs before after (Ok (command.Read10 transfer)) taken old (answer_of result out) (record old { store = last })
     reads_blocks_of transfer taken moves fua (Ok sent) out read size refused =
         performs_by before after old last (turns before mid after old.store.cached half.cached last.cached turn more) (record old { store = last }) refl refl (Ok (command.Read10 transfer)) taken (Ok (take sent out)) refl (λ book fits.
@@ -190,8 +190,8 @@ module _ {M : Type 0} (before mid after : State) (old : UnitValue M) (half last 
             cause = refused_so before after (omega (arith, refused.1, turn.goes_on.failures_stay));
             reads = moves;
             answered = ap Err refused.0;
-            after = subst (λ (e : Sense). settled (Err e) (become (state_of old book) book (is_dead last.cached)) ≡ (fails UNRECOVERED_READ_ERROR (state_of old book)).after)
-                (sym refused.0) (failed (state_of old book) UNRECOVERED_READ_ERROR (is_dead last.cached) lives);
+            after = subst (λ (e : Sense). settled (Err e) (become (state_of old book) book (is_dead last.cached)) ≡ (fails unrecovered_read_error (state_of old book)).after)
+                (sym refused.0) (failed (state_of old book) unrecovered_read_error (is_dead last.cached) lives);
           })),
           more.fits book (turn.fits book fits),
         ))

@@ -11,7 +11,7 @@ use Rattle.blocks.specs.Finding.{MayFind, Found, FoundWith}
 use Rattle.blocks.specs.StoreValue.{Cached, StoreValue, FitsBook, is_dead}
 use Rattle.blocks.specs.Turns.{HasCause, IsTurn, IsWriteTurn}
 use Rattle.sense.specs.declared.codes.Sense.{Sense}
-use Rattle.sense.specs.declared.codes.TheConstants.Sense.{WRITE_ERROR}
+use Rattle.sense.specs.Codes.{write_error}
 use Rattle.sense.specs.Waiting.{after_failure}
 use Rattle.cdb.specs.declared.command.Command.TheVariants as command
 use Rattle.cdb.specs.declared.command.Transfer.{Transfer}
@@ -21,7 +21,7 @@ use Rattle.scsi_unit.specs.UnitValue.{UnitValue, state_of}
 use Rattle.scsi_unit.specs.Serving.{has_refused}
 use Rattle.scsi_unit.specs.Performing.{settled, silent, Performs}
 use Rattle.scsi_unit.proofs.Turning.{may_fault, refused_so}
-use Rattle.scsi_unit.proofs.Performing.{become, died, durable_if, given, performs_by, performs_none, write_error}
+use Rattle.scsi_unit.proofs.Performing.{become, died, durable_if, given, performs_by, performs_none, dies_writing}
 
 -- ---- WRITE
 
@@ -60,12 +60,12 @@ pub write_refused : {M : Type 0} (before after : State) (old : UnitValue M) (las
     → moves_blocks transfer ≡ true → is_dead old.store.cached ≡ false
     → (done : Result (Unit {0}) Sense) (sense : Sense) → done ≡ Err sense
     → IsWriteTurn (write_by transfer taken) (is_ok done) before after old.store.cached last.cached
-    → MatchResult done (λ _. is_dead last.cached ≡ false) (λ sense. (sense ≡ WRITE_ERROR) × (is_dead last.cached ≡ true))
+    → MatchResult done (λ _. is_dead last.cached ≡ false) (λ sense. (sense ≡ write_error) × (is_dead last.cached ≡ true))
     → Performs before after (Ok (command.Write10 transfer)) taken old (Err sense) (record old { store = last })
 write_refused before after old last transfer taken moves live done sense was turned answer =
     let w = write_by transfer taken in
     let turn = subst (λ (r : Result (Unit {0}) Sense). IsWriteTurn w (is_ok r) before after old.store.cached last.cached) was turned in
-    let dead = MatchResult-at_err (λ _. is_dead last.cached ≡ false) (λ (s : Sense). (s ≡ WRITE_ERROR) × (is_dead last.cached ≡ true)) sense was answer in
+    let dead = MatchResult-at_err (λ _. is_dead last.cached ≡ false) (λ (s : Sense). (s ≡ write_error) × (is_dead last.cached ≡ true)) sense was answer in
     record {
       line = λ book fits. (
         book,
@@ -76,7 +76,7 @@ write_refused before after old last transfer taken moves live done sense was tur
           answered = ap Err dead.0;
           book = book;
           accepted = inl refl;
-          after = subst (λ (e : Sense). settled (Err e) (become (state_of old book) book (is_dead last.cached)) ≡ record (state_of old book) { book = book; kept = after_failure WRITE_ERROR old.kept; faulted = true })
+          after = subst (λ (e : Sense). settled (Err e) (become (state_of old book) book (is_dead last.cached)) ≡ record (state_of old book) { book = book; kept = after_failure write_error old.kept; faulted = true })
               (sym dead.0) (died (state_of old book) book (is_dead last.cached) dead.1);
         })),
         turn.fits book fits,
@@ -93,13 +93,13 @@ module _ {M : Type 0} (before mid after : State) (old : UnitValue M) (half last 
     (moves : moves_blocks transfer ≡ true) (live : is_dead old.store.cached ≡ false)
     (appended : Result (Unit {0}) Sense) (value : Unit {0}) (was : appended ≡ Ok value)
     (turned : IsWriteTurn (write_by transfer taken) (is_ok appended) before mid old.store.cached half.cached)
-    (answered : MatchResult appended (λ _. is_dead half.cached ≡ false) (λ sense. (sense ≡ WRITE_ERROR) × (is_dead half.cached ≡ true)))
+    (answered : MatchResult appended (λ _. is_dead half.cached ≡ false) (λ sense. (sense ≡ write_error) × (is_dead half.cached ≡ true)))
     (more : IsTurn mid after half.cached last.cached) where
   turn : IsWriteTurn (write_by transfer taken) true before mid old.store.cached half.cached
   turn = subst (λ (r : Result (Unit {0}) Sense). IsWriteTurn (write_by transfer taken) (is_ok r) before mid old.store.cached half.cached) was turned
 
   alive : is_dead half.cached ≡ false
-  alive = MatchResult-at_ok (λ _. is_dead half.cached ≡ false) (λ (s : Sense). (s ≡ WRITE_ERROR) × (is_dead half.cached ≡ true)) value was answered
+  alive = MatchResult-at_ok (λ _. is_dead half.cached ≡ false) (λ (s : Sense). (s ≡ write_error) × (is_dead half.cached ≡ true)) value was answered
 
   packed : (answer : Result (List ℕ) Sense)
       → ((book : Book) → FitsBook before old.store.cached book
@@ -126,7 +126,7 @@ module _ {M : Type 0} (before mid after : State) (old : UnitValue M) (half last 
 
   pub writes_blocks : (done : Result (Unit {0}) Sense)
       → ((book : Book) → FitsBook mid half.cached book → OnOk done (FitsBook after last.cached (durable_if (transfer.fua || not old.write_cache) book)))
-      → MatchResult done (λ _. is_dead last.cached ≡ false) (λ sense. (sense ≡ WRITE_ERROR) × (is_dead last.cached ≡ true))
+      → MatchResult done (λ _. is_dead last.cached ≡ false) (λ sense. (sense ≡ write_error) × (is_dead last.cached ≡ true))
       → Performs before after (Ok (command.Write10 transfer)) taken old (silent done) (record old { store = last })
   writes_blocks (Ok finished) promises answer = packed (Ok []) (λ book fits. (
     durable_if (transfer.fua || not old.write_cache) (with_write book (write_by transfer taken)),
@@ -143,7 +143,7 @@ module _ {M : Type 0} (before mid after : State) (old : UnitValue M) (half last 
       answered = ap Err dead.0;
       book = with_write book (write_by transfer taken);
       accepted = inr (ap (λ (v : Option Write). with_progress book v) (sym (some_write_is transfer taken moves)));
-      after = subst (λ (e : Sense). settled (Err e) (become (state_of old book) (with_write book (write_by transfer taken)) (is_dead last.cached)) ≡ record (state_of old book) { book = with_write book (write_by transfer taken); kept = after_failure WRITE_ERROR old.kept; faulted = true })
+      after = subst (λ (e : Sense). settled (Err e) (become (state_of old book) (with_write book (write_by transfer taken)) (is_dead last.cached)) ≡ record (state_of old book) { book = with_write book (write_by transfer taken); kept = after_failure write_error old.kept; faulted = true })
           (sym dead.0) (died (state_of old book) (with_write book (write_by transfer taken)) (is_dead last.cached) dead.1);
     })),
     more.fits (with_write book (write_by transfer taken)) (turn.fits book fits),
@@ -154,13 +154,13 @@ module _ {M : Type 0} (before mid after : State) (old : UnitValue M) (half last 
 pub synchronizes : {M : Type 0} (before after : State) (old : UnitValue M) (last : StoreValue M) → IsTurn before after old.store.cached last.cached
     → is_dead old.store.cached ≡ false → (done : Result (Unit {0}) Sense)
     → ((book : Book) → FitsBook before old.store.cached book → OnOk done (FitsBook after last.cached (promised book)))
-    → MatchResult done (λ _. is_dead last.cached ≡ false) (λ sense. (sense ≡ WRITE_ERROR) × (is_dead last.cached ≡ true))
+    → MatchResult done (λ _. is_dead last.cached ≡ false) (λ sense. (sense ≡ write_error) × (is_dead last.cached ≡ true))
     → (range : BlockRange) (taken : List ℕ) → Performs before after (Ok (command.SynchronizeCache10 range)) taken old (silent done) (record old { store = last })
 synchronizes before after old last turn live (Ok value) promises alive range taken =
     performs_by before after old last turn (record old { store = last }) refl refl (Ok (command.SynchronizeCache10 range)) taken (Ok []) refl (λ book fits.
     (promised book, inl (record { answered = refl; after = given true (state_of old book) [] (is_dead last.cached) (alive ∙ sym live) }), promises book fits))
 synchronizes before after old last turn live (Err sense) promises dead range taken =
-    write_error before after old last turn (command.SynchronizeCache10 range) taken sense refl refl live dead
+    dies_writing before after old last turn (command.SynchronizeCache10 range) taken sense refl refl live dead
 
 -- MODE SELECT of a list that is refused
 pub selects_nothing : {M : Type 0} (m : State) → IsSound m → (old : UnitValue M) (length : ℕ) (taken : List ℕ) (sense : Sense)
@@ -182,10 +182,10 @@ pub selects_bit : {M : Type 0} (before after : State) (old : UnitValue M) (last 
     → is_dead old.store.cached ≡ false → (length : ℕ) (taken : List ℕ) (enabled : Bool) → selected_by length taken old.write_cache ≡ Ok enabled
     → (done : Result (Unit {0}) Sense) (value : Unit {0}) → done ≡ Ok value
     → ((book : Book) → FitsBook before old.store.cached book → OnOk done (FitsBook after last.cached (durable_if (old.write_cache && not enabled) book)))
-    → MatchResult done (λ _. is_dead last.cached ≡ false) (λ sense. (sense ≡ WRITE_ERROR) × (is_dead last.cached ≡ true))
+    → MatchResult done (λ _. is_dead last.cached ≡ false) (λ sense. (sense ≡ write_error) × (is_dead last.cached ≡ true))
     → Performs before after (Ok (command.ModeSelect length)) taken old (Ok []) (record old { store = last; write_cache = enabled })
 selects_bit before after old last turn live length taken enabled chosen done value was promises answer =
-    let alive = MatchResult-at_ok (λ _. is_dead last.cached ≡ false) (λ (s : Sense). (s ≡ WRITE_ERROR) × (is_dead last.cached ≡ true)) value was answer in
+    let alive = MatchResult-at_ok (λ _. is_dead last.cached ≡ false) (λ (s : Sense). (s ≡ write_error) × (is_dead last.cached ≡ true)) value was answer in
     performs_by before after old last turn (record old { store = last; write_cache = enabled }) refl refl (Ok (command.ModeSelect length)) taken (Ok []) refl (λ book fits. (
       durable_if (old.write_cache && not enabled) book,
       inl (subst (λ (r : Result Bool Sense). IsByTable (selects r (state_of old book)) (Ok []) (settled (Ok []) (state_of (record old { store = last; write_cache = enabled }) (durable_if (old.write_cache && not enabled) book))))

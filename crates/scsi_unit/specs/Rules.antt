@@ -7,9 +7,8 @@ use Rattle.medium.specs.Blocks.{Write}
 use Rattle.blocks.specs.Book.{Book, array_of, blocks_at, promised, with_write, write_of, StampsOut}
 -- the sense with which a command fails, handed on to the layers above
 pub use Rattle.sense.specs.declared.codes.Sense.{Sense}
-use Rattle.sense.specs.declared.codes.TheConstants.Sense.{POWER_ON_OR_RESET_OCCURRED}
-use Rattle.sense.specs.declared.codes.TheConstants.Sense.{INTERNAL_TARGET_FAILURE}
-use Rattle.sense.specs.declared.codes.TheConstants.Sense.{UNRECOVERED_READ_ERROR, WRITE_ERROR}
+use Rattle.sense.specs.Codes.{power_on_or_reset_occurred, internal_target_failure}
+use Rattle.sense.specs.Codes.{unrecovered_read_error, write_error}
 use Rattle.sense.specs.Fixed.{fixed_sense}
 use Rattle.sense.specs.Waiting.{Waiting, after_failure, reported, after_report}
 use Rattle.cdb.specs.declared.command.Command.{Command}
@@ -74,7 +73,7 @@ needs_medium (command.ReadCapacity16 allocation) = true
 -- the last check: the unit is not faulted, or the command does not need the medium
 abbrev pub checked_for_fault : Bool → Result Command Sense → Result Command Sense
 checked_for_fault faulted (Ok command) =
-    if faulted && needs_medium command then Err INTERNAL_TARGET_FAILURE else Ok command
+    if faulted && needs_medium command then Err internal_target_failure else Ok command
 checked_for_fault faulted (Err sense) = Err sense
 
 -- The command of a command block, or the sense with which it is refused, by a unit with so many
@@ -82,7 +81,7 @@ checked_for_fault faulted (Err sense) = Err sense
 -- attention; what the table of commands says of the block; that the unit is not faulted.
 unfoldable pub command_by : ℕ → Bool → Bool → List ℕ → Result Command Sense
 command_by blocks attention faulted block =
-    if attention && not (passes_attention (byte_at 0 block)) then Err POWER_ON_OR_RESET_OCCURRED
+    if attention && not (passes_attention (byte_at 0 block)) then Err power_on_or_reset_occurred
     else checked_for_fault faulted (command_of blocks transfer_limit block)
 
 abbrev pub checked : UnitState → List ℕ → Result Command Sense
@@ -283,8 +282,8 @@ pub record IsReadError (refused reading : Bool) (old : UnitState) (answer : Resu
     (new : UnitState) : Type 0 where
   pub cause : refused ≡ true
   pub reads : reading ≡ true
-  pub answered : answer ≡ Err UNRECOVERED_READ_ERROR
-  pub after : new ≡ (fails UNRECOVERED_READ_ERROR old).after
+  pub answered : answer ≡ Err unrecovered_read_error
+  pub after : new ≡ (fails unrecovered_read_error old).after
 
 -- A command that writes, or makes writes durable, faults the unit: it fails, WCE and the promises
 -- stay, and its write is the last one accepted, or is not accepted.
@@ -292,11 +291,11 @@ pub record IsWriteError (refused writing : Bool) (write : Option Write) (old : U
     (answer : Result (List ℕ) Sense) (new : UnitState) : Type 0 where
   pub cause : MayFault refused (with_progress old.book write)
   pub writes : writing ≡ true
-  pub answered : answer ≡ Err WRITE_ERROR
+  pub answered : answer ≡ Err write_error
   pub book : Book
   pub accepted : (book ≡ old.book) ⊎ (book ≡ with_progress old.book write)
   pub after : new
-      ≡ record old { book = book; kept = after_failure WRITE_ERROR old.kept; faulted = true }
+      ≡ record old { book = book; kept = after_failure write_error old.kept; faulted = true }
 
 -- what comes of a command, or of its refusal, over the bytes taken for it
 abbrev pub IsOutcome : Bool → Result Command Sense → List ℕ → UnitState → Result (List ℕ) Sense

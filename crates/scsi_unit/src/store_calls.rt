@@ -5,6 +5,7 @@ ghost use Rattle.blocks.specs.Book.{Book, array_of, blocks_at, promised, write_o
 ghost use Rattle.blocks.specs.StoreValue.{blocks_of, is_dead, active_of, steps_left, FitsBook};
 ghost use Rattle.blocks.specs.StoreValue.{FitsBeside, TakesRange};
 ghost use Rattle.blocks.specs.Turns.{IsTurn, IsWriteTurn};
+ghost use Rattle.sense.specs.Codes.{unrecovered_read_error, write_error};
 ghost use Rattle.cdb.specs.Supported.{IsWithin};
 ghost use Rattle.scsi_unit.specs.Serving.{IsEmptied};
 
@@ -23,7 +24,7 @@ pub(crate) fn make_durable<M: Medium>(store: &mut Store<M>, wanted: bool) -> Res
         → OnOk result (FitsBook (M.state store.new.medium) store.new.cached
         (if wanted then promised book else book)) }
     ensures answer { MatchResult result (λ _. is_dead store.new.cached ≡ false)
-        (λ sense. (sense ≡ Sense.WRITE_ERROR) × (is_dead store.new.cached ≡ true)) }
+        (λ sense. (sense ≡ write_error) × (is_dead store.new.cached ≡ true)) }
     ensures unwanted { wanted ≡ false → (store.new ≡ store.old) × (is_ok result ≡ true) }
     ensures active { IsEmptied wanted (active_of store.old.cached) (active_of store.new.cached) }
     ensures follows { M.follows store.old.medium store.new.medium }
@@ -49,7 +50,7 @@ pub(crate) fn read_blocks<M: Medium>(
         → OnOk result (take (512 * transfer.count) out.new
         ≡ blocks_at (array_of book) transfer.address transfer.count) }
     ensures sent { IfOk result (λ sent. sent ≡ 512 * transfer.count) }
-    ensures err { IfErr result (λ sense. (sense ≡ Sense.UNRECOVERED_READ_ERROR)
+    ensures err { IfErr result (λ sense. (sense ≡ unrecovered_read_error)
         × ((M.state store.old.medium).failures < (M.state store.new.medium).failures)) }
     ensures stays { store.new.cached ≡ store.old.cached }
     ensures turn { IsTurn (M.state store.old.medium) (M.state store.new.medium)
@@ -77,7 +78,7 @@ pub(crate) fn write_blocks<M: Medium>(
         (is_ok result) (M.state store.old.medium) (M.state store.new.medium)
         store.old.cached store.new.cached }
     ensures answer { MatchResult result (λ _. is_dead store.new.cached ≡ false)
-        (λ sense. (sense ≡ Sense.WRITE_ERROR) × (is_dead store.new.cached ≡ true)) }
+        (λ sense. (sense ≡ write_error) × (is_dead store.new.cached ≡ true)) }
     ensures active { OnOk result (TakesRange (active_of store.old.cached)
         transfer.address transfer.count (active_of store.new.cached)) }
     ensures quiet { FitsBeside (active_of store.old.cached) transfer.address transfer.count
