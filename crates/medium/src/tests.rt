@@ -82,3 +82,15 @@ fn a_length_that_is_no_sectors_is_refused(rt: HostRuntime) -> Result<(), Fail> {
     assert_eq!(rt; zeros(rt, 3, 0)?.sectors(), 3);
     Ok(())
 }
+
+#[test]
+fn faults_and_errors_have_their_numbers(rt: HostRuntime) {
+    let faults = [
+        MediumFault::Read as u8,
+        MediumFault::Write as u8,
+        MediumFault::Flush as u8,
+    ];
+    assert_eq!(rt; faults, [1, 2, 3]);
+    let errors = [SimError::BadLength as u8, SimError::NoMemory as u8];
+    assert_eq!(rt; errors, [1, 2]);
+}

@@ -1,15 +1,18 @@
-// An image file from life to life, and files that refuse.
+// An image file from life to life, and files that refuse or give few bytes at a time.
 use super::*;
 use crate::medium::Medium;
+use std::alloc::Allocator;
 use std::fs::{File, Metadata};
 use std::test::Fail;
 use std::{env, process};
 
-// A file that refuses what it is told to.
+// A file of two sectors that refuses what it is told to. It has so many bytes to give, each a 7,
+// and gives no more than 100 at a time.
 #[derive(Drop)]
 struct Stubborn {
     writes: bool,
     syncs: bool,
+    left: usize,
 }
 
 fn answer(refused: bool) -> io::Result<()> {
@@ -20,8 +23,11 @@ fn answer(refused: bool) -> io::Result<()> {
 }
 
 impl Read for Stubborn {
-    fn read(&mut self, _buf: &mut [u8]) -> io::Result<usize> {
-        Ok(0)
+    fn read(&mut self, buf: &mut [u8]) -> io::Result<usize> {
+        let given = buf.len().min(self.left).min(100);
+        buf[..given].fill(7);
+        self.left -= given;
+        Ok(given)
     }
 }
 
@@ -57,6 +63,62 @@ impl OpenFile for Stubborn {
 
     fn sync_data(&self) -> io::Result<()> {
         answer(self.syncs)
+    }
+}
+
+// A file system in which each path is a file with so many bytes to give.
+#[derive(Drop)]
+struct Shelf {
+    left: usize,
+}
+
+impl Files for Shelf {
+    type File = Stubborn;
+
+    type Dir = Stubborn;
+
+    fn open_file(&self, _how: &OpenOptions, _path: &str) -> io::Result<Stubborn> {
+        Ok(Stubborn {
+            writes: false,
+            syncs: false,
+            left: self.left,
+        })
+    }
+
+    fn open_dir(&self, _path: &str) -> io::Result<Stubborn> {
+        Err(io::Error::from(io::ErrorKind::Unsupported))
+    }
+
+    fn metadata(&self, _path: &str) -> io::Result<Metadata> {
+        Ok(Metadata::of_file(1024))
+    }
+
+    fn symlink_metadata(&self, _path: &str) -> io::Result<Metadata> {
+        Ok(Metadata::of_file(1024))
+    }
+
+    fn copy(&self, _from: &str, _to: &str) -> io::Result<u64> {
+        Ok(0)
+    }
+
+    fn rename(&self, _from: &str, _to: &str) -> io::Result<()> {
+        Ok(())
+    }
+
+    fn remove_file(&self, _path: &str) -> io::Result<()> {
+        Ok(())
+    }
+
+    fn create_dir(&self, _path: &str) -> io::Result<()> {
+        Ok(())
+    }
+
+    fn remove_dir(&self, _path: &str) -> io::Result<()> {
+        Ok(())
+    }
+
+    fn remove_dir_all<B: Allocator>(&self, _alloc: B, _path: &str) -> io::Result<()> {
+        Ok(())
     }
 }
 
@@ -164,6 +226,7 @@ fn a_file_that_refuses_makes_refused_calls(rt: HostRuntime) -> Result<(), Fail> 
     let writes = Stubborn {
         writes: true,
         syncs: false,
+        left: 0,
     };
     let mut m = FileMedium::over(writes, vec![in rt.alloc(); 0u8; 1024]?);
     assert_eq!(rt; m.sectors(), 2);
@@ -174,6 +237,7 @@ fn a_file_that_refuses_makes_refused_calls(rt: HostRuntime) -> Result<(), Fail> 
     let syncs = Stubborn {
         writes: false,
         syncs: true,
+        left: 0,
     };
     let mut m = FileMedium::over(syncs, vec![in rt.alloc(); 0u8; 1024]?);
     assert_eq!(rt; m.sectors(), 2);
@@ -182,4 +246,37 @@ fn a_file_that_refuses_makes_refused_calls(rt: HostRuntime) -> Result<(), Fail> 
     assert_eq!(rt; m.read(1, &mut block), Ok(()));
     assert_eq!(rt; (block[0], block[511]), (7, 7));
     Ok(())
+}
+
+#[test]
+fn a_file_is_read_whole_where_it_gives_few_bytes_at_a_time(rt: HostRuntime) -> Result<(), Fail> {
+    let mut block = [9; 512];
+    let whole = (Shelf { left: 1024 }, rt.alloc());
+    let mut m = match FileMedium::open(&whole, "any") {
+        Err(FileError::NoMemory) => FileMedium::open(&whole, "any")?,
+        opened => opened?,
+    };
+    assert_eq!(rt; m.sectors(), 2);
+    assert_eq!(rt; m.read(0, &mut block), Ok(()));
+    assert_eq!(rt; block, [7; 512]);
+    assert_eq!(rt; m.read(1, &mut block), Ok(()));
+    assert_eq!(rt; block, [7; 512]);
+    let short = (Shelf { left: 1023 }, rt.alloc());
+    let refused = match FileMedium::open(&short, "any") {
+        Err(FileError::NoMemory) => FileMedium::open(&short, "any"),
+        opened => opened,
+    };
+    assert_eq!(rt; refused.err(), Some(FileError::File), "a byte is missing");
+    Ok(())
+}
+
+#[test]
+fn errors_of_a_file_have_their_numbers(rt: HostRuntime) {
+    let numbers = [
+        FileError::File as u8,
+        FileError::BadLength as u8,
+        FileError::TooLong as u8,
+        FileError::NoMemory as u8,
+    ];
+    assert_eq!(rt; numbers, [1, 2, 3, 4]);
 }
