@@ -6,3 +6,4 @@ pub mod Recovering
 pub mod Causes
 pub mod Zeros
 pub mod Sparing
+pub mod Making

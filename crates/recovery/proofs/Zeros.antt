@@ -32,7 +32,7 @@ no_commit stamp count bytes zeros c =
     omega (arith, at, is, least)
 
 -- the image is ours
-zeros_ours : (size : ℕ) (shape : Shape) (image : Image) → sectors_of shape ≤ size → IsSuper shape (image 0) → IsHead 1 (image 1)
+pub zeros_ours : (size : ℕ) (shape : Shape) (image : Image) → sectors_of shape ≤ size → IsSuper shape (image 0) → IsHead 1 (image 1)
     → ((x : ℕ) → 2 ≤ x → x < sectors_of shape → image x ≡ replicate 512 0) → IsOurs size shape image (λ b. replicate 512 0) 2
 zeros_ours size shape image fits super head zeros = record {
   stands = record {

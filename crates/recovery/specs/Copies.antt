@@ -1,6 +1,6 @@
--- The sectors that recovery writes.
-use Rattle.std.specs.Prelude.{◌≡◌, ◌≢◌, ◌⊎◌, ℕ, ◌+◌, ◌*◌, ◌<◌, List, [], ◌∷◌, length, slice_index}
-use Rattle.medium.specs.Medium.{Image, Sets}
+-- The sectors that are written, and what a cut leaves of them.
+use Rattle.std.specs.Prelude.{◌≡◌, ◌≢◌, ◌⊎◌, ℕ, ◌+◌, ◌*◌, ◌<◌, ◌≤◌, List, [], ◌∷◌, length, slice_index}
+use Rattle.medium.specs.Medium.{Image, Sets, CutLeaves, Holds}
 use Rattle.log_layout.specs.Places.{Shape, first_home}
 use Rattle.log_layout.specs.Sectors.{IsHead}
 use Rattle.log_layout.specs.Record.{Entry, numbers_of, IsWhole}
@@ -8,6 +8,15 @@ use Rattle.log_layout.specs.Record.{Entry, numbers_of, IsWhole}
 -- what a cut may leave, and in these sectors anything
 abbrev pub freed_at : (ℕ → Type 0) → Sets → Sets
 freed_at places sets s c = sets s c ⊎ places s
+
+-- an image that these sets allow, with these bytes written to that sector or not
+abbrev pub WithOrWithout : ℕ → List ℕ → Sets → Image → Type 0
+WithOrWithout s bytes sets image =
+    CutLeaves sets image ⊎ ((before : Image) × CutLeaves sets before × Holds s bytes before image)
+
+-- the sector lies from the first on, before the end
+abbrev pub IsBetween : ℕ → ℕ → ℕ → Type 0
+IsBetween first end x = (first ≤ x) × (x < end)
 
 -- one of these blocks is at home in the sector
 abbrev pub IsHomeOf : Shape → List ℕ → ℕ → Type 0

@@ -1,7 +1,7 @@
 -- What a format makes.
-use Rattle.std.specs.Prelude.{◌≡◌, ℕ, ◌≤◌, ◌<◌, ◌^◌, replicate}
-use Rattle.medium.specs.Medium.{State}
-use Rattle.medium.specs.Moments.{IsFlushed}
+use Rattle.std.specs.Prelude.{◌≡◌, ◌⊎◌, ℕ, ◌+◌, ◌≤◌, ◌<◌, ◌^◌, replicate}
+use Rattle.medium.specs.Medium.{State, Image, CutLeaves}
+use Rattle.medium.specs.Moments.{IsFlushed, LeavesOnly, SparesFrom}
 pub use Rattle.log_layout.specs.Places.{Shape, sectors_of}
 use Rattle.log_layout.specs.Sectors.{IsSuper, IsHead}
 use Rattle.log_layout.specs.Standing.{IsOurs}
@@ -24,6 +24,23 @@ pub record IsFormatted (shape : Shape) (m : State) : Type 0 where
   pub head : IsHead 1 (m.content 1)
   pub zeros : (x : ℕ) → 2 ≤ x → x < sectors_of shape → m.content x ≡ replicate 512 0
   pub ours : IsOurs m.size shape m.content (λ b. replicate 512 0) 2
+
+-- the image has zeros in place of a super, or it is ours, for blocks of zeros
+abbrev pub IsNoneOrNew : ℕ → Shape → Image → Type 0
+IsNoneOrNew size shape image =
+    (image 0 ≡ replicate 512 0) ⊎ IsOurs size shape image (λ b. replicate 512 0) 2
+
+-- in the middle of a format the image is one that was allowed before, none, or the new one
+abbrev pub IsMidFormat : Shape → State → Image → Type 0
+IsMidFormat shape old image = CutLeaves old.may_leave image ⊎ IsNoneOrNew old.size shape image
+
+-- What a format leaves at each moment of it, good or refused.
+pub record FormatLeaves (shape : Shape) (old new : State) : Type 0 where
+  pub cuts : LeavesOnly (IsMidFormat shape old) old new
+  -- from its first good flush on, the second call, no old image is left; a third call follows a good one only
+  pub after_flush : old.calls + 3 ≤ new.calls → (image : Image) → new.left_since (old.calls + 2) image
+      → IsNoneOrNew old.size shape image
+  pub spares : SparesFrom (sectors_of shape) old new
 
 -- why a format is refused: by the sizes, or, where they are good, by the medium
 abbrev pub IsFormatCause : Shape → State → State → FormatFault → Type 0

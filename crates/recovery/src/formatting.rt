@@ -1,10 +1,11 @@
 //! The making of an image.
-ghost use Rattle.std.specs.Prelude.{◌≡◌, ◌<◌, ◌≤◌, ◌+◌, ◌-◌, ◌*◌, ℕ, OnOk, OnErr, IfErr, MatchOption, replicate};
+ghost use Rattle.std.specs.Prelude.{◌≡◌, ◌≢◌, ◌<◌, ◌≤◌, ◌+◌, ◌-◌, ◌*◌, ℕ, OnOk, OnErr, IfErr, MatchOption, replicate};
 ghost use Rattle.medium.specs.Medium.{Holds};
-ghost use Rattle.medium.specs.Moments.{IsFlushed};
+ghost use Rattle.medium.specs.Moments.{IsFlushed, LeavesOnly, StaysWithin};
 ghost use Rattle.log_layout.specs.Places.{Shape, sectors_of};
 ghost use Rattle.log_layout.specs.Values.{shape_of};
-ghost use Rattle.recovery.specs.Formatted.{AreSizes, IsFormatted, IsFormatCause};
+ghost use Rattle.recovery.specs.Copies.{freed_at, WithOrWithout, IsBetween};
+ghost use Rattle.recovery.specs.Formatted.{AreSizes, IsFormatted, FormatLeaves, IsFormatCause};
 
 use crate::FormatFault;
 use log_layout::{Head, Super};
@@ -33,6 +34,10 @@ fn clear<M: Medium>(m: &mut M, from: u64, end: u64) -> Result<(), MediumFault>
     requires some { from ≤ end }
     ensures zeros { OnOk result ((x : ℕ) → from ≤ x → x < end
         → (M.state m.new).content x ≡ replicate 512 0) }
+    ensures elsewhere { (x : ℕ) → ¬ IsBetween from end x
+        → (M.state m.new).content x ≡ (M.state m.old).content x }
+    ensures within { StaysWithin (freed_at (IsBetween from end) (M.state m.old).may_leave)
+        (M.state m.old) (M.state m.new) }
     ensures size { (M.state m.new).size ≡ (M.state m.old).size }
     ensures calls { OnOk result ((M.state m.new).calls ≡ (M.state m.old).calls + (end - from)) }
     ensures failures { (M.state m.old).failures ≤ (M.state m.new).failures }
@@ -51,8 +56,13 @@ fn write_through<M: Medium>(m: &mut M, place: u64, sector: &[u8; 512]) -> Result
     ensures done { OnOk result
         (Holds place sector.now (M.state m.old).content (M.state m.new).content
         × IsFlushed (M.state m.new)) }
+    ensures elsewhere { (x : ℕ) → x ≢ place
+        → (M.state m.new).content x ≡ (M.state m.old).content x }
+    ensures moments { LeavesOnly (WithOrWithout place sector.now (M.state m.old).may_leave)
+        (M.state m.old) (M.state m.new) }
     ensures size { (M.state m.new).size ≡ (M.state m.old).size }
     ensures calls { OnOk result ((M.state m.new).calls ≡ (M.state m.old).calls + 2) }
+    ensures most { (M.state m.new).calls ≤ (M.state m.old).calls + 2 }
     ensures failures { (M.state m.old).failures ≤ (M.state m.new).failures }
     ensures cause { OnErr result ((M.state m.old).failures < (M.state m.new).failures) }
     ensures follows { M.follows m.old m.new }
@@ -61,11 +71,12 @@ fn write_through<M: Medium>(m: &mut M, place: u64, sector: &[u8; 512]) -> Result
     m.flush()
 }
 
-// Writes an image of these sizes. The super goes first and comes last, so that a format that was cut
-// leaves no image.
+// Writes an image of these sizes. The super goes first and comes last, so that a format that is cut
+// in between leaves no image.
 fn write_image<M: Medium>(m: &mut M, sizes: &Super) -> Result<(), MediumFault>
     requires { sectors_of (shape_of sizes.now) ≤ (M.state m.old).size }
     ensures done { OnOk result (IsFormatted (shape_of sizes.now) (M.state m.new)) }
+    ensures leaves { FormatLeaves (shape_of sizes.now) (M.state m.old) (M.state m.new) }
     ensures size { (M.state m.new).size ≡ (M.state m.old).size }
     ensures calls { OnOk result ((M.state m.new).calls
         ≡ (M.state m.old).calls + sectors_of (shape_of sizes.now) + 5) }
@@ -80,14 +91,16 @@ fn write_image<M: Medium>(m: &mut M, sizes: &Super) -> Result<(), MediumFault>
 
 /// Makes an image of so many blocks of zeros, 1 to 2^31, with so many log slots, 1 to 64.
 ///
-/// It takes `2 + 50 * slots + blocks` sectors. Where it does not answer `Ok`, it promises nothing of
-/// what the medium then holds.
+/// It takes `2 + 50 * slots + blocks` sectors. Until its first good flush a cut may leave what it could
+/// leave before, from then on no super, and in the end the new image.
 pub fn format<M: Medium>(m: &mut M, blocks: u64, slots: u64) -> Result<(), FormatFault>
     ensures ok { let shape : Shape = record { blocks = blocks; slots = slots } in
         OnOk result (IsFormatted shape (M.state m.new)) }
     ensures err { let shape : Shape = record { blocks = blocks; slots = slots } in
         IfErr result (IsFormatCause shape (M.state m.old) (M.state m.new)) }
     ensures untouched { IfErr result (λ fault. fault ≡ FormatFault.BadSize → m.new ≡ m.old) }
+    ensures leaves { let shape : Shape = record { blocks = blocks; slots = slots } in
+        FormatLeaves shape (M.state m.old) (M.state m.new) }
     ensures size { (M.state m.new).size ≡ (M.state m.old).size }
     ensures calls { OnOk result ((M.state m.new).calls
         ≡ (M.state m.old).calls + 7 + 50 * slots + blocks) }
