@@ -1,7 +1,7 @@
 //! Images of 16 blocks and 2 slots: 118 sectors, of which the first block is at home in sector 102.
 use super::*;
 use log_layout::Super;
-use medium::{Kept, SimMedium, Switch};
+use medium::{Kept, Medium, SimMedium, Switch};
 use std::alloc::AllocError;
 use std::test::Fail;
 
@@ -79,6 +79,48 @@ fn a_format_of_bad_sizes_writes_nothing(rt: HostRuntime) -> Result<(), Fail> {
         assert_eq!(rt; format(&mut m, blocks, slots), Err(FormatFault::BadSize));
     }
     assert_eq!(rt; (m.unflushed(), m.flushes()), (0, 3));
+    Ok(())
+}
+
+// An image of 2 blocks and 1 slot, whose last block begins with a byte that is not zero, and one
+// sector of bytes a5 behind it.
+fn used(rt: HostRuntime) -> Result<SimMedium, Fail> {
+    let image = vec![in rt.alloc(); 0xa5u8; 55 * 512]?;
+    let mut m = SimMedium::new(rt.alloc(), image, 64).map_err(|_| AllocError)?;
+    format(&mut m, 2, 1).map_err(|_| "no image")?;
+    let mut block = [0; 512];
+    block[0] = 0x22;
+    m.write(53, &block).map_err(|_| "no block")?;
+    m.flush().map_err(|_| "no flush")?;
+    Ok(m)
+}
+
+// Each of the 59 calls of such a format is the one at which the power goes. The old image is there up
+// to the first flush, the new one from the last write on, and none in between.
+#[test]
+fn a_format_that_is_cut_leaves_the_old_image_or_none_or_the_new_one(
+    rt: HostRuntime,
+) -> Result<(), Fail> {
+    for fuse in 0..59 {
+        for (kept, all) in [(Kept::None, false), (Kept::All, true)] {
+            let mut m = used(rt)?;
+            m.fuse(fuse);
+            assert_eq!(rt; format(&mut m, 2, 1), Err(FormatFault::Medium));
+            m.cut(&kept);
+            let old = fuse == 0 || fuse == 1 && !all;
+            let new = fuse == 58 && all;
+            let found = recover(&mut m).map(|recovered| recovered.next);
+            let expected = if old || new {
+                Ok(2)
+            } else {
+                Err(StartFault::BadSuper)
+            };
+            assert_eq!(rt; found, expected);
+            let block = if old { 0x22 } else { 0 };
+            assert!(rt; byte_of(&m, 53, 0) == Some(block) || found.is_err());
+            assert_eq!(rt; byte_of(&m, 54, 0), Some(0xa5));
+        }
+    }
     Ok(())
 }
 
@@ -182,5 +224,24 @@ fn the_last_stamp_is_answered_once(rt: HostRuntime) -> Result<(), Fail> {
     assert_eq!(rt; recover(&mut m), with_next((1 << 63) - 1));
     assert_eq!(rt; recover(&mut m), Err(StartFault::StampsUsedUp));
     assert_eq!(rt; m.unflushed(), 0);
+    Ok(())
+}
+
+#[test]
+fn each_fault_has_its_number(rt: HostRuntime) -> Result<(), Fail> {
+    let formats = [FormatFault::BadSize as u8, FormatFault::Medium as u8];
+    assert_eq!(rt; formats, [1, 2]);
+    let starts = [
+        StartFault::NoMemory as u8,
+        StartFault::Read as u8,
+        StartFault::Write as u8,
+        StartFault::Flush as u8,
+        StartFault::BadSuper as u8,
+        StartFault::BadVersion as u8,
+        StartFault::BadSize as u8,
+        StartFault::BadHead as u8,
+        StartFault::StampsUsedUp as u8,
+    ];
+    assert_eq!(rt; starts, [1, 2, 3, 4, 5, 6, 7, 8, 9]);
     Ok(())
 }
