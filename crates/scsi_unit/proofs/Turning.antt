@@ -2,6 +2,7 @@
 use Rattle.std.proofs.Common.{◌≡◌, ◌⊎◌, ◌<◌, ◌≤◌, ◌+◌, [], inl, inr, ⊎_elim, ℕ, Bool, true, false, arith, refl, ap, subst}
 use Rattle.std.proofs.lemmas.Bool.Decides.{nat_tests}
 use Rattle.medium.specs.Medium.{State}
+use Rattle.blocks.specs.Background.{IsBackgroundStep}
 use Rattle.blocks.specs.Book.{Book}
 use Rattle.blocks.specs.StoreValue.{Cached, StoreValue, FitsBook, blocks_of, is_dead, active_of, steps_left}
 use Rattle.blocks.specs.Turns.{GoesOn, HasCause, IsTurn}
@@ -44,11 +45,13 @@ ticks_line before after old store book on fits =
 
 -- a unit over a store that made a step in the background
 pub ticks_over : {M : Type 0} (before after : State) (old : UnitValue M) (store : StoreValue M)
-    → IsTurn before after old.store.cached store.cached → after.calls ≤ before.calls + 2
+    → IsTurn before after old.store.cached store.cached → IsBackgroundStep before after old.store.cached store.cached
+    → after.calls ≤ before.calls + 2
     → (is_dead store.cached ≡ false → (steps_left store.cached < steps_left old.store.cached) ⊎ (steps_left old.store.cached ≡ 0))
     → (active_of store.cached ≡ active_of old.store.cached) ⊎ (active_of store.cached ≡ [])
     → TicksOver before after old (record old { store = store })
-ticks_over before after old store turn few left active = record {
+ticks_over before after old store turn step few left active = record {
+  step = step;
   line = λ book fits. (ticks_line before after old store book turn.goes_on fits, turn.fits book fits);
   cuts = turn.cuts;
   failures_stay = turn.goes_on.failures_stay;

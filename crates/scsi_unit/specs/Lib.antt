@@ -1,4 +1,5 @@
 pub mod Books
+pub mod Background
 pub mod Identification
 pub mod StartFaults
 pub mod Capacity

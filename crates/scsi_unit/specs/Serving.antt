@@ -3,6 +3,7 @@ use Rattle.std.specs.Prelude.{◌≡◌, ◌⊎◌, ℕ, ◌<◌, ◌≤◌, ◌
 use Rattle.std.specs.Prelude.{List, [], Option, Some, None, Result, Ok, Err, is_ok, if◌then◌else◌}
 use Rattle.medium.specs.Medium.{State}
 use Rattle.medium.specs.Moments.{LeavesOnly}
+use Rattle.blocks.specs.Background.{IsBackgroundStep}
 use Rattle.blocks.specs.Book.{Book}
 use Rattle.blocks.specs.Finding.{MayFind, FoundWith}
 use Rattle.blocks.specs.StoreValue.{blocks_of, is_dead, active_of, steps_left}
@@ -109,6 +110,8 @@ pub record IsSparing {M : Type 0} (block taken : List ℕ) (old : UnitValue M)
 
 -- A step in the background was made by a unit over its medium.
 pub record TicksOver {M : Type 0} (before after : State) (old new : UnitValue M) : Type 0 where
+  -- exactly one step of the store, by the order of its work
+  pub step : IsBackgroundStep before after old.store.cached new.store.cached
   pub line : (book : Book) → FitsUnit before old book
       → Ticks (has_refused before after) (state_of old book) (state_of new book)
       × FitsUnit after new book

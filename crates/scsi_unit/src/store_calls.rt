@@ -1,6 +1,7 @@
 // The calls of the store that the unit makes.
 ghost use Rattle.std.specs.Prelude.{◌≡◌, ◌⊎◌, ◌≤◌, ◌<◌, ◌+◌, ◌*◌, ℕ, true, false, [], length, take};
 ghost use Rattle.std.specs.Prelude.{IfOk, OnOk, IfErr, MatchResult, is_ok, if◌then◌else◌};
+ghost use Rattle.blocks.specs.Background.{IsBackgroundStep};
 ghost use Rattle.blocks.specs.Book.{Book, array_of, blocks_at, promised, write_of};
 ghost use Rattle.blocks.specs.StoreValue.{blocks_of, is_dead, active_of, steps_left, FitsBook};
 ghost use Rattle.blocks.specs.StoreValue.{FitsBeside, TakesRange};
@@ -94,6 +95,8 @@ pub(crate) fn write_blocks<M: Medium>(
 // Makes a step in the background.
 pub(crate) fn step<M: Medium>(store: &mut Store<M>)
     ensures turn { IsTurn (M.state store.old.medium) (M.state store.new.medium)
+        store.old.cached store.new.cached }
+    ensures order { IsBackgroundStep (M.state store.old.medium) (M.state store.new.medium)
         store.old.cached store.new.cached }
     ensures calls { (M.state store.new.medium).calls ≤ (M.state store.old.medium).calls + 2 }
     ensures left { is_dead store.new.cached ≡ false
