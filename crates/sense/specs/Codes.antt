@@ -57,7 +57,7 @@ pub record AreAsNamed : Type 0 where
   pub failure : constant.INTERNAL_TARGET_FAILURE ≡ internal_target_failure
   pub list_length : constant.PARAMETER_LIST_LENGTH_ERROR ≡ parameter_list_length_error
   pub operation_code : constant.INVALID_COMMAND_OPERATION_CODE ≡ invalid_command_operation_code
-  pub block_address : constant.LOGICAL_BLOCK_ADDRESS_OUT_OF_RANGE ≡ logical_block_address_out_of_range
+  pub address : constant.LOGICAL_BLOCK_ADDRESS_OUT_OF_RANGE ≡ logical_block_address_out_of_range
   pub command_field : constant.INVALID_FIELD_IN_CDB ≡ invalid_field_in_cdb
   pub list_field : constant.INVALID_FIELD_IN_PARAMETER_LIST ≡ invalid_field_in_parameter_list
   pub saving : constant.SAVING_PARAMETERS_NOT_SUPPORTED ≡ saving_parameters_not_supported
