@@ -4,6 +4,7 @@ pub mod Flushed
 pub mod ImageFile
 pub mod Keeping
 pub mod Moments
+pub mod Remembering
 pub mod Rows
 pub mod Sparing
 pub mod Walks

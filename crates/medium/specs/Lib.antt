@@ -1,4 +1,6 @@
 pub mod Blocks
+pub mod History
+pub mod HistoryLaws
 pub mod ImageFile
 pub mod ImageFileLaws
 pub mod ImageFileView

@@ -21,4 +21,6 @@ pub use sim::{SimError, SimMedium};
 pub use switch::Switch;
 
 #[cfg(test)]
+mod history;
+#[cfg(test)]
 mod tests;

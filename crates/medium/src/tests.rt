@@ -7,7 +7,7 @@ use std::alloc::AllocError;
 use std::test::Fail;
 
 // Sectors of zeros.
-fn zeros(rt: HostRuntime, sectors: usize, room: usize) -> Result<SimMedium, AllocError>
+pub(crate) fn zeros(rt: HostRuntime, sectors: usize, room: usize) -> Result<SimMedium, AllocError>
     requires { sectors ≤ 8 }
     ensures { IfOk result (λ m. (state_of m).size ≡ sectors) }
 {

@@ -1,0 +1,43 @@
+// A sector there and back, and what a cut between could have left.
+ghost use Rattle.std.specs.Prelude.{◌≡◌, ◌<◌, OnOk};
+ghost use Rattle.medium.specs.History.{state_of};
+ghost use Rattle.medium.specs.Medium.{Image, CutLeaves, Holds, Only};
+ghost use Rattle.medium.specs.Moments.{SparesFrom};
+
+use super::*;
+use crate::tests::zeros;
+use std::test::Fail;
+
+// Writes the first sector and makes it durable.
+fn put<M: Medium>(m: &mut M, block: &[u8; 512]) -> Result<(), MediumFault>
+    requires { 0 < (M.state m.old).size }
+    ensures content { OnOk result (Holds 0 block.now (M.state m.old).content (M.state m.new).content) }
+    ensures only { OnOk result (Only (M.state m.new).content (M.state m.new).may_leave) }
+    ensures spares { SparesFrom 1 (M.state m.old) (M.state m.new) }
+    ensures size { (M.state m.new).size ≡ (M.state m.old).size }
+    ensures follows { M.follows m.old m.new }
+{
+    m.write(0, block)?;
+    m.flush()
+}
+
+// At the end a cut leaves what was put last. It could have left what was put first.
+fn put_twice(m: &mut Remembering, first: &[u8; 512], last: &[u8; 512]) -> Result<(), MediumFault>
+    requires { 0 < (state_of m.old).size }
+    ensures spares { SparesFrom 1 (state_of m.old) (state_of m.new) }
+    ensures last { OnOk result ((image : Image) → CutLeaves (state_of m.new).may_leave image
+        → image 0 ≡ last.now) }
+    ensures first { OnOk result ((image : Image) → Holds 0 first.now (state_of m.old).content image
+        → (state_of m.new).left_since (state_of m.old).calls image) }
+{
+    put(m, first)?;
+    put(m, last)
+}
+
+#[test]
+fn a_moment_between_is_remembered(rt: HostRuntime) -> Result<(), Fail> {
+    let mut m = Remembering::new(zeros(rt, 2, 4)?);
+    assert_eq!(rt; m.sectors(), 2);
+    assert_eq!(rt; put_twice(&mut m, &[1; 512], &[0; 512]), Ok(()));
+    Ok(())
+}
