@@ -155,3 +155,14 @@ fn values_are_read_back(rt: HostRuntime) -> Result<(), Fail> {
     assert!(rt; read_back_descriptor(&record).is_some());
     Ok(())
 }
+
+#[test]
+fn faults_of_a_super_have_their_numbers(rt: HostRuntime) {
+    let numbers = [
+        SuperFault::Magic as u8,
+        SuperFault::Version as u8,
+        SuperFault::Rest as u8,
+        SuperFault::Sizes as u8,
+    ];
+    assert_eq!(rt; numbers, [1, 2, 3, 4]);
+}
