@@ -16,7 +16,12 @@ LeftEarlier t [] image = ⊥
 LeftEarlier t (m ∷ before) image =
     ((t ≤ length before) × CutLeaves (sets_of m) image) ⊎ LeftEarlier t before image
 
--- an image is left since t where a cut now may leave it, or one at an earlier moment from t on could
+-- the medium had P at each of these moments from t on
+abbrev pub EachMoment : (Sim → Type 0) → ℕ → List Sim → Type 0
+EachMoment P t [] = Unit {0}
+EachMoment P t (m ∷ before) = (t ≤ length before → P m) × EachMoment P t before
+
+-- an image is left since t where a cut now may leave it, or a cut at an earlier moment could
 abbrev pub state_of : Remembered → State
 state_of m = record (sim.state_of m.now) {
   left_since = λ t image. CutLeaves (sets_of m.now) image ⊎ LeftEarlier t m.earlier image;

@@ -1,6 +1,5 @@
 // A medium for tests that remembers, for proofs alone, what it was at each moment.
 ghost use Rattle.std.specs.Prelude.{◌≡◌, []};
-ghost use Rattle.medium.specs.History as history;
 
 use crate::fault::MediumFault;
 use crate::medium::Medium;
