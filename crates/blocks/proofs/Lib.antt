@@ -6,3 +6,4 @@ pub mod Paying
 pub mod Opening
 pub mod Starting
 pub mod Reading
+pub mod Settling

@@ -6,3 +6,4 @@ pub mod Turns
 pub mod Started
 pub mod Kept
 pub mod Background
+pub mod Settled

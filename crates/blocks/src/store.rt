@@ -1,9 +1,10 @@
 // What a store is made of.
-ghost use Rattle.std.specs.Prelude.{◌≡◌, ◌<◌, ◌≤◌, ℕ, true, false};
+ghost use Rattle.std.specs.Prelude.{◌≡◌, ◌↔◌, ◌<◌, ◌≤◌, ℕ, true, false, IsTrue};
 ghost use Rattle.medium.specs.Moments.{EachCut, IsUnchanged};
-ghost use Rattle.blocks.specs.Book.{Book, promised};
+ghost use Rattle.blocks.specs.Book.{Book};
 ghost use Rattle.blocks.specs.Finding.{MayFind};
 ghost use Rattle.blocks.specs.StoreValue.{blocks_of, is_dead, steps_left, HasLimits, FitsBook};
+ghost use Rattle.blocks.specs.Settled.{IsSettled};
 ghost use Rattle.blocks.specs.Turns.{IsTurn};
 
 use cache::Batch;
@@ -29,6 +30,8 @@ pub struct Store<M: Medium> {
     pub(crate) frozen: Batch,
     // Whether the record of the frozen batch is under way.
     pub(crate) writing: bool,
+    // How many steps it takes to retire the log's records, as long as the store is live.
+    pub(crate) owed: u64,
 }
 
 impl<M: Medium> Model for Store<M> {
@@ -44,7 +47,7 @@ impl<M: Medium> Model for Store<M> {
     } };
 
     ghost invariant = { λ s. IsKept (M.state s.medium).size s.sizes
-        (record { log = s.log; active = s.active; frozen = s.frozen }) s.writing };
+        (record { log = s.log; active = s.active; frozen = s.frozen }) s.writing s.owed };
 }
 
 impl<M: Medium> Store<M> {
@@ -65,20 +68,34 @@ impl<M: Medium> Store<M> {
         self.log.is_dead()
     }
 
+    /// Whether no background step is left: each accepted write is durable and at home then, and no
+    /// record waits. Of a dead store it is not told.
+    pub fn is_settled(&self) -> bool
+        ensures steps { IsTrue result
+            ↔ ((is_dead self.now.cached ≡ false) × (steps_left self.now.cached ≡ 0)) }
+        ensures settled { result ≡ true → IsSettled (M.state self.now.medium) self.now.cached }
+    {
+        if self.is_dead() || self.writing || self.owed > 0 || !self.log.has_room() {
+            return false;
+        }
+        self.frozen.is_empty() && self.active.is_empty()
+    }
+
     /// The medium that the store stands on.
     ///
     /// Between two calls a cut leaves what may be found of each book that the store fits. Where no
-    /// background step is left, each write of it is promised.
+    /// background step is left, each write of it is durable and at home, and no record waits.
     pub fn medium(&self) -> &M
         ensures is { result.now ≡ self.now.medium }
         ensures limits { HasLimits self.now.cached }
         ensures at_rest { (book : Book) → FitsBook (M.state self.now.medium) self.now.cached book
             → book.ours ≡ true
             → EachCut (MayFind (M.state self.now.medium).size book) (M.state self.now.medium) }
-        ensures settled { (book : Book) → FitsBook (M.state self.now.medium) self.now.cached book
-            → is_dead self.now.cached ≡ false → steps_left self.now.cached ≡ 0
-            → FitsBook (M.state self.now.medium) self.now.cached (promised book) }
+        ensures settled { is_dead self.now.cached ≡ false → steps_left self.now.cached ≡ 0
+            → IsSettled (M.state self.now.medium) self.now.cached }
     {
+        // The log says here that it owes steps for each record that waits.
+        let _ = self.log.has_room();
         &self.medium
     }
 

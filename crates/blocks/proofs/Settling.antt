@@ -1,0 +1,109 @@
+-- A store at rest has everything at home.
+use Rattle.std.proofs.Common.{◌≡◌, ◌<◌, ◌≤◌, ℕ, ◌+◌, ◌-◌, ◌∙◌, sym, ap, refl, inl, inr, arith, ⊎_elim, Bool, true, false, List, [], ◌∷◌, length}
+use Rattle.std.proofs.lemmas.Bool.{cases_lt}
+use Rattle.std.proofs.lemmas.List.{length-map}
+use Rattle.medium.specs.Medium.{State, Image}
+use Rattle.medium.specs.Moments.{EachCut}
+use Rattle.medium.specs.Blocks.{Array}
+use Rattle.log_layout.specs.Record.{Entry, numbers_of, with_records, home_of}
+use Rattle.redo_log.specs.Value.{LogValue, HasRoom, Owes, IsRetireStepped, behind_oldest, retire_steps_of}
+use Rattle.redo_log.specs.Logged.{Logged}
+use Rattle.redo_log.proofs.Handing.{home_is}
+use Rattle.cache.specs.Blocks.{over}
+use Rattle.cache.specs.Entries.{map_of}
+use Rattle.blocks.specs.Book.{Book, array_of}
+use Rattle.blocks.specs.StoreValue.{Cached, layout_of, is_dead, wants, steps_left, FitsBook}
+use Rattle.blocks.specs.Settled.{IsAtHome, IsSettled}
+use Rattle.blocks.proofs.Fitting.{over_none, wants_none}
+use Rattle.blocks.proofs.Stepping.{waiting_idle, nothing_left, settles_all}
+
+-- a list without elements is empty
+pub none_of : {A : Type 0} (l : List A) → length l ≤ 0 → l ≡ []
+none_of [] few = refl
+none_of (x ∷ l) few = absurd (omega (arith, few))
+
+-- without records the blocks are at home
+home_alone : (records : List (List Entry)) (a : Array) (b : ℕ) → records ≡ [] → with_records records a b ≡ a b
+home_alone [] a b e = refl
+home_alone (r ∷ records) a b e = absurd (cc e)
+
+module _ (m : State) (s : Cached) (live : is_dead s ≡ false) (none : steps_left s ≡ 0) (empty : s.log.waiting ≡ []) where
+  -- the array of the log is that of the book
+  durable : (book : Book) (f : FitsBook m s book) (b : ℕ) → b < book.blocks → f.view.array b ≡ array_of book b
+  durable book f b below =
+      let batches = nothing_left s none in
+      sym (over_none s.active.numbers s.active.bytes batches.1 (over (map_of s.frozen) f.view.array) b ∙ over_none s.frozen.numbers s.frozen.bytes batches.0 f.view.array b) ∙ f.now b below
+
+  no_records : (book : Book) (f : FitsBook m s book) → f.view.records ≡ []
+  no_records book f =
+      let g : List Entry → List ℕ = λ r. numbers_of r in
+      none_of f.view.records (omega (arith, length-map f.view.records g, ap (λ (l : List (List ℕ)). length l) f.holds.durable, ap (λ (l : List (List ℕ)). length l) empty))
+
+  at_home : (book : Book) → FitsBook m s book → IsAtHome (layout_of s) book m.content
+  at_home book f b below =
+      home_is s.log m f.view f.holds live b (omega (arith, below, f.blocks)) (λ age waits. absurd (omega (arith, waits, ap (λ (l : List (List ℕ)). length l) empty)))
+      ∙ durable book f b below
+
+  left_home : (book : Book) (f : FitsBook m s book) (b : ℕ) → b < book.blocks → (image : Image) → Logged s.log.shape s.log.head f.view.records f.view.array image
+      → home_of s.log.shape image b ≡ array_of book b
+  left_home book f b below image logged =
+      sym (home_alone f.view.records (home_of s.log.shape image) b (no_records book f))
+      ∙ (logged.keeps.blocks b (omega (arith, below, f.blocks)) ∙ durable book f b below)
+
+  cut_home : (book : Book) → FitsBook m s book → book.ours ≡ true → EachCut (IsAtHome (layout_of s) book) m
+  cut_home book f ours image cut b below = ⊎_elim
+      (λ rest. left_home book f b below image rest)
+      (λ more. absurd (omega (arith, more.0, none)))
+      ((f.holds.guards live (f.ours ∙ ours)).each image cut)
+
+  -- a store without steps whose log has no record is at rest
+  pub at_rest : s.log.under_way ≡ [] → IsSettled m s
+  at_rest under_way = record {
+    none_waits = empty;
+    none_under_way = under_way;
+    active = (nothing_left s none).1;
+    frozen = (nothing_left s none).0;
+    durable = λ book f. settles_all m s book none f;
+    home = at_home;
+    cuts = cut_home;
+  }
+
+-- a store without steps is at rest: its log owes none, and so no record waits
+pub settled : (m : State) (s : Cached) (room : Bool) → (room ≡ true → HasRoom s.log) → (s.log.steps_left + s.log.retire_steps_left ≡ 0 → room ≡ true) → Owes s.log
+    → is_dead s ≡ false → steps_left s ≡ 0 → IsSettled m s
+settled m s room has always owes live none =
+    let free = has (always (omega (arith, none))) in
+    at_rest m s live none
+    (none_of s.log.waiting (elim (cases_lt 0 (length s.log.waiting)) [
+      | inl some ↦ absurd (omega (arith, owes.some_wait some, none))
+      | inr few ↦ few
+    ]))
+    free.none_under_way
+
+-- no step is left where no record is under way, none is owed, and both batches are empty
+pub none_left : (s : Cached) → s.log.steps_left ≡ 0 → s.log.retire_steps_left ≡ 0 → s.frozen.numbers ≡ [] → s.active.numbers ≡ [] → steps_left s ≡ 0
+none_left s idle owed frozen active =
+    omega (arith, waiting_idle s.log.steps_left (wants s.frozen.numbers) idle, wants_none s.frozen.numbers frozen, wants_none s.active.numbers active, idle, owed)
+
+-- a retire step is one step less that is owed, and none is owed where no record waits
+pub owes_less : (old new : LogValue) (room : Bool) → old.steps_left ≡ 0 → (room ≡ true → HasRoom old) → (room ≡ false → 0 < old.steps_left + length old.waiting) → Owes old
+    → (old.waiting ≡ [] → new ≡ old) → (0 < length old.waiting → IsRetireStepped old new) → new.retire_steps_left ≡ old.retire_steps_left - 1
+owes_less old new room idle has full owes none some = elim (cases_lt 0 (length old.waiting)) [
+  | inl waits ↦
+      let stepped = some waits in
+      ⊎_elim
+      (λ more. ap (λ (l : LogValue). l.retire_steps_left) (stepped.more more))
+      (λ few.
+      let last : old.retire_steps_left ≡ behind_oldest old + 1 = omega (arith, few, stepped.some) in
+      ap (λ (l : LogValue). l.retire_steps_left) (stepped.last last) ∙ omega (arith, last))
+      (cases_lt (behind_oldest old + 1) old.retire_steps_left)
+  | inr few ↦
+      let empty = none_of old.waiting few in
+      let free = has (roomy room (λ refused. omega (arith, full refused, idle, few))) in
+      let owed : old.retire_steps_left ≡ 0 = owes.none_waits empty ∙ ap (λ (l : List ℕ). retire_steps_of l) free.none_under_way in
+      ap (λ (l : LogValue). l.retire_steps_left) (none empty) ∙ omega (arith, owed)
+]
+  where
+    roomy : (b : Bool) → (b ≡ false → ⊥) → b ≡ true
+    roomy true _ = refl
+    roomy false cannot = absurd (cannot refl)
