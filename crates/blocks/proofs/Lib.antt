@@ -7,3 +7,4 @@ pub mod Opening
 pub mod Starting
 pub mod Reading
 pub mod Settling
+pub mod Counting

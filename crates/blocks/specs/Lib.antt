@@ -7,3 +7,4 @@ pub mod Started
 pub mod Kept
 pub mod Background
 pub mod Settled
+pub mod Calls

@@ -6,6 +6,7 @@ ghost use Rattle.medium.specs.declared.fault.MediumFault.TheVariants as medium_f
 ghost use Rattle.blocks.specs.Book.{Book, IsTransfer, array_of, blocks_at};
 ghost use Rattle.blocks.specs.StoreValue.{blocks_of, is_dead, FitsBook};
 ghost use Rattle.blocks.specs.Turns.{IsTurn, IsReadCause};
+ghost use Rattle.blocks.specs.Calls.{copy_reads, block_reads, reads_of};
 
 use crate::store::BLOCK;
 use crate::{Store, StoreFault};
@@ -32,6 +33,12 @@ impl<M: Medium> Store<M> {
             self.old.cached self.new.cached }
         ensures calls { (M.state self.new.medium).calls
             ≤ (M.state self.old.medium).calls + 2 * (length to.old / 512) }
+        // It reads no block twice, and makes no call for a block that a batch has.
+        ensures reads { (M.state self.new.medium).calls ≤ (M.state self.old.medium).calls
+            + reads_of self.old.cached address (length to.old / 512) }
+        ensures exactly { OnOk result ((M.state self.new.medium).calls
+            ≡ (M.state self.old.medium).calls
+            + reads_of self.old.cached address (length to.old / 512)) }
         ensures follows { M.follows self.old.medium self.new.medium }
     {
         if self.log.is_dead() {
@@ -56,6 +63,10 @@ impl<M: Medium> Store<M> {
         ensures stays { self.new.cached ≡ self.old.cached }
         ensures quiet { IsQuiet (M.state self.old.medium) (M.state self.new.medium) }
         ensures calls { (M.state self.new.medium).calls ≤ (M.state self.old.medium).calls + 1 }
+        ensures reads { (M.state self.new.medium).calls
+            ≤ (M.state self.old.medium).calls + block_reads self.old.cached block }
+        ensures exactly { OnOk result ((M.state self.new.medium).calls
+            ≡ (M.state self.old.medium).calls + block_reads self.old.cached block) }
         ensures follows { M.follows self.old.medium self.new.medium }
     {
         if let Some(bytes) = self.active.get(block) {
@@ -88,7 +99,8 @@ impl<M: Medium> Store<M> {
             < (M.state self.new.medium).refused medium_fault.Read)) }
         ensures stays { self.new.cached ≡ self.old.cached }
         ensures quiet { IsQuiet (M.state self.old.medium) (M.state self.new.medium) }
-        ensures calls { (M.state self.new.medium).calls ≤ (M.state self.old.medium).calls + 1 }
+        ensures calls { (M.state self.new.medium).calls
+            ≡ (M.state self.old.medium).calls + copy_reads }
         ensures follows { M.follows self.old.medium self.new.medium }
     {
         match self.log.find(block) {

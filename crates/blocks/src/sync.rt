@@ -33,6 +33,8 @@ impl<M: Medium> Store<M> {
             → OnOk result (0 < steps_left self.new.cached) }
         ensures calls { (M.state self.new.medium).calls
             ≤ (M.state self.old.medium).calls + 2 * steps_left self.old.cached }
+        ensures paid { IsPaid (M.state self.old.medium) (M.state self.new.medium)
+            self.old.cached self.new.cached }
         ensures follows { M.follows self.old.medium self.new.medium }
     {
         self.finish()?;

@@ -5,6 +5,7 @@ ghost use Rattle.blocks.specs.Book.{IsTransfer, write_of};
 ghost use Rattle.blocks.specs.StoreValue.{blocks_of, is_dead, active_of, steps_left};
 ghost use Rattle.blocks.specs.StoreValue.{FitsBeside, TakesRange};
 ghost use Rattle.blocks.specs.Turns.{IsWriteTurn};
+ghost use Rattle.blocks.specs.Calls.{TurnsBatches};
 
 use crate::store::BLOCK;
 use crate::{Store, StoreFault};
@@ -34,6 +35,11 @@ impl<M: Medium> Store<M> {
             × (is_dead self.old.cached ≡ false → IsOk result) }
         ensures calls { (M.state self.new.medium).calls
             ≤ (M.state self.old.medium).calls + 2 * steps_left self.old.cached }
+        // One batch more takes 112 steps at most.
+        ensures paid { OnOk result ((M.state self.new.medium).calls + 2 * steps_left self.new.cached
+            ≤ (M.state self.old.medium).calls + 2 * steps_left self.old.cached + 224) }
+        ensures batches { OnOk result (TurnsBatches self.old.cached self.new.cached
+            address (length bytes.now / 512)) }
         ensures follows { M.follows self.old.medium self.new.medium }
     {
         if self.is_dead() {
@@ -57,6 +63,8 @@ impl<M: Medium> Store<M> {
             (M.state self.old.medium) (M.state self.new.medium) self.old.cached self.new.cached }
         ensures medium { self.new.medium ≡ self.old.medium }
         ensures log { self.new.cached.log ≡ self.old.cached.log }
+        ensures frozen { self.new.cached.frozen ≡ self.old.cached.frozen }
+        ensures one_more { steps_left self.new.cached ≤ steps_left self.old.cached + 112 }
         ensures active { TakesRange (active_of self.old.cached)
             address (length bytes.now / 512) (active_of self.new.cached) }
     {

@@ -1,4 +1,4 @@
-use Rattle.std.proofs.Common.{◌+◌, ◌-◌, ◌*◌, ◌∙◌, ap, arith, subst, sym}
+use Rattle.std.proofs.Common.{◌+◌, ◌-◌, ◌*◌, ◌/◌, length, ◌∙◌, ap, arith, subst, sym}
 use Rattle.log_layout.specs.Places.{Shape}
 use Rattle.medium.proofs.Moments.{quiet_start, quiet_joined}
 use Rattle.blocks.specs.Book.{array_of}
@@ -6,6 +6,8 @@ use Rattle.blocks.specs.StoreValue.{Cached, FitsBook}
 use Rattle.blocks.specs.Turns.{IsTurn}
 use Rattle.blocks.proofs.Turning.{quiet_turn}
 use Rattle.blocks.proofs.Reading.{put_block}
+use Rattle.blocks.specs.Calls.{block_reads}
+use Rattle.blocks.proofs.Counting.{reads_more, reads_within}
 use Rattle.blocks.proofs.store.Store.read.Goals as goal
 
 pub overflow_add-address : goal.overflow_add-address
@@ -43,6 +45,10 @@ loop-i-preserved g c =
       stays = c.read_block.ensures.stays ∙ c.loop-i.invariant.stays;
       quiet = quiet_joined before mid after c.loop-i.invariant.quiet c.read_block.ensures.quiet;
       calls = omega (arith, c.loop-i.invariant.calls, c.read_block.ensures.calls);
+      reads =
+          let one = c.in_ok-read_block.ensures.exactly in
+          let same = ap (λ (s : Cached). block_reads s (c.args.address + c.loop-i.i)) c.loop-i.invariant.stays in
+          omega (arith, c.loop-i.invariant.reads, one, same, reads_more c.args.self.now.cached c.args.address c.loop-i.i);
       follows = g.met.M.Medium.follows_through c.args.self.now.medium c.loop-i.self.medium c.read_block.new.self.medium c.loop-i.invariant.follows c.read_block.ensures.follows;
       so_far = λ book fits.
           let here : FitsBook mid c.loop-i.self.cached book = subst (λ (s : Cached). FitsBook mid s book) (sym c.loop-i.invariant.stays) (now.fits book fits) in
@@ -50,3 +56,18 @@ loop-i-preserved g c =
           (omega arith) (omega arith) (omega arith) (omega (arith, c.loop-i-test.true, c.loop-i.auto.to)) c.read_block.auto.to
           (c.loop-i.invariant.so_far book fits) (c.in_ok-read_block.ensures.ok book here);
     }
+
+pub returns-in_err-read_block-clause-reads : goal.returns-in_err-read_block-clause-reads
+returns-in_err-read_block-clause-reads g c =
+    let same = ap (λ (s : Cached). block_reads s (c.args.address + c.loop-i.i)) c.loop-i.invariant.stays in
+    omega (
+      arith,
+      c.loop-i.invariant.reads,
+      c.read_block.ensures.reads,
+      same,
+      reads_more c.args.self.now.cached c.args.address c.loop-i.i,
+      reads_within c.args.self.now.cached c.args.address (c.loop-i.i + 1) (length c.args.to.now / 512) (omega (arith, c.loop-i-test.true)),
+    )
+
+pub returns-in_err-read_block-clause-quiet : goal.returns-in_err-read_block-clause-quiet
+returns-in_err-read_block-clause-quiet g c = quiet_joined _ _ _ c.loop-i.invariant.quiet c.read_block.ensures.quiet

@@ -1,0 +1,25 @@
+-- How many calls of the medium a read of a store makes, and what a good write does to the batches.
+use Rattle.std.specs.Prelude.{◌≡◌, ℕ, ◌+◌, zero, suc, if◌then◌else◌}
+use Rattle.cache.specs.Blocks.{is_listed}
+use Rattle.blocks.specs.StoreValue.{Cached, FitsBeside}
+
+-- how many calls it takes to read a block that no batch has, from its newest logged copy or from home
+abbrev pub copy_reads : ℕ
+copy_reads = 1
+
+-- how many it takes to read a block: none where a batch has it
+abbrev pub block_reads : Cached → ℕ → ℕ
+block_reads s b =
+    if is_listed s.active.numbers b then 0 else (if is_listed s.frozen.numbers b then 0 else copy_reads)
+
+-- how many it takes to read so many blocks from this address on
+abbrev pub reads_of : Cached → ℕ → ℕ → ℕ
+reads_of s address zero = 0
+reads_of s address (suc count) = block_reads s address + reads_of s (address + 1) count
+
+-- A good write whose range fits beside the active batch changes that batch alone. After any other the frozen
+-- batch is what the active one was.
+pub record TurnsBatches (old new : Cached) (address count : ℕ) : Type 0 where
+  pub beside : FitsBeside old.active.numbers address count
+      → (new.frozen ≡ old.frozen) × (new.log ≡ old.log)
+  pub alone : ¬ FitsBeside old.active.numbers address count → new.frozen ≡ old.active
