@@ -1,5 +1,5 @@
 -- What comes of a start: a disk runs, power goes, or the start is refused.
-use Rattle.std.proofs.Common.{◌≡◌, ◌+◌, Bool, true, false, [], ◌∷◌, None, refl, sym, subst, ◌∙◌, ap, arith, inl, inr, ⊎_elim}
+use Rattle.std.proofs.Common.{◌≡◌, ltb-true, ◌+◌, Bool, true, false, [], ◌∷◌, None, refl, sym, subst, ◌∙◌, ap, arith, inl, inr, ⊎_elim}
 use Rattle.std.proofs.lemmas.Bool.{cases_Bool}
 use Rattle.medium.specs.Moments.{EachCut}
 use Rattle.medium.specs.Sim.{Sim, state_of, ComesAfter}
@@ -17,6 +17,9 @@ use Rattle.bot_machine.specs.Disk.{DiskValue, on_line, over}
 use Rattle.bot_machine.specs.Opening.{IsOpened, IsNotOpened, StartLeaves}
 use Rattle.bot_machine.specs.Lives.{starts, Remains, Place, before_first, between, runs, off, Standing, started, LifeBegins, LivesStep}
 use Rattle.bot_machine.specs.LivesValue.{HasBegun, book_at, FitsLives, LivesGoTo, LivesGoOn, MayRefuse, LivesStopAt, LivesStop}
+use Rattle.scsi_unit.specs.Serving.{has_refused}
+use Rattle.bot_machine.specs.Moving.{StartsIn}
+use Rattle.bot_machine.proofs.Moved.{one_move, some_refused}
 use Rattle.bot_machine.proofs.Happening.{lives_at, stays, one_run, one_counted, armed_then, on_or_off}
 use Rattle.bot_machine.proofs.Beginning.{WouldOpen, first_opens, next_opens, HasOpened, first_opened, next_opened}
 use Rattle.bot_machine.proofs.UnitLaws.{between_calls, knows_images}
@@ -87,6 +90,9 @@ module _ (identity : Identification) (m : Sim) (on : m.power.off ≡ false) wher
     abbrev new : Sim
     new = disk.unit.store.medium
 
+    abbrev grew : Bool
+    grew = has_refused (state_of m) (state_of new)
+
     module _ (place : Place) (armed : Bool) (fits : FitsLives (lives_at identity (Rests m)) (record { place = place; armed = armed }))
         (h : HasOpened (state_of new) disk place) where
       abbrev here : Standing
@@ -96,7 +102,7 @@ module _ (identity : Identification) (m : Sim) (on : m.power.off ≡ false) wher
       says = sym (ap (λ (l : Line). on_line l (unit_state disk.unit h.book)) is_opened.line
           ∙ ap (λ (u : UnitState). on_line at_rest u) (is_opened.unit h.book))
 
-      begun_on : new.power.off ≡ false → LifeBegun identity new.power.off here (Runs disk)
+      begun_on : new.power.off ≡ false → LifeBegun identity grew here (Runs disk)
       begun_on still = record {
         there = record { place = runs (started identity h.book); armed = armed };
         life = record { book = h.book; opens = h.opens; begins = inl refl };
@@ -108,13 +114,13 @@ module _ (identity : Identification) (m : Sim) (on : m.power.off ≡ false) wher
         ours = h.ours;
       }
 
-      begun_off : new.power.off ≡ true → LifeBegun identity new.power.off here (Runs disk)
+      begun_off : new.power.off ≡ true → LifeBegun identity grew here (Runs disk)
       begun_off is_off = record {
         there = record { place = off (record { book = h.book; in_progress = None }); armed = armed };
         life = record {
           book = h.book;
           opens = h.opens;
-          begins = inr (record { fused = armed_then here m new follows fits.unfused on is_off; cause = is_off; after = refl });
+          begins = inr (record { fused = armed_then here m new follows fits.unfused on is_off; cause = some_refused (state_of m) (state_of new) (follows.goes_off on is_off).1; after = refl });
         };
         fits = record {
           is_at = is_off;
@@ -124,14 +130,16 @@ module _ (identity : Identification) (m : Sim) (on : m.power.off ≡ false) wher
         ours = h.ours;
       }
 
-      begun : LifeBegun identity new.power.off here (Runs disk)
+      begun : LifeBegun identity grew here (Runs disk)
       begun = ⊎_elim begun_off begun_on (cases_Bool new.power.off)
 
     pub start_has_disk : LivesGoOn (lives_at identity (Rests m)) (starts ∷ []) [] (lives_at identity (Runs disk))
     start_has_disk = record {
-      refusals = new.power.off ∷ [];
-      refused = one_counted new.power.off (state_of m).failures (state_of new).failures (λ e. (follows.goes_off on e).1) follows.failures_stay;
-      goes = λ here fits. goes_there (Runs disk) new.power.off
+      refusals = grew ∷ [];
+      moves = one_move identity grew (Rests m) (Runs disk) starts []
+          (refl, subst (λ (b : Bool). StartsIn b identity m (Runs disk)) (sym on) (is_opened, record { leaves = leaves; follows = follows })) refl;
+      refused = one_counted grew (state_of m).failures (state_of new).failures (ltb-true (state_of m).failures (state_of new).failures) follows.failures_stay;
+      goes = λ here fits. goes_there (Runs disk) grew
           (λ book armed f. begun (before_first book) armed f (first_opened m (state_of new) identity disk is_opened book f.is_at.1))
           (λ remains armed f. begun (between remains) armed f (next_opened m (state_of new) identity disk is_opened remains f.found))
           here.place here.armed fits;
@@ -144,8 +152,11 @@ module _ (identity : Identification) (m : Sim) (on : m.power.off ≡ false) wher
   module _ (after : Sim) (leaves : StartLeaves (state_of m) (state_of after)) (follows : ComesAfter m after) where
     -- power went in it
     module _ (is_off : after.power.off ≡ true) where
+      abbrev refuses : Bool
+      refuses = has_refused (state_of m) (state_of after)
+
       begun_cut : (place : Place) (armed : Bool) → FitsLives (lives_at identity (Rests m)) (record { place = place; armed = armed })
-          → m.unflushed ≡ [] → (w : WouldOpen (state_of m) place) → LifeBegun identity true (record { place = place; armed = armed }) (Rests after)
+          → m.unflushed ≡ [] → (w : WouldOpen (state_of m) place) → LifeBegun identity refuses (record { place = place; armed = armed }) (Rests after)
       begun_cut place armed fits none w = record {
         there = record { place = off (record { book = w.book; in_progress = None }); armed = armed };
         life = record {
@@ -153,7 +164,7 @@ module _ (identity : Identification) (m : Sim) (on : m.power.off ≡ false) wher
           opens = w.opens;
           begins = inr (record {
             fused = armed_then (record { place = place; armed = armed }) m after follows fits.unfused on is_off;
-            cause = refl;
+            cause = some_refused (state_of m) (state_of after) (follows.goes_off on is_off).1;
             after = refl;
           });
         };
@@ -167,9 +178,11 @@ module _ (identity : Identification) (m : Sim) (on : m.power.off ≡ false) wher
 
       pub start_is_cut : LivesGoOn (lives_at identity (Rests m)) (starts ∷ []) [] (lives_at identity (Rests after))
       start_is_cut = record {
-        refusals = true ∷ [];
-        refused = one_counted true (state_of m).failures (state_of after).failures (λ e. (follows.goes_off on is_off).1) follows.failures_stay;
-        goes = λ here fits. goes_there (Rests after) true
+        refusals = refuses ∷ [];
+        moves = one_move identity refuses (Rests m) (Rests after) starts []
+            (refl, subst (λ (b : Bool). StartsIn b identity m (Rests after)) (sym on) (record { leaves = leaves; follows = follows }, is_off)) refl;
+        refused = one_counted refuses (state_of m).failures (state_of after).failures (ltb-true (state_of m).failures (state_of after).failures) follows.failures_stay;
+        goes = λ here fits. goes_there (Rests after) refuses
             (λ book armed f. begun_cut (before_first book) armed f f.is_at.0.flushed (first_opens (state_of m) book f.is_at.1))
             (λ remains armed f. begun_cut (between remains) armed f f.is_at.flushed (next_opens m remains f.found))
             here.place here.armed fits;
@@ -201,6 +214,9 @@ module _ (identity : Identification) (m : Sim) (on : m.power.off ≡ false) wher
       pub start_is_refused : LivesStop (lives_at identity (Rests m)) [] [] fault (lives_at identity (Rests after))
       start_is_refused = record {
         refusals = [];
+        at = m;
+        moves = (refl, refl);
+        start = record { called = record { leaves = leaves; follows = follows }; cause = h; on = still };
         refused = let f = follows.failures_stay in omega (arith, f);
         goes = λ here fits. stops_at here.place here.armed fits;
         rests = refl;
@@ -221,7 +237,7 @@ module _ (identity : Identification) where
 
   -- a disk runs already
   pub start_of_disk : (disk : DiskValue Sim) → LivesGoOn (lives_at identity (Runs disk)) (starts ∷ []) [] (lives_at identity (Runs disk))
-  start_of_disk disk = stays identity (Runs disk) starts [] (λ here fits. running disk here.place here.armed fits)
+  start_of_disk disk = stays identity (Runs disk) starts [] (refl, refl) (λ here fits. running disk here.place here.armed fits)
 
   without_power : (m : Sim) → m.power.off ≡ true → (place : Place) (armed : Bool) → FitsLives (lives_at identity (Rests m)) (record { place = place; armed = armed })
       → LivesStep identity false (record { place = place; armed = armed }) starts [] (record { place = place; armed = armed })
@@ -232,7 +248,7 @@ module _ (identity : Identification) where
 
   -- power is off already
   pub start_without_power : (m : Sim) → m.power.off ≡ true → LivesGoOn (lives_at identity (Rests m)) (starts ∷ []) [] (lives_at identity (Rests m))
-  start_without_power m is_off = stays identity (Rests m) starts [] (λ here fits. without_power m is_off here.place here.armed fits)
+  start_without_power m is_off = stays identity (Rests m) starts [] (refl, subst (λ (b : Bool). StartsIn b identity m (Rests m)) (sym is_off) refl) (λ here fits. without_power m is_off here.place here.armed fits)
 
 -- ---- whatever the medium holds
 

@@ -1,6 +1,7 @@
 -- What happens in a life: a fuse is armed, an event comes, the power is cut.
+use Rattle.std.specs.Prelude.{if◌then◌else◌}
 use Rattle.std.proofs.Common.{◌≡◌, ◌<◌, ◌≤◌, ℕ, ◌+◌, Bool, true, false, nat_lt, ltb-true, List, [], ◌∷◌, None, Some, refl, sym, subst, ◌∙◌, ap, arith, inl, inr}
-use Rattle.std.proofs.lemmas.Bool.{false≢true}
+use Rattle.std.proofs.lemmas.Bool.{cases_Bool, false≢true}
 use Rattle.std.proofs.lemmas.List.{append-nil}
 use Rattle.medium.specs.Medium.{State, Image, CutLeaves}
 use Rattle.medium.specs.Moments.{EachCut, IsFlushed}
@@ -24,6 +25,8 @@ use Rattle.bot_machine.specs.Acts.{write_of_event}
 use Rattle.bot_machine.specs.Disk.{DiskValue, over, UnitStep, IsStep}
 use Rattle.scsi_unit.specs.Rules.{UnitState}
 use Rattle.bot_machine.specs.Lives.{Action, arms, plays, cuts, Remains, Place, before_first, between, runs, off, Standing, after_cut, LivesStep, LivesRun}
+use Rattle.bot_machine.specs.Moving.{Does, FuseMoves, EventMovesIn, EventMoves}
+use Rattle.bot_machine.proofs.Moved.{one_move, none_refused, some_refused}
 use Rattle.bot_machine.specs.LivesValue.{LivesValue, medium_in, state_in, IsAtRest, OpensOn, IsAt, book_at, FoundAt, FitsLives, LivesGoTo, LivesGoOn}
 
 -- one action is a run
@@ -39,6 +42,13 @@ one_counted false before after grew stays = omega (arith, stays)
 -- a medium whose power is on is not one whose power is off
 pub on_or_off : {A : Type 0} (b : Bool) → b ≡ false → b ≡ true → A
 on_or_off b on is_off = absurd (false≢true (sym on ∙ is_off))
+
+-- where the power is on, it was on before
+pub on_before : (before after : Sim) → ComesAfter before after → after.power.off ≡ false → before.power.off ≡ false
+on_before before after follows on = elim (cases_Bool before.power.off) [
+  | inl gone ↦ on_or_off after.power.off on (follows.off_stays gone)
+  | inr still ↦ still
+]
 
 -- power goes only where a fuse was armed
 pub armed_then : (here : Standing) (before after : Sim) → ComesAfter before after → (here.armed ≡ false → before.power.fuse ≡ None)
@@ -56,11 +66,12 @@ module _ (identity : Identification) where
   lives_at stage = record { identity = identity; stage = stage }
 
   -- nothing happens to a disk, or to a medium without one
-  pub stays : (stage : Stage) (action : Action) (answers : List Answer)
+  pub stays : (stage : Stage) (action : Action) (answers : List Answer) → Does identity stage action answers stage
       → ((here : Standing) → FitsLives (lives_at stage) here → LivesStep identity false here action answers here)
       → LivesGoOn (lives_at stage) (action ∷ []) answers (lives_at stage)
-  stays stage action answers step = record {
+  stays stage action answers does step = record {
     refusals = false ∷ [];
+    moves = one_move identity false stage stage action answers does (none_refused (state_in stage) (state_in stage) refl);
     refused = omega arith;
     goes = λ here fits. record {
       there = here;
@@ -95,11 +106,12 @@ module _ (identity : Identification) where
   fused_running writes disk (runs conversation) h = record { on = h.on; says = h.says; fits = h.fits }
   fused_running writes disk (off remains) h = h
 
-  arms_fuse : (writes : ℕ) (stage new : Stage) → state_in new ≡ state_in stage
+  arms_fuse : (writes : ℕ) (stage new : Stage) → state_in new ≡ state_in stage → FuseMoves writes stage new
       → ((place : Place) → IsAt place stage → IsAt place new)
       → LivesGoOn (lives_at stage) (arms writes ∷ []) [] (lives_at new)
-  arms_fuse writes stage new same keeps = record {
+  arms_fuse writes stage new same fuse keeps = record {
     refusals = false ∷ [];
+    moves = one_move identity false stage new (arms writes) [] (refl, fuse) (none_refused (state_in stage) (state_in new) (ap (λ (m : State). m.failures) same));
     refused = let e = ap (λ (m : State). m.failures) same in omega (arith, e);
     goes = λ here fits. record {
       there = record here { armed = true };
@@ -118,14 +130,14 @@ module _ (identity : Identification) where
   pub arms_medium : (writes : ℕ) (m new : Sim) → new ≡ fused writes m → LivesGoOn (lives_at (Rests m)) (arms writes ∷ []) [] (lives_at (Rests new))
   arms_medium writes m new e =
       subst (λ (x : Sim). LivesGoOn (lives_at (Rests m)) (arms writes ∷ []) [] (lives_at (Rests x))) (sym e)
-      (arms_fuse writes (Rests m) (Rests (fused writes m)) refl (fused_at_rest writes m))
+      (arms_fuse writes (Rests m) (Rests (fused writes m)) refl refl (fused_at_rest writes m))
 
   pub arms_disk : (writes : ℕ) (disk new : DiskValue Sim) → new.unit.store.medium ≡ fused writes disk.unit.store.medium
       → new ≡ on_medium new.unit.store.medium disk → LivesGoOn (lives_at (Runs disk)) (arms writes ∷ []) [] (lives_at (Runs new))
   arms_disk writes disk new e others =
       subst (λ (x : DiskValue Sim). LivesGoOn (lives_at (Runs disk)) (arms writes ∷ []) [] (lives_at (Runs x)))
       (sym (others ∙ ap (λ (m : Sim). on_medium m disk) e))
-      (arms_fuse writes (Runs disk) (Runs (on_medium (fused writes disk.unit.store.medium) disk)) refl (fused_running writes disk))
+      (arms_fuse writes (Runs disk) (Runs (on_medium (fused writes disk.unit.store.medium) disk)) refl (refl, refl) (fused_running writes disk))
 
   -- ---- a cut
 
@@ -176,6 +188,8 @@ module _ (identity : Identification) where
     pub is_cut : (stage : Stage) → medium_in stage ≡ old → LivesGoOn (lives_at stage) (cuts keep ∷ []) [] (lives_at (Rests new))
     is_cut stage e = record {
       refusals = false ∷ [];
+      moves = one_move identity false stage (Rests new) (cuts keep) [] (refl, subst (λ (x : Sim). IsCut keep x new) (sym e) cut)
+          (none_refused (state_in stage) (state_of new) (ap of_all cut.refused_stay ∙ sym (ap (λ (x : Sim). of_all x.refused) e)));
       refused = let f = ap (λ (x : Sim). of_all x.refused) e in let g = ap of_all cut.refused_stay in omega (arith, f, g);
       goes = λ here fits. record {
         there = record { place = after_cut here.place; armed = false };
@@ -206,6 +220,11 @@ module _ (identity : Identification) where
     abbrev grew : Bool
     grew = nat_lt before.failures after.failures
 
+    -- the event itself, which gives its answer where the power is still on
+    played : (given : Answer) → given ≡ (if new.unit.store.medium.power.off then Off else answer) → EventMoves (Runs old) event given (Runs new)
+    played given answered = subst (λ (b : Bool). EventMovesIn b old event given (Runs new)) (sym on)
+        (new, refl, record { told = answer; step = step; follows = follows; answered = answered })
+
     module _ (still : new.unit.store.medium.power.off ≡ false) where
       ends_at : (place : Place) (armed : Bool) → FitsLives (lives_at (Runs old)) (record { place = place; armed = armed })
           → LivesGoTo (lives_at (Runs new)) (record { place = place; armed = armed }) (plays event ∷ []) (answer ∷ []) (grew ∷ [])
@@ -233,6 +252,7 @@ module _ (identity : Identification) where
       pub event_ends : LivesGoOn (lives_at (Runs old)) (plays event ∷ []) (answer ∷ []) (lives_at (Runs new))
       event_ends = record {
         refusals = grew ∷ [];
+        moves = one_move identity grew (Runs old) (Runs new) (plays event) (answer ∷ []) (answer, refl, played answer (ap (λ (b : Bool). if b then Off else answer) (sym still))) refl;
         refused = one_counted grew before.failures after.failures (ltb-true before.failures after.failures) step.elapses.failures_stay;
         goes = λ here fits. ends_at here.place here.armed fits;
         size_stays = step.elapses.size_stays;
@@ -241,7 +261,7 @@ module _ (identity : Identification) where
 
     module _ (is_off : new.unit.store.medium.power.off ≡ true) where
       cut_at : (place : Place) (armed : Bool) → FitsLives (lives_at (Runs old)) (record { place = place; armed = armed })
-          → LivesGoTo (lives_at (Runs new)) (record { place = place; armed = armed }) (plays event ∷ []) (Off ∷ []) (true ∷ [])
+          → LivesGoTo (lives_at (Runs new)) (record { place = place; armed = armed }) (plays event ∷ []) (Off ∷ []) (grew ∷ [])
       cut_at (before_first book) armed fits = absurd fits.is_at
       cut_at (between remains) armed fits = absurd fits.is_at
       cut_at (runs conversation) armed fits =
@@ -252,14 +272,14 @@ module _ (identity : Identification) where
           let there : Standing = record { place = off remains; armed = armed } in
           record {
             there = there;
-            run = one_run identity true here there (plays event) (Off ∷ []) (
+            run = one_run identity grew here there (plays event) (Off ∷ []) (
               Off,
               refl,
               inr (record {
                 answered = refl;
                 goes = record {
                   fused = armed_then here old.unit.store.medium new.unit.store.medium follows fits.unfused on is_off;
-                  cause = refl;
+                  cause = some_refused before after (follows.goes_off on is_off).1;
                   after = refl;
                 };
               }),
@@ -278,8 +298,9 @@ module _ (identity : Identification) where
       -- power went in it
       pub event_is_cut : LivesGoOn (lives_at (Runs old)) (plays event ∷ []) (Off ∷ []) (lives_at (Runs new))
       event_is_cut = record {
-        refusals = true ∷ [];
-        refused = one_counted true before.failures after.failures (λ e. (follows.goes_off on is_off).1) follows.failures_stay;
+        refusals = grew ∷ [];
+        moves = one_move identity grew (Runs old) (Runs new) (plays event) (Off ∷ []) (Off, refl, played Off (ap (λ (b : Bool). if b then Off else answer) (sym is_off))) refl;
+        refused = one_counted grew before.failures after.failures (ltb-true before.failures after.failures) step.elapses.failures_stay;
         goes = λ here fits. cut_at here.place here.armed fits;
         size_stays = step.elapses.size_stays;
         identity_stays = refl;
@@ -304,9 +325,9 @@ module _ (identity : Identification) where
 
   -- an event that comes to a medium without power
   pub event_at_rest : (m : Sim) (event : Event) → m.power.off ≡ true → LivesGoOn (lives_at (Rests m)) (plays event ∷ []) (Off ∷ []) (lives_at (Rests m))
-  event_at_rest m event is_off = stays (Rests m) (plays event) (Off ∷ []) (λ here fits. off_at_rest m event is_off here.place here.armed fits)
+  event_at_rest m event is_off = stays (Rests m) (plays event) (Off ∷ []) (Off, refl, (refl, refl)) (λ here fits. off_at_rest m event is_off here.place here.armed fits)
 
   -- an event that comes to a disk without power
   pub event_off : (disk : DiskValue Sim) (event : Event) → disk.unit.store.medium.power.off ≡ true
       → LivesGoOn (lives_at (Runs disk)) (plays event ∷ []) (Off ∷ []) (lives_at (Runs disk))
-  event_off disk event is_off = stays (Runs disk) (plays event) (Off ∷ []) (λ here fits. off_running disk event is_off here.place here.armed fits)
+  event_off disk event is_off = stays (Runs disk) (plays event) (Off ∷ []) (Off, refl, subst (λ (b : Bool). EventMovesIn b disk event Off (Runs disk)) (sym is_off) (refl, refl)) (λ here fits. off_running disk event is_off here.place here.armed fits)

@@ -1,5 +1,5 @@
 -- Whole lives, one after the other, from the first.
-use Rattle.std.proofs.Common.{◌≡◌, ◌<◌, ◌≤◌, ℕ, ◌+◌, suc, false, List, [], ◌∷◌, ◌++◌, None, length, take, drop, get_or, refl, sym, subst, ◌∙◌, ap, arith, append_assoc, drop-cons}
+use Rattle.std.proofs.Common.{◌≡◌, Bool, ◌<◌, ◌≤◌, ℕ, ◌+◌, suc, false, List, [], ◌∷◌, ◌++◌, None, length, take, drop, get_or, refl, sym, subst, ◌∙◌, ap, arith, append_assoc, drop-cons}
 use Rattle.std.proofs.lemmas.List.{append-nil, take_more, take-append-drop}
 use Rattle.std.proofs.lemmas.List.Sums.{sum_by-append, sum_by-take-le}
 use Rattle.std.specs.Prelude.{Option, Some, MatchOption}
@@ -10,14 +10,16 @@ use Rattle.scsi_unit.specs.Identification.{Identification}
 use Rattle.scsi_unit.specs.Books.{Book}
 use Rattle.bot_machine.specs.declared.event.Answer.{Answer}
 use Rattle.bot_machine.specs.declared.life.Life.{Life}
+use Rattle.bot_machine.specs.declared.stage.Stage.{Stage}
 use Rattle.bot_machine.specs.declared.stage.Stage.TheVariants.{Rests}
+use Rattle.bot_machine.specs.Moving.{MovesBy}
 use Rattle.bot_machine.specs.Answers.{Room}
 use Rattle.bot_machine.specs.Conversation.{refused_events}
 use Rattle.bot_machine.specs.Opening.{IsNotOpened}
 use Rattle.bot_machine.specs.Lives.{Action, before_first, Standing, LivesRun}
-use Rattle.bot_machine.specs.LivesValue.{LivesValue, medium_in, state_in, IsAtRest, OpensOn, FitsLives, LivesGoOn, LivesStop}
+use Rattle.bot_machine.specs.LivesValue.{LivesValue, medium_in, state_in, IsAtRest, OpensOn, FitsLives, LivesGoOn, LivesStopAt, LivesStop}
 use Rattle.bot_machine.specs.Lifetimes.{actions_of, actions_of_all, armed_by, events_in, AppendsFor, EndsIn, AreLived, StopsIn, AreLivedUpTo}
-use Rattle.bot_machine.proofs.Playing.{rests}
+use Rattle.bot_machine.proofs.Playing.{rests, lives_stop, lives_stop-refusals}
 use Rattle.bot_machine.proofs.Beginning.{first_found}
 
 -- no life yet
@@ -80,10 +82,12 @@ module _ (m : Sim) (identity : Identification) (rest : IsAtRest m) (unfused : m.
   first = record { identity = identity; stage = Rests m }
 
   pub all_lived : (lives : List Life) → LivesGoOn first (actions_of_all lives) told after → length told ≡ events_in lives
-      → IsAtRest (medium_in after.stage) → (medium_in after.stage).power.fuse ≡ None → AreLived m identity lives told (medium_in after.stage)
-  all_lived lives on one_each rest_after unfused_after = record {
+      → IsAtRest (medium_in after.stage) → (medium_in after.stage).power.fuse ≡ None → after.stage ≡ Rests (medium_in after.stage)
+      → AreLived m identity lives told (medium_in after.stage)
+  all_lived lives on one_each rest_after unfused_after alone = record {
     one_each = one_each;
     refusals = on.refusals;
+    moves = subst (λ (x : Stage). MovesBy identity (Rests m) (actions_of_all lives) told on.refusals x) alone on.moves;
     refused = on.refused;
     ends = ends;
     rests = rest_after;
@@ -100,18 +104,79 @@ module _ (m : Sim) (identity : Identification) (rest : IsAtRest m) (unfused : m.
             found = λ ours. g.fits.found (g.ours ∙ ours);
           }
 
-  pub lived_up_to : (lives lived rest : List Life) (life : Life) (fault : StartFault) → lives ≡ lived ++ life ∷ rest
-      → (mid : Sim) → AreLived m identity lived told mid → IsNotOpened (state_of mid) (state_in after.stage) fault
-      → LivesStop first (actions_of_all lived ++ armed_by life.fuse) told fault after → AreLivedUpTo m identity lives told fault (medium_in after.stage)
-  lived_up_to lives lived others life fault lives_are mid were_lived cause stop = record {
+  all_lived-refusals : (lives : List Life) (on : LivesGoOn first (actions_of_all lives) told after) (one_each : length told ≡ events_in lives)
+      (rest_after : IsAtRest (medium_in after.stage)) (unfused_after : (medium_in after.stage).power.fuse ≡ None)
+      (alone : after.stage ≡ Rests (medium_in after.stage))
+      → (all_lived lives on one_each rest_after unfused_after alone).refusals ≡ on.refusals
+  unfolding all_lived
+  all_lived-refusals lives on one_each rest_after unfused_after alone = refl
+
+-- the same, with other answers that are the same
+told_same : (before after : LivesValue) (actions : List Action) (told other : List Answer) (fault : StartFault) → told ≡ other
+    → LivesStop before actions told fault after → LivesStop before actions other fault after
+told_same before after actions told other fault e s = record {
+  refusals = s.refusals;
+  at = s.at;
+  moves = subst (λ (l : List Answer). MovesBy before.identity before.stage actions l s.refusals (Rests s.at)) e s.moves;
+  start = s.start;
+  refused = s.refused;
+  goes = λ here fits. subst (λ (l : List Answer). LivesStopAt after here actions l s.refusals (refused_events s.refusals + (state_in before.stage).failures) fault)
+      e (s.goes here fits);
+  rests = s.rests;
+  on = s.on;
+  size_stays = s.size_stays;
+  identity_stays = s.identity_stays;
+}
+
+told_same-refusals : (before after : LivesValue) (actions : List Action) (told other : List Answer) (fault : StartFault) (e : told ≡ other)
+    (s : LivesStop before actions told fault after) → (told_same before after actions told other fault e s).refusals ≡ s.refusals
+unfolding told_same
+told_same-refusals before after actions told other fault e s = refl
+
+module _ (m : Sim) (identity : Identification) (rest : IsAtRest m) (unfused : m.power.fuse ≡ None) (mid after : LivesValue) (told : List Answer)
+    (lives lived others : List Life) (life : Life) (fault : StartFault) (lives_are : lives ≡ lived ++ life ∷ others)
+    (on : LivesGoOn (record { identity = identity; stage = Rests m }) (actions_of_all lived) told mid) (one_each : length told ≡ events_in lived)
+    (rest_mid : IsAtRest (medium_in mid.stage)) (unfused_mid : (medium_in mid.stage).power.fuse ≡ None)
+    (alone : mid.stage ≡ Rests (medium_in mid.stage)) (cause : IsNotOpened (state_in mid.stage) (state_in after.stage) fault)
+    (last : LivesStop mid (armed_by life.fuse) [] fault after) where
+  abbrev begun : LivesValue
+  begun = record { identity = identity; stage = Rests m }
+
+  were_lived : AreLived m identity lived told (medium_in mid.stage)
+  were_lived = all_lived m identity rest unfused mid told lived on one_each rest_mid unfused_mid alone
+
+  stop : LivesStop begun (actions_of_all lived ++ armed_by life.fuse) told fault after
+  stop = told_same begun after (actions_of_all lived ++ armed_by life.fuse) (told ++ []) told fault (append-nil told)
+      (lives_stop begun mid after (actions_of_all lived) (armed_by life.fuse) told [] on fault last)
+
+  refusals_are : stop.refusals ≡ were_lived.refusals ++ last.refusals
+  unfolding stop were_lived
+  refusals_are =
+      told_same-refusals begun after (actions_of_all lived ++ armed_by life.fuse) (told ++ []) told fault (append-nil told)
+      (lives_stop begun mid after (actions_of_all lived) (armed_by life.fuse) told [] on fault last)
+      ∙ lives_stop-refusals begun mid after (actions_of_all lived) (armed_by life.fuse) told [] on fault last
+      ∙ ap (λ (l : List Bool). l ++ last.refusals)
+      (sym (all_lived-refusals m identity rest unfused mid told lived on one_each rest_mid unfused_mid alone))
+
+  arms : MovesBy identity (Rests (medium_in mid.stage)) (armed_by life.fuse) [] last.refusals (Rests last.at)
+  arms = subst (λ (i : Identification). MovesBy i (Rests (medium_in mid.stage)) (armed_by life.fuse) [] last.refusals (Rests last.at)) on.identity_stays
+      (subst (λ (x : Stage). MovesBy mid.identity x (armed_by life.fuse) [] last.refusals (Rests last.at)) alone last.moves)
+
+  pub lived_up_to : AreLivedUpTo m identity lives told fault (medium_in after.stage)
+  lived_up_to = record {
     lived = lived;
     life = life;
     rest = others;
     lives_are = lives_are;
-    at = mid;
+    at = medium_in mid.stage;
     were_lived = were_lived;
     cause = cause;
+    armed = last.at;
+    arming = last.refusals;
+    arms = arms;
+    start = last.start;
     refusals = stop.refusals;
+    refusals_are = refusals_are;
     refused = stop.refused;
     stops = stops;
     on = stop.on;

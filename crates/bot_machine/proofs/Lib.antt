@@ -5,11 +5,13 @@ pub mod UnitLaws
 pub mod Proceeding
 pub mod Cases
 pub mod Opening
+pub mod Telling
 pub mod Stepping
 pub mod Alternation
 pub mod Runs
 pub mod OneStep
 pub mod StruckTicks
+pub mod Moved
 pub mod Playing
 pub mod Happening
 pub mod Beginning

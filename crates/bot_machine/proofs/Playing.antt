@@ -9,8 +9,12 @@ use Rattle.bot_machine.specs.declared.event.Answer.{Answer}
 use Rattle.bot_machine.specs.Answers.{Room}
 use Rattle.bot_machine.specs.Conversation.{refused_events}
 use Rattle.bot_machine.specs.Lives.{Action, starts, Standing, LivesRun}
+use Rattle.bot_machine.specs.declared.stage.Stage.{Stage}
+use Rattle.bot_machine.specs.declared.stage.Stage.TheVariants.{Rests}
+use Rattle.bot_machine.specs.Moving.{MovesBy}
 use Rattle.bot_machine.specs.Lifetimes.{AppendsFor}
 use Rattle.bot_machine.specs.LivesValue.{LivesValue, state_in, FitsLives, LivesGoTo, LivesGoOn, MayRefuse, LivesStopAt, LivesStop}
+use Rattle.bot_machine.proofs.Moved.{MovesBy-append}
 
 -- events with a refused call are counted one list after the other
 pub refused_events-append : (xs ys : List Bool) → refused_events (xs ++ ys) ≡ refused_events xs + refused_events ys
@@ -45,6 +49,7 @@ counted xs ys a b c h k = omega (arith, refused_events-append xs ys, h, k)
 pub rests : (lives : LivesValue) → LivesGoOn lives [] [] lives
 rests lives = record {
   refusals = [];
+  moves = (refl, refl);
   refused = omega arith;
   goes = λ here fits. record { there = here; run = (refl, refl); fits = fits; ours = refl };
   size_stays = refl;
@@ -56,10 +61,15 @@ module _ (a b c : LivesValue) (xs ys : List Action) (told more : List Answer) (f
   first_run : c.identity ≡ b.identity → (here : Standing) (fits : FitsLives a here) → LivesRun c.identity here xs told first.refusals (first.goes here fits).there
   first_run same here fits = subst (λ (i : Identification). LivesRun i here xs told first.refusals (first.goes here fits).there) (sym same) (first.goes here fits).run
 
+  -- the second part, by the identity at the beginning
+  next_moves : (others : List Bool) (stage : Stage) → MovesBy b.identity b.stage ys more others stage → MovesBy a.identity b.stage ys more others stage
+  next_moves others stage moves = subst (λ (i : Identification). MovesBy i b.stage ys more others stage) first.identity_stays moves
+
   -- lives go on, and go on
   pub lives_go_on : LivesGoOn b ys more c → LivesGoOn a (xs ++ ys) (told ++ more) c
   lives_go_on next = record {
     refusals = first.refusals ++ next.refusals;
+    moves = MovesBy-append a.identity xs ys told more first.refusals next.refusals a.stage b.stage c.stage first.moves (next_moves next.refusals c.stage next.moves);
     refused = counted first.refusals next.refusals (state_in a.stage).failures (state_in b.stage).failures (state_in c.stage).failures first.refused next.refused;
     goes = goes;
     size_stays = next.size_stays ∙ first.size_stays;
@@ -81,6 +91,9 @@ module _ (a b c : LivesValue) (xs ys : List Action) (told more : List Answer) (f
   pub lives_stop : (fault : StartFault) → LivesStop b ys more fault c → LivesStop a (xs ++ ys) (told ++ more) fault c
   lives_stop fault next = record {
     refusals = first.refusals ++ next.refusals;
+    at = next.at;
+    moves = MovesBy-append a.identity xs ys told more first.refusals next.refusals a.stage b.stage (Rests next.at) first.moves (next_moves next.refusals (Rests next.at) next.moves);
+    start = next.start;
     refused = counted first.refusals next.refusals (state_in a.stage).failures (state_in b.stage).failures (state_in c.stage).failures first.refused next.refused;
     goes = goes;
     rests = next.rests;
@@ -118,6 +131,10 @@ module _ (a b c : LivesValue) (xs ys : List Action) (told more : List Answer) (f
             cause = λ ours. causes last.book fault (state_in c.stage).failures (last.cause ours);
             found = last.found;
           }
+
+  pub lives_stop-refusals : (fault : StartFault) (next : LivesStop b ys more fault c) → (lives_stop fault next).refusals ≡ first.refusals ++ next.refusals
+  unfolding lives_stop
+  lives_stop-refusals fault next = refl
 
 -- appending, and then more, is appending all
 pub appended : (first mid last : Room) (told more : List Answer) → mid ≡ record first { list = first.list ++ told }

@@ -14,7 +14,7 @@ use Rattle.bot_machine.specs.Intentions.{Intends}
 use Rattle.bot_machine.specs.Acts.{write_of_event}
 use Rattle.bot_machine.specs.Conversation.{Conversation, refused_events, Step, Run}
 use Rattle.bot_machine.proofs.Alternation.{by_turns}
-use Rattle.bot_machine.specs.Disk.{DiskValue, over, UnitStep, UnitRun, FoundIn, RunsOn, IsStep, IsRun}
+use Rattle.bot_machine.specs.Disk.{DiskValue, over, UnitStep, UnitRun, FoundIn, RunsOn, IsStep, StepsThrough, IsRun}
 use Rattle.bot_machine.proofs.UnitLaws.{between_calls}
 
 refused_events-more : (refusals : List Bool) (refused : Bool)
@@ -83,22 +83,42 @@ FoundIn-more size image (e ∷ es) [] [] old mid new event answer refused run st
 FoundIn-more size image (e ∷ es) [] (f ∷ fs) old mid new event answer refused run step found = absurd run
 FoundIn-more size image (e ∷ es) (a ∷ as_) [] old mid new event answer refused run step found = absurd run
 
+-- steps of a disk and then one more
+StepsThrough-more : {M : Type 0} (state : M → State) (events : List Event) (answers : List Answer) (refusals : List Bool)
+    (old mid new : DiskValue M) (event : Event) (answer : Answer) → StepsThrough state old events answers refusals mid
+    → IsStep (state mid.unit.store.medium) (state new.unit.store.medium) mid event answer new
+    → StepsThrough state old (events ++ event ∷ []) (answers ++ answer ∷ [])
+    (refusals ++ has_refused (state mid.unit.store.medium) (state new.unit.store.medium) ∷ []) new
+StepsThrough-more {M} state [] [] [] old mid new event answer r s =
+    subst (λ (d : DiskValue M). StepsThrough state d (event ∷ []) (answer ∷ [])
+    (has_refused (state mid.unit.store.medium) (state new.unit.store.medium) ∷ []) new) r (new, (s, refl), refl)
+StepsThrough-more state (e ∷ es) (a ∷ as_) (f ∷ fs) old mid new event answer r s =
+    (r.0, r.1, StepsThrough-more state es as_ fs r.0 mid new event answer r.2 s)
+StepsThrough-more state [] [] (f ∷ fs) old mid new event answer r s = absurd r
+StepsThrough-more state [] (a ∷ as_) [] old mid new event answer r s = absurd r
+StepsThrough-more state [] (a ∷ as_) (f ∷ fs) old mid new event answer r s = absurd r
+StepsThrough-more state (e ∷ es) [] [] old mid new event answer r s = absurd r
+StepsThrough-more state (e ∷ es) [] (f ∷ fs) old mid new event answer r s = absurd r
+StepsThrough-more state (e ∷ es) (a ∷ as_) [] old mid new event answer r s = absurd r
+
 -- no events, no time
-pub no_run : {M : Type 0} (m : State) (disk : DiskValue M) → IsSound m → IsRun m m disk [] [] disk
-no_run m disk sound = record {
-  refusals = [];
-  refused = omega arith;
-  runs_on = λ book fits. record {
-    later = book;
-    run = refl;
-    fits = fits;
-    ours = refl;
-    turns = λ none. tt;
-    cuts = λ ours. started _ m sound (λ image cut. inl (between_calls m disk.unit book fits ours image cut));
-    at_exit = λ ours. between_calls m disk.unit book fits ours;
-  };
-  elapses = record { failures_stay = omega arith; size_stays = refl };
-}
+pub no_run : {M : Type 0} (state : M → State) (disk : DiskValue M) → IsSound (state disk.unit.store.medium) → IsRun state disk [] [] disk
+no_run state disk sound =
+    let m : State = state disk.unit.store.medium in record {
+      refusals = [];
+      steps = refl;
+      refused = omega arith;
+      runs_on = λ book fits. record {
+        later = book;
+        run = refl;
+        fits = fits;
+        ours = refl;
+        turns = λ none. tt;
+        cuts = λ ours. started _ m sound (λ image cut. inl (between_calls m disk.unit book fits ours image cut));
+        at_exit = λ ours. between_calls m disk.unit book fits ours;
+      };
+      elapses = record { failures_stay = omega arith; size_stays = refl };
+    }
 
 -- events of a disk and then one event, over one book
 runs_more : {M : Type 0} (first before after : State) (old mid new : DiskValue M) (events : List Event)
@@ -131,17 +151,22 @@ runs_more first before after old mid new events answers refusals event answer bo
     }
 
 -- events of a disk and then one event are events of the disk
-pub IsRun-more : {M : Type 0} (first before after : State) (old mid new : DiskValue M)
+pub IsRun-more : {M : Type 0} (state : M → State) (old mid new : DiskValue M)
     (events : List Event) (answers : List Answer) (event : Event) (answer : Answer)
-    → IsRun first before old events answers mid → IsStep before after mid event answer new
-    → IsRun first after old (events ++ event ∷ []) (answers ++ answer ∷ []) new
-IsRun-more first before after old mid new events answers event answer r s = record {
-  refusals = r.refusals ++ has_refused before after ∷ [];
-  refused = counted r.refusals first.failures before.failures after.failures r.refused s.elapses.failures_stay;
-  runs_on = λ book fits. runs_more first before after old mid new events answers r.refusals event answer book
-      (r.runs_on book fits) s (sym r.elapses.size_stays);
-  elapses = record {
-    failures_stay = omega (arith, r.elapses.failures_stay, s.elapses.failures_stay);
-    size_stays = s.elapses.size_stays ∙ r.elapses.size_stays;
-  };
-}
+    → IsRun state old events answers mid
+    → IsStep (state mid.unit.store.medium) (state new.unit.store.medium) mid event answer new
+    → IsRun state old (events ++ event ∷ []) (answers ++ answer ∷ []) new
+IsRun-more state old mid new events answers event answer r s =
+    let first : State = state old.unit.store.medium in
+    let before : State = state mid.unit.store.medium in
+    let after : State = state new.unit.store.medium in record {
+      steps = StepsThrough-more state events answers r.refusals old mid new event answer r.steps s;
+      refusals = r.refusals ++ has_refused before after ∷ [];
+      refused = counted r.refusals first.failures before.failures after.failures r.refused s.elapses.failures_stay;
+      runs_on = λ book fits. runs_more first before after old mid new events answers r.refusals event answer book
+          (r.runs_on book fits) s (sym r.elapses.size_stays);
+      elapses = record {
+        failures_stay = omega (arith, r.elapses.failures_stay, s.elapses.failures_stay);
+        size_stays = s.elapses.size_stays ∙ r.elapses.size_stays;
+      };
+    }

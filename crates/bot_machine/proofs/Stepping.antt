@@ -18,7 +18,7 @@ use Rattle.bot_machine.specs.Exchange.{Script, finished, sending, Line, in_answe
 use Rattle.bot_machine.specs.Conversation.{OutStep, SetupStep}
 use Rattle.bot_machine.specs.Intentions.{Intends}
 use Rattle.bot_machine.specs.Acts.{PacketCarriesOut, write_of_packet}
-use Rattle.bot_machine.specs.Disk.{DiskValue, on_line, FitsDisk, Proceeds, IsStep, Elapses}
+use Rattle.bot_machine.specs.Disk.{DiskValue, on_line, FitsDisk, Proceeds, Tells, IsStep, Elapses}
 use Rattle.bot_machine.specs.Refinement.{taking_of, left_of, halt_of}
 use Rattle.bot_machine.specs.Packets.{packets_of}
 use Rattle.bot_machine.specs.Serving.{OpensOn, TakesOn, RestsOn, SparesOn}
@@ -40,7 +40,7 @@ module _ {M : Type 0} (before after : State) (old new : DiskValue M) (packet : L
         → new.unit ≡ old.unit
     pub spares : (book : Book) → FitsDisk before old book → (block taken : List ℕ)
         → PacketCarriesOut halted left packet (state_of old.unit book) block taken
-        → (answer : Result (List ℕ) Sense) × IsSparing block taken old.unit answer new.unit
+        → (answer : Result (List ℕ) Sense) × IsSparing block taken old.unit answer new.unit × Tells answer new.line
     pub elapses : Elapses before after
 
   does : DoesFor old.line.out_halted old.line.left
@@ -48,6 +48,7 @@ module _ {M : Type 0} (before after : State) (old new : DiskValue M) (packet : L
   does d = record {
     proceeds = d.proceeds;
     rests = λ book fits none. d.rests book fits (λ block taken carries. none (block, taken, carries));
+    ticks = tt;
     spares = d.spares;
     elapses = d.elapses;
   }
@@ -84,7 +85,7 @@ not_ready m disk packet packets halt status sound halted left =
 pub begins : {M : Type 0} (before after : State) (old new : DiskValue M) (packet : List ℕ)
     → false ≡ old.line.out_halted → finished ≡ old.line.left
     → OpensOn before after old.unit new.unit old.line new.line packet
-    → RestsOn before old.unit new.unit finished packet → SparesOn before old.unit new.unit finished packet
+    → RestsOn before old.unit new.unit finished packet → SparesOn before old.unit new.unit new.line finished packet
     → Elapses before after → IsStep before after old (event.Out (record { items = packet })) answer.Ack new
 begins before after old new packet halted left opens rests spares elapses =
     does_for before after old new packet answer.Ack false finished halted left (record {
@@ -100,7 +101,7 @@ pub goes_on : {M : Type 0} (before after : State) (old new : DiskValue M) (packe
     → false ≡ old.line.out_halted → taking_of t taken ≡ old.line.left
     → TakesOn before after old.unit new.unit old.line new.line t taken packet
     → RestsOn before old.unit new.unit (taking_of t taken) packet
-    → SparesOn before old.unit new.unit (taking_of t taken) packet
+    → SparesOn before old.unit new.unit new.line (taking_of t taken) packet
     → Elapses before after → IsStep before after old (event.Out (record { items = packet })) answer.Ack new
 goes_on before after old new packet t taken halted left takes rests spares elapses =
     does_for before after old new packet answer.Ack false (taking_of t taken) halted left (record {
@@ -120,6 +121,7 @@ ticked before after old new ticks line = record {
       let one = ticks.line book fits in
       proceeding before after old.unit new.unit _ None book book (refl, one.0, line) one.1 refl (ticks.cuts book fits);
   rests = λ book fits none. absurd (none tt);
+  ticks = (ticks, line);
   spares = λ book fits block taken carries. absurd carries;
   elapses = record {
     failures_stay = ticks.failures_stay;
@@ -133,6 +135,7 @@ pub token : {M : Type 0} (m : State) (disk : DiskValue M) → IsSound m
 token m disk sound = record {
   proceeds = λ book fits. staying m disk.unit _ book sound fits (refl, refl);
   rests = λ book fits none. refl;
+  ticks = tt;
   spares = λ book fits block taken carries. absurd carries;
   elapses = no_time m;
 }
@@ -143,6 +146,7 @@ pub asked : {M : Type 0} (m : State) (disk : DiskValue M) (packet : List ℕ) (t
 asked m disk packet told line sound step = record {
   proceeds = λ book fits. staying m disk.unit _ book sound fits (step, refl);
   rests = λ book fits none. refl;
+  ticks = tt;
   spares = λ book fits block taken carries. absurd carries;
   elapses = no_time m;
 }

@@ -1,5 +1,10 @@
 -- A disk over a medium: its conversation over each book that it fits, and what a cut may leave.
-use Rattle.std.specs.Prelude.{◌≡◌, ◌≤◌, ◌⊎◌, ℕ, ◌+◌, Bool, true, List, ◌∷◌, Option, None, Result}
+use Rattle.std.specs.Prelude.{⊤, ◌≡◌, ◌≤◌, ◌⊎◌, ℕ, ◌+◌, Bool, true, List, [], ◌∷◌, Option, None}
+use Rattle.std.specs.Prelude.{Result, Ok, Err}
+use Rattle.wrappers.specs.declared.case.Endpoint.{Endpoint}
+use Rattle.wrappers.specs.declared.status.Status.{Status}
+use Rattle.wrappers.specs.declared.status.Status.TheVariants.{Passed, Failed}
+use Rattle.wrappers.specs.Status.{status_wrapper}
 use Rattle.medium.specs.Blocks.{Write}
 use Rattle.medium.specs.Medium.{State, Image}
 use Rattle.medium.specs.Moments.{LeavesOnly, EachCut}
@@ -7,11 +12,12 @@ use Rattle.scsi_unit.specs.Rules.{Sense}
 use Rattle.scsi_unit.specs.Books.{Book}
 use Rattle.scsi_unit.specs.Books.{MayFind, FoundWith}
 use Rattle.scsi_unit.specs.Rules.{UnitState, CarriesOut, Ticks}
-use Rattle.scsi_unit.specs.Serving.{has_refused, IsSparing}
+use Rattle.scsi_unit.specs.Serving.{has_refused, IsSparing, TicksOver}
 use Rattle.scsi_unit.specs.UnitValue.{UnitValue, state_of, FitsUnit}
 use Rattle.bot_machine.specs.declared.event.Event.{Event}
+use Rattle.bot_machine.specs.declared.event.Event.TheVariants as happens
 use Rattle.bot_machine.specs.declared.event.Answer.{Answer}
-use Rattle.bot_machine.specs.Exchange.{Line, finished}
+use Rattle.bot_machine.specs.Exchange.{Line, finished, sending}
 use Rattle.bot_machine.specs.Conversation.{Conversation, Step, Run, refused_events}
 use Rattle.bot_machine.specs.Turns.{ByTurns, marks_in}
 use Rattle.bot_machine.specs.Intentions.{Intends}
@@ -59,6 +65,22 @@ pub record Proceeds {M : Type 0} (before after : State) (old new : UnitValue M)
   pub cuts : book.ours ≡ true → LeavesOnly (FoundWith before.size book write) before after
   pub at_exit : book.ours ≡ true → EachCut (MayFind after.size later) after
 
+-- a step in the background is exactly one step of the unit, and leaves the line
+abbrev pub TicksIn : {M : Type 0} → State → State → DiskValue M → Event → DiskValue M → Type 0
+TicksIn before after old happens.Tick new =
+    TicksOver before after old.unit new.unit × (new.line ≡ old.line)
+TicksIn before after old other new = ⊤
+
+-- the status that tells the answer to a command
+abbrev pub status_of_answer : Result (List ℕ) Sense → Status
+status_of_answer (Ok sent) = Passed
+status_of_answer (Err sense) = Failed
+
+-- the status wrapper that is still to come tells this answer
+abbrev pub Tells : Result (List ℕ) Sense → Line → Type 0
+Tells answer line = (packets : List (List ℕ)) × (halt : Option Endpoint) × (tag : ℕ) × (residue : ℕ)
+    × (line.left ≡ sending packets halt (status_wrapper tag residue (status_of_answer answer)))
+
 -- one event of a disk and its answer
 pub record IsStep {M : Type 0} (before after : State) (old : DiskValue M) (event : Event)
     (answer : Answer) (new : DiskValue M) : Type 0 where
@@ -69,10 +91,12 @@ pub record IsStep {M : Type 0} (before after : State) (old : DiskValue M) (event
   -- where the unit has nothing to do it stays as it is, and its medium too
   pub rests : (book : Book) → FitsDisk before old book → ¬ Acts (over old book) event
       → new.unit ≡ old.unit
-  -- a command makes no call of the medium that it does not need
+  pub ticks : TicksIn before after old event new
+  -- a command makes no call of the medium that it does not need, and the host is told its answer
   pub spares : (book : Book) → FitsDisk before old book → (block taken : List ℕ)
       → EventCarriesOut (over old book) event block taken
-      → (answer : Result (List ℕ) Sense) × IsSparing block taken old.unit answer new.unit
+      → (told : Result (List ℕ) Sense) × IsSparing block taken old.unit told new.unit
+      × Tells told new.line
   pub elapses : Elapses before after
 
 -- an image that a cut in one of the events of a run may leave: accepted writes of the book at the
@@ -101,15 +125,31 @@ pub record RunsOn {M : Type 0} (before after : State) (old : DiskValue M) (event
       before after
   pub at_exit : book.ours ≡ true → EachCut (MayFind after.size later) after
 
+-- Each event is one step of the disk. The truth values say in which the medium refused a call.
+abbrev pub StepsThrough : {M : Type 0} → (M → State) → DiskValue M → List Event → List Answer
+    → List Bool → DiskValue M → Type 0
+StepsThrough state old [] [] [] new = new ≡ old
+StepsThrough {M} state old (event ∷ events) (answer ∷ answers) (refused ∷ refusals) new =
+    (mid : DiskValue M)
+    × (let before : State = state old.unit.store.medium in
+    let after : State = state mid.unit.store.medium in
+    IsStep before after old event answer mid × (refused ≡ has_refused before after))
+    × StepsThrough state mid events answers refusals new
+StepsThrough state old events answers refusals new = ⊥
+
 -- Events of a disk and their answers: in some of the events the medium refused a call, whatever the
 -- book.
-pub record IsRun {M : Type 0} (before after : State) (old : DiskValue M) (events : List Event)
+pub record IsRun {M : Type 0} (state : M → State) (old : DiskValue M) (events : List Event)
     (answers : List Answer) (new : DiskValue M) : Type 0 where
   pub refusals : List Bool
-  pub refused : refused_events refusals + before.failures ≤ after.failures
-  pub runs_on : (book : Book) → FitsDisk before old book
-      → RunsOn before after old events answers refusals new book
-  pub elapses : Elapses before after
+  pub steps : StepsThrough state old events answers refusals new
+  pub refused : let before : State = state old.unit.store.medium in
+      let after : State = state new.unit.store.medium in
+      refused_events refusals + before.failures ≤ after.failures
+  pub runs_on : (book : Book) → FitsDisk (state old.unit.store.medium) old book
+      → RunsOn (state old.unit.store.medium) (state new.unit.store.medium) old events answers
+      refusals new book
+  pub elapses : Elapses (state old.unit.store.medium) (state new.unit.store.medium)
 
 -- something was armed in the medium, and nothing else of the disk has changed
 abbrev pub IsRearmed : {M : Type 0} → DiskValue M → DiskValue M → Type 0

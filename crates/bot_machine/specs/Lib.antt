@@ -21,4 +21,5 @@ pub mod Striking
 pub mod Lives
 pub mod LivesValue
 pub mod LivesView
+pub mod Moving
 pub mod Lifetimes

@@ -15,6 +15,8 @@ use Rattle.bot_machine.specs.Conversation.{refused_events}
 use Rattle.bot_machine.specs.Opening.{IsNotOpened}
 use Rattle.bot_machine.specs.Lives.{Action, arms, starts, plays, cuts, before_first, Standing}
 use Rattle.bot_machine.specs.Lives.{Opens, LivesRun}
+use Rattle.bot_machine.specs.declared.stage.Stage.TheVariants.{Rests}
+use Rattle.bot_machine.specs.Moving.{MovesBy, IsRefusedStart}
 use Rattle.bot_machine.specs.LivesValue.{LivesValue, LivesGoOn, IsAtRest, OpensOn, FoundAt, MayRefuse}
 
 -- what is done before the start of a life
@@ -56,13 +58,16 @@ pub record AppendsFor (before after : LivesValue) (old new : Room) (actions : Li
   pub one_each : length told ≡ events
   pub goes_on : LivesGoOn before actions told after
 
--- Lives of a disk over a medium in memory, and their answers, one for each event. The actions in which
--- the medium refused a call are at most as many as the calls that it refused. The power of the medium
--- that comes back is on, nothing is unflushed, and no fuse is armed.
+-- Lives of a disk over a medium in memory, and their answers, one for each event. The actions move the
+-- disk and its medium just so, whatever the contents: a fuse and a cut do exactly what they say, a start
+-- that was not cut stood on contents that stand for something, a step in the background is one step.
+-- The actions in which the medium refused a call are at most as many as the calls that it refused. The
+-- power of the medium that comes back is on, nothing is unflushed, and no fuse is armed.
 pub record AreLived (before : Sim) (identity : Identification) (lives : List Life)
     (told : List Answer) (after : Sim) : Type 0 where
   pub one_each : length told ≡ events_in lives
   pub refusals : List Bool
+  pub moves : MovesBy identity (Rests before) (actions_of_all lives) told refusals (Rests after)
   pub refused : refused_events refusals + (state_of before).failures ≤ (state_of after).failures
   pub ends : (book : Book) → OpensOn (state_of before) book
       → EndsIn identity book (actions_of_all lives) told refusals after
@@ -93,7 +98,13 @@ pub record AreLivedUpTo (before : Sim) (identity : Identification) (lives : List
   pub at : Sim
   pub were_lived : AreLived before identity lived told at
   pub cause : IsNotOpened (state_of at) (state_of after) fault
+  -- the medium with the fuse of that life, if it has one, on which the start was made
+  pub armed : Sim
+  pub arming : List Bool
+  pub arms : MovesBy identity (Rests at) (armed_by life.fuse) [] arming (Rests armed)
+  pub start : IsRefusedStart armed fault after
   pub refusals : List Bool
+  pub refusals_are : refusals ≡ were_lived.refusals ++ arming
   pub refused : refused_events refusals + (state_of before).failures ≤ (state_of after).failures
   pub stops : (book : Book) → OpensOn (state_of before) book → StopsIn identity book
       (actions_of_all lived ++ armed_by life.fuse) told refusals

@@ -1,11 +1,13 @@
 -- Lives of a disk over a medium in memory, and where they stand.
 use Rattle.std.specs.Prelude.{◌≡◌, ℕ, ◌+◌, ◌^◌, ◌≤◌, ◌<◌, ⊤, Bool, true, false, List, [], None}
-use Rattle.medium.specs.Medium.{State, Image}
+use Rattle.medium.specs.Medium.{Image}
 use Rattle.medium.specs.Moments.{EachCut}
 use Rattle.medium.specs.Sim.{Sim, state_of}
 use Rattle.scsi_unit.specs.StartFaults.{StartFault, NoMemory, Read, Write, Flush}
 use Rattle.scsi_unit.specs.StartFaults.{BadSuper, BadVersion, BadSize, BadHead, StampsUsedUp}
 use Rattle.scsi_unit.specs.Starting.{Stands}
+pub use Rattle.bot_machine.specs.Moving.{medium_in, state_in}
+use Rattle.bot_machine.specs.Moving.{MovesBy, IsRefusedStart}
 -- a first life over a medium opens with a book as its unit does
 pub use Rattle.scsi_unit.specs.Starting.{OpensOn}
 use Rattle.scsi_unit.specs.Identification.{Identification}
@@ -24,13 +26,6 @@ use Rattle.bot_machine.specs.Lives.{LivesRun}
 pub record LivesValue : Type 0 where
   pub identity : Identification
   pub stage : Stage
-
-abbrev pub medium_in : Stage → Sim
-medium_in (Rests medium) = medium
-medium_in (Runs disk) = disk.unit.store.medium
-
-abbrev pub state_in : Stage → State
-state_in stage = state_of (medium_in stage)
 
 -- a disk was started, or power went in its start
 abbrev pub HasStarted : Stage → Type 0
@@ -95,11 +90,13 @@ pub record LivesGoTo (after : LivesValue) (here : Standing) (actions : List Acti
   pub fits : FitsLives after there
   pub ours : (book_at there.place).ours ≡ (book_at here.place).ours
 
--- Lives go on by these actions, with these answers. The actions in which the medium refused a call are
--- at most as many as the calls that it refused.
+-- Lives go on by these actions, with these answers: so does the disk itself, and so do the lives of each
+-- book. The actions in which the medium refused a call are the same, and at most as many as the calls
+-- that it refused.
 pub record LivesGoOn (before : LivesValue) (actions : List Action) (answers : List Answer)
     (after : LivesValue) : Type 0 where
   pub refusals : List Bool
+  pub moves : MovesBy before.identity before.stage actions answers refusals after.stage
   pub refused : refused_events refusals + (state_in before.stage).failures
       ≤ (state_in after.stage).failures
   pub goes : (here : Standing) → FitsLives before here
@@ -139,6 +136,10 @@ pub record LivesStopAt (after : LivesValue) (here : Standing) (actions : List Ac
 pub record LivesStop (before : LivesValue) (actions : List Action) (answers : List Answer)
     (fault : StartFault) (after : LivesValue) : Type 0 where
   pub refusals : List Bool
+  -- the medium on which the start was made that is refused
+  pub at : Sim
+  pub moves : MovesBy before.identity before.stage actions answers refusals (Rests at)
+  pub start : IsRefusedStart at fault (medium_in after.stage)
   pub refused : refused_events refusals + (state_in before.stage).failures
       ≤ (state_in after.stage).failures
   pub goes : (here : Standing) → FitsLives before here → LivesStopAt after here actions answers

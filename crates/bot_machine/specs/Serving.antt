@@ -18,7 +18,7 @@ use Rattle.bot_machine.specs.Conversation.{IsCarriedOut, Opens, Locks, Takes}
 use Rattle.bot_machine.specs.Intentions.{way_of, Intends}
 use Rattle.bot_machine.specs.Acts.{PacketCarriesOut, write_of_packet}
 use Rattle.bot_machine.specs.Refinement.{taking_of}
-use Rattle.bot_machine.specs.Disk.{on_line, Proceeds}
+use Rattle.bot_machine.specs.Disk.{on_line, Proceeds, Tells}
 
 -- A packet spells a command wrapper, and begins this exchange: the one of its command, of what the unit
 -- intends for it, and of the case that this makes.
@@ -61,8 +61,10 @@ RestsOn before old new left packet = (book : Book) → FitsUnit before old book
     → ((block taken : List ℕ) → PacketCarriesOut false left packet (state_of old book) block taken → ⊥)
     → new ≡ old
 
--- where a packet has a command carried out, the unit makes no call of the medium that it does not need
-abbrev pub SparesOn : {M : Type 0} → State → UnitValue M → UnitValue M → Script → List ℕ → Type 0
-SparesOn before old new left packet = (book : Book) → FitsUnit before old book
+-- where a packet has a command carried out, the unit makes no call of the medium that it does not need,
+-- and the line is to tell its answer
+abbrev pub SparesOn : {M : Type 0} → State → UnitValue M → UnitValue M → Line → Script → List ℕ
+    → Type 0
+SparesOn before old new to left packet = (book : Book) → FitsUnit before old book
     → (block taken : List ℕ) → PacketCarriesOut false left packet (state_of old book) block taken
-    → (answer : Result (List ℕ) Sense) × IsSparing block taken old answer new
+    → (answer : Result (List ℕ) Sense) × IsSparing block taken old answer new × Tells answer to

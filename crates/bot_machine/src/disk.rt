@@ -191,7 +191,18 @@ impl<M: Medium> Disk<M> {
     /// Takes a setup packet (Bulk-Only Transport 1.0, 3; USB 2.0, 9.4). No call of the medium is
     /// made.
     pub fn setup(&mut self, packet: [u8; 8]) -> SetupAnswer
-        ensures step { SetupStep packet self.old.line (answer_to_setup result) self.new.line }
+        ensures step { IsStep (M.state self.old.unit.store.medium)
+            (M.state self.new.unit.store.medium) self.old
+            (event.Setup packet) (answer_to_setup result) self.new }
+        ensures request { SetupStep packet self.old.line (answer_to_setup result) self.new.line }
+        ensures others { self.new ≡ record self.old { line = self.new.line } }
+    {
+        self.answer_request(packet)
+    }
+
+    // Answers a setup packet.
+    fn answer_request(&mut self, packet: [u8; 8]) -> SetupAnswer
+        ensures request { SetupStep packet self.old.line (answer_to_setup result) self.new.line }
         ensures others { self.new ≡ record self.old { line = self.new.line } }
     {
         match read_request(packet) {

@@ -6,6 +6,7 @@ ghost use Rattle.medium.specs.Writes.{keeps};
 ghost use Rattle.bot_machine.specs.declared.event.Answer.{Answer};
 ghost use Rattle.bot_machine.specs.Lives.{plays};
 ghost use Rattle.bot_machine.specs.Opening.{IsNotOpened};
+ghost use Rattle.bot_machine.specs.declared.stage.Stage.TheVariants.{Rests};
 ghost use Rattle.bot_machine.specs.LivesValue.{
   medium_in,
   state_in,
@@ -81,6 +82,7 @@ fn live(
         (actions_of life.now) (length life.now.events.items)) }
     ensures rests { OnOk result (IsAtRest (medium_in run.new.stage)) }
     ensures unfused { OnOk result ((medium_in run.new.stage).power.fuse ≡ None) }
+    ensures alone { OnOk result (run.new.stage ≡ Rests (medium_in run.new.stage)) }
     ensures err { IfErr result (λ fault. LivesStop run.old (armed_by life.now.fuse) [] fault run.new) }
     ensures cause { IfErr result (λ fault.
         IsNotOpened (state_in run.old.stage) (state_in run.new.stage) fault) }

@@ -37,8 +37,7 @@ pub fn run_events<M: Medium>(disk: &mut Disk<M>, events: &[Event], answers: &mut
     requires { length answers.old.list + length events.now ≤ answers.old.room }
     ensures run { (told : List Answer)
         × (answers.new ≡ record answers.old { list = answers.old.list ++ told })
-        × IsRun (M.state disk.old.unit.store.medium) (M.state disk.new.unit.store.medium)
-        disk.old events.now told disk.new }
+        × IsRun M.state disk.old events.now told disk.new }
     ensures follows { M.follows disk.old.unit.store.medium disk.new.unit.store.medium }
 {
     for event in events {

@@ -7,7 +7,7 @@ ghost use Rattle.wrappers.specs.declared.way.Way.TheVariants as ways;
 ghost use Rattle.scsi_unit.specs.Rules.{Sense};
 ghost use Rattle.scsi_unit.specs.Serving.{IsSparing};
 ghost use Rattle.scsi_unit.specs.UnitValue.{intention_of};
-ghost use Rattle.bot_machine.specs.Disk.{Elapses};
+ghost use Rattle.bot_machine.specs.Disk.{Elapses, Tells};
 ghost use Rattle.bot_machine.specs.Exchange.{Script, finished};
 ghost use Rattle.bot_machine.specs.Refinement.{
   IsInPhase,
@@ -44,7 +44,8 @@ fn carry_out<M: Medium>(
         (M.state unit.old.store.medium) (M.state unit.new.store.medium) unit.old unit.new
         (line_with wire.old left) (line_of wire.new taken staging.new) exchange.now bytes.now }
     ensures spares { (answer : Result (List ℕ) Sense)
-        × IsSparing exchange.now.command.block.items bytes.now unit.old answer unit.new }
+        × IsSparing exchange.now.command.block.items bytes.now unit.old answer unit.new
+        × ((taken : List ℕ) → Tells answer (line_of wire.new taken staging.new)) }
     ensures phase { IsInPhase (intention_of unit.new) wire.new.phase }
     ensures elapses { Elapses (M.state unit.old.store.medium) (M.state unit.new.store.medium) }
     ensures follows { M.follows unit.old.store.medium unit.new.store.medium }
@@ -84,8 +85,8 @@ pub(crate) fn open<M: Medium>(
         (M.state unit.old.store.medium) (M.state unit.new.store.medium) unit.old unit.new
         (line_of wire.old taken staging.old) (line_of wire.new taken staging.new) packet.now }
     ensures rests { RestsOn (M.state unit.old.store.medium) unit.old unit.new finished packet.now }
-    ensures spares { SparesOn (M.state unit.old.store.medium) unit.old unit.new
-        finished packet.now }
+    ensures spares { (taken : List ℕ) → SparesOn (M.state unit.old.store.medium) unit.old unit.new
+        (line_of wire.new taken staging.new) finished packet.now }
     ensures phase { IsInPhase (intention_of unit.new) wire.new.phase }
     ensures elapses { Elapses (M.state unit.old.store.medium) (M.state unit.new.store.medium) }
     ensures follows { M.follows unit.old.store.medium unit.new.store.medium }
@@ -128,7 +129,7 @@ pub(crate) fn take_data<M: Medium>(
     ensures rests { RestsOn (M.state unit.old.store.medium) unit.old unit.new
         (taking_of pending taken.old) packet.now }
     ensures spares { SparesOn (M.state unit.old.store.medium) unit.old unit.new
-        (taking_of pending taken.old) packet.now }
+        (line_of wire.new taken.new staging.new) (taking_of pending taken.old) packet.now }
     ensures phase { IsInPhase (intention_of unit.new) wire.new.phase }
     ensures elapses { Elapses (M.state unit.old.store.medium) (M.state unit.new.store.medium) }
     ensures follows { M.follows unit.old.store.medium unit.new.store.medium }

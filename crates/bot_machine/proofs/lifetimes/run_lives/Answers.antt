@@ -1,12 +1,11 @@
-use Rattle.std.proofs.Common.{◌≡◌, ◌+◌, ◌++◌, ℕ, List, [], take, drop, suc, length, length-append, sym, subst, ◌∙◌, ap, arith}
-use Rattle.std.proofs.lemmas.List.{append-nil, take_all}
-use Rattle.bot_machine.specs.declared.event.Answer.{Answer}
+use Rattle.std.proofs.Common.{◌≡◌, ◌+◌, ℕ, List, [], take, drop, suc, length, length-append, refl, sym, subst, ◌∙◌, ap, arith}
+use Rattle.std.proofs.lemmas.List.{take_all}
 use Rattle.bot_machine.specs.declared.stage.Stage.TheVariants.{Rests}
 use Rattle.bot_machine.specs.Answers.{Room}
 use Rattle.bot_machine.specs.Lives.{Action}
-use Rattle.bot_machine.specs.LivesValue.{LivesValue, medium_in, LivesStop}
-use Rattle.bot_machine.specs.Lifetimes.{actions_of, actions_of_all, armed_by, events_in, AppendsFor}
-use Rattle.bot_machine.proofs.Playing.{appends_on, lives_stop}
+use Rattle.bot_machine.specs.LivesValue.{LivesValue}
+use Rattle.bot_machine.specs.Lifetimes.{actions_of, actions_of_all, events_in, AppendsFor}
+use Rattle.bot_machine.proofs.Playing.{appends_on}
 use Rattle.bot_machine.proofs.Lasting.{none_yet, actions_more, events_more, room_left, apart, all_lived, lived_up_to}
 use Rattle.bot_machine.proofs.lifetimes.run_lives.Goals as goal
 
@@ -18,6 +17,7 @@ loop-life-init c =
       run = subst (λ (x : LivesValue). AppendsFor first x answers answers [] 0) (sym c.new-run.ensures.value) (none_yet first answers);
       rests = rw c.new-run.ensures.value c.requires.rests;
       unfused = rw c.new-run.ensures.value c.requires.unfused;
+      alone = rw c.new-run.ensures.value refl;
     }
 
 pub live-requires : goal.live-requires
@@ -36,17 +36,13 @@ returns-in-Err-clause-err c =
     let lives = c.args.lives.now in
     let i = c.loop-life.life-index in
     let life = c.life-item.result in
-    let lived = c.loop-life.invariant.run in
-    let were_lived = all_lived c.args.medium c.args.identity c.requires.rests c.requires.unfused c.loop-life.run lived.told
-    (take i lives) lived.goes_on lived.one_each c.loop-life.invariant.rests c.loop-life.invariant.unfused in
-    let stop : LivesStop first (actions_of_all (take i lives) ++ armed_by life.fuse) lived.told c.in-Err.fault c.live.new.run =
-    subst (λ (l : List Answer). LivesStop first (actions_of_all (take i lives) ++ armed_by life.fuse) l c.in-Err.fault c.live.new.run) (append-nil lived.told)
-    (lives_stop first c.loop-life.run c.live.new.run (actions_of_all (take i lives)) (armed_by life.fuse) lived.told [] lived.goes_on c.in-Err.fault c.in-Err.ensures.err) in (
+    let lived = c.loop-life.invariant.run in (
       lived.told,
       c.in-Err.ensures.unanswered ∙ lived.appends,
-      rw c.into_medium.ensures (lived_up_to c.args.medium c.args.identity c.requires.rests c.requires.unfused c.live.new.run lived.told
+      rw c.into_medium.ensures (lived_up_to c.args.medium c.args.identity c.requires.rests c.requires.unfused c.loop-life.run c.live.new.run lived.told
           lives (take i lives) (drop (suc i) lives) life c.in-Err.fault (apart lives i life c.loop-life-test.true c.life-item.is)
-          (medium_in c.loop-life.run.stage) were_lived c.in-Err.ensures.cause stop),
+          lived.goes_on lived.one_each c.loop-life.invariant.rests c.loop-life.invariant.unfused c.loop-life.invariant.alone
+          c.in-Err.ensures.cause c.in-Err.ensures.err),
     )
 
 pub loop-life-preserved : goal.loop-life-preserved
@@ -65,6 +61,7 @@ loop-life-preserved c =
           (sym (actions_more lives i life below c.life-item.is)) more);
       rests = c.in_default.ensures.rests;
       unfused = c.in_default.ensures.unfused;
+      alone = c.in_default.ensures.alone;
     }
 
 pub returns-clause-ok : goal.returns-clause-ok
@@ -77,5 +74,5 @@ returns-clause-ok c =
       run.told,
       run.appends,
       rw c.into_medium-2.ensures (all_lived c.args.medium c.args.identity c.requires.rests c.requires.unfused c.loop-life.run run.told
-          lives run.goes_on run.one_each c.loop-life.invariant.rests c.loop-life.invariant.unfused),
+          lives run.goes_on run.one_each c.loop-life.invariant.rests c.loop-life.invariant.unfused c.loop-life.invariant.alone),
     )

@@ -12,4 +12,5 @@ invariant-loop-life l =
       run : AppendsFor first l.run l.fn.answers l.answers (actions_of_all lived) (events_in lived);
       rests : IsAtRest (medium_in l.run.stage);
       unfused : (medium_in l.run.stage).power.fuse ≡ None;
+      alone : l.run.stage ≡ Rests (medium_in l.run.stage);
     }

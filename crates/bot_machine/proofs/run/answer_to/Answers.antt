@@ -24,4 +24,4 @@ pub returns-in-Setup-clause-step : goal.returns-in-Setup-clause-step
 returns-in-Setup-clause-step g c =
     let disk = c.args.disk.now in
     rw (c.setup.ensures.others, c.in-Setup.is, c.from-in-Setup.ensures)
-    (asked _ disk c.in-Setup.packet _ _ (g.met.M.Medium.sound disk.unit.store.medium) c.setup.ensures.step)
+    (asked _ disk c.in-Setup.packet _ _ (g.met.M.Medium.sound disk.unit.store.medium) c.setup.ensures.request)

@@ -6,13 +6,12 @@ use Rattle.bot_machine.proofs.run.run_events.Goals as goal
 
 pub loop-event-init : goal.loop-event-init
 loop-event-init g c =
-    let m = g.M.Medium.state c.args.disk.now.unit.store.medium in
     record {
       run = (
         [],
         ap (λ told. record c.args.answers.now { list = told }) (sym (append-nil
             c.args.answers.now.list)),
-        no_run m c.args.disk.now (g.met.M.Medium.sound c.args.disk.now.unit.store.medium),
+        no_run g.M.Medium.state c.args.disk.now (g.met.M.Medium.sound c.args.disk.now.unit.store.medium),
       );
       follows = g.met.M.Medium.follows_itself c.args.disk.now.unit.store.medium;
       count = omega arith;
@@ -47,7 +46,7 @@ loop-event-preserved g c =
         c.push.ensures ∙ ap (λ (x : Room). record x { list = x.list ++ answer ∷ [] }) so_far.1
             ∙ ap (λ told. record first { list = told }) (append_assoc first.list so_far.0
             (answer ∷ [])),
-        rw e (IsRun-more (state old.unit.store.medium) (state mid.unit.store.medium) (state new.unit.store.medium) old mid new
+        rw e (IsRun-more state old mid new
             (take i events) so_far.0
             c.event-item.result answer so_far.2 c.answer_to.ensures.step),
       );

@@ -12,7 +12,7 @@ invariant-loop-event g l =
         list = l.fn.answers.list ++
             told;
       })
-          × IsRun (medium.state old.unit.store.medium) (medium.state l.disk.unit.store.medium) old
+          × IsRun medium.state old
           (take l.event-index l.events) told l.disk;
       follows : medium.follows old.unit.store.medium l.disk.unit.store.medium;
       count : length l.answers.list ≡ length l.fn.answers.list + l.event-index;

@@ -1,7 +1,10 @@
 use Rattle.std.proofs.Common.{◌≡◌, length, take, arith, length-take}
 use Rattle.std.specs.Prelude.{Ok, Err}
 use Rattle.bot_machine.proofs.UnitLaws.{ours_stay}
+use Rattle.bot_machine.specs.Exchange.{finished}
+use Rattle.bot_machine.specs.Refinement.{line_with}
 use Rattle.bot_machine.proofs.Sending.{sent_in-size}
+use Rattle.bot_machine.proofs.Telling.{tells}
 use Rattle.bot_machine.proofs.Packets.{packets_of-none}
 use Rattle.bot_machine.proofs.Proceeding.{proceeding}
 use Rattle.bot_machine.proofs.serve.carry_out.Goals as goal
@@ -24,6 +27,15 @@ returns-in-Ok-clause-carried_out g c = λ taken left book fits.
     line.2 (ours_stay _ _ _ _ _ _ line.1)
     (rw c.as_slice.ensures.value at (c.in-Ok.ensures.serves.cuts book fits))
 
+pub returns-in-Ok-clause-spares : goal.returns-in-Ok-clause-spares
+returns-in-Ok-clause-spares g c =
+    let out = c.carry_out.new.out in
+    let room : length out ≡ 24576 = omega arith in (
+      Ok (take c.in-Ok.size out),
+      rw c.as_slice.ensures.value at c.in-Ok.ensures.sparing,
+      (λ taken. tells (Ok (take c.in-Ok.size out)) _ _ _ _ _ (line_with c.args.wire.now finished) (c.tell.ensures.line taken out finished room)),
+    )
+
 pub returns-in-Ok-clause-phase : goal.returns-in-Ok-clause-phase
 returns-in-Ok-clause-phase g c = c.tell.ensures.phase _
 
@@ -41,6 +53,15 @@ returns-in-Err-clause-carried_out g c = λ taken left book fits.
     })
     line.2 (ours_stay _ _ _ _ _ _ line.1)
     (rw c.as_slice.ensures.value at (c.in-Err.ensures.serves.cuts book fits))
+
+pub returns-in-Err-clause-spares : goal.returns-in-Err-clause-spares
+returns-in-Err-clause-spares g c =
+    let out = c.carry_out.new.out in
+    let room : length out ≡ 24576 = omega arith in (
+      Err c.in-Err.field-0,
+      rw c.as_slice.ensures.value at c.in-Err.ensures.sparing,
+      (λ taken. tells (Err c.in-Err.field-0) _ _ _ _ _ (line_with c.args.wire.now finished) (c.tell-in-Err.ensures.line taken out finished room)),
+    )
 
 pub returns-in-Err-clause-phase : goal.returns-in-Err-clause-phase
 returns-in-Err-clause-phase g c = c.tell-in-Err.ensures.phase _

@@ -13,7 +13,7 @@ returns-in_default-clause-opens g c = λ taken book fits.
     (inr (record { unknown = c.in_default.ensures; unit = refl; after = rw c.lock.ensures refl }))
 
 pub returns-in_default-clause-spares : goal.returns-in_default-clause-spares
-returns-in_default-clause-spares g c = λ book fits block taken carries.
+returns-in_default-clause-spares g c = λ came book fits block taken carries.
     absurd (c.in_default.ensures carries.command carries.spelled)
 
 pub returns-in-AtOnce-clause-opens : goal.returns-in-AtOnce-clause-opens
@@ -29,9 +29,10 @@ returns-in-AtOnce-clause-rests g c = λ book fits none.
     absurd (none _ _ (carries_out _ _ book fits _ c.in-Some.exchange c.in-Some.ensures c.in-AtOnce.ensures))
 
 pub returns-in-AtOnce-clause-spares : goal.returns-in-AtOnce-clause-spares
-returns-in-AtOnce-clause-spares g c = λ book fits block taken carries.
+returns-in-AtOnce-clause-spares g c = λ came book fits block taken carries.
+    let spared = c.carry_out.ensures.spares in
     let same = carried_at_once _ _ book fits _ c.in-Some.exchange c.in-Some.ensures block taken carries in
-    rw (same.1, same.2) c.carry_out.ensures.spares
+    rw (same.1, same.2) (spared.0, spared.1, spared.2 came)
 
 pub returns-in-AfterData-clause-opens : goal.returns-in-AfterData-clause-opens
 returns-in-AfterData-clause-opens g c = λ taken book fits.
@@ -41,7 +42,7 @@ returns-in-AfterData-clause-opens g c = λ taken book fits.
     (rw (← c.in-AfterData.ensures, ← c.size-due.ensures) (refl, refl))))
 
 pub returns-in-AfterData-clause-spares : goal.returns-in-AfterData-clause-spares
-returns-in-AfterData-clause-spares g c = λ book fits block taken carries.
+returns-in-AfterData-clause-spares g c = λ came book fits block taken carries.
     let same = carried_at_once _ _ book fits _ c.in-Some.exchange c.in-Some.ensures block taken carries in
     absurd (let e : after_data ≡ at_once = c.in-AfterData.ensures ∙ same.0 in cc)
 
@@ -57,7 +58,7 @@ returns-in-Never-clause-opens g c = λ taken book fits.
     ))))
 
 pub returns-in-Never-clause-spares : goal.returns-in-Never-clause-spares
-returns-in-Never-clause-spares g c = λ book fits block taken carries.
+returns-in-Never-clause-spares g c = λ came book fits block taken carries.
     let same = carried_at_once _ _ book fits _ c.in-Some.exchange c.in-Some.ensures block taken carries in
     absurd (let e : never ≡ at_once = c.in-Never.ensures ∙ same.0 in cc)
 

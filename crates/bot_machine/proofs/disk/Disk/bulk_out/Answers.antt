@@ -15,7 +15,7 @@ returns-in-Command-clause-step g c =
     let opens = rw (c.in-Command.ensures.after ∙ c.in-Command.ensures.value, c.deref_mut.ensures.value)
     at (c.open.ensures.opens d.taken.items) in
     rw (← c.self.view_is, with_items_is d.staging c.open.new.staging (search (rules, places)))
-    (begins _ _ _ _ c.args.packet.now (sym c.if-self.false) left opens c.open.ensures.rests c.open.ensures.spares c.open.ensures.elapses)
+    (begins _ _ _ _ c.args.packet.now (sym c.if-self.false) left opens c.open.ensures.rests (c.open.ensures.spares d.taken.items) c.open.ensures.elapses)
 
 pub returns-in-DataOut-clause-step : goal.returns-in-DataOut-clause-step
 returns-in-DataOut-clause-step g c =

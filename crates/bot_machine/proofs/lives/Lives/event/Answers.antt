@@ -1,5 +1,8 @@
 use Rattle.std.proofs.Common.{[], ◌∷◌}
+use Rattle.medium.specs.SimLaws.{comes_after_through}
 use Rattle.bot_machine.specs.Lives.{starts, plays}
+use Rattle.bot_machine.specs.LivesValue.{medium_in}
+use Rattle.bot_machine.proofs.Happening.{on_before}
 use Rattle.bot_machine.proofs.Playing.{lives_go_on}
 use Rattle.bot_machine.proofs.lives.Lives.event.Goals as goal
 
@@ -7,3 +10,15 @@ pub returns-clause-ok : goal.returns-clause-ok
 returns-clause-ok c =
     lives_go_on c.args.self.now c.start.new.self c.play.new.self (starts ∷ []) (plays c.args.event.now ∷ []) [] (c.play.result ∷ [])
     c.in_ok-start.ensures.ok c.play.ensures.goes_on
+
+pub returns-clause-begun : goal.returns-clause-begun
+returns-clause-begun c = record {
+  started = c.play.ensures.started;
+  stood = λ m was on. c.in_ok-start.ensures.begun.stood m was
+      (on_before (medium_in c.start.new.self.stage) (medium_in c.play.new.self.stage) c.play.ensures.follows on);
+}
+
+pub returns-clause-follows : goal.returns-clause-follows
+returns-clause-follows c =
+    comes_after_through (medium_in c.args.self.now.stage) (medium_in c.start.new.self.stage) (medium_in c.play.new.self.stage)
+    c.in_ok-start.ensures.follows c.play.ensures.follows

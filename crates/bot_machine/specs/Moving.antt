@@ -1,0 +1,106 @@
+-- What is done over lives to the disk itself and to its medium, action by action.
+use Rattle.std.specs.Prelude.{◌≡◌, ℕ, Bool, true, false, List, [], ◌∷◌, ◌++◌, if◌then◌else◌}
+use Rattle.medium.specs.Medium.{State}
+use Rattle.medium.specs.Sim.{Sim, state_of, IsCut, IsFused, ComesAfter}
+use Rattle.scsi_unit.specs.StartFaults.{StartFault}
+use Rattle.scsi_unit.specs.Identification.{Identification}
+use Rattle.scsi_unit.specs.Serving.{has_refused}
+use Rattle.bot_machine.specs.declared.event.Event.{Event}
+use Rattle.bot_machine.specs.declared.event.Answer.{Answer}
+use Rattle.bot_machine.specs.declared.event.Answer.TheVariants.{Off}
+use Rattle.bot_machine.specs.declared.stage.Stage.{Stage}
+use Rattle.bot_machine.specs.declared.stage.Stage.TheVariants.{Rests, Runs}
+use Rattle.bot_machine.specs.Disk.{DiskValue, IsStep, IsRearmed}
+use Rattle.bot_machine.specs.Lives.{Action, arms, starts, plays, cuts}
+use Rattle.bot_machine.specs.Opening.{IsOpened, IsNotOpened, StartLeaves}
+
+-- the medium of a disk, or the medium alone
+abbrev pub medium_in : Stage → Sim
+medium_in (Rests medium) = medium
+medium_in (Runs disk) = disk.unit.store.medium
+
+abbrev pub state_in : Stage → State
+state_in stage = state_of (medium_in stage)
+
+-- A start called a medium: what it left at each moment, and what became of the power and of the fuse.
+pub record HasCalled (old new : Sim) : Type 0 where
+  pub leaves : StartLeaves (state_of old) (state_of new)
+  pub follows : ComesAfter old new
+
+-- a start was refused with this fault, though power did not go in it
+pub record IsRefusedStart (old : Sim) (fault : StartFault) (new : Sim) : Type 0 where
+  pub called : HasCalled old new
+  pub cause : IsNotOpened (state_of old) (state_of new) fault
+  pub on : new.power.off ≡ false
+
+-- a disk starts on a medium whose contents stood for something, or power goes in the start
+abbrev pub StartsOn : Identification → Sim → Stage → Type 0
+StartsOn identity old (Runs disk) =
+    IsOpened (state_of old) (state_of disk.unit.store.medium) identity disk
+    × HasCalled old disk.unit.store.medium
+StartsOn identity old (Rests new) = HasCalled old new × (new.power.off ≡ true)
+
+-- a start does nothing while the power is off, or where a disk runs
+abbrev pub StartsIn : Bool → Identification → Sim → Stage → Type 0
+StartsIn true identity old new = new ≡ Rests old
+StartsIn false identity old new = StartsOn identity old new
+
+abbrev pub StartMoves : Identification → Stage → Stage → Type 0
+StartMoves identity (Rests medium) new = StartsIn medium.power.off identity medium new
+StartMoves identity (Runs disk) new = new ≡ Runs disk
+
+-- An event came to a disk whose power was on: one step of the disk, whose own answer is given where the
+-- power is still on.
+pub record IsPlayed (old : DiskValue Sim) (event : Event) (answer : Answer) (new : DiskValue Sim)
+    : Type 0 where
+  pub told : Answer
+  pub step : IsStep (state_of old.unit.store.medium) (state_of new.unit.store.medium)
+      old event told new
+  pub follows : ComesAfter old.unit.store.medium new.unit.store.medium
+  pub answered : answer ≡ (if new.unit.store.medium.power.off then Off else told)
+
+-- an event does nothing while the power is off
+abbrev pub EventMovesIn : Bool → DiskValue Sim → Event → Answer → Stage → Type 0
+EventMovesIn true old event answer new = (answer ≡ Off) × (new ≡ Runs old)
+EventMovesIn false old event answer new =
+    (disk : DiskValue Sim) × (new ≡ Runs disk) × IsPlayed old event answer disk
+
+abbrev pub EventMoves : Stage → Event → Answer → Stage → Type 0
+EventMoves (Rests medium) event answer new = (answer ≡ Off) × (new ≡ Rests medium)
+EventMoves (Runs disk) event answer new =
+    EventMovesIn disk.unit.store.medium.power.off disk event answer new
+
+-- a fuse is armed, and nothing else changes
+abbrev pub FuseMoves : ℕ → Stage → Stage → Type 0
+FuseMoves writes (Rests old) (Rests new) = IsFused writes old new
+FuseMoves writes (Runs old) (Runs new) =
+    IsFused writes old.unit.store.medium new.unit.store.medium × IsRearmed old new
+FuseMoves writes old new = ⊥
+
+-- a cut keeps these of the unflushed writes, and no disk runs
+abbrev pub CutMoves : (ℕ → Bool) → Stage → Stage → Type 0
+CutMoves keeps old (Rests new) = IsCut keeps (medium_in old) new
+CutMoves keeps old (Runs new) = ⊥
+
+abbrev pub Does : Identification → Stage → Action → List Answer → Stage → Type 0
+Does identity old (arms writes) answers new = (answers ≡ []) × FuseMoves writes old new
+Does identity old starts answers new = (answers ≡ []) × StartMoves identity old new
+Does identity old (plays event) answers new =
+    (answer : Answer) × (answers ≡ answer ∷ []) × EventMoves old event answer new
+Does identity old (cuts keeps) answers new = (answers ≡ []) × CutMoves keeps old new
+
+-- one action, its answers, and whether the medium refused a call in it
+pub record Moves (identity : Identification) (refused : Bool) (old : Stage) (action : Action)
+    (answers : List Answer) (new : Stage) : Type 0 where
+  pub does : Does identity old action answers new
+  pub counted : refused ≡ has_refused (state_in old) (state_in new)
+
+-- actions and their answers, one after another
+abbrev pub MovesBy : Identification → Stage → List Action → List Answer → List Bool → Stage
+    → Type 0
+MovesBy identity old [] answers [] new = (answers ≡ []) × (new ≡ old)
+MovesBy identity old (action ∷ actions) answers (refused ∷ refusals) new =
+    (mid : Stage) × (here : List Answer) × (later : List Answer) × (answers ≡ here ++ later)
+    × Moves identity refused old action here mid
+    × MovesBy identity mid actions later refusals new
+MovesBy identity old actions answers refusals new = ⊥
