@@ -112,6 +112,14 @@ impl Log {
         self.writing.is_none() && (self.waiting.len() as u64) < self.sizes.slots
     }
 
+    /// Whether no durable record waits to be retired.
+    pub fn is_retired(&self) -> bool
+        ensures none { IsTrue result ↔ (self.now.waiting ≡ []) }
+        ensures owes { Owes self.now }
+    {
+        self.waiting.is_empty()
+    }
+
     /// Begins a record of these blocks, 512 bytes for each number. It takes the next stamp,
     /// whatever becomes of it. No call of the medium is made.
     ///
