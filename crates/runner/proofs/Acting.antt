@@ -15,9 +15,9 @@ use Rattle.runner.specs.declared.fault.ScriptFault.{ScriptFault}
 use Rattle.runner.specs.declared.fault.ScriptFault.TheVariants.{Line, TooLong, Start, NoMemory, Reader, Writer}
 use Rattle.runner.specs.Lifetimes.{AnswersFit, fused_after, text_of_lives, comes, MovesBy}
 use Rattle.runner.specs.PlayedLives.{FuseIs, Acted, TellsLives, EndsBy, BreaksOff}
-use Rattle.runner.specs.Streams.{AppendsSome}
+use Rattle.runner.specs.Streams.{AppendsUpTo, AppendsSome}
 use Rattle.runner.specs.Text.{line_for}
-use Rattle.runner.proofs.Known.{Appends-none, Appends-more, AppendsSome-more}
+use Rattle.runner.proofs.Known.{Appends-none, Appends-more, AppendsUpTo-more}
 
 AnswersFit-append : (fused : Bool) (first rest : List Action) (told more : List Answer) → AnswersFit fused first told
     → AnswersFit (fused_after fused first) rest more → AnswersFit fused (first ++ rest) (told ++ more)
@@ -140,72 +140,80 @@ module _ (was mid now : Option (List ℕ)) (old between new : LivesValue) (first
     written = written_more rest next.answers next.written;
   }
 
-  ends-more : (rest others : List Action) (more : List Answer) (fault : ScriptFault) → EndsBy mid now between rest more others new fault
-      → EndsBy was now old (first ++ rest) (done.answers ++ more) others new fault
-  ends-more rest others more (Start fault) ends =
-      (ends.0, acted-more old between ends.0 first rest done.answers more done.acted ends.1, ends.2, ends.3, written_more rest more ends.4)
-  ends-more rest others more Writer ends = (
-    acted-more old between new first rest done.answers more done.acted ends.0,
-    subst (λ (text : List ℕ). AppendsSome was now text) (sym (told_more rest more))
-        (AppendsSome-more was mid now (text_of_lives first done.answers) (text_of_lives rest more) done.written ends.1),
-  )
-  ends-more rest others more (Line number) ends = absurd ends
-  ends-more rest others more TooLong ends = absurd ends
-  ends-more rest others more NoMemory ends = absurd ends
-  ends-more rest others more Reader ends = absurd ends
+  ends-more : (rest : List Action) (last : Action) (more : List Answer) (fault : ScriptFault) → EndsBy mid now between rest more last new fault
+      → EndsBy was now old (first ++ rest) (done.answers ++ more) last new fault
+  ends-more rest last more (Start fault) ends = record {
+    mid = ends.mid;
+    acted = acted-more old between ends.mid first rest done.answers more done.acted ends.acted;
+    is = ends.is;
+    refused = ends.refused;
+    written = written_more rest more ends.written;
+  }
+  ends-more rest last more Writer ends = record {
+    event = ends.event;
+    is = ends.is;
+    answer = ends.answer;
+    acted = subst (λ (l : List Action). Acted old l ((done.answers ++ more) ++ ends.answer ∷ []) new) (sym (append_assoc first rest (plays ends.event ∷ [])))
+        (subst (λ (l : List Answer). Acted old (first ++ (rest ++ plays ends.event ∷ [])) l new) (sym (append_assoc done.answers more (ends.answer ∷ [])))
+        (acted-more old between new first (rest ++ plays ends.event ∷ []) done.answers (more ++ ends.answer ∷ []) done.acted ends.acted));
+    written = subst (λ (text : List ℕ). AppendsUpTo was now text (line_for ends.event ends.answer)) (sym (told_more rest more))
+        (AppendsUpTo-more was mid now (text_of_lives first done.answers) (text_of_lives rest more) (line_for ends.event ends.answer) done.written ends.written);
+  }
+  ends-more rest last more (Line number) ends = absurd ends
+  ends-more rest last more TooLong ends = absurd ends
+  ends-more rest last more NoMemory ends = absurd ends
+  ends-more rest last more Reader ends = absurd ends
 
   -- some actions were done, and others broke off
   pub breaks-more : (rest : List Action) (fault : ScriptFault) → BreaksOff mid now between rest new fault → BreaksOff was now old (first ++ rest) new fault
   breaks-more rest fault breaks = record {
     first = first ++ breaks.first;
+    last = breaks.last;
     rest = breaks.rest;
-    parts = ap (λ (l : List Action). first ++ l) breaks.parts ∙ sym (append_assoc first breaks.first breaks.rest);
+    parts = ap (λ (l : List Action). first ++ l) breaks.parts ∙ sym (append_assoc first breaks.first (breaks.last ∷ breaks.rest));
     answers = done.answers ++ breaks.answers;
-    ends = ends-more breaks.first breaks.rest breaks.answers fault breaks.ends;
+    ends = ends-more breaks.first breaks.last breaks.answers fault breaks.ends;
   }
 
-module _ (was now : Option (List ℕ)) (old new : LivesValue) where
-  ends-before : (actions rest others : List Action) (answers : List Answer) (fault : ScriptFault) → EndsBy was now old actions answers rest new fault
-      → EndsBy was now old actions answers (rest ++ others) new fault
-  ends-before actions rest others answers (Start fault) ends =
-      (ends.0, ends.1, ends.2, (ends.3.0 ++ others, ap (λ (l : List Action). l ++ others) ends.3.1), ends.4)
-  ends-before actions rest others answers Writer ends = ends
-  ends-before actions rest others answers (Line number) ends = absurd ends
-  ends-before actions rest others answers TooLong ends = absurd ends
-  ends-before actions rest others answers NoMemory ends = absurd ends
-  ends-before actions rest others answers Reader ends = absurd ends
+  -- some lines were done, and another broke off
+  pub ends-behind : (fault : ScriptFault) (rest : List Action) (breaks : BreaksOff mid now between rest new fault)
+      → EndsBy was now old (first ++ breaks.first) (done.answers ++ breaks.answers) breaks.last new fault
+  ends-behind fault rest breaks = ends-more breaks.first breaks.last breaks.answers fault breaks.ends
 
-  -- actions broke off before others came
-  pub breaks-before : (actions others : List Action) (fault : ScriptFault) → BreaksOff was now old actions new fault
-      → BreaksOff was now old (actions ++ others) new fault
-  breaks-before actions others fault breaks = record {
-    first = breaks.first;
-    rest = breaks.rest ++ others;
-    parts = ap (λ (l : List Action). l ++ others) breaks.parts ∙ append_assoc breaks.first breaks.rest others;
-    answers = breaks.answers;
-    ends = ends-before breaks.first breaks.rest others breaks.answers fault breaks.ends;
-  }
+-- actions broke off before others came
+pub breaks-before : (was now : Option (List ℕ)) (old new : LivesValue) (actions others : List Action) (fault : ScriptFault)
+    → BreaksOff was now old actions new fault → BreaksOff was now old (actions ++ others) new fault
+breaks-before was now old new actions others fault breaks = record {
+  first = breaks.first;
+  last = breaks.last;
+  rest = breaks.rest ++ others;
+  parts = ap (λ (l : List Action). l ++ others) breaks.parts ∙ append_assoc breaks.first (breaks.last ∷ breaks.rest) others;
+  answers = breaks.answers;
+  ends = breaks.ends;
+}
 
 -- the start before an event was refused
 pub breaks-start : (was : Option (List ℕ)) (old new : LivesValue) (event : Event) (fault : StartFault) → IsRefused old fault new
     → BreaksOff was was old (comes event) new (Start fault)
 breaks-start was old new event fault refused = record {
   first = [];
-  rest = comes event;
+  last = starts;
+  rest = plays event ∷ [];
   parts = refl;
   answers = [];
-  ends = (old, acted-none old, refused, (plays event ∷ [], refl), Appends-none was);
+  ends = record { mid = old; acted = acted-none old; is = refl; refused = refused; written = Appends-none was };
 }
 
 -- the answer to an event was not written
 pub breaks-writer : (was now : Option (List ℕ)) (old new : LivesValue) (event : Event) (answer : Answer) → Acted old (comes event) (answer ∷ []) new
     → AppendsSome was now (line_for event answer) → BreaksOff was now old (comes event) new Writer
 breaks-writer was now old new event answer acted written = record {
-  first = comes event;
+  first = starts ∷ [];
+  last = plays event;
   rest = [];
   parts = refl;
-  answers = answer ∷ [];
-  ends = (acted, subst (λ (text : List ℕ). AppendsSome was now text) (sym (append-nil (line_for event answer))) written);
+  answers = [];
+  ends = record { event = event; is = refl; answer = answer; acted = acted; written = written };
 }
 
 -- an event was answered, and the answer written

@@ -1,5 +1,5 @@
 -- Lines that act on lives, one after another.
-use Rattle.std.proofs.Common.{◌≡◌, ℕ, List, [], ◌∷◌, ◌++◌, Option, refl}
+use Rattle.std.proofs.Common.{◌≡◌, ℕ, List, [], ◌∷◌, ◌++◌, Option, refl, subst}
 use Rattle.std.specs.Prelude.{All, flat_map}
 use Rattle.medium.specs.Sim.{Sim}
 use Rattle.bot_machine.specs.Lives.{Action}
@@ -13,8 +13,8 @@ use Rattle.runner.specs.Events.{events_of}
 use Rattle.runner.specs.Line.{Spells, IsScriptLine}
 use Rattle.runner.specs.Lifetimes.{comes, actions_of, LineActs}
 use Rattle.runner.specs.PlayedLives.{TellsLives, BreaksOff, PlaysAll, PlaysUpTo}
-use Rattle.runner.proofs.Acting.{tells-none, tells-more, breaks-more, breaks-before}
-use Rattle.runner.proofs.InTurn.{IsGivenTo, given-start, given-more, given-all, gives_some}
+use Rattle.runner.proofs.Acting.{tells-none, tells-more, ends-behind}
+use Rattle.runner.proofs.InTurn.{IsGivenTo, given-start, given-more, given-all, given-part}
 
 acts_by_events : (asked : ScriptLine) → ((writes : ℕ) → asked ≡ Fuse writes → ⊥) → ((kept : KeptWrites) → asked ≡ Cut kept → ⊥)
     → flat_map comes (events_of asked) ≡ actions_of asked
@@ -67,12 +67,15 @@ module _ (was mid now : Option (List ℕ)) (old between new : LivesValue) (all l
   pub lines-break : (fault : ScriptFault) (back : Sim) → BreaksOff mid now between actions new fault → All (IsScriptLine Lives) left → medium_in new.stage ≡ back
       → PlaysUpTo was now old all fault back
   lines-break fault back breaks are is =
-      let later = gives_some LineActs (IsScriptLine Lives) (λ other is_line. (actions_of is_line.0, line_acts other is_line.0 is_line.1)) left are in
       record {
-        actions = so.actions ++ (actions ++ later.0);
-        acts = so.given.go (actions ++ later.0) (rw next (actions, later.0, acts, later.1, refl));
+        first = so.actions;
+        part = breaks.first;
+        last = breaks.last;
+        stops = given-part LineActs (IsScriptLine Lives) (λ other is_line. (actions_of is_line.0, line_acts other is_line.0 is_line.1))
+            all lines left line next so.actions breaks.first breaks.last breaks.rest so.given
+            (subst (λ (l : List Action). LineActs line l) breaks.parts acts) are;
         new = new;
-        breaks = breaks-more was mid now old between new so.actions so.tells (actions ++ later.0) fault
-            (breaks-before mid now between new actions later.0 fault breaks);
+        answers = so.tells.answers ++ breaks.answers;
+        ends = ends-behind was mid now old between new so.actions so.tells fault actions breaks;
         left = is;
       }

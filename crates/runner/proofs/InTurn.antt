@@ -1,29 +1,46 @@
 -- What lines give, one after another.
 use Rattle.std.proofs.Common.{◌≡◌, ℕ, suc, List, [], ◌∷◌, ◌++◌, ◌∙◌, refl, sym, ap, subst, arith, append_assoc, append-nil}
 use Rattle.std.specs.Prelude.{All}
-use Rattle.runner.specs.Script.{InTurn}
+use Rattle.runner.specs.Script.{InTurn, StopsAt}
 
--- the lines before those left gave these, and what those left give completes them
+-- the lines before those left gave these
 pub record IsGivenTo {A : Type 0} (LineGives : List ℕ → List A → Type 0) (all left : List (List ℕ)) (first : List A) : Type 0 where
-  pub go : (rest : List A) → InTurn LineGives left rest → InTurn LineGives all (first ++ rest)
+  pub before : List (List ℕ)
+  pub parts : all ≡ before ++ left
+  pub gave : InTurn LineGives before first
 
 module _ {A : Type 0} (LineGives : List ℕ → List A → Type 0) where
+  -- lines give what they give, and others what they do
+  InTurn-append : (lines more : List (List ℕ)) (first rest : List A) → InTurn LineGives lines first → InTurn LineGives more rest
+      → InTurn LineGives (lines ++ more) (first ++ rest)
+  InTurn-append [] more first rest gives others =
+      subst (λ (l : List A). InTurn LineGives more (l ++ rest)) (sym gives) others
+  InTurn-append (line ∷ lines) more first rest gives others = (
+    gives.0,
+    gives.1 ++ rest,
+    gives.2,
+    InTurn-append lines more gives.1 rest gives.3 others,
+    ap (λ (l : List A). l ++ rest) gives.4 ∙ append_assoc gives.0 gives.1 rest,
+  )
+
   pub given-start : (all left : List (List ℕ)) → left ≡ all → IsGivenTo LineGives all left []
-  given-start all left same = record { go = λ rest gives. rw same at gives }
+  given-start all left same = record { before = []; parts = sym same; gave = refl }
 
   pub given-more : (all old left : List (List ℕ)) (line : List ℕ) → old ≡ line ∷ left → (first more : List A)
       → IsGivenTo LineGives all old first → LineGives line more → IsGivenTo LineGives all left (first ++ more)
   given-more all old left line next first more so gives = record {
-    go = λ rest others. rw append_assoc (so.go (more ++ rest) (rw next (more, rest, gives, others, refl)));
+    before = so.before ++ line ∷ [];
+    parts = so.parts ∙ ap (λ (l : List (List ℕ)). so.before ++ l) next ∙ sym (append_assoc so.before (line ∷ []) left);
+    gave = InTurn-append so.before (line ∷ []) first more so.gave (more, [], gives, refl, sym (append-nil more));
   }
 
   pub given-all : (all left : List (List ℕ)) (first : List A) → left ≡ [] → IsGivenTo LineGives all left first → InTurn LineGives all first
   given-all all left first none so =
-      let gives : InTurn LineGives left [] = rw none refl in
-      rw append-nil at (so.go [] gives)
+      let whole : all ≡ so.before = so.parts ∙ ap (λ (l : List (List ℕ)). so.before ++ l) none ∙ append-nil so.before in
+      subst (λ (l : List (List ℕ)). InTurn LineGives l first) (sym whole) so.gave
 
   -- lines that each give something do so in turn
-  pub gives_some : (Is : List ℕ → Type 0) → ((line : List ℕ) → Is line → (some : List A) × LineGives line some)
+  gives_some : (Is : List ℕ → Type 0) → ((line : List ℕ) → Is line → (some : List A) × LineGives line some)
       → (lines : List (List ℕ)) → All Is lines → (all : List A) × InTurn LineGives lines all
   gives_some Is each [] are = ([], refl)
   gives_some Is each (line ∷ lines) are =
@@ -31,14 +48,20 @@ module _ {A : Type 0} (LineGives : List ℕ → List A → Type 0) where
       let rest = gives_some Is each lines (λ k d lt. are (suc k) d (omega (arith, lt))) in
       (here.0 ++ rest.0, (here.0, rest.0, here.1, rest.1, refl))
 
-  -- a line gave a part of what it gives, and no more was taken
+  -- a line gave a part of what it gives, and one thing more
   pub given-part : (Is : List ℕ → Type 0) → ((line : List ℕ) → Is line → (some : List A) × LineGives line some)
-      → (all old left : List (List ℕ)) (line : List ℕ) → old ≡ line ∷ left → (first part more : List A)
-      → IsGivenTo LineGives all old first → LineGives line (part ++ more) → All Is left → (rest : List A) × InTurn LineGives all ((first ++ part) ++ rest)
-  given-part Is each all old left line next first part more so gives are =
+      → (all old left : List (List ℕ)) (line : List ℕ) → old ≡ line ∷ left → (first part : List A) (last : A) (more : List A)
+      → IsGivenTo LineGives all old first → LineGives line (part ++ last ∷ more) → All Is left → StopsAt LineGives all first part last
+  given-part Is each all old left line next first part last more so gives are =
       let later = gives_some Is each left are in
-      let whole : InTurn LineGives all (first ++ ((part ++ more) ++ later.0)) =
-      so.go ((part ++ more) ++ later.0) (rw next (part ++ more, later.0, gives, later.1, refl)) in
-      let same : first ++ ((part ++ more) ++ later.0) ≡ (first ++ part) ++ (more ++ later.0) =
-      ap (λ l. first ++ l) (append_assoc part more later.0) ∙ sym (append_assoc first part (more ++ later.0)) in
-      (more ++ later.0, subst (λ (l : List A). InTurn LineGives all l) same whole)
+      record {
+        before = so.before;
+        line = line;
+        after = left;
+        parts = so.parts ∙ ap (λ (l : List (List ℕ)). so.before ++ l) next;
+        whole = so.gave;
+        rest = more;
+        here = gives;
+        later = later.0;
+        others = later.1;
+      }

@@ -1,7 +1,7 @@
 -- What a writer holds, where it is known.
-use Rattle.std.proofs.Common.{ℕ, List, [], ◌++◌, Option, Some, None, sym, ap, ◌∙◌, append_assoc, append-nil}
+use Rattle.std.proofs.Common.{ℕ, List, [], ◌++◌, Option, Some, None, sym, ap, subst, ◌∙◌, append_assoc, append-nil}
 use Rattle.std.specs.Io.KnownBytes.{Appends, Keeps}
-use Rattle.runner.specs.Streams.{AppendsSome}
+use Rattle.runner.specs.Streams.{AppendsUpTo, AppendsSome}
 
 pub Appends-none : (old : Option (List ℕ)) → Appends old old []
 Appends-none None = tt
@@ -19,11 +19,18 @@ Appends-kept (Some old) None new text first kept = absurd first
 Appends-kept (Some old) (Some mid) None text first kept = absurd kept
 Appends-kept (Some old) (Some mid) (Some new) text first kept = kept ∙ first
 
--- all of one text, and a first part of another
-pub AppendsSome-more : (old mid new : Option (List ℕ)) (text more : List ℕ) → Appends old mid text → AppendsSome mid new more → AppendsSome old new (text ++ more)
-AppendsSome-more old mid new text more first next = record {
-  written = text ++ next.written;
+-- all of one text, and then all of another and a first part of more
+pub AppendsUpTo-more : (old mid new : Option (List ℕ)) (text more bytes : List ℕ) → Appends old mid text → AppendsUpTo mid new more bytes → AppendsUpTo old new (text ++ more) bytes
+AppendsUpTo-more old mid new text more bytes first next = record {
+  written = next.written;
   rest = next.rest;
-  parts = ap (λ l. text ++ l) next.parts ∙ sym (append_assoc text next.written next.rest);
-  appended = Appends-more old mid new text next.written first next.appended;
+  parts = next.parts;
+  missing = next.missing;
+  appended = subst (λ (l : List ℕ). Appends old new l) (sym (append_assoc text more next.written))
+      (Appends-more old mid new text (more ++ next.written) first next.appended);
 }
+
+-- all of one text, and a first part of another
+pub AppendsSome-more : (old mid new : Option (List ℕ)) (text bytes : List ℕ) → Appends old mid text → AppendsSome mid new bytes → AppendsUpTo old new text bytes
+AppendsSome-more old mid new text bytes first next =
+    subst (λ (l : List ℕ). AppendsUpTo old new l bytes) (append-nil text) (AppendsUpTo-more old mid new text [] bytes first next)

@@ -1,5 +1,5 @@
 -- A life of a disk, from its start on.
-use Rattle.std.proofs.Common.{◌≡◌, ℕ, List, ap₂, ◌∙◌, subst, arith}
+use Rattle.std.proofs.Common.{◌≡◌, ℕ, List, [], ◌∷◌, ap₂, ◌∙◌, sym, subst, arith}
 use Rattle.medium.specs.Medium.{State}
 use Rattle.bot_machine.specs.Identification.{Identification}
 use Rattle.bot_machine.specs.Books.{opened}
@@ -17,9 +17,9 @@ use Rattle.runner.specs.declared.fault.ScriptError.{ScriptError as ErrorOf}
 use Rattle.runner.specs.declared.fault.ScriptFault.TheVariants.{Writer}
 use Rattle.runner.specs.Lines.{lines_of}
 use Rattle.runner.specs.Outcome.{IsRead, IsPlayed, IsRefused}
-use Rattle.runner.specs.Script.{Plays, IsLife, identification, started}
-use Rattle.runner.specs.Streams.{AppendsSome}
-use Rattle.runner.specs.Played.{Answers, Leaves}
+use Rattle.runner.specs.Script.{Plays, Steps, IsLife, IsLeftBy, identification, started}
+use Rattle.runner.specs.Played.{Answers, Leaves, BreaksOffAt}
+use Rattle.runner.proofs.Runs.{answers_of}
 
 -- a disk that has started, and then played events, lived a life
 pub life : {M : Type 0} (before mid after : State) (old new : DiskValue M) (events : List Event) (answers : List Answer)
@@ -42,43 +42,60 @@ life before mid after old new events answers opening leaves so = record {
       );
 }
 
-module _ {M : Type 0} (state : M → State) (left was now : Option (List ℕ)) (medium : M) (script : List ℕ) (read : IsRead left script)
+module _ {M : Type 0} (state : M → State) (remaining was now : Option (List ℕ)) (medium : M) (script : List ℕ) (read : IsRead remaining script)
     (identity : Identification) (same : identity ≡ identification) (disk : DiskValue M)
     (opening : IsOpened (state medium) (state disk.unit.store.medium) identity disk)
     (leaves : StartLeaves (state medium) (state disk.unit.store.medium)) where
-  lived : (events : List Event) (text : List ℕ) (after : M) (left_so : Leaves state disk events text after)
-      → IsLife (state medium) (state after) events left_so.tells.answers
-  lived events text after left_so =
-      let tells = left_so.tells in
-      let at_end = subst (λ (m : M). Answers (state disk.unit.store.medium) (state m) disk events tells.answers left_so.new) left_so.medium tells.answered in
-      life (state medium) (state disk.unit.store.medium) (state after) disk left_so.new events tells.answers (rw same at opening) leaves at_end
+  -- the disk played events
+  lived : (events : List Event) (answers : List Answer) (new : DiskValue M) (after : M) → Steps state disk events answers new
+      → new.unit.store.medium ≡ after → IsLife (state medium) (state after) events answers
+  lived events answers new after steps is =
+      let at_end = subst (λ (m : M). Answers (state disk.unit.store.medium) (state m) disk events answers new) is (answers_of state events answers disk new steps) in
+      life (state medium) (state disk.unit.store.medium) (state after) disk new events answers (rw same at opening) leaves at_end
+
+  left : (events : List Event) (answers : List Answer) (new : DiskValue M) (after : M) → Steps state disk events answers new
+      → new.unit.store.medium ≡ after → IsLeftBy state medium events answers after
+  left events answers new after steps is = record {
+    first = disk;
+    opens = rw same at opening;
+    leaves = leaves;
+    last = new;
+    steps = steps;
+    left = sym is;
+  }
 
   -- a script that was played whole
   pub is_played : (after : M)
       → (events : List Event) × (text : List ℕ) × Plays (lines_of script) events × Leaves state disk events text after × Appends was now text
-      → IsPlayed state left was now medium after
+      → IsPlayed state remaining was now medium after
   is_played after so = record {
     script = script;
     read = read;
     events = so.0;
     plays = so.2;
     answers = so.3.tells.answers;
-    life = lived so.0 so.1 after so.3;
+    life = lived so.0 so.3.tells.answers so.3.new after so.3.tells.steps so.3.medium;
+    left_by = left so.0 so.3.tells.answers so.3.new after so.3.tells.steps so.3.medium;
     written = subst (λ (text : List ℕ). Appends was now text) so.3.tells.told so.4;
   }
 
   -- a script whose writer failed
-  pub is_cut_short : (error : ErrorOf M) → (error.fault ≡ Writer) × ((events : List Event) × (rest : List Event) × (text : List ℕ)
-      × Plays (lines_of script) (events ++ rest) × Leaves state disk events text error.medium × AppendsSome was now text)
-      → IsRefused state left was now medium error.fault error.medium
+  pub is_cut_short : (error : ErrorOf M) → (error.fault ≡ Writer) × BreaksOffAt state was now disk (lines_of script) error.medium
+      → IsRefused state remaining was now medium error.fault error.medium
   is_cut_short error (fault, so) =
+      let breaks = so.breaks in
+      let events = (so.first ++ so.part) ++ so.event ∷ [] in
+      let answers = breaks.answers ++ breaks.answer ∷ [] in
       rw fault (record {
         script = script;
         read = read;
-        events = so.0;
-        rest = so.1;
-        plays = so.3;
-        answers = so.4.tells.answers;
-        life = lived so.0 so.2 error.medium so.4;
-        written = subst (λ (text : List ℕ). AppendsSome was now text) so.4.tells.told so.5;
+        first = so.first;
+        part = so.part;
+        event = so.event;
+        stops = so.stops;
+        answers = breaks.answers;
+        answer = breaks.answer;
+        life = lived events answers so.new error.medium breaks.steps so.medium;
+        left_by = left events answers so.new error.medium breaks.steps so.medium;
+        written = breaks.written;
       })

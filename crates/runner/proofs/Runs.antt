@@ -1,5 +1,5 @@
 -- Runs of a disk, one after another.
-use Rattle.std.proofs.Common.{◌≡◌, ℕ, Bool, List, [], ◌∷◌, ◌++◌, length, nat_lt, refl, sym, ap, ◌∙◌, subst, arith, append_assoc, append-nil, length-append, ltb-true}
+use Rattle.std.proofs.Common.{◌≡◌, ℕ, Bool, Option, List, [], ◌∷◌, ◌++◌, length, nat_lt, refl, sym, ap, ◌∙◌, subst, arith, append_assoc, append-nil, length-append, ltb-true}
 use Rattle.medium.specs.Medium.{State}
 use Rattle.bot_machine.specs.Rules.{UnitState}
 use Rattle.bot_machine.specs.declared.event.Event.{Event}
@@ -9,7 +9,11 @@ use Rattle.bot_machine.specs.Disk.{DiskValue, UnitRun, IsStep, over}
 use Rattle.bot_machine.proofs.Happening.{one_counted}
 use Rattle.bot_machine.proofs.Playing.{refused_events-append}
 use Rattle.runner.specs.Text.{line_for, text_of}
-use Rattle.runner.specs.Played.{Answers, Tells}
+use Rattle.runner.specs.Played.{Answers, Tells, BreaksOff}
+use Rattle.runner.specs.Script.{Steps}
+use Rattle.runner.specs.Streams.{AppendsUpTo, AppendsSome}
+use Rattle.runner.proofs.Known.{AppendsUpTo-more, AppendsSome-more}
+use Rattle.std.specs.Io.KnownBytes.{Appends}
 
 -- a run goes on by another
 pub UnitRun-append : (first rest : List Event) (told more : List Answer) (refused later : List Bool) (old mid new : Conversation UnitState)
@@ -74,23 +78,81 @@ module _ {M : Type 0} where
         );
   }
 
-  pub tells-none : (state : M → State) (disk : DiskValue M) → Tells state disk [] [] disk
-  tells-none state disk = record { answers = []; answered = answers-none (state disk.unit.store.medium) disk; told = refl }
+  module _ (state : M → State) where
+    -- steps, and then others
+    pub Steps-append : (first rest : List Event) (told more : List Answer) (old mid new : DiskValue M)
+        → Steps state old first told mid → Steps state mid rest more new → Steps state old (first ++ rest) (told ++ more) new
+    Steps-append [] rest [] more old mid new done next = subst (λ (d : DiskValue M). Steps state d rest more new) done next
+    Steps-append (event ∷ first) rest (answer ∷ told) more old mid new done next =
+        (done.0, done.1, Steps-append first rest told more done.0 mid new done.2 next)
+    Steps-append [] rest (answer ∷ told) more old mid new done next = absurd done
+    Steps-append (event ∷ first) rest [] more old mid new done next = absurd done
 
-  pub tells-one : (state : M → State) (old new : DiskValue M) (event : Event) (answer : Answer)
-      → IsStep (state old.unit.store.medium) (state new.unit.store.medium) old event answer new
-      → Tells state old (event ∷ []) (line_for event answer) new
-  tells-one state old new event answer step = record {
-    answers = answer ∷ [];
-    answered = answers-one (state old.unit.store.medium) (state new.unit.store.medium) old event answer new step;
-    told = sym (append-nil (line_for event answer));
-  }
+    -- what steps are over each book
+    pub answers_of : (events : List Event) (answers : List Answer) (old new : DiskValue M) → Steps state old events answers new
+        → Answers (state old.unit.store.medium) (state new.unit.store.medium) old events answers new
+    answers_of [] [] old new steps =
+        subst (λ (d : DiskValue M). Answers (state old.unit.store.medium) (state d.unit.store.medium) old [] [] d) (sym steps)
+        (answers-none (state old.unit.store.medium) old)
+    answers_of (event ∷ events) (answer ∷ answers) old new steps =
+        let mid = steps.0 in
+        answers-more (state old.unit.store.medium) (state mid.unit.store.medium) (state new.unit.store.medium) old mid new
+        (event ∷ []) events (answer ∷ []) answers
+        (answers-one (state old.unit.store.medium) (state mid.unit.store.medium) old event answer mid steps.1)
+        (answers_of events answers mid new steps.2)
+    answers_of [] (answer ∷ answers) old new steps = absurd steps
+    answers_of (event ∷ events) [] old new steps = absurd steps
 
-  pub tells-more : (state : M → State) (old mid new : DiskValue M) (first rest : List Event) (text more : List ℕ)
-      → Tells state old first text mid → Tells state mid rest more new → Tells state old (first ++ rest) (text ++ more) new
-  tells-more state old mid new first rest text more done next = record {
-    answers = done.answers ++ next.answers;
-    answered = answers-more (state old.unit.store.medium) (state mid.unit.store.medium) (state new.unit.store.medium) old mid new first rest
-        done.answers next.answers done.answered next.answered;
-    told = rw (done.told, next.told) (sym (text_of-append first rest done.answers next.answers done.answered.one_each));
-  }
+    one_each : (events : List Event) (answers : List Answer) (old new : DiskValue M) → Steps state old events answers new
+        → length answers ≡ length events
+    one_each events answers old new steps = (answers_of events answers old new steps).one_each
+
+    pub tells-none : (disk : DiskValue M) → Tells state disk [] [] disk
+    tells-none disk = record { answers = []; steps = refl; told = refl }
+
+    pub tells-one : (old new : DiskValue M) (event : Event) (answer : Answer)
+        → IsStep (state old.unit.store.medium) (state new.unit.store.medium) old event answer new
+        → Tells state old (event ∷ []) (line_for event answer) new
+    tells-one old new event answer step = record {
+      answers = answer ∷ [];
+      steps = (new, step, refl);
+      told = sym (append-nil (line_for event answer));
+    }
+
+    pub tells-more : (old mid new : DiskValue M) (first rest : List Event) (text more : List ℕ)
+        → Tells state old first text mid → Tells state mid rest more new → Tells state old (first ++ rest) (text ++ more) new
+    tells-more old mid new first rest text more done next = record {
+      answers = done.answers ++ next.answers;
+      steps = Steps-append first rest done.answers next.answers old mid new done.steps next.steps;
+      told = rw (done.told, next.told) (sym (text_of-append first rest done.answers next.answers
+          (one_each first done.answers old mid done.steps)));
+    }
+
+    -- events were played and told, and then one more, whose answer was not written whole
+    pub breaks-here : (was mid now : Option (List ℕ)) (old between new : DiskValue M) (events : List Event) (text : List ℕ) (event : Event) (answer : Answer)
+        → Tells state old events text between → Appends was mid text
+        → IsStep (state between.unit.store.medium) (state new.unit.store.medium) between event answer new
+        → AppendsSome mid now (line_for event answer) → BreaksOff state was now old events event new
+    breaks-here was mid now old between new events text event answer done written step some = record {
+      answers = done.answers;
+      answer = answer;
+      steps = Steps-append events (event ∷ []) done.answers (answer ∷ []) old between new done.steps (new, step, refl);
+      written = subst (λ (l : List ℕ). AppendsUpTo was now l (line_for event answer)) done.told
+          (AppendsSome-more was mid now text (line_for event answer) written some);
+    }
+
+    -- events were played and told, and others broke off
+    pub breaks-more : (was mid now : Option (List ℕ)) (old between new : DiskValue M) (first events : List Event) (text : List ℕ) (event : Event)
+        → Tells state old first text between → Appends was mid text
+        → BreaksOff state mid now between events event new → BreaksOff state was now old (first ++ events) event new
+    breaks-more was mid now old between new first events text event done written breaks = record {
+      answers = done.answers ++ breaks.answers;
+      answer = breaks.answer;
+      steps = subst (λ (l : List Event). Steps state old l ((done.answers ++ breaks.answers) ++ breaks.answer ∷ []) new) (sym (append_assoc first events (event ∷ [])))
+          (subst (λ (l : List Answer). Steps state old (first ++ (events ++ event ∷ [])) l new) (sym (append_assoc done.answers breaks.answers (breaks.answer ∷ [])))
+          (Steps-append first (events ++ event ∷ []) done.answers (breaks.answers ++ breaks.answer ∷ []) old between new done.steps breaks.steps));
+      written = subst (λ (l : List ℕ). AppendsUpTo was now l (line_for event breaks.answer))
+          (ap (λ (l : List ℕ). l ++ text_of events breaks.answers) done.told
+          ∙ sym (text_of-append first events done.answers breaks.answers (one_each first done.answers old between done.steps)))
+          (AppendsUpTo-more was mid now text (text_of events breaks.answers) (line_for event breaks.answer) written breaks.written);
+    }

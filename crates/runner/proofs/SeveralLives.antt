@@ -1,5 +1,5 @@
 -- Lives of a disk over a medium in memory, from the first on.
-use Rattle.std.proofs.Common.{◌≡◌, ℕ, ◌+◌, false, List, [], ◌++◌, None, Option, subst, ◌∙◌, append-nil}
+use Rattle.std.proofs.Common.{◌≡◌, ℕ, ◌+◌, false, List, [], ◌∷◌, ◌++◌, None, Option, subst, ◌∙◌, append-nil}
 use Rattle.medium.specs.Sim.{Sim, state_of}
 use Rattle.bot_machine.specs.StartFaults.{StartFault}
 use Rattle.bot_machine.specs.Identification.{Identification}
@@ -8,18 +8,18 @@ use Rattle.bot_machine.specs.declared.event.Answer.{Answer}
 use Rattle.bot_machine.specs.declared.stage.Stage.TheVariants.{Rests}
 use Rattle.bot_machine.specs.Conversation.{refused_events}
 use Rattle.bot_machine.specs.Lifetimes.{EndsIn, StopsIn}
-use Rattle.bot_machine.specs.Lives.{Action, before_first, Standing, LivesRun}
+use Rattle.bot_machine.specs.Lives.{Action, plays, before_first, Standing, LivesRun}
 use Rattle.bot_machine.specs.LivesValue.{LivesValue, LivesStop, IsRefused, FitsLives, OpensOn, IsAtRest, medium_in}
 use Rattle.bot_machine.proofs.Playing.{lives_stop}
 use Rattle.runner.specs.declared.fault.ScriptError.{ScriptError as ErrorOf}
 use Rattle.runner.specs.declared.fault.ScriptFault.{ScriptFault}
 use Rattle.runner.specs.declared.fault.ScriptFault.TheVariants.{Line, TooLong, Start, NoMemory, Reader, Writer}
-use Rattle.runner.specs.Lifetimes.{Acts, AreLives, AreStopped}
+use Rattle.runner.specs.Lifetimes.{LineActs, AreLives, AreStopped}
 use Rattle.runner.specs.Lines.{lines_of}
 use Rattle.runner.specs.Outcome.{IsRead}
 use Rattle.runner.specs.OutcomeOfLives.{ArePlayed, AreRefused}
 use Rattle.runner.specs.PlayedLives.{Acted, EndsBy, PlaysAll, PlaysUpTo}
-use Rattle.runner.specs.Script.{identification}
+use Rattle.runner.specs.Script.{StopsAt, identification}
 
 -- no life has been yet
 abbrev first_over : Sim → LivesValue
@@ -82,51 +82,52 @@ module _ (medium : Sim) (rest : IsAtRest medium) (unfused : medium.power.fuse �
 
   module _ (left was now : Option (List ℕ)) (script : List ℕ) (read : IsRead left script) where
     are_played : (after : Sim) → PlaysAll was now (first_over medium) (lines_of script) after → ArePlayed left was now medium after
-    are_played after plays = record {
+    are_played after all = record {
       script = script;
       read = read;
-      actions = plays.actions;
-      acts = plays.acts;
-      answers = plays.tells.answers;
-      lives = subst (λ (m : Sim). AreLives medium m plays.actions plays.tells.answers) plays.left
-          (are_lives plays.actions plays.tells.answers plays.new plays.tells.acted);
-      written = plays.tells.written;
+      actions = all.actions;
+      acts = all.acts;
+      answers = all.tells.answers;
+      lives = subst (λ (m : Sim). AreLives medium m all.actions all.tells.answers) all.left
+          (are_lives all.actions all.tells.answers all.new all.tells.acted);
+      written = all.tells.written;
     }
 
-    ended : (first rest : List Action) (answers : List Answer) (new : LivesValue) (fault : ScriptFault) → Acts (lines_of script) (first ++ rest)
-        → EndsBy was now (first_over medium) first answers rest new fault → AreRefused left was now medium fault (medium_in new.stage)
-    ended first rest answers new (Start fault) acts ends = record {
+    ended : (first part : List Action) (last : Action) (answers : List Answer) (new : LivesValue) (fault : ScriptFault)
+        → StopsAt LineActs (lines_of script) first part last
+        → EndsBy was now (first_over medium) (first ++ part) answers last new fault → AreRefused left was now medium fault (medium_in new.stage)
+    ended first part last answers new (Start fault) stops ends = record {
       script = script;
       read = read;
-      actions = first;
-      rest = ends.3.0;
-      acts = subst (λ (l : List Action). Acts (lines_of script) (first ++ l)) ends.3.1 acts;
+      first = first;
+      part = part;
+      stops = subst (λ (a : Action). StopsAt LineActs (lines_of script) first part a) ends.is stops;
       answers = answers;
-      stopped = are_stopped first answers ends.0 new fault ends.1 ends.2;
-      written = ends.4;
+      stopped = are_stopped (first ++ part) answers ends.mid new fault ends.acted ends.refused;
+      written = ends.written;
     }
-    ended first rest answers new Writer acts ends = record {
+    ended first part last answers new Writer stops ends = record {
       script = script;
       read = read;
-      actions = first;
-      rest = rest;
-      acts = acts;
+      first = first;
+      part = part;
+      event = ends.event;
+      stops = subst (λ (a : Action). StopsAt LineActs (lines_of script) first part a) ends.is stops;
       answers = answers;
-      lives = are_lives first answers new ends.0;
-      written = ends.1;
+      answer = ends.answer;
+      lives = are_lives ((first ++ part) ++ plays ends.event ∷ []) (answers ++ ends.answer ∷ []) new ends.acted;
+      written = ends.written;
     }
-    ended first rest answers new (Line number) acts ends = absurd ends
-    ended first rest answers new TooLong acts ends = absurd ends
-    ended first rest answers new NoMemory acts ends = absurd ends
-    ended first rest answers new Reader acts ends = absurd ends
+    ended first part last answers new (Line number) stops ends = absurd ends
+    ended first part last answers new TooLong stops ends = absurd ends
+    ended first part last answers new NoMemory stops ends = absurd ends
+    ended first part last answers new Reader stops ends = absurd ends
 
     are_refused : (fault : ScriptFault) (back : Sim) → PlaysUpTo was now (first_over medium) (lines_of script) fault back
         → AreRefused left was now medium fault back
-    are_refused fault back plays =
-        let breaks = plays.breaks in
-        subst (λ (m : Sim). AreRefused left was now medium fault m) plays.left
-        (ended breaks.first breaks.rest breaks.answers plays.new fault
-        (subst (λ (l : List Action). Acts (lines_of script) l) breaks.parts plays.acts) breaks.ends)
+    are_refused fault back up_to =
+        subst (λ (m : Sim). AreRefused left was now medium fault m) up_to.left
+        (ended up_to.first up_to.part up_to.last up_to.answers up_to.new fault up_to.stops up_to.ends)
 
 module _ (medium : Sim) (rest : IsAtRest medium) (unfused : medium.power.fuse ≡ None) (identity : Identification) (is : identity ≡ identification)
     (lives : LivesValue) (value : lives ≡ record { identity = identity; stage = Rests medium })
@@ -140,11 +141,11 @@ module _ (medium : Sim) (rest : IsAtRest medium) (unfused : medium.power.fuse �
 
   -- a script that was played whole
   pub is_played : (after : Sim) → PlaysAll was now lives (lines_of script) after → ArePlayed left was now medium after
-  is_played after plays = are_played medium rest unfused fits left was now script read after
-      (subst (λ (l : LivesValue). PlaysAll was now l (lines_of script) after) same plays)
+  is_played after all = are_played medium rest unfused fits left was now script read after
+      (subst (λ (l : LivesValue). PlaysAll was now l (lines_of script) after) same all)
 
   -- a script that was played up to a fault
   pub is_refused : (error : ErrorOf Sim) → PlaysUpTo was now lives (lines_of script) error.fault error.medium
       → AreRefused left was now medium error.fault error.medium
-  is_refused error plays = are_refused medium rest unfused fits left was now script read error.fault error.medium
-      (subst (λ (l : LivesValue). PlaysUpTo was now l (lines_of script) error.fault error.medium) same plays)
+  is_refused error up_to = are_refused medium rest unfused fits left was now script read error.fault error.medium
+      (subst (λ (l : LivesValue). PlaysUpTo was now l (lines_of script) error.fault error.medium) same up_to)

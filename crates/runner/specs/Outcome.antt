@@ -1,5 +1,5 @@
 -- What playing a script of one life leaves: a medium, and what was written.
-use Rattle.std.specs.Prelude.{◌≡◌, ◌<◌, ◌≤◌, ℕ, List, ◌++◌, All, length, Option, IfSome}
+use Rattle.std.specs.Prelude.{◌≡◌, ◌<◌, ◌≤◌, ℕ, List, [], ◌∷◌, ◌++◌, All, length, Option, IfSome}
 use Rattle.std.specs.Io.KnownBytes.{Appends, Keeps}
 use Rattle.medium.specs.Medium.{State}
 use Rattle.bot_machine.specs.declared.event.Event.{Event}
@@ -12,9 +12,9 @@ use Rattle.runner.specs.declared.line.ScriptKind.{ScriptKind}
 use Rattle.runner.specs.declared.line.ScriptKind.TheVariants.{OneLife}
 use Rattle.runner.specs.Line.{IsScriptLine}
 use Rattle.runner.specs.Lines.{lines_of}
-use Rattle.runner.specs.Script.{Plays, IsFirstBadLine, IsLife}
-use Rattle.runner.specs.Streams.{IsAll, AppendsSome}
-use Rattle.runner.specs.Text.{text_of}
+use Rattle.runner.specs.Script.{LinePlays, Plays, StopsAt, IsFirstBadLine, IsLife, IsLeftBy}
+use Rattle.runner.specs.Streams.{IsAll, AppendsUpTo}
+use Rattle.runner.specs.Text.{line_for, text_of}
 
 -- the most bytes of a script
 abbrev pub script_limit : ℕ
@@ -45,6 +45,7 @@ module _ {M : Type 0} (state : M → State) (left : Option (List ℕ)) (was now 
     pub plays : Plays (lines_of script) events
     pub answers : List Answer
     pub life : IsLife (state medium) (state after) events answers
+    pub left_by : IsLeftBy state medium events answers after
     pub written : Appends was now (text_of events answers)
 
   -- each line is one of a script, and no disk has started on the medium
@@ -56,16 +57,22 @@ module _ {M : Type 0} (state : M → State) (left : Option (List ℕ)) (was now 
     pub leaves : StartLeaves (state medium) (state back)
     pub kept : Keeps was now
 
-  -- the writer failed: of the text of a life of the script's first events a first part was appended
+  -- The writer failed at one line of the script: the lines before it were played and their answers
+  -- written. Of that line events were played, all of whose answers were written but the last one's: a
+  -- first part of that was, and at least one byte of it is missing. Nothing was played behind it.
   pub record IsCutShort (back : M) : Type 0 where
     pub script : List ℕ
     pub read : IsRead left script
-    pub events : List Event
-    pub rest : List Event
-    pub plays : Plays (lines_of script) (events ++ rest)
+    pub first : List Event
+    pub part : List Event
+    pub event : Event
+    pub stops : StopsAt LinePlays (lines_of script) first part event
     pub answers : List Answer
-    pub life : IsLife (state medium) (state back) events answers
-    pub written : AppendsSome was now (text_of events answers)
+    pub answer : Answer
+    pub life : IsLife (state medium) (state back) (first ++ part ++ event ∷ [])
+        (answers ++ answer ∷ [])
+    pub left_by : IsLeftBy state medium (first ++ part ++ event ∷ []) (answers ++ answer ∷ []) back
+    pub written : AppendsUpTo was now (text_of (first ++ part) answers) (line_for event answer)
 
   -- why a script was refused, and what was written then
   abbrev pub IsRefused : ScriptFault → M → Type 0

@@ -1,17 +1,20 @@
 -- What playing a script of several lives leaves: a medium, and what was written.
-use Rattle.std.specs.Prelude.{◌<◌, ℕ, List, ◌∷◌, ◌++◌, length, Option, IfSome}
+use Rattle.std.specs.Prelude.{◌<◌, ℕ, List, [], ◌∷◌, ◌++◌, length, Option, IfSome}
 use Rattle.std.specs.Io.KnownBytes.{Appends}
 use Rattle.medium.specs.Sim.{Sim}
 use Rattle.bot_machine.specs.StartFaults.{StartFault}
+use Rattle.bot_machine.specs.declared.event.Event.{Event}
 use Rattle.bot_machine.specs.declared.event.Answer.{Answer}
-use Rattle.bot_machine.specs.Lives.{Action, starts}
+use Rattle.bot_machine.specs.Lives.{Action, starts, plays}
 use Rattle.runner.specs.declared.fault.ScriptFault.{ScriptFault}
 use Rattle.runner.specs.declared.fault.ScriptFault.TheVariants.{Line, TooLong, Start, NoMemory, Reader, Writer}
 use Rattle.runner.specs.declared.line.ScriptKind.TheVariants.{Lives}
-use Rattle.runner.specs.Lifetimes.{Acts, AreLives, AreStopped, text_of_lives}
+use Rattle.runner.specs.Lifetimes.{LineActs, Acts, AreLives, AreStopped, text_of_lives}
 use Rattle.runner.specs.Lines.{lines_of}
 use Rattle.runner.specs.Outcome.{script_limit, IsRead, IsUntouched, HasBadLine}
-use Rattle.runner.specs.Streams.{AppendsSome}
+use Rattle.runner.specs.Script.{StopsAt}
+use Rattle.runner.specs.Streams.{AppendsUpTo}
+use Rattle.runner.specs.Text.{line_for}
 
 module _ (left was now : Option (List ℕ)) (medium : Sim) where
   -- the script was played whole: exactly the text of the answers in lives of its actions was appended
@@ -24,27 +27,31 @@ module _ (left was now : Option (List ℕ)) (medium : Sim) where
     pub lives : AreLives medium after actions answers
     pub written : Appends was now (text_of_lives actions answers)
 
-  -- a start that the script came to was refused: the text of the lives before it was appended
+  -- a start that a line of the script came to was refused: the text of the lives before it was appended
   pub record AreRefusedAStart (fault : StartFault) (back : Sim) : Type 0 where
     pub script : List ℕ
     pub read : IsRead left script
-    pub actions : List Action
-    pub rest : List Action
-    pub acts : Acts (lines_of script) (actions ++ starts ∷ rest)
+    pub first : List Action
+    pub part : List Action
+    pub stops : StopsAt LineActs (lines_of script) first part starts
     pub answers : List Answer
-    pub stopped : AreStopped medium back actions answers fault
-    pub written : Appends was now (text_of_lives actions answers)
+    pub stopped : AreStopped medium back (first ++ part) answers fault
+    pub written : Appends was now (text_of_lives (first ++ part) answers)
 
-  -- the writer failed: of the text of lives of the script's first actions a first part was appended
+  -- The writer failed at one line of the script: the lines before it acted and their answers were
+  -- written. Of that line events were played, all of whose answers were written but the last one's: a
+  -- first part of that was, and at least one byte of it is missing. Nothing was done behind it.
   pub record AreCutShort (back : Sim) : Type 0 where
     pub script : List ℕ
     pub read : IsRead left script
-    pub actions : List Action
-    pub rest : List Action
-    pub acts : Acts (lines_of script) (actions ++ rest)
+    pub first : List Action
+    pub part : List Action
+    pub event : Event
+    pub stops : StopsAt LineActs (lines_of script) first part (plays event)
     pub answers : List Answer
-    pub lives : AreLives medium back actions answers
-    pub written : AppendsSome was now (text_of_lives actions answers)
+    pub answer : Answer
+    pub lives : AreLives medium back (first ++ part ++ plays event ∷ []) (answers ++ answer ∷ [])
+    pub written : AppendsUpTo was now (text_of_lives (first ++ part) answers) (line_for event answer)
 
   -- why a script was refused, and what was written then
   abbrev pub AreRefused : ScriptFault → Sim → Type 0

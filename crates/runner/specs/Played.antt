@@ -1,12 +1,14 @@
 -- Events played on a disk.
-use Rattle.std.specs.Prelude.{◌≡◌, ◌≤◌, ℕ, ◌+◌, Bool, List, length}
+use Rattle.std.specs.Prelude.{◌≡◌, ◌≤◌, ℕ, ◌+◌, Bool, List, [], ◌∷◌, ◌++◌, length, Option}
 use Rattle.medium.specs.Medium.{State}
 use Rattle.bot_machine.specs.Books.{Book}
 use Rattle.bot_machine.specs.declared.event.Event.{Event}
 use Rattle.bot_machine.specs.declared.event.Answer.{Answer}
 use Rattle.bot_machine.specs.Conversation.{refused_events}
 use Rattle.bot_machine.specs.Disk.{DiskValue, FitsDisk, UnitRun, over}
-use Rattle.runner.specs.Text.{text_of}
+use Rattle.runner.specs.Script.{LinePlays, StopsAt, Steps}
+use Rattle.runner.specs.Streams.{AppendsUpTo}
+use Rattle.runner.specs.Text.{line_for, text_of}
 
 -- Over each book that it fits a disk played these events with these answers. In some of them the medium refused a call.
 pub record Answers {M : Type 0} (before after : State) (old : DiskValue M) (events : List Event) (answers : List Answer)
@@ -23,7 +25,7 @@ pub record Answers {M : Type 0} (before after : State) (old : DiskValue M) (even
 pub record Tells {M : Type 0} (state : M → State) (old : DiskValue M) (events : List Event) (text : List ℕ) (new : DiskValue M)
     : Type 0 where
   pub answers : List Answer
-  pub answered : Answers (state old.unit.store.medium) (state new.unit.store.medium) old events answers new
+  pub steps : Steps state old events answers new
   pub told : text ≡ text_of events answers
 
 -- it did, and left this medium
@@ -31,4 +33,23 @@ pub record Leaves {M : Type 0} (state : M → State) (old : DiskValue M) (events
     (after : M) : Type 0 where
   pub new : DiskValue M
   pub tells : Tells state old events text new
+  pub medium : new.unit.store.medium ≡ after
+
+-- It played events, whose answers were written, and then one more, whose answer was not written whole.
+pub record BreaksOff {M : Type 0} (state : M → State) (was now : Option (List ℕ)) (old : DiskValue M)
+    (events : List Event) (event : Event) (new : DiskValue M) : Type 0 where
+  pub answers : List Answer
+  pub answer : Answer
+  pub steps : Steps state old (events ++ event ∷ []) (answers ++ answer ∷ []) new
+  pub written : AppendsUpTo was now (text_of events answers) (line_for event answer)
+
+-- it did at one of these lines, and left this medium
+pub record BreaksOffAt {M : Type 0} (state : M → State) (was now : Option (List ℕ)) (old : DiskValue M)
+    (lines : List (List ℕ)) (after : M) : Type 0 where
+  pub first : List Event
+  pub part : List Event
+  pub event : Event
+  pub stops : StopsAt LinePlays lines first part event
+  pub new : DiskValue M
+  pub breaks : BreaksOff state was now old (first ++ part) event new
   pub medium : new.unit.store.medium ≡ after

@@ -1,14 +1,18 @@
 -- Actions done to lives of a disk, and how they end early.
-use Rattle.std.specs.Prelude.{◌≡◌, ℕ, Bool, false, List, ◌∷◌, ◌++◌, None, Option}
+use Rattle.std.specs.Prelude.{◌≡◌, ℕ, Bool, false, List, [], ◌∷◌, ◌++◌, None, Option}
 use Rattle.std.specs.Io.KnownBytes.{Appends}
 use Rattle.medium.specs.Sim.{Sim}
+use Rattle.bot_machine.specs.StartFaults.{StartFault}
+use Rattle.bot_machine.specs.declared.event.Event.{Event}
 use Rattle.bot_machine.specs.declared.event.Answer.{Answer}
-use Rattle.bot_machine.specs.Lives.{Action, starts}
+use Rattle.bot_machine.specs.Lives.{Action, starts, plays}
 use Rattle.bot_machine.specs.LivesValue.{LivesValue, LivesGoOn, IsRefused, medium_in}
 use Rattle.runner.specs.declared.fault.ScriptFault.{ScriptFault}
 use Rattle.runner.specs.declared.fault.ScriptFault.TheVariants.{Line, TooLong, Start, NoMemory, Reader, Writer}
-use Rattle.runner.specs.Lifetimes.{Acts, AnswersFit, fused_after, text_of_lives, MovesBy}
-use Rattle.runner.specs.Streams.{AppendsSome}
+use Rattle.runner.specs.Lifetimes.{LineActs, Acts, AnswersFit, fused_after, text_of_lives, MovesBy}
+use Rattle.runner.specs.Script.{StopsAt}
+use Rattle.runner.specs.Streams.{AppendsUpTo}
+use Rattle.runner.specs.Text.{line_for}
 
 -- where this says that no fuse is armed, none is, and the power is on
 abbrev pub FuseIs : Bool → LivesValue → Type 0
@@ -28,24 +32,42 @@ module _ (was now : Option (List ℕ)) (old : LivesValue) where
     pub acted : Acted old actions answers new
     pub written : Appends was now (text_of_lives actions answers)
 
-  -- Lives went on by these actions, and then ended for a fault: the start that came next was refused, or the writer failed.
-  abbrev pub EndsBy : List Action → List Answer → List Action → LivesValue → ScriptFault → Type 0
-  EndsBy actions answers rest new (Start fault) =
-      (mid : LivesValue) × Acted old actions answers mid × IsRefused mid fault new
-      × ((later : List Action) × (rest ≡ starts ∷ later)) × Appends was now (text_of_lives actions answers)
-  EndsBy actions answers rest new Writer = Acted old actions answers new × AppendsSome was now (text_of_lives actions answers)
-  EndsBy actions answers rest new (Line number) = ⊥
-  EndsBy actions answers rest new TooLong = ⊥
-  EndsBy actions answers rest new NoMemory = ⊥
-  EndsBy actions answers rest new Reader = ⊥
+  -- they did, and the text of the answers was appended; the start that came next was refused
+  pub record EndsUnstarted (actions : List Action) (answers : List Answer) (last : Action)
+      (new : LivesValue) (fault : StartFault) : Type 0 where
+    pub mid : LivesValue
+    pub acted : Acted old actions answers mid
+    pub is : last ≡ starts
+    pub refused : IsRefused mid fault new
+    pub written : Appends was now (text_of_lives actions answers)
 
-  -- the first of these actions were done, and then lives ended for a fault
+  -- they did, and the text of the answers was appended; then came an event, whose answer was not
+  -- written whole
+  pub record EndsUnwritten (actions : List Action) (answers : List Answer) (last : Action)
+      (new : LivesValue) : Type 0 where
+    pub event : Event
+    pub is : last ≡ plays event
+    pub answer : Answer
+    pub acted : Acted old (actions ++ plays event ∷ []) (answers ++ answer ∷ []) new
+    pub written : AppendsUpTo was now (text_of_lives actions answers) (line_for event answer)
+
+  -- Lives went on by these actions, and then ended at one more for a fault.
+  abbrev pub EndsBy : List Action → List Answer → Action → LivesValue → ScriptFault → Type 0
+  EndsBy actions answers last new (Start fault) = EndsUnstarted actions answers last new fault
+  EndsBy actions answers last new Writer = EndsUnwritten actions answers last new
+  EndsBy actions answers last new (Line number) = ⊥
+  EndsBy actions answers last new TooLong = ⊥
+  EndsBy actions answers last new NoMemory = ⊥
+  EndsBy actions answers last new Reader = ⊥
+
+  -- the first of these actions were done, and at the next one lives ended for a fault
   pub record BreaksOff (actions : List Action) (new : LivesValue) (fault : ScriptFault) : Type 0 where
     pub first : List Action
+    pub last : Action
     pub rest : List Action
-    pub parts : actions ≡ first ++ rest
+    pub parts : actions ≡ first ++ last ∷ rest
     pub answers : List Answer
-    pub ends : EndsBy first answers rest new fault
+    pub ends : EndsBy first answers last new fault
 
   -- the lines of a script were played whole, and left this medium
   pub record PlaysAll (lines : List (List ℕ)) (after : Sim) : Type 0 where
@@ -55,10 +77,13 @@ module _ (was now : Option (List ℕ)) (old : LivesValue) where
     pub tells : TellsLives actions new
     pub left : medium_in new.stage ≡ after
 
-  -- they were played until a fault, which left this medium
+  -- they were played until a fault, at one of them, which left this medium
   pub record PlaysUpTo (lines : List (List ℕ)) (fault : ScriptFault) (back : Sim) : Type 0 where
-    pub actions : List Action
-    pub acts : Acts lines actions
+    pub first : List Action
+    pub part : List Action
+    pub last : Action
+    pub stops : StopsAt LineActs lines first part last
     pub new : LivesValue
-    pub breaks : BreaksOff actions new fault
+    pub answers : List Answer
+    pub ends : EndsBy (first ++ part) answers last new fault
     pub left : medium_in new.stage ≡ back

@@ -1,12 +1,11 @@
 // A checked script of one life, played on a disk.
-ghost use Rattle.std.specs.Prelude.{◌≡◌, ◌++◌, ℕ, List, All, OnOk, OnErr, IfOk, IfErr};
+ghost use Rattle.std.specs.Prelude.{◌≡◌, ◌∷◌, ◌++◌, ℕ, List, All, OnOk, OnErr, IfOk, IfErr};
 ghost use Rattle.std.specs.Io.KnownBytes.{Appends};
 ghost use Rattle.bot_machine.specs.declared.event.Event.{Event};
 ghost use Rattle.runner.specs.Line.{IsScriptLine};
 ghost use Rattle.runner.specs.Lines.{lines_of};
 ghost use Rattle.runner.specs.Script.{LinePlays, Plays};
-ghost use Rattle.runner.specs.Played.{Tells, Leaves};
-ghost use Rattle.runner.specs.Streams.{AppendsSome};
+ghost use Rattle.runner.specs.Played.{Tells, Leaves, BreaksOff, BreaksOffAt};
 
 use crate::fault::{ScriptError, ScriptFault};
 use crate::line::{ScriptKind, read_line};
@@ -29,9 +28,8 @@ pub(crate) fn play<M: Medium, W: Write>(
         × Plays (lines_of script.now) events × Leaves M.state disk events text after
         × Appends (W.contents out.old) (W.contents out.new) text) }
     ensures cut_short { IfErr result (λ error. (error.fault ≡ ScriptFault.Writer)
-        × ((events : List Event) × (rest : List Event) × (text : List ℕ)
-        × Plays (lines_of script.now) (events ++ rest) × Leaves M.state disk events text error.medium
-        × AppendsSome (W.contents out.old) (W.contents out.new) text)) }
+        × BreaksOffAt M.state (W.contents out.old) (W.contents out.new) disk (lines_of script.now)
+        error.medium) }
 {
     for line in Parts::lines(script) {
         if play_line(&mut disk, line, out).is_err() {
@@ -50,10 +48,9 @@ fn play_line<M: Medium, W: Write>(disk: &mut Disk<M>, line: &[u8], out: &mut W) 
     ensures played { OnOk result ((events : List Event) × (text : List ℕ) × LinePlays line.now events
         × Tells M.state disk.old events text disk.new
         × Appends (W.contents out.old) (W.contents out.new) text) }
-    ensures cut_short { OnErr result ((events : List Event) × (rest : List Event) × (text : List ℕ)
-        × LinePlays line.now (events ++ rest)
-        × Tells M.state disk.old events text disk.new
-        × AppendsSome (W.contents out.old) (W.contents out.new) text) }
+    ensures cut_short { OnErr result ((events : List Event) × (event : Event) × (rest : List Event)
+        × LinePlays line.now (events ++ event ∷ rest)
+        × BreaksOff M.state (W.contents out.old) (W.contents out.new) disk.old events event disk.new) }
 {
     for event in read_line(ScriptKind::OneLife, line).unwrap() {
         let answer = answer_to(disk, &event);

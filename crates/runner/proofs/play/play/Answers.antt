@@ -6,9 +6,9 @@ use Rattle.runner.specs.Events.{events_of}
 use Rattle.runner.specs.Line.{IsScriptLine}
 use Rattle.runner.specs.Script.{LinePlays}
 use Rattle.runner.proofs.InTurn.{given-start, given-more, given-all, given-part}
-use Rattle.runner.proofs.Known.{Appends-none, Appends-more, AppendsSome-more}
+use Rattle.runner.proofs.Known.{Appends-none, Appends-more}
 use Rattle.runner.proofs.Options.{on_ok, on_err}
-use Rattle.runner.proofs.Runs.{tells-none, tells-more}
+use Rattle.runner.proofs.Runs.{tells-none, tells-more, breaks-more}
 use Rattle.runner.proofs.play.play.Goals as goal
 
 pub loop-line-init : goal.loop-line-init
@@ -60,22 +60,19 @@ returns-then-is_err-clause-cut_short g c =
     let contents = g.W.Write.contents in
     let so = c.loop-line.invariant.so_far in
     let here = on_err c.play_line.result c.if-is_err.ensures.value c.play_line.ensures.cut_short in
-    let left = rw c.in-Some.ensures.steps at c.loop-line.invariant.left in
-    let plays = given-part LinePlays (IsScriptLine OneLife)
-    (λ line is. (events_of is.0, record { asked = is.0; spelled = is.1; allowed = is.2; events_are = refl }))
-    (lines_of c.args.script.now) (parts_left c.loop-line.line-iterator) (parts_left c.next.new.self) c.in-Some.line.now c.in-Some.ensures.steps
-    so.0 here.0 here.1 so.3 here.3 (λ k d lt. left (suc k) d (omega (arith, lt))) in (
+    let left = rw c.in-Some.ensures.steps at c.loop-line.invariant.left in (
       refl,
-      (
-        so.0 ++ here.0,
-        plays.0,
-        so.1 ++ here.2,
-        plays.1,
-        record {
-          new = c.play_line.new.disk;
-          tells = tells-more state c.args.disk c.loop-line.disk c.play_line.new.disk so.0 here.0 so.1 here.2 so.2 here.4;
-          medium = sym c.into_medium.ensures;
-        },
-        AppendsSome-more (contents c.args.out.now) (contents c.loop-line.out) (contents c.play_line.new.out) so.1 here.2 so.4 here.5,
-      ),
+      record {
+        first = so.0;
+        part = here.0;
+        event = here.1;
+        stops = given-part LinePlays (IsScriptLine OneLife)
+            (λ line is. (events_of is.0, record { asked = is.0; spelled = is.1; allowed = is.2; events_are = refl }))
+            (lines_of c.args.script.now) (parts_left c.loop-line.line-iterator) (parts_left c.next.new.self) c.in-Some.line.now c.in-Some.ensures.steps
+            so.0 here.0 here.1 here.2 so.3 here.3 (λ k d lt. left (suc k) d (omega (arith, lt)));
+        new = c.play_line.new.disk;
+        breaks = breaks-more state (contents c.args.out.now) (contents c.loop-line.out) (contents c.play_line.new.out) c.args.disk c.loop-line.disk
+            c.play_line.new.disk so.0 here.0 so.1 here.1 so.2 so.4 here.4;
+        medium = sym c.into_medium.ensures;
+      },
     )

@@ -1,9 +1,9 @@
 use Rattle.std.proofs.Common.{◌∷◌, [], ◌++◌, ◌∙◌, ap, sym, append_assoc}
 use Rattle.runner.specs.Events.{events_of}
 use Rattle.runner.specs.Text.{line_for}
-use Rattle.runner.proofs.Known.{Appends-none, Appends-more, AppendsSome-more}
+use Rattle.runner.proofs.Known.{Appends-none, Appends-more}
 use Rattle.runner.proofs.Options.{on_err_too}
-use Rattle.runner.proofs.Runs.{tells-none, tells-one, tells-more}
+use Rattle.runner.proofs.Runs.{tells-none, tells-one, tells-more, breaks-here}
 use Rattle.runner.proofs.play.play_line.Goals as goal
 
 pub loop-event-init : goal.loop-event-init
@@ -58,17 +58,16 @@ returns-in_err-write_out-clause-cut_short g c =
     let event = c.in-Some.event in
     let answer = c.answer_to-answer.result in
     on_err_too c.from_residual.result (
-      so.0 ++ event ∷ [],
+      so.0,
+      event,
       events_of c.next.new.self,
-      so.1 ++ line_for event answer,
       record {
         asked = asked.0;
         spelled = asked.1;
         allowed = asked.2;
-        events_are = append_assoc so.0 (event ∷ []) (events_of c.next.new.self) ∙ ap (λ l. so.0 ++ l) (sym c.in-Some.ensures.steps) ∙ sym so.2;
+        events_are = ap (λ l. so.0 ++ l) (sym c.in-Some.ensures.steps) ∙ sym so.2;
       },
-      tells-more state c.args.disk.now c.loop-event.disk c.answer_to-answer.new.disk so.0 (event ∷ []) so.1 (line_for event answer) so.3
-          (tells-one state c.loop-event.disk c.answer_to-answer.new.disk event answer c.answer_to-answer.ensures.step),
-      AppendsSome-more (contents c.args.out.now) (contents c.loop-event.out) (contents c.write_out.new.out) so.1 (line_for event answer) so.4
+      breaks-here state (contents c.args.out.now) (contents c.loop-event.out) (contents c.write_out.new.out) c.args.disk.now c.loop-event.disk
+          c.answer_to-answer.new.disk so.0 so.1 event answer so.3 so.4 c.answer_to-answer.ensures.step
           (rw (c.as_slice.ensures.value ∙ c.event_line.ensures) at c.in_err-write_out.ensures.err),
     )
