@@ -17,3 +17,4 @@ pub mod FormatWords
 pub mod Acting
 pub mod ActingLines
 pub mod SeveralLives
+pub mod Readiness

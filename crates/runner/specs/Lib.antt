@@ -16,3 +16,4 @@ pub mod Task
 pub mod Status
 pub mod Program
 pub mod Parser
+pub mod Laws

@@ -7,6 +7,7 @@ mod fault;
 mod identity;
 mod image;
 mod kept;
+mod laws;
 mod lifetimes;
 mod line;
 mod number;
@@ -23,6 +24,7 @@ mod text;
 mod words;
 
 pub use fault::{ScriptError, ScriptFault};
+pub use laws::lives_laws;
 pub use program::{command, run_program};
 pub use script::{SCRIPT_LIMIT, run_script};
 pub use sim::sim_script;

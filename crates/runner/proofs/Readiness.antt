@@ -1,0 +1,273 @@
+-- Media over which a life opens: one that was formatted and cut, and one that lives have left.
+use Rattle.std.proofs.Common.{◌≡◌, ℕ, ◌/◌, Bool, true, false, List, [], ◌∷◌, ◌++◌, replicate, refl, sym, ap, subst, ◌∙◌, ⊎_elim, inl, inr, arith, append_assoc}
+use Rattle.std.proofs.lemmas.Bool.{cases_Bool}
+use Rattle.std.specs.Prelude.{map, Result}
+use Rattle.medium.specs.Blocks.{Array}
+use Rattle.medium.specs.Medium.{Image}
+use Rattle.medium.specs.Moments.{EachCut}
+use Rattle.medium.specs.Sim.{Sim, state_of, size_of, content_of, IsCut}
+use Rattle.medium.specs.SimLaws.{is_sound, size_whole}
+use Rattle.medium.specs.Writes.{sector_of, are_whole, keeps}
+use Rattle.medium.proofs.Keeping.{kept_allowed, none_size, none_content, none_flushed}
+use Rattle.medium.proofs.Moments.{only_image, content_has}
+use Rattle.recovery.specs.Formatted.{Shape, IsFormatted}
+use Rattle.bot_machine.specs.Books.{Book, opened, StandsAs}
+use Rattle.bot_machine.specs.Identification.{Identification}
+use Rattle.bot_machine.specs.Rules.{UnitState, CarriesOut, Ticks, Sense}
+use Rattle.bot_machine.specs.Starting.{IsOursForSome}
+use Rattle.bot_machine.specs.declared.event.Event.{Event}
+use Rattle.bot_machine.specs.declared.event.Event.TheVariants as event
+use Rattle.bot_machine.specs.declared.event.Answer.{Answer}
+use Rattle.bot_machine.specs.declared.life.Life.{Life}
+use Rattle.bot_machine.specs.Conversation.{Conversation, Begins, Opens as OpensExchange, OutStep}
+use Rattle.bot_machine.specs.Disk.{UnitStep}
+use Rattle.bot_machine.specs.Exchange.{Script, finished, taking, sending, Moment, at_once, after_data, never, moment_of}
+use Rattle.bot_machine.specs.Intentions.{Intends}
+use Rattle.bot_machine.specs.Lives.{Action, arms, starts, plays, cuts, Remains, Place, before_first, between, runs, off, Standing, Opens, LifeBegins, PowerGoes, LivesStep, LivesRun, after_cut}
+use Rattle.bot_machine.specs.LivesValue.{OpensOn, book_at, FoundAt}
+use Rattle.bot_machine.specs.Lifetimes.{actions_of_all, armed_by}
+use Rattle.bot_machine.proofs.Beginning.{next_opens}
+use Rattle.bot_machine.proofs.UnitLaws.{knows_images, ours_stay}
+use Rattle.runner.specs.Laws.{IsReadyFor, FormatIsReady, LivesAreReady}
+
+-- an image that is ours for a book is ours for something
+ours_for_some : (size blocks : ℕ) (image : Image) (array : Array) (next : ℕ) → StandsAs size blocks image array next → IsOursForSome size image
+ours_for_some size blocks image array next s = (record { blocks = blocks; slots = s.0 }, array, next, s.1)
+
+-- where nothing is unflushed and the contents are ours for a book, a life opens with it
+opens_at_rest : (m : Sim) (blocks : ℕ) (array : Array) (next : ℕ) → m.unflushed ≡ [] → StandsAs (state_of m).size blocks (state_of m).content array next
+    → OpensOn (state_of m) (opened blocks array next true)
+opens_at_rest m blocks array next none stands = record {
+  opens = refl;
+  stands = knows_images.stands_for (state_of m).size (opened blocks array next true) (state_of m).content stands;
+  ours = λ is image cut.
+      let same : image ≡ (state_of m).content = only_image (state_of m).content (state_of m).may_leave (none_flushed m none) image cut in
+      subst (IsOursForSome (state_of m).size) (sym same) (ours_for_some (state_of m).size blocks (state_of m).content array next stands);
+}
+
+-- ---- a medium that was formatted and cut
+
+module _ (shape : Shape) (made cut : Sim) (keep : ℕ → Bool) (f : IsFormatted shape (state_of made)) (c : IsCut keep made cut) where
+  abbrev zeros : Array
+  zeros = λ block. replicate 512 0
+
+  none_of_no_sectors : are_whole made.unflushed ≡ false → size_of made ≡ 0
+  none_of_no_sectors not = rw not refl
+
+  -- its unflushed writes are whole sectors, since it has sectors
+  are_sectors : are_whole made.unflushed ≡ true
+  are_sectors = elim (cases_Bool (are_whole made.unflushed)) [
+    | inl whole ↦ whole
+    | inr not ↦ let fits = f.ours.stands.fits in absurd (omega (arith, fits, none_of_no_sectors not))
+  ]
+
+  size_same : (state_of cut).size ≡ (state_of made).size
+  size_same = none_size cut c.none ∙ ap (λ (n : ℕ). n / 512) c.size_stays ∙ sym (size_whole made are_sectors)
+
+  content_at : (s : ℕ) → content_of cut s ≡ content_of made s
+  content_at s = none_content cut c.none s ∙ c.image s ∙ f.flushed s _ (kept_allowed keep made.unflushed (sector_of made.flushed) s)
+
+  content_same : (state_of cut).content ≡ (state_of made).content
+  content_same = λ i s. content_at s i
+
+  stands_made : StandsAs (state_of made).size shape.blocks (state_of made).content zeros 2
+  stands_made = (shape.slots, f.ours)
+
+  stands_cut : StandsAs (state_of cut).size shape.blocks (state_of cut).content zeros 2
+  stands_cut =
+      subst (λ (n : ℕ). StandsAs n shape.blocks (state_of cut).content zeros 2) (sym size_same)
+      (subst (λ (image : Image). StandsAs (state_of made).size shape.blocks image zeros 2) (sym content_same) stands_made)
+
+  is_ready : IsReadyFor cut (opened shape.blocks zeros 2 true)
+  is_ready = record {
+    rests = record { on = ap (λ p. p.off) c.power_on; flushed = c.none };
+    unfused = ap (λ p. p.fuse) c.power_on;
+    opens = opens_at_rest cut shape.blocks zeros 2 c.none stands_cut;
+    ours = refl;
+  }
+
+pub format_is_ready : FormatIsReady
+format_is_ready = λ shape made cut keep f c. is_ready shape made cut keep f c
+
+-- ---- whether every image was ours when lives began does not change
+
+abbrev ours_in : Conversation UnitState → Bool
+ours_in c = c.unit.book.ours
+
+module _ (refused : Bool) where
+  unit_ours : (old new : Conversation UnitState) → new.unit ≡ old.unit → ours_in new ≡ ours_in old
+  unit_ours old new same = ap (λ (u : UnitState). u.book.ours) same
+
+  whole_ours : (old new : Conversation UnitState) → new ≡ old → ours_in new ≡ ours_in old
+  whole_ours old new same = ap ours_in same
+
+  carried_ours : (block bytes : List ℕ) (old new : Conversation UnitState) (answer : Result (List ℕ) Sense)
+      → CarriesOut refused block bytes old.unit answer new.unit → ours_in new ≡ ours_in old
+  carried_ours block bytes old new answer effect = ours_stay refused block bytes old.unit new.unit answer effect
+
+  opens_ours : (packet : List ℕ) (old new : Conversation UnitState) → OpensExchange Intends CarriesOut Ticks refused packet old new → ours_in new ≡ ours_in old
+  opens_ours packet old new o =
+      let begun : Begins Intends CarriesOut Ticks refused (moment_of o.case) o.case o.command o.intended old new → ours_in new ≡ ours_in old =
+      elim (moment_of o.case) as (λ (m : Moment). Begins Intends CarriesOut Ticks refused m o.case o.command o.intended old new → ours_in new ≡ ours_in old) [
+        | at_once ↦ λ h. carried_ours _ _ old new h.answer h.effect
+        | after_data ↦ λ h. unit_ours old new h.0
+        | never ↦ λ h. unit_ours old new h.0
+      ] in
+      begun o.begins
+
+  out_ours : (halted : Bool) (left : Script) (packet : List ℕ) (old new : Conversation UnitState) (answer : Answer)
+      → OutStep Intends CarriesOut Ticks refused halted left packet old answer new → ours_in new ≡ ours_in old
+  out_ours true left packet old new answer h = whole_ours old new h.1
+  out_ours false finished packet old new answer h =
+      ⊎_elim (λ o. opens_ours packet old new o) (λ l. unit_ours old new l.unit) h.1
+  out_ours false (taking case command intended bytes due) packet old new answer h =
+      ⊎_elim (λ more. unit_ours old new more.unit)
+      (λ rest. ⊎_elim (λ last. carried_ours _ _ old new last.carried_out.answer last.carried_out.effect) (λ b. unit_ours old new b.unit) rest) h.1
+  out_ours false (sending packets halt status) packet old new answer h = whole_ours old new h.1
+
+  -- in an event
+  step_ours : (happens : Event) (old new : Conversation UnitState) (answer : Answer) → UnitStep refused old happens answer new → ours_in new ≡ ours_in old
+  step_ours (event.Out packet) old new answer h = out_ours old.line.out_halted old.line.left packet.items old new answer h
+  step_ours event.In old new answer h = ap ours_in h.1
+  step_ours (event.Setup packet) old new answer h = unit_ours old new h.1
+  step_ours event.Tick old new answer h = ⊎_elim (λ same. unit_ours old new same) (λ faulted. ap (λ (u : UnitState). u.book.ours) faulted.after) h.1
+
+-- ---- where lives stand
+
+-- lives that began with this book stand here: no first life has been only where it is the book still
+abbrev IsFirst : Book → Place → Type 0
+IsFirst book (before_first other) = other ≡ book
+IsFirst book (between remains) = Unit {0}
+IsFirst book (runs conversation) = Unit {0}
+IsFirst book (off remains) = Unit {0}
+
+record IsFrom (book : Book) (place : Place) : Type 0 where
+  first : IsFirst book place
+  ours : (book_at place).ours ≡ book.ours
+
+module _ (identity : Identification) (book : Book) where
+  -- power goes
+  from_off : (refused : Bool) (old new : Standing) (remains : Remains) → PowerGoes refused remains old new → remains.book.ours ≡ book.ours → IsFrom book new.place
+  from_off refused old new remains goes ours = subst (λ (s : Standing). IsFrom book s.place) (sym goes.after) (record { first = tt; ours = ours })
+
+  from_begun : (refused : Bool) (old new : Standing) (begins : LifeBegins identity refused old new) → begins.book.ours ≡ book.ours → IsFrom book new.place
+  from_begun refused old new begins ours = ⊎_elim
+      (λ is. subst (λ (s : Standing). IsFrom book s.place) (sym is) (record { first = tt; ours = ours }))
+      (λ goes. from_off refused old new _ goes ours) begins.begins
+
+  from_start : (refused : Bool) (place : Place) (armed : Bool) (new : Standing) (told : List Answer) → IsFrom book place
+      → LivesStep identity refused (record { place = place; armed = armed }) starts told new → IsFrom book new.place
+  from_start refused (before_first other) armed new told from h =
+      from_begun refused _ new h.1 (ap (λ (b : Book). b.ours) h.1.opens ∙ from.ours)
+  from_start refused (between remains) armed new told from h =
+      from_begun refused _ new h.1 (ap (λ (b : Book). b.ours) h.1.opens.opens ∙ from.ours)
+  from_start refused (runs conversation) armed new told from h = subst (λ (s : Standing). IsFrom book s.place) (sym h.1) from
+  from_start refused (off remains) armed new told from h = subst (λ (s : Standing). IsFrom book s.place) (sym h.1) from
+
+  from_event : (refused : Bool) (place : Place) (armed : Bool) (new : Standing) (happens : Event) (told : List Answer) → IsFrom book place
+      → LivesStep identity refused (record { place = place; armed = armed }) (plays happens) told new → IsFrom book new.place
+  from_event refused (before_first other) armed new happens told from h = absurd h.2
+  from_event refused (between remains) armed new happens told from h = absurd h.2
+  from_event refused (runs conversation) armed new happens told from h = ⊎_elim
+      (λ ends. subst (λ (s : Standing). IsFrom book s.place) (sym ends.after)
+      (record { first = tt; ours = step_ours refused happens conversation ends.later h.0 ends.step ∙ from.ours }))
+      (λ cut. from_off refused _ new _ cut.goes from.ours) h.2
+  from_event refused (off remains) armed new happens told from h = subst (λ (s : Standing). IsFrom book s.place) (sym h.2.1) from
+
+  from_cut : (place : Place) → IsFrom book place → IsFrom book (after_cut place)
+  from_cut (before_first other) from = from
+  from_cut (between remains) from = from
+  from_cut (runs conversation) from = record { first = tt; ours = from.ours }
+  from_cut (off remains) from = record { first = tt; ours = from.ours }
+
+  from_step : (refused : Bool) (old new : Standing) (action : Action) (told : List Answer) → IsFrom book old.place
+      → LivesStep identity refused old action told new → IsFrom book new.place
+  from_step refused old new (arms writes) told from h = subst (λ (s : Standing). IsFrom book s.place) (sym h.1) from
+  from_step refused old new starts told from h = from_start refused old.place old.armed new told from h
+  from_step refused old new (plays happens) told from h = from_event refused old.place old.armed new happens told from h
+  from_step refused old new (cuts keep) told from h = subst (λ (s : Standing). IsFrom book s.place) (sym h.1) (from_cut old.place from)
+
+  from_run : (actions : List Action) (old new : Standing) (told : List Answer) (refusals : List Bool) → IsFrom book old.place
+      → LivesRun identity old actions told refusals new → IsFrom book new.place
+  from_run [] old new told [] from run = subst (λ (s : Standing). IsFrom book s.place) (sym run.1) from
+  from_run (action ∷ actions) old new told (refused ∷ refusals) from run =
+      from_run actions run.0 new run.2 refusals (from_step refused old run.0 action run.1 from run.4) run.5
+  from_run [] old new told (refused ∷ refusals) from run = absurd run
+  from_run (action ∷ actions) old new told [] from run = absurd run
+
+-- no disk runs here, and the power is on
+abbrev IsBetween : Place → Type 0
+IsBetween (before_first book) = Unit {0}
+IsBetween (between remains) = Unit {0}
+IsBetween (runs conversation) = ⊥
+IsBetween (off remains) = ⊥
+
+cut_between : (place : Place) → IsBetween (after_cut place)
+cut_between (before_first book) = tt
+cut_between (between remains) = tt
+cut_between (runs conversation) = tt
+cut_between (off remains) = tt
+
+-- the second part of a run
+record RunsOn (identity : Identification) (actions : List Action) (new : Standing) : Type 0 where
+  mid : Standing
+  told : List Answer
+  refusals : List Bool
+  run : LivesRun identity mid actions told refusals new
+
+runs_on : (identity : Identification) (first rest : List Action) (old new : Standing) (told : List Answer) (refusals : List Bool)
+    → LivesRun identity old (first ++ rest) told refusals new → RunsOn identity rest new
+runs_on identity [] rest old new told refusals run = record { mid = old; told = told; refusals = refusals; run = run }
+runs_on identity (action ∷ first) rest old new told (refused ∷ refusals) run = runs_on identity first rest run.0 new run.2 refusals run.5
+runs_on identity (action ∷ first) rest old new told [] run = absurd run
+
+-- behind a cut no disk runs
+behind_cut : (identity : Identification) (keep : ℕ → Bool) (rest : List Action) (old new : Standing) (told : List Answer) (refusals : List Bool)
+    → LivesRun identity old (cuts keep ∷ rest) told refusals new
+    → (mid : Standing) × (more : List Answer) × (others : List Bool) × IsBetween mid.place × LivesRun identity mid rest more others new
+behind_cut identity keep rest old new told (refused ∷ refusals) run =
+    (run.0, run.2, refusals, subst (λ (s : Standing). IsBetween s.place) (sym run.4.1) (cut_between old.place), run.5)
+behind_cut identity keep rest old new told [] run = absurd run
+
+all_between : (identity : Identification) (lives : List Life) (old new : Standing) (told : List Answer) (refusals : List Bool) → IsBetween old.place
+    → LivesRun identity old (actions_of_all lives) told refusals new → IsBetween new.place
+all_between identity [] old new told [] rests run = subst (λ (s : Standing). IsBetween s.place) (sym run.1) rests
+all_between identity [] old new told (refused ∷ refusals) rests run = absurd run
+all_between identity (life ∷ lives) old new told refusals rests run =
+    let before : List Action = armed_by life.fuse ++ starts ∷ map plays life.events.items in
+    let cut : Action = cuts (keeps life.kept) in
+    let whole : LivesRun identity old (before ++ (cut ∷ actions_of_all lives)) told refusals new =
+    subst (λ (l : List Action). LivesRun identity old l told refusals new) (append_assoc before (cut ∷ []) (actions_of_all lives)) run in
+    let last = runs_on identity before (cut ∷ actions_of_all lives) old new told refusals whole in
+    let b = behind_cut identity (keeps life.kept) (actions_of_all lives) last.mid new last.told last.refusals last.run in
+    all_between identity lives b.0 new b.1 b.2 b.3 b.4
+
+-- a life opens where no disk runs
+opens_next : (m : Sim) (book : Book) (place : Place) → m.unflushed ≡ [] → book ≡ opened book.blocks book.opening book.stamp book.ours → book.ours ≡ true
+    → IsFrom book place → IsBetween place → EachCut (FoundAt (state_of m).size place) (state_of m)
+    → (next : Book) × OpensOn (state_of m) next × (next.ours ≡ true) × Opens place next
+opens_next m book (before_first other) none is ours from rests found =
+    let stands : StandsAs (state_of m).size other.blocks (state_of m).content other.opening other.stamp =
+    content_has (FoundAt (state_of m).size (before_first other)) (state_of m) (is_sound m) found in
+    let same : book ≡ opened book.blocks book.opening book.stamp true = is ∙ ap (opened book.blocks book.opening book.stamp) ours in
+    let here = rw from.first at stands in (
+      other,
+      subst (OpensOn (state_of m)) (sym (from.first ∙ same)) (opens_at_rest m book.blocks book.opening book.stamp none here),
+      from.ours ∙ ours,
+      refl,
+    )
+opens_next m book (between remains) none is ours from rests found =
+    let w = next_opens m remains (λ is_ours. found) in
+    let next_ours : w.book.ours ≡ true = w.ours ∙ from.ours ∙ ours in
+    (w.book, w.on next_ours, next_ours, w.opens)
+opens_next m book (runs conversation) none is ours from rests found = absurd rests
+opens_next m book (off remains) none is ours from rests found = absurd rests
+
+pub lives_are_ready : LivesAreReady
+lives_are_ready = λ before after identity lives told lived book opens ours.
+    let ends = lived.ends book opens in
+    let first : Standing = record { place = before_first book; armed = false } in
+    let from = from_run identity book (actions_of_all lives) first ends.last told lived.refusals (record { first = refl; ours = refl }) ends.run in
+    let rests = all_between identity lives first ends.last told lived.refusals tt ends.run in
+    let next = opens_next after book ends.last.place lived.rests.flushed opens.opens ours from rests (ends.found ours) in
+    (next.0, record { rests = lived.rests; unfused = lived.unfused; opens = next.1; ours = next.2 }, next.3)
