@@ -3,6 +3,7 @@ pub mod Turning
 pub mod Performing
 pub mod Writing
 pub mod Serving
+pub mod Calling
 pub mod Effects
 pub mod Outcomes
 pub mod Intentions

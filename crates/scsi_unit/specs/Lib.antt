@@ -8,4 +8,5 @@ pub mod UnitValue
 pub mod Starting
 pub mod Laws
 pub mod Serving
+pub mod Calls
 pub mod Performing

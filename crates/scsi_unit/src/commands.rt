@@ -1,5 +1,5 @@
 // Commands, each by its own function.
-ghost use Rattle.std.specs.Prelude.{◌≡◌, ◌<◌, ◌≤◌, ◌*◌, ◌&&◌, ℕ, false, [], length, take, min};
+ghost use Rattle.std.specs.Prelude.{◌≡◌, ◌<◌, ◌≤◌, ◌+◌, ◌*◌, ◌&&◌, ℕ, false, [], length, take, min};
 ghost use Rattle.std.specs.Prelude.{unwrap_or, IfOk, Ok};
 ghost use Rattle.blocks.specs.StoreValue.{blocks_of, is_dead};
 ghost use Rattle.sense.specs.Fixed.{fixed_sense};
@@ -12,6 +12,7 @@ ghost use Rattle.scsi_unit.specs.Capacity.{capacity_10, capacity_16};
 ghost use Rattle.scsi_unit.specs.Rules.{needs_medium, moves};
 ghost use Rattle.scsi_unit.specs.UnitValue.{intention_of, answer_of};
 ghost use Rattle.scsi_unit.specs.Serving.{command_for};
+ghost use Rattle.scsi_unit.specs.Calls.{calls_of, calls_after};
 ghost use Rattle.scsi_unit.specs.Performing.{Performs, Spares};
 
 use crate::Unit;
@@ -73,6 +74,10 @@ impl<M: Medium> Unit<M> {
             (answer_of result out.new) self.new }
         ensures spares { Spares (command_for self.old block.now) taken.now self.old
             (answer_of result out.new) self.new }
+        ensures bounded { (M.state self.new.store.medium).calls
+            ≤ (M.state self.old.store.medium).calls
+            + calls_after (command_for self.old block.now) taken.now self.old.write_cache
+            self.old.store.cached }
         ensures sent { (n : ℕ) → intention_of self.old block.now ≡ intent.In n
             → IfOk result (λ sent. sent ≡ n) }
         ensures most { IfOk result (λ sent. sent ≤ 24576) }
@@ -93,6 +98,9 @@ impl<M: Medium> Unit<M> {
             (answer_of result out.new) self.new }
         ensures spares { Spares (Ok command) taken.now self.old
             (answer_of result out.new) self.new }
+        ensures bounded { (M.state self.new.store.medium).calls
+            ≤ (M.state self.old.store.medium).calls
+            + calls_of command taken.now self.old.write_cache self.old.store.cached }
         ensures sent { (n : ℕ) → moves command ≡ intent.In n → IfOk result (λ sent. sent ≡ n) }
         ensures most { IfOk result (λ sent. sent ≤ 24576) }
         ensures follows { M.follows self.old.store.medium self.new.store.medium }

@@ -3,12 +3,14 @@ ghost use Rattle.std.specs.Prelude.{◌≡◌, ◌⊎◌, ◌≤◌, ◌<◌, �
 ghost use Rattle.std.specs.Prelude.{IfOk, OnOk, IfErr, MatchResult, is_ok, if◌then◌else◌};
 ghost use Rattle.blocks.specs.Background.{IsBackgroundStep};
 ghost use Rattle.blocks.specs.Book.{Book, array_of, blocks_at, promised, write_of};
+ghost use Rattle.blocks.specs.Calls.{reads_of};
 ghost use Rattle.blocks.specs.StoreValue.{blocks_of, is_dead, active_of, steps_left, FitsBook};
 ghost use Rattle.blocks.specs.StoreValue.{FitsBeside, TakesRange};
 ghost use Rattle.blocks.specs.Turns.{IsTurn, IsWriteTurn};
 ghost use Rattle.sense.specs.Codes.{unrecovered_read_error, write_error};
 ghost use Rattle.cdb.specs.Supported.{IsWithin};
 ghost use Rattle.scsi_unit.specs.Serving.{IsEmptied};
+ghost use Rattle.scsi_unit.specs.Calls.{calls_of_sync};
 
 use crate::checks::BLOCK;
 use blocks::Store;
@@ -28,6 +30,8 @@ pub(crate) fn make_durable<M: Medium>(store: &mut Store<M>, wanted: bool) -> Res
         (λ sense. (sense ≡ write_error) × (is_dead store.new.cached ≡ true)) }
     ensures unwanted { wanted ≡ false → (store.new ≡ store.old) × (is_ok result ≡ true) }
     ensures active { IsEmptied wanted (active_of store.old.cached) (active_of store.new.cached) }
+    ensures calls { (M.state store.new.medium).calls ≤ (M.state store.old.medium).calls
+        + (if wanted then calls_of_sync store.old.cached else 0) }
     ensures follows { M.follows store.old.medium store.new.medium }
 {
     if wanted {
@@ -54,6 +58,8 @@ pub(crate) fn read_blocks<M: Medium>(
     ensures err { IfErr result (λ sense. (sense ≡ unrecovered_read_error)
         × ((M.state store.old.medium).failures < (M.state store.new.medium).failures)) }
     ensures stays { store.new.cached ≡ store.old.cached }
+    ensures calls { (M.state store.new.medium).calls ≤ (M.state store.old.medium).calls
+        + reads_of store.old.cached transfer.address transfer.count }
     ensures turn { IsTurn (M.state store.old.medium) (M.state store.new.medium)
         store.old.cached store.new.cached }
     ensures follows { M.follows store.old.medium store.new.medium }
@@ -84,6 +90,10 @@ pub(crate) fn write_blocks<M: Medium>(
         transfer.address transfer.count (active_of store.new.cached)) }
     ensures quiet { FitsBeside (active_of store.old.cached) transfer.address transfer.count
         → (store.new.medium ≡ store.old.medium) × (is_ok result ≡ true) }
+    ensures calls { (M.state store.new.medium).calls
+        ≤ (M.state store.old.medium).calls + calls_of_sync store.old.cached }
+    ensures paid { OnOk result ((M.state store.new.medium).calls + calls_of_sync store.new.cached
+        ≤ (M.state store.old.medium).calls + calls_of_sync store.old.cached + 224) }
     ensures follows { M.follows store.old.medium store.new.medium }
 {
     let blocks = &taken[..(BLOCK * transfer.count) as usize];

@@ -1,10 +1,11 @@
 // The commands that use the store.
-ghost use Rattle.std.specs.Prelude.{◌≡◌, ◌≤◌, ◌*◌, ℕ, false, List, length, Ok, IfOk};
+ghost use Rattle.std.specs.Prelude.{◌≡◌, ◌≤◌, ◌+◌, ◌*◌, ℕ, false, List, length, Ok, IfOk};
 ghost use Rattle.blocks.specs.StoreValue.{blocks_of, is_dead};
 ghost use Rattle.cdb.specs.Supported.{IsWithin};
 ghost use Rattle.cdb.specs.declared.command.BlockRange.{BlockRange};
 ghost use Rattle.cdb.specs.declared.command.Command.TheVariants as command;
 ghost use Rattle.scsi_unit.specs.UnitValue.{answer_of};
+ghost use Rattle.scsi_unit.specs.Calls.{calls_of_sync, calls_of_read, calls_of_write, calls_of};
 ghost use Rattle.scsi_unit.specs.Performing.{Performs, Spares, silent};
 
 use crate::Unit;
@@ -25,6 +26,8 @@ impl<M: Medium> Unit<M> {
             (answer_of result out.new) self.new }
         ensures spares { (taken : List ℕ) → Spares (Ok (command.Read10 transfer)) taken self.old
             (answer_of result out.new) self.new }
+        ensures bounded { (M.state self.new.store.medium).calls
+            ≤ (M.state self.old.store.medium).calls + calls_of_read transfer self.old.store.cached }
         ensures sent { IfOk result (λ sent. sent ≡ 512 * transfer.count) }
         ensures follows { M.follows self.old.store.medium self.new.store.medium }
     {
@@ -45,6 +48,9 @@ impl<M: Medium> Unit<M> {
             (silent result) self.new }
         ensures spares { Spares (Ok (command.Write10 transfer)) taken.now self.old
             (silent result) self.new }
+        ensures bounded { (M.state self.new.store.medium).calls
+            ≤ (M.state self.old.store.medium).calls
+            + calls_of_write transfer self.old.write_cache self.old.store.cached }
         ensures follows { M.follows self.old.store.medium self.new.store.medium }
     {
         if transfer.count == 0 {
@@ -64,6 +70,8 @@ impl<M: Medium> Unit<M> {
         ensures spares { (range : BlockRange) (taken : List ℕ)
             → Spares (Ok (command.SynchronizeCache10 range)) taken
             self.old (silent result) self.new }
+        ensures bounded { (M.state self.new.store.medium).calls
+            ≤ (M.state self.old.store.medium).calls + calls_of_sync self.old.store.cached }
         ensures follows { M.follows self.old.store.medium self.new.store.medium }
     {
         make_durable(&mut self.store, true)
@@ -78,6 +86,10 @@ impl<M: Medium> Unit<M> {
             (silent result) self.new }
         ensures spares { Spares (Ok (command.ModeSelect list_len)) taken.now self.old
             (silent result) self.new }
+        ensures bounded { (M.state self.new.store.medium).calls
+            ≤ (M.state self.old.store.medium).calls
+            + calls_of (command.ModeSelect list_len) taken.now self.old.write_cache
+            self.old.store.cached }
         ensures follows { M.follows self.old.store.medium self.new.store.medium }
     {
         let enabled = mode_select(&taken[..usize::from(list_len)], self.write_cache)?;

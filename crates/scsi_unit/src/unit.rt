@@ -1,13 +1,15 @@
 // A unit over its store.
 ghost use Rattle.std.specs.Prelude.{◌≡◌, ◌<◌, ◌≤◌, ◌*◌, ℕ, List, None, false, true, length};
-ghost use Rattle.std.specs.Prelude.{IfOk};
+ghost use Rattle.std.specs.Prelude.{◌↔◌, IfOk, IsTrue};
 ghost use Rattle.medium.specs.Moments.{EachCut, IsUnchanged};
 ghost use Rattle.blocks.specs.Book.{Book};
 ghost use Rattle.blocks.specs.Finding.{MayFind};
-ghost use Rattle.blocks.specs.StoreValue.{is_dead, FitsBook};
+ghost use Rattle.blocks.specs.Settled.{IsSettled};
+ghost use Rattle.blocks.specs.StoreValue.{is_dead, steps_left, HasLimits, FitsBook};
 ghost use Rattle.scsi_unit.specs.Rules.{opened_unit, intention};
 ghost use Rattle.scsi_unit.specs.UnitValue.{state_of, intention_of, answer_of, FitsUnit};
 ghost use Rattle.scsi_unit.specs.Serving.{Serves, IsSparing, TicksOver};
+ghost use Rattle.scsi_unit.specs.Calls.{IsBounded};
 ghost use Rattle.scsi_unit.specs.Performing.{settled_kept};
 
 use crate::Intent;
@@ -94,6 +96,8 @@ impl<M: Medium> Unit<M> {
             block.now taken.now self.old (answer_of result out.new) self.new }
         ensures sparing { IsSparing block.now taken.now self.old
             (answer_of result out.new) self.new }
+        ensures bounded { IsBounded (M.state self.old.store.medium)
+            (M.state self.new.store.medium) block.now taken.now self.old }
         ensures sent { (n : ℕ) → intention_of self.old block.now ≡ Intent.In n
             → IfOk result (λ sent. sent ≡ n) }
         ensures most { IfOk result (λ sent. sent ≤ 24576) }
@@ -116,11 +120,27 @@ impl<M: Medium> Unit<M> {
         step(&mut self.store);
     }
 
+    /// Whether no background step is left: each accepted write is durable and at home then, and no
+    /// record waits. A faulted unit is never settled.
+    pub fn is_settled(&self) -> bool
+        ensures steps { IsTrue result ↔ ((is_dead self.now.store.cached ≡ false)
+            × (steps_left self.now.store.cached ≡ 0)) }
+        ensures settled { result ≡ true
+            → IsSettled (M.state self.now.store.medium) self.now.store.cached }
+    {
+        self.store.is_settled()
+    }
+
     /// The medium that the unit stands on.
     ///
-    /// Between two calls a cut leaves what may be found of each book that the unit fits.
+    /// Between two calls a cut leaves what may be found of each book that the unit fits. Where no
+    /// background step is left, each accepted write is durable and at home, and no record waits.
     pub fn medium(&self) -> &M
         ensures is { result.now ≡ self.now.store.medium }
+        ensures limits { HasLimits self.now.store.cached }
+        ensures settled { is_dead self.now.store.cached ≡ false
+            → steps_left self.now.store.cached ≡ 0
+            → IsSettled (M.state self.now.store.medium) self.now.store.cached }
         ensures at_rest { (book : Book)
             → FitsUnit (M.state self.now.store.medium) self.now book → book.ours ≡ true
             → EachCut (MayFind (M.state self.now.store.medium).size book)

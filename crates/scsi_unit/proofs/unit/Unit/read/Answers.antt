@@ -1,9 +1,11 @@
-use Rattle.std.proofs.Common.{◌≡◌, false, Ok, refl, subst, sym}
+use Rattle.std.proofs.Common.{◌≡◌, ◌≤◌, ◌+◌, false, Ok, refl, subst, sym, ap}
 use Rattle.std.proofs.lemmas.Result.{err_from_is_err_and}
 use Rattle.cdb.specs.declared.command.Command.TheVariants as command
-use Rattle.blocks.specs.StoreValue.{is_dead}
+use Rattle.blocks.specs.StoreValue.{StoreValue, is_dead}
 use Rattle.scsi_unit.specs.UnitValue.{UnitValue, answer_of}
 use Rattle.scsi_unit.specs.Performing.{Performs}
+use Rattle.scsi_unit.specs.Calls.{calls_of_read}
+use Rattle.scsi_unit.proofs.Calling.{read_stops, read_ends}
 use Rattle.scsi_unit.proofs.Performing.{durable_error, moves_some, forces_as, reads_nothing, reads_blocks_of}
 use Rattle.scsi_unit.proofs.unit.Unit.read.Goals as goal
 
@@ -41,3 +43,25 @@ returns-clause-performs g c taken =
     (reads_blocks_of (state i.store.medium) (state half.medium) (state last.medium) seen half last live c.make_durable.ensures.turn c.read_blocks.ensures.turn
     c.args.transfer.fua c.make_durable.result c.in_ok-make_durable.field-0 c.in_ok-make_durable.was c.make_durable.ensures.ok c.make_durable.ensures.answer c.read_blocks.ensures.stays
     c.args.transfer taken moves refl c.read_blocks.result c.read_blocks.new.out c.read_blocks.ensures.ok c.read_blocks.ensures.sent c.read_blocks.ensures.err)
+
+pub returns-in_err-make_durable-clause-bounded : goal.returns-in_err-make_durable-clause-bounded
+returns-in_err-make_durable-clause-bounded g c =
+    let state = g.M.Medium.state in
+    let i = c.self.inside in
+    let last = c.make_durable.new.store in
+    let P = λ (u : UnitValue g.row.M.Denot). (state last.medium).calls ≤ (state u.store.medium).calls + calls_of_read c.args.transfer u.store.cached in
+    subst P c.self.view_is
+    (read_stops c.args.transfer i.store.cached (state i.store.medium).calls (state last.medium).calls
+    (moves_some c.args.transfer c.if-transfer-eq0.false) c.make_durable.ensures.calls)
+
+pub returns-clause-bounded : goal.returns-clause-bounded
+returns-clause-bounded g c =
+    let state = g.M.Medium.state in
+    let i = c.self.inside in
+    let half = c.make_durable.new.store in
+    let last = c.read_blocks.new.store in
+    let P = λ (u : UnitValue g.row.M.Denot). (state last.medium).calls ≤ (state u.store.medium).calls + calls_of_read c.args.transfer u.store.cached in
+    subst P c.self.view_is
+    (read_ends c.args.transfer i.store.cached half.cached (state i.store.medium).calls (state half.medium).calls (state last.medium).calls
+    (moves_some c.args.transfer c.if-transfer-eq0.false) c.make_durable.ensures.calls
+    (λ plain. ap (λ (s : StoreValue g.row.M.Denot). s.cached) (c.make_durable.ensures.unwanted plain).0) c.read_blocks.ensures.calls)

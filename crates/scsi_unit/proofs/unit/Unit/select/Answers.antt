@@ -1,4 +1,4 @@
-use Rattle.std.proofs.Common.{◌≡◌, Bool, ℕ, false, [], Ok, Err, refl, subst, sym, ◌∙◌, ap}
+use Rattle.std.proofs.Common.{◌≡◌, ◌≤◌, ◌+◌, Bool, ℕ, false, [], Ok, Err, refl, subst, sym, ◌∙◌, ap}
 use Rattle.std.specs.Prelude.{◌&&◌, not, if◌then◌else◌, OnOk}
 use Rattle.std.proofs.lemmas.Result.{err_from_is_err_and}
 use Rattle.cdb.specs.declared.command.Command.TheVariants as command
@@ -7,6 +7,8 @@ use Rattle.blocks.specs.StoreValue.{is_dead, FitsBook}
 use Rattle.scsi_unit.specs.Rules.{selected_by}
 use Rattle.scsi_unit.specs.UnitValue.{UnitValue}
 use Rattle.scsi_unit.specs.Performing.{Performs, silent}
+use Rattle.scsi_unit.specs.Calls.{calls_of}
+use Rattle.scsi_unit.proofs.Calling.{select_calls}
 use Rattle.scsi_unit.proofs.Performing.{durable_error}
 use Rattle.scsi_unit.proofs.Writing.{selects_nothing, selects_bit, clears_as}
 use Rattle.scsi_unit.proofs.unit.Unit.select.Goals as goal
@@ -64,3 +66,37 @@ returns-clause-performs g c =
     subst P c.self.view_is
     (selects_bit (state i.store.medium) (state last.medium) seen last c.make_durable.ensures.turn live c.args.list_len c.args.taken.now enabled chosen
     c.make_durable.result c.in_ok-make_durable.field-0 c.in_ok-make_durable.was promises c.make_durable.ensures.answer)
+
+pub returns-in_err-make_durable-clause-bounded : goal.returns-in_err-make_durable-clause-bounded
+returns-in_err-make_durable-clause-bounded g c =
+    let state = g.M.Medium.state in
+    let i = c.self.inside in
+    let last = c.make_durable.new.store in
+    let chosen : selected_by c.args.list_len c.args.taken.now i.write_cache ≡ Ok c.in_ok-enabled.enabled =
+    ap (λ (n : ℕ). selected_by n c.args.taken.now i.write_cache) (sym c.from.ensures)
+    ∙ sym c.mode_select.ensures.answer ∙ c.in_ok-enabled.was in
+    let wanted : c.if-self.clears ≡ (i.write_cache && not c.in_ok-enabled.enabled) = elim c.if-self.branch [
+      | then-self w ↦ rw w.if-self.true w.clears-is
+      | else-self w ↦ rw w.if-self.false (w.clears-is ∙ w.if-self.false)
+    ] in
+    let P = λ (u : UnitValue g.row.M.Denot). (state last.medium).calls ≤ (state u.store.medium).calls + calls_of (command.ModeSelect c.args.list_len) c.args.taken.now u.write_cache u.store.cached in
+    subst P c.self.view_is
+    (select_calls c.args.list_len c.args.taken.now i.write_cache i.store.cached (state i.store.medium).calls (state last.medium).calls c.if-self.clears
+    (clears_as c.args.list_len c.args.taken.now i.write_cache c.in_ok-enabled.enabled chosen ∙ sym wanted) c.make_durable.ensures.calls)
+
+pub returns-clause-bounded : goal.returns-clause-bounded
+returns-clause-bounded g c =
+    let state = g.M.Medium.state in
+    let i = c.self.inside in
+    let last = c.make_durable.new.store in
+    let chosen : selected_by c.args.list_len c.args.taken.now i.write_cache ≡ Ok c.in_ok-enabled.enabled =
+    ap (λ (n : ℕ). selected_by n c.args.taken.now i.write_cache) (sym c.from.ensures)
+    ∙ sym c.mode_select.ensures.answer ∙ c.in_ok-enabled.was in
+    let wanted : c.if-self.clears ≡ (i.write_cache && not c.in_ok-enabled.enabled) = elim c.if-self.branch [
+      | then-self w ↦ rw w.if-self.true w.clears-is
+      | else-self w ↦ rw w.if-self.false (w.clears-is ∙ w.if-self.false)
+    ] in
+    let P = λ (u : UnitValue g.row.M.Denot). (state last.medium).calls ≤ (state u.store.medium).calls + calls_of (command.ModeSelect c.args.list_len) c.args.taken.now u.write_cache u.store.cached in
+    subst P c.self.view_is
+    (select_calls c.args.list_len c.args.taken.now i.write_cache i.store.cached (state i.store.medium).calls (state last.medium).calls c.if-self.clears
+    (clears_as c.args.list_len c.args.taken.now i.write_cache c.in_ok-enabled.enabled chosen ∙ sym wanted) c.make_durable.ensures.calls)

@@ -1,4 +1,4 @@
-use Rattle.std.proofs.Common.{◌≡◌, Bool, false, Ok, subst, sym, ◌∙◌}
+use Rattle.std.proofs.Common.{◌≡◌, ◌≤◌, ◌+◌, Bool, false, Ok, subst, sym, ◌∙◌}
 use Rattle.std.specs.Prelude.{◌||◌, not, if◌then◌else◌, OnOk}
 use Rattle.blocks.specs.Book.{Book, promised}
 use Rattle.std.proofs.lemmas.Result.{err_from_is_err_and}
@@ -6,6 +6,8 @@ use Rattle.cdb.specs.declared.command.Command.TheVariants as command
 use Rattle.blocks.specs.StoreValue.{is_dead, FitsBook}
 use Rattle.scsi_unit.specs.UnitValue.{UnitValue}
 use Rattle.scsi_unit.specs.Performing.{Performs, silent}
+use Rattle.scsi_unit.specs.Calls.{calls_of_sync, calls_of_write}
+use Rattle.scsi_unit.proofs.Calling.{write_stops, write_ends, OnOk-at}
 use Rattle.scsi_unit.proofs.Performing.{moves_some}
 use Rattle.scsi_unit.proofs.Writing.{writes_nothing, write_refused, writes_blocks}
 use Rattle.scsi_unit.proofs.unit.Unit.write.Goals as goal
@@ -49,3 +51,30 @@ returns-clause-performs g c =
     (writes_blocks (state i.store.medium) (state half.medium) (state last.medium) seen half last c.args.transfer c.args.taken.now
     (moves_some c.args.transfer c.if-transfer-eq0.false) live c.write_blocks.result c.in_ok-write_blocks.field-0 c.in_ok-write_blocks.was
     c.write_blocks.ensures.turn c.write_blocks.ensures.answer c.make_durable.ensures.turn c.make_durable.result promises c.make_durable.ensures.answer)
+
+pub returns-in_err-write_blocks-clause-bounded : goal.returns-in_err-write_blocks-clause-bounded
+returns-in_err-write_blocks-clause-bounded g c =
+    let state = g.M.Medium.state in
+    let i = c.self.inside in
+    let last = c.write_blocks.new.store in
+    let P = λ (u : UnitValue g.row.M.Denot). (state last.medium).calls ≤ (state u.store.medium).calls + calls_of_write c.args.transfer u.write_cache u.store.cached in
+    subst P c.self.view_is
+    (write_stops c.args.transfer i.write_cache i.store.cached (state i.store.medium).calls (state last.medium).calls
+    (moves_some c.args.transfer c.if-transfer-eq0.false) c.write_blocks.ensures.calls)
+
+pub returns-clause-bounded : goal.returns-clause-bounded
+returns-clause-bounded g c =
+    let state = g.M.Medium.state in
+    let i = c.self.inside in
+    let half = c.write_blocks.new.store in
+    let last = c.make_durable.new.store in
+    let wanted : c.if-transfer.through ≡ (c.args.transfer.fua || not i.write_cache) = elim c.if-transfer.branch [
+      | then-transfer w ↦ rw w.if-transfer.true (w.through-is ∙ w.if-transfer.true)
+      | else-transfer w ↦ rw w.if-transfer.false w.through-is
+    ] in
+    let paid = OnOk-at c.write_blocks.result c.in_ok-write_blocks.field-0 c.in_ok-write_blocks.was c.write_blocks.ensures.paid in
+    let more = subst (λ (b : Bool). (state last.medium).calls ≤ (state half.medium).calls + (if b then calls_of_sync half.cached else 0)) wanted c.make_durable.ensures.calls in
+    let P = λ (u : UnitValue g.row.M.Denot). (state last.medium).calls ≤ (state u.store.medium).calls + calls_of_write c.args.transfer u.write_cache u.store.cached in
+    subst P c.self.view_is
+    (write_ends c.args.transfer i.write_cache i.store.cached half.cached (state i.store.medium).calls (state half.medium).calls (state last.medium).calls
+    (moves_some c.args.transfer c.if-transfer-eq0.false) c.write_blocks.ensures.calls paid more)

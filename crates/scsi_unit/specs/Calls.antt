@@ -1,0 +1,58 @@
+-- How many calls of the medium a command makes at most: what its calls of the store add up to.
+use Rattle.std.specs.Prelude.{ℕ, ◌+◌, ◌*◌, ◌≤◌, ◌||◌, not, Bool, List, Result, Ok, Err}
+use Rattle.std.specs.Prelude.{if◌then◌else◌}
+use Rattle.medium.specs.Medium.{State}
+use Rattle.blocks.specs.StoreValue.{Cached, steps_left}
+-- handed on to the layers above: one call for each block that no batch has
+pub use Rattle.blocks.specs.Calls.{reads_of}
+use Rattle.sense.specs.declared.codes.Sense.{Sense}
+use Rattle.cdb.specs.declared.command.Command.{Command}
+use Rattle.cdb.specs.declared.command.Command.TheVariants as command
+use Rattle.cdb.specs.declared.command.Transfer.{Transfer}
+use Rattle.scsi_unit.specs.Rules.{moves_blocks, forces_reading, clears, selected_by}
+use Rattle.scsi_unit.specs.UnitValue.{UnitValue}
+use Rattle.scsi_unit.specs.Serving.{command_for}
+
+-- making all accepted writes durable: two for each step that is left
+abbrev pub calls_of_sync : Cached → ℕ
+calls_of_sync cached = 2 * steps_left cached
+
+-- a READ: one for each block that is in no batch; with FUA the batches are empty by then
+abbrev pub calls_of_read : Transfer → Cached → ℕ
+calls_of_read transfer cached =
+    if forces_reading transfer then calls_of_sync cached + transfer.count
+    else reads_of cached transfer.address transfer.count
+
+-- a WRITE: those that make room for it; with FUA or without the cache it is made durable too, and
+-- the batch that it goes to takes 112 steps at most
+abbrev pub calls_of_write : Transfer → Bool → Cached → ℕ
+calls_of_write transfer write_cache cached =
+    if not (moves_blocks transfer) then 0
+    else if transfer.fua || not write_cache then calls_of_sync cached + 2 * 112
+    else calls_of_sync cached
+
+-- a command, over the bytes taken for it
+abbrev pub calls_of : Command → List ℕ → Bool → Cached → ℕ
+calls_of (command.Read10 transfer) taken write_cache cached = calls_of_read transfer cached
+calls_of (command.Read16 transfer) taken write_cache cached = calls_of_read transfer cached
+calls_of (command.Write10 transfer) taken write_cache cached =
+    calls_of_write transfer write_cache cached
+calls_of (command.Write16 transfer) taken write_cache cached =
+    calls_of_write transfer write_cache cached
+calls_of (command.SynchronizeCache10 range) taken write_cache cached = calls_of_sync cached
+calls_of (command.SynchronizeCache16 range) taken write_cache cached = calls_of_sync cached
+calls_of (command.ModeSelect length) taken write_cache cached =
+    if clears write_cache (selected_by length taken write_cache) then calls_of_sync cached else 0
+calls_of command taken write_cache cached = 0
+
+-- a command, or its refusal, which makes none
+abbrev pub calls_after : Result Command Sense → List ℕ → Bool → Cached → ℕ
+calls_after (Ok command) taken write_cache cached = calls_of command taken write_cache cached
+calls_after (Err sense) taken write_cache cached = 0
+
+-- A command block was carried out by no more calls than that. (A plain WRITE that fits beside the
+-- batch that takes writes makes none at all.)
+pub record IsBounded {M : Type 0} (before after : State) (block taken : List ℕ) (old : UnitValue M)
+    : Type 0 where
+  pub most : after.calls
+      ≤ before.calls + calls_after (command_for old block) taken old.write_cache old.store.cached
