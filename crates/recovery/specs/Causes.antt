@@ -29,8 +29,8 @@ pub record WritesNothing (old new : State) : Type 0 where
   pub no_write : new.made medium.Write ≡ old.made medium.Write
   pub one_flush : new.made medium.Flush ≡ old.made medium.Flush + 1
 
--- Why a start by calls such as these is refused: the medium refused a call of the kind that the fault names,
--- or the image has this fault, and the calls were such.
+-- Why a start by calls such as these is refused: the medium refused a call of the kind that the
+-- fault names, or the image has this fault, and the calls were such.
 abbrev pub IsCauseBy : (State → State → Type 0) → State → State → StartFault → Type 0
 IsCauseBy Calls old new NoMemory = ⊥
 IsCauseBy Calls old new Read = IsRefusedCall old new medium.Read

@@ -37,7 +37,8 @@ IsMidFormat shape old image = CutLeaves old.may_leave image ⊎ IsNoneOrNew old.
 -- What a format leaves at each moment of it, good or refused.
 pub record FormatLeaves (shape : Shape) (old new : State) : Type 0 where
   pub cuts : LeavesOnly (IsMidFormat shape old) old new
-  -- from its first good flush on, the second call, no old image is left; a third call follows a good one only
+  -- From its first good flush on, the second call, no old image is left.
+  -- A third call follows a good flush only.
   pub after_flush : old.calls + 3 ≤ new.calls → (image : Image) → new.left_since (old.calls + 2) image
       → IsNoneOrNew old.size shape image
   pub spares : SparesFrom (sectors_of shape) old new
