@@ -3,6 +3,7 @@ ghost use Rattle.std.specs.Prelude.{◌≡◌, ◌*◌, ◌≤◌, ◌<◌, ◌+
 ghost use Rattle.blocks.specs.StoreValue.{blocks_of};
 
 use super::*;
+use crate::StoreFault;
 use medium::{Kept, SimMedium, Switch};
 use recovery::format;
 use std::alloc::AllocError;
@@ -113,5 +114,52 @@ fn a_faulty_image_is_refused(rt: HostRuntime) -> Result<(), Fail> {
     let store = start(rt, last)?;
     let used_up = start(rt, store.into_medium()).err();
     assert_eq!(rt; used_up, Some(StartFault::StampsUsedUp));
+    Ok(())
+}
+
+// The first byte of the last block after one life: a start, a write, a sync, a cut, a start and a
+// read.
+fn one_life(rt: HostRuntime, blocks: u64, slots: u64) -> Result<u8, Fail>
+    requires some { 1 ≤ blocks }
+    requires few { blocks ≤ 65000 }
+    requires slots { slots ≤ 64 }
+{
+    let sectors = (2 + 50 * slots + blocks) as usize;
+    let bytes = vec![in rt.alloc(); 0xa5u8; sectors * 512]?;
+    let mut m = SimMedium::new(rt.alloc(), bytes, sectors).map_err(|_| AllocError)?;
+    format(&mut m, blocks, slots).map_err(|_| "no image")?;
+    let mut store = Store::start(rt.alloc(), m).map_err(|_| "no first start")?;
+    if store.blocks() != blocks {
+        Err("another size")?;
+    }
+    store.write(blocks - 1, &[0x5a; 512])?;
+    store.sync()?;
+    let mut m = store.into_medium();
+    m.cut(&Kept::None);
+    let mut store = Store::start(rt.alloc(), m).map_err(|_| "no second start")?;
+    if store.blocks() != blocks {
+        Err("another size")?;
+    }
+    let mut bytes = [0; 512];
+    store.read(blocks - 1, &mut bytes)?;
+    Ok(bytes[0])
+}
+
+// With the fewest and the most slots, over one block and over many, there is memory for a start.
+#[test]
+fn each_size_starts_and_lives(rt: HostRuntime) -> Result<(), Fail> {
+    assert_eq!(rt; one_life(rt, 1, 1)?, 0x5a);
+    assert_eq!(rt; one_life(rt, 1, 64)?, 0x5a);
+    assert_eq!(rt; one_life(rt, 65000, 1)?, 0x5a);
+    assert_eq!(rt; one_life(rt, 65000, 64)?, 0x5a);
+    Ok(())
+}
+
+#[test]
+fn the_numbers_of_the_faults(rt: HostRuntime) -> Result<(), Fail> {
+    assert_eq!(rt;
+        (StoreFault::ReadFault as u8, StoreFault::Dead as u8),
+        (2, 3)
+    );
     Ok(())
 }
