@@ -6,6 +6,7 @@ use Rattle.medium.specs.Medium.{State, IsSound}
 use Rattle.scsi_unit.specs.Rules.{Sense}
 use Rattle.scsi_unit.specs.Books.{Book}
 use Rattle.scsi_unit.specs.Rules.{CarriesOut, Ticks}
+use Rattle.scsi_unit.specs.Calls.{IsBounded}
 use Rattle.scsi_unit.specs.Serving.{has_refused, IsSparing, TicksOver}
 use Rattle.scsi_unit.specs.UnitValue.{state_of}
 use Rattle.bot_machine.specs.declared.event.Event.TheVariants as event
@@ -19,7 +20,9 @@ use Rattle.bot_machine.specs.Conversation.{OutStep, SetupStep}
 use Rattle.bot_machine.specs.Intentions.{Intends}
 use Rattle.bot_machine.specs.Acts.{PacketCarriesOut, write_of_packet}
 use Rattle.bot_machine.specs.Disk.{DiskValue, on_line, FitsDisk, Proceeds, Tells, IsStep, Elapses}
-use Rattle.bot_machine.specs.Refinement.{taking_of, left_of, halt_of}
+use Rattle.scsi_unit.specs.declared.intent.Intent.{Intent}
+use Rattle.scsi_unit.specs.declared.intent.Intent.TheVariants as intent
+use Rattle.bot_machine.specs.Refinement.{taking_of, left_of, halt_of, IsInPhase}
 use Rattle.bot_machine.specs.Packets.{packets_of}
 use Rattle.bot_machine.specs.Serving.{OpensOn, TakesOn, RestsOn, SparesOn}
 use Rattle.bot_machine.proofs.Proceeding.{staying, proceeding, proceeding_so}
@@ -40,7 +43,8 @@ module _ {M : Type 0} (before after : State) (old new : DiskValue M) (packet : L
         → new.unit ≡ old.unit
     pub spares : (book : Book) → FitsDisk before old book → (block taken : List ℕ)
         → PacketCarriesOut halted left packet (state_of old.unit book) block taken
-        → (answer : Result (List ℕ) Sense) × IsSparing block taken old.unit answer new.unit × Tells answer new.line
+        → (answer : Result (List ℕ) Sense) × IsSparing block taken old.unit answer new.unit
+        × IsBounded before after block taken old.unit × Tells answer new.line
     pub elapses : Elapses before after
 
   does : DoesFor old.line.out_halted old.line.left
@@ -85,7 +89,7 @@ not_ready m disk packet packets halt status sound halted left =
 pub begins : {M : Type 0} (before after : State) (old new : DiskValue M) (packet : List ℕ)
     → false ≡ old.line.out_halted → finished ≡ old.line.left
     → OpensOn before after old.unit new.unit old.line new.line packet
-    → RestsOn before old.unit new.unit finished packet → SparesOn before old.unit new.unit new.line finished packet
+    → RestsOn before old.unit new.unit finished packet → SparesOn before after old.unit new.unit new.line finished packet
     → Elapses before after → IsStep before after old (event.Out (record { items = packet })) answer.Ack new
 begins before after old new packet halted left opens rests spares elapses =
     does_for before after old new packet answer.Ack false finished halted left (record {
@@ -101,7 +105,7 @@ pub goes_on : {M : Type 0} (before after : State) (old new : DiskValue M) (packe
     → false ≡ old.line.out_halted → taking_of t taken ≡ old.line.left
     → TakesOn before after old.unit new.unit old.line new.line t taken packet
     → RestsOn before old.unit new.unit (taking_of t taken) packet
-    → SparesOn before old.unit new.unit new.line (taking_of t taken) packet
+    → SparesOn before after old.unit new.unit new.line (taking_of t taken) packet
     → Elapses before after → IsStep before after old (event.Out (record { items = packet })) answer.Ack new
 goes_on before after old new packet t taken halted left takes rests spares elapses =
     does_for before after old new packet answer.Ack false (taking_of t taken) halted left (record {
@@ -159,3 +163,20 @@ sends (DataOut t) command out taken staging status = absurd (out t refl)
 sends (DataIn from to halt) command out taken staging status =
     (packets_of (slice_range staging from to), halt_of halt, refl)
 sends Status command out taken staging status = ([], None, refl)
+
+-- a unit that comes to take no other data goes on with the phase
+pub still_in_phase : (old new : List ℕ → Intent) → ((block : List ℕ) (n : ℕ) → new block ≡ intent.Out n → old block ≡ intent.Out n)
+    → (phase : Phase) → IsInPhase old phase → IsInPhase new phase
+still_in_phase old new steady Command h = tt
+still_in_phase old new steady (DataOut t) h = record {
+  is_case = h.is_case;
+  moment = h.moment;
+  some_block = h.some_block;
+  some_due = h.some_due;
+  within = h.within;
+  room = h.room;
+  filled_is = h.filled_is;
+  intended = λ n is. h.intended n (steady t.exchange.command.block.items n is);
+}
+still_in_phase old new steady (DataIn from to halt) h = h
+still_in_phase old new steady Status h = tt

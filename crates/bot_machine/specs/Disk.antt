@@ -12,6 +12,7 @@ use Rattle.scsi_unit.specs.Rules.{Sense}
 use Rattle.scsi_unit.specs.Books.{Book}
 use Rattle.scsi_unit.specs.Books.{MayFind, FoundWith}
 use Rattle.scsi_unit.specs.Rules.{UnitState, CarriesOut, Ticks}
+use Rattle.scsi_unit.specs.Calls.{IsBounded}
 use Rattle.scsi_unit.specs.Serving.{has_refused, IsSparing, TicksOver}
 use Rattle.scsi_unit.specs.UnitValue.{UnitValue, state_of, FitsUnit}
 use Rattle.bot_machine.specs.declared.event.Event.{Event}
@@ -92,11 +93,12 @@ pub record IsStep {M : Type 0} (before after : State) (old : DiskValue M) (event
   pub rests : (book : Book) → FitsDisk before old book → ¬ Acts (over old book) event
       → new.unit ≡ old.unit
   pub ticks : TicksIn before after old event new
-  -- a command makes no call of the medium that it does not need, and the host is told its answer
+  -- a command makes no call of the medium that it does not need, no more than its calls of the store
+  -- add up to, and the host is told its answer
   pub spares : (book : Book) → FitsDisk before old book → (block taken : List ℕ)
       → EventCarriesOut (over old book) event block taken
       → (told : Result (List ℕ) Sense) × IsSparing block taken old.unit told new.unit
-      × Tells told new.line
+      × IsBounded before after block taken old.unit × Tells told new.line
   pub elapses : Elapses before after
 
 -- an image that a cut in one of the events of a run may leave: accepted writes of the book at the

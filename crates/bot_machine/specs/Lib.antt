@@ -1,5 +1,7 @@
 -- Words of which the public contracts speak, handed on to the layers above.
+pub use Rattle.scsi_unit.specs.Background
 pub use Rattle.scsi_unit.specs.Books
+pub use Rattle.scsi_unit.specs.Calls
 pub use Rattle.scsi_unit.specs.Identification
 pub use Rattle.scsi_unit.specs.StartFaults
 pub use Rattle.scsi_unit.specs.Starting

@@ -22,7 +22,7 @@ medium_in (Runs disk) = disk.unit.store.medium
 abbrev pub state_in : Stage → State
 state_in stage = state_of (medium_in stage)
 
--- A start called a medium: what it left at each moment, and what became of the power and of the fuse.
+-- A start called a medium: what it left at each moment, and what became of power and fuse.
 pub record HasCalled (old new : Sim) : Type 0 where
   pub leaves : StartLeaves (state_of old) (state_of new)
   pub follows : ComesAfter old new
@@ -49,7 +49,7 @@ abbrev pub StartMoves : Identification → Stage → Stage → Type 0
 StartMoves identity (Rests medium) new = StartsIn medium.power.off identity medium new
 StartMoves identity (Runs disk) new = new ≡ Runs disk
 
--- An event came to a disk whose power was on: one step of the disk, whose own answer is given where the
+-- An event came to a disk whose power was on: one step of the disk. Its own answer is given where the
 -- power is still on.
 pub record IsPlayed (old : DiskValue Sim) (event : Event) (answer : Answer) (new : DiskValue Sim)
     : Type 0 where

@@ -9,6 +9,7 @@ use Rattle.medium.specs.Medium.{State}
 use Rattle.scsi_unit.specs.Rules.{Sense}
 use Rattle.scsi_unit.specs.Books.{Book}
 use Rattle.scsi_unit.specs.Rules.{CarriesOut, Ticks, write_in_progress}
+use Rattle.scsi_unit.specs.Calls.{IsBounded}
 use Rattle.scsi_unit.specs.Serving.{has_refused, IsSparing}
 use Rattle.scsi_unit.specs.UnitValue.{UnitValue, state_of, FitsUnit, intention_of}
 use Rattle.bot_machine.specs.declared.exchange.Exchange.{Exchange}
@@ -61,10 +62,11 @@ RestsOn before old new left packet = (book : Book) → FitsUnit before old book
     → ((block taken : List ℕ) → PacketCarriesOut false left packet (state_of old book) block taken → ⊥)
     → new ≡ old
 
--- where a packet has a command carried out, the unit makes no call of the medium that it does not need,
--- and the line is to tell its answer
-abbrev pub SparesOn : {M : Type 0} → State → UnitValue M → UnitValue M → Line → Script → List ℕ
-    → Type 0
-SparesOn before old new to left packet = (book : Book) → FitsUnit before old book
+-- Where a packet has a command carried out, the unit makes no call of the medium that it does not
+-- need, no more than its calls of the store add up to, and the line is to tell its answer.
+abbrev pub SparesOn : {M : Type 0} → State → State → UnitValue M → UnitValue M → Line → Script
+    → List ℕ → Type 0
+SparesOn before after old new to left packet = (book : Book) → FitsUnit before old book
     → (block taken : List ℕ) → PacketCarriesOut false left packet (state_of old book) block taken
-    → (answer : Result (List ℕ) Sense) × IsSparing block taken old answer new × Tells answer to
+    → (answer : Result (List ℕ) Sense) × IsSparing block taken old answer new
+    × IsBounded before after block taken old × Tells answer to

@@ -1,10 +1,11 @@
 // A disk: the transport over a logical unit.
-ghost use Rattle.std.specs.Prelude.{⊤, ◌≡◌, ◌≤◌, ◌<◌, true, length, IfOk, IfErr, MatchResult};
+ghost use Rattle.std.specs.Prelude.{⊤, ◌↔◌, ◌≡◌, false, IsTrue, ◌≤◌, ◌<◌, true, length, IfOk, IfErr, MatchResult};
 ghost use Rattle.std.specs.Borrow.{sem, follows_so};
 ghost use mathlib.Core.Option.{none};
 ghost use Rattle.medium.specs.Moments.{EachCut, IsUnchanged};
 ghost use Rattle.scsi_unit.specs.Books.{Book};
 ghost use Rattle.scsi_unit.specs.Books.{MayFind};
+ghost use Rattle.scsi_unit.specs.Background.{IsSettled, HasLimits, is_dead, steps_left};
 ghost use Rattle.scsi_unit.specs.Serving.{TicksOver};
 ghost use Rattle.bot_machine.specs.Exchange.{at_rest, in_answer, after_in};
 ghost use Rattle.bot_machine.specs.Answers.{answer_to_out, answer_to_in, answer_to_setup, IsPacket};
@@ -99,11 +100,28 @@ impl<M: Medium> Disk<M> {
         })
     }
 
+    /// Whether no step in the background is left: each accepted write is durable and at home then,
+    /// and none waits. Of a faulted disk it is not told. As long as nothing is written it comes true
+    /// after a bounded number of steps, unless one of them faults the disk.
+    pub fn is_settled(&self) -> bool
+        ensures steps { IsTrue result ↔ ((is_dead self.now.unit.store.cached ≡ false)
+            × (steps_left self.now.unit.store.cached ≡ 0)) }
+        ensures settled { result ≡ true → IsSettled (M.state self.now.unit.store.medium)
+            self.now.unit.store.cached }
+    {
+        self.unit.is_settled()
+    }
+
     /// The medium that the disk stands on.
     ///
-    /// Between two calls a cut leaves what may be found of each book that the disk fits.
+    /// Between two calls a cut leaves what may be found of each book that the disk fits. Where no
+    /// step in the background is left, each accepted write is durable and at home.
     pub fn medium(&self) -> &M
         ensures is { result.now ≡ self.now.unit.store.medium }
+        ensures limits { HasLimits self.now.unit.store.cached }
+        ensures settled { is_dead self.now.unit.store.cached ≡ false
+            → steps_left self.now.unit.store.cached ≡ 0
+            → IsSettled (M.state self.now.unit.store.medium) self.now.unit.store.cached }
         ensures at_rest { (book : Book)
             → FitsDisk (M.state self.now.unit.store.medium) self.now book → book.ours ≡ true
             → EachCut (MayFind (M.state self.now.unit.store.medium).size book)

@@ -5,6 +5,7 @@ ghost use Rattle.wrappers.specs.Cases.{IsCase};
 ghost use Rattle.wrappers.specs.Command.{SpellsNone};
 ghost use Rattle.wrappers.specs.declared.way.Way.TheVariants as ways;
 ghost use Rattle.scsi_unit.specs.Rules.{Sense};
+ghost use Rattle.scsi_unit.specs.Calls.{IsBounded};
 ghost use Rattle.scsi_unit.specs.Serving.{IsSparing};
 ghost use Rattle.scsi_unit.specs.UnitValue.{intention_of};
 ghost use Rattle.bot_machine.specs.Disk.{Elapses, Tells};
@@ -45,6 +46,8 @@ fn carry_out<M: Medium>(
         (line_with wire.old left) (line_of wire.new taken staging.new) exchange.now bytes.now }
     ensures spares { (answer : Result (List ℕ) Sense)
         × IsSparing exchange.now.command.block.items bytes.now unit.old answer unit.new
+        × IsBounded (M.state unit.old.store.medium) (M.state unit.new.store.medium)
+        exchange.now.command.block.items bytes.now unit.old
         × ((taken : List ℕ) → Tells answer (line_of wire.new taken staging.new)) }
     ensures phase { IsInPhase (intention_of unit.new) wire.new.phase }
     ensures elapses { Elapses (M.state unit.old.store.medium) (M.state unit.new.store.medium) }
@@ -85,7 +88,8 @@ pub(crate) fn open<M: Medium>(
         (M.state unit.old.store.medium) (M.state unit.new.store.medium) unit.old unit.new
         (line_of wire.old taken staging.old) (line_of wire.new taken staging.new) packet.now }
     ensures rests { RestsOn (M.state unit.old.store.medium) unit.old unit.new finished packet.now }
-    ensures spares { (taken : List ℕ) → SparesOn (M.state unit.old.store.medium) unit.old unit.new
+    ensures spares { (taken : List ℕ) → SparesOn
+        (M.state unit.old.store.medium) (M.state unit.new.store.medium) unit.old unit.new
         (line_of wire.new taken staging.new) finished packet.now }
     ensures phase { IsInPhase (intention_of unit.new) wire.new.phase }
     ensures elapses { Elapses (M.state unit.old.store.medium) (M.state unit.new.store.medium) }
@@ -128,7 +132,8 @@ pub(crate) fn take_data<M: Medium>(
         pending taken.old packet.now }
     ensures rests { RestsOn (M.state unit.old.store.medium) unit.old unit.new
         (taking_of pending taken.old) packet.now }
-    ensures spares { SparesOn (M.state unit.old.store.medium) unit.old unit.new
+    ensures spares { SparesOn
+        (M.state unit.old.store.medium) (M.state unit.new.store.medium) unit.old unit.new
         (line_of wire.new taken.new staging.new) (taking_of pending taken.old) packet.now }
     ensures phase { IsInPhase (intention_of unit.new) wire.new.phase }
     ensures elapses { Elapses (M.state unit.old.store.medium) (M.state unit.new.store.medium) }

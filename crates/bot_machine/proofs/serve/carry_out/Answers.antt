@@ -33,6 +33,7 @@ returns-in-Ok-clause-spares g c =
     let room : length out ≡ 24576 = omega arith in (
       Ok (take c.in-Ok.size out),
       rw c.as_slice.ensures.value at c.in-Ok.ensures.sparing,
+      rw c.as_slice.ensures.value at c.in-Ok.ensures.bounded,
       (λ taken. tells (Ok (take c.in-Ok.size out)) _ _ _ _ _ (line_with c.args.wire.now finished) (c.tell.ensures.line taken out finished room)),
     )
 
@@ -60,6 +61,7 @@ returns-in-Err-clause-spares g c =
     let room : length out ≡ 24576 = omega arith in (
       Err c.in-Err.field-0,
       rw c.as_slice.ensures.value at c.in-Err.ensures.sparing,
+      rw c.as_slice.ensures.value at c.in-Err.ensures.bounded,
       (λ taken. tells (Err c.in-Err.field-0) _ _ _ _ _ (line_with c.args.wire.now finished) (c.tell-in-Err.ensures.line taken out finished room)),
     )
 

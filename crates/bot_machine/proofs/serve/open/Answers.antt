@@ -32,7 +32,7 @@ pub returns-in-AtOnce-clause-spares : goal.returns-in-AtOnce-clause-spares
 returns-in-AtOnce-clause-spares g c = λ came book fits block taken carries.
     let spared = c.carry_out.ensures.spares in
     let same = carried_at_once _ _ book fits _ c.in-Some.exchange c.in-Some.ensures block taken carries in
-    rw (same.1, same.2) (spared.0, spared.1, spared.2 came)
+    rw (same.1, same.2) (spared.0, spared.1, spared.2, spared.3 came)
 
 pub returns-in-AfterData-clause-opens : goal.returns-in-AfterData-clause-opens
 returns-in-AfterData-clause-opens g c = λ taken book fits.
