@@ -2,8 +2,7 @@
 use Rattle.std.proofs.Common.{◌≡◌, ◌↔◌, ℕ, Bool, true, false, List, [], ◌∷◌, ◌++◌, None, Option, refl, sym, ap, subst, ◌∙◌, inl, inr, append_assoc, append-nil}
 use Rattle.std.proofs.lemmas.Bool.{cases_Bool, true≢false}
 use Rattle.std.specs.Io.KnownBytes.{Appends}
-use Rattle.medium.specs.Sim.{Sim, IsCut, IsFused, ComesAfter}
-use Rattle.medium.specs.SimLaws.{comes_after_itself}
+use Rattle.medium.specs.Sim.{Sim, IsCut, ComesAfter}
 use Rattle.bot_machine.specs.StartFaults.{StartFault}
 use Rattle.bot_machine.specs.declared.event.Event.{Event}
 use Rattle.bot_machine.specs.declared.event.Answer.{Answer}
@@ -13,7 +12,7 @@ use Rattle.bot_machine.specs.LivesValue.{LivesValue, LivesGoOn, IsRefused, mediu
 use Rattle.bot_machine.proofs.Playing.{rests, lives_go_on}
 use Rattle.runner.specs.declared.fault.ScriptFault.{ScriptFault}
 use Rattle.runner.specs.declared.fault.ScriptFault.TheVariants.{Line, TooLong, Start, NoMemory, Reader, Writer}
-use Rattle.runner.specs.Lifetimes.{AnswersFit, fused_after, text_of_lives, comes, MovesBy}
+use Rattle.runner.specs.Lifetimes.{AnswersFit, fused_after, text_of_lives, comes}
 use Rattle.runner.specs.PlayedLives.{FuseIs, Acted, TellsLives, EndsBy, BreaksOff}
 use Rattle.runner.specs.Streams.{AppendsUpTo, AppendsSome}
 use Rattle.runner.specs.Text.{line_for}
@@ -46,28 +45,21 @@ text_of_lives-append fused (plays event ∷ first) rest (answer ∷ told) more d
     ap (λ (text : List ℕ). line_for event answer ++ text) (text_of_lives-append fused first rest told more done.1)
     ∙ sym (append_assoc (line_for event answer) (text_of_lives first told) (text_of_lives rest more))
 
-MovesBy-append : (first rest : List Action) (old mid new : Sim) → MovesBy old first mid → MovesBy mid rest new → MovesBy old (first ++ rest) new
-MovesBy-append [] rest old mid new done next = subst (λ (m : Sim). MovesBy m rest new) done next
-MovesBy-append (action ∷ first) rest old mid new done next = (done.0, done.1, MovesBy-append first rest done.0 mid new done.2 next)
-
 acted-none : (lives : LivesValue) → Acted lives [] [] lives
-acted-none lives = record { goes_on = rests lives; moves = refl; fits = λ fused is. refl; fuse = λ fused is. is }
+acted-none lives = record { goes_on = rests lives; fits = λ fused is. refl; fuse = λ fused is. is }
 
 acted-more : (old mid new : LivesValue) (first rest : List Action) (told more : List Answer)
     → Acted old first told mid → Acted mid rest more new → Acted old (first ++ rest) (told ++ more) new
 acted-more old mid new first rest told more done next = record {
   goes_on = lives_go_on old mid new first rest told more done.goes_on next.goes_on;
-  moves = MovesBy-append first rest (medium_in old.stage) (medium_in mid.stage) (medium_in new.stage) done.moves next.moves;
   fits = λ fused is. AnswersFit-append fused first rest told more (done.fits fused is) (next.fits (fused_after fused first) (done.fuse fused is));
   fuse = λ fused is. subst (λ (b : Bool). FuseIs b new) (sym (fused_after-append fused first rest)) (next.fuse (fused_after fused first) (done.fuse fused is));
 }
 
 -- a fuse is armed
-pub acted-fuse : (old new : LivesValue) (writes : ℕ) → LivesGoOn old (arms writes ∷ []) [] new
-    → IsFused writes (medium_in old.stage) (medium_in new.stage) → Acted old (arms writes ∷ []) [] new
-acted-fuse old new writes on fused_so = record {
+pub acted-fuse : (old new : LivesValue) (writes : ℕ) → LivesGoOn old (arms writes ∷ []) [] new → Acted old (arms writes ∷ []) [] new
+acted-fuse old new writes on = record {
   goes_on = on;
-  moves = (medium_in new.stage, fused_so, refl);
   fits = λ fused is. refl;
   fuse = λ fused is never. absurd (true≢false never);
 }
@@ -77,7 +69,6 @@ pub acted-cut : (old new : LivesValue) (keep : ℕ → Bool) → LivesGoOn old (
     → IsCut keep (medium_in old.stage) (medium_in new.stage) → Acted old (cuts keep ∷ []) [] new
 acted-cut old new keep on cut = record {
   goes_on = on;
-  moves = (medium_in new.stage, cut, refl);
   fits = λ fused is. refl;
   fuse = λ fused is _. (ap (λ p. p.fuse) cut.power_on, ap (λ p. p.off) cut.power_on);
 }
@@ -95,7 +86,6 @@ pub acted-event : (old new : LivesValue) (event : Event) (answer : Answer) → L
     → Acted old (comes event) (answer ∷ []) new
 acted-event old new event answer on off after = record {
   goes_on = on;
-  moves = (medium_in new.stage, after, (medium_in new.stage, comes_after_itself (medium_in new.stage), refl));
   fits = fits;
   fuse = λ fused is unfused. let so = is unfused in
       (after.no_fuse_stays so.0, stays_on (medium_in old.stage) (medium_in new.stage) after so.0 so.1);

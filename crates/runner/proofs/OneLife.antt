@@ -1,5 +1,5 @@
 -- A life of a disk, from its start on.
-use Rattle.std.proofs.Common.{◌≡◌, ℕ, List, [], ◌∷◌, ap₂, ◌∙◌, sym, subst, arith}
+use Rattle.std.proofs.Common.{◌≡◌, ℕ, Bool, List, [], ◌∷◌, ap₂, ◌∙◌, sym, subst, arith}
 use Rattle.medium.specs.Medium.{State}
 use Rattle.bot_machine.specs.Identification.{Identification}
 use Rattle.bot_machine.specs.Books.{opened}
@@ -9,7 +9,7 @@ use Rattle.bot_machine.specs.Rules.{UnitState}
 use Rattle.bot_machine.specs.declared.event.Event.{Event}
 use Rattle.bot_machine.specs.declared.event.Answer.{Answer}
 use Rattle.bot_machine.specs.Conversation.{Conversation}
-use Rattle.bot_machine.specs.Disk.{DiskValue, UnitRun, on_line, over}
+use Rattle.bot_machine.specs.Disk.{DiskValue, UnitRun, StepsThrough, on_line, over}
 use Rattle.bot_machine.specs.Opening.{IsOpened, StartLeaves}
 use Rattle.std.proofs.Common.{Option, ◌++◌}
 use Rattle.std.specs.Io.KnownBytes.{Appends}
@@ -17,19 +17,20 @@ use Rattle.runner.specs.declared.fault.ScriptError.{ScriptError as ErrorOf}
 use Rattle.runner.specs.declared.fault.ScriptFault.TheVariants.{Writer}
 use Rattle.runner.specs.Lines.{lines_of}
 use Rattle.runner.specs.Outcome.{IsRead, IsPlayed, IsRefused}
-use Rattle.runner.specs.Script.{Plays, Steps, IsLife, IsLeftBy, identification, started}
+use Rattle.runner.specs.Script.{Plays, IsLife, IsLeftBy, identification, started}
 use Rattle.runner.specs.Played.{Answers, Leaves, BreaksOffAt}
 use Rattle.runner.proofs.Runs.{answers_of}
 
 -- a disk that has started, and then played events, lived a life
-pub life : {M : Type 0} (before mid after : State) (old new : DiskValue M) (events : List Event) (answers : List Answer)
-    → IsOpened before mid identification old → StartLeaves before mid → Answers mid after old events answers new → IsLife before after events answers
-life before mid after old new events answers opening leaves so = record {
+abbrev pub life : {M : Type 0} (before mid after : State) (old new : DiskValue M) (events : List Event) (answers : List Answer)
+    (refusals : List Bool) → IsOpened before mid identification old → StartLeaves before mid → Answers mid after old events answers refusals new
+    → IsLife before after events answers
+life before mid after old new events answers refusals opening leaves so = record {
   shape = layout_of old.unit.store.cached;
   array = opening.store.array;
   next = opening.store.next;
   stood = opening.store.stood;
-  refusals = so.refusals;
+  refusals = refusals;
   refused = omega (arith, so.refused, leaves.bounded.moments.failures_stay);
   runs = λ ours each.
       let book = opened (blocks_of old.unit.store.cached) opening.store.array opening.store.next ours in
@@ -37,7 +38,7 @@ life before mid after old new events answers opening leaves so = record {
       let ran = so.runs book fits in
       let start : over old book ≡ started book = ap₂ on_line opening.line (opening.unit book) in (
         over new ran.0,
-        subst (λ (c : Conversation UnitState). UnitRun c events answers so.refusals (over new ran.0)) start ran.1,
+        subst (λ (c : Conversation UnitState). UnitRun c events answers refusals (over new ran.0)) start ran.1,
         λ is_ours. between_calls after new.unit ran.0 ran.2 (ran.3 ∙ is_ours),
       );
 }
@@ -47,15 +48,16 @@ module _ {M : Type 0} (state : M → State) (remaining was now : Option (List �
     (opening : IsOpened (state medium) (state disk.unit.store.medium) identity disk)
     (leaves : StartLeaves (state medium) (state disk.unit.store.medium)) where
   -- the disk played events
-  lived : (events : List Event) (answers : List Answer) (new : DiskValue M) (after : M) → Steps state disk events answers new
-      → new.unit.store.medium ≡ after → IsLife (state medium) (state after) events answers
-  lived events answers new after steps is =
-      let at_end = subst (λ (m : M). Answers (state disk.unit.store.medium) (state m) disk events answers new) is (answers_of state events answers disk new steps) in
-      life (state medium) (state disk.unit.store.medium) (state after) disk new events answers (rw same at opening) leaves at_end
+  abbrev lived : (events : List Event) (answers : List Answer) (refusals : List Bool) (new : DiskValue M) (after : M)
+      → StepsThrough state disk events answers refusals new → new.unit.store.medium ≡ after → IsLife (state medium) (state after) events answers
+  lived events answers refusals new after steps is =
+      let at_end = subst (λ (m : M). Answers (state disk.unit.store.medium) (state m) disk events answers refusals new) is
+      (answers_of state events answers refusals disk new steps) in
+      life (state medium) (state disk.unit.store.medium) (state after) disk new events answers refusals (rw same at opening) leaves at_end
 
-  left : (events : List Event) (answers : List Answer) (new : DiskValue M) (after : M) → Steps state disk events answers new
-      → new.unit.store.medium ≡ after → IsLeftBy state medium events answers after
-  left events answers new after steps is = record {
+  left : (events : List Event) (answers : List Answer) (refusals : List Bool) (new : DiskValue M) (after : M)
+      → StepsThrough state disk events answers refusals new → new.unit.store.medium ≡ after → IsLeftBy state medium events answers refusals after
+  left events answers refusals new after steps is = record {
     first = disk;
     opens = rw same at opening;
     leaves = leaves;
@@ -74,8 +76,8 @@ module _ {M : Type 0} (state : M → State) (remaining was now : Option (List �
     events = so.0;
     plays = so.2;
     answers = so.3.tells.answers;
-    life = lived so.0 so.3.tells.answers so.3.new after so.3.tells.steps so.3.medium;
-    left_by = left so.0 so.3.tells.answers so.3.new after so.3.tells.steps so.3.medium;
+    life = lived so.0 so.3.tells.answers so.3.tells.refusals so.3.new after so.3.tells.steps so.3.medium;
+    left_by = left so.0 so.3.tells.answers so.3.tells.refusals so.3.new after so.3.tells.steps so.3.medium;
     written = subst (λ (text : List ℕ). Appends was now text) so.3.tells.told so.4;
   }
 
@@ -95,7 +97,7 @@ module _ {M : Type 0} (state : M → State) (remaining was now : Option (List �
         stops = so.stops;
         answers = breaks.answers;
         answer = breaks.answer;
-        life = lived events answers so.new error.medium breaks.steps so.medium;
-        left_by = left events answers so.new error.medium breaks.steps so.medium;
+        life = lived events answers breaks.refusals so.new error.medium breaks.steps so.medium;
+        left_by = left events answers breaks.refusals so.new error.medium breaks.steps so.medium;
         written = breaks.written;
       })

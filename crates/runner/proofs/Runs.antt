@@ -5,12 +5,11 @@ use Rattle.bot_machine.specs.Rules.{UnitState}
 use Rattle.bot_machine.specs.declared.event.Event.{Event}
 use Rattle.bot_machine.specs.declared.event.Answer.{Answer}
 use Rattle.bot_machine.specs.Conversation.{Conversation}
-use Rattle.bot_machine.specs.Disk.{DiskValue, UnitRun, IsStep, over}
+use Rattle.bot_machine.specs.Disk.{DiskValue, UnitRun, IsStep, StepsThrough, over}
 use Rattle.bot_machine.proofs.Happening.{one_counted}
 use Rattle.bot_machine.proofs.Playing.{refused_events-append}
 use Rattle.runner.specs.Text.{line_for, text_of}
 use Rattle.runner.specs.Played.{Answers, Tells, BreaksOff}
-use Rattle.runner.specs.Script.{Steps}
 use Rattle.runner.specs.Streams.{AppendsUpTo, AppendsSome}
 use Rattle.runner.proofs.Known.{AppendsUpTo-more, AppendsSome-more}
 use Rattle.std.specs.Io.KnownBytes.{Appends}
@@ -39,20 +38,18 @@ text_of-append [] rest (answer ∷ told) more each = absurd (omega (arith, each)
 text_of-append (event ∷ first) rest [] more each = absurd (omega (arith, each))
 
 module _ {M : Type 0} where
-  answers-none : (state : State) (disk : DiskValue M) → Answers state state disk [] [] disk
+  answers-none : (state : State) (disk : DiskValue M) → Answers state state disk [] [] [] disk
   answers-none state disk = record {
     one_each = refl;
-    refusals = [];
     refused = omega arith;
     size_stays = refl;
     runs = λ book fits. (book, refl, fits, refl);
   }
 
   answers-one : (before after : State) (old : DiskValue M) (event : Event) (answer : Answer) (new : DiskValue M)
-      → IsStep before after old event answer new → Answers before after old (event ∷ []) (answer ∷ []) new
+      → IsStep before after old event answer new → Answers before after old (event ∷ []) (answer ∷ []) (nat_lt before.failures after.failures ∷ []) new
   answers-one before after old event answer new step = record {
     one_each = refl;
-    refusals = nat_lt before.failures after.failures ∷ [];
     refused = one_counted (nat_lt before.failures after.failures) before.failures after.failures (ltb-true before.failures after.failures) step.elapses.failures_stay;
     size_stays = step.elapses.size_stays;
     runs = λ book fits.
@@ -60,19 +57,18 @@ module _ {M : Type 0} where
         (on.later, (over new on.later, on.moves, refl), on.fits, on.ours);
   }
 
-  answers-more : (before mid after : State) (old between new : DiskValue M) (first rest : List Event) (told more : List Answer)
-      → Answers before mid old first told between → Answers mid after between rest more new
-      → Answers before after old (first ++ rest) (told ++ more) new
-  answers-more before mid after old between new first rest told more done next = record {
+  answers-more : (before mid after : State) (old between new : DiskValue M) (first rest : List Event) (told more : List Answer) (refused others : List Bool)
+      → Answers before mid old first told refused between → Answers mid after between rest more others new
+      → Answers before after old (first ++ rest) (told ++ more) (refused ++ others) new
+  answers-more before mid after old between new first rest told more refused others done next = record {
     one_each = omega (arith, length-append told more, length-append first rest, done.one_each, next.one_each);
-    refusals = done.refusals ++ next.refusals;
-    refused = omega (arith, refused_events-append done.refusals next.refusals, done.refused, next.refused);
+    refused = omega (arith, refused_events-append refused others, done.refused, next.refused);
     size_stays = next.size_stays ∙ done.size_stays;
     runs = λ book fits.
         let here = done.runs book fits in
         let there = next.runs here.0 here.2 in (
           there.0,
-          UnitRun-append first rest told more done.refusals next.refusals (over old book) (over between here.0) (over new there.0) here.1 there.1,
+          UnitRun-append first rest told more refused others (over old book) (over between here.0) (over new there.0) here.1 there.1,
           there.2,
           there.3 ∙ here.3,
         );
@@ -80,42 +76,62 @@ module _ {M : Type 0} where
 
   module _ (state : M → State) where
     -- steps, and then others
-    pub Steps-append : (first rest : List Event) (told more : List Answer) (old mid new : DiskValue M)
-        → Steps state old first told mid → Steps state mid rest more new → Steps state old (first ++ rest) (told ++ more) new
-    Steps-append [] rest [] more old mid new done next = subst (λ (d : DiskValue M). Steps state d rest more new) done next
-    Steps-append (event ∷ first) rest (answer ∷ told) more old mid new done next =
-        (done.0, done.1, Steps-append first rest told more done.0 mid new done.2 next)
-    Steps-append [] rest (answer ∷ told) more old mid new done next = absurd done
-    Steps-append (event ∷ first) rest [] more old mid new done next = absurd done
+    pub steps-append : (first rest : List Event) (told more : List Answer) (refused others : List Bool) (old mid new : DiskValue M)
+        → StepsThrough state old first told refused mid → StepsThrough state mid rest more others new
+        → StepsThrough state old (first ++ rest) (told ++ more) (refused ++ others) new
+    steps-append [] rest [] more [] others old mid new done next = subst (λ (d : DiskValue M). StepsThrough state d rest more others new) done next
+    steps-append (event ∷ first) rest (answer ∷ told) more (refusal ∷ refused) others old mid new done next =
+        (done.0, done.1, steps-append first rest told more refused others done.0 mid new done.2 next)
+    steps-append [] rest [] more (refusal ∷ refused) others old mid new done next = absurd done
+    steps-append [] rest (answer ∷ told) more [] others old mid new done next = absurd done
+    steps-append [] rest (answer ∷ told) more (refusal ∷ refused) others old mid new done next = absurd done
+    steps-append (event ∷ first) rest [] more [] others old mid new done next = absurd done
+    steps-append (event ∷ first) rest [] more (refusal ∷ refused) others old mid new done next = absurd done
+    steps-append (event ∷ first) rest (answer ∷ told) more [] others old mid new done next = absurd done
+
+    -- one step
+    step-one : (event : Event) (answer : Answer) (old new : DiskValue M)
+        → IsStep (state old.unit.store.medium) (state new.unit.store.medium) old event answer new
+        → StepsThrough state old (event ∷ []) (answer ∷ [])
+        (nat_lt (state old.unit.store.medium).failures (state new.unit.store.medium).failures ∷ []) new
+    step-one event answer old new step = (new, (step, refl), refl)
 
     -- what steps are over each book
-    pub answers_of : (events : List Event) (answers : List Answer) (old new : DiskValue M) → Steps state old events answers new
-        → Answers (state old.unit.store.medium) (state new.unit.store.medium) old events answers new
-    answers_of [] [] old new steps =
-        subst (λ (d : DiskValue M). Answers (state old.unit.store.medium) (state d.unit.store.medium) old [] [] d) (sym steps)
+    pub answers_of : (events : List Event) (answers : List Answer) (refusals : List Bool) (old new : DiskValue M)
+        → StepsThrough state old events answers refusals new
+        → Answers (state old.unit.store.medium) (state new.unit.store.medium) old events answers refusals new
+    answers_of [] [] [] old new steps =
+        subst (λ (d : DiskValue M). Answers (state old.unit.store.medium) (state d.unit.store.medium) old [] [] [] d) (sym steps)
         (answers-none (state old.unit.store.medium) old)
-    answers_of (event ∷ events) (answer ∷ answers) old new steps =
+    answers_of (event ∷ events) (answer ∷ answers) (refused ∷ refusals) old new steps =
         let mid = steps.0 in
-        answers-more (state old.unit.store.medium) (state mid.unit.store.medium) (state new.unit.store.medium) old mid new
-        (event ∷ []) events (answer ∷ []) answers
-        (answers-one (state old.unit.store.medium) (state mid.unit.store.medium) old event answer mid steps.1)
-        (answers_of events answers mid new steps.2)
-    answers_of [] (answer ∷ answers) old new steps = absurd steps
-    answers_of (event ∷ events) [] old new steps = absurd steps
+        let before = state old.unit.store.medium in
+        let after = state mid.unit.store.medium in
+        subst (λ (r : Bool). Answers before (state new.unit.store.medium) old (event ∷ events) (answer ∷ answers) (r ∷ refusals) new) (sym steps.1.1)
+        (answers-more before after (state new.unit.store.medium) old mid new (event ∷ []) events (answer ∷ []) answers
+        (nat_lt before.failures after.failures ∷ []) refusals
+        (answers-one before after old event answer mid steps.1.0) (answers_of events answers refusals mid new steps.2))
+    answers_of [] [] (refused ∷ refusals) old new steps = absurd steps
+    answers_of [] (answer ∷ answers) [] old new steps = absurd steps
+    answers_of [] (answer ∷ answers) (refused ∷ refusals) old new steps = absurd steps
+    answers_of (event ∷ events) [] [] old new steps = absurd steps
+    answers_of (event ∷ events) [] (refused ∷ refusals) old new steps = absurd steps
+    answers_of (event ∷ events) (answer ∷ answers) [] old new steps = absurd steps
 
-    one_each : (events : List Event) (answers : List Answer) (old new : DiskValue M) → Steps state old events answers new
-        → length answers ≡ length events
-    one_each events answers old new steps = (answers_of events answers old new steps).one_each
+    one_each : (events : List Event) (answers : List Answer) (refusals : List Bool) (old new : DiskValue M)
+        → StepsThrough state old events answers refusals new → length answers ≡ length events
+    one_each events answers refusals old new steps = (answers_of events answers refusals old new steps).one_each
 
     pub tells-none : (disk : DiskValue M) → Tells state disk [] [] disk
-    tells-none disk = record { answers = []; steps = refl; told = refl }
+    tells-none disk = record { answers = []; refusals = []; steps = refl; told = refl }
 
     pub tells-one : (old new : DiskValue M) (event : Event) (answer : Answer)
         → IsStep (state old.unit.store.medium) (state new.unit.store.medium) old event answer new
         → Tells state old (event ∷ []) (line_for event answer) new
     tells-one old new event answer step = record {
       answers = answer ∷ [];
-      steps = (new, step, refl);
+      refusals = nat_lt (state old.unit.store.medium).failures (state new.unit.store.medium).failures ∷ [];
+      steps = step-one event answer old new step;
       told = sym (append-nil (line_for event answer));
     }
 
@@ -123,9 +139,10 @@ module _ {M : Type 0} where
         → Tells state old first text mid → Tells state mid rest more new → Tells state old (first ++ rest) (text ++ more) new
     tells-more old mid new first rest text more done next = record {
       answers = done.answers ++ next.answers;
-      steps = Steps-append first rest done.answers next.answers old mid new done.steps next.steps;
+      refusals = done.refusals ++ next.refusals;
+      steps = steps-append first rest done.answers next.answers done.refusals next.refusals old mid new done.steps next.steps;
       told = rw (done.told, next.told) (sym (text_of-append first rest done.answers next.answers
-          (one_each first done.answers old mid done.steps)));
+          (one_each first done.answers done.refusals old mid done.steps)));
     }
 
     -- events were played and told, and then one more, whose answer was not written whole
@@ -136,7 +153,10 @@ module _ {M : Type 0} where
     breaks-here was mid now old between new events text event answer done written step some = record {
       answers = done.answers;
       answer = answer;
-      steps = Steps-append events (event ∷ []) done.answers (answer ∷ []) old between new done.steps (new, step, refl);
+      refusals = done.refusals ++ nat_lt (state between.unit.store.medium).failures (state new.unit.store.medium).failures ∷ [];
+      steps = steps-append events (event ∷ []) done.answers (answer ∷ []) done.refusals
+          (nat_lt (state between.unit.store.medium).failures (state new.unit.store.medium).failures ∷ []) old between new done.steps
+          (step-one event answer between new step);
       written = subst (λ (l : List ℕ). AppendsUpTo was now l (line_for event answer)) done.told
           (AppendsSome-more was mid now text (line_for event answer) written some);
     }
@@ -145,14 +165,20 @@ module _ {M : Type 0} where
     pub breaks-more : (was mid now : Option (List ℕ)) (old between new : DiskValue M) (first events : List Event) (text : List ℕ) (event : Event)
         → Tells state old first text between → Appends was mid text
         → BreaksOff state mid now between events event new → BreaksOff state was now old (first ++ events) event new
-    breaks-more was mid now old between new first events text event done written breaks = record {
-      answers = done.answers ++ breaks.answers;
-      answer = breaks.answer;
-      steps = subst (λ (l : List Event). Steps state old l ((done.answers ++ breaks.answers) ++ breaks.answer ∷ []) new) (sym (append_assoc first events (event ∷ [])))
-          (subst (λ (l : List Answer). Steps state old (first ++ (events ++ event ∷ [])) l new) (sym (append_assoc done.answers breaks.answers (breaks.answer ∷ [])))
-          (Steps-append first (events ++ event ∷ []) done.answers (breaks.answers ++ breaks.answer ∷ []) old between new done.steps breaks.steps));
-      written = subst (λ (l : List ℕ). AppendsUpTo was now l (line_for event breaks.answer))
-          (ap (λ (l : List ℕ). l ++ text_of events breaks.answers) done.told
-          ∙ sym (text_of-append first events done.answers breaks.answers (one_each first done.answers old between done.steps)))
-          (AppendsUpTo-more was mid now text (text_of events breaks.answers) (line_for event breaks.answer) written breaks.written);
-    }
+    breaks-more was mid now old between new first events text event done written breaks =
+        let refusals = done.refusals ++ breaks.refusals in
+        let all = steps-append first (events ++ event ∷ []) done.answers (breaks.answers ++ breaks.answer ∷ []) done.refusals breaks.refusals
+        old between new done.steps breaks.steps in
+        record {
+          answers = done.answers ++ breaks.answers;
+          answer = breaks.answer;
+          refusals = refusals;
+          steps = subst (λ (l : List Event). StepsThrough state old l ((done.answers ++ breaks.answers) ++ breaks.answer ∷ []) refusals new)
+              (sym (append_assoc first events (event ∷ [])))
+              (subst (λ (l : List Answer). StepsThrough state old (first ++ (events ++ event ∷ [])) l refusals new)
+              (sym (append_assoc done.answers breaks.answers (breaks.answer ∷ []))) all);
+          written = subst (λ (l : List ℕ). AppendsUpTo was now l (line_for event breaks.answer))
+              (ap (λ (l : List ℕ). l ++ text_of events breaks.answers) done.told
+              ∙ sym (text_of-append first events done.answers breaks.answers (one_each first done.answers done.refusals old between done.steps)))
+              (AppendsUpTo-more was mid now text (text_of events breaks.answers) (line_for event breaks.answer) written breaks.written);
+        }

@@ -1,16 +1,18 @@
 -- Lives of a disk over a medium in memory, from the first on.
-use Rattle.std.proofs.Common.{◌≡◌, ℕ, ◌+◌, false, List, [], ◌∷◌, ◌++◌, None, Option, subst, ◌∙◌, append-nil}
+use Rattle.std.proofs.Common.{◌≡◌, ℕ, ◌+◌, ◌≤◌, Bool, false, List, [], ◌∷◌, ◌++◌, None, Option, refl, subst, ◌∙◌, arith}
 use Rattle.medium.specs.Sim.{Sim, state_of}
 use Rattle.bot_machine.specs.StartFaults.{StartFault}
+use Rattle.bot_machine.specs.StartFaults as start
 use Rattle.bot_machine.specs.Identification.{Identification}
 use Rattle.bot_machine.specs.Books.{Book}
 use Rattle.bot_machine.specs.declared.event.Answer.{Answer}
+use Rattle.bot_machine.specs.declared.stage.Stage.{Stage}
 use Rattle.bot_machine.specs.declared.stage.Stage.TheVariants.{Rests}
 use Rattle.bot_machine.specs.Conversation.{refused_events}
 use Rattle.bot_machine.specs.Lifetimes.{EndsIn, StopsIn}
-use Rattle.bot_machine.specs.Lives.{Action, plays, before_first, Standing, LivesRun}
-use Rattle.bot_machine.specs.LivesValue.{LivesValue, LivesStop, IsRefused, FitsLives, OpensOn, IsAtRest, medium_in}
-use Rattle.bot_machine.proofs.Playing.{lives_stop}
+use Rattle.bot_machine.specs.Lives.{Action, plays, before_first, Standing, Opens, LivesRun}
+use Rattle.bot_machine.specs.LivesValue.{LivesValue, MayRefuse, IsRefused, FitsLives, OpensOn, IsAtRest}
+use Rattle.bot_machine.specs.Moving.{medium_in, MovesBy, IsRefusedStart}
 use Rattle.runner.specs.declared.fault.ScriptError.{ScriptError as ErrorOf}
 use Rattle.runner.specs.declared.fault.ScriptFault.{ScriptFault}
 use Rattle.runner.specs.declared.fault.ScriptFault.TheVariants.{Line, TooLong, Start, NoMemory, Reader, Writer}
@@ -28,14 +30,38 @@ first_over medium = record { identity = identification; stage = Rests medium }
 abbrev first_with : Book → Standing
 first_with book = record { place = before_first book; armed = false }
 
+-- where nothing is done, nothing moves, and lives stand where they stood
+not_moved : (identity : Identification) (refusals : List Bool) (old new : Stage) → MovesBy identity old [] [] refusals new → new ≡ old
+not_moved identity [] old new moves = moves.1
+not_moved identity (refused ∷ refusals) old new moves = absurd moves
+
+stays : (identity : Identification) (refusals : List Bool) (old new : Standing) → LivesRun identity old [] [] refusals new → new ≡ old
+stays identity [] old new run = run.1
+stays identity (refused ∷ refusals) old new run = absurd run
+
+-- what is a cause where more refusals are counted before is one where fewer are
+may_refuse : (book : Book) (fewer counted failures : ℕ) (fault : StartFault) → fewer ≤ counted
+    → MayRefuse book counted failures fault → MayRefuse book fewer failures fault
+may_refuse book fewer counted failures start.NoMemory le h = h
+may_refuse book fewer counted failures start.Read le h = omega (arith, le, h)
+may_refuse book fewer counted failures start.Write le h = omega (arith, le, h)
+may_refuse book fewer counted failures start.Flush le h = omega (arith, le, h)
+may_refuse book fewer counted failures start.BadSuper le h = h
+may_refuse book fewer counted failures start.BadVersion le h = h
+may_refuse book fewer counted failures start.BadSize le h = h
+may_refuse book fewer counted failures start.BadHead le h = h
+may_refuse book fewer counted failures start.StampsUsedUp le h = h
+
 module _ (medium : Sim) (rest : IsAtRest medium) (unfused : medium.power.fuse ≡ None)
     (fits : (book : Book) → OpensOn (state_of medium) book → FitsLives (first_over medium) (first_with book)) where
   are_lives : (actions : List Action) (answers : List Answer) (new : LivesValue) → Acted (first_over medium) actions answers new
       → AreLives medium (medium_in new.stage) actions answers
   are_lives actions answers new acted = record {
     fits = acted.fits false (λ _. (unfused, rest.on));
-    moves = acted.moves;
+    stage = new.stage;
     refusals = acted.goes_on.refusals;
+    moves = acted.goes_on.moves;
+    left = refl;
     refused = acted.goes_on.refused;
     ends = ends;
   }
@@ -49,35 +75,41 @@ module _ (medium : Sim) (rest : IsAtRest medium) (unfused : medium.power.fuse �
             found = λ ours. g.fits.found (g.ours ∙ ours);
           }
 
-  stops : (actions : List Action) (answers : List Answer) (new : LivesValue) (fault : StartFault) (stop : LivesStop (first_over medium) actions answers fault new)
-      (book : Book) → OpensOn (state_of medium) book
-      → StopsIn identification book actions answers stop.refusals (refused_events stop.refusals + (state_of medium).failures) fault (medium_in new.stage)
-  stops actions answers new fault stop book opens =
-      let g = stop.goes (first_with book) (fits book opens) in
+  stops : (actions : List Action) (answers : List Answer) (mid new : LivesValue) (fault : StartFault) (acted : Acted (first_over medium) actions answers mid)
+      (refused : IsRefused mid fault new) (book : Book) → OpensOn (state_of medium) book
+      → StopsIn identification book actions answers acted.goes_on.refusals
+      (refused_events acted.goes_on.refusals + (state_of medium).failures) fault (medium_in new.stage)
+  stops actions answers mid new fault acted refused book opens =
+      let on = acted.goes_on in
+      let g = on.goes (first_with book) (fits book opens) in
+      let l = refused.stops.goes g.there g.fits in
+      let fewer = on.refused in
       record {
         last = g.there;
-        run = subst (λ (i : Identification). LivesRun i (first_with book) actions answers stop.refusals g.there) stop.identity_stays g.run;
-        next = g.book;
-        opens = g.opens;
-        cause = λ ours. g.cause (g.ours ∙ ours);
-        found = λ ours. g.found (g.ours ∙ ours);
+        run = subst (λ (i : Identification). LivesRun i (first_with book) actions answers on.refusals g.there) on.identity_stays g.run;
+        next = l.book;
+        opens = subst (λ (s : Standing). Opens s.place l.book) (stays new.identity refused.stops.refusals g.there l.there l.run) l.opens;
+        cause = λ ours. may_refuse l.book (refused_events on.refusals + (state_of medium).failures)
+            (refused_events refused.stops.refusals + (state_of (medium_in mid.stage)).failures) (state_of (medium_in new.stage)).failures fault
+            (omega (arith, fewer)) (l.cause (l.ours ∙ g.ours ∙ ours));
+        found = λ ours. l.found (l.ours ∙ g.ours ∙ ours);
       }
 
   are_stopped : (actions : List Action) (answers : List Answer) (mid new : LivesValue) (fault : StartFault) → Acted (first_over medium) actions answers mid
       → IsRefused mid fault new → AreStopped medium (medium_in new.stage) actions answers fault
+  unfolding are_lives
   are_stopped actions answers mid new fault acted refused =
-      let stop : LivesStop (first_over medium) actions answers fault new =
-      subst (λ (l : List Answer). LivesStop (first_over medium) actions l fault new) (append-nil answers)
-      (subst (λ (l : List Action). LivesStop (first_over medium) l (answers ++ []) fault new) (append-nil actions)
-      (lives_stop (first_over medium) mid new actions [] answers [] acted.goes_on fault refused.stops)) in
+      let stop = refused.stops in
+      let same = not_moved mid.identity stop.refusals mid.stage (Rests stop.at) stop.moves in
+      let first = acted.goes_on.refused in
+      let then = stop.refused in
       record {
         mid = medium_in mid.stage;
         lives = are_lives actions answers mid acted;
-        refused = refused.cause;
-        on = refused.stops.on;
-        refusals = stop.refusals;
-        counted = stop.refused;
-        stops = stops actions answers new fault stop;
+        rests = subst (λ (s : Stage). s ≡ Rests (medium_in s)) same refl;
+        start = subst (λ (s : Stage). IsRefusedStart (medium_in s) fault (medium_in new.stage)) same stop.start;
+        counted = omega (arith, first, then);
+        stops = stops actions answers mid new fault acted refused;
       }
 
   module _ (left was now : Option (List ℕ)) (script : List ℕ) (read : IsRead left script) where

@@ -11,23 +11,24 @@ use Rattle.bot_machine.specs.Lives.{Opens}
 use Rattle.bot_machine.specs.LivesValue.{OpensOn, IsAtRest}
 use Rattle.bot_machine.specs.Lifetimes.{AreLived}
 
--- A first life opens over the medium with this book: its power is on, nothing is unflushed and no fuse
--- is armed; the contents stand for the blocks of the book, and every image that a cut may leave is ours.
+-- A first life opens over the medium with this book: its power is on, nothing is unflushed and no
+-- fuse is armed; the contents stand for the blocks of the book, and every image that a cut may
+-- leave is ours.
 pub record IsReadyFor (medium : Sim) (book : Book) : Type 0 where
   pub rests : IsAtRest medium
   pub unfused : medium.power.fuse ≡ None
   pub opens : OpensOn (state_of medium) book
   pub ours : book.ours ≡ true
 
--- After a good format a cut, whatever it keeps, leaves a medium over which a life opens: with blocks of
--- zeros, next stamp 2, and nothing written.
+-- After a good format a cut, whatever it keeps, leaves a medium over which a life opens: with
+-- blocks of zeros, next stamp 2, and nothing written.
 abbrev pub FormatIsReady : Type 0
 FormatIsReady = (shape : Shape) (made cut : Sim) (keeps : ℕ → Bool)
     → IsFormatted shape (state_of made) → IsCut keeps made cut
     → IsReadyFor cut (opened shape.blocks (λ block. replicate 512 0) 2 true)
 
--- Lives that began over a medium where every image was ours leave one over which a life opens again:
--- with a book with which a life may open where they have left off.
+-- Lives that began over a medium where every image was ours leave one over which a life opens
+-- again: with a book with which a life may open where they have left off.
 abbrev pub LivesAreReady : Type 0
 LivesAreReady = (before after : Sim) (identity : Identification) (lives : List Life)
     (told : List Answer) (lived : AreLived before identity lives told after)

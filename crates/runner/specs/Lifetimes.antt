@@ -1,7 +1,7 @@
 -- What a script of several lives plays, and its text.
 use Rattle.std.specs.Prelude.{◌≡◌, ◌≤◌, ℕ, ◌+◌, Bool, true, false, List, [], ◌∷◌, ◌++◌, flat_map, ◌==◌}
 use Rattle.std.specs.List.{list_any}
-use Rattle.medium.specs.Sim.{Sim, state_of, IsCut, IsFused, ComesAfter}
+use Rattle.medium.specs.Sim.{Sim, state_of}
 use Rattle.bot_machine.specs.StartFaults.{StartFault}
 use Rattle.bot_machine.specs.Books.{Book}
 use Rattle.bot_machine.specs.declared.event.Event.{Event}
@@ -11,7 +11,9 @@ use Rattle.bot_machine.specs.Conversation.{refused_events}
 use Rattle.bot_machine.specs.Lifetimes.{EndsIn, StopsIn}
 use Rattle.bot_machine.specs.Lives.{Action, arms, starts, plays, cuts}
 use Rattle.bot_machine.specs.LivesValue.{OpensOn}
-use Rattle.bot_machine.specs.Opening.{IsNotOpened}
+use Rattle.bot_machine.specs.Moving.{medium_in, MovesBy, IsRefusedStart}
+use Rattle.bot_machine.specs.declared.stage.Stage.{Stage}
+use Rattle.bot_machine.specs.declared.stage.Stage.TheVariants.{Rests}
 use Rattle.runner.specs.declared.kept.KeptWrites.{KeptWrites}
 use Rattle.runner.specs.declared.kept.KeptWrites.TheVariants as kept
 use Rattle.runner.specs.declared.line.ScriptLine.{ScriptLine}
@@ -79,36 +81,33 @@ fused_after fused (starts ∷ actions) = fused_after fused actions
 fused_after fused (cuts keeps ∷ actions) = fused_after false actions
 fused_after fused (plays event ∷ actions) = fused_after fused actions
 
--- What an action does to the medium: a fuse and a cut do exactly what they say, and a start and an event call it.
-abbrev pub Moves : Sim → Action → Sim → Type 0
-Moves old (arms writes) new = IsFused writes old new
-Moves old starts new = ComesAfter old new
-Moves old (plays event) new = ComesAfter old new
-Moves old (cuts keeps) new = IsCut keeps old new
-
--- what actions do to it, one after another
-abbrev pub MovesBy : Sim → List Action → Sim → Type 0
-MovesBy old [] new = new ≡ old
-MovesBy old (action ∷ actions) new = (mid : Sim) × Moves old action mid × MovesBy mid actions new
-
--- Lives of a disk over a medium in memory, and the answers. In some actions the medium refused a call, whatever
--- the premise. For each book with which a first life opens over the contents they are a run of lives; a cut
--- afterwards leaves what may be found.
-pub record AreLives (before after : Sim) (actions : List Action) (answers : List Answer) : Type 0 where
+-- Lives of a disk over a medium in memory, and the answers. The actions move the disk and its
+-- medium one after another, and leave this medium: a fuse and a cut do exactly what they say, an
+-- event is one step of the disk, and each step in the background is one. The truth values say in
+-- which of them the medium refused a call. For each book with which a first life opens over the
+-- contents they are a run of lives; a cut afterwards leaves what may be found.
+pub record AreLives (before after : Sim) (actions : List Action) (answers : List Answer)
+    : Type 0 where
   pub fits : AnswersFit false actions answers
-  pub moves : MovesBy before actions after
+  pub stage : Stage
   pub refusals : List Bool
+  pub moves : MovesBy identification (Rests before) actions answers refusals stage
+  pub left : medium_in stage ≡ after
   pub refused : refused_events refusals + (state_of before).failures ≤ (state_of after).failures
-  pub ends : (book : Book) → OpensOn (state_of before) book → EndsIn identification book actions answers refusals after
+  pub ends : (book : Book) → OpensOn (state_of before) book
+      → EndsIn identification book actions answers refusals after
 
--- Lives of a disk, and then a start that was refused with this fault, though power did not go in it. For each book with which a first
--- life opens it was refused for a cause, and a cut afterwards leaves what may be found.
-pub record AreStopped (before after : Sim) (actions : List Action) (answers : List Answer) (fault : StartFault) : Type 0 where
+-- Lives of a disk, and then, where no disk ran, a start that was refused with this fault, though
+-- power did not go in it. For each book with which a first life opens it was refused for a cause,
+-- and a cut afterwards leaves what may be found.
+pub record AreStopped (before after : Sim) (actions : List Action) (answers : List Answer)
+    (fault : StartFault) : Type 0 where
   pub mid : Sim
   pub lives : AreLives before mid actions answers
-  pub refused : IsNotOpened (state_of mid) (state_of after) fault
-  pub on : after.power.off ≡ false
-  pub refusals : List Bool
-  pub counted : refused_events refusals + (state_of before).failures ≤ (state_of after).failures
-  pub stops : (book : Book) → OpensOn (state_of before) book → StopsIn identification book actions answers refusals
-      (refused_events refusals + (state_of before).failures) fault after
+  pub rests : lives.stage ≡ Rests mid
+  pub start : IsRefusedStart mid fault after
+  pub counted : refused_events lives.refusals + (state_of before).failures
+      ≤ (state_of after).failures
+  pub stops : (book : Book) → OpensOn (state_of before) book
+      → StopsIn identification book actions answers lives.refusals
+      (refused_events lives.refusals + (state_of before).failures) fault after

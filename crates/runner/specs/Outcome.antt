@@ -45,7 +45,7 @@ module _ {M : Type 0} (state : M → State) (left : Option (List ℕ)) (was now 
     pub plays : Plays (lines_of script) events
     pub answers : List Answer
     pub life : IsLife (state medium) (state after) events answers
-    pub left_by : IsLeftBy state medium events answers after
+    pub left_by : IsLeftBy state medium events answers life.refusals after
     pub written : Appends was now (text_of events answers)
 
   -- each line is one of a script, and no disk has started on the medium
@@ -58,8 +58,8 @@ module _ {M : Type 0} (state : M → State) (left : Option (List ℕ)) (was now 
     pub kept : Keeps was now
 
   -- The writer failed at one line of the script: the lines before it were played and their answers
-  -- written. Of that line events were played, all of whose answers were written but the last one's: a
-  -- first part of that was, and at least one byte of it is missing. Nothing was played behind it.
+  -- written. Of that line events were played, all of whose answers were written but the last one's:
+  -- a first part of that was, and at least one byte of it is missing. Nothing was played behind it.
   pub record IsCutShort (back : M) : Type 0 where
     pub script : List ℕ
     pub read : IsRead left script
@@ -71,7 +71,8 @@ module _ {M : Type 0} (state : M → State) (left : Option (List ℕ)) (was now 
     pub answer : Answer
     pub life : IsLife (state medium) (state back) (first ++ part ++ event ∷ [])
         (answers ++ answer ∷ [])
-    pub left_by : IsLeftBy state medium (first ++ part ++ event ∷ []) (answers ++ answer ∷ []) back
+    pub left_by : IsLeftBy state medium (first ++ part ++ event ∷ [])
+        (answers ++ answer ∷ []) life.refusals back
     pub written : AppendsUpTo was now (text_of (first ++ part) answers) (line_for event answer)
 
   -- why a script was refused, and what was written then

@@ -27,7 +27,8 @@ module _ (left was now : Option (List ℕ)) (medium : Sim) where
     pub lives : AreLives medium after actions answers
     pub written : Appends was now (text_of_lives actions answers)
 
-  -- a start that a line of the script came to was refused: the text of the lives before it was appended
+  -- a start that a line of the script came to was refused: the text of the lives before it was
+  -- appended
   pub record AreRefusedAStart (fault : StartFault) (back : Sim) : Type 0 where
     pub script : List ℕ
     pub read : IsRead left script
@@ -39,8 +40,8 @@ module _ (left was now : Option (List ℕ)) (medium : Sim) where
     pub written : Appends was now (text_of_lives (first ++ part) answers)
 
   -- The writer failed at one line of the script: the lines before it acted and their answers were
-  -- written. Of that line events were played, all of whose answers were written but the last one's: a
-  -- first part of that was, and at least one byte of it is missing. Nothing was done behind it.
+  -- written. Of that line events were played, all of whose answers were written but the last one's:
+  -- a first part of that was, and at least one byte of it is missing. Nothing was done behind it.
   pub record AreCutShort (back : Sim) : Type 0 where
     pub script : List ℕ
     pub read : IsRead left script
@@ -51,7 +52,8 @@ module _ (left was now : Option (List ℕ)) (medium : Sim) where
     pub answers : List Answer
     pub answer : Answer
     pub lives : AreLives medium back (first ++ part ++ plays event ∷ []) (answers ++ answer ∷ [])
-    pub written : AppendsUpTo was now (text_of_lives (first ++ part) answers) (line_for event answer)
+    pub written : AppendsUpTo was now (text_of_lives (first ++ part) answers)
+        (line_for event answer)
 
   -- why a script was refused, and what was written then
   abbrev pub AreRefused : ScriptFault → Sim → Type 0

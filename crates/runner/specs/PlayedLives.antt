@@ -9,7 +9,7 @@ use Rattle.bot_machine.specs.Lives.{Action, starts, plays}
 use Rattle.bot_machine.specs.LivesValue.{LivesValue, LivesGoOn, IsRefused, medium_in}
 use Rattle.runner.specs.declared.fault.ScriptFault.{ScriptFault}
 use Rattle.runner.specs.declared.fault.ScriptFault.TheVariants.{Line, TooLong, Start, NoMemory, Reader, Writer}
-use Rattle.runner.specs.Lifetimes.{LineActs, Acts, AnswersFit, fused_after, text_of_lives, MovesBy}
+use Rattle.runner.specs.Lifetimes.{LineActs, Acts, AnswersFit, fused_after, text_of_lives}
 use Rattle.runner.specs.Script.{StopsAt}
 use Rattle.runner.specs.Streams.{AppendsUpTo}
 use Rattle.runner.specs.Text.{line_for}
@@ -21,7 +21,6 @@ FuseIs fused lives = fused ≡ false → ((medium_in lives.stage).power.fuse ≡
 -- lives went on by these actions, with these answers, one an event
 pub record Acted (old : LivesValue) (actions : List Action) (answers : List Answer) (new : LivesValue) : Type 0 where
   pub goes_on : LivesGoOn old actions answers new
-  pub moves : MovesBy (medium_in old.stage) actions (medium_in new.stage)
   pub fits : (fused : Bool) → FuseIs fused old → AnswersFit fused actions answers
   pub fuse : (fused : Bool) → FuseIs fused old → FuseIs (fused_after fused actions) new
 

@@ -14,7 +14,7 @@ use Rattle.bot_machine.specs.declared.event.Event.{Event}
 use Rattle.bot_machine.specs.declared.event.Answer.{Answer}
 use Rattle.bot_machine.specs.Exchange.{at_rest}
 use Rattle.bot_machine.specs.Conversation.{Conversation, refused_events}
-use Rattle.bot_machine.specs.Disk.{DiskValue, IsStep, UnitRun, on_line}
+use Rattle.bot_machine.specs.Disk.{DiskValue, StepsThrough, UnitRun, on_line}
 use Rattle.bot_machine.specs.Opening.{IsOpened, StartLeaves}
 use Rattle.runner.specs.declared.line.ScriptLine.{ScriptLine}
 use Rattle.runner.specs.declared.line.ScriptKind.{ScriptKind}
@@ -35,9 +35,9 @@ InTurn LineGives [] all = all ≡ []
 InTurn {A} LineGives (line ∷ lines) all =
     (first : List A) × (rest : List A) × LineGives line first × InTurn LineGives lines rest × (all ≡ first ++ rest)
 
--- Lines give in turn up to one thing, at one line: the lines before that line give the first of all,
--- the line gives this part of its own and then the last thing; what the line gives behind that is left,
--- and what the lines after it give.
+-- Lines give in turn up to one thing, at one line: the lines before that line give the first of
+-- all, the line gives this part of its own and then the last thing; what the line gives behind that
+-- is left, and what the lines after it give.
 pub record StopsAt {A : Type 0} (LineGives : List ℕ → List A → Type 0) (lines : List (List ℕ))
     (first part : List A) (last : A) : Type 0 where
   pub before : List (List ℕ)
@@ -77,24 +77,15 @@ identification = record {
 abbrev pub started : Book → Conversation UnitState
 started book = on_line at_rest (opened_unit identification book)
 
--- a disk plays events with these answers, step by step
-abbrev pub Steps : {M : Type 0} → (M → State) → DiskValue M → List Event → List Answer → DiskValue M
-    → Type 0
-Steps state old [] [] new = new ≡ old
-Steps {M} state old (event ∷ events) (answer ∷ answers) new = (mid : DiskValue M)
-    × IsStep (state old.unit.store.medium) (state mid.unit.store.medium) old event answer mid
-    × Steps state mid events answers new
-Steps state old _ _ new = ⊥
-
--- A disk starts on the medium and plays the events, and the medium that comes back is the one that the
--- last of them left: nothing is done to it afterwards.
+-- A disk starts on the medium and plays the events, each one step of it, and the medium that comes
+-- back is the one that the last of them left: nothing is done to it afterwards.
 pub record IsLeftBy {M : Type 0} (state : M → State) (medium : M) (events : List Event)
-    (answers : List Answer) (back : M) : Type 0 where
+    (answers : List Answer) (refusals : List Bool) (back : M) : Type 0 where
   pub first : DiskValue M
   pub opens : IsOpened (state medium) (state first.unit.store.medium) identification first
   pub leaves : StartLeaves (state medium) (state first.unit.store.medium)
   pub last : DiskValue M
-  pub steps : Steps state first events answers last
+  pub steps : StepsThrough state first events answers refusals last
   pub left : back ≡ last.unit.store.medium
 
 -- A life of a disk: its events and their answers, from a start on a medium in one state until the medium is in another. The disk

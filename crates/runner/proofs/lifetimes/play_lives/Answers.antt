@@ -39,7 +39,7 @@ loop-line-preserved-in-Fuse g c =
           (lines_of c.args.script.now) (parts_left c.loop-line.line-iterator) (parts_left c.next.new.self) c.in-Some.line.now c.in-Some.ensures.steps
           c.loop-line.invariant.so_far (arms writes ∷ []) (line_acts c.in-Some.line.now (Fuse writes) spelled.0)
           (tells-silently (contents c.loop-line.out) c.loop-line.lives c.fuse.new.self (arms writes ∷ [])
-          (acted-fuse c.loop-line.lives c.fuse.new.self writes c.fuse.ensures.goes_on c.fuse.ensures.fused) refl);
+          (acted-fuse c.loop-line.lives c.fuse.new.self writes c.fuse.ensures.goes_on) refl);
     }
 
 pub loop-line-preserved-in-Cut : goal.loop-line-preserved-in-Cut
