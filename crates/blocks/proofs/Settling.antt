@@ -1,12 +1,12 @@
 -- A store at rest has everything at home.
-use Rattle.std.proofs.Common.{◌≡◌, ◌<◌, ◌≤◌, ℕ, ◌+◌, ◌-◌, ◌∙◌, sym, ap, refl, inl, inr, arith, ⊎_elim, Bool, true, false, List, [], ◌∷◌, length}
+use Rattle.std.proofs.Common.{◌≡◌, ◌<◌, ◌≤◌, ℕ, ◌∙◌, sym, ap, refl, inl, inr, arith, ⊎_elim, true, false, List, [], ◌∷◌, length}
 use Rattle.std.proofs.lemmas.Bool.{cases_lt}
 use Rattle.std.proofs.lemmas.List.{length-map}
 use Rattle.medium.specs.Medium.{State, Image}
 use Rattle.medium.specs.Moments.{EachCut}
 use Rattle.medium.specs.Blocks.{Array}
 use Rattle.log_layout.specs.Record.{Entry, numbers_of, with_records, home_of}
-use Rattle.redo_log.specs.Value.{LogValue, HasRoom, Owes, IsRetireStepped, behind_oldest, retire_steps_of}
+use Rattle.redo_log.specs.Value.{LogValue, Owes, retire_steps_of}
 use Rattle.redo_log.specs.Logged.{Logged}
 use Rattle.redo_log.proofs.Handing.{home_is}
 use Rattle.cache.specs.Blocks.{over}
@@ -69,41 +69,20 @@ module _ (m : State) (s : Cached) (live : is_dead s ≡ false) (none : steps_lef
   }
 
 -- a store without steps is at rest: its log owes none, and so no record waits
-pub settled : (m : State) (s : Cached) (room : Bool) → (room ≡ true → HasRoom s.log) → (s.log.steps_left + s.log.retire_steps_left ≡ 0 → room ≡ true) → Owes s.log
-    → is_dead s ≡ false → steps_left s ≡ 0 → IsSettled m s
-settled m s room has always owes live none =
-    let free = has (always (omega (arith, none))) in
+pub settled : (m : State) (s : Cached) → Owes s.log → s.log.under_way ≡ [] → is_dead s ≡ false → steps_left s ≡ 0 → IsSettled m s
+settled m s owes under_way live none =
     at_rest m s live none
     (none_of s.log.waiting (elim (cases_lt 0 (length s.log.waiting)) [
       | inl some ↦ absurd (omega (arith, owes.some_wait some, none))
       | inr few ↦ few
     ]))
-    free.none_under_way
+    under_way
+
+-- no retire step is owed where no record waits and none is under way
+pub owes_none : (log : LogValue) → Owes log → log.under_way ≡ [] → log.waiting ≡ [] → log.retire_steps_left ≡ 0
+owes_none log owes under_way empty = owes.none_waits empty ∙ ap (λ (l : List ℕ). retire_steps_of l) under_way
 
 -- no step is left where no record is under way, none is owed, and both batches are empty
 pub none_left : (s : Cached) → s.log.steps_left ≡ 0 → s.log.retire_steps_left ≡ 0 → s.frozen.numbers ≡ [] → s.active.numbers ≡ [] → steps_left s ≡ 0
 none_left s idle owed frozen active =
     omega (arith, waiting_idle s.log.steps_left (wants s.frozen.numbers) idle, wants_none s.frozen.numbers frozen, wants_none s.active.numbers active, idle, owed)
-
--- a retire step is one step less that is owed, and none is owed where no record waits
-pub owes_less : (old new : LogValue) (room : Bool) → old.steps_left ≡ 0 → (room ≡ true → HasRoom old) → (room ≡ false → 0 < old.steps_left + length old.waiting) → Owes old
-    → (old.waiting ≡ [] → new ≡ old) → (0 < length old.waiting → IsRetireStepped old new) → new.retire_steps_left ≡ old.retire_steps_left - 1
-owes_less old new room idle has full owes none some = elim (cases_lt 0 (length old.waiting)) [
-  | inl waits ↦
-      let stepped = some waits in
-      ⊎_elim
-      (λ more. ap (λ (l : LogValue). l.retire_steps_left) (stepped.more more))
-      (λ few.
-      let last : old.retire_steps_left ≡ behind_oldest old + 1 = omega (arith, few, stepped.some) in
-      ap (λ (l : LogValue). l.retire_steps_left) (stepped.last last) ∙ omega (arith, last))
-      (cases_lt (behind_oldest old + 1) old.retire_steps_left)
-  | inr few ↦
-      let empty = none_of old.waiting few in
-      let free = has (roomy room (λ refused. omega (arith, full refused, idle, few))) in
-      let owed : old.retire_steps_left ≡ 0 = owes.none_waits empty ∙ ap (λ (l : List ℕ). retire_steps_of l) free.none_under_way in
-      ap (λ (l : LogValue). l.retire_steps_left) (none empty) ∙ omega (arith, owed)
-]
-  where
-    roomy : (b : Bool) → (b ≡ false → ⊥) → b ≡ true
-    roomy true _ = refl
-    roomy false cannot = absurd (cannot refl)

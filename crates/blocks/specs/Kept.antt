@@ -1,5 +1,5 @@
 -- What is true of the fields of every store.
-use Rattle.std.specs.Prelude.{◌≡◌, ℕ, ◌*◌, ◌≤◌, ◌<◌, Bool, true, false, length}
+use Rattle.std.specs.Prelude.{◌≡◌, ℕ, ◌*◌, ◌≤◌, ◌<◌, Bool, true, false, [], length}
 use Rattle.log_layout.specs.Places.{sectors_of}
 use Rattle.log_layout.specs.Values.{shape_of}
 use Rattle.log_layout.specs.declared.super_sector.Super.{Super}
@@ -13,9 +13,8 @@ pub record IsBatchOf (blocks : ℕ) (batch : Entries) : Type 0 where
   pub room : batch.room ≡ 48
   pub inside : (n : ℕ) → Listed batch.numbers n → n < blocks
 
--- the log and the batches of a store over a medium of so many sectors, with these sizes, whether a record is under way,
--- and how many retire steps are owed
-pub record IsKept (size : ℕ) (sizes : Super) (cached : Cached) (writing : Bool) (owed : ℕ) : Type 0 where
+-- the log and the batches of a store over a medium of so many sectors, with these sizes, and whether a record is under way
+pub record IsKept (size : ℕ) (sizes : Super) (cached : Cached) (writing : Bool) : Type 0 where
   pub shape : cached.log.shape ≡ shape_of sizes
   pub fits : sectors_of cached.log.shape ≤ size
   pub active : IsBatchOf cached.log.shape.blocks cached.active
@@ -24,9 +23,9 @@ pub record IsKept (size : ℕ) (sizes : Super) (cached : Cached) (writing : Bool
   pub rests : cached.log.dead ≡ false → writing ≡ false → cached.log.steps_left ≡ 0
   -- the record under way is the frozen batch
   pub under_way : cached.log.dead ≡ false → 0 < cached.log.steps_left → cached.log.under_way ≡ cached.frozen.numbers
+  pub none_under_way : cached.log.dead ≡ false → cached.log.steps_left ≡ 0 → cached.log.under_way ≡ []
   pub some : 0 < cached.log.steps_left → 0 < length cached.frozen.numbers
   pub few_steps : cached.log.steps_left ≤ 52
   pub few_retire_steps : cached.log.retire_steps_left ≤ 50 * cached.log.shape.slots
   -- a record that is under way has to be retired later
   pub owes : 0 < cached.log.steps_left → 0 < cached.log.retire_steps_left
-  pub owed_is : cached.log.dead ≡ false → owed ≡ cached.log.retire_steps_left

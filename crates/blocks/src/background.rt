@@ -107,7 +107,6 @@ impl<M: Medium> Store<M> {
         match self.log.begin(self.frozen.numbers(), self.frozen.bytes()) {
             Ok(()) => {
                 self.writing = true;
-                self.owed += self.frozen.len() as u64 + 2;
                 Ok(())
             }
             Err(_) => Err(StoreFault::Dead),
@@ -168,13 +167,8 @@ impl<M: Medium> Store<M> {
         ensures frozen { self.new.cached.frozen ≡ self.old.cached.frozen }
         ensures follows { M.follows self.old.medium self.new.medium }
     {
-        // The log says here what it owes.
-        let _ = self.log.has_room();
         match self.log.retire_step(&mut self.medium) {
-            Ok(()) => {
-                self.owed = self.owed.saturating_sub(1);
-                Ok(())
-            }
+            Ok(()) => Ok(()),
             Err(_) => Err(StoreFault::Dead),
         }
     }

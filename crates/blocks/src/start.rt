@@ -113,7 +113,6 @@ impl<M: Medium> Store<M> {
                 active: parts.active,
                 frozen: parts.frozen,
                 writing: false,
-                owed: 0,
             }),
             Err(fault) => Err(StartError { fault, medium }),
         }

@@ -30,8 +30,6 @@ pub struct Store<M: Medium> {
     pub(crate) frozen: Batch,
     // Whether the record of the frozen batch is under way.
     pub(crate) writing: bool,
-    // How many steps it takes to retire the log's records, as long as the store is live.
-    pub(crate) owed: u64,
 }
 
 impl<M: Medium> Model for Store<M> {
@@ -47,7 +45,7 @@ impl<M: Medium> Model for Store<M> {
     } };
 
     ghost invariant = { λ s. IsKept (M.state s.medium).size s.sizes
-        (record { log = s.log; active = s.active; frozen = s.frozen }) s.writing s.owed };
+        (record { log = s.log; active = s.active; frozen = s.frozen }) s.writing };
 }
 
 impl<M: Medium> Store<M> {
@@ -75,7 +73,7 @@ impl<M: Medium> Store<M> {
             ↔ ((is_dead self.now.cached ≡ false) × (steps_left self.now.cached ≡ 0)) }
         ensures settled { result ≡ true → IsSettled (M.state self.now.medium) self.now.cached }
     {
-        if self.is_dead() || self.writing || self.owed > 0 || !self.log.has_room() {
+        if self.is_dead() || self.writing || !self.log.is_retired() {
             return false;
         }
         self.frozen.is_empty() && self.active.is_empty()
@@ -95,7 +93,7 @@ impl<M: Medium> Store<M> {
             → IsSettled (M.state self.now.medium) self.now.cached }
     {
         // The log says here that it owes steps for each record that waits.
-        let _ = self.log.has_room();
+        let _ = self.log.is_retired();
         &self.medium
     }
 
