@@ -3,8 +3,10 @@ use Rattle.std.proofs.Common.{◌≡◌, ◌≤◌, ◌<◌, ℕ, ◌+◌, ◌*�
 use Rattle.std.proofs.lemmas.Bool.{false≢true, cases_lt}
 use Rattle.std.proofs.lemmas.List.{length-map}
 use Rattle.medium.specs.Medium.{State, IsSound}
-use Rattle.medium.specs.Moments.{LeavesOnly}
+use Rattle.medium.specs.Moments.{LeavesOnly, SparesFrom}
 use Rattle.medium.proofs.Moments.{started, weaker}
+use Rattle.medium.proofs.Sparing.{spared_start}
+use Rattle.log_layout.specs.Places.{sectors_of}
 use Rattle.log_layout.specs.Record.{Entry, numbers_of}
 use Rattle.redo_log.specs.Value.{LogValue, HasRoom, begun, died, IsStepped, IsRetireStepped, behind_oldest}
 use Rattle.redo_log.specs.Batch.{IsBatch}
@@ -16,25 +18,27 @@ use Rattle.cache.specs.Entries.{Entries, map_of}
 use Rattle.medium.specs.Blocks.{Write}
 use Rattle.blocks.specs.Book.{Book, promised}
 use Rattle.blocks.specs.Finding.{MayFind, Found}
-use Rattle.blocks.specs.StoreValue.{Cached, wants, waiting, steps_left, FitsBook}
+use Rattle.blocks.specs.StoreValue.{Cached, layout_of, wants, waiting, steps_left, FitsBook}
 use Rattle.blocks.specs.Turns.{GoesOn, IsTurn, IsWriteTurn}
 use Rattle.blocks.proofs.Fitting.{moves, begins, becomes_durable, freezes, appends, settles, finds, no_wants}
 use Rattle.blocks.proofs.Turning.{exits}
 
 -- no count has fallen, and the store lives as it did
 pub lives : (before after : State) (old new : Cached) → before.failures ≤ after.failures → after.size ≡ before.size
-    → new.log.shape ≡ old.log.shape → new.log.dead ≡ old.log.dead → GoesOn before after old new
-lives before after old new failures size shape dead = record {
+    → new.log.shape ≡ old.log.shape → new.log.dead ≡ old.log.dead → SparesFrom (sectors_of (layout_of old)) before after → GoesOn before after old new
+lives before after old new failures size shape dead spares = record {
   failures_stay = failures;
   size_stays = size;
+  layout_stays = shape;
+  spares = spares;
   blocks_stay = ap (λ x. x.blocks) shape;
   dead_stays = λ is. dead ∙ is;
   cause = λ live died. absurd (false≢true (sym (dead ∙ live) ∙ died));
 }
 
 -- nothing has happened to the medium
-pub here : (m : State) (old new : Cached) → new.log.shape ≡ old.log.shape → new.log.dead ≡ old.log.dead → GoesOn m m old new
-here m old new shape dead = lives m m old new (omega arith) refl shape dead
+pub here : (m : State) → IsSound m → (old new : Cached) → new.log.shape ≡ old.log.shape → new.log.dead ≡ old.log.dead → GoesOn m m old new
+here m sound old new shape dead = lives m m old new (omega arith) refl shape dead (spared_start (sectors_of (layout_of old)) m sound)
 
 -- what a cut may leave at any moment of a call of the log may be found
 pub cuts_found : (before after : State) (s : Cached) → ((view : View) → HoldsView s.log before view → view.ours ≡ true → LeavesOnly (MayLeave before.size s.log view) before after)
@@ -45,14 +49,16 @@ cuts_found before after s cuts book f ours =
 -- the medium is refused a call, and the log is dead
 pub dies : (before after : State) (s : Cached) (log' : LogValue) → log' ≡ died s.log → before.failures < after.failures → after.size ≡ before.size
     → ((book : Book) (f : FitsBook before s book) → HoldsView log' after f.view)
-    → ((view : View) → HoldsView s.log before view → view.ours ≡ true → LeavesOnly (MayLeave before.size s.log view) before after) → IsTurn before after s (record s { log = log' })
-dies before after s log' is grew size holds cuts = record {
+    → ((view : View) → HoldsView s.log before view → view.ours ≡ true → LeavesOnly (MayLeave before.size s.log view) before after) → SparesFrom (sectors_of (layout_of s)) before after → IsTurn before after s (record s { log = log' })
+dies before after s log' is grew size holds cuts spares = record {
   fits = λ book f. moves before after s book log' f.view f (holds book f) refl refl refl (ap (λ (l : LogValue). l.shape) is)
       (ap (λ (l : LogValue). l.head + length l.waiting) is) (omega (arith, ap (λ (l : LogValue). l.steps_left) is));
   cuts = cuts_found before after s cuts;
   goes_on = record {
     failures_stay = omega (arith, grew);
     size_stays = size;
+    layout_stays = ap (λ (l : LogValue). l.shape) is;
+    spares = spares;
     blocks_stay = ap (λ (l : LogValue). l.shape.blocks) is;
     dead_stays = λ dead. ap (λ (l : LogValue). l.dead) is;
     cause = λ live died. inl grew;
@@ -62,23 +68,24 @@ dies before after s log' is grew size holds cuts = record {
 -- a step of the record under way, which is not its last
 pub steps_on : (before after : State) (s : Cached) (log' : LogValue) → IsStepped More s.log log' → before.failures ≤ after.failures → after.size ≡ before.size
     → ((book : Book) (f : FitsBook before s book) → HoldsView log' after f.view)
-    → ((view : View) → HoldsView s.log before view → view.ours ≡ true → LeavesOnly (MayLeave before.size s.log view) before after) → IsTurn before after s (record s { log = log' })
-steps_on before after s log' stepped failures size holds cuts = let is = stepped.1 in record {
+    → ((view : View) → HoldsView s.log before view → view.ours ≡ true → LeavesOnly (MayLeave before.size s.log view) before after) → SparesFrom (sectors_of (layout_of s)) before after → IsTurn before after s (record s { log = log' })
+steps_on before after s log' stepped failures size holds cuts spares = let is = stepped.1 in record {
   fits = λ book f. moves before after s book log' f.view f (holds book f) refl refl refl (ap (λ (l : LogValue). l.shape) is)
       (ap (λ (l : LogValue). l.head + length l.waiting) is) (omega (arith, ap (λ (l : LogValue). l.steps_left) is));
   cuts = cuts_found before after s cuts;
-  goes_on = lives before after s (record s { log = log' }) failures size (ap (λ (l : LogValue). l.shape) is) (ap (λ (l : LogValue). l.dead) is);
+  goes_on = lives before after s (record s { log = log' }) failures size (ap (λ (l : LogValue). l.shape) is) (ap (λ (l : LogValue). l.dead) is) spares;
 }
 
 -- its last step, after which the frozen batch is emptied
 pub steps_last : (before after : State) (s : Cached) (log' : LogValue) (none : Entries) → IsStepped Durable s.log log' → none.numbers ≡ [] → before.failures ≤ after.failures → after.size ≡ before.size
     → ((book : Book) (f : FitsBook before s book) → HoldsView log' after (with_record f.view))
-    → ((view : View) → HoldsView s.log before view → view.ours ≡ true → LeavesOnly (MayLeave before.size s.log view) before after) → IsTurn before after s (record { log = log'; active = s.active; frozen = none })
-steps_last before after s log' none stepped empty failures size holds cuts = let is = stepped.1 in record {
+    → ((view : View) → HoldsView s.log before view → view.ours ≡ true → LeavesOnly (MayLeave before.size s.log view) before after) → SparesFrom (sectors_of (layout_of s)) before after
+    → IsTurn before after s (record { log = log'; active = s.active; frozen = none })
+steps_last before after s log' none stepped empty failures size holds cuts spares = let is = stepped.1 in record {
   fits = λ book f. becomes_durable before after s book log' none f (omega (arith, stepped.0)) empty (holds book f) (ap (λ (l : LogValue). l.shape) is) (ap (λ (l : LogValue). l.head) is)
       (ap (λ (l : LogValue). length l.waiting) is ∙ length-append s.log.waiting (s.log.under_way ∷ [])) (ap (λ (l : LogValue). l.steps_left) is);
   cuts = cuts_found before after s cuts;
-  goes_on = lives before after s (record { log = log'; active = s.active; frozen = none }) failures size (ap (λ (l : LogValue). l.shape) is) (ap (λ (l : LogValue). l.dead) is);
+  goes_on = lives before after s (record { log = log'; active = s.active; frozen = none }) failures size (ap (λ (l : LogValue). l.shape) is) (ap (λ (l : LogValue). l.dead) is) spares;
 }
 
 -- what a retire step leaves as it was
@@ -124,11 +131,11 @@ stays_retired old new none some = go old.waiting refl
 pub retires : (before after : State) (s : Cached) (log' : LogValue) → (s.log.waiting ≡ [] → log' ≡ s.log) → (0 < length s.log.waiting → IsRetireStepped s.log log')
     → before.failures ≤ after.failures → after.size ≡ before.size
     → ((view : View) → HoldsView s.log before view → HoldsView log' after (view_retired (log'.head - s.log.head) view))
-    → ((view : View) → HoldsView s.log before view → view.ours ≡ true → LeavesOnly (MayLeave before.size s.log view) before after) → IsTurn before after s (record s { log = log' })
-retires before after s log' none some failures size holds cuts = let stay = stays_retired s.log log' none some in record {
+    → ((view : View) → HoldsView s.log before view → view.ours ≡ true → LeavesOnly (MayLeave before.size s.log view) before after) → SparesFrom (sectors_of (layout_of s)) before after → IsTurn before after s (record s { log = log' })
+retires before after s log' none some failures size holds cuts spares = let stay = stays_retired s.log log' none some in record {
   fits = λ book f. moves before after s book log' (view_retired (log'.head - s.log.head) f.view) f (holds f.view f.holds) refl refl refl stay.shape stay.stamp (omega (arith, stay.steps));
   cuts = cuts_found before after s cuts;
-  goes_on = lives before after s (record s { log = log' }) failures size stay.shape stay.dead;
+  goes_on = lives before after s (record s { log = log' }) failures size stay.shape stay.dead spares;
 }
 
 module _ (m : State) (sound : IsSound m) (s : Cached) where
@@ -140,7 +147,7 @@ module _ (m : State) (sound : IsSound m) (s : Cached) where
   begins_record room batch = record {
     fits = λ book f. begins m s book f room batch;
     cuts = still_found;
-    goes_on = here m s (record s { log = begun s.frozen.numbers s.log }) refl refl;
+    goes_on = here m sound s (record s { log = begun s.frozen.numbers s.log }) refl refl;
   }
 
   -- no stamp is left for it, and the log is dead
@@ -151,6 +158,8 @@ module _ (m : State) (sound : IsSound m) (s : Cached) where
     goes_on = record {
       failures_stay = omega arith;
       size_stays = refl;
+      layout_stays = refl;
+      spares = spared_start (sectors_of (layout_of s)) m sound;
       blocks_stay = refl;
       dead_stays = λ dead. refl;
       cause = λ live died. inr (λ book f.
@@ -165,7 +174,7 @@ module _ (m : State) (sound : IsSound m) (s : Cached) where
   freezes_active idle empty = record {
     fits = λ book f. freezes m s book idle empty f;
     cuts = still_found;
-    goes_on = here m s (record s { active = s.frozen; frozen = s.active }) refl refl;
+    goes_on = here m sound s (record s { active = s.frozen; frozen = s.active }) refl refl;
   }
 
   -- the active batch takes a write
@@ -174,7 +183,7 @@ module _ (m : State) (sound : IsSound m) (s : Cached) where
   appends_write more address bytes count put = let w : Write = record { address = address; blocks = chunks count bytes } in record {
     fits = λ book f. appends m s book more address bytes count put f;
     cuts = λ book f ours. weaker (MayFind m.size book) (Found m.size book w) m m (λ image found. inl found) (still_found book f ours);
-    goes_on = here m s (record s { active = more }) refl refl;
+    goes_on = here m sound s (record s { active = more }) refl refl;
   }
 
 pub waiting_idle : (steps wanted : ℕ) → steps ≡ 0 → waiting steps wanted ≡ 112 * wanted

@@ -2,13 +2,15 @@
 use Rattle.std.proofs.Common.{◌≡◌, ◌⊎◌, ℕ, inl, inr, ⊎_elim, arith, ◌∙◌, sym, refl, subst, Bool, true, false}
 use Rattle.std.proofs.lemmas.Bool.{false≢true}
 use Rattle.medium.specs.Medium.{State, IsSound}
-use Rattle.medium.specs.Moments.{EachCut, LeavesOnly, IsQuiet}
+use Rattle.medium.specs.Moments.{EachCut, LeavesOnly, IsQuiet, SparesFrom}
 use Rattle.medium.specs.Blocks.{Write}
 use Rattle.medium.proofs.Moments.{joined_same, weaker, quiet_leaves, quiet_start}
+use Rattle.medium.proofs.Sparing.{spared_joined, spared_quiet}
+use Rattle.log_layout.specs.Places.{Shape, sectors_of}
 use Rattle.redo_log.proofs.Handing.{quiet_held}
 use Rattle.blocks.specs.Book.{Book}
 use Rattle.blocks.specs.Finding.{MayFind, Found}
-use Rattle.blocks.specs.StoreValue.{Cached, is_dead, FitsBook}
+use Rattle.blocks.specs.StoreValue.{Cached, layout_of, is_dead, FitsBook}
 use Rattle.blocks.specs.Turns.{GoesOn, IsTurn, IsWriteTurn}
 use Rattle.blocks.proofs.Fitting.{moves, finds}
 
@@ -26,6 +28,9 @@ pub went_on : (before mid after : State) (old then new : Cached) → ((book : Bo
 went_on before mid after old then new fits first second = record {
   failures_stay = omega (arith, first.failures_stay, second.failures_stay);
   size_stays = second.size_stays ∙ first.size_stays;
+  layout_stays = second.layout_stays ∙ first.layout_stays;
+  spares = spared_joined (sectors_of (layout_of old)) before mid after first.spares
+      (subst (λ (shape : Shape). SparesFrom (sectors_of shape) mid after) first.layout_stays second.spares);
   blocks_stay = second.blocks_stay ∙ first.blocks_stay;
   dead_stays = λ dead. second.dead_stays (first.dead_stays dead);
   cause = λ live died. ⊎_elim
@@ -51,6 +56,8 @@ quiet_turn before after s sound quiet = record {
   goes_on = record {
     failures_stay = quiet.failures_stay;
     size_stays = quiet.size_stays;
+    layout_stays = refl;
+    spares = spared_quiet (sectors_of (layout_of s)) before after sound quiet;
     blocks_stay = refl;
     dead_stays = λ dead. dead;
     cause = λ live died. absurd (false≢true (sym live ∙ died));

@@ -1,23 +1,27 @@
 -- What the calls of a store do to the books that it fits.
 use Rattle.std.specs.Prelude.{◌≡◌, ◌⊎◌, ◌+◌, ◌*◌, ◌≤◌, ◌<◌, Bool, true, false, if◌then◌else◌}
 use Rattle.medium.specs.Medium.{State}
-use Rattle.medium.specs.Moments.{LeavesOnly}
+use Rattle.medium.specs.Moments.{LeavesOnly, SparesFrom}
 use Rattle.medium.specs.Blocks.{Write}
+use Rattle.log_layout.specs.Places.{sectors_of}
 use Rattle.medium.specs.declared.fault.MediumFault.TheVariants.{Read}
 use Rattle.blocks.specs.declared.fault.StoreFault.{StoreFault}
 use Rattle.blocks.specs.declared.fault.StoreFault.TheVariants.{ReadFault, Dead}
 use Rattle.blocks.specs.Book.{Book, with_write, StampsOut}
 use Rattle.blocks.specs.Finding.{MayFind, Found}
-use Rattle.blocks.specs.StoreValue.{Cached, blocks_of, is_dead, steps_left, FitsBook}
+use Rattle.blocks.specs.StoreValue.{Cached, layout_of, blocks_of, is_dead, steps_left, FitsBook}
 
 -- a call of the medium was refused since, or the stamps are out in each book that the store fitted
 abbrev pub HasCause : State → State → Cached → Type 0
 HasCause before after old = (before.failures < after.failures) ⊎ ((book : Book) → FitsBook before old book → StampsOut book)
 
--- No refusal is forgotten, the sizes stay, and a store that is dead stays so. One that dies has a cause.
+-- No refusal is forgotten, the sizes stay, and a store that is dead stays so. One that dies has a cause. The
+-- sectors behind the image are spared, at each moment.
 pub record GoesOn (before after : State) (old new : Cached) : Type 0 where
   pub failures_stay : before.failures ≤ after.failures
   pub size_stays : after.size ≡ before.size
+  pub layout_stays : layout_of new ≡ layout_of old
+  pub spares : SparesFrom (sectors_of (layout_of old)) before after
   pub blocks_stay : blocks_of new ≡ blocks_of old
   pub dead_stays : is_dead old ≡ true → is_dead new ≡ true
   pub cause : is_dead old ≡ false → is_dead new ≡ true → HasCause before after old

@@ -9,6 +9,7 @@ ghost use Rattle.log_layout.specs.Values.{shape_of};
 ghost use Rattle.redo_log.specs.Value.{idle_from};
 ghost use Rattle.recovery.specs.Causes.{IsDeviceFault};
 ghost use Rattle.recovery.specs.Recovered.{IsOursForSome, IsOursWithNext, StandsForOneOf};
+ghost use Rattle.recovery.specs.Recovered.{SparesTheRest};
 ghost use Rattle.blocks.specs.Started.{IsStarted, IsStartCause, IsOursSince, IsBounded};
 
 use crate::store::ROOM;
@@ -96,6 +97,10 @@ impl<M: Medium> Store<M> {
         ensures moments { MatchResult result
             (λ store. IsBounded (M.state medium) (M.state store.medium))
             (λ error. IsBounded (M.state medium) (M.state error.medium)) }
+        // The sectors behind the image are spared, whatever becomes of the start.
+        ensures spares { MatchResult result
+            (λ store. SparesTheRest (M.state medium) (M.state store.medium))
+            (λ error. SparesTheRest (M.state medium) (M.state error.medium)) }
         ensures follows { MatchResult result
             (λ store. M.follows medium store.medium)
             (λ error. M.follows medium error.medium) }

@@ -9,7 +9,7 @@ returns-clause-turn g c =
     let after = g.M.Medium.state c.retire_step.new.m in
     elim c.match-retire_step.branch [
       | in-Ok w ↦ rw (← c.self.view_is)
-          (retires before after _ c.retire_step.new.self (λ none. (w.in-Ok.ensures.none none).1) w.in-Ok.ensures.ok (omega (arith, w.in-Ok.ensures.failures)) w.in-Ok.ensures.size w.in-Ok.ensures.holds w.in-Ok.ensures.cuts)
+          (retires before after _ c.retire_step.new.self (λ none. (w.in-Ok.ensures.none none).1) w.in-Ok.ensures.ok (omega (arith, w.in-Ok.ensures.failures)) w.in-Ok.ensures.size w.in-Ok.ensures.holds w.in-Ok.ensures.cuts w.in-Ok.ensures.spares)
       | in-Err w ↦ rw (← c.self.view_is)
-          (dies before after _ c.retire_step.new.self w.in-Err.ensures.err (omega (arith, w.in-Err.ensures.failures)) w.in-Err.ensures.size (λ book f. w.in-Err.ensures.holds f.view f.holds) w.in-Err.ensures.cuts)
+          (dies before after _ c.retire_step.new.self w.in-Err.ensures.err (omega (arith, w.in-Err.ensures.failures)) w.in-Err.ensures.size (λ book f. w.in-Err.ensures.holds f.view f.holds) w.in-Err.ensures.cuts w.in-Err.ensures.spares)
     ]

@@ -10,7 +10,7 @@ returns-in-Ok-More-clause-turn g c =
     (rw c.in-Ok-More.field-0-is at called.ok) (omega (arith, called.failures)) called.size
     (λ book f. rw c.in-Ok-More.field-0-is at
     (called.holds f.view f.holds (rw (c.numbers-numbers.ensures.value, c.bytes.ensures.value) (f.under_way (rw (← c.self.view_is) at c.requires.under_way)))))
-    called.cuts)
+    called.cuts called.spares)
 
 pub returns-in-Ok-Durable-clause-turn : goal.returns-in-Ok-Durable-clause-turn
 returns-in-Ok-Durable-clause-turn g c =
@@ -20,7 +20,7 @@ returns-in-Ok-Durable-clause-turn g c =
     (rw c.in-Ok-Durable.field-0-is at called.ok) (ap (λ batch. batch.numbers) c.clear.ensures) (omega (arith, called.failures)) called.size
     (λ book f. rw c.in-Ok-Durable.field-0-is at
     (called.holds f.view f.holds (rw (c.numbers-numbers.ensures.value, c.bytes.ensures.value) (f.under_way (rw (← c.self.view_is) at c.requires.under_way)))))
-    called.cuts)
+    called.cuts called.spares)
 
 pub returns-in-Err-clause-turn : goal.returns-in-Err-clause-turn
 returns-in-Err-clause-turn g c =
@@ -29,4 +29,4 @@ returns-in-Err-clause-turn g c =
     (dies (g.M.Medium.state c.self.inside.medium) (g.M.Medium.state c.step.new.m) _ c.step.new.self called.err
     (omega (arith, called.failures)) called.size
     (λ book f. called.holds f.view f.holds (rw (c.numbers-numbers.ensures.value, c.bytes.ensures.value) (f.under_way (rw (← c.self.view_is) at c.requires.under_way))))
-    called.cuts)
+    called.cuts called.spares)
