@@ -7,4 +7,5 @@ pub mod Opening
 pub mod Starting
 pub mod Reading
 pub mod Settling
+pub mod Room
 pub mod Counting

@@ -1,5 +1,5 @@
 -- What is true of the fields of every store.
-use Rattle.std.specs.Prelude.{◌≡◌, ℕ, ◌*◌, ◌≤◌, ◌<◌, Bool, true, false, [], length}
+use Rattle.std.specs.Prelude.{◌≡◌, ℕ, ◌+◌, ◌*◌, ◌≤◌, ◌<◌, Bool, true, false, [], length}
 use Rattle.log_layout.specs.Places.{sectors_of}
 use Rattle.log_layout.specs.Values.{shape_of}
 use Rattle.log_layout.specs.declared.super_sector.Super.{Super}
@@ -24,6 +24,7 @@ pub record IsKept (size : ℕ) (sizes : Super) (cached : Cached) (writing : Bool
   -- the record under way is the frozen batch
   pub under_way : cached.log.dead ≡ false → 0 < cached.log.steps_left → cached.log.under_way ≡ cached.frozen.numbers
   pub none_under_way : cached.log.dead ≡ false → cached.log.steps_left ≡ 0 → cached.log.under_way ≡ []
+  pub ring : cached.log.next ≤ cached.log.head + cached.log.shape.slots
   pub some : 0 < cached.log.steps_left → 0 < length cached.frozen.numbers
   pub few_steps : cached.log.steps_left ≤ 52
   pub few_retire_steps : cached.log.retire_steps_left ≤ 50 * cached.log.shape.slots

@@ -8,3 +8,4 @@ pub mod Kept
 pub mod Background
 pub mod Settled
 pub mod Calls
+pub mod Retiring

@@ -101,6 +101,7 @@ impl<M: Medium> Store<M> {
         ensures begun { OnOk result (0 < self.new.cached.log.steps_left) }
         ensures falls { is_dead self.new.cached ≡ false
             → steps_left self.new.cached < steps_left self.old.cached }
+        ensures head { self.new.cached.log.head ≡ self.old.cached.log.head }
         ensures active { self.new.cached.active ≡ self.old.cached.active }
         ensures frozen { self.new.cached.frozen ≡ self.old.cached.frozen }
     {
@@ -130,6 +131,7 @@ impl<M: Medium> Store<M> {
         ensures falls { is_dead self.new.cached ≡ false
             → steps_left self.new.cached < steps_left self.old.cached }
         ensures waits { 0 < self.new.cached.log.retire_steps_left }
+        ensures head { self.new.cached.log.head ≡ self.old.cached.log.head }
         ensures active { self.new.cached.active ≡ self.old.cached.active }
         ensures follows { M.follows self.old.medium self.new.medium }
     {

@@ -5,6 +5,7 @@ ghost use Rattle.redo_log.specs.Value.{HasRoom};
 ghost use Rattle.blocks.specs.Book.{Book, promised};
 ghost use Rattle.blocks.specs.StoreValue.{is_dead, active_of, unwritten, steps_left, FitsBook};
 ghost use Rattle.blocks.specs.Turns.{IsTurn, IsPaid};
+ghost use Rattle.blocks.specs.Retiring.{RetiresForRoom};
 
 use crate::{Store, StoreFault};
 use medium::Medium;
@@ -31,6 +32,8 @@ impl<M: Medium> Store<M> {
         ensures rests { unwritten self.old.cached ≡ 0 → self.new.medium ≡ self.old.medium }
         ensures waits { 0 < unwritten self.old.cached
             → OnOk result (0 < steps_left self.new.cached) }
+        // It retires no record but one for each batch, where the ring is full.
+        ensures retires { self.new.cached.log.head ≤ self.old.cached.log.head + 2 }
         ensures calls { (M.state self.new.medium).calls
             ≤ (M.state self.old.medium).calls + 2 * steps_left self.old.cached }
         ensures paid { IsPaid (M.state self.old.medium) (M.state self.new.medium)
@@ -56,6 +59,7 @@ impl<M: Medium> Store<M> {
         ensures rests { self.old.cached.frozen.numbers ≡ [] → self.new ≡ self.old }
         ensures waits { 0 < length self.old.cached.frozen.numbers
             → OnOk result (0 < self.new.cached.log.retire_steps_left) }
+        ensures retires { RetiresForRoom self.old.cached.log self.new.cached.log }
         ensures active { self.new.cached.active ≡ self.old.cached.active }
         ensures follows { M.follows self.old.medium self.new.medium }
     {
@@ -86,6 +90,7 @@ impl<M: Medium> Store<M> {
         ensures done { OnOk result ((self.new.cached.log.steps_left ≡ 0)
             × (self.new.cached.frozen.numbers ≡ [])) }
         ensures waits { 0 < self.new.cached.log.retire_steps_left }
+        ensures head { self.new.cached.log.head ≡ self.old.cached.log.head }
         ensures active { self.new.cached.active ≡ self.old.cached.active }
         ensures follows { M.follows self.old.medium self.new.medium }
     {
@@ -103,6 +108,7 @@ impl<M: Medium> Store<M> {
             self.old.cached self.new.cached }
         ensures answer { MatchResult result (λ _. is_dead self.new.cached ≡ false)
             (λ fault. (fault ≡ StoreFault.Dead) × (is_dead self.new.cached ≡ true)) }
+        ensures retires { RetiresForRoom self.old.cached.log self.new.cached.log }
         ensures room { OnOk result (HasRoom self.new.cached.log) }
         ensures active { self.new.cached.active ≡ self.old.cached.active }
         ensures frozen { self.new.cached.frozen ≡ self.old.cached.frozen }

@@ -1,4 +1,8 @@
-use Rattle.std.proofs.Common.{◌≡◌, refl, ◌∙◌, false}
+use Rattle.std.proofs.Common.{◌≡◌, ◌≤◌, refl, ◌∙◌, ap, sym, subst, inl, arith, false}
+use Rattle.std.proofs.lemmas.Bool.{false≢true}
+use Rattle.log_layout.specs.Places.{Shape}
+use Rattle.redo_log.specs.Value.{LogValue, HasRoom}
+use Rattle.blocks.proofs.Room.{one_at_most, most_one}
 use Rattle.blocks.proofs.Turning.{turns, stays}
 use Rattle.blocks.proofs.Paying.{pays, pays_both, pays_step, must_retire}
 use Rattle.blocks.proofs.store.Store.make_room.Goals as goal
@@ -8,6 +12,8 @@ loop-self-init g c = record {
   turn = stays _ _ (g.met.M.Medium.sound c.args.self.now.medium);
   paid = pays _ _;
   live = c.requires.live;
+  stays = λ room. refl;
+  one = inl refl;
   idle = c.requires.idle;
   active = refl;
   frozen = refl;
@@ -26,7 +32,18 @@ loop-self-preserved g c =
     let refused : c.has_room.result ≡ false = c.loop-self-test.true in
     let left = must_retire (record { log = c.self.inside.log; active = c.self.inside.active; frozen = c.self.inside.frozen }) c.has_room.result refused
     c.has_room.ensures.full c.has_room.ensures.always (rw (← c.self.view_is) at c.loop-self.invariant.idle) in
+    let full : HasRoom c.self.inside.log → ⊥ = λ room. false≢true (sym refused ∙ c.has_room.ensures.room.1 room) in
+    let kept = c.self.invariant in
+    let live = rw (← c.self.view_is) at c.loop-self.invariant.live in
+    let idle = rw (← c.self.view_is) at c.loop-self.invariant.idle in
+    let under_way = kept.none_under_way live idle in
+    let slots : 1 ≤ c.self.inside.log.shape.slots = omega (arith, ap (λ (s : Shape). s.slots) kept.shape, c.self.inside.sizes.some_slots) in
+    let stepped = (c.retire.ensures.retiring.live (rw (← c.self.view_is) left.0) c.in_ok-retire.ensures.answer).1 in
+    let log_is = ap (λ v. v.cached.log) c.self.view_is in
     record {
+      stays = λ room. absurd (full (subst (λ (log : LogValue). HasRoom log) (sym (c.loop-self.invariant.stays room) ∙ sym log_is) room));
+      one = one_at_most c.args.self.now.cached.log c.self.inside.log c.retire.new.self.cached.log full under_way idle kept.ring slots
+          (rw (← c.self.view_is) at stepped) (rw (← c.self.view_is) at c.loop-self.invariant.one);
       turn = turns _ _ _ _ _ _ c.loop-self.invariant.turn c.retire.ensures.turn;
       paid = pays_both _ _ _ _ _ _ c.loop-self.invariant.paid c.loop-self.invariant.live
           (pays_step (g.M.Medium.state c.loop-self.self.medium) (g.M.Medium.state c.retire.new.self.medium) c.loop-self.self.cached c.retire.new.self.cached
@@ -40,3 +57,9 @@ loop-self-preserved g c =
 
 pub returns-in_err-retire-clause-turn : goal.returns-in_err-retire-clause-turn
 returns-in_err-retire-clause-turn g c = turns _ _ _ _ _ _ c.loop-self.invariant.turn c.retire.ensures.turn
+
+pub returns-clause-retires : goal.returns-clause-retires
+returns-clause-retires g c = record {
+  one = most_one c.args.self.now.cached.log c.loop-self.self.cached.log c.loop-self.invariant.one;
+  roomy = λ room. ap (λ (l : LogValue). l.head) (c.loop-self.invariant.stays room);
+}

@@ -1,6 +1,8 @@
 use Rattle.std.proofs.Common.{◌≡◌, false}
 use Rattle.blocks.specs.StoreValue.{is_dead, steps_left}
 use Rattle.blocks.specs.Turns.{IsTurn, IsPaid}
+use Rattle.redo_log.specs.Value.{HasRoom}
+use Rattle.blocks.proofs.Room.{OneAtMost}
 use Rattle.blocks.proofs.store.Store.make_room.Given as goal
 
 abbrev pub invariant-loop-self : goal.invariant-loop-self
@@ -8,6 +10,8 @@ invariant-loop-self g l = record {
   turn : IsTurn (g.M.Medium.state l.fn.self.medium) (g.M.Medium.state l.self.medium) l.fn.self.cached l.self.cached;
   paid : IsPaid (g.M.Medium.state l.fn.self.medium) (g.M.Medium.state l.self.medium) l.fn.self.cached l.self.cached;
   live : is_dead l.self.cached ≡ false;
+  stays : HasRoom l.fn.self.cached.log → l.self.cached.log ≡ l.fn.self.cached.log;
+  one : OneAtMost l.fn.self.cached.log l.self.cached.log;
   idle : l.self.cached.log.steps_left ≡ 0;
   active : l.self.cached.active ≡ l.fn.self.cached.active;
   frozen : l.self.cached.frozen ≡ l.fn.self.cached.frozen;

@@ -10,6 +10,7 @@ loop-init g c = record {
   paid = pays _ _;
   live = c.requires.live;
   under_way = c.requires.under_way;
+  head = refl;
   active = refl;
   follows = g.met.M.Medium.follows_itself c.args.self.now.medium;
 }
@@ -25,6 +26,7 @@ loop-preserved g c = record {
       (omega (arith, c.loop.invariant.under_way)) (omega (arith, c.step.ensures.calls)) c.step.ensures.falls);
   live = c.in_ok-step.ensures.answer;
   under_way = c.step.ensures.more (c.in_ok-step.was ∙ ap Ok c.in-More.is);
+  head = c.step.ensures.head ∙ c.loop.invariant.head;
   active = c.step.ensures.active ∙ c.loop.invariant.active;
   follows = g.met.M.Medium.follows_through _ _ _ c.loop.invariant.follows c.step.ensures.follows;
 }
