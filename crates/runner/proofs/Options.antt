@@ -1,6 +1,6 @@
 -- Facts on options and results.
 use Rattle.std.proofs.Common.{◌≡◌, refl, Option, Some, None, Result, Ok, Err, true, false}
-use Rattle.std.specs.Prelude.{IfNone, IsSome, IfOk, IfErr, OnOk, OnErr, is_err}
+use Rattle.std.specs.Prelude.{IfNone, IsSome, IfOk, IfErr, OnOk, OnErr, MatchResult, is_err}
 
 -- what follows where there is no value
 pub none_weaker : {T P Q : Type 0} (r : Option T) → (P → Q) → IfNone r P → IfNone r Q
@@ -40,3 +40,9 @@ if_err (Err e) follows holds = follows e holds
 pub is_some_where : {T : Type 0} {P : Type 0} (r : Option T) → IfNone r P → (P → ⊥) → IsSome r
 is_some_where None holds never = absurd (never holds)
 is_some_where (Some x) holds never = refl
+
+-- what follows for a value, and from what an error is
+pub match_result : {T E : Type 0} {P : E → Type 0} {Q : T → Type 0} {R : E → Type 0} (r : Result T E) → ((x : T) → Q x)
+    → ((e : E) → P e → R e) → IfErr r P → MatchResult r Q R
+match_result (Ok x) good bad holds = good x
+match_result (Err e) good bad holds = bad e holds

@@ -18,7 +18,8 @@ use Rattle.runner.specs.declared.fault.ScriptFault.{ScriptFault}
 use Rattle.runner.specs.declared.fault.ScriptFault.TheVariants.{Line, TooLong, Start, NoMemory, Reader, Writer}
 use Rattle.runner.specs.Lifetimes.{LineActs, AreLives, AreStopped}
 use Rattle.runner.specs.Lines.{lines_of}
-use Rattle.runner.specs.Outcome.{IsRead}
+use Rattle.std.specs.Io.KnownBytes.{IsAtEnd}
+use Rattle.runner.specs.Outcome.{IsRead, HasTaken}
 use Rattle.runner.specs.OutcomeOfLives.{ArePlayed, AreRefused}
 use Rattle.runner.specs.PlayedLives.{Acted, EndsBy, PlaysAll, PlaysUpTo}
 use Rattle.runner.specs.Script.{StopsAt, identification}
@@ -181,3 +182,18 @@ module _ (medium : Sim) (rest : IsAtRest medium) (unfused : medium.power.fuse �
       → AreRefused left was now medium error.fault error.medium
   is_refused error up_to = are_refused medium rest unfused fits left was now script read error.fault error.medium
       (subst (λ (l : LivesValue). PlaysUpTo was now l (lines_of script) error.fault error.medium) same up_to)
+
+-- a script that was played up to a fault was read to its end
+pub taken_up_to : (was now : Option (List ℕ)) (lives : LivesValue) (lines : List (List ℕ)) (error : ErrorOf Sim) (all rest : Option (List ℕ))
+    → PlaysUpTo was now lives lines error.fault error.medium → IsAtEnd rest → HasTaken error.fault all rest
+taken_up_to was now lives lines error all rest up_to ended =
+    by_fault error.fault (up_to.first ++ up_to.part) up_to.answers up_to.last up_to.new up_to.ends
+  where
+    by_fault : (fault : ScriptFault) (actions : List Action) (answers : List Answer) (last : Action) (new : LivesValue)
+        → EndsBy was now lives actions answers last new fault → HasTaken fault all rest
+    by_fault (Start fault) actions answers last new ends = ended
+    by_fault Writer actions answers last new ends = ended
+    by_fault (Line number) actions answers last new ends = absurd ends
+    by_fault TooLong actions answers last new ends = absurd ends
+    by_fault NoMemory actions answers last new ends = absurd ends
+    by_fault Reader actions answers last new ends = absurd ends

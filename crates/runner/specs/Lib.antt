@@ -8,10 +8,10 @@ pub mod Played
 pub mod Lifetimes
 pub mod PlayedLives
 pub mod Streams
+pub mod Refused
 pub mod Outcome
 pub mod OutcomeOfLives
 pub mod Left
-pub mod Refused
 pub mod Task
 pub mod Status
 pub mod Program

@@ -1,6 +1,6 @@
 -- What playing a script of one life leaves: a medium, and what was written.
 use Rattle.std.specs.Prelude.{◌≡◌, ◌<◌, ◌≤◌, ℕ, List, [], ◌∷◌, ◌++◌, All, length, Option, IfSome}
-use Rattle.std.specs.Io.KnownBytes.{Appends, Keeps}
+use Rattle.std.specs.Io.KnownBytes.{Appends, Keeps, IsAtEnd}
 use Rattle.medium.specs.Medium.{State}
 use Rattle.bot_machine.specs.declared.event.Event.{Event}
 use Rattle.bot_machine.specs.declared.event.Answer.{Answer}
@@ -11,7 +11,9 @@ use Rattle.runner.specs.declared.fault.ScriptFault.TheVariants.{Line, TooLong, S
 use Rattle.runner.specs.declared.line.ScriptKind.{ScriptKind}
 use Rattle.runner.specs.declared.line.ScriptKind.TheVariants.{OneLife}
 use Rattle.runner.specs.Line.{IsScriptLine}
+use Rattle.runner.specs.declared.read.ReadFault.TheVariants as read
 use Rattle.runner.specs.Lines.{lines_of}
+use Rattle.runner.specs.Refused.{IsReadSoFar}
 use Rattle.runner.specs.Script.{LinePlays, Plays, StopsAt, IsFirstBadLine, IsLife, IsLeftBy}
 use Rattle.runner.specs.Streams.{IsAll, AppendsUpTo}
 use Rattle.runner.specs.Text.{line_for, text_of}
@@ -35,6 +37,16 @@ pub record HasBadLine (kind : ScriptKind) (left : Option (List ℕ)) (number : �
   pub script : List ℕ
   pub read : IsRead left script
   pub bad : IsFirstBadLine kind number (lines_of script)
+
+-- How much of the script was taken from its reader, where it was refused: a first part where it was
+-- not read to its end, and else all of it.
+abbrev pub HasTaken : ScriptFault → Option (List ℕ) → Option (List ℕ) → Type 0
+HasTaken (Line number) was now = IsAtEnd now
+HasTaken TooLong was now = IsReadSoFar read.TooLong script_limit was now
+HasTaken (Start fault) was now = IsAtEnd now
+HasTaken NoMemory was now = IsReadSoFar read.NoMemory script_limit was now
+HasTaken Reader was now = IsReadSoFar read.Reader script_limit was now
+HasTaken Writer was now = IsAtEnd now
 
 module _ {M : Type 0} (state : M → State) (left : Option (List ℕ)) (was now : Option (List ℕ)) (medium : M) where
   -- the script was played whole: exactly the text of the answers in a life of its events was appended

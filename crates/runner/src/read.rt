@@ -1,4 +1,6 @@
-ghost use Rattle.std.specs.Prelude.{◌≡◌, ◌<◌, ◌≤◌, IfOk, IfSome, Err, length};
+ghost use Rattle.std.specs.Prelude.{◌≡◌, ◌<◌, ◌≤◌, IfOk, IfSome, Err, length, MatchResult};
+ghost use Rattle.std.specs.Io.KnownBytes.{IsAtEnd};
+ghost use Rattle.runner.specs.Refused.{IsReadSoFar};
 ghost use Rattle.runner.specs.Streams.{IsAll};
 
 use std::alloc::Global;
@@ -25,6 +27,8 @@ pub fn read_to_limit<R: Read>(
     ensures fits { IfOk result (λ bytes. length bytes.items ≤ limit) }
     ensures too_long { result ≡ Err ReadFault.TooLong
         → IfSome (R.remaining reader.old) (λ all. limit < length all) }
+    ensures taken { MatchResult result (λ _. IsAtEnd (R.remaining reader.new))
+        (λ fault. IsReadSoFar fault limit (R.remaining reader.old) (R.remaining reader.new)) }
 {
     let mut bytes = Vec::new(alloc);
     let mut chunk = [0; 4096];

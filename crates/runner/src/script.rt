@@ -1,6 +1,7 @@
 // Scripts of packets and tokens, and the text of a disk's answers.
-ghost use Rattle.std.specs.Prelude.{IfOk, IfErr};
-ghost use Rattle.runner.specs.Outcome.{IsPlayed, IsRefused};
+ghost use Rattle.std.specs.Prelude.{IfOk, IfErr, MatchResult};
+ghost use Rattle.std.specs.Io.KnownBytes.{IsAtEnd};
+ghost use Rattle.runner.specs.Outcome.{IsPlayed, IsRefused, HasTaken};
 
 use crate::check::check_script;
 use crate::fault::{ScriptError, ScriptFault};
@@ -27,6 +28,8 @@ pub fn run_script<M: Medium, R: Read, W: Write>(
         (W.contents out.old) (W.contents out.new) medium) }
     ensures refused { IfErr result (λ error. IsRefused M.state (R.remaining script.old)
         (W.contents out.old) (W.contents out.new) medium error.fault error.medium) }
+    ensures taken { MatchResult result (λ _. IsAtEnd (R.remaining script.new)) (λ error.
+        HasTaken error.fault (R.remaining script.old) (R.remaining script.new)) }
 {
     let script = match read_to_limit(alloc, script, SCRIPT_LIMIT) {
         Ok(script) => script,

@@ -1,6 +1,8 @@
 // A script of several lives, played on a simulated medium.
-ghost use Rattle.std.specs.Prelude.{◌≡◌, None, IfOk, IfErr};
+ghost use Rattle.std.specs.Prelude.{◌≡◌, ◌⊎◌, None, IfOk, IfErr, MatchResult};
+ghost use Rattle.std.specs.Io.KnownBytes.{IsAtEnd};
 ghost use Rattle.bot_machine.specs.LivesValue.{IsAtRest};
+ghost use Rattle.runner.specs.Outcome.{HasTaken};
 ghost use Rattle.runner.specs.OutcomeOfLives.{ArePlayed, AreRefused};
 
 use crate::check::check_script;
@@ -29,6 +31,10 @@ pub fn sim_script<R: Read, W: Write>(
         (W.contents out.old) (W.contents out.new) medium) }
     ensures refused { IfErr result (λ error. AreRefused (R.remaining script.old)
         (W.contents out.old) (W.contents out.new) medium error.fault error.medium) }
+    // There may be no memory for the numbers of writes, after all was read.
+    ensures taken { MatchResult result (λ _. IsAtEnd (R.remaining script.new)) (λ error.
+        HasTaken error.fault (R.remaining script.old) (R.remaining script.new)
+        ⊎ ((error.fault ≡ ScriptFault.NoMemory) × IsAtEnd (R.remaining script.new))) }
 {
     let script = match read_to_limit(alloc, script, SCRIPT_LIMIT) {
         Ok(script) => script,

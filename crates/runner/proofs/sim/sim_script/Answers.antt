@@ -1,6 +1,7 @@
-use Rattle.std.proofs.Common.{◌∙◌, sym}
-use Rattle.runner.proofs.Options.{if_ok, if_err}
-use Rattle.runner.proofs.SeveralLives.{is_played, is_refused}
+use Rattle.std.proofs.Common.{◌∙◌, sym, inl}
+use Rattle.runner.specs.Lines.{lines_of}
+use Rattle.runner.proofs.Options.{if_ok, if_err, match_result}
+use Rattle.runner.proofs.SeveralLives.{is_played, is_refused, taken_up_to}
 use Rattle.runner.proofs.sim.sim_script.Goals as goal
 
 pub play_lives-requires-clause-good : goal.play_lives-requires-clause-good
@@ -24,4 +25,13 @@ returns-clause-refused g c =
     (is_refused c.args.medium c.requires.rests c.requires.unfused c.disk_identity.result c.disk_identity.ensures c.new.result c.new.ensures.value
     c.new.ensures.first (g.R.Read.remaining c.args.script.now) (contents c.args.out.now) (contents c.play_lives.new.out) c.as_slice-2.result.now
     (record { all = rw same at c.in-Ok.ensures.all; fits = rw same at c.in-Ok.ensures.fits }))
+    c.play_lives.ensures.broken
+
+pub returns-clause-taken : goal.returns-clause-taken
+returns-clause-taken g c =
+    let contents = g.W.Write.contents in
+    let remaining = g.R.Read.remaining in
+    match_result c.play_lives.result (λ medium. c.in-Ok.ensures.taken)
+    (λ error broken. inl (taken_up_to (contents c.args.out.now) (contents c.play_lives.new.out) c.new.result (lines_of c.as_slice-2.result.now) error
+    (remaining c.args.script.now) (remaining c.read_to_limit.new.reader) broken c.in-Ok.ensures.taken))
     c.play_lives.ensures.broken
