@@ -1,8 +1,42 @@
--- How many records a call of a store may retire.
-use Rattle.std.specs.Prelude.{◌≡◌, ◌+◌, ◌≤◌}
-use Rattle.redo_log.specs.Value.{LogValue, HasRoom}
+-- Which records a call of a store writes to the log, and which it retires: none but what room asks
+-- for.
+use Rattle.std.specs.Prelude.{◌≡◌, ◌+◌, ◌-◌, ◌≤◌, ℕ, zero, suc, List, [], ◌∷◌, ◌++◌, drop, nat_lt}
+use Rattle.std.specs.Prelude.{if◌then◌else◌}
+use Rattle.redo_log.specs.Value.{LogValue, HasRoom, begun, behind_oldest}
 
 -- Room is made for one record: none is retired where the log has room, and else one at most.
 pub record RetiresForRoom (old new : LogValue) : Type 0 where
   pub one : new.head ≤ old.head + 1
   pub roomy : HasRoom old → new.head ≡ old.head
+
+-- the oldest record is retired
+abbrev pub oldest_retired : LogValue → LogValue
+oldest_retired log = record log {
+  head = log.head + 1;
+  waiting = drop 1 log.waiting;
+  retire_steps_left = behind_oldest log;
+}
+
+-- room for one more record: the oldest alone is retired, and only where no slot is free
+abbrev pub with_room : LogValue → LogValue
+with_room log =
+    if nat_lt (log.next - log.head) log.shape.slots then log else oldest_retired log
+
+-- the record under way is durable
+abbrev pub written_out : LogValue → LogValue
+written_out log = record log {
+  under_way = [];
+  waiting = log.waiting ++ log.under_way ∷ [];
+  steps_left = 0;
+}
+
+-- where so many steps are left of the record of a batch
+abbrev pub finished_from : ℕ → List ℕ → LogValue → LogValue
+finished_from (suc steps) numbers log = written_out log
+finished_from zero [] log = log
+finished_from zero (n ∷ numbers) log = written_out (begun (n ∷ numbers) (with_room log))
+
+-- The batch of these blocks is durable: its record is written, or, where that is under way already,
+-- goes on. An empty batch has none.
+abbrev pub finished : List ℕ → LogValue → LogValue
+finished numbers log = finished_from log.steps_left numbers log

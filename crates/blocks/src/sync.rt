@@ -5,7 +5,7 @@ ghost use Rattle.redo_log.specs.Value.{HasRoom};
 ghost use Rattle.blocks.specs.Book.{Book, promised};
 ghost use Rattle.blocks.specs.StoreValue.{is_dead, active_of, unwritten, steps_left, FitsBook};
 ghost use Rattle.blocks.specs.Turns.{IsTurn, IsPaid};
-ghost use Rattle.blocks.specs.Retiring.{RetiresForRoom};
+ghost use Rattle.blocks.specs.Retiring.{RetiresForRoom, finished, with_room, written_out};
 
 use crate::{Store, StoreFault};
 use medium::Medium;
@@ -32,6 +32,11 @@ impl<M: Medium> Store<M> {
         ensures rests { unwritten self.old.cached ≡ 0 → self.new.medium ≡ self.old.medium }
         ensures waits { 0 < unwritten self.old.cached
             → OnOk result (0 < steps_left self.new.cached) }
+        // Where Ok: the record of each batch is written, and nothing is retired but the oldest record
+        // before one that finds no slot free.
+        ensures finishes { OnOk result (self.new.cached.log
+            ≡ finished self.old.cached.active.numbers
+            (finished self.old.cached.frozen.numbers self.old.cached.log)) }
         // It retires no record but one for each batch, where the ring is full.
         ensures retires { self.new.cached.log.head ≤ self.old.cached.log.head + 2 }
         ensures calls { (M.state self.new.medium).calls
@@ -59,6 +64,8 @@ impl<M: Medium> Store<M> {
         ensures rests { self.old.cached.frozen.numbers ≡ [] → self.new ≡ self.old }
         ensures waits { 0 < length self.old.cached.frozen.numbers
             → OnOk result (0 < self.new.cached.log.retire_steps_left) }
+        ensures finishes { OnOk result (self.new.cached.log
+            ≡ finished self.old.cached.frozen.numbers self.old.cached.log) }
         ensures retires { RetiresForRoom self.old.cached.log self.new.cached.log }
         ensures active { self.new.cached.active ≡ self.old.cached.active }
         ensures follows { M.follows self.old.medium self.new.medium }
@@ -90,6 +97,7 @@ impl<M: Medium> Store<M> {
         ensures done { OnOk result ((self.new.cached.log.steps_left ≡ 0)
             × (self.new.cached.frozen.numbers ≡ [])) }
         ensures waits { 0 < self.new.cached.log.retire_steps_left }
+        ensures written { OnOk result (self.new.cached.log ≡ written_out self.old.cached.log) }
         ensures head { self.new.cached.log.head ≡ self.old.cached.log.head }
         ensures active { self.new.cached.active ≡ self.old.cached.active }
         ensures follows { M.follows self.old.medium self.new.medium }
@@ -110,6 +118,7 @@ impl<M: Medium> Store<M> {
             (λ fault. (fault ≡ StoreFault.Dead) × (is_dead self.new.cached ≡ true)) }
         ensures retires { RetiresForRoom self.old.cached.log self.new.cached.log }
         ensures room { OnOk result (HasRoom self.new.cached.log) }
+        ensures made { OnOk result (self.new.cached.log ≡ with_room self.old.cached.log) }
         ensures active { self.new.cached.active ≡ self.old.cached.active }
         ensures frozen { self.new.cached.frozen ≡ self.old.cached.frozen }
         ensures follows { M.follows self.old.medium self.new.medium }

@@ -2,7 +2,7 @@ use Rattle.std.proofs.Common.{◌≡◌, ◌≤◌, refl, ◌∙◌, ap, sym, su
 use Rattle.std.proofs.lemmas.Bool.{false≢true}
 use Rattle.log_layout.specs.Places.{Shape}
 use Rattle.redo_log.specs.Value.{LogValue, HasRoom}
-use Rattle.blocks.proofs.Room.{one_at_most, most_one}
+use Rattle.blocks.proofs.Room.{one_at_most, most_one, retires_more, room_is_made}
 use Rattle.blocks.proofs.Turning.{turns, stays}
 use Rattle.blocks.proofs.Paying.{pays, pays_both, pays_step, must_retire}
 use Rattle.blocks.proofs.store.Store.make_room.Goals as goal
@@ -14,6 +14,7 @@ loop-self-init g c = record {
   live = c.requires.live;
   stays = λ room. refl;
   one = inl refl;
+  retires = inl refl;
   idle = c.requires.idle;
   active = refl;
   frozen = refl;
@@ -44,6 +45,9 @@ loop-self-preserved g c =
       stays = λ room. absurd (full (subst (λ (log : LogValue). HasRoom log) (sym (c.loop-self.invariant.stays room) ∙ sym log_is) room));
       one = one_at_most c.args.self.now.cached.log c.self.inside.log c.retire.new.self.cached.log full under_way idle kept.ring slots
           (rw (← c.self.view_is) at stepped) (rw (← c.self.view_is) at c.loop-self.invariant.one);
+      retires = retires_more c.args.self.now.cached.log c.self.inside.log c.retire.new.self.cached.log full under_way idle
+          (rw (← c.self.view_is) at stepped) (rw (← c.self.view_is) at c.loop-self.invariant.one)
+          (rw (← c.self.view_is) at c.loop-self.invariant.retires);
       turn = turns _ _ _ _ _ _ c.loop-self.invariant.turn c.retire.ensures.turn;
       paid = pays_both _ _ _ _ _ _ c.loop-self.invariant.paid c.loop-self.invariant.live
           (pays_step (g.M.Medium.state c.loop-self.self.medium) (g.M.Medium.state c.retire.new.self.medium) c.loop-self.self.cached c.retire.new.self.cached
@@ -63,3 +67,9 @@ returns-clause-retires g c = record {
   one = most_one c.args.self.now.cached.log c.loop-self.self.cached.log c.loop-self.invariant.one;
   roomy = λ room. ap (λ (l : LogValue). l.head) (c.loop-self.invariant.stays room);
 }
+
+pub returns-clause-made : goal.returns-clause-made
+returns-clause-made g c =
+    let log_is = ap (λ v. v.cached.log) c.self.view_is in
+    let room : HasRoom c.loop-self.self.cached.log = subst (λ (log : LogValue). HasRoom log) log_is (c.has_room.ensures.room.0 c.loop-self-test.false) in
+    room_is_made c.args.self.now.cached.log c.loop-self.self.cached.log c.loop-self.invariant.stays room c.loop-self.invariant.retires

@@ -2,7 +2,7 @@ use Rattle.std.proofs.Common.{◌≡◌, false}
 use Rattle.blocks.specs.StoreValue.{is_dead, steps_left}
 use Rattle.blocks.specs.Turns.{IsTurn, IsPaid}
 use Rattle.redo_log.specs.Value.{HasRoom}
-use Rattle.blocks.proofs.Room.{OneAtMost}
+use Rattle.blocks.proofs.Room.{OneAtMost, RetiresOldest}
 use Rattle.blocks.proofs.store.Store.make_room.Given as goal
 
 abbrev pub invariant-loop-self : goal.invariant-loop-self
@@ -12,6 +12,7 @@ invariant-loop-self g l = record {
   live : is_dead l.self.cached ≡ false;
   stays : HasRoom l.fn.self.cached.log → l.self.cached.log ≡ l.fn.self.cached.log;
   one : OneAtMost l.fn.self.cached.log l.self.cached.log;
+  retires : RetiresOldest l.fn.self.cached.log l.self.cached.log;
   idle : l.self.cached.log.steps_left ≡ 0;
   active : l.self.cached.active ≡ l.fn.self.cached.active;
   frozen : l.self.cached.frozen ≡ l.fn.self.cached.frozen;

@@ -1,5 +1,6 @@
 use Rattle.std.proofs.Common.{refl, ◌∙◌, arith, ap}
 use Rattle.std.specs.Prelude.{Ok}
+use Rattle.blocks.proofs.Room.{writes_more, writes_last}
 use Rattle.blocks.proofs.Turning.{turns, stays}
 use Rattle.blocks.proofs.Paying.{pays, pays_both, pays_step}
 use Rattle.blocks.proofs.store.Store.write_out.Goals as goal
@@ -10,6 +11,7 @@ loop-init g c = record {
   paid = pays _ _;
   live = c.requires.live;
   under_way = c.requires.under_way;
+  so_far = refl;
   head = refl;
   active = refl;
   follows = g.met.M.Medium.follows_itself c.args.self.now.medium;
@@ -26,6 +28,10 @@ loop-preserved g c = record {
       (omega (arith, c.loop.invariant.under_way)) (omega (arith, c.step.ensures.calls)) c.step.ensures.falls);
   live = c.in_ok-step.ensures.answer;
   under_way = c.step.ensures.more (c.in_ok-step.was ∙ ap Ok c.in-More.is);
+  so_far =
+      let gone = c.step.ensures.record_step.live c.in_ok-step.ensures.answer in
+      writes_more c.args.self.now.cached.log c.loop.self.cached.log c.step.new.self.cached.log gone.1 gone.2.log
+      (c.step.ensures.more (c.in_ok-step.was ∙ ap Ok c.in-More.is)) c.loop.invariant.so_far;
   head = c.step.ensures.head ∙ c.loop.invariant.head;
   active = c.step.ensures.active ∙ c.loop.invariant.active;
   follows = g.met.M.Medium.follows_through _ _ _ c.loop.invariant.follows c.step.ensures.follows;
@@ -33,3 +39,9 @@ loop-preserved g c = record {
 
 pub returns-clause-turn : goal.returns-clause-turn
 returns-clause-turn g c = turns _ _ _ _ _ _ c.loop.invariant.turn c.step.ensures.turn
+
+pub returns-clause-written : goal.returns-clause-written
+returns-clause-written g c =
+    let gone = c.step.ensures.record_step.live c.in_ok-step.ensures.answer in
+    writes_last c.args.self.now.cached.log c.loop.self.cached.log c.step.new.self.cached.log gone.1 gone.2.log
+    (c.step.ensures.durable (c.in_ok-step.was ∙ ap Ok c.in_default.is)).0 c.loop.invariant.so_far

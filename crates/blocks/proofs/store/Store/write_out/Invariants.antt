@@ -9,6 +9,7 @@ invariant-loop g l = record {
   paid : IsPaid (g.M.Medium.state l.fn.self.medium) (g.M.Medium.state l.self.medium) l.fn.self.cached l.self.cached;
   live : is_dead l.self.cached ≡ false;
   under_way : 0 < l.self.cached.log.steps_left;
+  so_far : l.self.cached.log ≡ record l.fn.self.cached.log { steps_left = l.self.cached.log.steps_left };
   head : l.self.cached.log.head ≡ l.fn.self.cached.log.head;
   active : l.self.cached.active ≡ l.fn.self.cached.active;
   follows : g.M.Medium.follows l.fn.self.medium l.self.medium;
