@@ -25,6 +25,15 @@ fn formatted(rt: HostRuntime) -> Result<SimMedium, Fail> {
 // A formatted medium with these bytes written over its own, each from its place on.
 fn changed(rt: HostRuntime, changes: &[(usize, &[u8])]) -> Result<SimMedium, Fail> {
     let m = formatted(rt)?;
+    overwritten(rt, &m, changes)
+}
+
+// A medium of the flushed bytes of another, with these bytes written over them.
+fn overwritten(
+    rt: HostRuntime,
+    m: &SimMedium,
+    changes: &[(usize, &[u8])],
+) -> Result<SimMedium, Fail> {
     let mut image = m.image().to_vec(rt.alloc())?;
     for (place, bytes) in changes {
         for (to, from) in image.iter_mut().skip(*place).zip(bytes.iter()) {
@@ -88,11 +97,7 @@ fn used(rt: HostRuntime) -> Result<SimMedium, Fail> {
     let image = vec![in rt.alloc(); 0xa5u8; 55 * 512]?;
     let mut m = SimMedium::new(rt.alloc(), image, 64).map_err(|_| AllocError)?;
     format(&mut m, 2, 1).map_err(|_| "no image")?;
-    let mut block = [0; 512];
-    block[0] = 0x22;
-    m.write(53, &block).map_err(|_| "no block")?;
-    m.flush().map_err(|_| "no flush")?;
-    Ok(m)
+    overwritten(rt, &m, &[(53 * 512, b"\x22")])
 }
 
 // Each of the 59 calls of such a format is the one at which the power goes. The old image is there up
