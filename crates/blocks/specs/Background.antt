@@ -31,14 +31,14 @@ pub record IsRecordStep (before after : State) (old new : Cached) : Type 0 where
       → (after.failures ≡ before.failures) × (progress : Progress) × HasGoneOn progress old new
   pub dies : is_dead new ≡ true → HasDied before after old new
 
--- The frozen batch comes first: the batches stay as they are. Where it is empty the active batch takes its
--- place.
+-- The frozen batch comes first: the batches stay as they are. Where it is empty the active batch
+-- takes its place.
 pub record FreezesNext (old new : Cached) : Type 0 where
   pub frozen_first : 0 < length old.frozen.numbers → (new.active ≡ old.active) × (new.frozen ≡ old.frozen)
   pub else_active : old.frozen.numbers ≡ [] → (new.active ≡ old.frozen) × (new.frozen ≡ old.active)
 
--- The record of the next batch is begun, without a call of the medium. Where no stamp is left for it the log
--- is dead.
+-- The record of the next batch is begun, without a call of the medium. Where no stamp is left for
+-- it the log is dead.
 pub record IsBeginning (before after : State) (old new : Cached) : Type 0 where
   pub unchanged : IsUnchanged before after
   pub next : FreezesNext old new
@@ -46,8 +46,8 @@ pub record IsBeginning (before after : State) (old new : Cached) : Type 0 where
       → (old.log.next < 2 ^ 63 - 1) × (new.log ≡ begun new.frozen.numbers old.log)
   pub dies : is_dead new ≡ true → (old.log.next ≡ 2 ^ 63 - 1) × (new.log ≡ died old.log)
 
--- The oldest record is retired by exactly one step, which is at most two calls, and both batches stay. Where
--- no record waits nothing happens.
+-- The oldest record is retired by exactly one step, which is at most two calls, and both batches
+-- stay. Where no record waits nothing happens.
 pub record IsRetiring (before after : State) (old new : Cached) : Type 0 where
   pub none_waits : old.log.waiting ≡ [] → (new ≡ old) × IsUnchanged before after
   pub two_calls : after.calls ≤ before.calls + 2
@@ -61,8 +61,8 @@ pub record IsRetiring (before after : State) (old new : Cached) : Type 0 where
 abbrev pub MayBegin : Cached → Type 0
 MayBegin s = HasRoom s.log × (0 < unwritten s)
 
--- One background step. A dead store makes none. With a record under way only that record goes on; else the
--- next batch is begun where it may be, and the oldest record is retired where none may.
+-- One background step. A dead store makes none. With a record under way only that record goes on;
+-- else the next batch is begun where it may be, and the oldest record is retired where none may.
 pub record IsBackgroundStep (before after : State) (old new : Cached) : Type 0 where
   pub dead : is_dead old ≡ true → (new ≡ old) × IsUnchanged before after
   pub goes_on : is_dead old ≡ false → 0 < old.log.steps_left → IsRecordStep before after old new

@@ -4,7 +4,8 @@ use Rattle.cache.specs.Blocks.{is_listed}
 use Rattle.blocks.specs.Retiring.{finished}
 use Rattle.blocks.specs.StoreValue.{Cached, FitsBeside}
 
--- how many calls it takes to read a block that no batch has, from its newest logged copy or from home
+-- how many calls it takes to read a block that no batch has, from its newest logged copy or from
+-- home
 abbrev pub copy_reads : ℕ
 copy_reads = 1
 
@@ -18,9 +19,9 @@ abbrev pub reads_of : Cached → ℕ → ℕ → ℕ
 reads_of s address zero = 0
 reads_of s address (suc count) = block_reads s address + reads_of s (address + 1) count
 
--- A good write whose range fits beside the active batch changes that batch alone. After any other the
--- frozen batch is what the active one was, and the log is that with the batch before it durable:
--- nothing else is written, or retired but for room.
+-- A good write whose range fits beside the active batch changes that batch alone. After any other
+-- the frozen batch is what the active one was, and the log is that with the batch before it
+-- durable: nothing else is written, or retired but for room.
 pub record TurnsBatches (old new : Cached) (address count : ℕ) : Type 0 where
   pub beside : FitsBeside old.active.numbers address count
       → (new.frozen ≡ old.frozen) × (new.log ≡ old.log)

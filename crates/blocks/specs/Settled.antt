@@ -10,8 +10,8 @@ use Rattle.blocks.specs.StoreValue.{Cached, layout_of, FitsBook}
 abbrev pub IsAtHome : Shape → Book → Image → Type 0
 IsAtHome shape book image = (b : ℕ) → b < book.blocks → image (first_home shape + b) ≡ array_of book b
 
--- No record waits and none is under way, and both batches are empty. Each accepted write is durable and at
--- home, also in all that a cut may leave.
+-- No record waits and none is under way, and both batches are empty. Each accepted write is durable
+-- and at home, also in all that a cut may leave.
 pub record IsSettled (m : State) (s : Cached) : Type 0 where
   pub none_waits : s.log.waiting ≡ []
   pub none_under_way : s.log.under_way ≡ []

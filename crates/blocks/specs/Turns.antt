@@ -15,8 +15,8 @@ use Rattle.blocks.specs.StoreValue.{Cached, layout_of, blocks_of, is_dead, steps
 abbrev pub HasCause : State → State → Cached → Type 0
 HasCause before after old = (before.failures < after.failures) ⊎ ((book : Book) → FitsBook before old book → StampsOut book)
 
--- No refusal is forgotten, the sizes stay, and a store that is dead stays so. One that dies has a cause. The
--- sectors behind the image are spared, at each moment.
+-- No refusal is forgotten, the sizes stay, and a store that is dead stays so. One that dies has a
+-- cause. The sectors behind the image are spared, at each moment.
 pub record GoesOn (before after : State) (old new : Cached) : Type 0 where
   pub failures_stay : before.failures ≤ after.failures
   pub size_stays : after.size ≡ before.size

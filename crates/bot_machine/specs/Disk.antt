@@ -93,8 +93,8 @@ pub record IsStep {M : Type 0} (before after : State) (old : DiskValue M) (event
   pub rests : (book : Book) → FitsDisk before old book → ¬ Acts (over old book) event
       → new.unit ≡ old.unit
   pub ticks : TicksIn before after old event new
-  -- a command makes no call of the medium that it does not need, no more than its calls of the store
-  -- add up to, and the host is told its answer
+  -- a command makes no call of the medium that it does not need, no more than its calls of the
+  -- store add up to, and the host is told its answer
   pub spares : (book : Book) → FitsDisk before old book → (block taken : List ℕ)
       → EventCarriesOut (over old book) event block taken
       → (told : Result (List ℕ) Sense) × IsSparing block taken old.unit told new.unit

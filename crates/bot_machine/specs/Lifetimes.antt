@@ -58,11 +58,12 @@ pub record AppendsFor (before after : LivesValue) (old new : Room) (actions : Li
   pub one_each : length told ≡ events
   pub goes_on : LivesGoOn before actions told after
 
--- Lives of a disk over a medium in memory, and their answers, one for each event. The actions move the
--- disk and its medium just so, whatever the contents: a fuse and a cut do exactly what they say, a start
--- that was not cut stood on contents that stand for something, a step in the background is one step.
--- The actions in which the medium refused a call are at most as many as the calls that it refused. The
--- power of the medium that comes back is on, nothing is unflushed, and no fuse is armed.
+-- Lives of a disk over a medium in memory, and their answers, one for each event. The actions move
+-- the disk and its medium just so, whatever the contents: a fuse and a cut do exactly what they
+-- say, a start that was not cut stood on contents that stand for something, a step in the
+-- background is one step. The actions in which the medium refused a call are at most as many as the
+-- calls that it refused. The power of the medium that comes back is on, nothing is unflushed, and
+-- no fuse is armed.
 pub record AreLived (before : Sim) (identity : Identification) (lives : List Life)
     (told : List Answer) (after : Sim) : Type 0 where
   pub one_each : length told ≡ events_in lives

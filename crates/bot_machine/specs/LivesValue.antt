@@ -90,9 +90,9 @@ pub record LivesGoTo (after : LivesValue) (here : Standing) (actions : List Acti
   pub fits : FitsLives after there
   pub ours : (book_at there.place).ours ≡ (book_at here.place).ours
 
--- Lives go on by these actions, with these answers: so does the disk itself, and so do the lives of each
--- book. The actions in which the medium refused a call are the same, and at most as many as the calls
--- that it refused.
+-- Lives go on by these actions, with these answers: so does the disk itself, and so do the lives of
+-- each book. The actions in which the medium refused a call are the same, and at most as many as
+-- the calls that it refused.
 pub record LivesGoOn (before : LivesValue) (actions : List Action) (answers : List Answer)
     (after : LivesValue) : Type 0 where
   pub refusals : List Bool

@@ -49,8 +49,8 @@ abbrev pub StartMoves : Identification → Stage → Stage → Type 0
 StartMoves identity (Rests medium) new = StartsIn medium.power.off identity medium new
 StartMoves identity (Runs disk) new = new ≡ Runs disk
 
--- An event came to a disk whose power was on: one step of the disk. Its own answer is given where the
--- power is still on.
+-- An event came to a disk whose power was on: one step of the disk. Its own answer is given where
+-- the power is still on.
 pub record IsPlayed (old : DiskValue Sim) (event : Event) (answer : Answer) (new : DiskValue Sim)
     : Type 0 where
   pub told : Answer

@@ -26,8 +26,8 @@ pub record LeavesOnly (P : Image → Type 0) (old new : State) : Type 0 where
 abbrev pub StaysWithin : Sets → State → State → Type 0
 StaysWithin bound old new = LeavesOnly (CutLeaves bound) old new
 
--- The sectors from this one on are spared: they hold what they held, and a cut, now or at any moment since
--- old, leaves in them only what it could have left before.
+-- The sectors from this one on are spared: they hold what they held, and a cut, now or at any
+-- moment since old, leaves in them only what it could have left before.
 pub record SparesFrom (first : ℕ) (old new : State) : Type 0 where
   pub content : (s : ℕ) → first ≤ s → new.content s ≡ old.content s
   pub sets : (s : ℕ) (c : List ℕ) → first ≤ s → new.may_leave s c → old.may_leave s c

@@ -11,8 +11,8 @@ read_fault read.TooLong = TooLong
 read_fault read.NoMemory = NoMemory
 read_fault read.Reader = Reader
 
--- How far a reader was read that was not read to its end within a limit: by more bytes than the limit,
--- or by no more; and where memory ran out by at least one.
+-- How far a reader was read that was not read to its end within a limit: by more bytes than the
+-- limit, or by no more; and where memory ran out by at least one.
 abbrev pub IsReadSoFar : ReadFault → ℕ → Option (List ℕ) → Option (List ℕ) → Type 0
 IsReadSoFar read.TooLong limit was now =
     (bytes : List ℕ) × Consumes was now bytes × (limit < length bytes)
