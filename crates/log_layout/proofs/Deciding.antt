@@ -1,29 +1,25 @@
--- Whether bytes spell a value, and whether a record is whole: each is so or not.
+-- Whether bytes spell a value: each is so or not.
 use Rattle.std.proofs.Common.{◌≡◌, ◌⊎◌, inl, inr, ⊎_elim, ℕ, zero, suc, ◌+◌, ◌*◌, ◌-◌, ◌^◌, ◌<◌, ◌≤◌, List, [], ◌∷◌, length, get_or, refl, sym, ◌∙◌, ap, subst, arith}
 use Rattle.std.specs.Prelude.{All}
 use Rattle.std.proofs.lemmas.Grind.{get_or_default_zero}
 use Rattle.std.proofs.lemmas.Bool.{cases_eq, cases_lt}
-use Rattle.medium.specs.Medium.{Image}
-use Rattle.log_layout.specs.Places.{Shape, slot_place, first_home}
+use Rattle.log_layout.specs.declared.log_format.LogFormat.{LogFormat}
+use Rattle.log_layout.specs.declared.log_format.LogFormat.TheVariants.{One, Two}
+use Rattle.log_layout.specs.Places.{Shape, IsFirstHome, slot_sectors_of, gap_of}
 use Rattle.log_layout.specs.Spelling.{spelling, number_in, super_mark, head_mark, descriptor_mark, commit_mark}
-use Rattle.log_layout.specs.Sectors.{IsSuper, IsHead, IsRising, AreBlockNumbers, IsDescriptor, IsCommit}
-use Rattle.log_layout.specs.Record.{Entry, numbers_of, entries_in, HasWhole}
-use Rattle.log_layout.specs.Standing.{IsCount}
-use Rattle.log_layout.proofs.Spelling.{IsDescriptor-stamp, IsDescriptor-numbers, IsCommit-stamp}
-use Rattle.log_layout.proofs.Decoding.{head_stamp, commit_stamp, commit_count, descriptor_stamp, descriptor_numbers, super_blocks, super_slots}
-use Rattle.log_layout.proofs.Wholeness.{whole_in}
-use Rattle.std.proofs.lemmas.List.{length-map}
+use Rattle.log_layout.specs.Sectors.{version_of, IsSuper, IsHead, IsRising, AreBlockNumbers, IsDescriptor, IsCommit}
+use Rattle.log_layout.proofs.Decoding.{head_stamp, commit_stamp, commit_count, descriptor_stamp, descriptor_numbers, super_blocks, super_slots, super_home}
 
 -- so or not
 abbrev pub Decided : Type 0 → Type 0
 Decided P = P ⊎ (¬ P)
 
 -- both or not both
-both : {P Q : Type 0} → Decided P → Decided Q → Decided (P × Q)
+pub both : {P Q : Type 0} → Decided P → Decided Q → Decided (P × Q)
 both p q = ⊎_elim (λ h. ⊎_elim (λ k. inl (h, k)) (λ n. inr (λ w. n w.1)) q) (λ n. inr (λ w. n w.0)) p
 
 -- what has the same meaning
-along : {P Q : Type 0} → (P → Q) → (Q → P) → Decided P → Decided Q
+pub along : {P Q : Type 0} → (P → Q) → (Q → P) → Decided P → Decided Q
 along f g p = ⊎_elim (λ h. inl (f h)) (λ n. inr (λ q. n (g q))) p
 
 -- below or not
@@ -45,14 +41,14 @@ same_or_not (x ∷ xs) (y ∷ ys) = elim (cases_eq x y) [
 ]
 
 -- all of a list or not
-all_or_not : (P : ℕ → Type 0) → ((x : ℕ) → Decided (P x)) → (xs : List ℕ) → Decided (All P xs)
+pub all_or_not : {A : Type 0} (P : A → Type 0) → ((x : A) → Decided (P x)) → (xs : List A) → Decided (All P xs)
 all_or_not P each [] = inl (λ k d below. absurd (omega arith))
 all_or_not P each (x ∷ xs) = elim (each x) [
   | inl first ↦ elim (all_or_not P each xs) [
     | inl rest ↦ inl (joined first rest)
     | inr not ↦ inr (λ all. not (λ k d below. all (suc k) d (omega arith)))
   ]
-  | inr not ↦ inr (λ all. not (all 0 0 (omega arith)))
+  | inr not ↦ inr (λ all. not (all 0 x (omega arith)))
 ]
   where
     joined : P x → All P xs → All P (x ∷ xs)
@@ -60,7 +56,7 @@ all_or_not P each (x ∷ xs) = elim (each x) [
     joined first rest (suc k) d below = rest k d (omega arith)
 
 -- numbers rise or not
-rising_or_not : (numbers : List ℕ) → Decided (IsRising numbers)
+pub rising_or_not : (numbers : List ℕ) → Decided (IsRising numbers)
 rising_or_not [] = inl (λ i j less below. absurd (omega arith))
 rising_or_not (x ∷ xs) = elim (all_or_not (λ y. x < y) (below_or_not x) xs) [
   | inl above ↦ elim (rising_or_not xs) [
@@ -143,94 +139,55 @@ descriptor_or_not bytes =
     ))
     (both (same_or_not bytes (spelling (descriptor_mark ∷ s ∷ length ns ∷ ns))) (both (at_most_or_not 1 s) (both (below_or_not s (2 ^ 63 - 1)) (block_numbers_or_not ns))))
 
--- a sector is a super or not
-pub super_or_not : (bytes : List ℕ) → Decided ((shape : Shape) × IsSuper shape bytes)
-super_or_not bytes =
+-- home begins where it has to or not
+pub first_home_or_not : (format : LogFormat) (slots home : ℕ) → Decided (IsFirstHome format slots home)
+first_home_or_not format slots home =
+    let end : ℕ = 2 + slot_sectors_of format * slots in
+    both (at_most_or_not end home) (below_or_not home (end + gap_of format))
+
+-- a sector is a super of this format or not
+super_of_format : (format : LogFormat) (bytes : List ℕ) → Decided ((shape : Shape) × (shape.format ≡ format) × IsSuper shape bytes)
+super_of_format format bytes =
     let n = number_in bytes 2 in
     let k = number_in bytes 3 in
-    let shape : Shape = record { blocks = n; slots = k } in
-    along (λ h. (shape, record { spelled = h.0; some_blocks = h.1.0; most_blocks = h.1.1.0; some_slots = h.1.1.1.0; most_slots = h.1.1.1.1 }))
-    (λ h. let s = h.1 in
-    let blocks : n ≡ h.0.blocks = super_blocks h.0 bytes s in
-    let slots : k ≡ h.0.slots = super_slots h.0 bytes s in (
-      s.spelled ∙ ap (λ (x : ℕ). spelling (super_mark ∷ 1 ∷ x ∷ h.0.slots ∷ 2 ∷ first_home h.0 ∷ [])) (sym blocks)
-          ∙ ap (λ (x : ℕ). spelling (super_mark ∷ 1 ∷ n ∷ x ∷ 2 ∷ (2 + 50 * x) ∷ [])) (sym slots),
-      (subst (λ x. 1 ≤ x) (sym blocks) s.some_blocks, (subst (λ x. x ≤ 2 ^ 31) (sym blocks) s.most_blocks, (subst (λ x. 1 ≤ x) (sym slots) s.some_slots, subst (λ x. x ≤ 64) (sym slots) s.most_slots))),
-    ))
-    (both (same_or_not bytes (spelling (super_mark ∷ 1 ∷ n ∷ k ∷ 2 ∷ first_home shape ∷ []))) (both (at_most_or_not 1 n) (both (at_most_or_not n (2 ^ 31)) (both (at_most_or_not 1 k) (at_most_or_not k 64)))))
-
--- a record is whole or not
-pub whole_or_not : (shape : Shape) (image : Image) (stamp : ℕ)
-    → Decided (HasWhole shape image stamp)
-whole_or_not shape image stamp = elim (descriptor_or_not (image place)) [
-  | inl d ↦ elim (commit_or_not (image (place + 49))) [
-    | inl c ↦ by_parts d.0 d.1 d.2 c.0 c.1 c.2
-    | inr not ↦ inr (λ w. not (stamp, length w.0, w.1.commit))
-  ]
-  | inr not ↦ inr (λ w. not (stamp, numbers_of w.0, w.1.descriptor))
-]
-  where
-    place : ℕ
-    place = slot_place shape stamp
-
-    by_parts : (s : ℕ) (numbers : List ℕ) → IsDescriptor s numbers (image (slot_place shape stamp))
-        → (t count : ℕ) → IsCommit t count (image (slot_place shape stamp + 49))
-        → Decided (HasWhole shape image stamp)
-    by_parts s numbers d t count c =
-        along (λ h. (
-          entries_in image (slot_place shape stamp + 1) numbers,
-          whole_in shape image stamp count numbers (image (slot_place shape stamp)) (image (slot_place shape stamp + 49)) refl refl
-              (subst (λ x. IsDescriptor x numbers (image (slot_place shape stamp))) h.0 d) (subst (λ x. IsCommit x count (image (slot_place shape stamp + 49))) h.1.0 c) h.1.1.0 h.1.1.1,
-        ))
-        (λ w. let same : numbers ≡ numbers_of w.0 = IsDescriptor-numbers s stamp numbers (numbers_of w.0) (image (slot_place shape stamp)) d w.1.descriptor in
-        let many : count ≡ length w.0 = sym (commit_count t count (image (slot_place shape stamp + 49)) c)
-        ∙ commit_count stamp (length w.0) (image (slot_place shape stamp + 49)) w.1.commit in (
-          IsDescriptor-stamp s stamp numbers (numbers_of w.0) (image (slot_place shape stamp)) d w.1.descriptor,
+    let h = number_in bytes 5 in
+    let shape : Shape = record { format = format; blocks = n; slots = k; home = h } in
+    along (λ w. (shape, refl, record { spelled = w.0; some_blocks = w.1.0; most_blocks = w.1.1.0; some_slots = w.1.1.1.0; most_slots = w.1.1.1.1.0; home_is = w.1.1.1.1.1 }))
+    (λ w. let s = w.2 in
+    let blocks : n ≡ w.0.blocks = super_blocks w.0 bytes s in
+    let slots : k ≡ w.0.slots = super_slots w.0 bytes s in
+    let home : h ≡ w.0.home = super_home w.0 bytes s in (
+      s.spelled
+          ∙ ap (λ (f : LogFormat). spelling (super_mark ∷ version_of f ∷ w.0.blocks ∷ w.0.slots ∷ 2 ∷ w.0.home ∷ [])) w.1
+          ∙ ap (λ (x : ℕ). spelling (super_mark ∷ version_of format ∷ x ∷ w.0.slots ∷ 2 ∷ w.0.home ∷ [])) (sym blocks)
+          ∙ ap (λ (x : ℕ). spelling (super_mark ∷ version_of format ∷ n ∷ x ∷ 2 ∷ w.0.home ∷ [])) (sym slots)
+          ∙ ap (λ (x : ℕ). spelling (super_mark ∷ version_of format ∷ n ∷ k ∷ 2 ∷ x ∷ [])) (sym home),
+      (
+        subst (λ x. 1 ≤ x) (sym blocks) s.some_blocks,
+        (
+          subst (λ x. x ≤ 2 ^ 31) (sym blocks) s.most_blocks,
           (
-            IsCommit-stamp t stamp count (length w.0) (image (slot_place shape stamp + 49)) c w.1.commit,
-            (omega (arith, ap length same, many, length-map w.0 (λ (e : Entry). e.0)), subst (All (λ b. b < shape.blocks)) (sym same) w.1.inside),
+            subst (λ x. 1 ≤ x) (sym slots) s.some_slots,
+            (
+              subst (λ x. x ≤ 64) (sym slots) s.most_slots,
+              subst (λ (x : ℕ). IsFirstHome format k x) (sym home) (subst (λ (x : ℕ). IsFirstHome format x w.0.home) (sym slots) (subst (λ (f : LogFormat). IsFirstHome f w.0.slots w.0.home) w.1 s.home_is)),
+            ),
           ),
-        ))
-        (both (cases_eq s stamp) (both (cases_eq t stamp) (both (cases_eq (length numbers) count) (all_or_not (λ b. b < shape.blocks) (λ b. below_or_not b shape.blocks) numbers))))
+        ),
+      ),
+    ))
+    (both (same_or_not bytes (spelling (super_mark ∷ version_of format ∷ n ∷ k ∷ 2 ∷ h ∷ []))) (both (at_most_or_not 1 n) (both (at_most_or_not n (2 ^ 31)) (both (at_most_or_not 1 k) (both (at_most_or_not k 64) (first_home_or_not format k h))))))
 
--- how many whole records follow a stamp, if no more than so many are counted
-record Counted (shape : Shape) (image : Image) (head room : ℕ) : Type 0 where
-  pub count : ℕ
-  pub few : count ≤ room
-  pub whole : (j : ℕ) → j < count → HasWhole shape image (head + j)
-  pub ends : count < room → ¬ HasWhole shape image (head + count)
-
--- whole records are counted from a stamp on
-counted : (shape : Shape) (image : Image) (head room : ℕ) → Counted shape image head room
-counted shape image head zero = record { count = 0; few = omega arith; whole = λ j below. absurd (omega arith); ends = λ less. absurd (omega arith) }
-counted shape image head (suc room) = elim (whole_or_not shape image head) [
-  | inl w ↦ longer w (counted shape image (head + 1) room)
-  | inr not ↦ none not
+-- a sector is a super or not
+pub super_or_not : (bytes : List ℕ) → Decided ((shape : Shape) × IsSuper shape bytes)
+super_or_not bytes = elim (super_of_format One bytes) [
+  | inl one ↦ inl (one.0, one.2)
+  | inr no_one ↦ elim (super_of_format Two bytes) [
+    | inl two ↦ inl (two.0, two.2)
+    | inr no_two ↦ inr (λ w. neither w.0 w.0.format refl w.1 no_one no_two)
+  ]
 ]
   where
-    none : (¬ HasWhole shape image head) → Counted shape image head (suc room)
-    none not = record {
-      count = 0;
-      few = omega arith;
-      whole = λ j below. absurd (omega arith);
-      ends = λ less w. not (let e : head + 0 ≡ head = omega arith in subst (HasWhole shape image) e w);
-    }
-
-    each : (c : Counted shape image (head + 1) room) → HasWhole shape image head → (j : ℕ)
-        → j < suc c.count → HasWhole shape image (head + j)
-    each c w zero below = let e : head ≡ head + 0 = omega arith in subst (HasWhole shape image) e w
-    each c w (suc j) below = let e : head + 1 + j ≡ head + suc j = omega arith in subst (HasWhole shape image) e (c.whole j (omega arith))
-
-    longer : HasWhole shape image head → Counted shape image (head + 1) room
-        → Counted shape image head (suc room)
-    longer w c = record {
-      count = suc c.count;
-      few = omega (arith, c.few);
-      whole = each c w;
-      ends = λ less v. c.ends (omega arith) (let e : head + suc c.count ≡ head + 1 + c.count = omega arith in subst (HasWhole shape image) e v);
-    }
-
--- each image has a count of whole records from each stamp on
-pub count_of : (shape : Shape) (image : Image) (head : ℕ) → (count : ℕ)
-    × IsCount shape image head count
-count_of shape image head = let c = counted shape image head shape.slots in (c.count, record { few = c.few; whole = c.whole; ends = c.ends })
+    neither : (shape : Shape) (f : LogFormat) → shape.format ≡ f → IsSuper shape bytes → (¬ ((s : Shape) × (s.format ≡ One) × IsSuper s bytes)) → (¬ ((s : Shape) × (s.format ≡ Two) × IsSuper s bytes)) → ⊥
+    neither shape One is s no_one no_two = no_one (shape, is, s)
+    neither shape Two is s no_one no_two = no_two (shape, is, s)

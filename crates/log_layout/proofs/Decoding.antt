@@ -1,10 +1,12 @@
 -- What a sector's numbers say of the value that it spells.
-use Rattle.std.proofs.Common.{◌≡◌, ℕ, zero, suc, ◌+◌, ◌^◌, ◌<◌, List, [], ◌∷◌, length, drop, get_or, ap, sym, ◌∙◌, arith}
+use Rattle.std.proofs.Common.{◌≡◌, ◌⊎◌, inl, inr, ⊎_elim, refl, ℕ, zero, suc, ◌+◌, ◌^◌, ◌<◌, ◌≤◌, ◌*◌, List, [], ◌∷◌, length, drop, get_or, ap, sym, ◌∙◌, arith}
 use Rattle.std.specs.Prelude.{All}
 use Rattle.std.proofs.lemmas.List.{ext_get_or}
-use Rattle.log_layout.specs.Places.{Shape, first_home}
+use Rattle.log_layout.specs.Places.{Shape, IsFirstHome, slot_sectors_of, gap_of}
+use Rattle.log_layout.specs.declared.log_format.LogFormat.{LogFormat}
+use Rattle.log_layout.specs.declared.log_format.LogFormat.TheVariants.{One, Two}
 use Rattle.log_layout.specs.Spelling.{number_in, super_mark, head_mark, descriptor_mark, commit_mark}
-use Rattle.log_layout.specs.Sectors.{IsSuper, IsHead, IsDescriptor, IsCommit}
+use Rattle.log_layout.specs.Sectors.{version_of, IsSuper, IsHead, IsDescriptor, IsCommit}
 use Rattle.log_layout.specs.SuperFaults.{HasMagic, HasVersion, HasZeroRest}
 use Rattle.log_layout.proofs.Spelling.{spelling-get, spelling-rest}
 
@@ -29,6 +31,12 @@ module _ (stamp : ℕ) (numbers bytes : List ℕ) (d : IsDescriptor stamp number
   pub descriptor_count : number_in bytes 2 ≡ length numbers
   descriptor_count = spelling-get 2 (descriptor_mark ∷ stamp ∷ length numbers ∷ numbers) bytes (omega arith) (descriptor_fits stamp numbers bytes d) d.spelled
 
+  -- each of its block numbers
+  pub descriptor_number : (i : ℕ) → i < length numbers → number_in bytes (3 + i) ≡ get_or numbers i 0
+  descriptor_number i below =
+      spelling-get (3 + i) (descriptor_mark ∷ stamp ∷ length numbers ∷ numbers) bytes (omega arith) (descriptor_fits stamp numbers bytes d) d.spelled
+      ∙ behind_three descriptor_mark stamp (length numbers) i numbers
+
   -- a list that was read as its block numbers is its block numbers
   pub descriptor_numbers : (count : ℕ) (list : List ℕ) → count ≡ number_in bytes 2
       → length list ≡ count
@@ -40,33 +48,68 @@ module _ (stamp : ℕ) (numbers bytes : List ℕ) (d : IsDescriptor stamp number
       ∙ spelling-get (3 + i) (descriptor_mark ∷ stamp ∷ length numbers ∷ numbers) bytes (omega (arith, size, same)) (descriptor_fits stamp numbers bytes d) d.spelled
       ∙ behind_three descriptor_mark stamp (length numbers) i numbers)
 
+-- the version of a format is a small number
+pub version_small : (format : LogFormat) → version_of format ≤ 2
+version_small One = omega arith
+version_small Two = omega arith
+
+-- formats of one version are one
+pub version_one : (a b : LogFormat) → version_of a ≡ version_of b → a ≡ b
+version_one One One e = refl
+version_one One Two e = absurd (omega arith)
+version_one Two One e = absurd (omega arith)
+version_one Two Two e = refl
+
+-- a format has version 1 or 2
+pub version_known : (format : LogFormat) → (version_of format ≡ 1) ⊎ (version_of format ≡ 2)
+version_known One = inl refl
+version_known Two = inr refl
+
+-- home is near the log
+pub home_near : (format : LogFormat) (slots home : ℕ) → IsFirstHome format slots home → home ≤ 2 + 249 * (slots + 1)
+home_near One slots home h = omega (arith, h.1)
+home_near Two slots home h = omega (arith, h.1)
+
+-- a slot has a few sectors, and so has the gap
+pub few_sectors : (format : LogFormat) → (slot_sectors_of format ≤ 249) × (gap_of format ≤ 249)
+few_sectors One = (omega arith, omega arith)
+few_sectors Two = (omega arith, omega arith)
+
 -- the numbers of a super fit eight bytes
 super_fits : (shape : Shape) (bytes : List ℕ) → IsSuper shape bytes
-    → All (λ n. n < 2 ^ 64) (super_mark ∷ 1 ∷ shape.blocks ∷ shape.slots ∷ 2 ∷ first_home shape ∷ [])
+    → All (λ n. n < 2 ^ 64) (super_mark ∷ version_of shape.format ∷ shape.blocks ∷ shape.slots ∷ 2 ∷ shape.home ∷ [])
 super_fits shape bytes s zero x below = omega arith
-super_fits shape bytes s (suc zero) x below = omega arith
+super_fits shape bytes s (suc zero) x below = omega (arith, version_small shape.format)
 super_fits shape bytes s (suc (suc zero)) x below = omega (arith, s.most_blocks)
 super_fits shape bytes s (suc (suc (suc zero))) x below = omega (arith, s.most_slots)
 super_fits shape bytes s (suc (suc (suc (suc zero)))) x below = omega arith
-super_fits shape bytes s (suc (suc (suc (suc (suc zero))))) x below = omega (arith, s.most_slots)
+super_fits shape bytes s (suc (suc (suc (suc (suc zero))))) x below = omega (arith, s.most_slots, home_near shape.format shape.slots shape.home s.home_is)
 super_fits shape bytes s (suc (suc (suc (suc (suc (suc k)))))) x below = absurd (omega arith)
 
 module _ (shape : Shape) (bytes : List ℕ) (s : IsSuper shape bytes) where
   -- how many blocks a super has
   pub super_blocks : number_in bytes 2 ≡ shape.blocks
-  super_blocks = spelling-get 2 (super_mark ∷ 1 ∷ shape.blocks ∷ shape.slots ∷ 2 ∷ first_home shape ∷ []) bytes (omega arith) (super_fits shape bytes s) s.spelled
+  super_blocks = spelling-get 2 (super_mark ∷ version_of shape.format ∷ shape.blocks ∷ shape.slots ∷ 2 ∷ shape.home ∷ []) bytes (omega arith) (super_fits shape bytes s) s.spelled
 
   -- how many slots it has
   pub super_slots : number_in bytes 3 ≡ shape.slots
-  super_slots = spelling-get 3 (super_mark ∷ 1 ∷ shape.blocks ∷ shape.slots ∷ 2 ∷ first_home shape ∷ []) bytes (omega arith) (super_fits shape bytes s) s.spelled
+  super_slots = spelling-get 3 (super_mark ∷ version_of shape.format ∷ shape.blocks ∷ shape.slots ∷ 2 ∷ shape.home ∷ []) bytes (omega arith) (super_fits shape bytes s) s.spelled
+
+  -- where home begins
+  pub super_home : number_in bytes 5 ≡ shape.home
+  super_home = spelling-get 5 (super_mark ∷ version_of shape.format ∷ shape.blocks ∷ shape.slots ∷ 2 ∷ shape.home ∷ []) bytes (omega arith) (super_fits shape bytes s) s.spelled
+
+  -- its version
+  pub super_version : number_in bytes 1 ≡ version_of shape.format
+  super_version = spelling-get 1 (super_mark ∷ version_of shape.format ∷ shape.blocks ∷ shape.slots ∷ 2 ∷ shape.home ∷ []) bytes (omega arith) (super_fits shape bytes s) s.spelled
 
   -- a super has no fault
   pub super_begins : HasMagic bytes × HasVersion bytes × HasZeroRest bytes
   super_begins = (
-    spelling-get 0 (super_mark ∷ 1 ∷ shape.blocks ∷ shape.slots ∷ 2 ∷ first_home shape ∷ []) bytes (omega arith) (super_fits shape bytes s) s.spelled,
-    spelling-get 1 (super_mark ∷ 1 ∷ shape.blocks ∷ shape.slots ∷ 2 ∷ first_home shape ∷ []) bytes (omega arith) (super_fits shape bytes s) s.spelled,
+    spelling-get 0 (super_mark ∷ version_of shape.format ∷ shape.blocks ∷ shape.slots ∷ 2 ∷ shape.home ∷ []) bytes (omega arith) (super_fits shape bytes s) s.spelled,
+    ⊎_elim (λ e. inl (super_version ∙ e)) (λ e. inr (super_version ∙ e)) (version_known shape.format),
     ap (λ (l : List ℕ). drop 48 l) s.spelled
-        ∙ spelling-rest (super_mark ∷ 1 ∷ shape.blocks ∷ shape.slots ∷ 2 ∷ first_home shape ∷ []),
+        ∙ spelling-rest (super_mark ∷ version_of shape.format ∷ shape.blocks ∷ shape.slots ∷ 2 ∷ shape.home ∷ []),
   )
 
 -- a super spells one shape
@@ -74,10 +117,15 @@ pub IsSuper-one : (a b : Shape) (bytes : List ℕ) → IsSuper a bytes → IsSup
 IsSuper-one a b bytes s t =
     let blocks : a.blocks ≡ b.blocks = sym (super_blocks a bytes s) ∙ super_blocks b bytes t in
     let slots : a.slots ≡ b.slots = sym (super_slots a bytes s) ∙ super_slots b bytes t in
-    ap (λ (n : ℕ). make n a.slots) blocks ∙ ap (λ (n : ℕ). make b.blocks n) slots
+    let home : a.home ≡ b.home = sym (super_home a bytes s) ∙ super_home b bytes t in
+    let format : a.format ≡ b.format = version_one a.format b.format (sym (super_version a bytes s) ∙ super_version b bytes t) in
+    ap (λ (f : LogFormat). make f a.blocks a.slots a.home) format
+    ∙ ap (λ (n : ℕ). make b.format n a.slots a.home) blocks
+    ∙ ap (λ (n : ℕ). make b.format b.blocks n a.home) slots
+    ∙ ap (λ (n : ℕ). make b.format b.blocks b.slots n) home
   where
-    make : ℕ → ℕ → Shape
-    make n k = record { blocks = n; slots = k }
+    make : LogFormat → ℕ → ℕ → ℕ → Shape
+    make f n k h = record { format = f; blocks = n; slots = k; home = h }
 
 -- the stamp of a head
 pub head_stamp : (stamp : ℕ) (bytes : List ℕ) → IsHead stamp bytes → number_in bytes 1 ≡ stamp

@@ -1,8 +1,7 @@
 pub mod Spelling
 pub mod Decoding
-pub mod Overlay
-pub mod Slots
-pub mod Wholeness
-pub mod StandingLaws
 pub mod Deciding
-pub mod FaultLaws
+pub mod BytesTwo
+pub mod Padding
+pub mod EntriesTwo
+pub mod RecordTwo

@@ -2,8 +2,7 @@ pub mod Places
 pub mod Spelling
 pub mod Sectors
 pub mod SuperFaults
+pub mod Entry
+pub mod SectorsTwo
 pub mod Values
-pub mod Record
-pub mod Standing
-pub mod ImageFaults
 pub mod Laws

@@ -1,16 +1,24 @@
 -- What the bytes of a super, a head, a descriptor and a commit are.
 use Rattle.std.specs.Prelude.{◌≡◌, ◌≤◌, ◌<◌, ℕ, ◌-◌, ◌^◌, List, [], ◌∷◌, length, slice_index, All}
-use Rattle.log_layout.specs.Places.{Shape, first_home}
+use Rattle.log_layout.specs.declared.log_format.LogFormat.{LogFormat}
+use Rattle.log_layout.specs.declared.log_format.LogFormat.TheVariants.{One, Two}
+use Rattle.log_layout.specs.Places.{Shape, IsFirstHome}
 use Rattle.log_layout.specs.Spelling.{spelling, super_mark, head_mark, descriptor_mark, commit_mark}
 
--- the bytes of a super: version 1, the sizes, and the first sectors of log and home
+-- the version that a super has for its format
+abbrev pub version_of : LogFormat → ℕ
+version_of One = 1
+version_of Two = 2
+
+-- the bytes of a super: the version, the sizes, and the first sectors of log and home
 pub record IsSuper (shape : Shape) (bytes : List ℕ) : Type 0 where
   pub spelled : bytes
-      ≡ spelling (super_mark ∷ 1 ∷ shape.blocks ∷ shape.slots ∷ 2 ∷ first_home shape ∷ [])
+      ≡ spelling (super_mark ∷ version_of shape.format ∷ shape.blocks ∷ shape.slots ∷ 2 ∷ shape.home ∷ [])
   pub some_blocks : 1 ≤ shape.blocks
   pub most_blocks : shape.blocks ≤ 2 ^ 31
   pub some_slots : 1 ≤ shape.slots
   pub most_slots : shape.slots ≤ 64
+  pub home_is : IsFirstHome shape.format shape.slots shape.home
 
 -- the bytes of a head, whose stamp is that of the oldest record that may be needed
 pub record IsHead (stamp : ℕ) (bytes : List ℕ) : Type 0 where

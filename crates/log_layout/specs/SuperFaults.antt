@@ -1,5 +1,5 @@
 -- What is wrong with a sector that should be a super.
-use Rattle.std.specs.Prelude.{◌≡◌, ℕ, List, drop, replicate}
+use Rattle.std.specs.Prelude.{◌≡◌, ◌⊎◌, ℕ, List, drop, replicate}
 use Rattle.log_layout.specs.declared.super_fault.SuperFault.{SuperFault}
 use Rattle.log_layout.specs.declared.super_fault.SuperFault.TheVariants.{Magic, Version, Rest, Sizes}
 use Rattle.log_layout.specs.Places.{Shape}
@@ -10,9 +10,9 @@ use Rattle.log_layout.specs.Sectors.{IsSuper}
 abbrev pub HasMagic : List ℕ → Type 0
 HasMagic bytes = number_in bytes 0 ≡ super_mark
 
--- its version is 1
+-- its version is 1 or 2
 abbrev pub HasVersion : List ℕ → Type 0
-HasVersion bytes = number_in bytes 1 ≡ 1
+HasVersion bytes = (number_in bytes 1 ≡ 1) ⊎ (number_in bytes 1 ≡ 2)
 
 -- behind its six numbers there are zeros
 abbrev pub HasZeroRest : List ℕ → Type 0

@@ -4,4 +4,9 @@ use Rattle.log_layout.specs.Places.{Shape}
 
 -- the shape of a medium with this super
 abbrev pub shape_of : Super → Shape
-shape_of sizes = record { blocks = sizes.blocks; slots = sizes.slots }
+shape_of sizes = record {
+  format = sizes.format;
+  blocks = sizes.blocks;
+  slots = sizes.slots;
+  home = sizes.home;
+}

@@ -103,8 +103,8 @@ fn are_block_numbers(numbers: &[u64]) -> bool
         && numbers.iter().all(|b| *b < 1 << 31)
 }
 
-// Whether each number is below the next.
-fn are_rising(numbers: &[u64]) -> bool
+/// Whether each number is below the next.
+pub(crate) fn are_rising(numbers: &[u64]) -> bool
     ensures { IsTrue result ↔ IsRising numbers.now }
 {
     for i in 1..numbers.len() {

@@ -39,3 +39,11 @@ pub fn commit_place(slot: u64) -> u64
 {
     place_of(slot) + SLOT_SECTORS - 1
 }
+
+/// The first sector of a slot of format 2, which holds the first descriptor of its record.
+pub fn place_of2(slot: u64) -> u64
+    requires { slot < 64 }
+    ensures { result ≡ 2 + 249 * slot }
+{
+    FIRST_SLOT + 249 * slot
+}

@@ -6,7 +6,7 @@ pub enum SuperFault {
     /// It does not begin with the mark `RDSUPER1`.
     #[error("no super")]
     Magic = 1,
-    /// Its version is not 1.
+    /// Its version is neither 1 nor 2.
     #[error("another version")]
     Version = 2,
     /// Behind its fields there are bytes that are not zero.

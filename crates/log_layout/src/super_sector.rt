@@ -1,61 +1,64 @@
-//! The super: how many blocks and log slots a medium has.
-ghost use Rattle.std.specs.Prelude.{◌≡◌, ◌≤◌, ◌<◌, ◌+◌, ◌*◌, ◌^◌, IfOk, IsOkAnd, IfErr};
+//! The super: the format of a medium, and how many blocks and log slots it has.
+ghost use Rattle.std.specs.Prelude.{◌≡◌, ◌⊎◌, ◌≤◌, ◌<◌, ◌+◌, ◌*◌, ◌^◌, IsTrue, ◌↔◌, IfOk, IsOkAnd, IfErr, IfSome, IsSomeAnd};
+ghost use Rattle.log_layout.specs.Places.{IsFirstHome, slot_sectors_of};
+ghost use Rattle.log_layout.specs.Sectors.{version_of};
 
-use crate::SuperFault;
 use crate::fields::{has_zero_rest, mark_number, number_at, put};
-use crate::places::{FIRST_SLOT, SLOT_SECTORS};
+use crate::places::FIRST_SLOT;
+use crate::{LogFormat, SuperFault};
 
 /// What sector 0 holds.
 #[derive(Clone, Copy, Debug, PartialEq, Eq)]
 pub struct Super {
+    pub format: LogFormat,
     /// How many logical blocks there are, 1 to 2^31.
     pub blocks: u64,
     /// How many slots the log has, 1 to 64.
     pub slots: u64,
+    /// The first sector behind the log, which holds block 0.
+    pub home: u64,
     pub ghost some_blocks: { 1 ≤ blocks },
     pub ghost most_blocks: { blocks ≤ 2 ^ 31 },
     pub ghost some_slots: { 1 ≤ slots },
     pub ghost most_slots: { slots ≤ 64 },
+    pub ghost home_is: { IsFirstHome format slots home },
 }
 
 impl Super {
-    ghost use Rattle.log_layout.specs.Places.{Shape};
+    ghost use Rattle.log_layout.specs.Places.{Shape, new_shape};
     ghost use Rattle.log_layout.specs.Sectors.{IsSuper};
     ghost use Rattle.log_layout.specs.SuperFaults.{IsSuperFault};
     ghost use Rattle.log_layout.specs.Values.{shape_of};
 
-    /// The super of a medium with so many blocks and slots.
-    pub fn new(blocks: u64, slots: u64) -> Super
+    /// The super of a new medium of this format with so many blocks and slots.
+    pub fn new(format: LogFormat, blocks: u64, slots: u64) -> Super
         requires some_blocks { 1 ≤ blocks }
         requires most_blocks { blocks ≤ 2 ^ 31 }
         requires some_slots { 1 ≤ slots }
         requires most_slots { slots ≤ 64 }
-        ensures blocks { result.blocks ≡ blocks }
-        ensures slots { result.slots ≡ slots }
+        ensures { shape_of result ≡ new_shape format blocks slots }
     {
-        Super { blocks, slots }
-    }
-
-    /// The first sector behind the log, which holds block 0.
-    pub fn first_home(&self) -> u64
-        ensures { result ≡ 2 + 50 * self.now.slots }
-    {
-        FIRST_SLOT + SLOT_SECTORS * self.slots
+        Super {
+            format,
+            blocks,
+            slots,
+            home: FIRST_SLOT + format.slot_sectors() * slots,
+        }
     }
 
     /// The home sector of a block.
     pub fn home_of(&self, block: u64) -> u64
         requires { block < self.now.blocks }
-        ensures { result ≡ 2 + 50 * self.now.slots + block }
+        ensures { result ≡ self.now.home + block }
     {
-        self.first_home() + block
+        self.home + block
     }
 
     /// How many sectors the super, the head, the log and the blocks at home take.
     pub fn sectors(&self) -> u64
-        ensures { result ≡ 2 + 50 * self.now.slots + self.now.blocks }
+        ensures { result ≡ self.now.home + self.now.blocks }
     {
-        self.first_home() + self.blocks
+        self.home + self.blocks
     }
 
     /// The bytes of the super.
@@ -64,11 +67,11 @@ impl Super {
     {
         let mut sector = [0; 512];
         put(&mut sector, 0, mark_number(b"RDSUPER1"));
-        put(&mut sector, 1, 1);
+        put(&mut sector, 1, self.format.version());
         put(&mut sector, 2, self.blocks);
         put(&mut sector, 3, self.slots);
         put(&mut sector, 4, FIRST_SLOT);
-        put(&mut sector, 5, self.first_home());
+        put(&mut sector, 5, self.home);
         sector
     }
 
@@ -82,22 +85,49 @@ impl Super {
         if number_at(sector, 0) != mark_number(b"RDSUPER1") {
             return Err(SuperFault::Magic);
         }
-        if number_at(sector, 1) != 1 {
+        let Some(format) = LogFormat::of_version(number_at(sector, 1)) else {
             return Err(SuperFault::Version);
-        }
+        };
         if !has_zero_rest(sector) {
             return Err(SuperFault::Rest);
         }
         let blocks = number_at(sector, 2);
         let slots = number_at(sector, 3);
-        if blocks < 1 || blocks > 1 << 31 || slots < 1 || slots > 64 {
+        let home = number_at(sector, 5);
+        if !are_sizes(format, blocks, slots, home) {
             return Err(SuperFault::Sizes);
         }
-        let sizes = Super { blocks, slots };
+        let sizes = Super {
+            format,
+            blocks,
+            slots,
+            home,
+        };
         if sizes.encode() == *sector {
             Ok(sizes)
         } else {
             Err(SuperFault::Sizes)
         }
     }
+}
+
+// Whether the sizes are in their limits, and home begins where it has to.
+fn are_sizes(format: LogFormat, blocks: u64, slots: u64, home: u64) -> bool
+    ensures { IsTrue result ↔ ((1 ≤ blocks) × (blocks ≤ 2 ^ 31) × (1 ≤ slots) × (slots ≤ 64)
+        × IsFirstHome format slots home) }
+{
+    1 <= blocks
+        && blocks <= 1 << 31
+        && 1 <= slots
+        && slots <= 64
+        && is_first_home(format, slots, home)
+}
+
+// Whether home begins where a log of so many slots ends, or less than a slot behind that.
+fn is_first_home(format: LogFormat, slots: u64, home: u64) -> bool
+    requires { slots ≤ 64 }
+    ensures { IsTrue result ↔ IsFirstHome format slots home }
+{
+    let end = FIRST_SLOT + format.slot_sectors() * slots;
+    end <= home && home < end + format.gap()
 }

@@ -1,10 +1,10 @@
-//! The layout's bytes as they are written down for format 1, and the numbers of its places.
+//! The layout's bytes as they are written down, and the numbers of its places.
 ghost use Rattle.std.specs.Prelude.{◌≡◌, ◌≤◌, length, IsOkAnd, IsSomeAnd};
 ghost use Rattle.log_layout.specs.Values.{shape_of};
 
 use crate::{
-    Commit, Descriptor, Head, Super, SuperFault, commit_place, data_place, place_of, slot_of,
-    whole_record,
+    Commit, Commit2, Descriptor, Descriptor2, Head, LogFormat, Super, SuperFault, commit_place,
+    data_place, data_sector2, is_data2, place_of, place_of2, slot_of, whole_record,
 };
 use std::test::Fail;
 
@@ -14,6 +14,13 @@ const SUPER: &[u8; 48] = b"RDSUPER1\x01\0\0\0\0\0\0\0\xe8\x03\0\0\0\0\0\0\
 const DESCRIPTOR: &[u8; 32] = b"RDDESCR1\x03\0\0\0\0\0\0\0\x01\0\0\0\0\0\0\0\0\0\0\0\0\0\0\0";
 
 const COMMIT: &[u8; 24] = b"RDCOMMIT\x03\0\0\0\0\0\0\0\x01\0\0\0\0\0\0\0";
+
+// Blocks 0 and 5, which begin with seven bytes of 0xaa and a 1, and with seven of 0xbb and a 2.
+const DESCRIPTOR2: &[u8; 64] = b"RDDESCR2\x03\0\0\0\0\0\0\0\x02\0\0\0\0\0\0\0\0\0\0\0\0\0\0\0\
+    \0\0\0\0\0\0\0\0\xaa\xaa\xaa\xaa\xaa\xaa\xaa\x01\
+    \x05\0\0\0\0\0\0\0\xbb\xbb\xbb\xbb\xbb\xbb\xbb\x02";
+
+const COMMIT2: &[u8; 24] = b"RDCOMMT2\x03\0\0\0\0\0\0\0\x02\0\0\0\0\0\0\0";
 
 const HEAD: &[u8; 16] = b"RDHEAD01\x02\0\0\0\0\0\0\0";
 
@@ -39,7 +46,7 @@ fn changed_super(changes: &[(usize, u8)]) -> [u8; 512] {
 
 #[test]
 fn super_of_1000_blocks_and_8_slots(rt: HostRuntime) -> Result<(), Fail> {
-    let sizes = Super::new(1000, 8);
+    let sizes = Super::new(LogFormat::One, 1000, 8);
     assert!(rt; sizes.encode() == sector_of(SUPER));
     assert_eq!(rt; Super::decode(&sector_of(SUPER)), Ok(sizes));
     Ok(())
@@ -63,6 +70,56 @@ fn record_of_stamp_3_with_block_0(rt: HostRuntime) -> Result<(), Fail> {
     assert_eq!(rt; found.numbers.as_slice(), [0].as_slice());
     assert!(rt; found.encode() == sector_of(DESCRIPTOR));
     Ok(())
+}
+
+// The bytes of blocks 0 and 5.
+fn two_blocks() -> [u8; 1024]
+    ensures { length result ≡ 1024 }
+{
+    let mut bytes = [0xaa; 1024];
+    bytes[7] = 1;
+    bytes[512..].copy_from_slice(&[0xbb; 512]);
+    bytes[519] = 2;
+    bytes
+}
+
+// The first descriptor of the record of stamp 3 with these blocks.
+fn first_descriptor(bytes: &[u8; 1024]) -> [u8; 512] {
+    Descriptor2::new(3, &[0, 5], bytes, 0).encode()
+}
+
+#[test]
+fn record_of_format_2_of_stamp_3_with_blocks_0_and_5(rt: HostRuntime) -> Result<(), Fail> {
+    assert!(rt; Commit2::new(3, 2).encode() == sector_of(COMMIT2));
+    assert_eq!(rt;
+        Commit2::decode(&sector_of(COMMIT2)),
+        Some(Commit2::new(3, 2))
+    );
+    assert!(rt; first_descriptor(&two_blocks()) == sector_of(DESCRIPTOR2));
+    let found = Descriptor2::decode(&sector_of(DESCRIPTOR2)).ok_or("no descriptor")?;
+    assert_eq!(rt; (found.stamp, found.count, found.index), (3, 2, 0));
+    assert_eq!(rt; found.numbers.as_slice(), [0, 5].as_slice());
+    assert!(rt; found.firsts[1] == *b"\xbb\xbb\xbb\xbb\xbb\xbb\xbb\x02");
+    assert!(rt; found.encode() == sector_of(DESCRIPTOR2));
+    Ok(())
+}
+
+#[test]
+fn descriptor_of_format_2_with_an_index_behind_its_count(rt: HostRuntime) {
+    let mut sector = sector_of(DESCRIPTOR2);
+    sector[24] = 1;
+    assert!(rt; Descriptor2::decode(&sector).is_none());
+}
+
+#[test]
+fn data_place_of_format_2_carries_its_stamp(rt: HostRuntime) {
+    let sector = data_sector2(3, &[0xcc; 512]);
+    assert_eq!(rt;
+        (sector[0], sector[7], sector[8], sector[511]),
+        (3, 0, 0xcc, 0xcc)
+    );
+    assert!(rt; is_data2(3, &sector));
+    assert!(rt; !is_data2(4, &sector));
 }
 
 #[test]
@@ -89,7 +146,7 @@ fn super_has_the_first_of_its_faults(rt: HostRuntime) -> Result<(), Fail> {
     );
     assert_eq!(rt;
         Super::decode(&changed_super(&[(16, 0xe9)])),
-        Ok(Super::new(1001, 8))
+        Ok(Super::new(LogFormat::One, 1001, 8))
     );
     Ok(())
 }
@@ -112,7 +169,8 @@ fn places_of_stamp_3_in_8_slots(rt: HostRuntime) -> Result<(), Fail> {
     assert_eq!(rt; data_place(slot, 0), 153);
     assert_eq!(rt; data_place(slot, 2), 155);
     assert_eq!(rt; commit_place(slot), 201);
-    let sizes = Super::new(1000, 8);
+    assert_eq!(rt; place_of2(slot), 749);
+    let sizes = Super::new(LogFormat::One, 1000, 8);
     assert_eq!(rt; sizes.home_of(0), 402);
     assert_eq!(rt; sizes.home_of(9), 411);
     assert_eq!(rt; sizes.sectors(), 1402);
@@ -139,6 +197,22 @@ fn read_back_descriptor(descriptor: &Descriptor) -> Option<Descriptor>
     Descriptor::decode(&descriptor.encode())
 }
 
+fn read_back_descriptor2(descriptor: &Descriptor2) -> Option<Descriptor2>
+    ensures { IsSomeAnd result (λ back. (back.stamp ≡ descriptor.now.stamp)
+        × (back.count ≡ descriptor.now.count) × (back.index ≡ descriptor.now.index)
+        × (back.numbers.items ≡ descriptor.now.numbers.items)
+        × (back.firsts.items ≡ descriptor.now.firsts.items)) }
+{
+    Descriptor2::decode(&descriptor.encode())
+}
+
+fn read_back_commit2(commit: &Commit2) -> Option<Commit2>
+    ensures { IsSomeAnd result (λ back.
+        (back.stamp ≡ commit.now.stamp) × (back.count ≡ commit.now.count)) }
+{
+    Commit2::decode(&commit.encode())
+}
+
 fn read_back_commit(commit: &Commit) -> Option<Commit>
     ensures { IsSomeAnd result (λ back.
         (back.stamp ≡ commit.now.stamp) × (back.count ≡ commit.now.count)) }
@@ -148,11 +222,14 @@ fn read_back_commit(commit: &Commit) -> Option<Commit>
 
 #[test]
 fn values_are_read_back(rt: HostRuntime) -> Result<(), Fail> {
-    assert!(rt; read_back_super(&Super::new(1 << 31, 64)).is_ok());
+    assert!(rt; read_back_super(&Super::new(LogFormat::Two, 1 << 31, 64)).is_ok());
     assert!(rt; read_back_head(&Head::new((1 << 63) - 1)).is_some());
     assert!(rt; read_back_commit(&Commit::new((1 << 63) - 2, 48)).is_some());
+    assert!(rt; read_back_commit2(&Commit2::new((1 << 63) - 2, 240)).is_some());
     let record = Descriptor::decode(&sector_of(DESCRIPTOR)).ok_or("no descriptor")?;
     assert!(rt; read_back_descriptor(&record).is_some());
+    let record = Descriptor2::decode(&sector_of(DESCRIPTOR2)).ok_or("no descriptor")?;
+    assert!(rt; read_back_descriptor2(&record).is_some());
     Ok(())
 }
 

@@ -1,18 +1,21 @@
 -- An image stands for one array and one next stamp.
-use Rattle.std.proofs.Common.{◌≡◌, ⊎_elim, ℕ, zero, suc, ◌+◌, ◌%◌, ◌<◌, ◌≤◌, List, [], ◌∷◌, length, get_or, refl, sym, ◌∙◌, ap, subst, arith}
+use Rattle.std.proofs.Common.{◌≡◌, ⊎_elim, ℕ, zero, suc, ◌+◌, ◌*◌, ◌<◌, ◌≤◌, List, [], ◌∷◌, length, get_or, refl, sym, ◌∙◌, ap, subst, arith}
 use Rattle.std.proofs.lemmas.Bool.{cases_lt}
 use Rattle.std.proofs.lemmas.Nat.{mod_below}
 use Rattle.std.proofs.lemmas.List.{ext_get_or}
 use Rattle.medium.specs.Medium.{Image}
 use Rattle.medium.specs.Blocks.{Array}
-use Rattle.log_layout.specs.Places.{Shape, place_of_slot, slot_place, first_home, sectors_of}
-use Rattle.log_layout.specs.Sectors.{IsSuper, IsHead, IsDescriptor, IsCommit}
-use Rattle.log_layout.specs.Record.{Entry, IsWhole, Agree, with_records, home_of}
-use Rattle.log_layout.specs.Standing.{IsCount, StandsFor, IsOurs}
-use Rattle.log_layout.specs.ImageFaults.{HasShape}
+use Rattle.log_layout.specs.Places.{Shape, sectors_of}
+use Rattle.log_layout.specs.Sectors.{IsSuper, IsHead}
+use Rattle.log_image.specs.Record.{Entry, Agree, with_records, home_of}
+use Rattle.log_image.specs.Layout.{slot_at}
+use Rattle.log_image.specs.Formats.{layout_of, IsWhole}
+use Rattle.log_image.specs.Standing.{IsCount, StandsFor, IsOurs}
+use Rattle.log_image.specs.ImageFaults.{HasShape}
 use Rattle.log_layout.proofs.Spelling.{IsHead-one}
 use Rattle.log_layout.proofs.Decoding.{IsSuper-one}
-use Rattle.log_layout.proofs.Wholeness.{IsWhole-one, HasWhole-same, Keeps-same}
+use Rattle.log_image.proofs.Formats.{laws_of, sectors_are}
+use Rattle.log_image.proofs.Wholeness.{IsWhole-one, HasWhole-same, CarriesBelow-agree, Keeps-same, slot_inside}
 
 module _ (size other : ℕ) (shape : Shape) (image : Image) (a b : Array) (t u : ℕ) (h : StandsFor size shape image a t) (k : StandsFor other shape image b u) where
   -- the head is the same
@@ -38,7 +41,7 @@ module _ (size other : ℕ) (shape : Shape) (image : Image) (a b : Array) (t u :
   -- they are the same records
   pub records_same : h.records ≡ k.records
   records_same = ext_get_or [] h.records k.records counts (λ j below.
-      IsWhole-one shape image (h.head + j) (get_or h.records j []) (get_or k.records j []) (h.keeps.whole j below)
+      IsWhole-one (layout_of shape.format) (laws_of shape.format) shape image (h.head + j) (get_or h.records j []) (get_or k.records j []) (h.keeps.whole j below)
       (subst (λ s. IsWhole shape image s (get_or k.records j [])) (omega (arith, heads)) (k.keeps.whole j (omega (arith, counts)))))
 
   -- so are the next stamp and the blocks of the array
@@ -109,46 +112,67 @@ count_stands size shape image head count fits s h c =
       count_is = long;
     }
 
--- the sectors of a slot stand before home
-slot_inside : (shape : Shape) (stamp : ℕ) → 1 ≤ shape.slots → slot_place shape stamp + 50 ≤ first_home shape
-slot_inside shape stamp some =
-    let below : stamp % shape.slots < shape.slots = mod_below stamp shape.slots (omega arith) in
-    omega arith
+-- the log ends before home
+pub log_before_home : (shape : Shape) (bytes : List ℕ) → IsSuper shape bytes
+    → 2 + (layout_of shape.format).slot_sectors * shape.slots ≤ shape.home
+log_before_home shape bytes super =
+    let same = ap (λ (n : ℕ). n * shape.slots) (sectors_are shape.format) in
+    omega (arith, same, super.home_is.0)
 
--- images with the same sectors stand for the same
-pub StandsFor-same : (size : ℕ) (shape : Shape) (before image : Image) (array : Array) (next : ℕ) → Agree 0 size image before
-    → StandsFor size shape before array next → StandsFor size shape image array next
-StandsFor-same size shape before image array next agree s =
-    let some : 1 ≤ shape.slots = s.keeps.super.some_slots in
-    record {
-      fits = s.fits;
-      head = s.head;
-      records = s.records;
-      keeps = Keeps-same shape before image s.head s.records array
-          (agree 0 (omega arith) (omega (arith, s.fits)))
-          (agree 1 (omega arith) (omega (arith, s.fits)))
-          (λ j below x low high. agree x (omega arith) (omega (arith, s.fits, slot_inside shape (s.head + j) some)))
-          (λ x low high. agree x (omega arith) (omega (arith, s.fits)))
-          s.keeps;
-      few = s.few;
-      ends = λ less w. s.ends less (HasWhole-same shape image before (s.head + length s.records)
-          (λ x low high. sym (agree x (omega arith) (omega (arith, s.fits, slot_inside shape (s.head + length s.records) some)))) w);
-      next_is = s.next_is;
-    }
+module _ (size : ℕ) (shape : Shape) (before image : Image) (agree : Agree 0 size image before) where
+  -- where a medium is long enough its log agrees
+  log_agrees : (bytes : List ℕ) → IsSuper shape bytes → sectors_of shape ≤ size
+      → Agree 2 (2 + (layout_of shape.format).slot_sectors * shape.slots) image before
+  log_agrees bytes super fits x low high = agree x (omega arith) (omega (arith, fits, log_before_home shape bytes super))
 
--- an image with the same sectors is ours too
-pub IsOurs-same : (size : ℕ) (shape : Shape) (before image : Image) (array : Array) (next : ℕ) → Agree 0 size image before
-    → IsOurs size shape before array next → IsOurs size shape image array next
-IsOurs-same size shape before image array next agree o =
-    let fits = o.stands.fits in
-    record {
-      stands = StandsFor-same size shape before image array next agree o.stands;
-      descriptors = λ slot below stamp numbers d. o.descriptors slot below stamp numbers
-          (subst (IsDescriptor stamp numbers) (agree (place_of_slot slot) (omega arith) (omega (arith, fits))) d);
-      commits = λ slot below stamp count c. o.commits slot below stamp count
-          (subst (IsCommit stamp count) (agree (place_of_slot slot + 49) (omega arith) (omega (arith, fits))) c);
-    }
+  -- so does each slot
+  slot_agrees : (bytes : List ℕ) → IsSuper shape bytes → sectors_of shape ≤ size → (stamp : ℕ)
+      → Agree (slot_at (layout_of shape.format) shape stamp)
+      (slot_at (layout_of shape.format) shape stamp + (layout_of shape.format).slot_sectors) image before
+  slot_agrees bytes super fits stamp x low high = log_agrees bytes super fits x (omega arith)
+      (omega (arith, slot_inside (layout_of shape.format) (laws_of shape.format) shape stamp super.some_slots))
+
+  -- images with the same sectors stand for the same
+  pub StandsFor-same : (array : Array) (next : ℕ)
+      → StandsFor size shape before array next → StandsFor size shape image array next
+  StandsFor-same array next s =
+      let L = layout_of shape.format in
+      let laws = laws_of shape.format in
+      let super = s.keeps.super in
+      record {
+        fits = s.fits;
+        head = s.head;
+        records = s.records;
+        keeps = Keeps-same (layout_of shape.format) (laws_of shape.format) shape before image s.head s.records array
+            (agree 0 (omega arith) (omega (arith, s.fits, log_before_home shape (before 0) s.keeps.super)))
+            (agree 1 (omega arith) (omega (arith, s.fits, log_before_home shape (before 0) s.keeps.super)))
+            (λ j below. slot_agrees (before 0) s.keeps.super s.fits (s.head + j))
+            (λ x low high. agree x (omega arith) (omega (arith, s.fits)))
+            s.keeps;
+        few = s.few;
+        ends = λ less w. s.ends less (HasWhole-same (layout_of shape.format) (laws_of shape.format) shape image before (s.head + length s.records)
+            (λ x low high. sym (slot_agrees (before 0) s.keeps.super s.fits (s.head + length s.records) x low high)) w);
+        next_is = s.next_is;
+      }
+
+  -- an image with the same sectors is ours too
+  pub IsOurs-same : (array : Array) (next : ℕ)
+      → IsOurs size shape before array next → IsOurs size shape image array next
+  IsOurs-same array next o = record {
+    stands = StandsFor-same array next o.stands;
+    carries = CarriesBelow-agree (layout_of shape.format) (laws_of shape.format) shape before image next
+        (log_agrees (before 0) o.stands.keeps.super o.stands.fits) o.carries;
+  }
 
 -- an image that stands for something has the shape of its super
 pub StandsFor-shape : (size : ℕ) (shape : Shape) (image : Image) (array : Array) (next : ℕ) → StandsFor size shape image array next → HasShape size shape image
 StandsFor-shape size shape image array next s = record { super = s.keeps.super; fits = s.fits }
+
+-- a count holds in each image with the same sectors
+pub IsCount-same : (shape : Shape) (before image : Image) (head count : ℕ) → ((x : ℕ)
+    → image x ≡ before x) → IsCount shape before head count → IsCount shape image head count
+IsCount-same shape before image head count same c = record {
+  few = c.few;
+  whole = λ j below. HasWhole-same (layout_of shape.format) (laws_of shape.format) shape before image (head + j) (λ x low high. same x) (c.whole j below);
+  ends = λ less w. c.ends less (HasWhole-same (layout_of shape.format) (laws_of shape.format) shape image before (head + count) (λ x low high. sym (same x)) w);
+}

@@ -6,7 +6,7 @@ use Rattle.log_layout.specs.declared.super_fault.SuperFault.TheVariants.{Magic, 
 use Rattle.log_layout.specs.Places.{Shape, sectors_of}
 use Rattle.log_layout.specs.Sectors.{IsSuper, IsHead}
 use Rattle.log_layout.specs.SuperFaults.{IsSuperFault}
-use Rattle.log_layout.specs.Standing.{StandsFor}
+use Rattle.log_image.specs.Standing.{StandsFor}
 
 -- the image's super is one of this shape, for which the medium is long enough
 pub record HasShape (size : ℕ) (shape : Shape) (image : Image) : Type 0 where

@@ -8,12 +8,13 @@ use Rattle.log_layout.specs.declared.super_fault.SuperFault.TheVariants.{Magic, 
 use Rattle.log_layout.specs.Places.{Shape, sectors_of}
 use Rattle.log_layout.specs.Spelling.{number_in, super_mark}
 use Rattle.log_layout.specs.Sectors.{IsSuper, IsHead}
-use Rattle.log_layout.specs.SuperFaults.{IsSuperFault}
-use Rattle.log_layout.specs.Standing.{Stands}
-use Rattle.log_layout.specs.ImageFaults.{HasShape, ImageFault, BadSuper, BadVersion, BadSize, BadHead, HasFault}
+use Rattle.log_layout.specs.SuperFaults.{HasVersion, IsSuperFault}
+use Rattle.log_image.specs.Standing.{Stands}
+use Rattle.log_image.specs.ImageFaults.{HasShape, ImageFault, BadSuper, BadVersion, BadSize, BadHead, HasFault}
 use Rattle.log_layout.proofs.Decoding.{super_begins, IsSuper-one}
-use Rattle.log_layout.proofs.Deciding.{same_or_not, head_or_not, super_or_not, count_of}
-use Rattle.log_layout.proofs.StandingLaws.{count_stands}
+use Rattle.log_layout.proofs.Deciding.{same_or_not, head_or_not, super_or_not}
+use Rattle.log_image.proofs.Deciding.{count_of}
+use Rattle.log_image.proofs.StandingLaws.{count_stands}
 
 -- a super has no fault
 pub no_fault : (fault : SuperFault) (shape : Shape) (bytes : List ℕ) → IsSuperFault fault bytes
@@ -23,12 +24,22 @@ no_fault Version shape bytes f s = f.1 ((super_begins shape bytes s).1)
 no_fault Rest shape bytes f s = f.2 ((super_begins shape bytes s).2)
 no_fault Sizes shape bytes f s = f.3 shape s
 
+-- a version is known or not
+version_or_not : (bytes : List ℕ) → HasVersion bytes ⊎ (¬ HasVersion bytes)
+version_or_not bytes = elim (cases_eq (number_in bytes 1) 1) [
+  | inl one ↦ inl (inl one)
+  | inr no_one ↦ elim (cases_eq (number_in bytes 1) 2) [
+    | inl two ↦ inl (inr two)
+    | inr no_two ↦ inr (λ known. ⊎_elim no_one no_two known)
+  ]
+]
+
 -- a sector is a super or has a fault
 pub super_or_fault : (bytes : List ℕ) → ((shape : Shape)
     × IsSuper shape bytes) ⊎ ((fault : SuperFault) × IsSuperFault fault bytes)
 super_or_fault bytes = elim (cases_eq (number_in bytes 0) super_mark) [
   | inr no_mark ↦ inr (Magic, no_mark)
-  | inl magic ↦ elim (cases_eq (number_in bytes 1) 1) [
+  | inl magic ↦ elim (version_or_not bytes) [
     | inr other ↦ inr (Version, (magic, other))
     | inl version ↦ elim (same_or_not (drop 48 bytes) (replicate 464 0)) [
       | inr more ↦ inr (Rest, (magic, version, more))

@@ -1,0 +1,11 @@
+pub mod Record
+pub mod Layout
+pub mod LayoutLaws
+pub mod Format1
+pub mod Format2
+pub mod Formats
+pub mod Copies
+pub mod Standing
+pub mod Staged
+pub mod ImageFaults
+pub mod Laws
