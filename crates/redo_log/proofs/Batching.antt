@@ -1,29 +1,39 @@
--- The entries of a batch.
-use Rattle.std.proofs.Common.{◌≡◌, ℕ, zero, suc, ◌+◌, ◌*◌, ◌<◌, List, [], ◌∷◌, length, get_or, refl, ◌∙◌, ap, arith}
-use Rattle.std.specs.Prelude.{slice_range}
-use Rattle.log_layout.specs.Record.{numbers_of}
-use Rattle.redo_log.specs.Batch.{entries_from, entries_of}
+-- The entries of a batch, as a record.
+use Rattle.std.proofs.Common.{◌≡◌, ℕ, ◌*◌, ◌<◌, List, length, sym, ap, subst, arith}
+use Rattle.std.specs.Prelude.{All}
+use Rattle.std.proofs.lemmas.List.{length-map}
+use Rattle.log_layout.specs.Places.{Shape}
+use Rattle.log_layout.specs.Sectors.{IsRising}
+use Rattle.log_image.specs.Record.{Entry, numbers_of, entries_of}
+use Rattle.log_image.specs.LayoutLaws.{IsRecordOf}
+use Rattle.log_image.specs.Formats.{layout_of}
+use Rattle.log_image.proofs.Batching.{numbers_of_batch, sized_batch}
+use Rattle.log_image.proofs.Formats.{most_is}
+use Rattle.redo_log.specs.Stages.{IsRecord, IsSized}
 
-numbers_from : (k : ℕ) (numbers bytes : List ℕ) → numbers_of (entries_from k numbers bytes) ≡ numbers
-numbers_from k [] bytes = refl
-numbers_from k (b ∷ numbers) bytes = ap (λ (l : List ℕ). b ∷ l) (numbers_from (k + 1) numbers bytes)
+-- as many entries as block numbers
+pub count_of : (numbers : List ℕ) (entries : List Entry) → numbers ≡ numbers_of entries → length numbers ≡ length entries
+count_of numbers entries is = let f : Entry → ℕ = λ e. e.0 in omega (arith, ap (λ (l : List ℕ). length l) is, length-map entries f)
 
-length_from : (k : ℕ) (numbers bytes : List ℕ) → length (entries_from k numbers bytes) ≡ length numbers
-length_from k [] bytes = refl
-length_from k (b ∷ numbers) bytes = let more = length_from (k + 1) numbers bytes in omega arith
+-- blocks of 512 bytes under these numbers are a record
+pub record_entries : (shape : Shape) (stamp : ℕ) (numbers : List ℕ) (entries : List Entry) → IsSized shape → IsRecord shape stamp numbers → numbers ≡ numbers_of entries → All (λ (e : Entry). length e.1 ≡ 512) entries
+    → IsRecordOf (layout_of shape.format) shape.blocks stamp entries
+record_entries shape stamp numbers entries sized rec is full =
+    let count : length numbers ≡ length entries = count_of numbers entries is in
+    let inside : All (λ b. b < shape.blocks) (numbers_of entries) = subst (λ (l : List ℕ). All (λ b. b < shape.blocks) l) is rec.numbers_are.inside in
+    record {
+      fit = record {
+        some = omega (arith, count, rec.numbers_are.some);
+        few = omega (arith, count, rec.numbers_are.few, most_is shape.format);
+        rising = subst IsRising is rec.numbers_are.rising;
+        inside = inside;
+        small = λ j d below. omega (arith, inside j d below, sized.small);
+        sized = full;
+      };
+      least = rec.least;
+      below = rec.most;
+    }
 
-bytes_from : (k i : ℕ) (numbers bytes : List ℕ) → i < length numbers → (get_or (entries_from k numbers bytes) i (0, [])).1 ≡ slice_range bytes (512 * (k + i)) (512 * (k + i) + 512)
-bytes_from k i [] bytes below = absurd (omega arith)
-bytes_from k zero (b ∷ numbers) bytes below = let e : k ≡ k + 0 = omega arith in ap (λ (j : ℕ). slice_range bytes (512 * j) (512 * j + 512)) e
-bytes_from k (suc i) (b ∷ numbers) bytes below =
-    let e : k + 1 + i ≡ k + suc i = omega arith in
-    bytes_from (k + 1) i numbers bytes (omega arith) ∙ ap (λ (j : ℕ). slice_range bytes (512 * j) (512 * j + 512)) e
-
-pub numbers_of_batch : (numbers bytes : List ℕ) → numbers_of (entries_of numbers bytes) ≡ numbers
-numbers_of_batch numbers bytes = numbers_from 0 numbers bytes
-
-pub length_of_batch : (numbers bytes : List ℕ) → length (entries_of numbers bytes) ≡ length numbers
-length_of_batch numbers bytes = length_from 0 numbers bytes
-
-pub bytes_of_batch : (i : ℕ) (numbers bytes : List ℕ) → i < length numbers → (get_or (entries_of numbers bytes) i (0, [])).1 ≡ slice_range bytes (512 * i) (512 * i + 512)
-bytes_of_batch i numbers bytes below = let e : 0 + i ≡ i = omega arith in bytes_from 0 i numbers bytes below ∙ ap (λ (j : ℕ). slice_range bytes (512 * j) (512 * j + 512)) e
+-- and so is a batch
+pub record_batch : (shape : Shape) (stamp : ℕ) (numbers bytes : List ℕ) → IsSized shape → IsRecord shape stamp numbers → length bytes ≡ 512 * length numbers → IsRecordOf (layout_of shape.format) shape.blocks stamp (entries_of numbers bytes)
+record_batch shape stamp numbers bytes sized rec size = record_entries shape stamp numbers (entries_of numbers bytes) sized rec (sym (numbers_of_batch numbers bytes)) (sized_batch numbers bytes size)

@@ -1,21 +1,19 @@
--- How the copies of a record enter an index, and that there is room for them.
-use Rattle.std.proofs.Common.{◌≡◌, ◌≢◌, inl, inr, ⊎_elim, ℕ, suc, ◌+◌, ◌*◌, ◌%◌, ◌<◌, ◌≤◌, List, [], ◌∷◌, ◌++◌, length, get_or, take, eqb, Some, None, Option, refl, sym, ◌∙◌, ap, subst, arith}
-use Rattle.std.specs.Prelude.{true, false, slice_index, map, MatchOption}
+-- That an index has room for a record more, and what it is then.
+use Rattle.std.proofs.Common.{◌≡◌, ◌≢◌, inl, inr, ⊎_elim, ℕ, suc, zero, ◌+◌, ◌-◌, ◌*◌, ◌/◌, ◌%◌, ◌<◌, ◌≤◌, List, [], ◌∷◌, ◌++◌, length, get_or, eqb, Some, None, Option, refl, sym, ◌∙◌, ap, arith}
+use Rattle.std.specs.Prelude.{Bool, true, false, ◌==◌, if◌then◌else◌, slice_index, map, MatchOption}
 use Rattle.std.specs.List.{AllByRecursion, IsDistinct, list_any}
 use Rattle.std.proofs.lemmas.Bool.{cases_eq, cases_lt}
 use Rattle.std.proofs.lemmas.Bool.Decides.{nat_tests}
-use Rattle.std.proofs.lemmas.Nat.{mod_below}
-use Rattle.std.proofs.lemmas.List.{length-map, get_or_append_left, get_or-take}
+use Rattle.std.proofs.lemmas.Nat.{mod_below, mul-add-lt, div-mul-add, mod-mul-add}
+use Rattle.std.proofs.lemmas.List.{length-map, get_or-map}
+use Rattle.std.proofs.Math.Nat.{mul-suc}
 use Rattle.std.proofs.lemmas.Map.Steps.{length-le_from_distinct_below}
-use Rattle.std.proofs.Math.ListN.{get_or-map}
-use Rattle.std.proofs.Math.Seq.{take-suc, get_or-append_seam}
-use Rattle.std.proofs.lemmas.List.{length-take}
-use Rattle.log_layout.proofs.Slots.{other_slot}
+use Rattle.log_image.proofs.Slots.{other_slot}
 use Rattle.redo_log.specs.declared.index.Copied.{Copied}
 use Rattle.redo_log.specs.Value.{LogValue, HasNoCopy, IsNewestCopy}
-use Rattle.redo_log.specs.Index.{no_copies, look, with_copy, with_copies, copies_of, outside, block_at, IsSorted, IsCopyIn, IsFrom, Fits, FitsWith, IsIndex}
+use Rattle.redo_log.specs.Index.{no_copies, look, with_copies, copies_of, outside, block_at, IsSorted, IsIndex}
 use Rattle.redo_log.proofs.Indexing.{blank, look_found}
-use Rattle.redo_log.proofs.Newest.{with_copy-same, with_copies-same, with_copies-more, copies_of-more, copies_of-fewer, from_record, newest_is, none_is}
+use Rattle.redo_log.proofs.Newest.{IsNewest, with_copies-same, copies_of-more, copies_of-fewer, newest_is, none_is}
 
 -- numbers below n of which no two are the same are at most n
 all_other : (x : ℕ) (xs : List ℕ) → ((j : ℕ) → j < length xs → x ≢ get_or xs j 0) → AllByRecursion (λ y. eqb x y ≡ false) xs
@@ -43,14 +41,6 @@ below_all (x ∷ xs) n each q some = elim (cases_eq q x) [
 few_apart : (xs : List ℕ) (n : ℕ) → ((i : ℕ) → i < length xs → get_or xs i 0 < n) → ((i j : ℕ) → i < j → j < length xs → get_or xs i 0 ≢ get_or xs j 0) → length xs ≤ n
 few_apart xs n each apart = length-le_from_distinct_below xs n (distinct xs apart) (below_all xs n each)
 
--- the copy stands in the record of this age
-record Stands (slots stamp : ℕ) (records : List (List ℕ)) (block : ℕ) (copy : ℕ × ℕ) : Type 0 where
-  pub age : ℕ
-  pub young : age < slots
-  pub slot_is : copy.0 ≡ (stamp + age) % slots
-  pub near : copy.1 < 48
-  pub named : slice_index (get_or records age []) copy.1 ≡ block
-
 -- two ages below the number of slots with one slot are one
 same_age : (slots stamp a b : ℕ) → a < slots → b < slots → (stamp + a) % slots ≡ (stamp + b) % slots → a ≡ b
 same_age slots stamp a b low high same = ⊎_elim
@@ -61,92 +51,106 @@ same_age slots stamp a b low high same = ⊎_elim
     (cases_lt b a))
     (cases_lt a b)
 
-module _ (slots stamp room : ℕ) (records : List (List ℕ)) (numbers : List ℕ) (old : List Copied) (is : IsIndex slots stamp records old) (free : length records < slots)
-    (small : (age : ℕ) → age < length records → length (get_or records age []) ≤ 48) (few : length numbers ≤ 48) (enough : 48 * slots ≤ room) where
-  stands_old : (block : ℕ) (copy : ℕ × ℕ) → look old block ≡ Some copy → Stands slots stamp (records ++ numbers ∷ []) block copy
-  stands_old block copy found =
-      let n = newest_is slots stamp records block copy (sym (is.looks block) ∙ found) in
-      record {
-        age = n.age;
-        young = omega (arith, n.waits);
-        slot_is = n.slot_is;
-        near = omega (arith, n.inside, small n.age n.waits);
-        named = ap (λ (l : List ℕ). slice_index l copy.1) (get_or_append_left records (numbers ∷ []) [] n.age n.waits) ∙ n.named;
-      }
+-- slots below `slots` of which none is the free one are put below `slots` - 1: the last one in the free one's place
+module _ (slots free : ℕ) (inside : free < slots) where
+  abbrev row : ℕ → ℕ
+  row s = if s == slots - 1 then free else s
 
-  stands_new : (block : ℕ) (copy : ℕ × ℕ) → IsCopyIn ((stamp + length records) % slots) numbers block copy → Stands slots stamp (records ++ numbers ∷ []) block copy
-  stands_new block copy new = record {
-    age = length records;
-    young = free;
-    slot_is = new.0;
-    near = omega (arith, new.1.0, few);
-    named = ap (λ (l : List ℕ). slice_index l copy.1) (get_or-append_seam records numbers [] []) ∙ new.1.1;
-  }
+  row_last : (s : ℕ) → s ≡ slots - 1 → row s ≡ free
+  row_last s is = let same : (s == slots - 1) ≡ true = grind (arith, nat_tests, is) in ap (λ (t : Bool). if t then free else s) same
 
-  module _ (index : List Copied) (sorted : IsSorted index) (from : (block : ℕ) (copy : ℕ × ℕ) → look index block ≡ Some copy → IsFrom old ((stamp + length records) % slots) numbers block copy) where
-    stands : (i : ℕ) → i < length index → Stands slots stamp (records ++ numbers ∷ []) (block_at index i) ((get_or index i blank).slot, (get_or index i blank).place)
-    stands i below = ⊎_elim (stands_old _ _) (stands_new _ _) (from _ _ (look_found index sorted i (block_at index i) below refl))
+  row_other : (s : ℕ) → s ≢ slots - 1 → row s ≡ s
+  row_other s not = let differ : (s == slots - 1) ≡ false = grind (arith, nat_tests, not) in ap (λ (t : Bool). if t then free else s) differ
 
-    abbrev code : Copied → ℕ
-    code c = 48 * c.slot + c.place
+  row_below : (s : ℕ) → s < slots → s ≢ free → row s < slots - 1
+  row_below s below taken = elim (cases_eq s (slots - 1)) [
+    | inl is ↦ omega (arith, row_last s is, is, taken, inside)
+    | inr not ↦ omega (arith, row_other s not, not, below)
+  ]
 
-    code_is : (i : ℕ) → get_or (map code index) i 0 ≡ 48 * (get_or index i blank).slot + (get_or index i blank).place
-    code_is i = get_or-map code index i blank
+  rows_apart : (s t : ℕ) → s ≢ free → t ≢ free → row s ≡ row t → s ≡ t
+  rows_apart s t one two same = elim (cases_eq s (slots - 1)) [
+    | inl is ↦ elim (cases_eq t (slots - 1)) [
+      | inl also ↦ omega (arith, is, also)
+      | inr not ↦ absurd (two (sym (row_other t not) ∙ (sym same ∙ row_last s is)))
+    ]
+    | inr not ↦ elim (cases_eq t (slots - 1)) [
+      | inl is ↦ absurd (one (sym (row_other s not) ∙ (same ∙ row_last t is)))
+      | inr also ↦ omega (arith, row_other s not, row_other t also, same)
+    ]
+  ]
 
-    code_below : (i : ℕ) → i < length (map code index) → get_or (map code index) i 0 < 48 * slots
-    code_below i below =
-        let s = stands i (omega (arith, below, length-map index code)) in
-        let inside : (stamp + s.age) % slots < slots = mod_below (stamp + s.age) slots (omega (arith, free)) in
-        omega (arith, code_is i, s.slot_is, s.near, inside)
+-- a number below `most` and one times `most` are those of their sum
+one_sum : (most a b i j : ℕ) → i < most → j < most → a * most + i ≡ b * most + j → (a ≡ b) × (i ≡ j)
+one_sum most a b i j low high same = (
+  sym (div-mul-add a most i low) ∙ (ap (λ (n : ℕ). n / most) same ∙ div-mul-add b most j high),
+  sym (mod-mul-add a most i low) ∙ (ap (λ (n : ℕ). n % most) same ∙ mod-mul-add b most j high),
+)
 
-    codes_apart : (i j : ℕ) → i < j → j < length (map code index) → get_or (map code index) i 0 ≢ get_or (map code index) j 0
-    codes_apart i j less below same =
-        let in_index : j < length index = omega (arith, below, length-map index code) in
-        let a = stands i (omega (arith, less, in_index)) in
-        let b = stands j in_index in
-        let slot : (stamp + a.age) % slots ≡ (stamp + b.age) % slots = omega (arith, code_is i, code_is j, same, a.slot_is, b.slot_is, a.near, b.near) in
-        let place : (get_or index i blank).place ≡ (get_or index j blank).place = omega (arith, code_is i, code_is j, same, a.slot_is, b.slot_is, a.near, b.near) in
-        let age : a.age ≡ b.age = same_age slots stamp a.age b.age a.young b.young slot in
-        let block : block_at index i ≡ block_at index j = sym a.named ∙ ap (λ (n : ℕ). slice_index (get_or (records ++ numbers ∷ []) n []) (get_or index i blank).place) age
-        ∙ ap (λ (p : ℕ). slice_index (get_or (records ++ numbers ∷ []) b.age []) p) place ∙ b.named in
-        omega (arith, sorted i j less in_index, block)
+module _ (slots stamp most : ℕ) (records : List (List ℕ)) (index : List Copied) (is : IsIndex slots stamp records index) (free : length records < slots)
+    (small : (age : ℕ) → age < length records → length (get_or records age []) ≤ most) where
+  newest_at : (i : ℕ) → i < length index → IsNewest slots stamp records (block_at index i) ((get_or index i blank).slot, (get_or index i blank).place)
+  newest_at i below = newest_is slots stamp records (block_at index i) ((get_or index i blank).slot, (get_or index i blank).place)
+      (sym (is.looks (block_at index i)) ∙ look_found index is.sorted i (block_at index i) below refl)
 
-    index_few : length index ≤ room
-    index_few = omega (arith, enough, few_apart (map code index) (48 * slots) code_below codes_apart, length-map index code)
+  -- the slot behind those of the records
+  abbrev spare : ℕ
+  spare = (stamp + length records) % slots
 
-  -- there is room for the copies of a record behind the others
-  pub record_fits : FitsWith room old ((stamp + length records) % slots) numbers
-  record_fits index sorted from = index_few index sorted from
+  spare_inside : spare < slots
+  spare_inside = mod_below (stamp + length records) slots (omega (arith, free))
 
-module _ (old list : List Copied) (slot place n : ℕ) (numbers : List ℕ) (below : place < length numbers) (is : n ≡ slice_index numbers place)
-    (looks : (b : ℕ) → look list b ≡ with_copies slot 0 (take place numbers) (look old) b) where
-  -- one block more has entered
-  pub entered : (b : ℕ) → with_copy n (slot, place) (look list) b ≡ with_copies slot 0 (take (place + 1) numbers) (look old) b
-  entered b =
-      let long : 0 + length (take place numbers) ≡ place = omega (arith, length-take place numbers, below) in
-      let more : take (place + 1) numbers ≡ take place numbers ++ n ∷ [] = subst (λ (k : ℕ). take k numbers ≡ take place numbers ++ n ∷ []) (one place) (take-suc numbers place 0 below ∙ ap (λ (x : ℕ). take place numbers ++ x ∷ []) (sym is)) in
-      with_copy-same n (slot, place) (look list) (with_copies slot 0 (take place numbers) (look old)) b (looks b)
-      ∙ ap (λ (p : ℕ). with_copy n (slot, p) (with_copies slot 0 (take place numbers) (look old)) b) (sym long)
-      ∙ sym (with_copies-more slot 0 (take place numbers) n (look old) b)
-      ∙ ap (λ (l : List ℕ). with_copies slot 0 l (look old) b) (sym more)
+  taken : (i : ℕ) → i < length index → (get_or index i blank).slot ≢ spare
+  taken i below same =
+      let n = newest_at i below in
+      let age : n.age ≡ length records = same_age slots stamp n.age (length records) (omega (arith, n.waits, free)) free (sym n.slot_is ∙ same) in
+      omega (arith, age, n.waits)
+
+  near : (i : ℕ) → i < length index → (get_or index i blank).place < most
+  near i below = let n = newest_at i below in omega (arith, n.inside, small n.age n.waits)
+
+  abbrev code : Copied → ℕ
+  code c = row slots spare spare_inside c.slot * most + c.place
+
+  code_is : (i : ℕ) → i < length (map code index) → (get_or (map code index) i 0 ≡ code (get_or index i blank)) × (i < length index)
+  code_is i below =
+      let inside : i < length index = omega (arith, below, length-map index code) in
+      (get_or-map code index i blank 0 inside, inside)
+
+  code_below : (i : ℕ) → i < length (map code index) → get_or (map code index) i 0 < most * (slots - 1)
+  code_below i below =
+      let at = code_is i below in
+      let n = newest_at i at.1 in
+      let inside : (get_or index i blank).slot < slots = omega (arith, n.slot_is, mod_below (stamp + n.age) slots (omega (arith, free))) in
+      omega (arith, at.0, mul-add-lt (row slots spare spare_inside (get_or index i blank).slot) most (get_or index i blank).place (slots - 1) (row_below slots spare spare_inside (get_or index i blank).slot inside (taken i at.1)) (near i at.1))
+
+  codes_apart : (i j : ℕ) → i < j → j < length (map code index) → get_or (map code index) i 0 ≢ get_or (map code index) j 0
+  codes_apart i j less below same =
+      let at = code_is j below in
+      let first = code_is i (omega (arith, less, below)) in
+      let a = newest_at i first.1 in
+      let b = newest_at j at.1 in
+      let both = one_sum most (row slots spare spare_inside (get_or index i blank).slot) (row slots spare spare_inside (get_or index j blank).slot) (get_or index i blank).place (get_or index j blank).place
+      (near i first.1) (near j at.1) (sym first.0 ∙ (same ∙ at.0)) in
+      let slot : (get_or index i blank).slot ≡ (get_or index j blank).slot = rows_apart slots spare spare_inside (get_or index i blank).slot (get_or index j blank).slot (taken i first.1) (taken j at.1) both.0 in
+      let age : a.age ≡ b.age = same_age slots stamp a.age b.age (omega (arith, a.waits, free)) (omega (arith, b.waits, free)) (sym a.slot_is ∙ (slot ∙ b.slot_is)) in
+      let block : block_at index i ≡ block_at index j = sym a.named ∙ ap (λ (n : ℕ). slice_index (get_or records n []) (get_or index i blank).place) age
+      ∙ ap (λ (p : ℕ). slice_index (get_or records b.age []) p) both.1 ∙ b.named in
+      omega (arith, is.sorted i j less at.1, block)
+
+  index_few : length index ≤ most * (slots - 1)
+  index_few = omega (arith, few_apart (map code index) (most * (slots - 1)) code_below codes_apart, length-map index code)
+
+  -- there is room for as many entries more as a record may have blocks
+  pub record_room : (room count : ℕ) → count ≤ most → most * slots ≤ room → length index + count ≤ room
+  record_room room count few enough = omega (arith, index_few, few, enough, one_more slots (omega (arith, free)))
     where
-      one : (place : ℕ) → suc place ≡ place + 1
-      one place = omega arith
+      less : (slots : ℕ) → slots ≡ suc slots - 1
+      less slots = omega arith
 
-  -- and there was room for it
-  pub enter_fits : (room : ℕ) → FitsWith room old slot numbers → Fits room (with_copy n (slot, place) (look list))
-  enter_fits room fits index sorted same = fits index sorted (λ block copy found. ⊎_elim
-      (λ here. inr (here.0, copy_in block copy here.1))
-      (λ older. inl older.0)
-      (from_record slot 0 (take (place + 1) numbers) (look old) block copy (sym (entered block) ∙ (sym (same block) ∙ found))))
-    where
-      copy_in : (block : ℕ) (copy : ℕ × ℕ) → (k : ℕ) × ((copy.1 ≡ 0 + k) × ((k < length (take (place + 1) numbers)) × (slice_index (take (place + 1) numbers) k ≡ block)))
-          → (copy.1 < length numbers) × (slice_index numbers copy.1 ≡ block)
-      copy_in block copy (k, (at, (less, named))) =
-          let long = length-take (place + 1) numbers in
-          let low : k < place + 1 = omega (arith, long, less) in
-          let at_k : copy.1 ≡ k = omega (arith, at) in
-          (omega (arith, at, long, less, below), ap (λ (p : ℕ). slice_index numbers p) at_k ∙ (sym (get_or-take (place + 1) numbers k 0 low) ∙ named))
+      one_more : (slots : ℕ) → 0 < slots → most * slots ≡ most * (slots - 1) + most
+      one_more zero some = absurd (omega arith)
+      one_more (suc slots) some = mul-suc most slots ∙ ap (λ (n : ℕ). most * n + most) (less slots)
 
 -- what is found is the newest copy of a log with these records
 pub find_is : (log : LogValue) (block : ℕ) (found : Option (ℕ × ℕ)) → found ≡ copies_of log.shape.slots log.head log.waiting no_copies block

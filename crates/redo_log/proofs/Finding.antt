@@ -7,9 +7,10 @@ use Rattle.std.proofs.lemmas.List.Elements.{Contains-get_or}
 use Rattle.std.proofs.Math.ListN.{get_or-map}
 use Rattle.medium.specs.Medium.{State}
 use Rattle.medium.specs.Blocks.{Array}
-use Rattle.log_layout.specs.Places.{place_of_slot, first_home}
+use Rattle.log_layout.specs.Places.{first_home}
 use Rattle.log_layout.specs.Sectors.{IsRising}
-use Rattle.log_layout.specs.Record.{Entry, numbers_of, with_blocks, with_records, home_of}
+use Rattle.log_image.specs.Record.{Entry, numbers_of, block_of, with_blocks, with_records, home_of}
+use Rattle.log_image.specs.Formats.{IsWhole}
 use Rattle.redo_log.specs.Value.{LogValue, IsNewestCopy, HasNoCopy}
 use Rattle.redo_log.specs.Held.{View, HoldsView}
 
@@ -82,9 +83,9 @@ module _ (log : LogValue) (m : State) (view : View) (holds : HoldsView log m vie
       sym (with_records-none view.records (home_of log.shape m.content) b (λ j waits. unnamed (get_or view.records j []) (get_or log.waiting j []) b (record_is j) (none j (omega (arith, as_many)))))
       ∙ (holds.stores live).laid.blocks b below
 
-  -- a block with a logged copy is read in its newest one
-  pub copy_is : (b slot place : ℕ) → b < log.shape.blocks → ((j : ℕ) → j < length log.waiting → IsRising (get_or log.waiting j [])) → IsNewestCopy log b slot place
-      → m.content (place_of_slot slot + 1 + place) ≡ view.array b
+  -- the newest copy of a block is in a whole record, and has its bytes
+  pub copy_is : (b slot place : ℕ) → b < log.shape.blocks → ((j : ℕ) → j < length log.waiting → IsRising (get_or log.waiting j [])) → (copy : IsNewestCopy log b slot place)
+      → (place < length (get_or view.records copy.age [])) × IsWhole log.shape m.content (log.head + copy.age) (get_or view.records copy.age []) × (block_of (get_or view.records copy.age []) place ≡ view.array b)
   copy_is b slot place below rising copy =
       let f : Entry → ℕ = λ e. e.0 in
       let entries = get_or view.records copy.age [] in
@@ -93,9 +94,10 @@ module _ (log : LogValue) (m : State) (view : View) (holds : HoldsView log m vie
       let long : length numbers ≡ length entries = omega (arith, ap (λ (l : List ℕ). length l) (record_is copy.age), length-map entries f) in
       let inside : place < length entries = omega (arith, copy.inside) in
       let number : (i : ℕ) → get_or numbers i 0 ≡ (get_or entries i (0, [])).0 = λ i. ap (λ (l : List ℕ). get_or l i 0) (record_is copy.age) ∙ get_or-map f entries i (0, []) in
-      let first : (j : ℕ) → j < place → (get_or entries j (0, [])).0 ≢ b = λ j less e. omega (arith, rising copy.age copy.waits j place less copy.inside, number j, e, copy.named) in
-      ap (λ (s : ℕ). m.content (place_of_slot s + 1 + place)) copy.slot_is
-      ∙ (holds.stores live).laid.places copy.age waits place inside inside
-      ∙ sym (with_records-at view.records (home_of log.shape m.content) b copy.age place waits inside (sym (number place) ∙ copy.named) first
-      (λ j later waiting. unnamed (get_or view.records j []) (get_or log.waiting j []) b (record_is j) (copy.newest j later (omega (arith, as_many)))))
-      ∙ (holds.stores live).laid.blocks b below
+      let first : (j : ℕ) → j < place → (get_or entries j (0, [])).0 ≢ b = λ j less e. omega (arith, rising copy.age copy.waits j place less copy.inside, number j, e, copy.named) in (
+        inside,
+        (holds.stores live).laid.whole copy.age waits,
+        sym (with_records-at view.records (home_of log.shape m.content) b copy.age place waits inside (sym (number place) ∙ copy.named) first
+            (λ j later waiting. unnamed (get_or view.records j []) (get_or log.waiting j []) b (record_is j) (copy.newest j later (omega (arith, as_many)))))
+            ∙ (holds.stores live).laid.blocks b below,
+      )

@@ -1,48 +1,52 @@
 -- What a store on top of a log cites.
-use Rattle.std.proofs.Common.{◌≡◌, ◌⊎◌, inl, inr, ⊎_elim, ℕ, ◌+◌, ◌-◌, ◌<◌, ◌≤◌, List, [], ◌∷◌, ◌++◌, length, drop, refl, sym, ap, subst, arith, length-append}
-use Rattle.std.specs.Prelude.{Bool, true, false}
+use Rattle.std.proofs.Common.{◌≡◌, ◌⊎◌, inl, inr, ⊎_elim, ℕ, ◌+◌, ◌<◌, ◌≤◌, List, [], ◌∷◌, ◌++◌, length, drop, refl, sym, ◌∙◌, ap, subst, arith, length-append}
+use Rattle.std.specs.Prelude.{Bool, true}
 use Rattle.medium.specs.Medium.{State, Image}
 use Rattle.medium.specs.Moments.{EachCut}
 use Rattle.medium.specs.Blocks.{Array}
 use Rattle.log_layout.specs.Places.{Shape, first_home, sectors_of}
-use Rattle.log_layout.specs.Record.{Entry, with_blocks}
-use Rattle.log_layout.specs.Standing.{IsOurs}
-use Rattle.redo_log.specs.Value.{LogValue, HasRoom, retire_steps_of, behind_oldest, of_oldest, idle_from, begun, died}
-use Rattle.redo_log.specs.Batch.{IsBatch, entries_of}
-use Rattle.redo_log.specs.Logged.{Logged, IsFresh, AreHome}
-use Rattle.redo_log.specs.Held.{View, resting_view, with_begun, oldest_of, MayLeave, Guards, stamps_of, HoldsView}
-use Rattle.redo_log.proofs.Batching.{numbers_of_batch, length_of_batch}
-use Rattle.redo_log.proofs.Stepping.{guards_leave}
-use Rattle.redo_log.proofs.Guarding.{resting}
-pub use Rattle.redo_log.proofs.Closing.{quiet_held, durable_whole}
+use Rattle.log_image.specs.Record.{Entry, with_blocks, entries_of}
+use Rattle.log_image.specs.Formats.{layout_of}
+use Rattle.log_image.specs.Standing.{IsOurs}
+use Rattle.log_image.specs.Staged.{Guarded}
+use Rattle.log_image.proofs.Batching.{numbers_of_batch, length_of_batch, sized_batch}
+use Rattle.log_image.proofs.Engine.{rests_logged, rests_begun}
+use Rattle.log_image.proofs.Formats.{laws_of, most_is}
+use Rattle.redo_log.specs.Value.{LogValue, HasRoom, steps_of, retire_steps_of, behind_oldest, of_oldest, idle_from, begun, died}
+use Rattle.redo_log.specs.Batch.{IsBatch}
+use Rattle.redo_log.specs.Logged.{IsFresh, AreHome}
+use Rattle.redo_log.specs.Stages.{homed_at, IsRead}
+use Rattle.redo_log.specs.Held.{View, resting_view, with_begun, image_view, written_of, flushed_of, made_of, turned_of, oldest_of, MayLeave, stamps_of, HoldsView}
+use Rattle.redo_log.proofs.Counting.{none_written, steps_some}
+use Rattle.redo_log.proofs.Keeping.{Logged-records}
+use Rattle.redo_log.proofs.Turning.{all_read}
+pub use Rattle.redo_log.proofs.Closing.{quiet_held, durable_whole, rest_logged}
 pub use Rattle.redo_log.proofs.Finding.{home_is, copy_is}
 
 -- a new log holds a medium whose blocks are at home and whose log is fresh
 pub idle_holds : (shape : Shape) (next : ℕ) (array : Array) (ours : Bool) (m : State) → sectors_of shape ≤ m.size → ((b : ℕ) → b < shape.blocks → m.content (first_home shape + b) ≡ array b)
     → (ours ≡ true → EachCut (IsFresh shape next array) m) → HoldsView (idle_from shape next) m (resting_view array ours)
-idle_holds shape next array ours m fits home fresh =
-    let guards : ours ≡ true → Guards shape next (resting_view array ours) 0 0 m = λ is. resting shape next (resting_view array ours) 0 m (λ image cut. logged image (fresh is image cut)) (λ e. absurd (omega arith)) in
-    record {
-      fits = fits;
-      durable = refl;
-      under_way = refl;
-      next = omega arith;
-      leaves = λ is. guards_leave m.size (idle_from shape next) (resting_view array ours) m fits (guards is);
-      stores = λ live. record {
-        laid = record { places = λ j below. absurd (omega arith); blocks = home };
-        written = λ i low high. absurd (omega arith);
-        copied = λ i low high. absurd (omega arith);
-      };
-      guards = λ live is. guards is;
-    }
-  where
-    logged : (image : Image) → IsFresh shape next array image → Logged shape next [] array image
-    logged image f = record {
-      keeps = f.keeps;
-      few = omega arith;
-      descriptors = λ slot below stamp numbers d. omega (arith, f.descriptors slot below stamp numbers d);
-      commits = λ slot below stamp count c. omega (arith, f.commits slot below stamp count c);
-    }
+idle_holds shape next array ours m fits home fresh = record {
+  fits = fits;
+  durable = refl;
+  under_way = refl;
+  next = omega arith;
+  few = omega arith;
+  sized = λ j d below. absurd (omega (arith, below));
+  kept = λ live. all_read shape.format next [] (turned_of (idle_from shape next)) _ (omega arith);
+  leaves = λ is image cut.
+      let rests = fresh is image cut in
+      inl (Logged-records m.size shape next [] array image fits (rests_logged (layout_of shape.format) (laws_of shape.format) shape rests.keeps.super.some_slots image next [] array (omega arith) rests));
+  stores = λ live. record {
+    laid = record { whole = λ j below. absurd (omega arith); blocks = home };
+    written = λ none. absurd (omega (arith, none));
+    copied = λ i low high. absurd (omega (arith, high));
+  };
+  guards = λ live is. record {
+    each = λ image cut. record { rests = λ _. fresh is image cut; guarded = λ none. absurd (omega (arith, none)) };
+    homed = λ none. absurd (omega (arith, none));
+  };
+}
 
 -- a log that is given up holds what a cut may leave
 pub died_holds : (log : LogValue) (m : State) (view : View) → HoldsView log m view → HoldsView (died log) m view
@@ -51,6 +55,9 @@ died_holds log m view holds = record {
   durable = holds.durable;
   under_way = holds.under_way;
   next = holds.next;
+  few = holds.few;
+  sized = holds.sized;
+  kept = λ live. cc live;
   leaves = holds.leaves;
   stores = λ live. cc live;
   guards = λ live ours. cc live;
@@ -75,34 +82,50 @@ may_leave_ours size log view image found = ⊎_elim
     same_stamp (r ∷ records) some = omega arith
 
 -- a record is begun in a log with room
-pub begun_holds : (log : LogValue) (m : State) (view : View) (numbers bytes : List ℕ) → HoldsView log m view → HasRoom log → IsBatch log.shape.blocks numbers bytes
+pub begun_holds : (log : LogValue) (m : State) (view : View) (numbers bytes : List ℕ) → HoldsView log m view → HasRoom log → IsBatch log.shape numbers bytes
     → HoldsView (begun numbers log) m (with_begun (entries_of numbers bytes) view)
 begun_holds log m view numbers bytes holds room batch =
     let many : length (entries_of numbers bytes) ≡ length numbers = length_of_batch numbers bytes in
-    let none : retire_steps_of log.under_way ≡ 0 = ap (λ (l : List ℕ). retire_steps_of l) room.none_under_way in
-    let behind : behind_oldest (begun numbers log) ≡ behind_oldest log + retire_steps_of numbers = omega (arith, none) in
+    let none : retire_steps_of log.shape.format log.under_way ≡ 0 = ap (λ (l : List ℕ). retire_steps_of log.shape.format l) room.none_under_way in
+    let behind : behind_oldest (begun numbers log) ≡ behind_oldest log + retire_steps_of log.shape.format numbers = omega (arith, none) in
     let same : of_oldest log ≡ of_oldest (begun numbers log) = omega (arith, behind) in
-    let guards : log.dead ≡ false → view.ours ≡ true → Guards log.shape log.head (with_begun (entries_of numbers bytes) view) (length numbers + 4) (of_oldest log) m = λ live ours. record {
-      each = λ image cut. ⊎_elim (λ rest. inl rest) (λ both. absurd (omega (arith, both.0, room.no_steps))) ((holds.guards live ours).each image cut);
-      described = λ some less. absurd (omega arith);
-      flushed = λ some less. absurd (omega arith);
-      committed = λ is. absurd (omega arith);
-      homed = (holds.guards live ours).homed;
-    } in
+    let turned : turned_of log ≡ turned_of (begun numbers log) = omega (arith, same) in
+    let none_made : made_of (begun numbers log) ≡ 0 = omega arith in
+    let early : ℕ = (layout_of log.shape.format).early (length (entries_of numbers bytes)) in
+    let w : written_of log.shape (with_begun (entries_of numbers bytes) view) (made_of (begun numbers log)) ≡ 0 = ap (λ (k : ℕ). written_of log.shape (with_begun (entries_of numbers bytes) view) k) none_made ∙ (none_written early).0 in
+    let f : flushed_of log.shape (with_begun (entries_of numbers bytes) view) (made_of (begun numbers log)) ≡ 0 = ap (λ (k : ℕ). flushed_of log.shape (with_begun (entries_of numbers bytes) view) k) none_made ∙ (none_written early).1 in
+    let few : length (entries_of numbers bytes) ≤ (layout_of log.shape.format).most = omega (arith, many, batch.few, most_is log.shape.format) in
     record {
       fits = holds.fits;
       durable = holds.durable;
       under_way = sym (numbers_of_batch numbers bytes);
       next = omega (arith, holds.next, ap (λ (l : List ℕ). stamps_of l) room.none_under_way, one_stamp numbers batch.some);
+      few = holds.few;
+      sized = sized_batch numbers bytes batch.size;
+      kept = λ live. subst (λ (t : ℕ). IsRead log.shape.format log.head (oldest_of view) t log.kept) turned (holds.kept live);
       leaves = λ ours image cut. ⊎_elim (λ rest. inl rest) (λ other. ⊎_elim (λ both. absurd (omega (arith, both.0, room.no_steps))) (λ less. inr (inr (less.0, omega (arith, less.1, behind), less.2))) other) (holds.leaves ours image cut);
       stores = λ live. record {
         laid = (holds.stores live).laid;
-        written = λ i low high. absurd (omega arith);
-        copied = subst (λ (n : ℕ). AreHome log.shape (oldest_of view) (length (oldest_of view) + 2 - n) m.content) same (holds.stores live).copied;
+        written = λ left p low small. absurd (omega (arith, low, w));
+        copied = subst (λ (t : ℕ). AreHome log.shape (oldest_of view) (homed_at log.shape.format t) m.content) turned (holds.stores live).copied;
       };
-      guards = λ live ours. subst (λ (n : ℕ). Guards log.shape log.head (with_begun (entries_of numbers bytes) view) (length numbers + 4) n m) same (guards live ours);
+      guards = λ live ours. record {
+        each = λ image cut.
+            let rests = ((holds.guards live ours).each image cut).rests room.no_steps in
+            record {
+              rests = λ none. absurd (some_steps (omega (arith, none)));
+              guarded = λ _. subst (λ (k : ℕ). Guarded (layout_of log.shape.format) (image_view log.shape log.head (with_begun (entries_of numbers bytes) view)) k (flushed_of log.shape (with_begun (entries_of numbers bytes) view) (made_of (begun numbers log))) image) (sym w)
+                  (subst (λ (d : ℕ). Guarded (layout_of log.shape.format) (image_view log.shape log.head (with_begun (entries_of numbers bytes) view)) 0 d image) (sym f)
+                  (rests_begun (layout_of log.shape.format) (laws_of log.shape.format) (image_view log.shape log.head (with_begun (entries_of numbers bytes) view)) rests.keeps.super.some_slots few image
+                  (record { keeps = rests.keeps; carries = rests.carries })));
+            };
+        homed = λ is. (holds.guards live ours).homed (omega (arith, is, same));
+      };
     }
   where
     one_stamp : (numbers : List ℕ) → 1 ≤ length numbers → stamps_of numbers ≡ 1
     one_stamp [] some = absurd (omega arith)
     one_stamp (n ∷ numbers) some = refl
+
+    some_steps : steps_of log.shape.format numbers ≡ 0 → ⊥
+    some_steps none = absurd (omega (arith, none, steps_some log.shape.format (length numbers)))

@@ -1,31 +1,35 @@
 -- Each turn that retires the oldest durable record: what the log and its medium hold after it.
-use Rattle.std.proofs.Common.{◌≡◌, ◌≢◌, inl, inr, ⊎_elim, ℕ, ◌+◌, ◌-◌, ◌<◌, ◌≤◌, List, [], ◌∷◌, length, get_or, drop, refl, sym, ◌∙◌, ap, subst, arith}
-use Rattle.std.specs.Prelude.{All, map, slice_index, true, false, Option, Some, None}
-use Rattle.std.proofs.lemmas.Bool.{cases_lt}
+use Rattle.std.proofs.Common.{◌≡◌, ◌≢◌, ◌⊎◌, inl, inr, ⊎_elim, ℕ, ◌+◌, ◌-◌, ◌<◌, ◌≤◌, List, [], ◌∷◌, length, get_or, drop, refl, sym, ◌∙◌, ap, subst, arith}
+use Rattle.std.specs.Prelude.{All, replicate, map, true, false, Option, Some, None}
+use Rattle.std.proofs.lemmas.Bool.{cases_eq, cases_lt}
 use Rattle.std.proofs.lemmas.List.{length-map}
 use Rattle.std.proofs.Math.ListN.{get_or-map}
 use Rattle.medium.specs.Medium.{State, Image, IsSound}
 use Rattle.medium.specs.Moments.{LeavesOnly}
 use Rattle.medium.proofs.Moments.{quiet_leaves}
-use Rattle.log_layout.specs.Places.{Shape, slot_place, first_home, sectors_of}
+use Rattle.log_layout.specs.declared.log_format.LogFormat.{LogFormat}
+use Rattle.log_layout.specs.Places.{Shape, sectors_of}
 use Rattle.log_layout.specs.Sectors.{IsRising}
-use Rattle.log_layout.specs.Record.{Entry, numbers_of}
+use Rattle.log_image.specs.Record.{Entry, numbers_of}
+use Rattle.log_image.specs.Layout.{Layout}
+use Rattle.log_image.specs.Formats.{layout_of, IsWhole}
+use Rattle.log_image.specs.Staged.{HasSlots}
 use Rattle.redo_log.specs.declared.turn.Turn.{Turn}
-use Rattle.redo_log.specs.declared.turn.Turn.TheVariants.{Copy, Flush, Head}
-use Rattle.redo_log.specs.declared.stage.Writing.{Writing}
-use Rattle.redo_log.specs.declared.stage.Retiring.{Retiring}
-use Rattle.redo_log.specs.declared.stage.Retiring.TheVariants.{Copying, Homed}
-use Rattle.redo_log.specs.Value.{LogValue, of_oldest}
-use Rattle.redo_log.specs.Stages.{value_at, steps_at, retire_steps_from, oldest_at, AreInside, IsStageBehind}
+use Rattle.redo_log.specs.declared.turn.Turn.TheVariants.{Load, Copy, Flush, Head}
+use Rattle.redo_log.specs.Value.{LogValue, steps_for, turns_home, of_oldest}
+use Rattle.redo_log.specs.Stages.{value_at, steps_at, begun_at, oldest_at, homed_at, AreInside, IsRecord, IsRead, IsSized}
 use Rattle.redo_log.specs.Calls.{gaining}
-use Rattle.redo_log.specs.Turns.{MayTurn, IsTurned, IsNextTurn, IsFlushTurn}
-use Rattle.redo_log.specs.Held.{View, view_retired, MayLeave, Stores, Guards, HoldsView}
-use Rattle.redo_log.proofs.Keeping.{Logged-records}
-use Rattle.redo_log.proofs.Laying.{AreSmall}
+use Rattle.redo_log.specs.Turns.{begun_with, kept_by, MayTurn, IsTurned, IsNextTurn, IsFlushTurn, IsHeadTurn}
+use Rattle.redo_log.specs.Held.{View, view_retired, image_view, written_of, made_of, turned_of, MayLeave, Stores, Safe, Guards, HoldsView}
 use Rattle.redo_log.proofs.Adding.{moments_have}
-use Rattle.redo_log.proofs.Storing.{drop-length, Stores-stays, Stores-retire, home_stores, head_stores}
-use Rattle.redo_log.proofs.Guarding.{HasEither, home_each, home_guards, head_each, head_guards, homed_guards}
-use Rattle.redo_log.proofs.Stepping.{small_records, of_oldest_is, guards_leave}
+use Rattle.redo_log.proofs.Batching.{count_of, record_entries}
+use Rattle.redo_log.proofs.Counting.{steps_are, one_left, all_home}
+use Rattle.redo_log.proofs.Keeping.{Logged-records}
+use Rattle.redo_log.proofs.Storing.{drop-length, Stores-stays, Stores-turned, home_stores, head_stores}
+use Rattle.redo_log.proofs.Guarding.{safe_either, Guards-quiet, Guards-turned, home_each, homed_guards, head_each, head_guards, slots_less, past_records}
+use Rattle.redo_log.proofs.Stepping.{turned_at, of_oldest_is, turned_of_is, guards_leave}
+use Rattle.redo_log.proofs.Turning.{BringsHome, none_read, all_read, brings_home}
+use Rattle.log_image.proofs.Formats.{laws_of}
 
 -- without the oldest record its block numbers are gone too
 fewer_numbers : (records : List (List Entry)) (numbers : List ℕ) (newer : List (List ℕ)) → numbers ∷ newer ≡ map (λ r. numbers_of r) records → newer ≡ map (λ r. numbers_of r) (drop 1 records)
@@ -33,220 +37,288 @@ fewer_numbers [] numbers newer is = absurd (cc is)
 fewer_numbers (r ∷ records) numbers newer is = cc is
 
 -- the next record has come nowhere yet
-next_oldest : (newer : List (List ℕ)) → 0 < length (get_or newer 0 []) → length (get_or newer 0 []) + 2 ≤ oldest_at newer (Copying 0)
-next_oldest [] some = absurd (omega arith)
-next_oldest (n ∷ newer) some = omega arith
+nothing_home : (format : LogFormat) (newer : List (List ℕ)) (i count : ℕ) → count ≡ length (get_or newer 0 []) → i < homed_at format (turned_at format newer 0) → i < count → i < homed_at format 0
+nothing_home format [] i count many low high = absurd (omega (arith, high, many))
+nothing_home format (n ∷ newer) i count many low high =
+    let none : turned_at format (n ∷ newer) 0 ≡ 0 = omega arith in
+    subst (λ (t : ℕ). i < homed_at format t) none low
 
-not_homed : (newer : List (List ℕ)) → oldest_at newer (Copying 0) ≢ 1
-not_homed [] e = absurd (omega arith)
-not_homed (n ∷ newer) e = absurd (omega arith)
+not_homed : (format : LogFormat) (newer : List (List ℕ)) → oldest_at format newer 0 ≢ 1
+not_homed format [] e = absurd (omega (arith, e))
+not_homed format (n ∷ newer) e = absurd (omega (arith, e))
 
-module _ (shape : Shape) (head : ℕ) (numbers : List ℕ) (newer : List (List ℕ)) (under_way : List ℕ) (writing : Option Writing) (view : View) (some : 1 ≤ shape.slots)
-    (each : All (AreInside shape.blocks) (numbers ∷ newer)) (few : length under_way ≤ 48) where
+next_read : (format : LogFormat) (newer : List (List ℕ)) (stamp : ℕ) (entries : List Entry) (kept : List ℕ) → length entries ≡ length (get_or newer 0 []) → IsRead format stamp entries (turned_at format newer 0) kept
+next_read format [] stamp entries kept many = all_read format stamp entries (turned_at format [] 0) kept (let e : turns_home format (length entries) ≡ turns_home format 0 = ap (λ (n : ℕ). turns_home format n) many in omega (arith, e))
+next_read format (n ∷ newer) stamp entries kept many =
+    let none : 0 ≡ turned_at format (n ∷ newer) 0 = omega arith in
+    subst (λ (t : ℕ). IsRead format stamp entries t kept) none (none_read format stamp entries kept)
+
+module _ (shape : Shape) (sized : IsSized shape) (head : ℕ) (numbers : List ℕ) (newer : List (List ℕ)) (turned : ℕ) (kept under_way : List ℕ) (writing : Option ℕ) (view : View)
+    (each : All (AreInside shape) (numbers ∷ newer)) (fits_slots : length (numbers ∷ newer) + begun_at writing ≤ shape.slots) (so_far : turned < turns_home shape.format (length numbers) + 2)
+    (under : (made : ℕ) → writing ≡ Some made → IsRecord shape (head + length (numbers ∷ newer)) under_way × (made < steps_for shape.format (length under_way))) where
+  abbrev L : Layout
+  L = layout_of shape.format
+
   -- a log whose oldest record has come so far
-  abbrev pub waiting_log : Retiring → LogValue
-  waiting_log r = value_at shape head (numbers ∷ newer) r under_way writing false
+  abbrev pub waiting_log : ℕ → List ℕ → LogValue
+  waiting_log t k = value_at shape head (numbers ∷ newer) t k under_way writing false
 
-  -- how many steps the record under way needs
+  -- how many steps the record under way needs, and how many calls of it are made
   abbrev steps : ℕ
-  steps = steps_at (length under_way) writing
+  steps = steps_at shape.format (length under_way) writing
+
+  abbrev made : ℕ
+  made = made_of (value_at shape head (numbers ∷ newer) turned kept under_way writing false)
 
   -- the oldest record
   abbrev oldest : List Entry
   oldest = get_or view.records 0 []
 
-  first : AreInside shape.blocks numbers
+  -- how many turns bring it home
+  abbrev home : ℕ
+  home = turns_home shape.format (length numbers)
+
+  abbrev left : ℕ → ℕ
+  left t = turns_home shape.format (length numbers) + 2 - t
+
+  first : AreInside shape numbers
   first = each 0 [] (omega arith)
 
-  module _ (old new : State) (sound : IsSound old) (r : Retiring) (hv : HoldsView (waiting_log r) old view) where
+  -- where a record is under way its steps are these
+  begun_or_not : (w : Option ℕ) → writing ≡ w → (steps_at shape.format (length under_way) w ≡ 0) ⊎ ((m : ℕ) × (writing ≡ Some m) × (steps_at shape.format (length under_way) w ≡ steps_for shape.format (length under_way) - m))
+  begun_or_not None is = inl refl
+  begun_or_not (Some m) is = inr (m, is, refl)
+
+  module _ (old : State) (sound : IsSound old) (hv : HoldsView (waiting_log turned kept) old view) where
     many : length newer + 1 ≡ length view.records
     many = let f : List Entry → List ℕ = λ r. numbers_of r in omega (arith, ap (λ (l : List (List ℕ)). length l) hv.durable, length-map view.records f)
 
-    numbers_are : numbers ≡ numbers_of oldest
+    waits : 0 < length view.records
+    waits = omega (arith, many)
+
+    numbers_are : numbers ≡ numbers_of (get_or view.records 0 [])
     numbers_are = let f : List Entry → List ℕ = λ r. numbers_of r in ap (λ (l : List (List ℕ)). get_or l 0 []) hv.durable ∙ get_or-map f view.records 0 []
 
-    count : length numbers ≡ length oldest
-    count = let f : Entry → ℕ = λ e. e.0 in omega (arith, ap (λ (l : List ℕ). length l) numbers_are, length-map oldest f)
+    count : length numbers ≡ length (get_or view.records 0 [])
+    count = count_of numbers (get_or view.records 0 []) numbers_are
 
-    few_under_way : length view.under_way ≤ 48
-    few_under_way = let f : Entry → ℕ = λ e. e.0 in omega (arith, few, ap (λ (l : List ℕ). length l) hv.under_way, length-map view.under_way f)
+    home_is : turns_home shape.format (length numbers) ≡ turns_home shape.format (length (get_or view.records 0 []))
+    home_is = ap (λ (k : ℕ). turns_home shape.format k) count
 
-    small : AreSmall view.records
-    small = small_records shape.blocks view.records (numbers ∷ newer) hv.durable each
+    under_count : length under_way ≡ length view.under_way
+    under_count = count_of under_way view.under_way hv.under_way
 
-    rising : IsRising (numbers_of oldest)
+    rising : IsRising (numbers_of (get_or view.records 0 []))
     rising = subst IsRising numbers_are first.rising
 
-    stored : Stores shape head view steps (retire_steps_from (length oldest) r) old.content
-    stored = subst (λ (n : ℕ). Stores shape head view steps (retire_steps_from n r) old.content) count
-        (subst (λ (n : ℕ). Stores shape head view steps n old.content) (of_oldest_is shape head (numbers ∷ newer) r under_way writing false) (hv.stores refl))
+    slots : 0 < steps_at shape.format (length under_way) writing → HasSlots (layout_of shape.format) (image_view shape head view)
+    slots some = elim (begun_or_not writing refl) [
+      | inl none ↦ absurd (omega (arith, none, some))
+      | inr begun ↦
+          let u = under begun.0 begun.1 in
+          let one : begun_at writing ≡ 1 = ap (λ (w : Option ℕ). begun_at w) begun.1 in
+          let stamp_is : head + length (numbers ∷ newer) ≡ head + length view.records = omega (arith, many) in
+          let rec : IsRecord shape (head + length view.records) under_way = subst (λ (s : ℕ). IsRecord shape s under_way) stamp_is u.0 in
+          record {
+            some = sized.some;
+            room = omega (arith, many, fits_slots, one);
+            behind = sized.behind;
+            under_way = record_entries shape (head + length view.records) under_way view.under_way sized rec hv.under_way hv.sized;
+          }
+    ]
 
-    -- what is copied, and where to
-    copy_is : (i from : ℕ) → i < length oldest → from ≡ slot_place shape head + 1 + i → old.content from ≡ (get_or oldest i (0, [])).1
-    copy_is i from below at =
-        let zero_more : head ≡ head + 0 = omega arith in
-        ap old.content (at ∙ ap (λ (s : ℕ). slot_place shape s + 1 + i) zero_more) ∙ stored.laid.places 0 (omega (arith, many)) i below below
+    few_under_way : 0 < steps_at shape.format (length under_way) writing → length view.under_way ≤ (layout_of shape.format).most
+    few_under_way some = (slots some).under_way.fit.few
 
-    target_is : (i to : ℕ) → i < length oldest → to ≡ first_home shape + slice_index numbers i → to ≡ first_home shape + (get_or oldest i (0, [])).0
-    target_is i to below at =
-        let f : Entry → ℕ = λ e. e.0 in
-        let same : slice_index numbers i ≡ slice_index (numbers_of oldest) i = ap (λ (l : List ℕ). slice_index l i) numbers_are in
-        omega (arith, at, same, get_or-map f oldest i (0, []))
+    -- once all of it is written one step is left at most
+    short : (layout_of shape.format).parts (length view.under_way) ≤ written_of shape view made → steps_at shape.format (length under_way) writing ≤ 2
+    short all = elim (begun_or_not writing refl) [
+      | inl none ↦ omega (arith, none)
+      | inr begun ↦
+          let u = under begun.0 begun.1 in
+          let all_steps : steps_for shape.format (length under_way) ≡ L.parts (length view.under_way) + 1 + _ = ap (λ (k : ℕ). steps_for shape.format k) under_count ∙ steps_are shape.format (length view.under_way) in
+          let m_is : made ≡ begun.0 = omega (arith, begun.2, u.1) in
+          let one = one_left (L.early (length view.under_way)) (L.parts (length view.under_way)) ((laws_of shape.format).last_is_late (length view.under_way)) begun.0
+          (subst (λ (m : ℕ). L.parts (length view.under_way) ≤ written_of shape view m) m_is all) in
+          omega (arith, begun.2, all_steps, one)
+    ]
 
-    guarded : view.ours ≡ true → Guards shape head view steps (retire_steps_from (length oldest) r) old
-    guarded ours = subst (λ (n : ℕ). Guards shape head view steps (retire_steps_from n r) old) count
-        (subst (λ (n : ℕ). Guards shape head view steps n old) (of_oldest_is shape head (numbers ∷ newer) r under_way writing false) (hv.guards refl ours))
+    turned_is : turned_of (waiting_log turned kept) ≡ turned
+    turned_is = turned_of_is shape head (numbers ∷ newer) turned kept under_way writing false ∙ (omega (arith, so_far))
+
+    stored : Stores shape head view steps made turned old.content
+    stored = subst (λ (t : ℕ). Stores shape head view steps made t old.content) turned_is (hv.stores refl)
+
+    guarded : view.ours ≡ true → Guards shape head view steps made (left turned) old
+    guarded ours = subst (λ (r : ℕ). Guards shape head view steps made r old) (of_oldest_is shape head (numbers ∷ newer) turned kept under_way writing false) (hv.guards refl ours)
+
+    read : IsRead shape.format head (get_or view.records 0 []) turned kept
+    read = subst (λ (t : ℕ). IsRead shape.format head (get_or view.records 0 []) t kept) turned_is (hv.kept refl)
+
+    whole : IsWhole shape old.content head (get_or view.records 0 [])
+    whole = let none : head + 0 ≡ head = omega arith in subst (λ (s : ℕ). IsWhole shape old.content s (get_or view.records 0 [])) none (stored.laid.whole 0 waits)
+
+    -- what the next turn does, where not all is home
+    brings : (turn : Turn) → turned < turns_home shape.format (length numbers) → IsNextTurn shape head numbers kept turned turn → BringsHome shape.format shape old.content head (get_or view.records 0 []) turned kept turn
+    brings turn below next = brings_home shape old.content head (get_or view.records 0 []) numbers numbers_are shape.format turned kept turn whole (omega (arith, below, home_is)) read (next.home below)
 
     -- with the record under way or without it a cut may leave the image
-    either_leaves : (image : Image) → HasEither shape head view steps image → MayLeave old.size (waiting_log r) view image
-    either_leaves image l = ⊎_elim
+    safe_leaves : (image : Image) → Safe shape head view steps made image → MayLeave old.size (waiting_log turned kept) view image
+    safe_leaves image safe = ⊎_elim
         (λ rest. inl (Logged-records old.size shape head view.records view.array image hv.fits rest))
-        (λ both. inr (inl (omega (arith, both.0), omega (arith, both.0), Logged-records old.size shape head _ _ image hv.fits both.1)))
-        l
+        (λ both. inr (inl (both.0, short both.1, Logged-records old.size shape head _ _ image hv.fits both.2)))
+        (safe_either shape sized head view steps made image slots hv.few safe)
 
-    -- a record that still waits
-    held : (same_size : new.size ≡ old.size) (v : Retiring) → Stores shape head view steps (retire_steps_from (length oldest) v) new.content
-        → (view.ours ≡ true → Guards shape head view steps (retire_steps_from (length oldest) v) new)
-        → HoldsView (waiting_log v) new view
-    held same_size v s g =
-        let oldest_is = of_oldest_is shape head (numbers ∷ newer) v under_way writing false in
-        let guards : view.ours ≡ true → Guards shape head view steps (of_oldest (waiting_log v)) new = λ ours.
-        subst (λ (n : ℕ). Guards shape head view steps n new) (sym oldest_is) (subst (λ (n : ℕ). Guards shape head view steps (retire_steps_from n v) new) (sym count) (g ours)) in
-        let fits : sectors_of shape ≤ new.size = omega (arith, same_size, hv.fits) in
-        record {
-          fits = fits;
-          durable = hv.durable;
-          under_way = hv.under_way;
-          next = hv.next;
-          leaves = λ ours. guards_leave new.size (waiting_log v) view new fits (guards ours);
-          stores = λ live. subst (λ (n : ℕ). Stores shape head view steps n new.content) (sym oldest_is) (subst (λ (n : ℕ). Stores shape head view steps (retire_steps_from n v) new.content) (sym count) s);
-          guards = λ live ours. guards ours;
-        }
-
-  module _ (old new : State) (sound : IsSound old) where
-    -- a block is copied home
-    copy_leaves : (i : ℕ) (turn : Turn) → HoldsView (waiting_log (Copying i)) old view → i < length numbers → IsNextTurn shape head numbers (Copying i) turn → MayTurn turn old new → view.ours ≡ true
-        → LeavesOnly (MayLeave old.size (waiting_log (Copying i)) view) old new
-    copy_leaves i (Copy from to) hv below next adds ours =
-        let same = count old new sound (Copying i) hv in
-        let gained : State = record old { may_leave = gaining to (old.content from) old.may_leave } in
-        moments_have (MayLeave old.size (waiting_log (Copying i)) view) to (old.content from) old new adds
-        (λ image cut. either_leaves old new sound (Copying i) hv image
-        (home_each shape head view old gained sound to (old.content from) (λ s c left. left) i (omega (arith, many old new sound (Copying i) hv)) (omega arith)
-        (target_is old new sound (Copying i) hv i to (omega arith) (next.0 below).1) steps (guarded old new sound (Copying i) hv ours).each image cut))
-    copy_leaves i Flush hv below next adds ours = absurd (next.0 below)
-    copy_leaves i (Head bytes) hv below next adds ours = absurd (next.0 below)
-
-    flush_leaves : (i : ℕ) (turn : Turn) → HoldsView (waiting_log (Copying i)) old view → IsFlushTurn turn → MayTurn turn old new → view.ours ≡ true
-        → LeavesOnly (MayLeave old.size (waiting_log (Copying i)) view) old new
-    flush_leaves i (Copy from to) hv is adds ours = absurd is
-    flush_leaves i Flush hv is adds ours = quiet_leaves (MayLeave old.size (waiting_log (Copying i)) view) old new sound (hv.leaves ours) adds
-    flush_leaves i (Head bytes) hv is adds ours = absurd is
-
-    head_leaves : (turn : Turn) → HoldsView (waiting_log Homed) old view → IsNextTurn shape head numbers Homed turn → MayTurn turn old new → view.ours ≡ true
-        → LeavesOnly (MayLeave old.size (waiting_log Homed) view) old new
-    head_leaves (Copy from to) hv next adds ours = absurd next
-    head_leaves Flush hv next adds ours = absurd next
-    head_leaves (Head bytes) hv next adds ours =
-        let gained : State = record old { may_leave = gaining 1 bytes old.may_leave } in
-        let waits : 0 < length view.records = omega (arith, many old new sound Homed hv) in
-        moments_have (MayLeave old.size (waiting_log Homed) view) 1 bytes old new adds
-        (λ image cut. ⊎_elim
-        (either_leaves old new sound Homed hv image)
-        (λ past. ⊎_elim
-        (λ less. inr (inr (waits, omega arith, Logged-records old.size shape (head + 1) (drop 1 view.records) view.array image hv.fits less)))
-        (λ both. inr (inl (omega (arith, both.0), omega (arith, both.0), both.1)))
-        past)
-        (head_each shape head view old gained sound bytes waits next old.size steps hv.fits (λ s c left. left) (guarded old new sound Homed hv ours) image cut))
-
-    -- at each moment of the next turn a cut leaves what it might leave before, and with the new head the same array
-    pub turn_leaves : (r : Retiring) (turn : Turn) → HoldsView (waiting_log r) old view → IsNextTurn shape head numbers r turn → MayTurn turn old new → view.ours ≡ true
-        → LeavesOnly (MayLeave old.size (waiting_log r) view) old new
-    turn_leaves (Copying i) turn hv next adds ours = ⊎_elim
-        (λ below. copy_leaves i turn hv below next adds ours)
-        (λ all. flush_leaves i turn hv (next.1 all) adds ours)
-        (cases_lt i (length numbers))
-    turn_leaves Homed turn hv next adds ours = head_leaves turn hv next adds ours
-
-    module _ (same_size : new.size ≡ old.size) where
-      -- a block is copied home
-      copy_held : (i : ℕ) (turn : Turn) → HoldsView (waiting_log (Copying i)) old view → i < length numbers → IsNextTurn shape head numbers (Copying i) turn → MayTurn turn old new → IsTurned turn old new
-          → HoldsView (waiting_log (Copying (i + 1))) new view
-      copy_held i (Copy from to) hv below next adds wrote =
-          let same = count old new sound (Copying i) hv in
-          let waits : 0 < length view.records = omega (arith, many old new sound (Copying i) hv) in
-          let at = target_is old new sound (Copying i) hv i to (omega arith) (next.0 below).1 in
-          held old new sound (Copying i) hv same_size (Copying (i + 1))
-          (home_stores shape head view steps old.content new.content to (old.content from) wrote i (omega arith) (small old new sound (Copying i) hv) waits
-          (few_under_way old new sound (Copying i) hv) (rising old new sound (Copying i) hv) (omega arith) at (copy_is old new sound (Copying i) hv i from (omega arith) (next.0 below).0) (stored old new sound (Copying i) hv))
-          (λ ours. home_guards shape head view old new sound to (old.content from) adds.sets i waits (omega arith) at steps (length oldest - i + 2) (length oldest - (i + 1) + 2) (λ e. omega arith)
-          (omega arith) (few_under_way old new sound (Copying i) hv) wrote (guarded old new sound (Copying i) hv ours))
-      copy_held i Flush hv below next adds wrote = absurd (next.0 below)
-      copy_held i (Head bytes) hv below next adds wrote = absurd (next.0 below)
-
-      -- the blocks are flushed at home
-      flush_held : (i : ℕ) (turn : Turn) → HoldsView (waiting_log (Copying i)) old view → length numbers ≤ i → IsFlushTurn turn → IsTurned turn old new → HoldsView (waiting_log Homed) new view
-      flush_held i (Copy from to) hv all is done = absurd is
-      flush_held i Flush hv all is done =
-          let same = count old new sound (Copying i) hv in
-          let two : length oldest - i + 2 ≡ 2 = omega arith in
-          let s : Stores shape head view steps 2 old.content = subst (λ (n : ℕ). Stores shape head view steps n old.content) two (stored old new sound (Copying i) hv) in
-          held old new sound (Copying i) hv same_size Homed
-          (Stores-retire shape head view steps 2 1 new.content (omega arith) (Stores-stays shape head view steps 2 old.content new.content done.0 s))
-          (λ ours. homed_guards shape head view old new sound steps done.1 done.0 s (subst (λ (n : ℕ). Guards shape head view steps n old) two (guarded old new sound (Copying i) hv ours)))
-      flush_held i (Head bytes) hv all is done = absurd is
-
-      -- the log after the last turn, with one record less
-      abbrev retired_log : LogValue
-      retired_log = value_at shape (head + 1) newer (Copying 0) under_way writing false
-
-      -- the head goes past the record
-      head_held : (turn : Turn) → HoldsView (waiting_log Homed) old view → IsNextTurn shape head numbers Homed turn → MayTurn turn old new → IsTurned turn old new
-          → HoldsView retired_log new (view_retired 1 view)
-      head_held (Copy from to) hv next adds done = absurd next
-      head_held Flush hv next adds done = absurd next
-      head_held (Head bytes) hv next adds done =
-          let f : List Entry → List ℕ = λ r. numbers_of r in
-          let g : Entry → ℕ = λ e. e.0 in
-          let as_many = many old new sound Homed hv in
-          let waits : 0 < length view.records = omega (arith, as_many) in
+    module _ (new : State) where
+      -- a record that still waits
+      held : (same_size : new.size ≡ old.size) (t : ℕ) (k : List ℕ) → t < turns_home shape.format (length numbers) + 2 → IsRead shape.format head (get_or view.records 0 []) t k
+          → Stores shape head view steps made t new.content → (view.ours ≡ true → Guards shape head view steps made (left t) new)
+          → HoldsView (waiting_log t k) new view
+      held same_size t k below r s g =
+          let oldest_is = of_oldest_is shape head (numbers ∷ newer) t k under_way writing false in
+          let t_is : turned_of (waiting_log t k) ≡ t = turned_of_is shape head (numbers ∷ newer) t k under_way writing false ∙ (omega (arith, below)) in
           let fits : sectors_of shape ≤ new.size = omega (arith, same_size, hv.fits) in
-          let durable = fewer_numbers view.records numbers newer hv.durable in
-          let after : ℕ = oldest_at newer (Copying 0) in
-          let oldest_is = of_oldest_is shape (head + 1) newer (Copying 0) under_way writing false in
-          let second : get_or newer 0 [] ≡ numbers_of (get_or (drop 1 view.records) 0 []) = ap (λ (l : List (List ℕ)). get_or l 0 []) durable ∙ get_or-map f (drop 1 view.records) 0 [] in
-          let long : length (get_or newer 0 []) ≡ length (get_or (drop 1 view.records) 0 []) = ap (λ (l : List ℕ). length l) second ∙ length-map (get_or (drop 1 view.records) 0 []) g in
-          let stores : Stores shape (head + 1) (view_retired 1 view) steps (of_oldest retired_log) new.content = subst (λ (n : ℕ). Stores shape (head + 1) (view_retired 1 view) steps n new.content) (sym oldest_is)
-          (head_stores shape head view steps after old.content new.content bytes done.0 waits (λ some. omega (arith, long, next_oldest newer (omega (arith, some, long)))) (stored old new sound Homed hv)) in
-          let guards : view.ours ≡ true → Guards shape (head + 1) (view_retired 1 view) steps (of_oldest retired_log) new = λ ours. subst (λ (n : ℕ). Guards shape (head + 1) (view_retired 1 view) steps n new) (sym oldest_is)
-          (head_guards shape head view old new sound bytes waits next steps after (not_homed newer) (few_under_way old new sound Homed hv) done.0 done.1 (guarded old new sound Homed hv ours)) in
           record {
             fits = fits;
-            durable = durable;
+            durable = hv.durable;
             under_way = hv.under_way;
-            next = omega (arith, hv.next, as_many, drop-length view.records waits);
-            leaves = λ ours. guards_leave new.size retired_log (view_retired 1 view) new fits (guards ours);
-            stores = λ live. stores;
-            guards = λ live ours. guards ours;
+            next = hv.next;
+            few = hv.few;
+            sized = hv.sized;
+            kept = λ live. subst (λ (x : ℕ). IsRead shape.format head (get_or view.records 0 []) x k) (sym t_is) r;
+            leaves = λ ours. guards_leave new.size (waiting_log t k) view new made (left t) fits sized hv.few slots short (g ours);
+            stores = λ live. subst (λ (x : ℕ). Stores shape head view steps made x new.content) (sym t_is) s;
+            guards = λ live ours. subst (λ (x : ℕ). Guards shape head view steps made x new) (sym oldest_is) (g ours);
           }
 
-      at_stage : (v found : Retiring) → v ≡ found → HoldsView (waiting_log found) new view → HoldsView (waiting_log v) new view
-      at_stage v found is hv = subst (λ (w : Retiring). HoldsView (waiting_log w) new view) (sym is) hv
+      -- a turn before the flush
+      home_leaves : (turn : Turn) → BringsHome shape.format shape old.content head (get_or view.records 0 []) turned kept turn → MayTurn turn old new → view.ours ≡ true
+          → LeavesOnly (MayLeave old.size (waiting_log turned kept) view) old new
+      home_leaves (Load from) does adds ours = quiet_leaves (MayLeave old.size (waiting_log turned kept) view) old new sound (hv.leaves ours) adds
+      home_leaves (Copy from to begin) does adds ours =
+          let bytes : List ℕ = begun_with begin (old.content from) in
+          let gained : State = record old { may_leave = gaining to (begun_with begin (old.content from)) old.may_leave } in
+          moments_have (MayLeave old.size (waiting_log turned kept) view) to (begun_with begin (old.content from)) old new adds
+          (λ image cut. safe_leaves image
+          (home_each shape sized head view old gained sound steps made slots to (begun_with begin (old.content from)) (λ s c left. left) (homed_at shape.format turned) waits does.below does.at (guarded ours).each image cut))
+      home_leaves Flush does adds ours = absurd does
+      home_leaves (Head bytes) does adds ours = absurd does
 
-      -- after a turn that is not the last the log and its medium hold the same view
-      pub turn_held : (r : Retiring) (turn : Turn) (v : Retiring) → HoldsView (waiting_log r) old view → IsNextTurn shape head numbers r turn → MayTurn turn old new → IsTurned turn old new
-          → IsStageBehind (length numbers) r (Some v) → HoldsView (waiting_log v) new view
-      turn_held (Copying i) turn v hv next adds done is = ⊎_elim
-          (λ below. at_stage v (Copying (i + 1)) (let e = is.0 below in cc e) (copy_held i turn hv below next adds done))
-          (λ all. at_stage v Homed (let e = is.1 all in cc e) (flush_held i turn hv all (next.1 all) done))
-          (cases_lt i (length numbers))
-      turn_held Homed turn v hv next adds done is = absurd (cc is)
+      flush_leaves : (turn : Turn) → IsFlushTurn turn → MayTurn turn old new → view.ours ≡ true → LeavesOnly (MayLeave old.size (waiting_log turned kept) view) old new
+      flush_leaves (Load from) is adds ours = absurd is
+      flush_leaves (Copy from to begin) is adds ours = absurd is
+      flush_leaves Flush is adds ours = quiet_leaves (MayLeave old.size (waiting_log turned kept) view) old new sound (hv.leaves ours) adds
+      flush_leaves (Head bytes) is adds ours = absurd is
 
-      -- after the last turn they hold the one without the record
-      pub turn_last : (r : Retiring) (turn : Turn) → HoldsView (waiting_log r) old view → IsNextTurn shape head numbers r turn → MayTurn turn old new → IsTurned turn old new
-          → IsStageBehind (length numbers) r None → HoldsView retired_log new (view_retired 1 view)
-      turn_last (Copying i) turn hv next adds done is = ⊎_elim
-          (λ below. let e = is.0 below in absurd (cc e))
-          (λ all. let e = is.1 all in absurd (cc e))
-          (cases_lt i (length numbers))
-      turn_last Homed turn hv next adds done is = head_held turn hv next adds done
+      head_leaves : (turn : Turn) → turned ≡ turns_home shape.format (length numbers) + 1 → IsHeadTurn (head + 1) turn → MayTurn turn old new → view.ours ≡ true
+          → LeavesOnly (MayLeave old.size (waiting_log turned kept) view) old new
+      head_leaves (Load from) last is adds ours = absurd is
+      head_leaves (Copy from to begin) last is adds ours = absurd is
+      head_leaves Flush last is adds ours = absurd is
+      head_leaves (Head bytes) last is adds ours =
+          let gained : State = record old { may_leave = gaining 1 bytes old.may_leave } in
+          let one : left turned ≡ 1 = omega (arith, last) in
+          let last_one : of_oldest (waiting_log turned kept) ≡ 1 = of_oldest_is shape head (numbers ∷ newer) turned kept under_way writing false ∙ one in
+          moments_have (MayLeave old.size (waiting_log turned kept) view) 1 bytes old new adds
+          (λ image cut. ⊎_elim
+          (safe_leaves image)
+          (λ past. ⊎_elim
+          (λ rest. inr (inr (waits, omega (arith, last_one), Logged-records old.size shape (head + 1) (drop 1 view.records) view.array image hv.fits rest)))
+          (λ both. inr (inl (both.0, short both.1, past_records old.size shape head view image hv.fits waits past.1 both.2)))
+          (safe_either shape sized (head + 1) (view_retired 1 view) steps made image (λ some. slots_less shape head view waits (slots some)) (omega (arith, hv.few, drop-length view.records waits)) past.0))
+          (head_each shape sized head view old gained sound steps made slots bytes waits is (λ s c left. left) (subst (λ (r : ℕ). Guards shape head view steps made r old) one (guarded ours)) image cut))
+
+      -- at each moment of the next turn a cut leaves what it might leave before, and with the new head the same array
+      pub turn_leaves : (turn : Turn) → IsNextTurn shape head numbers kept turned turn → MayTurn turn old new → view.ours ≡ true
+          → LeavesOnly (MayLeave old.size (waiting_log turned kept) view) old new
+      turn_leaves turn next adds ours = elim (cases_lt turned (turns_home shape.format (length numbers))) [
+        | inl below ↦ home_leaves turn (brings turn below next) adds ours
+        | inr all ↦ elim (cases_eq turned (turns_home shape.format (length numbers))) [
+          | inl is ↦ flush_leaves turn (next.flush is) adds ours
+          | inr not ↦ let last : turned ≡ turns_home shape.format (length numbers) + 1 = omega (arith, all, not, so_far) in head_leaves turn last (next.head last) adds ours
+        ]
+      ]
+
+      module _ (same_size : new.size ≡ old.size) where
+        home_held : (turn : Turn) → turned < turns_home shape.format (length numbers) → BringsHome shape.format shape old.content head (get_or view.records 0 []) turned kept turn → MayTurn turn old new → IsTurned turn old new
+            → HoldsView (waiting_log (turned + 1) (kept_by turn old kept)) new view
+        home_held (Load from) below does adds wrote = held same_size (turned + 1) (old.content from) (omega (arith, below)) does.1
+            (Stores-turned shape sized head view steps made turned (turned + 1) new.content (λ i low high. omega (arith, low, does.0))
+            (Stores-stays shape sized head view steps steps made made turned old.content new.content wrote (λ some. some) (omega arith) stored))
+            (λ ours. Guards-turned shape sized head view steps made (left turned) (left (turned + 1)) new (λ e. omega (arith, e, below)) (Guards-quiet shape sized head view steps made (left turned) old new adds (guarded ours)))
+        home_held (Copy from to begin) below does adds wrote = held same_size (turned + 1) kept (omega (arith, below)) does.read
+            (home_stores shape sized head view steps made turned old.content new.content to (begun_with begin (old.content from)) wrote (homed_at shape.format turned) few_under_way waits rising refl does.more does.below does.at does.bytes stored)
+            (λ ours. record {
+              each = home_each shape sized head view old new sound steps made slots to (begun_with begin (old.content from)) adds.sets (homed_at shape.format turned) waits does.below does.at (guarded ours).each;
+              homed = λ e. absurd (omega (arith, e, below));
+            })
+        home_held Flush below does adds wrote = absurd does
+        home_held (Head bytes) below does adds wrote = absurd does
+
+        -- the blocks are flushed at home
+        flush_held : (turn : Turn) → turned ≡ turns_home shape.format (length numbers) → IsFlushTurn turn → IsTurned turn old new → HoldsView (waiting_log (turned + 1) (kept_by turn old kept)) new view
+        flush_held (Load from) all is wrote = absurd is
+        flush_held (Copy from to begin) all is wrote = absurd is
+        flush_held Flush all is wrote =
+            let s = Stores-stays shape sized head view steps steps made made turned old.content new.content wrote.0 (λ some. some) (omega arith) stored in
+            let there : length (get_or view.records 0 []) ≤ homed_at shape.format turned = all_home shape.format (length (get_or view.records 0 [])) turned (omega (arith, all, home_is)) (omega (arith, so_far, home_is)) in
+            held same_size (turned + 1) kept (omega (arith, all))
+            (all_read shape.format head (get_or view.records 0 []) (turned + 1) kept (omega (arith, all, home_is)))
+            (Stores-turned shape sized head view steps made turned (turned + 1) new.content (λ i low high. omega (arith, high, there)) s)
+            (λ ours. homed_guards shape sized head view old new sound steps made (left turned) (left (turned + 1)) (homed_at shape.format turned) wrote.1 there stored.copied (guarded ours))
+        flush_held (Head bytes) all is wrote = absurd is
+
+        -- after a turn that is not the last the log and its medium hold the same view
+        pub turn_held : (turn : Turn) → turned ≤ turns_home shape.format (length numbers) → IsNextTurn shape head numbers kept turned turn → MayTurn turn old new → IsTurned turn old new
+            → HoldsView (waiting_log (turned + 1) (kept_by turn old kept)) new view
+        turn_held turn more next adds wrote = elim (cases_lt turned (turns_home shape.format (length numbers))) [
+          | inl below ↦ home_held turn below (brings turn below next) adds wrote
+          | inr all ↦ let is : turned ≡ turns_home shape.format (length numbers) = omega (arith, all, more) in flush_held turn is (next.flush is) wrote
+        ]
+
+        -- the log after the last turn, with one record less
+        abbrev retired_log : List ℕ → LogValue
+        retired_log k = value_at shape (head + 1) newer 0 k under_way writing false
+
+        -- the head goes past the record
+        head_held : (turn : Turn) → turned ≡ turns_home shape.format (length numbers) + 1 → IsHeadTurn (head + 1) turn → MayTurn turn old new → IsTurned turn old new
+            → HoldsView (retired_log (replicate 512 0)) new (view_retired 1 view)
+        head_held (Load from) last is adds wrote = absurd is
+        head_held (Copy from to begin) last is adds wrote = absurd is
+        head_held Flush last is adds wrote = absurd is
+        head_held (Head bytes) last is adds wrote =
+            let f : List Entry → List ℕ = λ r. numbers_of r in
+            let fits : sectors_of shape ≤ new.size = omega (arith, same_size, hv.fits) in
+            let durable = fewer_numbers view.records numbers newer hv.durable in
+            let after : ℕ = oldest_at shape.format newer 0 in
+            let oldest_is = of_oldest_is shape (head + 1) newer 0 (replicate 512 0) under_way writing false in
+            let t_is = turned_of_is shape (head + 1) newer 0 (replicate 512 0) under_way writing false in
+            let second : get_or newer 0 [] ≡ numbers_of (get_or (drop 1 view.records) 0 []) = ap (λ (l : List (List ℕ)). get_or l 0 []) durable ∙ get_or-map f (drop 1 view.records) 0 [] in
+            let long : length (get_or newer 0 []) ≡ length (get_or (drop 1 view.records) 0 []) = count_of (get_or newer 0 []) (get_or (drop 1 view.records) 0 []) second in
+            let there : length (get_or view.records 0 []) ≤ homed_at shape.format turned = all_home shape.format (length (get_or view.records 0 [])) turned (omega (arith, last, home_is)) (omega (arith, so_far, home_is)) in
+            let one : left turned ≡ 1 = omega (arith, last) in
+            let fewer : length view.records ≡ length (drop 1 view.records) + 1 = drop-length view.records waits in
+            let stores : Stores shape (head + 1) (view_retired 1 view) steps made (turned_at shape.format newer 0) new.content =
+            Stores-turned shape sized (head + 1) (view_retired 1 view) steps made 0 (turned_at shape.format newer 0) new.content (λ i low high. nothing_home shape.format newer i (length (get_or (drop 1 view.records) 0 [])) (sym long) low high)
+            (head_stores shape sized head view steps made turned old.content new.content bytes wrote.0 waits there stored) in
+            let guards : view.ours ≡ true → Guards shape (head + 1) (view_retired 1 view) steps made (oldest_at shape.format newer 0) new = λ ours.
+            head_guards shape sized head view old new sound steps made slots bytes waits is (oldest_at shape.format newer 0) (not_homed shape.format newer) wrote.0 wrote.1 (subst (λ (r : ℕ). Guards shape head view steps made r old) one (guarded ours)) in
+            record {
+              fits = fits;
+              durable = durable;
+              under_way = hv.under_way;
+              next = omega (arith, hv.next, many, fewer);
+              few = omega (arith, hv.few, fewer);
+              sized = hv.sized;
+              kept = λ live. subst (λ (x : ℕ). IsRead shape.format (head + 1) (get_or (drop 1 view.records) 0 []) x (replicate 512 0)) (sym t_is) (next_read shape.format newer (head + 1) (get_or (drop 1 view.records) 0 []) (replicate 512 0) (sym long));
+              leaves = λ ours. guards_leave new.size (retired_log (replicate 512 0)) (view_retired 1 view) new made (oldest_at shape.format newer 0) fits sized (omega (arith, hv.few, fewer)) (λ some. slots_less shape head view waits (slots some)) short (guards ours);
+              stores = λ live. subst (λ (x : ℕ). Stores shape (head + 1) (view_retired 1 view) steps made x new.content) (sym t_is) stores;
+              guards = λ live ours. subst (λ (x : ℕ). Guards shape (head + 1) (view_retired 1 view) steps made x new) (sym oldest_is) (guards ours);
+            }
+
+        -- after the last turn they hold the one without the record
+        pub turn_last : (turn : Turn) → turns_home shape.format (length numbers) < turned → IsNextTurn shape head numbers kept turned turn → MayTurn turn old new → IsTurned turn old new
+            → HoldsView (value_at shape (head + 1) newer 0 (replicate 512 0) under_way writing false) new (view_retired 1 view)
+        turn_last turn past next adds wrote =
+            let last : turned ≡ turns_home shape.format (length numbers) + 1 = omega (arith, past, so_far) in
+            head_held turn last (next.head last) adds wrote

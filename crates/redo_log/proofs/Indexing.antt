@@ -1,17 +1,15 @@
--- What a search finds among entries that are sorted by block, and what an edit at that place does.
-use Rattle.std.proofs.Common.{◌≡◌, ◌≢◌, ◌⊎◌, inl, inr, ℕ, zero, suc, ◌+◌, ◌-◌, ◌<◌, ◌≤◌, List, [], ◌∷◌, length, get_or, set, if◌then◌else◌, Some, None, Result, Ok, Err, IfOk, IfErr, refl, sym, ◌∙◌, ap, subst, arith}
+-- What a search finds among entries that are sorted by block, and what is left of them without a slot.
+use Rattle.std.proofs.Common.{◌≡◌, ◌≢◌, ◌⊎◌, inl, inr, ℕ, zero, suc, ◌+◌, ◌<◌, ◌≤◌, List, [], ◌∷◌, length, get_or, if◌then◌else◌, Some, None, Result, Ok, Err, IfOk, IfErr, refl, sym, ◌∙◌, ap, subst, arith}
 use Rattle.std.specs.Prelude.{◌==◌, Bool, true, false}
-use Rattle.std.specs.List.{insert, filter}
+use Rattle.std.specs.List.{filter}
 use Rattle.std.specs.List.Sorted.{IsSearchInRange, IsBinarySearchResult, IsNonDecreasingBy}
 use Rattle.std.specs.Ordering.{nat_cmp, ordering_index}
 use Rattle.std.proofs.lemmas.Cmp.{ranked}
 use Rattle.std.proofs.lemmas.Bool.{cases_eq}
 use Rattle.std.proofs.lemmas.Bool.Decides.{nat_tests}
-use Rattle.std.proofs.lemmas.Grind.{common_steps}
 use Rattle.std.proofs.lemmas.List.Sorted.{IsNonDecreasingBy-from_default}
-use Rattle.std.proofs.lemmas.List.Edits.{length-insert, get_or-insert_below, get_or-insert_at, get_or-insert_above}
 use Rattle.redo_log.specs.declared.index.Copied.{Copied}
-use Rattle.redo_log.specs.Index.{look, with_copy, outside, block_at, IsSorted, IsGapFor}
+use Rattle.redo_log.specs.Index.{look, outside, block_at, IsSorted, IsGapFor}
 
 -- no entry
 abbrev pub blank : Copied
@@ -32,18 +30,6 @@ pub look-present : (index : List Copied) (block i : ℕ) → i < length index �
 look-present [] block i below is none = absurd (omega (arith, below))
 look-present (c ∷ index) block zero below is none = grind (arith, nat_tests, is)
 look-present (c ∷ index) block (suc i) below is none = grind (arith, nat_tests, none 0 (omega arith), look-present index block i (omega arith) is (none_in_tail c index block i none))
-
--- the entry at the place is written over
-look-set : (index : List Copied) (c : Copied) (i : ℕ) → i < length index → block_at index i ≡ c.block → NoneBefore index c.block i → (b : ℕ) → look (set index i c) b ≡ with_copy c.block (c.slot, c.place) (look index) b
-look-set [] c i below is none b = absurd (omega (arith, below))
-look-set (x ∷ index) c zero below is none b = grind (arith, nat_tests, is)
-look-set (x ∷ index) c (suc i) below is none b = grind (arith, nat_tests, none 0 (omega arith), look-set index c i (omega arith) is (none_in_tail x index c.block i none) b)
-
--- an entry comes before any with its block
-look-insert : (index : List Copied) (c : Copied) (i : ℕ) → NoneBefore index c.block i → (b : ℕ) → look (insert index i c) b ≡ with_copy c.block (c.slot, c.place) (look index) b
-look-insert index c zero none b = refl
-look-insert [] c (suc i) none b = refl
-look-insert (x ∷ index) c (suc i) none b = grind (arith, nat_tests, none 0 (omega arith), look-insert index c i (none_in_tail x index c.block i none) b)
 
 module _ (index : List Copied) (sorted : IsSorted index) (block : ℕ) where
   -- the comparisons with the block rise along the list, as a binary search asks
@@ -73,32 +59,8 @@ look_found index sorted at block below is = look-present index block at below is
 pub look_gap : (index : List Copied) (at block : ℕ) → IsGapFor index block at → look index block ≡ None
 look_gap index at block gap = look-absent index block (λ j lt same. grind (arith, gap.smaller j, gap.greater j))
 
-module _ (index : List Copied) (sorted : IsSorted index) (at : ℕ) (c : Copied) (below : at < length index) (is : block_at index at ≡ c.block) where
-  none_before_at : NoneBefore index c.block at
-  none_before_at j lt same = omega (arith, sorted j at lt below, is)
-
-  pub look_set : (b : ℕ) → look (set index at c) b ≡ with_copy c.block (c.slot, c.place) (look index) b
-  look_set b = look-set index c at below is none_before_at b
-
-  pub sorted_set : IsSorted (set index at c)
-  sorted_set i j lt in_range = grind (arith, common_steps, sorted i j, sorted i at, sorted at j, below, is)
-
-module _ (index : List Copied) (at : ℕ) (c : Copied) (gap : IsGapFor index c.block at) where
-  pub look_insert : (b : ℕ) → look (insert index at c) b ≡ with_copy c.block (c.slot, c.place) (look index) b
-  look_insert b = look-insert index c at (λ j lt same. omega (arith, gap.smaller j lt)) b
-
-  pub sorted_insert : IsSorted index → IsSorted (insert index at c)
-  sorted_insert sorted i j lt in_range =
-      let new = insert index at c in
-      let block = λ (x : Copied). x.block in
-      let long = length-insert index at c gap.in_range in
-      let under : (i : ℕ) → i < at → block_at new i ≡ block_at index i = λ i less. ap block (get_or-insert_below index at c blank i less gap.in_range) in
-      let here : (i : ℕ) → i ≡ at → block_at new i ≡ c.block = λ i is. rw is (ap block (get_or-insert_at index at c blank gap.in_range)) in
-      let over : (i : ℕ) → at < i → block_at new i ≡ block_at index (i - 1) = λ i more. subst (λ q. block_at new q ≡ block_at index (i - 1)) {x = i - 1 + 1} (omega arith) (ap block (get_or-insert_above index at c blank (i - 1) (omega arith) gap.in_range)) in
-      grind (arith, under i, here i, over i, under j, here j, over j, sorted i j, sorted i (j - 1), sorted (i - 1) (j - 1), gap.smaller i, gap.greater (j - 1))
-
--- sorted, by recursion
-abbrev IsAbove : ℕ → List Copied → Type 0
+-- all blocks are at least this one
+abbrev pub IsAbove : ℕ → List Copied → Type 0
 IsAbove least index = (i : ℕ) → i < length index → least ≤ block_at index i
 
 sorted_tail : (c : Copied) (index : List Copied) → IsSorted (c ∷ index) → IsSorted index
@@ -107,18 +69,18 @@ sorted_tail c index sorted i j less below = sorted (suc i) (suc j) (omega arith)
 above_tail : (c : Copied) (index : List Copied) → IsSorted (c ∷ index) → IsAbove (c.block + 1) index
 above_tail c index sorted i below = omega (arith, sorted 0 (suc i) (omega arith) (omega arith))
 
-above_cons : (least : ℕ) (c : Copied) (index : List Copied) → least ≤ c.block → IsAbove least index → IsAbove least (c ∷ index)
+pub above_cons : (least : ℕ) (c : Copied) (index : List Copied) → least ≤ c.block → IsAbove least index → IsAbove least (c ∷ index)
 above_cons least c index first above zero below = first
 above_cons least c index first above (suc i) below = above i (omega arith)
 
-sorted_cons : (c : Copied) (index : List Copied) → IsAbove (c.block + 1) index → IsSorted index → IsSorted (c ∷ index)
+pub sorted_cons : (c : Copied) (index : List Copied) → IsAbove (c.block + 1) index → IsSorted index → IsSorted (c ∷ index)
 sorted_cons c index above sorted zero zero less below = absurd (omega arith)
 sorted_cons c index above sorted zero (suc j) less below = omega (arith, above j (omega arith))
 sorted_cons c index above sorted (suc i) zero less below = absurd (omega arith)
 sorted_cons c index above sorted (suc i) (suc j) less below = sorted i j (omega arith) (omega arith)
 
 -- a block below all entries is not found
-look_above : (index : List Copied) (block : ℕ) → IsAbove (block + 1) index → look index block ≡ None
+pub look_above : (index : List Copied) (block : ℕ) → IsAbove (block + 1) index → look index block ≡ None
 look_above index block above = look-absent index block (λ j less same. omega (arith, above j less))
 
 decided : (t : Bool) → (t ≡ true) ⊎ (t ≡ false)

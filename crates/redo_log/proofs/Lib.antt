@@ -1,5 +1,7 @@
 pub mod Keeping
-pub mod Logging
+pub mod Counting
+pub mod Turning
+pub mod Batching
 pub mod Laying
 pub mod Storing
 pub mod Guarding
@@ -11,7 +13,7 @@ pub mod Handing
 pub mod Ringing
 pub mod Indexing
 pub mod Newest
+pub mod Merging
 pub mod Entering
 pub mod Adding
-pub mod Batching
 pub mod Sparing

@@ -3,7 +3,7 @@ use Rattle.std.proofs.Common.{◌≡◌, ◌≢◌, ◌⊎◌, inl, inr, ⊎_eli
 use Rattle.std.specs.Prelude.{◌==◌, Bool, true, false, slice_index, Contains}
 use Rattle.std.proofs.lemmas.Bool.{cases_eq}
 use Rattle.std.proofs.lemmas.Bool.Decides.{nat_tests}
-use Rattle.log_layout.proofs.Slots.{other_slot}
+use Rattle.log_image.proofs.Slots.{other_slot}
 use Rattle.redo_log.specs.Index.{Copies, no_copies, with_copy, with_copies, copies_of, outside}
 
 -- the same copies under a copy
@@ -14,15 +14,6 @@ with_copy-same block copy old new b same = ap (λ (o : Option (ℕ × ℕ)). if 
 pub with_copies-same : (slot place : ℕ) (numbers : List ℕ) (old new : Copies) (b : ℕ) → old b ≡ new b → with_copies slot place numbers old b ≡ with_copies slot place numbers new b
 with_copies-same slot place [] old new b same = same
 with_copies-same slot place (n ∷ numbers) old new b same = with_copies-same slot (place + 1) numbers (with_copy n (slot, place) old) (with_copy n (slot, place) new) b (with_copy-same n (slot, place) old new b same)
-
--- one block more
-pub with_copies-more : (slot place : ℕ) (numbers : List ℕ) (n : ℕ) (old : Copies) (b : ℕ) → with_copies slot place (numbers ++ n ∷ []) old b ≡ with_copy n (slot, place + length numbers) (with_copies slot place numbers old) b
-with_copies-more slot place [] n old b =
-    let e : place ≡ place + 0 = omega arith in
-    ap (λ (p : ℕ). with_copy n (slot, p) old b) e
-with_copies-more slot place (x ∷ numbers) n old b =
-    let e : place + 1 + length numbers ≡ place + length (x ∷ numbers) = omega arith in
-    with_copies-more slot (place + 1) numbers n (with_copy x (slot, place) old) b ∙ ap (λ (p : ℕ). with_copy n (slot, p) (with_copies slot place (x ∷ numbers) old) b) e
 
 -- one record more
 pub copies_of-more : (slots stamp : ℕ) (records : List (List ℕ)) (numbers : List ℕ) (old : Copies) (b : ℕ)
@@ -156,7 +147,17 @@ from_records slots stamp (r ∷ records) old b copy is = elim (from_records slot
 pub newest_is : (slots stamp : ℕ) (records : List (List ℕ)) (b : ℕ) (copy : ℕ × ℕ) → copies_of slots stamp records no_copies b ≡ Some copy → IsNewest slots stamp records b copy
 newest_is slots stamp records b copy is = ⊎_elim (λ found. found) (λ older. absurd (cc older.0)) (from_records slots stamp records no_copies b copy is)
 
-none_in_record : (slot place : ℕ) (numbers : List ℕ) (old : Copies) (b : ℕ) → with_copies slot place numbers old b ≡ None → (old b ≡ None) × ((k : ℕ) → k < length numbers → slice_index numbers k ≢ b)
+-- a record that does not name the block leaves its copy
+pub with_copies-other : (slot place : ℕ) (numbers : List ℕ) (old : Copies) (b : ℕ) → ((k : ℕ) → k < length numbers → slice_index numbers k ≢ b) → with_copies slot place numbers old b ≡ old b
+with_copies-other slot place [] old b none = refl
+with_copies-other slot place (n ∷ numbers) old b none =
+    let not : n ≢ b = none 0 (omega arith) in
+    let other : (n == b) ≡ false = grind (arith, nat_tests, not) in
+    with_copies-other slot (place + 1) numbers (with_copy n (slot, place) old) b (λ k below. none (suc k) (omega arith))
+    ∙ ap (λ (t : Bool). if t then Some (slot, place) else old b) other
+
+-- a block without a copy is not named by the record put over
+pub none_in_record : (slot place : ℕ) (numbers : List ℕ) (old : Copies) (b : ℕ) → with_copies slot place numbers old b ≡ None → (old b ≡ None) × ((k : ℕ) → k < length numbers → slice_index numbers k ≢ b)
 none_in_record slot place [] old b is = (is, λ k below. absurd (omega arith))
 none_in_record slot place (n ∷ numbers) old b is =
     let older = none_in_record slot (place + 1) numbers (with_copy n (slot, place) old) b is in

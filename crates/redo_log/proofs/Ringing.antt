@@ -1,16 +1,15 @@
 -- How the records of a ring come and go.
-use Rattle.std.proofs.Common.{◌≡◌, ⊎_elim, ℕ, zero, suc, ◌+◌, ◌*◌, ◌<◌, ◌≤◌, List, [], ◌∷◌, ◌++◌, length, drop, refl, sym, ◌∙◌, ap, arith, length-append}
-use Rattle.std.specs.Prelude.{All, Bool, Option, Some, None, sum_by, slice_index_or}
-use Rattle.std.proofs.lemmas.Bool.{cases_lt}
+use Rattle.std.proofs.Common.{◌≡◌, ℕ, zero, suc, ◌+◌, ◌*◌, ◌<◌, ◌≤◌, List, [], ◌∷◌, ◌++◌, length, drop, refl, sym, ◌∙◌, ap, arith, length-append}
+use Rattle.std.specs.Prelude.{All, replicate, Bool, Option, Some, None, sum_by, slice_index_or}
 use Rattle.std.proofs.lemmas.List.{map-append}
 use Rattle.std.proofs.lemmas.List.Sums.{sum_by-cons}
 use Rattle.arrayvec.specs.ArrayVec.{ArrayVec}
-use Rattle.log_layout.specs.Places.{Shape}
-use Rattle.redo_log.specs.declared.stage.Writing.{Writing}
-use Rattle.redo_log.specs.declared.stage.Retiring.{Retiring}
-use Rattle.redo_log.specs.declared.stage.Retiring.TheVariants.{Copying, Homed}
-use Rattle.redo_log.specs.Value.{retire_steps_of, IsRetireStepped}
-use Rattle.redo_log.specs.Stages.{value_at, retire_steps_from, oldest_at, begun_at, AreInside, IsOldest, IsUnderWay, IsRing, IsStageBehind}
+use Rattle.log_layout.specs.declared.log_format.LogFormat.{LogFormat}
+use Rattle.log_layout.specs.declared.log_format.LogFormat.TheVariants.{One, Two}
+use Rattle.log_layout.specs.Places.{Shape, limit_of}
+use Rattle.redo_log.specs.Value.{turns_home, retire_steps_of, most_retire_steps, IsRetireStepped}
+use Rattle.redo_log.specs.Stages.{value_at, oldest_at, begun_at, AreInside, IsOldest, IsUnderWay, IsRing}
+use Rattle.redo_log.proofs.Counting.{few_turns}
 use Rattle.redo_log.specs.Shown.{lists_of}
 
 -- the oldest of these records, and the others
@@ -22,9 +21,14 @@ front_is (r ∷ records) first some is = ap (λ (x : ArrayVec ℕ). x.items ∷ 
 pub lists_more : (records : List (ArrayVec ℕ)) (last : ArrayVec ℕ) → lists_of (records ++ last ∷ []) ≡ lists_of records ++ last.items ∷ []
 lists_more records last = let f : ArrayVec ℕ → List ℕ = λ r. r.items in map-append f records (last ∷ [])
 
-pub few_under_way : (blocks : ℕ) (numbers : List ℕ) (writing : Option Writing) → IsUnderWay blocks numbers writing → length numbers ≤ 48
-few_under_way blocks numbers None is = omega (arith, ap (λ (l : List ℕ). length l) is)
-few_under_way blocks numbers (Some w) is = is.0.few
+pub few_under_way : (shape : Shape) (numbers : List ℕ) (made : Option ℕ) → IsUnderWay shape numbers made → length numbers ≤ limit_of shape.format
+few_under_way shape numbers None is = omega (arith, ap (λ (l : List ℕ). length l) is)
+few_under_way shape numbers (Some w) is = is.0.few
+
+-- no record has more than 240 blocks
+pub few_blocks : (format : LogFormat) → limit_of format ≤ 240
+few_blocks One = omega arith
+few_blocks Two = omega arith
 
 All_more : {X : Type 0} (P : X → Type 0) (xs : List X) (x : X) → All P xs → P x → All P (xs ++ x ∷ [])
 All_more P [] x each last zero d below = last
@@ -32,86 +36,105 @@ All_more P [] x each last (suc k) d below = absurd (omega arith)
 All_more P (y ∷ xs) x each last zero d below = each zero d (omega arith)
 All_more P (y ∷ xs) x each last (suc k) d below = All_more P xs x (λ j e less. each (suc j) e (omega arith)) last k d (omega arith)
 
-oldest_more : (waiting : List (List ℕ)) (r : Retiring) (numbers : List ℕ) → IsOldest waiting r → IsOldest (waiting ++ numbers ∷ []) r
-oldest_more [] (Copying i) numbers is = let none : i ≡ 0 = cc is in omega (arith, none)
-oldest_more [] Homed numbers is = tt
-oldest_more (n ∷ waiting) r numbers is = is
+oldest_more : (format : LogFormat) (waiting : List (List ℕ)) (turned : ℕ) (numbers : List ℕ) → IsOldest format waiting turned → IsOldest format (waiting ++ numbers ∷ []) turned
+oldest_more format [] turned numbers is = omega (arith, is)
+oldest_more format (n ∷ waiting) turned numbers is = is
 
 -- the record under way waits
-pub ring_durable : (blocks slots : ℕ) (waiting : List (List ℕ)) (r : Retiring) (numbers : List ℕ) (w : Writing) → IsRing blocks slots waiting r numbers (Some w) → IsRing blocks slots (waiting ++ numbers ∷ []) r [] None
-ring_durable blocks slots waiting r numbers w ring = record {
-  each = All_more (AreInside blocks) waiting numbers ring.each ring.record_under_way.0;
+pub ring_durable : (shape : Shape) (waiting : List (List ℕ)) (turned : ℕ) (numbers : List ℕ) (made : ℕ) → IsRing shape waiting turned numbers (Some made) → IsRing shape (waiting ++ numbers ∷ []) turned [] None
+ring_durable shape waiting turned numbers made ring = record {
+  each = All_more (AreInside shape) waiting numbers ring.each ring.record_under_way.0;
   fits = omega (arith, ring.fits, length-append waiting (numbers ∷ []));
-  oldest = oldest_more waiting r numbers ring.oldest;
+  oldest = oldest_more shape.format waiting turned numbers ring.oldest;
   record_under_way = refl;
 }
 
-next_oldest : (waiting : List (List ℕ)) → IsOldest waiting (Copying 0)
-next_oldest [] = refl
-next_oldest (n ∷ waiting) = omega arith
+next_oldest : (format : LogFormat) (waiting : List (List ℕ)) → IsOldest format waiting 0
+next_oldest format [] = refl
+next_oldest format (n ∷ waiting) = omega arith
 
 -- the oldest record is retired
-pub ring_retired : (blocks slots : ℕ) (numbers : List ℕ) (newer : List (List ℕ)) (r : Retiring) (under_way : List ℕ) (writing : Option Writing)
-    → IsRing blocks slots (numbers ∷ newer) r under_way writing → IsRing blocks slots newer (Copying 0) under_way writing
-ring_retired blocks slots numbers newer r under_way writing ring = record {
+pub ring_retired : (shape : Shape) (numbers : List ℕ) (newer : List (List ℕ)) (turned : ℕ) (under_way : List ℕ) (made : Option ℕ)
+    → IsRing shape (numbers ∷ newer) turned under_way made → IsRing shape newer 0 under_way made
+ring_retired shape numbers newer turned under_way made ring = record {
   each = λ j d below. ring.each (suc j) d (omega arith);
   fits = omega (arith, ring.fits);
-  oldest = next_oldest newer;
+  oldest = next_oldest shape.format newer;
   record_under_way = ring.record_under_way;
 }
 
-retire_steps_some : (numbers : List ℕ) → 1 ≤ length numbers → retire_steps_of numbers ≡ length numbers + 2
-retire_steps_some [] some = absurd (omega arith)
-retire_steps_some (n ∷ numbers) some = refl
-
--- what the newer records still need
-all_needed : (blocks : ℕ) (newer : List (List ℕ)) → All (AreInside blocks) newer → oldest_at newer (Copying 0) + sum_by retire_steps_of (drop 1 newer) ≡ sum_by retire_steps_of newer
-all_needed blocks [] each = refl
-all_needed blocks (n ∷ newer) each =
-    let all : sum_by retire_steps_of (n ∷ newer) ≡ retire_steps_of n + sum_by retire_steps_of newer = sum_by-cons retire_steps_of n newer in
-    let rest : sum_by retire_steps_of (drop 1 (n ∷ newer)) ≡ sum_by retire_steps_of newer = refl in
-    omega (arith, all, rest, retire_steps_some n (each zero [] (omega arith)).some)
-
--- the last retire step of the oldest record
-pub retired_last : (shape : Shape) (head : ℕ) (numbers : List ℕ) (newer : List (List ℕ)) (r : Retiring) (under_way : List ℕ) (writing : Option Writing) (dead : Bool) → All (AreInside shape.blocks) newer
-    → IsStageBehind (length numbers) r None → IsRetireStepped (value_at shape head (numbers ∷ newer) r under_way writing dead) (value_at shape (head + 1) newer (Copying 0) under_way writing dead)
-retired_last shape head numbers newer (Copying i) under_way writing dead each is = absurd (never (is.0) (is.1))
-  where
-    never : (i < length numbers → None ≡ Some (Copying (i + 1))) → (length numbers ≤ i → None ≡ Some Homed) → ⊥
-    never below all = ⊎_elim (λ less. let e = below less in cc e) (λ more. let e = all more in cc e) (cases_lt i (length numbers))
-retired_last shape head numbers newer Homed under_way writing dead each is = record {
-  some = omega arith;
-  more = λ m. absurd (omega arith);
-  last = λ e.
-      let next_is : head + 1 + length newer + begun_at writing ≡ head + length (numbers ∷ newer) + begun_at writing = omega arith in
-      let left : oldest_at newer (Copying 0) + (sum_by retire_steps_of (drop 1 newer) + retire_steps_of under_way) ≡ sum_by retire_steps_of newer + retire_steps_of under_way = omega (arith, all_needed shape.blocks newer each) in
-      let new = value_at shape (head + 1) newer (Copying 0) under_way writing dead in
-      ap (λ (n : ℕ). record new { next = n }) next_is ∙ ap (λ (n : ℕ). record new { next = head + length (numbers ∷ newer) + begun_at writing; retire_steps_left = n }) left;
+-- one turn more of the oldest record is made
+pub ring_turned : (shape : Shape) (numbers : List ℕ) (newer : List (List ℕ)) (turned : ℕ) (under_way : List ℕ) (made : Option ℕ) → turned ≤ turns_home shape.format (length numbers)
+    → IsRing shape (numbers ∷ newer) turned under_way made → IsRing shape (numbers ∷ newer) (turned + 1) under_way made
+ring_turned shape numbers newer turned under_way made more ring = record {
+  each = ring.each;
+  fits = ring.fits;
+  oldest = omega (arith, more);
+  record_under_way = ring.record_under_way;
 }
 
-few_newer : (blocks : ℕ) (newer : List (List ℕ)) → All (AreInside blocks) newer → sum_by retire_steps_of newer ≤ 50 * length newer
-few_newer blocks [] each = omega arith
-few_newer blocks (n ∷ newer) each =
-    let rest = few_newer blocks newer (λ j d below. each (suc j) d (omega arith)) in
+retire_steps_some : (format : LogFormat) (numbers : List ℕ) → 1 ≤ length numbers → retire_steps_of format numbers ≡ turns_home format (length numbers) + 2
+retire_steps_some format [] some = absurd (omega arith)
+retire_steps_some format (n ∷ numbers) some = refl
+
+-- what the newer records still need
+all_needed : (shape : Shape) (newer : List (List ℕ)) → All (AreInside shape) newer → oldest_at shape.format newer 0 + sum_by (retire_steps_of shape.format) (drop 1 newer) ≡ sum_by (retire_steps_of shape.format) newer
+all_needed shape [] each = refl
+all_needed shape (n ∷ newer) each =
+    let all : sum_by (retire_steps_of shape.format) (n ∷ newer) ≡ retire_steps_of shape.format n + sum_by (retire_steps_of shape.format) newer = sum_by-cons (retire_steps_of shape.format) n newer in
+    let rest : sum_by (retire_steps_of shape.format) (drop 1 (n ∷ newer)) ≡ sum_by (retire_steps_of shape.format) newer = refl in
+    omega (arith, all, rest, retire_steps_some shape.format n (each zero [] (omega arith)).some)
+
+-- a retire step of the oldest record that is not its last
+pub retired_more : (shape : Shape) (head : ℕ) (numbers : List ℕ) (newer : List (List ℕ)) (turned : ℕ) (kept next under_way : List ℕ) (made : Option ℕ) (dead : Bool) → turned ≤ turns_home shape.format (length numbers)
+    → IsRetireStepped (value_at shape head (numbers ∷ newer) turned kept under_way made dead) (value_at shape head (numbers ∷ newer) (turned + 1) next under_way made dead)
+retired_more shape head numbers newer turned kept next under_way made dead more = record {
+  some = omega (arith, more);
+  more = λ m.
+      let new = value_at shape head (numbers ∷ newer) (turned + 1) next under_way made dead in
+      ap (λ (n : ℕ). record new { retire_steps_left = n }) (omega (arith, more));
+  last = λ e. absurd (omega (arith, more, e));
+}
+
+-- the last retire step of the oldest record
+pub retired_last : (shape : Shape) (head : ℕ) (numbers : List ℕ) (newer : List (List ℕ)) (turned : ℕ) (kept under_way : List ℕ) (made : Option ℕ) (dead : Bool) → All (AreInside shape) newer
+    → turned ≡ turns_home shape.format (length numbers) + 1 → IsRetireStepped (value_at shape head (numbers ∷ newer) turned kept under_way made dead) (value_at shape (head + 1) newer 0 (replicate 512 0) under_way made dead)
+retired_last shape head numbers newer turned kept under_way made dead each is = record {
+  some = omega (arith, is);
+  more = λ m. absurd (omega (arith, is, m));
+  last = λ e.
+      let next_is : head + 1 + length newer + begun_at made ≡ head + length (numbers ∷ newer) + begun_at made = omega arith in
+      let left : oldest_at shape.format newer 0 + (sum_by (retire_steps_of shape.format) (drop 1 newer) + retire_steps_of shape.format under_way) ≡ sum_by (retire_steps_of shape.format) newer + retire_steps_of shape.format under_way = omega (arith, all_needed shape newer each) in
+      let new = value_at shape (head + 1) newer 0 (replicate 512 0) under_way made dead in
+      ap (λ (n : ℕ). record new { next = n }) next_is ∙ ap (λ (n : ℕ). record new { next = head + length (numbers ∷ newer) + begun_at made; retire_steps_left = n }) left;
+}
+
+few_newer : (shape : Shape) (most : ℕ) → ((n : ℕ) → n ≤ limit_of shape.format → turns_home shape.format n + 2 ≤ most) → (newer : List (List ℕ)) → All (AreInside shape) newer → sum_by (retire_steps_of shape.format) newer ≤ most * length newer
+few_newer shape most few [] each = omega arith
+few_newer shape most few (n ∷ newer) each =
+    let rest = few_newer shape most few newer (λ j d below. each (suc j) d (omega arith)) in
     let first = each zero [] (omega arith) in
-    let all : sum_by retire_steps_of (n ∷ newer) ≡ retire_steps_of n + sum_by retire_steps_of newer = sum_by-cons retire_steps_of n newer in
-    omega (arith, all, rest, retire_steps_some n first.some, first.few)
+    let all : sum_by (retire_steps_of shape.format) (n ∷ newer) ≡ retire_steps_of shape.format n + sum_by (retire_steps_of shape.format) newer = sum_by-cons (retire_steps_of shape.format) n newer in
+    let one : most * (length newer + 1) ≡ most * length newer + most = omega arith in
+    omega (arith, all, rest, retire_steps_some shape.format n first.some, few (length n) first.few, one)
 
--- a record needs at most 50 retire steps
-pub few_steps : (blocks : ℕ) (waiting : List (List ℕ)) (r : Retiring) (numbers : List ℕ) → All (AreInside blocks) waiting → length numbers ≤ 48
-    → oldest_at waiting r + (sum_by retire_steps_of (drop 1 waiting) + retire_steps_of numbers) ≤ 50 * (length waiting + 1)
-few_steps blocks waiting r numbers each few = omega (arith, oldest_few waiting r each, one_few numbers few)
+-- how many retire steps a log needs at most
+pub few_steps : (shape : Shape) (waiting : List (List ℕ)) (turned : ℕ) (numbers : List ℕ) → All (AreInside shape) waiting → length numbers ≤ limit_of shape.format
+    → oldest_at shape.format waiting turned + (sum_by (retire_steps_of shape.format) (drop 1 waiting) + retire_steps_of shape.format numbers) ≤ most_retire_steps shape.format * (length waiting + 1)
+few_steps shape waiting turned numbers each few =
+    let one : most * (length waiting + 1) ≡ most * length waiting + most = omega arith in
+    omega (arith, oldest_few waiting each, one_few numbers few, one)
   where
-    one_few : (numbers : List ℕ) → length numbers ≤ 48 → retire_steps_of numbers ≤ 50
+    most : ℕ
+    most = most_retire_steps shape.format
+
+    one_few : (numbers : List ℕ) → length numbers ≤ limit_of shape.format → retire_steps_of shape.format numbers ≤ most
     one_few [] few = omega arith
-    one_few (n ∷ numbers) few = omega arith
+    one_few (n ∷ numbers) few = few_turns shape.format (length (n ∷ numbers)) few
 
-    at_most : (count : ℕ) (r : Retiring) → count ≤ 48 → retire_steps_from count r ≤ 50
-    at_most count (Copying i) few = omega arith
-    at_most count Homed few = omega arith
-
-    oldest_few : (waiting : List (List ℕ)) (r : Retiring) → All (AreInside blocks) waiting → oldest_at waiting r + sum_by retire_steps_of (drop 1 waiting) ≤ 50 * length waiting
-    oldest_few [] r each = omega arith
-    oldest_few (n ∷ newer) r each =
-        let rest : sum_by retire_steps_of (drop 1 (n ∷ newer)) ≡ sum_by retire_steps_of newer = refl in
-        omega (arith, rest, at_most (length n) r (each zero [] (omega arith)).few, few_newer blocks newer (λ j d below. each (suc j) d (omega arith)))
+    oldest_few : (waiting : List (List ℕ)) → All (AreInside shape) waiting → oldest_at shape.format waiting turned + sum_by (retire_steps_of shape.format) (drop 1 waiting) ≤ most * length waiting
+    oldest_few [] each = omega arith
+    oldest_few (n ∷ newer) each =
+        let rest : sum_by (retire_steps_of shape.format) (drop 1 (n ∷ newer)) ≡ sum_by (retire_steps_of shape.format) newer = refl in
+        let more : most * (length newer + 1) ≡ most * length newer + most = omega arith in
+        omega (arith, rest, more, few_turns shape.format (length n) (each zero [] (omega arith)).few, few_newer shape most (few_turns shape.format) newer (λ j d below. each (suc j) d (omega arith)))

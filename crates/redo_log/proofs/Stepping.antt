@@ -1,39 +1,42 @@
 -- Each step of the record under way: what the log and its medium hold after it.
-use Rattle.std.proofs.Common.{◌≡◌, ◌≢◌, inl, inr, ⊎_elim, ℕ, ◌+◌, ◌-◌, ◌%◌, ◌<◌, ◌≤◌, List, [], ◌∷◌, ◌++◌, length, get_or, refl, sym, ◌∙◌, ap, subst, arith, length-append}
-use Rattle.std.specs.Prelude.{All, Bool, map, true, false, Option, Some, None}
-use Rattle.std.proofs.lemmas.Bool.{cases_lt}
-use Rattle.std.proofs.lemmas.Nat.{mod_below}
+use Rattle.std.proofs.Common.{◌≡◌, ◌⊎◌, inl, inr, ⊎_elim, ℕ, ◌+◌, ◌*◌, ◌-◌, ◌<◌, ◌≤◌, List, [], ◌∷◌, ◌++◌, length, get_or, refl, sym, ◌∙◌, ap, subst, arith, length-append}
+use Rattle.std.specs.Prelude.{Bool, map, true, false, Option, Some, None}
+use Rattle.std.proofs.lemmas.Bool.{cases_eq, cases_lt}
 use Rattle.std.proofs.lemmas.List.{length-map, map-append}
-use Rattle.std.proofs.Math.ListN.{get_or-map}
 use Rattle.medium.specs.Medium.{State, IsSound}
 use Rattle.medium.specs.Moments.{EachCut}
 use Rattle.medium.proofs.Moments.{shrunk}
-use Rattle.log_layout.specs.Places.{Shape, slot_place, sectors_of}
-use Rattle.log_layout.specs.Sectors.{IsDescriptor, IsCommit}
-use Rattle.log_layout.specs.Record.{Entry, numbers_of}
+use Rattle.log_layout.specs.declared.log_format.LogFormat.{LogFormat}
+use Rattle.log_layout.specs.Places.{Shape, sectors_of}
+use Rattle.log_image.specs.Record.{Entry, numbers_of, entries_of}
+use Rattle.log_image.specs.Layout.{Layout, part_at}
+use Rattle.log_image.specs.LayoutLaws.{Laws, IsRecordOf}
+use Rattle.log_image.specs.Formats.{layout_of}
+use Rattle.log_image.specs.Staged.{HasSlots}
+use Rattle.log_image.proofs.Formats.{laws_of}
+use Rattle.log_image.proofs.Batching.{length_of_batch}
 use Rattle.redo_log.specs.declared.call.Call.{Call}
 use Rattle.redo_log.specs.declared.call.Call.TheVariants.{Write, Flush}
-use Rattle.redo_log.specs.declared.stage.Writing.{Writing}
-use Rattle.redo_log.specs.declared.stage.Writing.TheVariants.{Begun, Placing, Flushed, Committed}
-use Rattle.redo_log.specs.declared.stage.Retiring.{Retiring}
-use Rattle.redo_log.specs.Value.{LogValue, of_oldest}
-use Rattle.redo_log.specs.Batch.{entries_of}
-use Rattle.redo_log.specs.Stages.{value_at, steps_from, retire_steps_from, oldest_at, AreInside, IsRecord, IsWriting, IsOldest, IsNextStage}
-use Rattle.redo_log.specs.Calls.{MayAdd, IsDone, IsNextCall, IsFlush}
-use Rattle.redo_log.specs.Held.{View, with_record, MayLeave, Stores, Guards, HoldsView}
+use Rattle.redo_log.specs.Value.{LogValue, steps_for, turns_home, of_oldest}
+use Rattle.redo_log.specs.Stages.{value_at, oldest_at, written_at, flush_of, IsRecord, IsOldest, IsRead, IsSized}
+use Rattle.redo_log.specs.Calls.{MayAdd, IsDone, IsNextCall, IsFlush, IsFlushDue, IsWriteOf}
+use Rattle.redo_log.specs.Held.{View, with_record, image_view, oldest_of, written_of, made_of, turned_of, MayLeave, Stores, Guards, HoldsView}
+use Rattle.redo_log.proofs.Counting.{steps_are, due_or_not, last_call, not_last, one_left, early_written, part_written}
 use Rattle.redo_log.proofs.Keeping.{Logged-records}
-use Rattle.redo_log.proofs.Laying.{AreSmall}
-use Rattle.redo_log.proofs.Batching.{bytes_of_batch}
-use Rattle.redo_log.proofs.Storing.{HasSlot, Stores-stays, Stores-step, descriptor_stores, place_stores, commit_stores, durable_stores}
-use Rattle.redo_log.proofs.Guarding.{HasRest, rest_each, homed_each, descriptor_each, place_each, commit_each, commit_guards, flush_guards, durable_guards, descriptor_guards}
+use Rattle.redo_log.proofs.Batching.{count_of, record_entries, record_batch}
+use Rattle.redo_log.proofs.Storing.{oldest-append, Stores-stays, part_stores, durable_stores}
+use Rattle.redo_log.proofs.Guarding.{IsEither, safe_either, other_each, last_each, part_guards, flush_guards, durable_guards}
+use Rattle.redo_log.proofs.Turning.{none_read}
 
 -- what guards a log says what a cut may leave
-pub guards_leave : (size : ℕ) (log : LogValue) (view : View) (m : State) → sectors_of log.shape ≤ size
-    → Guards log.shape log.head view log.steps_left (of_oldest log) m → EachCut (MayLeave size log view) m
-guards_leave size log view m fits g image cut = ⊎_elim
+pub guards_leave : (size : ℕ) (log : LogValue) (view : View) (m : State) (made retire : ℕ) → sectors_of log.shape ≤ size → IsSized log.shape → length view.records ≤ log.shape.slots
+    → (0 < log.steps_left → HasSlots (layout_of log.shape.format) (image_view log.shape log.head view))
+    → ((layout_of log.shape.format).parts (length view.under_way) ≤ written_of log.shape view made → log.steps_left ≤ 2)
+    → Guards log.shape log.head view log.steps_left made retire m → EachCut (MayLeave size log view) m
+guards_leave size log view m made retire fits sized few slots short g image cut = ⊎_elim
     (λ rest. inl (Logged-records size log.shape log.head view.records view.array image fits rest))
-    (λ both. inr (inl (omega (arith, both.0), omega (arith, both.0), Logged-records size log.shape log.head _ _ image fits both.1)))
-    (g.each image cut)
+    (λ both. inr (inl (both.0, short both.1, Logged-records size log.shape log.head _ _ image fits both.2)))
+    (safe_either log.shape sized log.head view log.steps_left made image slots few (g.each image cut))
 
 -- the durable records have these block numbers, and the one that was under way too
 durable_numbers : (records : List (List Entry)) (entries : List Entry) (waiting : List (List ℕ)) (numbers : List ℕ) → waiting ≡ map (λ r. numbers_of r) records → numbers ≡ numbers_of entries
@@ -42,40 +45,68 @@ durable_numbers records entries waiting numbers is one =
     let f : List Entry → List ℕ = λ r. numbers_of r in
     ap (λ (l : List (List ℕ)). l ++ numbers ∷ []) is ∙ ap (λ (l : List ℕ). map f records ++ l ∷ []) one ∙ sym (map-append f records (entries ∷ []))
 
--- each record has at most 48 blocks where its numbers are so few
-pub small_records : (blocks : ℕ) (records : List (List Entry)) (waiting : List (List ℕ)) → waiting ≡ map (λ r. numbers_of r) records → All (AreInside blocks) waiting → AreSmall records
-small_records blocks records waiting is each j below =
-    let f : List Entry → List ℕ = λ r. numbers_of r in
-    let g : Entry → ℕ = λ e. e.0 in
-    let many : length waiting ≡ length records = ap (λ (l : List (List ℕ)). length l) is ∙ length-map records f in
-    let numbers : get_or waiting j [] ≡ numbers_of (get_or records j []) = ap (λ (l : List (List ℕ)). get_or l j []) is ∙ get_or-map f records j [] in
-    omega (arith, (each j [] (omega arith)).few, ap (λ (l : List ℕ). length l) numbers, length-map (get_or records j []) g)
+-- how many turns of the oldest record are made
+abbrev pub turned_at : LogFormat → List (List ℕ) → ℕ → ℕ
+turned_at format waiting turned = turns_home format (length (get_or waiting 0 [])) + 2 - oldest_at format waiting turned
 
 -- what the oldest record still needs is what the log says of it
-pub of_oldest_is : (shape : Shape) (head : ℕ) (waiting : List (List ℕ)) (r : Retiring) (numbers : List ℕ) (writing : Option Writing) (dead : Bool)
-    → of_oldest (value_at shape head waiting r numbers writing dead) ≡ oldest_at waiting r
-of_oldest_is shape head waiting r numbers writing dead = omega arith
+pub of_oldest_is : (shape : Shape) (head : ℕ) (waiting : List (List ℕ)) (turned : ℕ) (kept numbers : List ℕ) (writing : Option ℕ) (dead : Bool)
+    → of_oldest (value_at shape head waiting turned kept numbers writing dead) ≡ oldest_at shape.format waiting turned
+of_oldest_is shape head waiting turned kept numbers writing dead = omega arith
+
+pub turned_of_is : (shape : Shape) (head : ℕ) (waiting : List (List ℕ)) (turned : ℕ) (kept numbers : List ℕ) (writing : Option ℕ) (dead : Bool)
+    → turned_of (value_at shape head waiting turned kept numbers writing dead) ≡ turned_at shape.format waiting turned
+turned_of_is shape head waiting turned kept numbers writing dead =
+    ap (λ (left : ℕ). turns_home shape.format (length (get_or waiting 0 [])) + 2 - left) (of_oldest_is shape head waiting turned kept numbers writing dead)
+
+pub made_of_is : (shape : Shape) (head : ℕ) (waiting : List (List ℕ)) (turned : ℕ) (kept numbers : List ℕ) (made : ℕ) (dead : Bool) → made < steps_for shape.format (length numbers)
+    → made_of (value_at shape head waiting turned kept numbers (Some made) dead) ≡ made
+made_of_is shape head waiting turned kept numbers made dead below = omega (arith, below)
 
 -- with one more the oldest stays the oldest
-oldest_more : (waiting : List (List ℕ)) (r : Retiring) (numbers : List ℕ) → 0 < length waiting → oldest_at (waiting ++ numbers ∷ []) r ≡ oldest_at waiting r
-oldest_more [] r numbers some = absurd (omega arith)
-oldest_more (n ∷ waiting) r numbers some = refl
+oldest_more : (format : LogFormat) (waiting : List (List ℕ)) (turned : ℕ) (numbers : List ℕ) → 0 < length waiting
+    → (oldest_at format (waiting ++ numbers ∷ []) turned ≡ oldest_at format waiting turned) × (turned_at format (waiting ++ numbers ∷ []) turned ≡ turned_at format waiting turned)
+oldest_more format [] turned numbers some = absurd (omega arith)
+oldest_more format (n ∷ waiting) turned numbers some = (refl, refl)
 
-oldest_alone : (waiting : List (List ℕ)) (r : Retiring) (numbers : List ℕ) → IsOldest waiting r → length waiting ≡ 0 → oldest_at (waiting ++ numbers ∷ []) r ≡ length numbers + 2
-oldest_alone [] r numbers is none = ap (retire_steps_from (length numbers)) is ∙ (omega arith)
-oldest_alone (n ∷ waiting) r numbers is none = absurd (omega arith)
+oldest_alone : (format : LogFormat) (waiting : List (List ℕ)) (turned : ℕ) (numbers : List ℕ) → IsOldest format waiting turned → length waiting ≡ 0
+    → (1 < oldest_at format (waiting ++ numbers ∷ []) turned) × (turned_at format (waiting ++ numbers ∷ []) turned ≡ 0)
+oldest_alone format [] turned numbers is none = (omega (arith, is), omega (arith, is))
+oldest_alone format (n ∷ waiting) turned numbers is none = absurd (omega arith)
 
-module _ (shape : Shape) (head : ℕ) (waiting : List (List ℕ)) (r : Retiring) (numbers bytes : List ℕ) (view : View) (some : 1 ≤ shape.slots) (rec : IsRecord shape.blocks (head + length waiting) numbers)
-    (each : All (AreInside shape.blocks) waiting) (room : length waiting < shape.slots) where
+module _ (shape : Shape) (sized : IsSized shape) (head : ℕ) (waiting : List (List ℕ)) (turned : ℕ) (kept numbers bytes : List ℕ) (view : View) (rec : IsRecord shape (head + length waiting) numbers)
+    (room : length waiting < shape.slots) (size : length bytes ≡ 512 * length numbers) where
+  abbrev L : Layout
+  L = layout_of shape.format
+
+  abbrev laws : Laws (layout_of shape.format)
+  laws = laws_of shape.format
+
   -- a log with this record under way
-  abbrev pub writing_log : Writing → LogValue
-  writing_log w = value_at shape head waiting r numbers (Some w) false
+  abbrev pub writing_log : ℕ → LogValue
+  writing_log made = value_at shape head waiting turned kept numbers (Some made) false
 
-  -- how many retire steps the oldest record needs
+  -- how many turns the oldest record needs, and how many are made
   abbrev left : ℕ
-  left = oldest_at waiting r
+  left = oldest_at shape.format waiting turned
 
-  module _ (old new : State) (sound : IsSound old) (same_size : new.size ≡ old.size) (w : Writing) (hv : HoldsView (writing_log w) old view) where
+  abbrev done : ℕ
+  done = turned_at shape.format waiting turned
+
+  abbrev n : ℕ
+  n = length view.under_way
+
+  abbrev stamp : ℕ
+  stamp = head + length view.records
+
+  abbrev other : List Entry
+  other = entries_of numbers bytes
+
+  -- how many steps are left after so many calls
+  abbrev steps : ℕ → ℕ
+  steps made = steps_for shape.format (length numbers) - made
+
+  module _ (old : State) (made : ℕ) (below : made < steps_for shape.format (length numbers)) (hv : HoldsView (writing_log made) old view) where
     many : length waiting ≡ length view.records
     many = let f : List Entry → List ℕ = λ r. numbers_of r in ap (λ (l : List (List ℕ)). length l) hv.durable ∙ length-map view.records f
 
@@ -83,221 +114,208 @@ module _ (shape : Shape) (head : ℕ) (waiting : List (List ℕ)) (r : Retiring)
     stamp_is = omega (arith, many)
 
     count : length numbers ≡ length view.under_way
-    count = let f : Entry → ℕ = λ e. e.0 in omega (arith, ap (λ (l : List ℕ). length l) hv.under_way, length-map view.under_way f)
+    count = count_of numbers view.under_way hv.under_way
 
-    slot : HasSlot shape view
-    slot = record {
-      some = some;
-      room = omega (arith, many);
-      small = small_records shape.blocks view.records waiting hv.durable each;
-      few = omega (arith, count, rec.numbers_are.few);
+    rec_is : IsRecord shape (head + length view.records) numbers
+    rec_is = subst (λ (s : ℕ). IsRecord shape s numbers) stamp_is rec
+
+    slots : HasSlots (layout_of shape.format) (image_view shape head view)
+    slots = record {
+      some = sized.some;
+      room = omega (arith, many, room);
+      behind = sized.behind;
+      under_way = record_entries shape stamp numbers view.under_way sized rec_is hv.under_way hv.sized;
     }
 
-    -- where the slot of the record under way stands
-    slot_below : (head + length view.records) % shape.slots < shape.slots
-    slot_below = mod_below (head + length view.records) shape.slots some
+    other_is : IsRecordOf (layout_of shape.format) shape.blocks (head + length view.records) (entries_of numbers bytes)
+    other_is = record_batch shape stamp numbers bytes sized rec_is size
 
-    stored : Stores shape head view (steps_from (length view.under_way) w) left old.content
-    stored = subst (λ (n : ℕ). Stores shape head view (steps_from n w) left old.content) count
-        (subst (λ (n : ℕ). Stores shape head view (steps_from (length numbers) w) n old.content) (of_oldest_is shape head waiting r numbers (Some w) false) (hv.stores refl))
+    other_count : length (entries_of numbers bytes) ≡ length view.under_way
+    other_count = length_of_batch numbers bytes ∙ count
 
-    descriptor_is : (sector : List ℕ) → IsDescriptor (head + length waiting) numbers sector → IsDescriptor (head + length view.records) (numbers_of view.under_way) sector
-    descriptor_is sector d = subst (λ (s : ℕ). IsDescriptor s (numbers_of view.under_way) sector) stamp_is (subst (λ (l : List ℕ). IsDescriptor (head + length waiting) l sector) hv.under_way d)
+    -- the steps are those of the layout
+    all_steps : steps_for shape.format (length numbers) ≡ (layout_of shape.format).parts (length view.under_way) + 1 + flush_of ((layout_of shape.format).early (length view.under_way))
+    all_steps = ap (λ (k : ℕ). steps_for shape.format k) count ∙ steps_are shape.format (length view.under_way)
 
-    commit_is : (sector : List ℕ) → IsCommit (head + length waiting) (length numbers) sector → IsCommit (head + length view.records) (length view.under_way) sector
-    commit_is sector c = subst (λ (s : ℕ). IsCommit s (length view.under_way) sector) stamp_is (subst (λ (n : ℕ). IsCommit (head + length waiting) n sector) count c)
+    late : (layout_of shape.format).early (length view.under_way) < (layout_of shape.format).parts (length view.under_way)
+    late = laws.last_is_late (length view.under_way)
 
-    inside : All (λ b. b < shape.blocks) (numbers_of view.under_way)
-    inside = subst (λ (l : List ℕ). All (λ b. b < shape.blocks) l) hv.under_way rec.numbers_are.inside
+    stored : Stores shape head view (steps made) made done old.content
+    stored = subst (λ (t : ℕ). Stores shape head view (steps made) made t old.content) (turned_of_is shape head waiting turned kept numbers (Some made) false)
+        (subst (λ (k : ℕ). Stores shape head view (steps made) k (turned_of (writing_log made)) old.content) (made_of_is shape head waiting turned kept numbers made false below) (hv.stores refl))
 
-    place_is : (i place : ℕ) → place ≡ slot_place shape (head + length waiting) + i → place ≡ slot_place shape (head + length view.records) + i
-    place_is i place at = at ∙ ap (λ (s : ℕ). slot_place shape s + i) stamp_is
+    guarded : view.ours ≡ true → Guards shape head view (steps made) made left old
+    guarded ours = subst (λ (r : ℕ). Guards shape head view (steps made) made r old) (of_oldest_is shape head waiting turned kept numbers (Some made) false)
+        (subst (λ (k : ℕ). Guards shape head view (steps made) k (of_oldest (writing_log made)) old) (made_of_is shape head waiting turned kept numbers made false below) (hv.guards refl ours))
 
-    -- every image was ours
-    module _ (ours : view.ours ≡ true) where
-      guarded : Guards shape head view (steps_from (length view.under_way) w) left old
-      guarded = subst (λ (n : ℕ). Guards shape head view (steps_from n w) left old) count
-          (subst (λ (n : ℕ). Guards shape head view (steps_from (length numbers) w) n old) (of_oldest_is shape head waiting r numbers (Some w) false) (hv.guards refl ours))
+    read : IsRead shape.format head (oldest_of view) done kept
+    read = subst (λ (t : ℕ). IsRead shape.format head (oldest_of view) t kept) (turned_of_is shape head waiting turned kept numbers (Some made) false) (hv.kept refl)
 
-      rests : steps_from (length view.under_way) w ≢ 1 → EachCut (HasRest shape head view) old
-      rests early = rest_each shape head view (steps_from (length view.under_way) w) left old early guarded
+    -- the next call, by the count of the record under way
+    next_is : (call : Call) → IsNextCall (layout_of shape.format) shape (head + length waiting) (entries_of numbers bytes) made call
+        → (IsFlushDue (layout_of shape.format) (length view.under_way) made → IsFlush call)
+        × (¬ IsFlushDue (layout_of shape.format) (length view.under_way) made
+        → IsWriteOf (part_at (layout_of shape.format) shape (head + length view.records) (length view.under_way) (written_of shape view made)) ((layout_of shape.format).part (head + length view.records) (entries_of numbers bytes) (written_of shape view made)) call)
+    next_is call next =
+        let P : ℕ → Type 0 = λ (k : ℕ). (IsFlushDue L k made → IsFlush call) × (¬ IsFlushDue L k made → IsWriteOf (part_at L shape stamp k (written_at (L.early k) made)) (L.part stamp other (written_at (L.early k) made)) call) in
+        subst P other_count (subst (λ (s : ℕ). IsNextCall L shape s other made call) stamp_is next)
 
-      leaves_rest : EachCut (HasRest shape head view) new → EachCut (MayLeave old.size (writing_log w) view) new
-      leaves_rest each image cut = inl (Logged-records old.size shape head view.records view.array image hv.fits (each image cut))
-
-    -- a record that is still under way
-    held : (v : Writing) → Stores shape head view (steps_from (length view.under_way) v) left new.content
-        → (view.ours ≡ true → Guards shape head view (steps_from (length view.under_way) v) left new)
-        → HoldsView (writing_log v) new view
-    held v s g =
-        let oldest_is = of_oldest_is shape head waiting r numbers (Some v) false in
-        let guards : view.ours ≡ true → Guards shape head view (steps_from (length numbers) v) (of_oldest (writing_log v)) new = λ ours.
-        subst (λ (n : ℕ). Guards shape head view (steps_from (length numbers) v) n new) (sym oldest_is) (subst (λ (n : ℕ). Guards shape head view (steps_from n v) left new) (sym count) (g ours)) in
-        let fits : sectors_of shape ≤ new.size = omega (arith, same_size, hv.fits) in
-        record {
-          fits = fits;
-          durable = hv.durable;
-          under_way = hv.under_way;
-          next = hv.next;
-          leaves = λ ours. guards_leave new.size (writing_log v) view new fits (guards ours);
-          stores = λ live. subst (λ (n : ℕ). Stores shape head view (steps_from (length numbers) v) n new.content) (sym oldest_is) (subst (λ (n : ℕ). Stores shape head view (steps_from n v) left new.content) (sym count) s);
-          guards = λ live ours. guards ours;
-        }
-
-  module _ (old new : State) (sound : IsSound old) (same_size : new.size ≡ old.size) where
-    -- a write of the descriptor or of a data place, and of the commit, and a flush: what a cut may leave
-    descriptor_leaves : (call : Call) → HoldsView (writing_log Begun) old view → IsNextCall shape (head + length waiting) numbers bytes Begun call → MayAdd call old new → view.ours ≡ true
-        → EachCut (MayLeave old.size (writing_log Begun) view) new
-    descriptor_leaves (Write place sector) hv next adds ours = leaves_rest old new sound same_size Begun hv ours
-        (descriptor_each shape head view old new sound place sector adds (slot old new sound same_size Begun hv).room
-        (next.0 ∙ ap (slot_place shape) (stamp_is old new sound same_size Begun hv))
-        (descriptor_is old new sound same_size Begun hv sector next.1)
-        (rests old new sound same_size Begun hv ours (λ e. omega arith)))
-    descriptor_leaves Flush hv next adds ours = absurd next
-
-    place_leaves : (i : ℕ) (call : Call) → HoldsView (writing_log (Placing i)) old view → i < length numbers → IsNextCall shape (head + length waiting) numbers bytes (Placing i) call → MayAdd call old new → view.ours ≡ true
-        → EachCut (MayLeave old.size (writing_log (Placing i)) view) new
-    place_leaves i (Write place sector) hv below next adds ours =
-        let same = count old new sound same_size (Placing i) hv in
-        leaves_rest old new sound same_size (Placing i) hv ours
-        (place_each shape head view old new sound place sector adds i (slot old new sound same_size (Placing i) hv).room (omega (arith, rec.numbers_are.few))
-        ((next.0 below).0 ∙ ap (λ (s : ℕ). slot_place shape s + 1 + i) (stamp_is old new sound same_size (Placing i) hv))
-        (rests old new sound same_size (Placing i) hv ours (λ e. omega arith)))
-    place_leaves i Flush hv below next adds ours = absurd (next.0 below)
-
-    commit_leaves : (call : Call) → HoldsView (writing_log Flushed) old view → IsNextCall shape (head + length waiting) numbers bytes Flushed call → MayAdd call old new → view.ours ≡ true
-        → EachCut (MayLeave old.size (writing_log Flushed) view) new
-    commit_leaves (Write place sector) hv next adds ours image cut = ⊎_elim
+    -- what a cut leaves of a log with so many steps
+    either_leaves : (image : _) → (all : ℕ) → steps made ≤ all + 1 → (L.parts n ≤ written_of shape view (made + 1) → all ≤ 1) → IsEither shape sized head view (made + 1) image → MayLeave old.size (writing_log made) view image
+    either_leaves image all more short either = ⊎_elim
         (λ rest. inl (Logged-records old.size shape head view.records view.array image hv.fits rest))
-        (λ both. inr (inl (omega arith, omega arith, Logged-records old.size shape head _ _ image hv.fits both)))
-        (commit_each shape head view old new sound place sector adds (slot old new sound same_size Flushed hv).room (slot old new sound same_size Flushed hv).few
-        (inside old new sound same_size Flushed hv) (place_is old new sound same_size Flushed hv 49 place next.0) (commit_is old new sound same_size Flushed hv sector next.1)
-        left (guarded old new sound same_size Flushed hv ours) image cut)
-    commit_leaves Flush hv next adds ours image cut = absurd next
+        (λ both. inr (inl (omega (arith, below), omega (arith, more, short both.0), Logged-records old.size shape head _ _ image hv.fits both.1)))
+        either
 
-    flush_leaves : (w : Writing) (call : Call) → HoldsView (writing_log w) old view → IsFlush call → MayAdd call old new → view.ours ≡ true → EachCut (MayLeave old.size (writing_log w) view) new
-    flush_leaves w (Write place sector) hv is adds ours = absurd is
-    flush_leaves w Flush hv is adds ours = shrunk (MayLeave old.size (writing_log w) view) old new adds (hv.leaves ours)
+    module _ (new : State) (sound : IsSound old) (same_size : new.size ≡ old.size) where
+      flush_leaves : (call : Call) → IsFlush call → MayAdd call old new → view.ours ≡ true → EachCut (MayLeave old.size (writing_log made) view) new
+      flush_leaves (Write place sector) is adds ours = absurd is
+      flush_leaves Flush is adds ours = shrunk (MayLeave old.size (writing_log made) view) old new adds (hv.leaves ours)
 
-    -- after the next call a cut leaves what it might leave before, and with the commit the record
-    pub step_leaves : (w : Writing) (call : Call) → HoldsView (writing_log w) old view → IsNextCall shape (head + length waiting) numbers bytes w call → MayAdd call old new → view.ours ≡ true
-        → EachCut (MayLeave old.size (writing_log w) view) new
-    step_leaves Begun call hv next adds ours = descriptor_leaves call hv next adds ours
-    step_leaves (Placing i) call hv next adds ours = ⊎_elim
-        (λ below. place_leaves i call hv below next adds ours)
-        (λ all. flush_leaves (Placing i) call hv (next.1 all) adds ours)
-        (cases_lt i (length numbers))
-    step_leaves Flushed call hv next adds ours = commit_leaves call hv next adds ours
-    step_leaves Committed call hv next adds ours = flush_leaves Committed call hv next adds ours
+      write_leaves : (call : Call) → written_of shape view made < L.parts n → ¬ IsFlushDue L n made → IsWriteOf (part_at L shape stamp n (written_of shape view made)) (L.part stamp other (written_of shape view made)) call → MayAdd call old new → view.ours ≡ true
+          → EachCut (MayLeave old.size (writing_log made) view) new
+      write_leaves Flush small not is adds ours image cut = absurd is
+      write_leaves (Write place sector) small not is adds ours image cut = elim (cases_lt (written_of shape view made + 1) (L.parts n)) [
+        | inl early ↦ inl (Logged-records old.size shape head view.records view.array image hv.fits
+            (other_each shape sized head view old new sound slots (steps made) made (written_of shape view made) (omega (arith, below)) refl small place sector adds is.0
+            other other_is other_count is.1 early (guarded ours).each image cut))
+        | inr last ↦
+            let mine : sector ≡ L.part stamp view.under_way (written_of shape view made) = is.1 ∙ last_same (written_of shape view made) small last in
+            let after = part_written (L.early n) (L.parts n) late made (λ early. not (inl early)) in
+            either_leaves image (steps (made + 1)) (omega arith) (λ all. omega (arith, one_left (L.early n) (L.parts n) late (made + 1) all, all_steps))
+            (last_each shape sized head view old new sound slots (steps made) made (written_of shape view made) (omega (arith, below)) refl small place sector adds is.0
+            mine after.0 after.1 (guarded ours).each image cut)
+      ]
+        where
+          last_same : (k : ℕ) → k < L.parts n → L.parts n ≤ k + 1 → L.part stamp other k ≡ L.part stamp view.under_way k
+          last_same k low high =
+              let k_is : k ≡ L.parts n - 1 = omega (arith, low, high) in
+              let k_other : k ≡ L.parts (length other) - 1 = k_is ∙ ap (λ (m : ℕ). L.parts m - 1) (sym other_count) in
+              ap (λ (p : ℕ). L.part stamp other p) k_other ∙ (laws.last_part stamp other view.under_way other_count ∙ ap (λ (p : ℕ). L.part stamp view.under_way p) (sym k_is))
 
-    -- the descriptor is written
-    descriptor_held : (call : Call) → HoldsView (writing_log Begun) old view → IsNextCall shape (head + length waiting) numbers bytes Begun call → MayAdd call old new → IsDone call old new → HoldsView (writing_log (Placing 0)) new view
-    descriptor_held (Write place sector) hv next adds wrote =
-        let at = next.0 ∙ ap (slot_place shape) (stamp_is old new sound same_size Begun hv) in
-        let d = descriptor_is old new sound same_size Begun hv sector next.1 in
-        let all_left : length view.under_way + 3 ≡ length view.under_way - 0 + 3 = omega arith in
-        let below = slot_below old new sound same_size Begun hv in
-        held old new sound same_size Begun hv (Placing 0)
-        (subst (λ (n : ℕ). Stores shape head view n left new.content) all_left
-        (descriptor_stores shape head view left old.content new.content place sector wrote (slot old new sound same_size Begun hv) at (stored old new sound same_size Begun hv)))
-        (λ ours. descriptor_guards shape head view left new
-        (descriptor_each shape head view old new sound place sector adds (slot old new sound same_size Begun hv).room at d (rests old new sound same_size Begun hv ours (λ e. omega arith)))
-        (subst (IsDescriptor (head + length view.records) (numbers_of view.under_way)) (sym (ap new.content (sym at) ∙ wrote.here)) d)
-        (λ is. homed_each shape head view old new sound place sector adds (omega arith) ((guarded old new sound same_size Begun hv ours).homed is)) _ (omega arith))
-    descriptor_held Flush hv next adds wrote = absurd next
+      -- after the next call a cut leaves what it might leave before, and with the last part the record
+      pub step_leaves : (call : Call) → IsNextCall (layout_of shape.format) shape (head + length waiting) (entries_of numbers bytes) made call → MayAdd call old new → view.ours ≡ true
+          → EachCut (MayLeave old.size (writing_log made) view) new
+      step_leaves call next adds ours = elim (due_or_not L n made) [
+        | inl due ↦ flush_leaves call ((next_is call next).0 due) adds ours
+        | inr not ↦ write_leaves call (some_left not (cases_lt (written_of shape view made) (L.parts n))) not ((next_is call next).1 not) adds ours
+      ]
+        where
+          some_left : ¬ IsFlushDue L n made → (written_of shape view made < L.parts n) ⊎ (L.parts n ≤ written_of shape view made) → written_of shape view made < L.parts n
+          some_left not (inl less) = less
+          some_left not (inr all) = absurd (not (inr all))
 
-    -- a data place is written
-    place_held : (i : ℕ) (call : Call) → HoldsView (writing_log (Placing i)) old view → view.under_way ≡ entries_of numbers bytes → i < length numbers → IsNextCall shape (head + length waiting) numbers bytes (Placing i) call → MayAdd call old new → IsDone call old new
-        → HoldsView (writing_log (Placing (i + 1))) new view
-    place_held i (Write place sector) hv named below next adds wrote =
-        let same = count old new sound same_size (Placing i) hv in
-        let at = (next.0 below).0 ∙ ap (λ (s : ℕ). slot_place shape s + 1 + i) (stamp_is old new sound same_size (Placing i) hv) in
-        let is : sector ≡ (get_or view.under_way i (0, [])).1 = (next.0 below).1 ∙ sym (bytes_of_batch i numbers bytes below) ∙ ap (λ (l : List Entry). (get_or l i (0, [])).1) (sym named) in
-        let inside_log = slot_below old new sound same_size (Placing i) hv in
-        held old new sound same_size (Placing i) hv (Placing (i + 1))
-        (place_stores shape head view left old.content new.content place sector wrote (slot old new sound same_size (Placing i) hv) i (omega arith) at is (stored old new sound same_size (Placing i) hv))
-        (λ ours. descriptor_guards shape head view left new
-        (place_each shape head view old new sound place sector adds i (slot old new sound same_size (Placing i) hv).room (omega (arith, rec.numbers_are.few)) at (rests old new sound same_size (Placing i) hv ours (λ e. omega arith)))
-        (subst (IsDescriptor (head + length view.records) (numbers_of view.under_way)) (sym (wrote.elsewhere (slot_place shape (head + length view.records)) (λ e. omega arith)))
-        ((guarded old new sound same_size (Placing i) hv ours).described (omega arith) (omega arith)))
-        (λ is. homed_each shape head view old new sound place sector adds (omega (arith, rec.numbers_are.few)) ((guarded old new sound same_size (Placing i) hv ours).homed is)) _ (omega arith))
-    place_held i Flush hv named below next adds wrote = absurd (next.0 below)
+      module _ (named : view.under_way ≡ entries_of numbers bytes) where
+        -- a record that is still under way
+        held : (more : made + 1 < steps_for shape.format (length numbers)) → Stores shape head view (steps (made + 1)) (made + 1) done new.content
+            → (view.ours ≡ true → Guards shape head view (steps (made + 1)) (made + 1) left new)
+            → HoldsView (writing_log (made + 1)) new view
+        held more s g =
+            let oldest_is = of_oldest_is shape head waiting turned kept numbers (Some (made + 1)) false in
+            let turned_is = turned_of_is shape head waiting turned kept numbers (Some (made + 1)) false in
+            let made_is = made_of_is shape head waiting turned kept numbers (made + 1) false more in
+            let fits : sectors_of shape ≤ new.size = omega (arith, same_size, hv.fits) in
+            let guards : view.ours ≡ true → Guards shape head view (steps (made + 1)) (made_of (writing_log (made + 1))) (of_oldest (writing_log (made + 1))) new = λ ours.
+            subst (λ (r : ℕ). Guards shape head view (steps (made + 1)) (made_of (writing_log (made + 1))) r new) (sym oldest_is)
+            (subst (λ (k : ℕ). Guards shape head view (steps (made + 1)) k left new) (sym made_is) (g ours)) in
+            record {
+              fits = fits;
+              durable = hv.durable;
+              under_way = hv.under_way;
+              next = hv.next;
+              few = hv.few;
+              sized = hv.sized;
+              kept = λ live. subst (λ (t : ℕ). IsRead shape.format head (oldest_of view) t kept) (sym turned_is) read;
+              leaves = λ ours. guards_leave new.size (writing_log (made + 1)) view new (made + 1) left fits sized hv.few (λ _. slots)
+                  (λ all. omega (arith, one_left (L.early n) (L.parts n) late (made + 1) all, all_steps)) (g ours);
+              stores = λ live. subst (λ (t : ℕ). Stores shape head view (steps (made + 1)) (made_of (writing_log (made + 1))) t new.content) (sym turned_is)
+                  (subst (λ (k : ℕ). Stores shape head view (steps (made + 1)) k done new.content) (sym made_is) s);
+              guards = λ live ours. guards ours;
+            }
 
-    -- the descriptor and the data places are flushed
-    flush_held : (i : ℕ) (call : Call) → HoldsView (writing_log (Placing i)) old view → i ≤ length numbers → length numbers ≤ i → IsFlush call → IsDone call old new → HoldsView (writing_log Flushed) new view
-    flush_held i (Write place sector) hv few all is done = absurd is
-    flush_held i Flush hv few all is done =
-        let same = count old new sound same_size (Placing i) hv in
-        let three : length view.under_way - i + 3 ≡ 3 = omega arith in
-        let s : Stores shape head view 3 left old.content = subst (λ (n : ℕ). Stores shape head view n left old.content) three (stored old new sound same_size (Placing i) hv) in
-        held old new sound same_size (Placing i) hv Flushed
-        (Stores-step shape head view 3 2 left new.content (omega arith) (Stores-stays shape head view 3 left old.content new.content done.0 s))
-        (λ ours. flush_guards shape head view old new sound left done.1 done.0 s
-        (subst (λ (n : ℕ). Guards shape head view n left old) three (guarded old new sound same_size (Placing i) hv ours)))
+        -- the early parts are flushed
+        flush_held : (call : Call) → made + 1 < steps_for shape.format (length numbers) → IsFlushDue L n made → IsFlush call → IsDone call old new → HoldsView (writing_log (made + 1)) new view
+        flush_held (Write place sector) more due is wrote = absurd is
+        flush_held Flush more (inr all) is wrote = absurd (omega (arith, all, not_last (L.early n) (L.parts n) late made (omega (arith, more, all_steps))))
+        flush_held Flush more (inl early) is wrote =
+            let after = early_written (L.early n) (L.parts n) late made early.0 early.1 in
+            held more (Stores-stays shape sized head view (steps made) (steps (made + 1)) made (made + 1) done old.content new.content wrote.0 (λ _. omega (arith, below)) (omega (arith, after.0, after.1)) stored)
+            (λ ours. flush_guards shape sized head view old new sound (steps made) (steps (made + 1)) made left done (L.early n) (omega (arith, below)) (omega (arith, more)) after.0 after.1 after.2 slots wrote.1 stored (guarded ours))
 
-    -- the commit is written
-    commit_held : (call : Call) → HoldsView (writing_log Flushed) old view → IsNextCall shape (head + length waiting) numbers bytes Flushed call → MayAdd call old new → IsDone call old new → HoldsView (writing_log Committed) new view
-    commit_held (Write place sector) hv next adds wrote =
-        let at = place_is old new sound same_size Flushed hv 49 place next.0 in
-        let c = commit_is old new sound same_size Flushed hv sector next.1 in
-        held old new sound same_size Flushed hv Committed
-        (commit_stores shape head view left old.content new.content place sector wrote (slot old new sound same_size Flushed hv) at (stored old new sound same_size Flushed hv))
-        (λ ours. commit_guards shape head view old new sound place sector adds (slot old new sound same_size Flushed hv).room (slot old new sound same_size Flushed hv).few
-        (inside old new sound same_size Flushed hv) at c left some wrote (guarded old new sound same_size Flushed hv ours))
-    commit_held Flush hv next adds wrote = absurd next
+        -- the next part is written
+        part_held : (call : Call) → made + 1 < steps_for shape.format (length numbers) → ¬ IsFlushDue L n made → IsWriteOf (part_at L shape stamp n (written_of shape view made)) (L.part stamp other (written_of shape view made)) call
+            → MayAdd call old new → IsDone call old new → HoldsView (writing_log (made + 1)) new view
+        part_held Flush more not is adds wrote = absurd is
+        part_held (Write place sector) more not is adds wrote =
+            let small : written_of shape view made < L.parts n = not_last (L.early n) (L.parts n) late made (omega (arith, more, all_steps)) in
+            let mine : sector ≡ L.part stamp view.under_way (written_of shape view made) = is.1 ∙ ap (λ (l : List Entry). L.part stamp l (written_of shape view made)) (sym named) in
+            let after = part_written (L.early n) (L.parts n) late made (λ early. not (inl early)) in
+            held more (part_stores shape sized head view (steps made) (steps (made + 1)) made done (written_of shape view made) old.content new.content place sector wrote (omega (arith, many, room)) slots.under_way.fit.few
+            (λ _. omega (arith, below)) refl after.0 small is.0 mine stored)
+            (λ ours. part_guards shape sized head view old new sound slots (steps made) made (written_of shape view made) (omega (arith, below)) refl small place sector adds is.0
+            mine after.0 after.1 (steps (made + 1)) left (omega (arith, more)) (guarded ours))
 
-    -- the log after the last call, with one record more
-    abbrev durable_log : LogValue
-    durable_log = value_at shape head (waiting ++ numbers ∷ []) r [] None false
+        -- after a call that is not the last the log and its medium hold the same view
+        pub step_held : (call : Call) → made + 1 < steps_for shape.format (length numbers) → IsNextCall (layout_of shape.format) shape (head + length waiting) (entries_of numbers bytes) made call
+            → MayAdd call old new → IsDone call old new → HoldsView (writing_log (made + 1)) new view
+        step_held call more next adds wrote = elim (due_or_not L n made) [
+          | inl due ↦ flush_held call more due ((next_is call next).0 due) wrote
+          | inr not ↦ part_held call more not ((next_is call next).1 not) adds wrote
+        ]
 
-    -- the commit is flushed
-    durable_held : (call : Call) → HoldsView (writing_log Committed) old view → IsOldest waiting r → IsFlush call → IsDone call old new → HoldsView durable_log new (with_record view)
-    durable_held (Write place sector) hv oldest is done = absurd is
-    durable_held Flush hv oldest is done =
-        let same = count old new sound same_size Committed hv in
-        let as_many = many old new sound same_size Committed hv in
-        let after : ℕ = oldest_at (waiting ++ numbers ∷ []) r in
-        let oldest_is = of_oldest_is shape head (waiting ++ numbers ∷ []) r [] None false in
-        let fits : sectors_of shape ≤ new.size = omega (arith, same_size, hv.fits) in
-        let alone : length view.records ≡ 0 → after ≡ length view.under_way + 2 = λ none. oldest_alone waiting r numbers oldest (omega (arith, none, as_many)) ∙ (ap (λ (n : ℕ). n + 2) same) in
-        let more : 0 < length view.records → after ≡ left = λ waits. oldest_more waiting r numbers (omega (arith, waits, as_many)) in
-        let stores : Stores shape head (with_record view) 0 (of_oldest durable_log) new.content = subst (λ (n : ℕ). Stores shape head (with_record view) 0 n new.content) (sym oldest_is)
-        (durable_stores shape head view left after new.content alone more (Stores-stays shape head view 1 left old.content new.content done.0 (stored old new sound same_size Committed hv))) in
-        let guards : view.ours ≡ true → Guards shape head (with_record view) 0 (of_oldest durable_log) new = λ ours. subst (λ (n : ℕ). Guards shape head (with_record view) 0 n new) (sym oldest_is)
-        (durable_guards shape head view old new sound left after alone more done.1 (guarded old new sound same_size Committed hv ours)) in
-        record {
-          fits = fits;
-          durable = durable_numbers view.records view.under_way waiting numbers hv.durable hv.under_way;
-          under_way = refl;
-          next = omega (arith, as_many, length-append waiting (numbers ∷ []), length-append view.records (view.under_way ∷ []));
-          leaves = λ ours. guards_leave new.size durable_log (with_record view) new fits (guards ours);
-          stores = λ live. stores;
-          guards = λ live ours. guards ours;
-        }
+      -- the log after the last call, with one record more
+      abbrev durable_log : LogValue
+      durable_log = value_at shape head (waiting ++ numbers ∷ []) turned kept [] None false
 
-    at_stage : (v found : Writing) → v ≡ found → HoldsView (writing_log found) new view → HoldsView (writing_log v) new view
-    at_stage v found is hv = subst (λ (w : Writing). HoldsView (writing_log w) new view) (sym is) hv
+      -- all is flushed
+      durable_held : (call : Call) → L.parts n ≤ written_of shape view made → IsOldest shape.format waiting turned → IsFlush call → IsDone call old new → HoldsView durable_log new (with_record view)
+      durable_held (Write place sector) all oldest is wrote = absurd is
+      durable_held Flush all oldest is wrote =
+          let after : ℕ = oldest_at shape.format (waiting ++ numbers ∷ []) turned in
+          let then_done : ℕ = turned_at shape.format (waiting ++ numbers ∷ []) turned in
+          let oldest_is = of_oldest_is shape head (waiting ++ numbers ∷ []) turned kept [] None false in
+          let turned_is = turned_of_is shape head (waiting ++ numbers ∷ []) turned kept [] None false in
+          let fits : sectors_of shape ≤ new.size = omega (arith, same_size, hv.fits) in
+          let longer : length (view.records ++ view.under_way ∷ []) ≡ length view.records + 1 = length-append view.records (view.under_way ∷ []) in
+          let alone : length view.records ≡ 0 → (1 < oldest_at shape.format (waiting ++ numbers ∷ []) turned) × (turned_at shape.format (waiting ++ numbers ∷ []) turned ≡ 0) = λ none. oldest_alone shape.format waiting turned numbers oldest (omega (arith, none, many)) in
+          let waits : 0 < length view.records → (oldest_at shape.format (waiting ++ numbers ∷ []) turned ≡ left) × (turned_at shape.format (waiting ++ numbers ∷ []) turned ≡ done) = λ some. oldest_more shape.format waiting turned numbers (omega (arith, some, many)) in
+          let made_then : ℕ = made_of durable_log in
+          let stores : Stores shape head (with_record view) 0 made_then (turned_at shape.format (waiting ++ numbers ∷ []) turned) new.content =
+          Stores-rest (durable_stores shape sized head view (steps made) made done (turned_at shape.format (waiting ++ numbers ∷ []) turned) new.content (omega (arith, below)) slots.under_way all
+          (λ none. (alone none).1) (λ some. (waits some).1)
+          (Stores-stays shape sized head view (steps made) (steps made) made made done old.content new.content wrote.0 (λ some. some) (omega arith) stored)) in
+          let one_less : oldest_at shape.format (waiting ++ numbers ∷ []) turned ≡ 1 → (0 < length view.records) × (left ≡ 1) = λ one. elim (cases_eq (length view.records) 0) [
+            | inl none ↦ absurd (omega (arith, one, (alone none).0))
+            | inr some ↦ let w : 0 < length view.records = omega (arith, some) in (w, sym (waits w).0 ∙ one)
+          ] in
+          let guards : view.ours ≡ true → Guards shape head (with_record view) 0 made_then (oldest_at shape.format (waiting ++ numbers ∷ []) turned) new = λ ours.
+          durable_guards shape sized head view old new sound (steps made) made made_then done left (oldest_at shape.format (waiting ++ numbers ∷ []) turned) (omega (arith, below)) all one_less slots wrote.1 stored (guarded ours) in
+          record {
+            fits = fits;
+            durable = durable_numbers view.records view.under_way waiting numbers hv.durable hv.under_way;
+            under_way = refl;
+            next = omega (arith, many, length-append waiting (numbers ∷ []), longer);
+            few = omega (arith, many, room, longer);
+            sized = λ j d none. absurd (omega (arith, none));
+            kept = λ live. subst (λ (t : ℕ). IsRead shape.format head (oldest_of (with_record view)) t kept) (sym turned_is) (elim (cases_eq (length view.records) 0) [
+              | inl none ↦ subst (λ (t : ℕ). IsRead shape.format head (oldest_of (with_record view)) t kept) (sym (alone none).1) (none_read shape.format head _ kept)
+              | inr some ↦
+                  let w : 0 < length view.records = omega (arith, some) in
+                  subst (λ (t : ℕ). IsRead shape.format head (oldest_of (with_record view)) t kept) (sym (waits w).1)
+                  (subst (λ (r : List Entry). IsRead shape.format head r done kept) (sym (oldest-append view.records view.under_way w)) read)
+            ]);
+            leaves = λ ours. guards_leave new.size durable_log (with_record view) new made_then (oldest_at shape.format (waiting ++ numbers ∷ []) turned) fits sized (omega (arith, many, room, longer)) (λ some. absurd (omega (arith, some)))
+                (λ _. omega arith) (guards ours);
+            stores = λ live. subst (λ (t : ℕ). Stores shape head (with_record view) 0 made_then t new.content) (sym turned_is) stores;
+            guards = λ live ours. subst (λ (r : ℕ). Guards shape head (with_record view) 0 made_then r new) (sym oldest_is) (guards ours);
+          }
+        where
+          Stores-rest : {made_then turns : ℕ} → Stores shape head (with_record view) 0 0 turns new.content → Stores shape head (with_record view) 0 made_then turns new.content
+          Stores-rest s = record { laid = s.laid; written = λ none. absurd (omega (arith, none)); copied = s.copied }
 
-    -- after a call that is not the last the log and its medium hold the same view
-    pub step_held : (w : Writing) (call : Call) (v : Writing) → HoldsView (writing_log w) old view → view.under_way ≡ entries_of numbers bytes → IsWriting (length numbers) w
-        → IsNextCall shape (head + length waiting) numbers bytes w call → MayAdd call old new → IsDone call old new → IsNextStage (length numbers) w (Some v)
-        → HoldsView (writing_log v) new view
-    step_held Begun call v hv named fits next adds done is = at_stage v (Placing 0) (cc is) (descriptor_held call hv next adds done)
-    step_held (Placing i) call v hv named fits next adds done is = ⊎_elim
-        (λ below. at_stage v (Placing (i + 1)) (let e = is.0 below in cc e) (place_held i call hv named below next adds done))
-        (λ all. at_stage v Flushed (let e = is.1 all in cc e) (flush_held i call hv fits all (next.1 all) done))
-        (cases_lt i (length numbers))
-    step_held Flushed call v hv named fits next adds done is = at_stage v Committed (cc is) (commit_held call hv next adds done)
-    step_held Committed call v hv named fits next adds done is = absurd (cc is)
-
-    -- after the last call they hold the one with the record
-    pub step_last : (w : Writing) (call : Call) → HoldsView (writing_log w) old view → IsOldest waiting r
-        → IsNextCall shape (head + length waiting) numbers bytes w call → IsDone call old new → IsNextStage (length numbers) w None
-        → HoldsView durable_log new (with_record view)
-    step_last Begun call hv oldest next done is = absurd (cc is)
-    step_last (Placing i) call hv oldest next done is = ⊎_elim
-        (λ below. let e = is.0 below in absurd (cc e))
-        (λ all. let e = is.1 all in absurd (cc e))
-        (cases_lt i (length numbers))
-    step_last Flushed call hv oldest next done is = absurd (cc is)
-    step_last Committed call hv oldest next done is = durable_held call hv oldest next done
+      -- after the last call they hold the one with the record
+      pub step_last : (call : Call) → steps_for shape.format (length numbers) ≤ made + 1 → IsOldest shape.format waiting turned → IsNextCall (layout_of shape.format) shape (head + length waiting) (entries_of numbers bytes) made call
+          → IsDone call old new → HoldsView (value_at shape head (waiting ++ numbers ∷ []) turned kept [] None false) new (with_record view)
+      step_last call last oldest next wrote =
+          let all : L.parts n ≤ written_of shape view made = last_call (L.early n) (L.parts n) late made (omega (arith, below, all_steps)) (omega (arith, last, all_steps)) in
+          durable_held call all oldest ((next_is call next).0 (inr all)) wrote

@@ -1,15 +1,15 @@
 -- The calls of a medium that write a record and retire it.
-use Rattle.std.specs.Prelude.{◌≡◌, ◌⊎◌, ℕ, ◌+◌, ◌*◌, ◌<◌, ◌≤◌, List, length, slice_range}
+use Rattle.std.specs.Prelude.{◌≡◌, ◌⊎◌, ℕ, ◌<◌, ◌≤◌, List, length}
 use Rattle.medium.specs.Medium.{State, Sets, Stays, Holds, Within, Gains, Only}
 use Rattle.medium.specs.Moments.{StaysWithin}
 use Rattle.medium.specs.declared.fault.MediumFault.{MediumFault}
 use Rattle.medium.specs.declared.fault.MediumFault.TheVariants as fault
-use Rattle.log_layout.specs.Places.{Shape, slot_place}
-use Rattle.log_layout.specs.Sectors.{IsDescriptor, IsCommit}
+use Rattle.log_layout.specs.Places.{Shape}
+use Rattle.log_image.specs.Record.{Entry}
+use Rattle.log_image.specs.Layout.{Layout, part_at}
+use Rattle.redo_log.specs.Stages.{written_at}
 use Rattle.redo_log.specs.declared.call.Call.{Call}
 use Rattle.redo_log.specs.declared.call.Call.TheVariants.{Write, Flush}
-use Rattle.redo_log.specs.declared.stage.Writing.{Writing}
-use Rattle.redo_log.specs.declared.stage.Writing.TheVariants.{Begun, Placing, Flushed, Committed}
 
 -- the fault with which a medium refuses this call
 abbrev pub fault_of : Call → MediumFault
@@ -31,24 +31,28 @@ abbrev pub IsDone : Call → State → State → Type 0
 IsDone (Write place bytes) old new = Holds place bytes old.content new.content
 IsDone Flush old new = Stays old.content new.content × Only old.content new.may_leave
 
--- the call writes bytes with P to this sector
-abbrev pub IsWriteOf : ℕ → (List ℕ → Type 0) → Call → Type 0
-IsWriteOf place P (Write sector bytes) = (sector ≡ place) × P bytes
-IsWriteOf place P Flush = ⊥
+-- the call writes these bytes to this sector
+abbrev pub IsWriteOf : ℕ → List ℕ → Call → Type 0
+IsWriteOf place bytes (Write sector written) = (sector ≡ place) × (written ≡ bytes)
+IsWriteOf place bytes Flush = ⊥
 
 abbrev pub IsFlush : Call → Type 0
 IsFlush (Write place bytes) = ⊥
 IsFlush Flush = Unit {0}
 
--- the next call of a record with this stamp: the descriptor, the data places in rising order, a flush, the commit, a flush
-abbrev pub IsNextCall : Shape → ℕ → List ℕ → List ℕ → Writing → Call → Type 0
-IsNextCall shape stamp numbers bytes Begun call = IsWriteOf (slot_place shape stamp) (IsDescriptor stamp numbers) call
-IsNextCall shape stamp numbers bytes (Placing i) call =
-    (i < length numbers → IsWriteOf (slot_place shape stamp + 1 + i)
-    (λ sector. sector ≡ slice_range bytes (512 * i) (512 * i + 512)) call)
-    × (length numbers ≤ i → IsFlush call)
-IsNextCall shape stamp numbers bytes Flushed call = IsWriteOf (slot_place shape stamp + 49) (IsCommit stamp (length numbers)) call
-IsNextCall shape stamp numbers bytes Committed call = IsFlush call
+-- a flush comes next: the early parts are written, or all
+abbrev pub IsFlushDue : Layout → ℕ → ℕ → Type 0
+IsFlushDue L count made = ((0 < L.early count) × (made ≡ L.early count))
+    ⊎ (L.parts count ≤ written_at (L.early count) made)
+
+-- The next call of a record of which so many calls are made: a flush where one is due, or the next
+-- part.
+abbrev pub IsNextCall : Layout → Shape → ℕ → List Entry → ℕ → Call → Type 0
+IsNextCall L shape stamp entries made call =
+    (IsFlushDue L (length entries) made → IsFlush call)
+    × (¬ IsFlushDue L (length entries) made
+    → let written = written_at (L.early (length entries)) made in
+    IsWriteOf (part_at L shape stamp (length entries) written) (L.part stamp entries written) call)
 
 -- what a cut may leave, with these bytes in one sector too
 abbrev pub gaining : ℕ → List ℕ → Sets → Sets

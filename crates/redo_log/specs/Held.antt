@@ -1,15 +1,19 @@
 -- What a log and its medium hold together.
-use Rattle.std.specs.Prelude.{◌≡◌, ◌⊎◌, ℕ, ◌+◌, ◌-◌, ◌≤◌, ◌<◌, List, [], ◌∷◌, ◌++◌, length, get_or, drop, map, Bool, true, false}
+use Rattle.std.specs.Prelude.{◌≡◌, ◌⊎◌, ℕ, ◌+◌, ◌-◌, ◌≤◌, ◌<◌, List, [], ◌∷◌, ◌++◌, length, get_or, drop, map, All, Bool, true, false}
 use Rattle.medium.specs.Medium.{State, Image}
 use Rattle.medium.specs.Moments.{EachCut}
 use Rattle.medium.specs.Blocks.{Array}
-use Rattle.log_layout.specs.Places.{Shape, slot_place, sectors_of}
-use Rattle.log_layout.specs.Sectors.{IsDescriptor}
-use Rattle.log_layout.specs.Record.{Entry, numbers_of, with_blocks}
+use Rattle.log_layout.specs.Places.{Shape, sectors_of}
+use Rattle.log_image.specs.Record.{Entry, numbers_of, with_blocks}
+use Rattle.log_image.specs.Layout.{part_at}
+use Rattle.log_image.specs.Formats.{layout_of}
+use Rattle.log_image.specs.Staged as staged
+use Rattle.log_image.specs.Staged.{Resting, Guarded, IsHomed}
 use Rattle.redo_log.specs.declared.progress.Progress.{Progress}
 use Rattle.redo_log.specs.declared.progress.Progress.TheVariants.{More, Durable}
-use Rattle.redo_log.specs.Value.{LogValue, behind_oldest, of_oldest}
-use Rattle.redo_log.specs.Logged.{HasRecords, Logged, HasPlaces, IsStaged, AreHome, Laid}
+use Rattle.redo_log.specs.Value.{LogValue, steps_of, turns_home, behind_oldest, of_oldest}
+use Rattle.redo_log.specs.Logged.{HasRecords, AreHome, Laid}
+use Rattle.redo_log.specs.Stages.{written_at, flushed_at, homed_at, IsRead}
 
 -- what a log has
 pub record View : Type 0 where
@@ -57,7 +61,7 @@ module _ (size : ℕ) (log : LogValue) (view : View) (image : Image) where
   abbrev pub HasDurable : Type 0
   HasDurable = HasView size log.shape log.head view image
 
-  -- the commit may be there: with it the record under way is whole too
+  -- the record's last sector may be there: with it the record under way is whole too
   abbrev pub HasUnderWay : Type 0
   HasUnderWay = (0 < log.steps_left) × (log.steps_left ≤ 2)
       × HasView size log.shape log.head (with_record view) image
@@ -79,45 +83,81 @@ stamp_behind head view = head + length view.records
 abbrev pub oldest_of : View → List Entry
 oldest_of view = get_or view.records 0 []
 
--- the image has the durable records of this view, and no commit behind them
-abbrev pub IsLogged : Shape → ℕ → View → Image → Type 0
-IsLogged shape head view image = Logged shape head view.records view.array image
+-- this view, as images see it
+abbrev pub image_view : Shape → ℕ → View → staged.View
+image_view shape head view = record {
+  shape = shape;
+  head = head;
+  records = view.records;
+  under_way = view.under_way;
+  array = view.array;
+}
 
--- what a medium stores of a log, where so many steps are left, and so many retire steps of its oldest record
-pub record Stores (shape : Shape) (head : ℕ) (view : View) (steps retire : ℕ) (content : Image) : Type 0 where
+-- how many parts of the record under way are written after so many calls, and how many are flushed
+abbrev pub written_of : Shape → View → ℕ → ℕ
+written_of shape view made =
+    written_at ((layout_of shape.format).early (length view.under_way)) made
+
+abbrev pub flushed_of : Shape → View → ℕ → ℕ
+flushed_of shape view made =
+    flushed_at ((layout_of shape.format).early (length view.under_way)) made
+
+-- What a medium stores of a log, where so many steps are left, so many calls of the record under
+-- way are made, and so many turns of the oldest.
+pub record Stores (shape : Shape) (head : ℕ) (view : View) (steps made turned : ℕ)
+    (content : Image) : Type 0 where
   pub laid : Laid shape head view.records view.array content
   -- the record under way as far as it is written
-  pub written : HasPlaces shape (stamp_behind head view) view.under_way (length view.under_way + 3 - steps) content
+  pub written : 0 < steps → (p : ℕ) → p < written_of shape view made
+      → p < (layout_of shape.format).parts (length view.under_way)
+      → content (part_at (layout_of shape.format) shape (stamp_behind head view)
+      (length view.under_way) p)
+      ≡ (layout_of shape.format).part (stamp_behind head view) view.under_way p
   -- the oldest record as far as it is copied home
-  pub copied : AreHome shape (oldest_of view) (length (oldest_of view) + 2 - retire) content
+  pub copied : AreHome shape (oldest_of view) (homed_at shape.format turned) content
+
+-- what a cut may leave of the log, where so many steps are left
+pub record Safe (shape : Shape) (head : ℕ) (view : View) (steps made : ℕ) (image : Image)
+    : Type 0 where
+  -- without a record under way it rests
+  pub rests : steps ≡ 0 → Resting (layout_of shape.format) (image_view shape head view) image
+  -- with one each part of it is there or not
+  pub guarded : 0 < steps → Guarded (layout_of shape.format) (image_view shape head view)
+      (written_of shape view made) (flushed_of shape view made) image
 
 -- what guards a log against a cut
-pub record Guards (shape : Shape) (head : ℕ) (view : View) (steps retire : ℕ) (m : State) : Type 0 where
-  -- each image has the durable records, and with the commit perhaps the record under way
-  pub each : EachCut (λ image. IsLogged shape head view image
-      ⊎ ((steps ≡ 1) × IsLogged shape head (with_record view) image)) m
-  -- the descriptor of the record under way is written
-  pub described : 0 < steps → steps < length view.under_way + 4
-      → IsDescriptor (stamp_behind head view) (numbers_of view.under_way) (m.content (slot_place shape (stamp_behind head view)))
-  -- its descriptor and its blocks are flushed
-  pub flushed : 0 < steps → steps < 3 → EachCut (IsStaged shape (stamp_behind head view) view.under_way) m
-  -- its commit is written
-  pub committed : steps ≡ 1 → IsLogged shape head (with_record view) m.content
+pub record Guards (shape : Shape) (head : ℕ) (view : View) (steps made retire : ℕ) (m : State)
+    : Type 0 where
+  pub each : EachCut (Safe shape head view steps made) m
   -- the oldest record's blocks are flushed at home
-  pub homed : retire ≡ 1 → EachCut (AreHome shape (oldest_of view) (length (oldest_of view))) m
+  pub homed : retire ≡ 1 → EachCut (IsHomed (image_view shape head view)) m
 
 -- one stamp for a record that has blocks
 abbrev pub stamps_of : List ℕ → ℕ
 stamps_of [] = 0
 stamps_of (n ∷ numbers) = 1
 
--- The log and its medium hold this: contents always, and, where every image was ours, all that a cut may leave.
--- Of a dead log only what a cut may leave is known.
+-- how many calls of the record under way are made
+abbrev pub made_of : LogValue → ℕ
+made_of log = steps_of log.shape.format log.under_way - log.steps_left
+
+-- how many turns of the oldest record are made
+abbrev pub turned_of : LogValue → ℕ
+turned_of log = turns_home log.shape.format (length (get_or log.waiting 0 [])) + 2 - of_oldest log
+
+-- The log and its medium hold this: contents always, and, where every image was ours, all that a cut
+-- may leave. Of a dead log only what a cut may leave is known.
 pub record HoldsView (log : LogValue) (m : State) (view : View) : Type 0 where
   pub fits : sectors_of log.shape ≤ m.size
   pub durable : log.waiting ≡ map numbers_of view.records
   pub under_way : log.under_way ≡ numbers_of view.under_way
   pub next : log.next ≡ log.head + length view.records + stamps_of log.under_way
+  pub few : length view.records ≤ log.shape.slots
+  pub sized : All (λ e. length e.1 ≡ 512) view.under_way
+  pub kept : log.dead ≡ false
+      → IsRead log.shape.format log.head (oldest_of view) (turned_of log) log.kept
   pub leaves : view.ours ≡ true → EachCut (MayLeave m.size log view) m
-  pub stores : log.dead ≡ false → Stores log.shape log.head view log.steps_left (of_oldest log) m.content
-  pub guards : log.dead ≡ false → view.ours ≡ true → Guards log.shape log.head view log.steps_left (of_oldest log) m
+  pub stores : log.dead ≡ false
+      → Stores log.shape log.head view log.steps_left (made_of log) (turned_of log) m.content
+  pub guards : log.dead ≡ false → view.ours ≡ true
+      → Guards log.shape log.head view log.steps_left (made_of log) (of_oldest log) m

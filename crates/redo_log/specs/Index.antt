@@ -1,5 +1,5 @@
 -- The index of a log: where the newest logged copy of each block stands.
-use Rattle.std.specs.Prelude.{◌≡◌, ◌⊎◌, ℕ, ◌+◌, ◌%◌, ◌<◌, ◌≤◌, List, [], ◌∷◌, length, get_or, slice_index, Option, Some, None, if◌then◌else◌, ◌==◌}
+use Rattle.std.specs.Prelude.{◌≡◌, ℕ, ◌+◌, ◌%◌, ◌<◌, ◌≤◌, List, [], ◌∷◌, length, get_or, Option, Some, None, if◌then◌else◌, ◌==◌}
 use Rattle.redo_log.specs.declared.index.Copied.{Copied}
 
 -- for each block a slot and a place, where there is a copy
@@ -48,25 +48,6 @@ pub record IsGapFor (index : List Copied) (block i : ℕ) : Type 0 where
   pub in_range : i ≤ length index
   pub smaller : (j : ℕ) → j < i → block_at index j < block
   pub greater : (j : ℕ) → i ≤ j → j < length index → block < block_at index j
-
--- the copy is that of this block in the record in this slot
-abbrev pub IsCopyIn : ℕ → List ℕ → ℕ → ℕ × ℕ → Type 0
-IsCopyIn slot numbers block copy = (copy.0 ≡ slot) × ((copy.1 < length numbers) × (slice_index numbers copy.1 ≡ block))
-
--- the copy is in the index, or of the record in this slot
-abbrev pub IsFrom : List Copied → ℕ → List ℕ → ℕ → ℕ × ℕ → Type 0
-IsFrom index slot numbers block copy = (look index block ≡ Some copy) ⊎ IsCopyIn slot numbers block copy
-
--- an index with these copies fits in so many entries
-abbrev pub Fits : ℕ → Copies → Type 0
-Fits room copies = (index : List Copied) → IsSorted index
-    → ((block : ℕ) → look index block ≡ copies block) → length index ≤ room
-
--- an index of copies of this one and of the record in this slot fits in so many entries
-abbrev pub FitsWith : ℕ → List Copied → ℕ → List ℕ → Type 0
-FitsWith room old slot numbers = (index : List Copied) → IsSorted index
-    → ((block : ℕ) (copy : ℕ × ℕ) → look index block ≡ Some copy → IsFrom old slot numbers block copy)
-    → length index ≤ room
 
 -- the index has the newest copies of these records, of which the first has this stamp
 pub record IsIndex (slots stamp : ℕ) (records : List (List ℕ)) (index : List Copied) : Type 0 where

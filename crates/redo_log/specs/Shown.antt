@@ -2,6 +2,7 @@
 use Rattle.std.specs.Prelude.{ℕ, ◌+◌, ◌*◌, ◌^◌, ◌≤◌, ◌<◌, List, length, map, vec_capacity}
 use Rattle.std.specs.VecDeque.{deque_capacity}
 use Rattle.arrayvec.specs.ArrayVec.{ArrayVec}
+use Rattle.log_layout.specs.Places.{limit_of}
 use Rattle.log_layout.specs.Values.{shape_of}
 use Rattle.redo_log.specs.Value.{LogValue}
 use Rattle.redo_log.specs.Stages.{value_at, begun_at, IsRing}
@@ -14,13 +15,15 @@ lists_of records = map (λ r. r.items) records
 
 -- what a caller sees of the fields
 abbrev pub shown : Inside → LogValue
-shown log = value_at (shape_of log.sizes) log.head (lists_of log.waiting.items) log.retiring log.under_way.items log.writing log.dead
+shown log = value_at (shape_of log.sizes) log.head (lists_of log.waiting.items) log.turned
+    log.kept log.under_way.items log.made log.dead
 
 -- what is true of the fields of every log
 pub record IsKept (log : Inside) : Type 0 where
   pub least : 1 ≤ log.head
-  pub most : log.head + length log.waiting.items + begun_at log.writing < 2 ^ 63
+  pub most : log.head + length log.waiting.items + begun_at log.made < 2 ^ 63
   pub room : log.sizes.slots ≤ deque_capacity log.waiting
-  pub index_room : 48 * log.sizes.slots ≤ vec_capacity log.index
+  pub index_room : limit_of log.sizes.format * log.sizes.slots ≤ vec_capacity log.index
   pub index_is : IsIndex log.sizes.slots log.head (lists_of log.waiting.items) log.index.items
-  pub ring : IsRing log.sizes.blocks log.sizes.slots (lists_of log.waiting.items) log.retiring log.under_way.items log.writing
+  pub ring : IsRing (shape_of log.sizes) (lists_of log.waiting.items) log.turned
+      log.under_way.items log.made

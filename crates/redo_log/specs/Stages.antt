@@ -1,104 +1,104 @@
 -- How far a log's records have come, as numbers.
-use Rattle.std.specs.Prelude.{◌≡◌, ℕ, ◌≤◌, ◌<◌, ◌^◌, ◌+◌, ◌-◌, List, [], ◌∷◌, length, drop, sum_by, All, Bool, Option, Some, None}
-use Rattle.log_layout.specs.Places.{Shape}
+use Rattle.std.specs.Prelude.{◌≡◌, ℕ, ◌≤◌, ◌<◌, ◌^◌, ◌+◌, ◌*◌, ◌-◌, ◌/◌, ◌%◌, List, [], ◌∷◌, length, drop, sum_by, All, Bool, Option, Some, None, if◌then◌else◌, nat_lt}
+use Rattle.log_layout.specs.declared.log_format.LogFormat.{LogFormat}
+use Rattle.log_layout.specs.declared.log_format.LogFormat.TheVariants.{One, Two}
+use Rattle.log_layout.specs.Places.{Shape, limit_of}
 use Rattle.log_layout.specs.Sectors.{IsRising}
-use Rattle.redo_log.specs.Value.{LogValue, retire_steps_of}
-use Rattle.redo_log.specs.declared.stage.Writing.{Writing}
-use Rattle.redo_log.specs.declared.stage.Writing.TheVariants.{Begun, Placing, Flushed, Committed}
-use Rattle.redo_log.specs.declared.stage.Retiring.{Retiring}
-use Rattle.redo_log.specs.declared.stage.Retiring.TheVariants.{Copying, Homed}
+use Rattle.log_image.specs.Record.{Entry}
+use Rattle.log_image.specs.Formats.{layout_of}
+use Rattle.redo_log.specs.Value.{LogValue, steps_for, turns_home, retire_steps_of}
 
--- how many steps a record of so many blocks needs: each makes one call
-abbrev pub steps_from : ℕ → Writing → ℕ
-steps_from count Begun = count + 4
-steps_from count (Placing i) = count - i + 3
-steps_from count Flushed = 2
-steps_from count Committed = 1
+-- one flush for the parts that are flushed early, none where there are none
+unfoldable pub flush_of : ℕ → ℕ
+flush_of early = if nat_lt 0 early then 1 else 0
 
--- how many retire steps it needs
-abbrev pub retire_steps_from : ℕ → Retiring → ℕ
-retire_steps_from count (Copying i) = count - i + 2
-retire_steps_from count Homed = 1
+-- How many parts of a record are written after so many calls. One of the calls flushes the early
+-- parts, where there are any.
+unfoldable pub written_at : ℕ → ℕ → ℕ
+written_at early made = if nat_lt early made then made - flush_of early else made
+
+-- how many of them are flushed
+unfoldable pub flushed_at : ℕ → ℕ → ℕ
+flushed_at early made = if nat_lt early made then early else 0
+
+-- How many blocks are home after so many turns. In format 2 the first of 31 turns reads a
+-- descriptor.
+abbrev pub homed_at : LogFormat → ℕ → ℕ
+homed_at One turned = turned
+homed_at Two turned = turned - (turned + 30) / 31
+
+-- In format 2 a descriptor was read for the next block: these bytes are that part of the record.
+abbrev pub IsRead : LogFormat → ℕ → List Entry → ℕ → List ℕ → Type 0
+IsRead One stamp entries turned kept = Unit {0}
+IsRead Two stamp entries turned kept = 0 < turned % 31 → turned < turns_home Two (length entries)
+    → kept ≡ (layout_of Two).part stamp entries (turned / 31)
 
 -- how many steps are left, where perhaps a record is under way
-abbrev pub steps_at : ℕ → Option Writing → ℕ
-steps_at count None = 0
-steps_at count (Some writing) = steps_from count writing
+abbrev pub steps_at : LogFormat → ℕ → Option ℕ → ℕ
+steps_at format count None = 0
+steps_at format count (Some made) = steps_for format count - made
 
--- how many retire steps the oldest of the durable records needs
-abbrev pub oldest_at : List (List ℕ) → Retiring → ℕ
-oldest_at [] retiring = 0
-oldest_at (numbers ∷ newer) retiring = retire_steps_from (length numbers) retiring
+-- how many retire steps the oldest of the durable records needs after so many turns
+abbrev pub oldest_at : LogFormat → List (List ℕ) → ℕ → ℕ
+oldest_at format [] turned = 0
+oldest_at format (numbers ∷ newer) turned = turns_home format (length numbers) + 2 - turned
 
 -- how many stamps are taken behind those of the durable records
-abbrev pub begun_at : Option Writing → ℕ
+abbrev pub begun_at : Option ℕ → ℕ
 begun_at None = 0
-begun_at (Some writing) = 1
+begun_at (Some made) = 1
 
--- a log with these durable records, of which the oldest has come so far, and perhaps this one under way
-abbrev pub value_at : Shape → ℕ → List (List ℕ) → Retiring → List ℕ → Option Writing → Bool → LogValue
-value_at shape head waiting retiring under_way writing dead = record {
+-- A log with these durable records, of which so many turns of the oldest are made, and perhaps this
+-- one under way, of which so many calls are made.
+abbrev pub value_at : Shape → ℕ → List (List ℕ) → ℕ → List ℕ → List ℕ → Option ℕ → Bool → LogValue
+value_at shape head waiting turned kept under_way writing dead = record {
   shape = shape;
   head = head;
   next = head + length waiting + begun_at writing;
   under_way = under_way;
   waiting = waiting;
-  steps_left = steps_at (length under_way) writing;
-  retire_steps_left = oldest_at waiting retiring + (sum_by retire_steps_of (drop 1 waiting) + retire_steps_of under_way);
+  steps_left = steps_at shape.format (length under_way) writing;
+  retire_steps_left = oldest_at shape.format waiting turned
+      + (sum_by (retire_steps_of shape.format) (drop 1 waiting)
+      + retire_steps_of shape.format under_way);
+  kept = kept;
   dead = dead;
 }
 
--- this comes after the next call of a record of so many blocks, none where the record is durable then
-abbrev pub IsNextStage : ℕ → Writing → Option Writing → Type 0
-IsNextStage count Begun next = next ≡ Some (Placing 0)
-IsNextStage count (Placing i) next = (i < count → next ≡ Some (Placing (i + 1))) × (count ≤ i → next ≡ Some Flushed)
-IsNextStage count Flushed next = next ≡ Some Committed
-IsNextStage count Committed next = next ≡ None
-
--- this comes after the next turn of a record of so many blocks, none where the record is retired then
-abbrev pub IsStageBehind : ℕ → Retiring → Option Retiring → Type 0
-IsStageBehind count (Copying i) next = (i < count → next ≡ Some (Copying (i + 1))) × (count ≤ i → next ≡ Some Homed)
-IsStageBehind count Homed next = next ≡ None
+-- what steps and turns ask of the shape of a medium
+pub record IsSized (shape : Shape) : Type 0 where
+  pub some : 1 ≤ shape.slots
+  pub behind : 2 + (layout_of shape.format).slot_sectors * shape.slots ≤ shape.home
+  pub small : shape.blocks ≤ 2 ^ 31
 
 -- the block numbers of a record: they rise and are below the number of blocks
-pub record AreInside (blocks : ℕ) (numbers : List ℕ) : Type 0 where
+pub record AreInside (shape : Shape) (numbers : List ℕ) : Type 0 where
   pub some : 1 ≤ length numbers
-  pub few : length numbers ≤ 48
+  pub few : length numbers ≤ limit_of shape.format
   pub rising : IsRising numbers
-  pub inside : All (λ b. b < blocks) numbers
+  pub inside : All (λ b. b < shape.blocks) numbers
 
 -- a record with a stamp of its own
-pub record IsRecord (blocks stamp : ℕ) (numbers : List ℕ) : Type 0 where
+pub record IsRecord (shape : Shape) (stamp : ℕ) (numbers : List ℕ) : Type 0 where
   pub least : 1 ≤ stamp
   pub most : stamp < 2 ^ 63 - 1
-  pub numbers_are : AreInside blocks numbers
-
--- no more blocks are written than there are
-abbrev pub IsWriting : ℕ → Writing → Type 0
-IsWriting count Begun = Unit {0}
-IsWriting count (Placing i) = i ≤ count
-IsWriting count Flushed = Unit {0}
-IsWriting count Committed = Unit {0}
-
--- no more blocks are copied than there are
-abbrev pub IsRetiring : ℕ → Retiring → Type 0
-IsRetiring count (Copying i) = i ≤ count
-IsRetiring count Homed = Unit {0}
+  pub numbers_are : AreInside shape numbers
 
 -- the oldest durable record may have come so far
-abbrev pub IsOldest : List (List ℕ) → Retiring → Type 0
-IsOldest [] retiring = retiring ≡ Copying 0
-IsOldest (numbers ∷ newer) retiring = IsRetiring (length numbers) retiring
+abbrev pub IsOldest : LogFormat → List (List ℕ) → ℕ → Type 0
+IsOldest format [] turned = turned ≡ 0
+IsOldest format (numbers ∷ newer) turned = turned < turns_home format (length numbers) + 2
 
 -- the record under way may have come so far
-abbrev pub IsUnderWay : ℕ → List ℕ → Option Writing → Type 0
-IsUnderWay blocks numbers None = numbers ≡ []
-IsUnderWay blocks numbers (Some writing) = AreInside blocks numbers × IsWriting (length numbers) writing
+abbrev pub IsUnderWay : Shape → List ℕ → Option ℕ → Type 0
+IsUnderWay shape numbers None = numbers ≡ []
+IsUnderWay shape numbers (Some made) =
+    AreInside shape numbers × (made < steps_for shape.format (length numbers))
 
 -- the records of a log with so many slots
-pub record IsRing (blocks slots : ℕ) (waiting : List (List ℕ)) (retiring : Retiring) (under_way : List ℕ)
-    (writing : Option Writing) : Type 0 where
-  pub each : All (AreInside blocks) waiting
-  pub fits : length waiting + begun_at writing ≤ slots
-  pub oldest : IsOldest waiting retiring
-  pub record_under_way : IsUnderWay blocks under_way writing
+pub record IsRing (shape : Shape) (waiting : List (List ℕ)) (turned : ℕ) (under_way : List ℕ)
+    (writing : Option ℕ) : Type 0 where
+  pub each : All (AreInside shape) waiting
+  pub fits : length waiting + begun_at writing ≤ shape.slots
+  pub oldest : IsOldest shape.format waiting turned
+  pub record_under_way : IsUnderWay shape under_way writing

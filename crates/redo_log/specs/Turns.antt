@@ -1,53 +1,101 @@
 -- The turns that retire a durable record.
-use Rattle.std.specs.Prelude.{◌≡◌, ℕ, ◌+◌, ◌<◌, ◌≤◌, List, length, slice_index}
+use Rattle.std.specs.Prelude.{◌≡◌, ℕ, ◌+◌, ◌*◌, ◌/◌, ◌%◌, ◌<◌, List, ◌++◌, length, drop, slice_index, slice_range, Option, Some, None}
 use Rattle.medium.specs.Medium.{State, Stays, Holds, Only}
 use Rattle.medium.specs.Moments.{IsQuiet}
-use Rattle.log_layout.specs.Places.{Shape, slot_place, first_home}
+use Rattle.log_layout.specs.declared.log_format.LogFormat.{LogFormat}
+use Rattle.log_layout.specs.declared.log_format.LogFormat.TheVariants.{One, Two}
+use Rattle.log_layout.specs.Places.{Shape, first_home, first_data_of}
 use Rattle.log_layout.specs.Sectors.{IsHead}
+use Rattle.log_image.specs.Layout.{slot_at}
+use Rattle.log_image.specs.Formats.{layout_of}
+use Rattle.redo_log.specs.Value.{turns_home}
+use Rattle.redo_log.specs.Stages.{homed_at}
 use Rattle.redo_log.specs.Calls.{WritesOnly}
 use Rattle.redo_log.specs.declared.turn.Turn.{Turn}
-use Rattle.redo_log.specs.declared.turn.Turn.TheVariants.{Copy, Flush, Head}
-use Rattle.redo_log.specs.declared.stage.Retiring.{Retiring}
-use Rattle.redo_log.specs.declared.stage.Retiring.TheVariants.{Copying, Homed}
+use Rattle.redo_log.specs.declared.turn.Turn.TheVariants.{Load, Copy, Flush, Head}
+
+-- these bytes, with others in place of the first ones
+abbrev pub begun_with : Option (List ℕ) → List ℕ → List ℕ
+begun_with None bytes = bytes
+begun_with (Some first) bytes = first ++ drop 8 bytes
 
 -- the turn reads and writes no sector behind these
 abbrev pub IsInside : ℕ → Turn → Type 0
-IsInside size (Copy from to) = (from < size) × (to < size)
+IsInside size (Load from) = from < size
+IsInside size (Copy from to first) = (from < size) × (to < size)
 IsInside size Flush = Unit {0}
 IsInside size (Head bytes) = 1 < size
 
 -- what it may add, at any moment, to what a cut leaves
 abbrev pub MayTurn : Turn → State → State → Type 0
-MayTurn (Copy from to) old new = WritesOnly to (old.content from) old new
+MayTurn (Load from) old new = IsQuiet old new
+MayTurn (Copy from to first) old new = WritesOnly to (begun_with first (old.content from)) old new
 MayTurn Flush old new = IsQuiet old new
 MayTurn (Head bytes) old new = WritesOnly 1 bytes old new
 
 -- what it does, where no call is refused
 abbrev pub IsTurned : Turn → State → State → Type 0
-IsTurned (Copy from to) old new = Holds to (old.content from) old.content new.content
+IsTurned (Load from) old new = Stays old.content new.content
+IsTurned (Copy from to first) old new =
+    Holds to (begun_with first (old.content from)) old.content new.content
 IsTurned Flush old new = Stays old.content new.content × Only old.content new.may_leave
 IsTurned (Head bytes) old new = Holds 1 bytes old.content new.content × Only new.content new.may_leave
 
--- the turn copies the first sector to the second
-abbrev pub IsCopyOf : ℕ → ℕ → Turn → Type 0
-IsCopyOf source target (Copy from to) = (from ≡ source) × (to ≡ target)
-IsCopyOf source target Flush = ⊥
-IsCopyOf source target (Head bytes) = ⊥
+-- which bytes are kept after it
+abbrev pub kept_by : Turn → State → List ℕ → List ℕ
+kept_by (Load from) old kept = old.content from
+kept_by (Copy from to first) old kept = kept
+kept_by Flush old kept = kept
+kept_by (Head bytes) old kept = kept
+
+-- the turn reads this sector
+abbrev pub IsLoadOf : ℕ → Turn → Type 0
+IsLoadOf source (Load from) = from ≡ source
+IsLoadOf source (Copy from to first) = ⊥
+IsLoadOf source Flush = ⊥
+IsLoadOf source (Head bytes) = ⊥
+
+-- the turn copies the first sector to the second, with these bytes in front
+abbrev pub IsCopyOf : ℕ → ℕ → Option (List ℕ) → Turn → Type 0
+IsCopyOf source target begins (Load from) = ⊥
+IsCopyOf source target begins (Copy from to first) =
+    (from ≡ source) × (to ≡ target) × (first ≡ begins)
+IsCopyOf source target begins Flush = ⊥
+IsCopyOf source target begins (Head bytes) = ⊥
 
 abbrev pub IsFlushTurn : Turn → Type 0
-IsFlushTurn (Copy from to) = ⊥
+IsFlushTurn (Load from) = ⊥
+IsFlushTurn (Copy from to first) = ⊥
 IsFlushTurn Flush = Unit {0}
 IsFlushTurn (Head bytes) = ⊥
 
 -- the turn writes the head with this stamp
 abbrev pub IsHeadTurn : ℕ → Turn → Type 0
-IsHeadTurn stamp (Copy from to) = ⊥
+IsHeadTurn stamp (Load from) = ⊥
+IsHeadTurn stamp (Copy from to first) = ⊥
 IsHeadTurn stamp Flush = ⊥
 IsHeadTurn stamp (Head bytes) = IsHead stamp bytes
 
--- the next turn of a record with this stamp: each block from its data place home, a flush, the head with the next stamp
-abbrev pub IsNextTurn : Shape → ℕ → List ℕ → Retiring → Turn → Type 0
-IsNextTurn shape stamp numbers (Copying i) turn =
-    (i < length numbers → IsCopyOf (slot_place shape stamp + 1 + i) (first_home shape + slice_index numbers i) turn)
-    × (length numbers ≤ i → IsFlushTurn turn)
-IsNextTurn shape stamp numbers Homed turn = IsHeadTurn (stamp + 1) turn
+-- The turn brings a record's blocks home. In format 1 each block is copied from its data place. In
+-- format 2 a descriptor is read, then the blocks that it names are copied, with their first 8 bytes
+-- from it.
+abbrev pub IsHomeTurn : LogFormat → Shape → ℕ → List ℕ → List ℕ → ℕ → Turn → Type 0
+IsHomeTurn One shape stamp numbers kept turned turn =
+    IsCopyOf (slot_at (layout_of One) shape stamp + first_data_of One + turned)
+    (first_home shape + slice_index numbers turned) None turn
+IsHomeTurn Two shape stamp numbers kept turned turn =
+    let i = homed_at Two turned in
+    (turned % 31 ≡ 0 → IsLoadOf (slot_at (layout_of Two) shape stamp + turned / 31) turn)
+    × (0 < turned % 31
+    → IsCopyOf (slot_at (layout_of Two) shape stamp + first_data_of Two + i)
+    (first_home shape + slice_index numbers i)
+    (Some (slice_range kept (40 + 16 * (i % 30)) (40 + 16 * (i % 30) + 8))) turn)
+
+-- The next turn of a record with this stamp: its blocks go home, a flush, the head with the next
+-- stamp.
+pub record IsNextTurn (shape : Shape) (stamp : ℕ) (numbers kept : List ℕ) (turned : ℕ) (turn : Turn)
+    : Type 0 where
+  pub home : turned < turns_home shape.format (length numbers)
+      → IsHomeTurn shape.format shape stamp numbers kept turned turn
+  pub flush : turned ≡ turns_home shape.format (length numbers) → IsFlushTurn turn
+  pub head : turned ≡ turns_home shape.format (length numbers) + 1 → IsHeadTurn (stamp + 1) turn

@@ -1,6 +1,9 @@
 -- What a caller sees of a redo log, and how its calls change that.
-use Rattle.std.specs.Prelude.{◌≡◌, ℕ, ◌+◌, ◌-◌, ◌%◌, ◌<◌, List, [], ◌∷◌, ◌++◌, length, get_or, slice_index, drop, sum_by, Contains, Bool, true, false}
+use Rattle.std.specs.Prelude.{◌≡◌, ℕ, ◌+◌, ◌-◌, ◌%◌, ◌<◌, List, [], ◌∷◌, ◌++◌, length, get_or, slice_index, drop, replicate, sum_by, Contains, Bool, true, false}
+use Rattle.log_layout.specs.declared.log_format.LogFormat.{LogFormat}
+use Rattle.log_layout.specs.declared.log_format.LogFormat.TheVariants.{One, Two}
 use Rattle.log_layout.specs.Places.{Shape}
+use Rattle.log_layout.specs.SectorsTwo.{descriptors_of}
 use Rattle.redo_log.specs.declared.progress.Progress.{Progress}
 use Rattle.redo_log.specs.declared.progress.Progress.TheVariants.{More, Durable}
 
@@ -18,6 +21,8 @@ pub record LogValue : Type 0 where
   pub steps_left : ℕ
   -- how many retire steps all these records still need
   pub retire_steps_left : ℕ
+  -- the descriptor of the oldest record that was read last, in format 2
+  pub kept : List ℕ
   pub dead : Bool
 
 -- a log without records, whose first one takes this stamp
@@ -30,6 +35,7 @@ idle_from shape next = record {
   waiting = [];
   steps_left = 0;
   retire_steps_left = 0;
+  kept = replicate 512 0;
   dead = false;
 }
 
@@ -43,22 +49,42 @@ pub record HasRoom (log : LogValue) : Type 0 where
 abbrev pub died : LogValue → LogValue
 died log = record log { dead = true }
 
--- how many steps a record of these blocks needs
-abbrev pub steps_of : List ℕ → ℕ
-steps_of numbers = length numbers + 4
+-- how many steps a record of so many blocks needs: each makes one call
+abbrev pub steps_for : LogFormat → ℕ → ℕ
+steps_for One count = count + 4
+steps_for Two count = descriptors_of count + count + 2
 
--- how many retire steps it needs; none where there is no record
-abbrev pub retire_steps_of : List ℕ → ℕ
-retire_steps_of [] = 0
-retire_steps_of (n ∷ numbers) = length (n ∷ numbers) + 2
+-- how many steps a record of these blocks needs
+abbrev pub steps_of : LogFormat → List ℕ → ℕ
+steps_of format numbers = steps_for format (length numbers)
+
+-- no record needs more steps
+abbrev pub most_steps : LogFormat → ℕ
+most_steps One = 52
+most_steps Two = 250
+
+-- how many turns bring so many blocks home: in format 2 one more for each descriptor
+abbrev pub turns_home : LogFormat → ℕ → ℕ
+turns_home One count = count
+turns_home Two count = descriptors_of count + count
+
+-- how many retire steps a record of these blocks needs; none where there is no record
+abbrev pub retire_steps_of : LogFormat → List ℕ → ℕ
+retire_steps_of format [] = 0
+retire_steps_of format (n ∷ numbers) = turns_home format (length (n ∷ numbers)) + 2
+
+-- no record needs more retire steps
+abbrev pub most_retire_steps : LogFormat → ℕ
+most_retire_steps One = 50
+most_retire_steps Two = 250
 
 -- a record of these blocks is begun, and takes the next stamp
 abbrev pub begun : List ℕ → LogValue → LogValue
 begun numbers log = record log {
   next = log.next + 1;
   under_way = numbers;
-  steps_left = steps_of numbers;
-  retire_steps_left = log.retire_steps_left + retire_steps_of numbers;
+  steps_left = steps_of log.shape.format numbers;
+  retire_steps_left = log.retire_steps_left + retire_steps_of log.shape.format numbers;
 }
 
 -- a step was made that answered so
@@ -69,7 +95,8 @@ IsStepped Durable old new = (old.steps_left ≡ 1)
 
 -- how many retire steps are left when the oldest durable record is retired
 abbrev pub behind_oldest : LogValue → ℕ
-behind_oldest log = sum_by retire_steps_of (drop 1 log.waiting) + retire_steps_of log.under_way
+behind_oldest log = sum_by (retire_steps_of log.shape.format) (drop 1 log.waiting)
+    + retire_steps_of log.shape.format log.under_way
 
 -- how many retire steps the oldest durable record itself still needs
 abbrev pub of_oldest : LogValue → ℕ
@@ -77,16 +104,23 @@ of_oldest log = log.retire_steps_left - behind_oldest log
 
 -- retire steps are owed for each record that waits, and for the one under way alone where none waits
 pub record Owes (log : LogValue) : Type 0 where
-  pub none_waits : log.waiting ≡ [] → log.retire_steps_left ≡ retire_steps_of log.under_way
+  pub none_waits : log.waiting ≡ []
+      → log.retire_steps_left ≡ retire_steps_of log.shape.format log.under_way
   pub some_wait : 0 < length log.waiting → 0 < log.retire_steps_left
 
--- a retire step was made: it was the oldest record's last, which is retired then, or there are more
+-- A retire step was made: it was the oldest record's last, which is retired then, or there are
+-- more. In format 2 it may have read another descriptor of that record.
 pub record IsRetireStepped (old new : LogValue) : Type 0 where
   pub some : behind_oldest old < old.retire_steps_left
   pub more : behind_oldest old + 1 < old.retire_steps_left
-      → new ≡ record old { retire_steps_left = old.retire_steps_left - 1 }
+      → new ≡ record old { retire_steps_left = old.retire_steps_left - 1; kept = new.kept }
   pub last : old.retire_steps_left ≡ behind_oldest old + 1
-      → new ≡ record old { head = old.head + 1; waiting = drop 1 old.waiting; retire_steps_left = behind_oldest old }
+      → new ≡ record old {
+        head = old.head + 1;
+        waiting = drop 1 old.waiting;
+        retire_steps_left = behind_oldest old;
+        kept = replicate 512 0;
+      }
 
 -- the slot and the place hold the newest logged copy of this block: its number stands there in a durable
 -- record, and in no newer one

@@ -1,14 +1,16 @@
 // The calls of a medium that write a record, one after the other.
-ghost use Rattle.std.specs.Prelude.{◌≡◌, ℕ, ◌≤◌, ◌<◌, ◌*◌, ◌+◌, length, OnOk, slice_range};
+ghost use Rattle.std.specs.Prelude.{◌≡◌, ◌⊎◌, ℕ, ◌≤◌, ◌<◌, ◌*◌, ◌+◌, length, OnOk, IsTrue, ◌↔◌};
 ghost use Rattle.medium.specs.Medium.{Passes};
 ghost use Rattle.medium.specs.Moments.{SparesFrom};
 ghost use Rattle.log_layout.specs.Places.{first_home};
 ghost use Rattle.log_layout.specs.Values.{shape_of};
-ghost use Rattle.redo_log.specs.Stages.{IsRecord, IsWriting};
+ghost use Rattle.log_image.specs.Record.{entries_of};
+ghost use Rattle.log_image.specs.Formats.{layout_of};
+ghost use Rattle.redo_log.specs.Stages.{IsRecord, written_at};
 ghost use Rattle.redo_log.specs.Calls.{fault_of, IsWithin, MayAdd, IsDone, IsNextCall};
 
-use crate::stage::Writing;
-use log_layout::{Commit, Descriptor, Super, commit_place, data_place, place_of, slot_of};
+use log_image::{early, part, parts, slot_place};
+use log_layout::{Super, slot_of};
 use medium::{Medium, MediumFault};
 
 #[derive(Drop)]
@@ -35,44 +37,45 @@ impl Call {
     }
 }
 
-// The i-th block of a batch.
-fn block(bytes: &[u8], i: usize) -> [u8; 512]
-    requires { 512 * i + 512 ≤ length bytes.now }
-    ensures { result ≡ slice_range bytes.now (512 * i) (512 * i + 512) }
+// How many parts of a record are written after so many calls. One of them may be the early flush.
+fn written_at(early: usize, made: usize) -> usize
+    ensures { result ≡ written_at early made }
 {
-    let mut sector = [0; 512];
-    sector.copy_from_slice(&bytes[512 * i..512 * i + 512]);
-    sector
+    if 0 < early && early < made {
+        made - 1
+    } else {
+        made
+    }
 }
 
-/// The next call of a record that is under way in the log of a medium with so many slots.
+// Whether a flush comes next: the early parts are written, or all.
+fn is_flush_due(early: usize, parts: usize, made: usize, written: usize) -> bool
+    ensures { IsTrue result ↔ (((0 < early) × (made ≡ early)) ⊎ (parts ≤ written)) }
+{
+    0 < early && made == early || parts <= written
+}
+
+/// The next call of a record of which so many calls are made.
 pub(crate) fn next_call(
     sizes: &Super,
     stamp: u64,
     numbers: &[u64],
     bytes: &[u8],
-    writing: Writing,
+    made: usize,
 ) -> Call
-    requires record { IsRecord sizes.now.blocks stamp numbers.now }
+    requires record { IsRecord (shape_of sizes.now) stamp numbers.now }
     requires size { length bytes.now ≡ 512 * length numbers.now }
-    requires writing { IsWriting (length numbers.now) writing }
-    ensures next { IsNextCall (shape_of sizes.now) stamp numbers.now bytes.now writing result }
+    ensures next { IsNextCall (layout_of sizes.now.format) (shape_of sizes.now) stamp
+        (entries_of numbers.now bytes.now) made result }
     ensures inside { IsWithin (first_home (shape_of sizes.now)) result }
 {
-    let slot = slot_of(stamp, sizes.slots);
-    match writing {
-        Writing::Begun => {
-            let descriptor = Descriptor::new(stamp, numbers).encode();
-            Call::Write(place_of(slot), descriptor)
-        }
-        Writing::Placing(i) if i < numbers.len() => {
-            Call::Write(data_place(slot, i as u64), block(bytes, i))
-        }
-        Writing::Placing(_) => Call::Flush,
-        Writing::Flushed => {
-            let commit = Commit::new(stamp, numbers.len() as u64).encode();
-            Call::Write(commit_place(slot), commit)
-        }
-        Writing::Committed => Call::Flush,
+    let count = numbers.len();
+    let early = early(sizes.format, count);
+    let written = written_at(early, made);
+    if is_flush_due(early, parts(sizes.format, count), made, written) {
+        return Call::Flush;
     }
+    let part = part(sizes.format, stamp, numbers, bytes, written);
+    let first = slot_place(sizes.format, slot_of(stamp, sizes.slots));
+    Call::Write(first + part.offset, part.sector)
 }

@@ -1,14 +1,18 @@
 // Where the newest logged copy of each block stands: entries that are sorted by block.
-ghost use Rattle.std.specs.Prelude.{◌≡◌, ℕ, ◌<◌, length, vec_capacity, IfOk, IfErr};
-ghost use Rattle.redo_log.specs.Index.{look, with_copy, with_copies, outside, block_at};
-ghost use Rattle.redo_log.specs.Index.{IsSorted, IsGapFor, Fits, FitsWith};
+ghost use Rattle.std.specs.Prelude.{◌≡◌, ℕ, ◌+◌, ◌^◌, ◌<◌, ◌≤◌, length, take, vec_capacity};
+ghost use Rattle.std.specs.Prelude.{All, IfOk, IfErr};
+ghost use Rattle.std.specs.List.{remove_range};
+ghost use Rattle.log_layout.specs.Sectors.{IsRising};
+ghost use Rattle.redo_log.specs.Index.{look, with_copies, outside, block_at};
+ghost use Rattle.redo_log.specs.Index.{IsSorted, IsGapFor};
 
-/// The newest logged copy of a block.
+/// The newest logged copy of a block, in 8 bytes: blocks are below 2^31, slots below 64 and
+/// places below 240.
 #[derive(Clone, Copy)]
 pub(crate) struct Copied {
-    pub(crate) block: u64,
-    pub(crate) slot: u64,
-    pub(crate) place: usize,
+    block: u32,
+    slot: u8,
+    place: u8,
 }
 
 // Where the entry of a block is, or where it would go.
@@ -17,7 +21,7 @@ fn search(index: &[Copied], block: u64) -> Result<usize, usize>
     ensures found { IfOk result (λ at. (at < length index.now) × (block_at index.now at ≡ block)) }
     ensures absent { IfErr result (IsGapFor index.now block) }
 {
-    index.binary_search_by_key(&block, |copied| copied.block)
+    index.binary_search_by_key(&block, |copied| copied.block as u64)
 }
 
 /// The slot and the place of a block's copy.
@@ -26,44 +30,96 @@ pub(crate) fn newest(index: &[Copied], block: u64) -> Option<(u64, usize)>
     ensures { result ≡ look index.now block }
 {
     match search(index, block) {
-        Ok(at) => Some((index[at].slot, index[at].place)),
+        Ok(at) => Some((index[at].slot as u64, index[at].place as usize)),
         Err(_) => None,
     }
 }
 
-// Enters a copy, in place of the one that the block had. There is room for it.
-fn enter(index: &mut Vec<Copied>, copied: Copied)
-    requires sorted { IsSorted index.old.items }
-    requires fits { Fits (vec_capacity index.old)
-        (with_copy copied.block (copied.slot, copied.place) (look index.old.items)) }
-    ensures sorted { IsSorted index.new.items }
-    ensures looks { (block : ℕ) → look index.new.items block
-        ≡ with_copy copied.block (copied.slot, copied.place) (look index.old.items) block }
+// Makes room for so many entries behind the others.
+fn widen(index: &mut Vec<Copied>, count: usize)
+    requires { length index.old.items + count ≤ vec_capacity index.old }
+    ensures kept { take (length index.old.items) index.new.items ≡ index.old.items }
+    ensures length { length index.new.items ≡ length index.old.items + count }
     ensures capacity { vec_capacity index.new ≡ vec_capacity index.old }
 {
-    match search(index, copied.block) {
-        Ok(at) => index[at] = copied,
-        Err(at) => {
-            let Ok(()) = index.insert(at, copied) else {
-                unreachable!()
-            };
-        }
+    for _ in 0..count {
+        index.push_reserved(Copied {
+            block: 0,
+            slot: 0,
+            place: 0,
+        });
     }
 }
 
-/// Enters the copies of the record in a slot. There is room for them.
+// Merges the first `kept` entries with those of the record in a slot, the greatest block first, to
+// the end of the room, so that no entry is written over before it has moved. A gap is left, one
+// entry long for each block of the record that had an entry: from the first place that is given to
+// the second.
+fn merge(index: &mut [Copied], kept: usize, slot: u8, numbers: &[u64]) -> (usize, usize)
+    requires room { length index.old ≡ kept + length numbers.now }
+    requires sorted { IsSorted (take kept index.old) }
+    requires few { length numbers.now ≤ 240 }
+    requires rising { IsRising numbers.now }
+    requires below { All (λ b. b < 2 ^ 31) numbers.now }
+    ensures length { length index.new ≡ length index.old }
+    ensures start_le_end { result.0 ≤ result.1 }
+    ensures in_bounds { result.1 ≤ length index.new }
+    ensures sorted { IsSorted (remove_range index.new result.0 result.1) }
+    ensures looks { (block : ℕ) → look (remove_range index.new result.0 result.1) block
+        ≡ with_copies slot 0 numbers.now (look (take kept index.old)) block }
+{
+    let (mut left, mut place, mut to) = (kept, numbers.len(), index.len());
+    while place > 0 {
+        to -= 1;
+        let block = numbers[place - 1] as u32;
+        if left > 0 && index[left - 1].block > block {
+            left -= 1;
+            index[to] = index[left];
+        } else {
+            place -= 1;
+            // The newer copy stands for the older one.
+            if left > 0 && index[left - 1].block == block {
+                left -= 1;
+            }
+            let place = place as u8;
+            index[to] = Copied { block, slot, place };
+        }
+    }
+    (left, to)
+}
+
+// Closes the gap from one place to another.
+fn close(index: &mut Vec<Copied>, from: usize, to: usize)
+    requires start_le_end { from ≤ to }
+    requires in_bounds { to ≤ length index.old.items }
+    ensures items { index.new.items ≡ remove_range index.old.items from to }
+    ensures capacity { vec_capacity index.new ≡ vec_capacity index.old }
+{
+    if from < to {
+        let left = index.len() - (to - from);
+        index.copy_within(to.., from);
+        index.truncate(left);
+    }
+}
+
+/// Enters the copies of the record in a slot, in place of those that its blocks had: one merge of
+/// the entries with the record's numbers. There is room for them.
 pub(crate) fn enter_record(index: &mut Vec<Copied>, slot: u64, numbers: &[u64])
     requires sorted { IsSorted index.old.items }
-    requires fits { FitsWith (vec_capacity index.old) index.old.items slot numbers.now }
+    requires slot { slot < 64 }
+    requires few { length numbers.now ≤ 240 }
+    requires rising { IsRising numbers.now }
+    requires below { All (λ b. b < 2 ^ 31) numbers.now }
+    requires fits { length index.old.items + length numbers.now ≤ vec_capacity index.old }
     ensures sorted { IsSorted index.new.items }
     ensures looks { (block : ℕ) → look index.new.items block
         ≡ with_copies slot 0 numbers.now (look index.old.items) block }
     ensures capacity { vec_capacity index.new ≡ vec_capacity index.old }
 {
-    for place in 0..numbers.len() {
-        let block = numbers[place];
-        enter(index, Copied { block, slot, place });
-    }
+    let kept = index.len();
+    widen(index, numbers.len());
+    let (from, to) = merge(index, kept, slot as u8, numbers);
+    close(index, from, to);
 }
 
 /// Drops the copies that stand in a slot.
@@ -74,5 +130,5 @@ pub(crate) fn drop_slot(index: &mut Vec<Copied>, slot: u64)
         ≡ outside slot (look index.old.items block) }
     ensures capacity { vec_capacity index.new ≡ vec_capacity index.old }
 {
-    index.retain(|copied| copied.slot != slot);
+    index.retain(|copied| copied.slot as u64 != slot);
 }

@@ -1,4 +1,4 @@
-//! The records of the redo log, format 1, on a medium that may lose power at any moment.
+//! The records of the redo log, in both formats, on a medium that may lose power at any moment.
 //!
 //! At each moment of each call every image that a loss of power may leave has the durable records
 //! whole, perhaps with the record under way, whole too, and stands for the blocks that these make.

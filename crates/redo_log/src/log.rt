@@ -4,24 +4,23 @@ ghost use Rattle.std.specs.Prelude.{length};
 ghost use Rattle.std.specs.Prelude.{IsTrue, IsOk, is_ok};
 ghost use Rattle.std.specs.Prelude.{OnOk, OnErr, IfOk, IfErr, MatchResult, MatchOption};
 ghost use Rattle.std.specs.Prelude.{if◌then◌else◌};
-ghost use Rattle.medium.specs.Medium.{Passes};
-ghost use Rattle.medium.specs.declared.fault.MediumFault.TheVariants.{Read};
 ghost use Rattle.medium.specs.Moments.{EachCut, LeavesOnly, SparesFrom, IsQuiet};
 
 use crate::call::next_call;
 use crate::index::{Copied, drop_slot, enter_record, newest};
-use crate::stage::{Retiring, Writing};
+use crate::stage::{steps_for, turns_home};
 use crate::turn::next_turn;
 use crate::{LogFault, Progress};
 use arrayvec::ArrayVec;
-use log_layout::{Super, data_place, slot_of};
+use log_image::read_copy;
+use log_layout::{Super, slot_of};
 use medium::{Medium, MediumFault};
 use std::alloc::Global;
 use std::collections::VecDeque;
 use std::marker::Model;
 
 // The block numbers of a record.
-type Numbers = ArrayVec<u64, 48>;
+type Numbers = ArrayVec<u64, 240>;
 
 /// A redo log on a medium, with a record in each slot at most: durable ones that are not retired,
 /// and behind them perhaps one under way.
@@ -32,11 +31,14 @@ pub struct Log {
     head: u64,
     // The durable records that are not retired, the oldest first.
     waiting: VecDeque<Numbers>,
-    // How far the oldest of them is retired.
-    retiring: Retiring,
+    // How many turns of the oldest of them are made.
+    turned: usize,
+    // The descriptor of the oldest of them that was read last, in format 2.
+    kept: [u8; 512],
     // The record under way, empty where none is.
     under_way: Numbers,
-    writing: Option<Writing>,
+    // How many calls of it are made.
+    made: Option<usize>,
     // The newest copies of the durable records' blocks.
     index: Vec<Copied>,
     dead: bool,
@@ -58,7 +60,9 @@ impl Log {
     ghost use Rattle.log_layout.specs.Places.{sectors_of};
     ghost use Rattle.log_layout.specs.Values.{shape_of};
     ghost use Rattle.redo_log.specs.Value.{HasRoom, Owes, HasNoCopy, IsNewestCopy, idle_from};
-    ghost use Rattle.redo_log.specs.Value.{begun, died, IsStepped, IsRetireStepped};
+    ghost use Rattle.log_image.specs.Copies.{copy_reads_of, ReadsPass};
+    ghost use Rattle.redo_log.specs.Value.{begun, died, most_steps, most_retire_steps};
+    ghost use Rattle.redo_log.specs.Value.{IsStepped, IsRetireStepped};
     ghost use Rattle.redo_log.specs.Batch.{IsBatch, entries_of};
     ghost use Rattle.redo_log.specs.Held.{View, HoldsView, HasDurable, MayLeave};
     ghost use Rattle.redo_log.specs.Held.{with_record, view_stepped, view_retired};
@@ -79,16 +83,18 @@ impl Log {
         let Ok(waiting) = VecDeque::with_capacity(alloc, sup.slots as usize) else {
             return Err(LogFault::NoMemory);
         };
-        let Ok(index) = Vec::with_capacity(alloc, 48 * sup.slots as usize) else {
+        let room = sup.format.limit() as usize * sup.slots as usize;
+        let Ok(index) = Vec::with_capacity(alloc, room) else {
             return Err(LogFault::NoMemory);
         };
         Ok(Log {
             sizes: *sup,
             head: next,
             waiting,
-            retiring: Retiring::Copying(0),
+            turned: 0,
+            kept: [0; 512],
             under_way: ArrayVec::new(),
-            writing: None,
+            made: None,
             index,
             dead: false,
         })
@@ -109,7 +115,7 @@ impl Log {
         ensures always { self.now.steps_left + self.now.retire_steps_left ≡ 0 → result ≡ true }
         ensures owes { Owes self.now }
     {
-        self.writing.is_none() && (self.waiting.len() as u64) < self.sizes.slots
+        self.made.is_none() && (self.waiting.len() as u64) < self.sizes.slots
     }
 
     /// Whether no durable record waits to be retired.
@@ -129,13 +135,15 @@ impl Log {
     pub fn begin(&mut self, numbers: &[u64], bytes: &[u8]) -> Result<(), LogFault>
         requires live { self.old.dead ≡ false }
         requires room { HasRoom self.old }
-        requires batch { IsBatch self.old.shape.blocks numbers.now bytes.now }
+        requires batch { IsBatch self.old.shape numbers.now bytes.now }
         ensures ok { OnOk result ((self.old.next < 2 ^ 63 - 1)
             × (self.new ≡ begun numbers.now self.old)) }
         ensures err { IfErr result (λ fault. (fault ≡ LogFault.StampsUsedUp)
             × (self.old.next ≡ 2 ^ 63 - 1) × (self.new ≡ died self.old)) }
-        // At most 50 retire steps for each slot are left.
-        ensures few { OnOk result (self.new.retire_steps_left ≤ 50 * self.old.shape.slots) }
+        ensures short { OnOk result ((0 < self.new.steps_left)
+            × (self.new.steps_left ≤ most_steps self.old.shape.format)) }
+        ensures few { OnOk result (self.new.retire_steps_left
+            ≤ most_retire_steps self.old.shape.format * self.old.shape.slots) }
     {
         // The bytes are written by the steps.
         let _ = bytes;
@@ -144,12 +152,13 @@ impl Log {
             return Err(LogFault::StampsUsedUp);
         }
         self.under_way = numbers_of(numbers);
-        self.writing = Some(Writing::Begun);
+        self.made = Some(0);
         Ok(())
     }
 
-    /// Makes the next call of the record under way, which was begun with these numbers and bytes:
-    /// the descriptor, the data places in rising order, a flush, the commit, a flush.
+    /// Makes the next call of the record under way, which was begun with these numbers and bytes.
+    /// In format 1 the calls write the descriptor, the data places in rising order, a flush, the
+    /// commit, a flush, and in format 2 the descriptors, the data places, the commit, a flush.
     ///
     /// # Errors
     ///
@@ -192,26 +201,28 @@ impl Log {
         ensures spares { SparesFrom (sectors_of self.old.shape)
             (M.state m.old) (M.state m.new) }
     {
-        let Some(writing) = self.writing else {
+        let Some(made) = self.made else {
             unreachable!()
         };
         let stamp = self.head + self.waiting.len() as u64;
-        let call = next_call(&self.sizes, stamp, numbers, bytes, writing);
+        let call = next_call(&self.sizes, stamp, numbers, bytes, made);
         if call.make(m).is_err() {
             self.dead = true;
             return Err(LogFault::Medium);
         }
-        self.writing = writing.after(numbers.len());
-        if self.writing.is_some() {
+        if made + 1 < steps_for(self.sizes.format, numbers.len()) {
+            self.made = Some(made + 1);
             return Ok(Progress::More);
         }
+        self.made = None;
         enter_record(&mut self.index, slot_of(stamp, self.sizes.slots), numbers);
         self.waiting.push_back_reserved(self.under_way.take());
         Ok(Progress::Durable)
     }
 
     /// Makes the next one or two calls that retire the oldest durable record, none where none
-    /// waits: each block from its data place home, a flush, and the head with a flush.
+    /// waits: each block from its data place home, a flush, and the head with a flush. In format 2
+    /// a descriptor is read before the blocks that it names.
     ///
     /// # Errors
     ///
@@ -245,20 +256,22 @@ impl Log {
         let Some(oldest) = self.waiting.front() else {
             return Ok(());
         };
-        let turn = next_turn(&self.sizes, self.head, oldest.as_slice(), self.retiring);
-        let next = self.retiring.after(oldest.len());
-        if turn.make(m).is_err() {
+        let home = turns_home(self.sizes.format, oldest.len());
+        let numbers = oldest.as_slice();
+        let turn = next_turn(&self.sizes, self.head, numbers, &self.kept, self.turned);
+        if turn.make(m, &mut self.kept).is_err() {
             self.dead = true;
             return Err(LogFault::Medium);
         }
-        if let Some(retiring) = next {
-            self.retiring = retiring;
+        if self.turned <= home {
+            self.turned += 1;
             return Ok(());
         }
         drop_slot(&mut self.index, slot_of(self.head, self.sizes.slots));
         let _ = self.waiting.pop_front();
         self.head += 1;
-        self.retiring = Retiring::Copying(0);
+        self.turned = 0;
+        self.kept = [0; 512];
         Ok(())
     }
 
@@ -285,7 +298,8 @@ impl Log {
         requires fits { sectors_of self.now.shape ≤ (M.state m.old).size }
         ensures ok { (view : View) (block : ℕ) → HoldsView self.now (M.state m.old) view
             → IsNewestCopy self.now block slot place → OnOk result (to.new ≡ view.array block) }
-        ensures passes { Passes Read result (M.state m.old) (M.state m.new) }
+        ensures passes { ReadsPass (copy_reads_of self.now.shape.format) result
+            (M.state m.old) (M.state m.new) }
         ensures quiet { IsQuiet (M.state m.old) (M.state m.new) }
         ensures follows { M.follows m.old m.new }
         ensures holds { (view : View) → HoldsView self.now (M.state m.old) view
@@ -294,14 +308,14 @@ impl Log {
             → LeavesOnly (MayLeave (M.state m.old).size self.now view)
             (M.state m.old) (M.state m.new) }
     {
-        prove!(slot < self.sizes.slots && place < 48);
-        m.read(data_place(slot, place as u64), to)
+        prove!(slot < self.sizes.slots && place < self.sizes.format.limit() as usize);
+        read_copy(m, &self.sizes, slot, place, to)
     }
 }
 
 // These numbers, of which there are no more than a record has.
 fn numbers_of(numbers: &[u64]) -> Numbers
-    requires { length numbers.now ≤ 48 }
+    requires { length numbers.now ≤ 240 }
     ensures { result.items ≡ numbers.now }
 {
     let mut list = Numbers::new();

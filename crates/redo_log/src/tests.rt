@@ -2,11 +2,11 @@
 ghost use Rattle.std.specs.Prelude.{◌≡◌, ◌≤◌, ◌<◌, ◌+◌, ◌*◌, ◌^◌, [], ◌∷◌, length};
 ghost use Rattle.std.specs.Prelude.{OnOk, IfOk, false};
 ghost use Rattle.medium.specs.Sim.{state_of};
-ghost use Rattle.log_layout.specs.Places.{sectors_of};
+ghost use Rattle.log_layout.specs.Places.{sectors_of, limit_of};
 ghost use Rattle.redo_log.specs.Value.{HasRoom, begun};
 
 use super::*;
-use log_layout::Super;
+use log_layout::{LogFormat, Super};
 use medium::{Medium, MediumFault, SimMedium, Switch};
 use std::alloc::AllocError;
 use std::test::Fail;
@@ -85,7 +85,7 @@ fn begin_three(log: &mut Log, bytes: &[u8]) -> Result<[u64; 3], LogFault>
     requires blocks { log.old.shape.blocks ≡ 1000 }
     requires bytes { length bytes.now ≡ 1536 }
     ensures ok { IfOk result (λ numbers. (numbers ≡ 0 ∷ 7 ∷ 9 ∷ [])
-        × (log.new ≡ begun numbers log.old)) }
+        × (0 < log.new.steps_left) × (log.new ≡ begun numbers log.old)) }
 {
     let numbers = [0, 7, 9];
     log.begin(&numbers, bytes)?;
@@ -113,15 +113,15 @@ fn write_out<M: Medium>(
     Ok(())
 }
 
-// Makes the steps that retire one record of three blocks.
-fn retire_three<M: Medium>(log: &mut Log, m: &mut M) -> Result<(), LogFault>
+// Makes so many retire steps.
+fn retire<M: Medium>(log: &mut Log, m: &mut M, steps: usize) -> Result<(), LogFault>
     requires live { log.old.dead ≡ false }
     requires fits { sectors_of log.old.shape ≤ (M.state m.old).size }
     ensures live { OnOk result (log.new.dead ≡ false) }
     ensures shape { log.new.shape ≡ log.old.shape }
     ensures size { (M.state m.new).size ≡ (M.state m.old).size }
 {
-    for _ in 0..5 {
+    for _ in 0..steps {
         log.retire_step(m)?;
     }
     Ok(())
@@ -130,7 +130,7 @@ fn retire_three<M: Medium>(log: &mut Log, m: &mut M) -> Result<(), LogFault>
 #[test]
 fn the_calls_of_a_record_and_of_its_retiring(rt: HostRuntime) -> Result<(), Fail> {
     let mut m = zeros(rt, 1402)?;
-    let mut log = Log::idle(rt.alloc(), &Super::new(1000, 8), 3)?;
+    let mut log = Log::idle(rt.alloc(), &Super::new(LogFormat::One, 1000, 8), 3)?;
     assert!(rt; log.has_room());
     let bytes = vec![in rt.alloc(); 5u8; 1536]?;
     let numbers = begin_three(&mut log, &bytes)?;
@@ -148,7 +148,7 @@ fn the_calls_of_a_record_and_of_its_retiring(rt: HostRuntime) -> Result<(), Fail
     assert_eq!(rt; m.calls.as_slice(), record.as_slice());
     assert!(rt; log.has_room());
     m.calls.clear();
-    retire_three(&mut log, &mut m)?;
+    retire(&mut log, &mut m, 5)?;
     let retiring = [
         Called::Read(153),
         Called::Write(402),
@@ -161,7 +161,7 @@ fn the_calls_of_a_record_and_of_its_retiring(rt: HostRuntime) -> Result<(), Fail
         Called::Flush,
     ];
     assert_eq!(rt; m.calls.as_slice(), retiring.as_slice());
-    retire_three(&mut log, &mut m)?;
+    retire(&mut log, &mut m, 5)?;
     assert_eq!(rt; m.calls.len(), 9);
     let image = m.medium.image();
     assert_eq!(rt; bytes_at(image, 512), *b"RDHEAD01\x04\0\0\0\0\0\0\0");
@@ -205,30 +205,120 @@ fn copy_of<M: Medium>(log: &Log, m: &mut M, block: u64) -> Result<(u64, usize, u
 #[test]
 fn the_newest_copy_is_found(rt: HostRuntime) -> Result<(), Fail> {
     let mut m = zeros(rt, 1402)?;
-    let mut log = Log::idle(rt.alloc(), &Super::new(1000, 8), 3)?;
+    let mut log = Log::idle(rt.alloc(), &Super::new(LogFormat::One, 1000, 8), 3)?;
     assert_eq!(rt; log.find(7), None);
     log_three(rt, &mut log, &mut m, 5)?;
     assert_eq!(rt; log.find(8), None);
     assert_eq!(rt; copy_of(&log, &mut m, 7)?, (3, 1, 5));
     log_three(rt, &mut log, &mut m, 6)?;
     assert_eq!(rt; copy_of(&log, &mut m, 7)?, (4, 1, 6));
-    retire_three(&mut log, &mut m)?;
+    retire(&mut log, &mut m, 5)?;
     assert_eq!(rt; bytes_at(m.medium.image(), 512 * 409), [5; 16]);
     assert_eq!(rt; copy_of(&log, &mut m, 7)?, (4, 1, 6));
-    retire_three(&mut log, &mut m)?;
+    retire(&mut log, &mut m, 5)?;
     assert_eq!(rt; bytes_at(m.medium.image(), 512 * 409), [6; 16]);
     assert_eq!(rt; log.find(7), None);
     Ok(())
 }
 
 #[test]
+fn the_calls_of_a_record_of_format_2(rt: HostRuntime) -> Result<(), Fail> {
+    let mut m = zeros(rt, 1500)?;
+    let mut log = Log::idle(rt.alloc(), &Super::new(LogFormat::Two, 1000, 2), 3)?;
+    let bytes = vec![in rt.alloc(); 5u8; 1536]?;
+    let numbers = begin_three(&mut log, &bytes)?;
+    write_out(&mut log, &mut m, &numbers, &bytes)?;
+    let record = [
+        Called::Write(251),
+        Called::Write(259),
+        Called::Write(260),
+        Called::Write(261),
+        Called::Write(499),
+        Called::Flush,
+    ];
+    assert_eq!(rt; m.calls.as_slice(), record.as_slice());
+    let place = *b"\x03\0\0\0\0\0\0\0\x05\x05\x05\x05\x05\x05\x05\x05";
+    assert_eq!(rt; bytes_at(m.medium.image(), 512 * 260), place);
+    m.calls.clear();
+    assert_eq!(rt; copy_of(&log, &mut m, 7)?, (1, 1, 5));
+    assert_eq!(rt;
+        m.calls.as_slice(),
+        [Called::Read(260), Called::Read(251)].as_slice()
+    );
+    m.calls.clear();
+    retire(&mut log, &mut m, 6)?;
+    let retiring = [
+        Called::Read(251),
+        Called::Read(259),
+        Called::Write(500),
+        Called::Read(260),
+        Called::Write(507),
+        Called::Read(261),
+        Called::Write(509),
+        Called::Flush,
+        Called::Write(1),
+        Called::Flush,
+    ];
+    assert_eq!(rt; m.calls.as_slice(), retiring.as_slice());
+    let image = m.medium.image();
+    assert_eq!(rt; bytes_at(image, 512), *b"RDHEAD01\x04\0\0\0\0\0\0\0");
+    assert_eq!(rt; bytes_at(image, 512 * 507), [5; 16]);
+    Ok(())
+}
+
+// A record of so many blocks, from 0 on, is begun.
+fn begin_many(rt: HostRuntime, log: &mut Log, count: usize, bytes: &[u8]) -> Result<Vec<u64>, Fail>
+    requires live { log.old.dead ≡ false }
+    requires room { HasRoom log.old }
+    requires some { 1 ≤ count }
+    requires few { count ≤ limit_of log.old.shape.format }
+    requires blocks { log.old.shape.blocks ≡ 1000 }
+    requires bytes { length bytes.now ≡ 512 * count }
+    ensures count { IfOk result (λ numbers. length numbers.items ≡ count) }
+    ensures ok { IfOk result (λ numbers. (0 < log.new.steps_left)
+        × (log.new ≡ begun numbers.items log.old)) }
+{
+    let mut numbers = Vec::with_capacity(rt.alloc(), count)?;
+    for i in 0..count {
+        numbers.push(i as u64)?;
+    }
+    log.begin(&numbers, bytes)?;
+    Ok(numbers)
+}
+
+#[test]
+fn a_record_with_two_descriptors(rt: HostRuntime) -> Result<(), Fail> {
+    let mut m = zeros(rt, 1500)?;
+    let mut log = Log::idle(rt.alloc(), &Super::new(LogFormat::Two, 1000, 2), 3)?;
+    let mut bytes = vec![in rt.alloc(); 5u8; 15872]?;
+    bytes[15360] = 9;
+    let numbers = begin_many(rt, &mut log, 31, &bytes)?;
+    write_out(&mut log, &mut m, &numbers, &bytes)?;
+    assert_eq!(rt; m.calls.len(), 35);
+    m.calls.clear();
+    assert_eq!(rt; copy_of(&log, &mut m, 30)?, (1, 30, 9));
+    assert_eq!(rt;
+        m.calls.as_slice(),
+        [Called::Read(289), Called::Read(252)].as_slice()
+    );
+    m.calls.clear();
+    retire(&mut log, &mut m, 35)?;
+    assert_eq!(rt; m.calls.len(), 67);
+    let image = m.medium.image();
+    assert_eq!(rt; bytes_at(image, 512), *b"RDHEAD01\x04\0\0\0\0\0\0\0");
+    assert_eq!(rt; bytes_at(image, 512 * 529), [5; 16]);
+    assert_eq!(rt; bytes_at(image, 512 * 530)[0], 9);
+    Ok(())
+}
+
+#[test]
 fn a_full_ring_waits_for_its_oldest_record(rt: HostRuntime) -> Result<(), Fail> {
     let mut m = zeros(rt, 1102)?;
-    let mut log = Log::idle(rt.alloc(), &Super::new(1000, 2), 3)?;
+    let mut log = Log::idle(rt.alloc(), &Super::new(LogFormat::One, 1000, 2), 3)?;
     log_three(rt, &mut log, &mut m, 5)?;
     log_three(rt, &mut log, &mut m, 6)?;
     assert!(rt; !log.has_room());
-    retire_three(&mut log, &mut m)?;
+    retire(&mut log, &mut m, 5)?;
     assert!(rt; log.has_room());
     log_three(rt, &mut log, &mut m, 7)?;
     assert!(rt; !log.has_room());
@@ -242,7 +332,7 @@ fn a_full_ring_waits_for_its_oldest_record(rt: HostRuntime) -> Result<(), Fail> 
 #[test]
 fn a_refused_call_is_the_last(rt: HostRuntime) -> Result<(), Fail> {
     let mut m = zeros(rt, 1402)?;
-    let mut log = Log::idle(rt.alloc(), &Super::new(1000, 8), 3)?;
+    let mut log = Log::idle(rt.alloc(), &Super::new(LogFormat::One, 1000, 8), 3)?;
     let bytes = vec![in rt.alloc(); 5u8; 1536]?;
     let numbers = begin_three(&mut log, &bytes)?;
     m.medium.fail(7);
@@ -256,7 +346,11 @@ fn a_refused_call_is_the_last(rt: HostRuntime) -> Result<(), Fail> {
 
 #[test]
 fn the_last_stamp_is_not_a_record_s(rt: HostRuntime) -> Result<(), Fail> {
-    let mut log = Log::idle(rt.alloc(), &Super::new(1000, 8), (1 << 63) - 1)?;
+    let mut log = Log::idle(
+        rt.alloc(),
+        &Super::new(LogFormat::One, 1000, 8),
+        (1 << 63) - 1,
+    )?;
     let bytes = vec![in rt.alloc(); 5u8; 1536]?;
     assert_eq!(rt;
         begin_three(&mut log, &bytes).err(),

@@ -1,31 +1,41 @@
 // The turns that retire a durable record, one after the other.
-ghost use Rattle.std.specs.Prelude.{◌≡◌, ℕ, ◌≤◌, ◌<◌, ◌+◌, length, OnOk, is_ok, if◌then◌else◌};
+ghost use Rattle.std.specs.Prelude.{◌≡◌, ℕ, ◌≤◌, ◌<◌, ◌+◌, ◌*◌, length, slice_index, slice_range};
+ghost use Rattle.std.specs.Prelude.{OnOk, is_ok, if◌then◌else◌};
 ghost use Rattle.medium.specs.Medium.{Holds, Only};
 ghost use Rattle.medium.specs.Moments.{SparesFrom};
-ghost use Rattle.log_layout.specs.Places.{sectors_of};
+ghost use Rattle.log_layout.specs.Places.{sectors_of, first_data_of};
 ghost use Rattle.log_layout.specs.Values.{shape_of};
-ghost use Rattle.redo_log.specs.Stages.{IsRecord, IsRetiring};
+ghost use Rattle.log_image.specs.Layout.{slot_at};
+ghost use Rattle.log_image.specs.Formats.{layout_of};
+ghost use Rattle.redo_log.specs.Value.{turns_home};
+ghost use Rattle.redo_log.specs.Stages.{IsRecord};
 ghost use Rattle.redo_log.specs.Calls.{WritesOnly};
-ghost use Rattle.redo_log.specs.Turns.{IsInside, IsTurned, MayTurn, IsNextTurn};
+ghost use Rattle.redo_log.specs.Turns.{begun_with, kept_by, IsInside, IsTurned, MayTurn};
+ghost use Rattle.redo_log.specs.Turns.{IsCopyOf, IsHomeTurn, IsNextTurn};
 
-use crate::stage::Retiring;
-use log_layout::{Head, Super, data_place, slot_of};
+use crate::stage::turns_home;
+use log_image::{copy_place, slot_place};
+use log_layout::{Head, LogFormat, Super, slot_of};
 use medium::{Medium, MediumFault};
 
 /// One medium call or two.
 #[derive(Drop)]
 pub(crate) enum Turn {
-    /// Writes the bytes of the first sector to the second.
-    Copy(u64, u64),
+    /// Reads the sector, whose bytes the log keeps.
+    Load(u64),
+    /// Writes the bytes of the first sector to the second, with these 8 in front, if there are any.
+    Copy(u64, u64, Option<[u8; 8]>),
     Flush,
     /// Writes these bytes as the head, and flushes them.
     Head([u8; 512]),
 }
 
 impl Turn {
-    pub(crate) fn make<M: Medium>(&self, m: &mut M) -> Result<(), MediumFault>
+    pub(crate) fn make<M: Medium>(&self, m: &mut M, kept: &mut [u8; 512]) -> Result<(), MediumFault>
         requires { IsInside (M.state m.old).size self.now }
         ensures done { OnOk result (IsTurned self.now (M.state m.old) (M.state m.new)) }
+        ensures keeps { kept.new
+            ≡ (if is_ok result then kept_by self.now (M.state m.old) kept.old else kept.old) }
         ensures adds { MayTurn self.now (M.state m.old) (M.state m.new) }
         ensures calls { (M.state m.new).calls ≤ (M.state m.old).calls + 2 }
         ensures failures { (M.state m.new).failures
@@ -36,20 +46,32 @@ impl Turn {
         ensures follows { M.follows m.old m.new }
     {
         match self {
-            Turn::Copy(from, to) => copy_sector(m, *from, *to),
+            Turn::Load(from) => {
+                let mut sector = [0; 512];
+                m.read(*from, &mut sector)?;
+                *kept = sector;
+                Ok(())
+            }
+            Turn::Copy(from, to, first) => copy_sector(m, *from, *to, first),
             Turn::Flush => m.flush(),
             Turn::Head(sector) => write_through(m, 1, sector),
         }
     }
 }
 
-// Writes the bytes of one sector to another.
-fn copy_sector<M: Medium>(m: &mut M, from: u64, to: u64) -> Result<(), MediumFault>
+// Writes the bytes of one sector to another, with these in front.
+fn copy_sector<M: Medium>(
+    m: &mut M,
+    from: u64,
+    to: u64,
+    first: &Option<[u8; 8]>,
+) -> Result<(), MediumFault>
     requires from_inside { from < (M.state m.old).size }
     requires to_inside { to < (M.state m.old).size }
-    ensures done { OnOk result (Holds to ((M.state m.old).content from)
+    ensures done { OnOk result (Holds to (begun_with first.now ((M.state m.old).content from))
         (M.state m.old).content (M.state m.new).content) }
-    ensures adds { WritesOnly to ((M.state m.old).content from) (M.state m.old) (M.state m.new) }
+    ensures adds { WritesOnly to (begun_with first.now ((M.state m.old).content from))
+        (M.state m.old) (M.state m.new) }
     ensures calls { (M.state m.new).calls ≤ (M.state m.old).calls + 2 }
     ensures failures { (M.state m.new).failures
         ≡ (if is_ok result then (M.state m.old).failures else (M.state m.old).failures + 1) }
@@ -59,7 +81,17 @@ fn copy_sector<M: Medium>(m: &mut M, from: u64, to: u64) -> Result<(), MediumFau
 {
     let mut sector = [0; 512];
     m.read(from, &mut sector)?;
+    put_first(&mut sector, first);
     m.write(to, &sector)
+}
+
+// Puts the bytes in front, if there are any.
+fn put_first(sector: &mut [u8; 512], first: &Option<[u8; 8]>)
+    ensures { sector.new ≡ begun_with first.now sector.old }
+{
+    if let Some(bytes) = first {
+        sector[..8].copy_from_slice(bytes);
+    }
 }
 
 // Writes a sector and flushes it.
@@ -80,19 +112,71 @@ fn write_through<M: Medium>(m: &mut M, place: u64, sector: &[u8; 512]) -> Result
     m.flush()
 }
 
-/// The next turn of the retiring of a record on a medium of these sizes.
-pub(crate) fn next_turn(sizes: &Super, stamp: u64, numbers: &[u64], retiring: Retiring) -> Turn
-    requires record { IsRecord sizes.now.blocks stamp numbers.now }
-    requires retiring { IsRetiring (length numbers.now) retiring }
-    ensures next { IsNextTurn (shape_of sizes.now) stamp numbers.now retiring result }
+/// The next turn of the retiring of a record on a medium of these sizes. These bytes were kept.
+pub(crate) fn next_turn(
+    sizes: &Super,
+    stamp: u64,
+    numbers: &[u64],
+    kept: &[u8; 512],
+    turned: usize,
+) -> Turn
+    requires record { IsRecord (shape_of sizes.now) stamp numbers.now }
+    requires turned { turned < turns_home sizes.now.format (length numbers.now) + 2 }
+    ensures next { IsNextTurn (shape_of sizes.now) stamp numbers.now kept.now turned result }
     ensures inside { IsInside (sectors_of (shape_of sizes.now)) result }
 {
-    match retiring {
-        Retiring::Copying(i) if i < numbers.len() => {
-            let from = data_place(slot_of(stamp, sizes.slots), i as u64);
-            Turn::Copy(from, sizes.home_of(numbers[i]))
-        }
-        Retiring::Copying(_) => Turn::Flush,
-        Retiring::Homed => Turn::Head(Head::new(stamp + 1).encode()),
+    let home = turns_home(sizes.format, numbers.len());
+    if turned < home {
+        return home_turn(sizes, stamp, numbers, kept, turned);
     }
+    if turned == home {
+        Turn::Flush
+    } else {
+        Turn::Head(Head::new(stamp + 1).encode())
+    }
+}
+
+// The next turn of a record whose blocks are not all home.
+fn home_turn(sizes: &Super, stamp: u64, numbers: &[u64], kept: &[u8; 512], turned: usize) -> Turn
+    requires record { IsRecord (shape_of sizes.now) stamp numbers.now }
+    requires turned { turned < turns_home sizes.now.format (length numbers.now) }
+    ensures next { IsHomeTurn sizes.now.format (shape_of sizes.now) stamp numbers.now kept.now
+        turned result }
+    ensures inside { IsInside (sectors_of (shape_of sizes.now)) result }
+{
+    match sizes.format {
+        LogFormat::One => copy_turn(sizes, stamp, numbers, turned, None),
+        LogFormat::Two if turned % 31 == 0 => {
+            let slot = slot_of(stamp, sizes.slots);
+            Turn::Load(slot_place(sizes.format, slot) + (turned / 31) as u64)
+        }
+        LogFormat::Two => {
+            let entry = turned % 31 - 1;
+            let i = 30 * (turned / 31) + entry;
+            copy_turn(sizes, stamp, numbers, i, Some(first_bytes(kept, entry)))
+        }
+    }
+}
+
+// The first bytes of a block, which stand in this entry of a descriptor.
+fn first_bytes(descriptor: &[u8; 512], entry: usize) -> [u8; 8]
+    requires { entry < 30 }
+    ensures { result ≡ slice_range descriptor.now (40 + 16 * entry) (48 + 16 * entry) }
+{
+    let mut bytes = [0; 8];
+    bytes.copy_from_slice(&descriptor[40 + 16 * entry..48 + 16 * entry]);
+    bytes
+}
+
+// Copies the i-th block of a record home, with these bytes in front, if there are any.
+fn copy_turn(sizes: &Super, stamp: u64, numbers: &[u64], i: usize, first: Option<[u8; 8]>) -> Turn
+    requires record { IsRecord (shape_of sizes.now) stamp numbers.now }
+    requires inside { i < length numbers.now }
+    ensures copies { IsCopyOf (slot_at (layout_of sizes.now.format) (shape_of sizes.now) stamp
+        + first_data_of sizes.now.format + i)
+        (sizes.now.home + slice_index numbers.now i) first result }
+    ensures inside { IsInside (sectors_of (shape_of sizes.now)) result }
+{
+    let from = copy_place(sizes.format, slot_of(stamp, sizes.slots), i);
+    Turn::Copy(from, sizes.home_of(numbers[i]), first)
 }

@@ -1,27 +1,38 @@
-use Rattle.std.proofs.Common.{◌∙◌, ap}
+use Rattle.std.proofs.Common.{◌≡◌, ◌%◌, ◌+◌, ℕ, List, [], length, get_or, sym, ◌∙◌, ap, subst, arith}
 use Rattle.std.proofs.lemmas.Result.{on_ok_weaker}
-use Rattle.medium.proofs.Moments.{quiet_call, quiet_leaves}
+use Rattle.std.proofs.lemmas.List.{length-map}
+use Rattle.medium.proofs.Moments.{quiet_leaves}
+use Rattle.arrayvec.specs.ArrayVec.{ArrayVec}
+use Rattle.log_layout.specs.Places.{Shape}
 use Rattle.log_layout.specs.Values.{shape_of}
+use Rattle.log_image.specs.Formats.{IsWhole}
+use Rattle.redo_log.specs.Value.{LogValue}
 use Rattle.redo_log.specs.Held.{MayLeave}
 use Rattle.redo_log.specs.Shown.{lists_of}
-use Rattle.redo_log.proofs.Closing.{quiet_held, copy_read}
+use Rattle.redo_log.proofs.Closing.{quiet_held, copy_read, sizes_sized}
 use Rattle.redo_log.proofs.log.Log.read_copy.Goals as goal
+
+-- as many lists as records
+many : (records : List (ArrayVec ℕ)) → length (lists_of records) ≡ length records
+many records = let f : ArrayVec ℕ → List ℕ = λ r. r.items in length-map records f
 
 pub returns-clause-ok : goal.returns-clause-ok
 returns-clause-ok g c view block holds copy =
     let i = c.self.inside in
     let old = g.M.Medium.state c.args.m.now in
-    on_ok_weaker c.read.result (λ read. read ∙ ap old.content c.data_place.ensures
-    ∙ copy_read (shape_of i.sizes) i.head (lists_of i.waiting.items) i.retiring i.under_way.items i.writing i.dead c.args.self.now i.sizes.some_slots c.self.view_is c.requires.live c.self.invariant.ring old view holds block c.args.slot c.args.place copy) c.read.ensures.ok
+    let shape_is : c.args.self.now.shape ≡ shape_of i.sizes = ap (λ (v : LogValue). v.shape) (sym c.self.view_is) in
+    let slots_are : c.args.self.now.shape.slots ≡ i.sizes.slots = ap (λ (s : Shape). s.slots) shape_is in
+    let most = c.self.invariant.most in
+    let there = copy_read (shape_of i.sizes) (sizes_sized i.sizes) i.head (lists_of i.waiting.items) i.turned i.kept i.under_way.items i.made i.dead c.args.self.now c.self.view_is c.requires.live c.self.invariant.ring
+    c.self.invariant.least (omega (arith, c.self.invariant.most, many i.waiting.items)) old view holds block c.args.slot c.args.place copy in
+    on_ok_weaker c.read_copy.result (λ read. read ∙ there.2)
+    (c.read_copy.ensures.ok (c.args.self.now.head + copy.age) (get_or view.records copy.age []) (copy.slot_is ∙ ap (λ (n : ℕ). (c.args.self.now.head + copy.age) % n) slots_are) there.0
+    (subst (λ (s : Shape). IsWhole s old.content (c.args.self.now.head + copy.age) (get_or view.records copy.age [])) shape_is there.1))
 
 pub returns-clause-holds : goal.returns-clause-holds
-returns-clause-holds g c view holds =
-    let old = g.M.Medium.state c.args.m.now in
-    let new = g.M.Medium.state c.read.new.self in
-    quiet_held c.args.self.now view old new (quiet_call old new c.read.ensures.passes c.read.ensures.content c.read.ensures.sets) holds
+returns-clause-holds g c view holds = quiet_held c.args.self.now view (g.M.Medium.state c.args.m.now) (g.M.Medium.state c.read_copy.new.m) c.read_copy.ensures.quiet holds
 
 pub returns-clause-cuts : goal.returns-clause-cuts
 returns-clause-cuts g c view holds ours =
     let old = g.M.Medium.state c.args.m.now in
-    let new = g.M.Medium.state c.read.new.self in
-    quiet_leaves (MayLeave old.size c.args.self.now view) old new (g.met.M.Medium.sound c.args.m.now) (holds.leaves ours) (quiet_call old new c.read.ensures.passes c.read.ensures.content c.read.ensures.sets)
+    quiet_leaves (MayLeave old.size c.args.self.now view) old (g.M.Medium.state c.read_copy.new.m) (g.met.M.Medium.sound c.args.m.now) (holds.leaves ours) c.read_copy.ensures.quiet
