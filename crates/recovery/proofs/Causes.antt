@@ -7,11 +7,11 @@ use Rattle.medium.specs.declared.fault.MediumFault.{MediumFault}
 use Rattle.medium.specs.declared.fault.MediumFault.TheVariants as medium
 use Rattle.medium.proofs.Moments.{quiet_joined}
 use Rattle.log_layout.specs.Places.{Shape}
-use Rattle.log_layout.specs.Standing.{StandsFor}
+use Rattle.log_image.specs.Standing.{StandsFor}
 use Rattle.log_layout.specs.Values.{shape_of}
-use Rattle.log_layout.specs.ImageFaults as image
-use Rattle.log_layout.proofs.StandingLaws.{StandsFor-one}
-use Rattle.log_layout.proofs.FaultLaws.{HasFault-stands}
+use Rattle.log_image.specs.ImageFaults as image
+use Rattle.log_image.proofs.StandingLaws.{StandsFor-one}
+use Rattle.log_image.proofs.FaultLaws.{HasFault-stands}
 use Rattle.recovery.specs.Causes.{IsRefusedCall, MakesReadsAlone, WritesNothing, IsCauseBy, IsCause, IsDeviceFault}
 use Rattle.recovery.specs.Recovered.{IsRecoveredFrom}
 use Rattle.recovery.specs.declared.recovered.Recovered.{Recovered}

@@ -1,18 +1,21 @@
 -- What a cut leaves while records are copied home, and what home then holds.
-use Rattle.std.proofs.Common.{◌≡◌, inl, inr, ⊎_elim, ℕ, zero, suc, ◌+◌, ◌*◌, ◌%◌, ◌<◌, ◌≤◌, List, [], ◌∷◌, ◌++◌, length, take, get_or, refl, sym, ◌∙◌, ap, subst, arith, Result}
+use Rattle.std.proofs.Common.{◌≡◌, inl, inr, ⊎_elim, ℕ, zero, suc, ◌+◌, ◌*◌, ◌<◌, ◌≤◌, List, [], ◌∷◌, ◌++◌, length, take, get_or, refl, sym, ◌∙◌, ap, subst, arith, Result}
 use Rattle.std.proofs.Math.ListN.{get_or-map}
 use Rattle.std.proofs.lemmas.Bool.{cases_eq}
-use Rattle.std.proofs.lemmas.Nat.{mod_below}
 use Rattle.std.proofs.lemmas.List.{length-map}
 use Rattle.medium.specs.Medium.{State, Image, Sets, CutLeaves, Within, Gains, Passes, IsSound}
 use Rattle.medium.specs.Moments.{StaysWithin, IsQuiet}
 use Rattle.medium.specs.declared.fault.MediumFault.{MediumFault}
 use Rattle.medium.proofs.Moments.{started_within, goes_on_within, joined_same, weaker, at_exit, quiet_leaves, updated, updated_here, updated_elsewhere}
-use Rattle.log_layout.specs.Places.{Shape, slot_place, first_home, sectors_of}
-use Rattle.log_layout.specs.Record.{Entry, numbers_of, entries_in, IsWhole, with_blocks, with_records, home_of}
-use Rattle.log_layout.proofs.Overlay.{with_blocks-copied, with_blocks-same, with_records-append}
-use Rattle.log_layout.proofs.Wholeness.{IsWhole-same, numbers_of-entries_in}
-use Rattle.recovery.specs.Copies.{freed_at, copy_calls, IsHomeOf, IsHomeInRecord, IsHomeInRecords}
+use Rattle.log_layout.specs.declared.log_format.LogFormat.{LogFormat}
+use Rattle.log_layout.specs.Places.{Shape, first_home, sectors_of, IsFirstHome}
+use Rattle.log_image.specs.Record.{Entry, numbers_of, block_of, with_blocks, with_records, home_of, Agree}
+use Rattle.log_image.specs.Layout.{slot_at}
+use Rattle.log_image.specs.Formats.{layout_of, IsWhole}
+use Rattle.log_image.proofs.Formats.{laws_of, sectors_are}
+use Rattle.log_image.proofs.Overlay.{with_blocks-copied, with_blocks-same, with_records-append}
+use Rattle.log_image.proofs.Wholeness.{IsWhole-one, IsWhole-same, slot_inside}
+use Rattle.recovery.specs.Copies.{freed_at, calls_of, copy_calls, IsHomeOf, IsHomeInRecord, IsHomeInRecords}
 
 -- before the first call
 pub none_copied : (places : ℕ → Type 0) (m : State) → IsSound m → StaysWithin (freed_at places m.may_leave) m m
@@ -63,29 +66,48 @@ number_of entries numbers i names =
 pub long_as : (entries : List Entry) (numbers : List ℕ) → numbers ≡ numbers_of entries → length numbers ≡ length entries
 long_as entries numbers names = let f : Entry → ℕ = λ e. e.0 in ap (λ (l : List ℕ). length l) names ∙ length-map entries f
 
+-- where one of a record's blocks is at home in the sector, it is so of each that is whole
+pub home_in_whole : (shape : Shape) (image : Image) (stamp : ℕ) (entries : List Entry) (x : ℕ) → IsWhole shape image stamp entries → IsHomeInRecord shape image stamp x
+    → IsHomeOf shape (numbers_of entries) x
+home_in_whole shape image stamp entries x whole home =
+    subst (λ (es : List Entry). IsHomeOf shape (numbers_of es) x) (IsWhole-one (layout_of shape.format) (laws_of shape.format) shape image stamp home.0 entries home.1 whole) home.2
+
 -- after the copies of a record home is as if its blocks were laid over it
-pub record_home : (shape : Shape) (old mid new : Image) (stamp : ℕ) (entries : List Entry) (numbers : List ℕ) → numbers ≡ numbers_of entries → IsWhole shape old stamp entries
-    → ((x : ℕ) → mid x ≡ old x)
-    → ((i : ℕ) → i < length numbers → new (first_home shape + get_or numbers i 0) ≡ mid (slot_place shape stamp + 1 + i))
-    → ((x : ℕ) → ¬ IsHomeOf shape numbers x → new x ≡ mid x)
+pub record_home : (shape : Shape) (old new : Image) (stamp : ℕ) (entries : List Entry) → IsWhole shape old stamp entries
+    → ((i : ℕ) → i < length entries → new (first_home shape + (get_or entries i (0, [])).0) ≡ block_of entries i)
+    → ((x : ℕ) → ¬ IsHomeInRecord shape old stamp x → new x ≡ old x)
     → (b : ℕ) → new (first_home shape + b) ≡ with_blocks entries (home_of shape old) b
-record_home shape old mid new stamp entries numbers names whole same copied elsewhere b =
-    let many = long_as entries numbers names in
-    with_blocks-copied entries (home_of shape old) (home_of shape new)
-    (λ i below. ap (λ (k : ℕ). new (first_home shape + k)) (sym (number_of entries numbers i names)) ∙ copied i (omega (arith, many)) ∙ same (slot_place shape stamp + 1 + i) ∙ whole.places i below)
-    (λ d not. elsewhere (first_home shape + d) (λ h. let below = h.1 in let is = h.2 in let n = number_of entries numbers h.0 names in not h.0 (omega (arith, many, below)) (omega (arith, n, is))) ∙ same (first_home shape + d))
+record_home shape old new stamp entries whole copied elsewhere b =
+    with_blocks-copied entries (home_of shape old) (home_of shape new) copied
+    (λ d not. elsewhere (first_home shape + d) (λ h.
+    let home = home_in_whole shape old stamp entries (first_home shape + d) whole h in
+    let below = home.1 in
+    let is = home.2 in
+    let many = long_as entries (numbers_of entries) refl in
+    let n = number_of entries (numbers_of entries) home.0 refl in
+    not home.0 (omega (arith, many, below)) (omega (arith, n, is))))
     b
 
--- the home of a block that was read is that of one of the record
-pub home_in_record : (shape : Shape) (image : Image) (stamp : ℕ) (numbers : List ℕ) (x : ℕ) → IsWhole shape image stamp (entries_in image (slot_place shape stamp + 1) numbers) → IsHomeOf shape numbers x
-    → IsHomeInRecord shape image stamp x
-home_in_record shape image stamp numbers x whole home =
-    (entries_in image (slot_place shape stamp + 1) numbers, whole, subst (λ (ns : List ℕ). IsHomeOf shape ns x) (sym (numbers_of-entries_in image (slot_place shape stamp + 1) numbers)) home)
+-- the log ends before home
+pub log_ends : (shape : Shape) → IsFirstHome shape.format shape.slots shape.home → 2 + (layout_of shape.format).slot_sectors * shape.slots ≤ first_home shape
+log_ends shape home = let same = ap (λ (n : ℕ). n * shape.slots) (sectors_are shape.format) in omega (arith, same, home.0)
 
-pub in_slot : (shape : Shape) (stamp x : ℕ) → 1 ≤ shape.slots → x < slot_place shape stamp + 50 → x < first_home shape
-in_slot shape stamp x some below =
-    let inside : stamp % shape.slots < shape.slots = mod_below stamp shape.slots some in
-    omega arith
+-- so does each slot of it
+pub in_slot : (shape : Shape) (stamp x : ℕ) → 1 ≤ shape.slots → IsFirstHome shape.format shape.slots shape.home
+    → x < slot_at (layout_of shape.format) shape stamp + (layout_of shape.format).slot_sectors → x < first_home shape
+in_slot shape stamp x some home below =
+    omega (arith, slot_inside (layout_of shape.format) (laws_of shape.format) shape stamp some, log_ends shape home)
+
+-- a slot is the same in images with the same log
+pub slot_same : (shape : Shape) (p q : Image) (stamp : ℕ) → 1 ≤ shape.slots → IsFirstHome shape.format shape.slots shape.home → ((x : ℕ) → x < first_home shape → p x ≡ q x)
+    → Agree (slot_at (layout_of shape.format) shape stamp) (slot_at (layout_of shape.format) shape stamp + (layout_of shape.format).slot_sectors) p q
+slot_same shape p q stamp some home log x low high = log x (in_slot shape stamp x some home high)
+
+-- so is the record in it
+pub whole_same : (shape : Shape) (before image : Image) (stamp : ℕ) (entries : List Entry) → 1 ≤ shape.slots → IsFirstHome shape.format shape.slots shape.home
+    → ((y : ℕ) → y < first_home shape → image y ≡ before y) → IsWhole shape before stamp entries → IsWhole shape image stamp entries
+whole_same shape before image stamp entries some home log w =
+    IsWhole-same (layout_of shape.format) (laws_of shape.format) shape before image stamp entries (slot_same shape image before stamp some home log) w
 
 -- home is behind the log
 pub not_in_log : (shape : Shape) (image : Image) (head count x : ℕ) → x < first_home shape → ¬ IsHomeInRecords shape image head count x
@@ -95,13 +117,14 @@ not_in_log shape image head count x below home = let is = home.2.2.2 in omega (a
 pub not_behind : (shape : Shape) (image : Image) (head count x : ℕ) → sectors_of shape ≤ x → ¬ IsHomeInRecords shape image head count x
 not_behind shape image head count x past home =
     let whole = home.2.1 in
-    let below = whole.inside home.2.2.0 0 home.2.2.1 in
+    let below = whole.fit.inside home.2.2.0 0 home.2.2.1 in
     let is = home.2.2.2 in
     omega (arith, below, is, past)
 
 -- the same record is in each image with the same log
-pub home_same : (shape : Shape) (before image : Image) (stamp x : ℕ) → 1 ≤ shape.slots → ((y : ℕ) → y < first_home shape → image y ≡ before y) → IsHomeInRecord shape before stamp x → IsHomeInRecord shape image stamp x
-home_same shape before image stamp x some log home = (home.0, IsWhole-same shape before image stamp home.0 (λ y low high. log y (in_slot shape stamp y some high)) home.1, home.2)
+pub home_same : (shape : Shape) (before image : Image) (stamp x : ℕ) → 1 ≤ shape.slots → IsFirstHome shape.format shape.slots shape.home
+    → ((y : ℕ) → y < first_home shape → image y ≡ before y) → IsHomeInRecord shape before stamp x → IsHomeInRecord shape image stamp x
+home_same shape before image stamp x some first log home = (home.0, whole_same shape before image stamp home.0 some first log home.1, home.2)
 
 take_suc : (j : ℕ) (records : List (List Entry)) → j < length records → take (suc j) records ≡ take j records ++ get_or records j [] ∷ []
 take_suc j [] below = absurd (omega arith)
@@ -121,10 +144,12 @@ one_more_home shape old mid new records j below before now b =
     ∙ sym (with_records-append (take j records) (get_or records j []) (home_of shape old) b)
     ∙ ap (λ (l : List (List Entry)). with_records l (home_of shape old) b) (sym (take_more j records below))
 
-copy_calls-append : (records : List (List Entry)) (entries : List Entry) → copy_calls (records ++ entries ∷ []) ≡ copy_calls records + 2 + 2 * length entries
-copy_calls-append [] entries = omega arith
-copy_calls-append (r ∷ records) entries = let more = copy_calls-append records entries in omega (arith, more)
+copy_calls-append : (format : LogFormat) (records : List (List Entry)) (entries : List Entry)
+    → copy_calls format (records ++ entries ∷ []) ≡ copy_calls format records + calls_of format (length entries)
+copy_calls-append format [] entries = omega arith
+copy_calls-append format (r ∷ records) entries = let more = copy_calls-append format records entries in omega (arith, more)
 
 -- one more record copied
-pub copy_calls-more : (j : ℕ) (records : List (List Entry)) → j < length records → copy_calls (take (j + 1) records) ≡ copy_calls (take j records) + 2 + 2 * length (get_or records j [])
-copy_calls-more j records below = ap (λ (l : List (List Entry)). copy_calls l) (take_more j records below) ∙ copy_calls-append (take j records) (get_or records j [])
+pub copy_calls-more : (format : LogFormat) (j : ℕ) (records : List (List Entry)) → j < length records
+    → copy_calls format (take (j + 1) records) ≡ copy_calls format (take j records) + calls_of format (length (get_or records j []))
+copy_calls-more format j records below = ap (λ (l : List (List Entry)). copy_calls format l) (take_more j records below) ∙ copy_calls-append format (take j records) (get_or records j [])

@@ -1,22 +1,30 @@
 -- What was found is what the image stands for.
-use Rattle.std.proofs.Common.{◌≡◌, ℕ, ◌+◌, length, sym, subst, ◌∙◌}
-use Rattle.std.specs.Prelude.{true, false, Option, None, Some, is_some, IfSome}
+use Rattle.std.proofs.Common.{◌≡◌, ℕ, ◌+◌, length, sym, subst, ◌∙◌, arith}
 use Rattle.medium.specs.Medium.{State, Image}
 use Rattle.medium.specs.Moments.{IsQuiet}
 use Rattle.medium.specs.Blocks.{Array}
+use Rattle.log_layout.specs.Places.{Shape}
 use Rattle.log_layout.specs.Values.{shape_of}
-use Rattle.log_layout.specs.Standing.{StandsFor}
-use Rattle.log_layout.proofs.StandingLaws.{Stood, count_stands, heads, counts}
+use Rattle.log_image.specs.Formats.{layout_of, HasWhole}
+use Rattle.log_image.proofs.Formats.{laws_of}
+use Rattle.log_image.proofs.Wholeness.{HasWhole-same}
+use Rattle.log_layout.specs.Sectors.{IsSuper}
+use Rattle.log_image.specs.Standing.{StandsFor}
+use Rattle.log_image.specs.ImageFaults.{HasShape}
+use Rattle.log_image.proofs.StandingLaws.{Stood, count_stands, heads, counts}
 use Rattle.recovery.specs.Found.{IsFound}
 use Rattle.recovery.specs.declared.found.Found.{Found}
 
--- what is there, with what holds of it
-pub found_some : {T : Type 0} (o : Option T) (P : T → Type 0) → is_some o ≡ true → IfSome o P → (d : T) × P d
-found_some None P e h = absurd (no e)
-  where
-    no : false ≡ true → ⊥
-    no e = cc
-found_some (Some d) P e h = (d, h)
+-- a record is whole in each image with the same sectors
+pub has_whole_same : (shape : Shape) (before image : Image) (stamp : ℕ) → ((x : ℕ) → image x ≡ before x) → HasWhole shape before stamp → HasWhole shape image stamp
+has_whole_same shape before image stamp same w = HasWhole-same (layout_of shape.format) (laws_of shape.format) shape before image stamp (λ x low high. same x) w
+
+-- calls that wrote nothing leave the shape
+pub shape_after : (old mid : State) (shape : Shape) → IsQuiet old mid → HasShape old.size shape old.content → HasShape mid.size shape mid.content
+shape_after old mid shape quiet has = let size = quiet.size_stays in record {
+  super = subst (IsSuper shape) (sym (quiet.content_stays 0)) has.super;
+  fits = omega (arith, has.fits, size);
+}
 
 -- for what the image stands
 pub found_stands : (size : ℕ) (image : Image) (found : Found) → IsFound size image found → Stood size (shape_of found.sizes) image found.head found.count

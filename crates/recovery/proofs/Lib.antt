@@ -1,3 +1,7 @@
+pub mod SpellingTwo
+pub mod WholeOne
+pub mod WholeTwo
+pub mod Carrying
 pub mod Finding
 pub mod Copying
 pub mod Replaying
@@ -7,3 +11,6 @@ pub mod Causes
 pub mod Zeros
 pub mod Sparing
 pub mod Making
+pub mod Trying
+pub mod Listing
+pub mod Homing

@@ -8,7 +8,7 @@ use Rattle.medium.proofs.Moments.{started, started_within, goes_on, goes_on_with
 use Rattle.medium.proofs.Sparing.{HasSpared, spared_start, spared_joined}
 use Rattle.log_layout.specs.Places.{Shape, sectors_of}
 use Rattle.log_layout.specs.Sectors.{IsSuper, IsHead}
-use Rattle.log_layout.specs.Standing.{IsOurs}
+use Rattle.log_image.specs.Standing.{IsOurs}
 use Rattle.recovery.specs.Copies.{freed_at, WithOrWithout, IsBetween}
 use Rattle.recovery.specs.Formatted.{IsNoneOrNew, IsMidFormat, FormatLeaves}
 use Rattle.recovery.proofs.Sparing.{spared_by, spared_within}
@@ -65,7 +65,7 @@ nothing_done shape m sound = record {
   spares = spared_start (sectors_of shape) m sound;
 }
 
-module _ (shape : Shape) (old first : State) (zeros : List ℕ) (are : zeros ≡ replicate 512 0) (sound : IsSound first)
+module _ (shape : Shape) (old first : State) (some : 2 ≤ sectors_of shape) (zeros : List ℕ) (are : zeros ≡ replicate 512 0) (sound : IsSound first)
     (elsewhere : (x : ℕ) → x ≢ 0 → first.content x ≡ old.content x) (moments : LeavesOnly (WithOrWithout 0 zeros old.may_leave) old first) where
   -- the super is being cleared
   first_cuts : LeavesOnly (IsMidFormat shape old) old first
@@ -73,7 +73,7 @@ module _ (shape : Shape) (old first : State) (zeros : List ℕ) (are : zeros ≡
       (λ image either. ⊎_elim inl (λ w. inr (inl (w.2.here ∙ are))) either) moments
 
   first_spares : SparesFrom (sectors_of shape) old first
-  first_spares = through_spares (sectors_of shape) 0 zeros old first (omega arith) sound elsewhere moments
+  first_spares = through_spares (sectors_of shape) 0 zeros old first (omega (arith, some)) sound elsewhere moments
 
   pub first_leaves : first.calls ≤ old.calls + 2 → FormatLeaves shape old first
   first_leaves few = record {

@@ -1,5 +1,5 @@
 -- A whole recovery: a flush, reads, copies and the new head.
-use Rattle.std.proofs.Common.{◌≡◌, ◌⊎◌, inl, inr, ⊎_elim, ℕ, ◌+◌, ◌*◌, ◌<◌, List, [], length, get_or, sym, ◌∙◌, ap, subst, arith}
+use Rattle.std.proofs.Common.{◌≡◌, ◌⊎◌, inl, inr, ⊎_elim, ℕ, ◌+◌, ◌<◌, List, [], length, get_or, sym, ◌∙◌, ap, subst, arith}
 use Rattle.std.specs.Prelude.{min}
 use Rattle.medium.specs.Medium.{State, Image, CutLeaves, Only, IsSound}
 use Rattle.medium.specs.Moments.{EachCut, IsFlushed, LeavesOnly, StaysWithin, IsQuiet}
@@ -8,14 +8,16 @@ use Rattle.medium.proofs.Moments.{joined_same, weaker, at_exit, only_image, quie
 use Rattle.log_layout.specs.Places.{Shape, first_home}
 use Rattle.log_layout.specs.Sectors.{IsSuper}
 use Rattle.log_layout.specs.Values.{shape_of}
-use Rattle.log_layout.specs.Record.{Entry, IsWhole, with_records, home_of}
-use Rattle.log_layout.specs.Standing.{StandsFor, IsOurs}
+use Rattle.log_image.specs.Record.{Entry, with_records, home_of}
+use Rattle.log_image.specs.Formats.{IsWhole}
+use Rattle.log_image.specs.Standing.{StandsFor, IsOurs}
 use Rattle.log_layout.proofs.Decoding.{IsSuper-one}
-use Rattle.recovery.specs.Copies.{freed_at, copy_calls, IsHomeInRecords, HasNewHead}
+use Rattle.recovery.specs.Copies.{freed_at, copy_calls, AreTries, IsHomeInRecords, HasNewHead}
+use Rattle.recovery.proofs.Trying.{tries_moved}
 use Rattle.recovery.specs.Found.{IsFound}
 use Rattle.recovery.specs.Recovered.{IsRecoveredFrom, IsFresh, IsOursForSome, IsOursWithNext, StandsForOneOf}
 use Rattle.recovery.specs.declared.found.Found.{Found}
-use Rattle.recovery.proofs.Copying.{not_in_log, not_behind}
+use Rattle.recovery.proofs.Copying.{log_ends, not_in_log, not_behind}
 use Rattle.recovery.proofs.Finding.{found_stands, found_matches, found_before}
 use Rattle.recovery.proofs.Replaying.{copies_ours, new_head_fresh, fresh_ours}
 
@@ -155,13 +157,14 @@ module _ (old mid seen : State) (sound : IsSound old) (sound_mid : IsSound mid) 
                 subst (λ (s : Shape). IsFresh s array next image) (sym is)
                 (subst (λ (i : Image). IsFresh (shape_of found.sizes) array next i) (sym (only_image new.content new.may_leave done image cut)) (moved_fresh array next here new.content moved))
 
-            pub recovered_from : seen.calls ≡ mid.calls + 2 + 2 * min (found.count + 1) found.sizes.slots
-                → ((records : List (List Entry)) → found.count ≡ length records → ((k : ℕ) → k < length records → IsWhole (shape_of found.sizes) seen.content (found.head + k) (get_or records k [])) → copied.calls ≡ seen.calls + copy_calls records)
+            pub recovered_from : AreTries found.sizes.format (min (found.count + 1) found.sizes.slots) (mid.calls + 2) seen.calls
+                → ((records : List (List Entry)) → found.count ≡ length records → ((k : ℕ) → k < length records → IsWhole (shape_of found.sizes) seen.content (found.head + k) (get_or records k [])) → copied.calls ≡ seen.calls + copy_calls found.sizes.format records)
                 → new.calls ≡ copied.calls + 3 → IsRecoveredFrom old new (record { sizes = found.sizes; next = found.head + found.count + 1 })
             recovered_from inspected copies last =
                 let st = found_stands old.size old.content found at_old in
                 let f = found_matches old.size old.content found at_old st.array (found.head + found.count + 1) st.stands in
-                let tried : 2 * min (found.count + 1) found.sizes.slots ≡ 2 * min (length st.stands.records + 1) found.sizes.slots = ap (λ (n : ℕ). 2 * min (n + 1) found.sizes.slots) f.1 in
+                let tried = subst (λ (n : ℕ). AreTries found.sizes.format (min (n + 1) found.sizes.slots) (mid.calls + 2) seen.calls) f.1 inspected in
+                let ends = log_ends (shape_of found.sizes) at_old.shape.super.home_is in
                 let copying = copies st.stands.records f.1 (seen_whole st.array (found.head + found.count + 1) st.stands) in
                 record {
                   array = st.array;
@@ -169,7 +172,9 @@ module _ (old mid seen : State) (sound : IsSound old) (sound_mid : IsSound mid) 
                   stamp_left = at_old.stamp_left;
                   flushed = done;
                   head = moved.head;
-                  home = λ b below. moved.elsewhere (first_home (shape_of found.sizes) + b) (λ e. omega arith) ∙ copied_home st.array (found.head + found.count + 1) st.stands b below;
+                  home = λ b below. moved.elsewhere (first_home (shape_of found.sizes) + b) (λ e. omega (arith, e, ends)) ∙ copied_home st.array (found.head + found.count + 1) st.stands b below;
                   elsewhere = λ x not other. moved.elsewhere x not ∙ ⊎_elim (copied_log x) (λ past. elsewhere x (not_behind (shape_of found.sizes) seen.content found.head found.count x past) ∙ ap (λ (i : Image). i x) same) other;
-                  calls = omega (arith, counted, inspected, copying, last, tried);
+                  calls = tries_moved found.sizes.format (min (length st.stands.records + 1) found.sizes.slots) (mid.calls + 2) seen.calls
+                      (old.calls + 6 + copy_calls found.sizes.format st.stands.records) new.calls (copy_calls found.sizes.format st.stands.records + 3)
+                      (omega (arith, counted)) (omega (arith, copying, last)) tried;
                 }

@@ -1,9 +1,13 @@
 -- The sectors that are written, and what a cut leaves of them.
 use Rattle.std.specs.Prelude.{◌≡◌, ◌≢◌, ◌⊎◌, ℕ, ◌+◌, ◌*◌, ◌<◌, ◌≤◌, List, [], ◌∷◌, length, slice_index}
 use Rattle.medium.specs.Medium.{Image, Sets, CutLeaves, Holds}
+use Rattle.log_layout.specs.declared.log_format.LogFormat.{LogFormat}
+use Rattle.log_layout.specs.declared.log_format.LogFormat.TheVariants.{One, Two}
 use Rattle.log_layout.specs.Places.{Shape, first_home}
 use Rattle.log_layout.specs.Sectors.{IsHead}
-use Rattle.log_layout.specs.Record.{Entry, numbers_of, IsWhole}
+use Rattle.log_layout.specs.SectorsTwo.{descriptors_of}
+use Rattle.log_image.specs.Record.{Entry, numbers_of}
+use Rattle.log_image.specs.Formats.{IsWhole}
 
 -- what a cut may leave, and in these sectors anything
 abbrev pub freed_at : (ℕ → Type 0) → Sets → Sets
@@ -31,10 +35,37 @@ IsHomeInRecord shape image stamp x =
 abbrev pub IsHomeInRecords : Shape → Image → ℕ → ℕ → ℕ → Type 0
 IsHomeInRecords shape image head count x = (j : ℕ) × (j < count) × IsHomeInRecord shape image (head + j) x
 
--- how many calls it takes to find these records whole again, and to read and write each of their blocks
-abbrev pub copy_calls : List (List Entry) → ℕ
-copy_calls [] = 0
-copy_calls (entries ∷ records) = 2 + 2 * length entries + copy_calls records
+-- how many calls it takes to read again what names the blocks of a record of so many, which are its
+-- descriptors and its commit, and to read and write each block
+abbrev pub calls_of : LogFormat → ℕ → ℕ
+calls_of One n = 2 + 2 * n
+calls_of Two n = 1 + descriptors_of n + 2 * n
+
+-- so for these records
+abbrev pub copy_calls : LogFormat → List (List Entry) → ℕ
+copy_calls format [] = 0
+copy_calls format (entries ∷ records) = calls_of format (length entries) + copy_calls format records
+
+-- how many calls they are for a record at most
+abbrev pub most_calls_of : LogFormat → ℕ
+most_calls_of One = 98
+most_calls_of Two = 489
+
+-- how many calls it takes at most to find out whether a record is whole
+abbrev pub most_reads_of : LogFormat → ℕ
+most_reads_of One = 2
+most_reads_of Two = 249
+
+-- how many calls a recovery makes at most for each slot: to find its record, and to copy it home
+abbrev pub most_start_of : LogFormat → ℕ
+most_start_of One = 100
+most_start_of Two = 738
+
+-- By so many tries to find a whole record one count of calls becomes another: by two reads each in
+-- format 1, and in format 2 by as many as it takes, up to all sectors of a slot.
+abbrev pub AreTries : LogFormat → ℕ → ℕ → ℕ → Type 0
+AreTries One tries before after = after ≡ before + 2 * tries
+AreTries Two tries before after = after ≤ before + 249 * tries
 
 -- the image is that one with its head at this stamp
 pub record HasNewHead (stamp : ℕ) (before image : Image) : Type 0 where

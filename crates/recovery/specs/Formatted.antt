@@ -4,7 +4,7 @@ use Rattle.medium.specs.Medium.{State, Image, CutLeaves}
 use Rattle.medium.specs.Moments.{IsFlushed, LeavesOnly, SparesFrom}
 pub use Rattle.log_layout.specs.Places.{Shape, sectors_of}
 use Rattle.log_layout.specs.Sectors.{IsSuper, IsHead}
-use Rattle.log_layout.specs.Standing.{IsOurs}
+use Rattle.log_image.specs.Standing.{IsOurs}
 use Rattle.recovery.specs.declared.format_fault.FormatFault.{FormatFault}
 use Rattle.recovery.specs.declared.format_fault.FormatFault.TheVariants.{BadSize, Medium}
 

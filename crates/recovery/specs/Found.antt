@@ -3,8 +3,8 @@ use Rattle.std.specs.Prelude.{ℕ, ◌+◌, ◌^◌, ◌<◌}
 use Rattle.medium.specs.Medium.{Image}
 use Rattle.log_layout.specs.Values.{shape_of}
 use Rattle.log_layout.specs.Sectors.{IsHead}
-use Rattle.log_layout.specs.Standing.{IsCount}
-use Rattle.log_layout.specs.ImageFaults.{HasShape}
+use Rattle.log_image.specs.Standing.{IsCount}
+use Rattle.log_image.specs.ImageFaults.{HasShape}
 use Rattle.recovery.specs.declared.found.Found.{Found}
 
 -- the image of a medium of so many sectors has none of the faults, and this is what it has

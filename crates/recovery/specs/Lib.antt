@@ -3,3 +3,4 @@ pub mod Found
 pub mod Copies
 pub mod Recovered
 pub mod Formatted
+pub mod SlotTwo

@@ -1,19 +1,21 @@
 -- What recovery answers, and what it leaves.
-use Rattle.std.specs.Prelude.{◌≡◌, ◌≢◌, ◌⊎◌, ℕ, ◌+◌, ◌*◌, ◌^◌, ◌<◌, ◌≤◌, length, min}
+use Rattle.std.specs.Prelude.{◌≡◌, ◌≢◌, ◌⊎◌, ℕ, ◌+◌, ◌^◌, ◌<◌, ◌≤◌, length, min}
 use Rattle.medium.specs.Medium.{State, Image, CutLeaves}
 use Rattle.medium.specs.Moments.{IsFlushed, SparesFrom}
 use Rattle.medium.specs.Blocks.{Array}
 use Rattle.log_layout.specs.Places.{Shape, first_home, sectors_of}
 use Rattle.log_layout.specs.Values.{shape_of}
 use Rattle.log_layout.specs.Sectors.{IsSuper, IsHead}
-use Rattle.log_layout.specs.Standing.{StandsFor, IsOurs, DescriptorsBelow, CommitsBelow}
-use Rattle.log_layout.specs.ImageFaults.{HasShape}
-use Rattle.recovery.specs.Copies.{copy_calls}
+use Rattle.log_image.specs.Formats.{CarriesBelow}
+use Rattle.log_image.specs.Standing.{StandsFor, IsOurs}
+use Rattle.log_image.specs.ImageFaults.{HasShape}
+use Rattle.recovery.specs.Copies.{copy_calls, AreTries}
 use Rattle.recovery.specs.declared.recovered.Recovered.{Recovered}
 
--- The answer is what the contents stood for, with a stamp left for the next record. They are flushed,
--- with the head at that stamp and the array at home, and every other sector is as it was. The calls are a flush,
--- two reads, two for each stamp that is tried, those of the copies, and a flush, a write and a flush.
+-- The answer is what the contents stood for, with a stamp left for the next record. They are
+-- flushed, with the head at that stamp and the array at home, and every other sector is as it was.
+-- The calls are a flush, two reads, those for each stamp that is tried, those of the copies, and a
+-- flush, a write and a flush.
 pub record IsRecoveredFrom (old new : State) (answer : Recovered) : Type 0 where
   pub array : Array
   pub stood : StandsFor old.size (shape_of answer.sizes) old.content array answer.next
@@ -24,17 +26,16 @@ pub record IsRecoveredFrom (old new : State) (answer : Recovered) : Type 0 where
   pub elsewhere : (x : ℕ) → x ≢ 1
       → (x < first_home (shape_of answer.sizes)) ⊎ (sectors_of (shape_of answer.sizes) ≤ x)
       → new.content x ≡ old.content x
-  pub calls : new.calls
-      ≡ old.calls + 6 + 2 * min (length stood.records + 1) answer.sizes.slots + copy_calls stood.records
+  pub calls : AreTries answer.sizes.format (min (length stood.records + 1) answer.sizes.slots)
+      (old.calls + 6 + copy_calls answer.sizes.format stood.records) new.calls
 
--- no record waits: the image has this array at home and its head at this stamp, and nothing in its log
--- carries this stamp or a later one
+-- no record waits: the image has this array at home and its head at this stamp, and no sector of
+-- its log carries this stamp or a later one
 pub record IsFresh (shape : Shape) (array : Array) (next : ℕ) (image : Image) : Type 0 where
   pub super : IsSuper shape (image 0)
   pub head : IsHead next (image 1)
   pub home : (b : ℕ) → b < shape.blocks → image (first_home shape + b) ≡ array b
-  pub descriptors : DescriptorsBelow shape image next
-  pub commits : CommitsBelow shape image next
+  pub carries : CarriesBelow shape image next
 
 -- the image is ours
 abbrev pub IsOursForSome : ℕ → Image → Type 0

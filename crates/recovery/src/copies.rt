@@ -1,24 +1,30 @@
 //! The copying of the whole records home.
-ghost use Rattle.std.specs.Prelude.{◌≡◌, ◌≢◌, ◌<◌, ◌≤◌, ◌+◌, ◌*◌, ◌^◌, List, ℕ, OnOk, IfErr, length, slice_index, All, [], get_or};
-ghost use Rattle.medium.specs.Medium.{Holds};
+ghost use Rattle.std.specs.Prelude.{◌≡◌, ◌≢◌, ◌<◌, ◌≤◌, ◌+◌, ◌*◌, ◌^◌, List, ℕ, OnOk, IfErr, length, [], ◌++◌, get_or, drop};
 ghost use Rattle.medium.specs.Moments.{StaysWithin};
 ghost use Rattle.log_layout.specs.Places.{first_home, sectors_of};
-ghost use Rattle.log_layout.specs.Sectors.{IsRising};
 ghost use Rattle.log_layout.specs.Values.{shape_of};
-ghost use Rattle.log_layout.specs.Record.{Entry, IsWhole, with_blocks, with_records, home_of};
+ghost use Rattle.log_image.specs.Record.{Entry, block_of, with_records, home_of};
+ghost use Rattle.log_image.specs.Formats.{IsWhole, HasWhole};
 ghost use Rattle.recovery.specs.Causes.{IsRefusedCall};
-ghost use Rattle.recovery.specs.Copies.{freed_at, copy_calls, IsHomeOf, IsHomeInRecord, IsHomeInRecords};
+ghost use Rattle.recovery.specs.Copies.{freed_at, calls_of, copy_calls, most_calls_of, IsHomeInRecord, IsHomeInRecords};
 
 use crate::found::Found;
-use crate::survey::read_record;
-use log_layout::{Super, data_place, slot_of};
+use crate::{copies_one, copies_two};
+use log_layout::{LogFormat, Super};
 use medium::{Medium, MediumFault};
 
-// Copies the bytes of one sector to another.
-fn copy_sector<M: Medium>(m: &mut M, from: u64, to: u64) -> Result<(), MediumFault>
+/// Copies the bytes of one sector to another, with these in place of the first.
+pub(crate) fn copy_sector<M: Medium>(
+    m: &mut M,
+    from: u64,
+    to: u64,
+    first: &[u8],
+) -> Result<(), MediumFault>
     requires from_inside { from < (M.state m.old).size }
     requires to_inside { to < (M.state m.old).size }
-    ensures done { OnOk result ((M.state m.new).content to ≡ (M.state m.old).content from) }
+    requires few { length first.now ≤ 512 }
+    ensures done { OnOk result ((M.state m.new).content to
+        ≡ first.now ++ drop (length first.now) ((M.state m.old).content from)) }
     ensures elsewhere { (x : ℕ) → x ≢ to → (M.state m.new).content x ≡ (M.state m.old).content x }
     ensures within { StaysWithin (freed_at (λ x. x ≡ to) (M.state m.old).may_leave)
         (M.state m.old) (M.state m.new) }
@@ -29,64 +35,36 @@ fn copy_sector<M: Medium>(m: &mut M, from: u64, to: u64) -> Result<(), MediumFau
 {
     let mut sector = [0; 512];
     m.read(from, &mut sector)?;
+    sector[..first.len()].copy_from_slice(first);
     m.write(to, &sector)
 }
 
-// Copies the blocks with these numbers home, from the data places of a slot.
-fn copy_blocks<M: Medium>(
-    m: &mut M,
-    sizes: &Super,
-    slot: u64,
-    numbers: &[u64],
-) -> Result<(), MediumFault>
-    requires slot { slot < sizes.now.slots }
-    requires fits { sectors_of (shape_of sizes.now) ≤ (M.state m.old).size }
-    requires few { length numbers.now ≤ 48 }
-    requires rising { IsRising numbers.now }
-    requires inside { All (λ b. b < sizes.now.blocks) numbers.now }
-    ensures done { OnOk result ((i : ℕ) → i < length numbers.now
-        → (M.state m.new).content (first_home (shape_of sizes.now) + slice_index numbers.now i)
-        ≡ (M.state m.old).content (2 + 50 * slot + 1 + i)) }
-    ensures elsewhere { (x : ℕ) → ¬ IsHomeOf (shape_of sizes.now) numbers.now x
-        → (M.state m.new).content x ≡ (M.state m.old).content x }
-    ensures within { StaysWithin
-        (freed_at (IsHomeOf (shape_of sizes.now) numbers.now) (M.state m.old).may_leave)
-        (M.state m.old) (M.state m.new) }
-    ensures calls { (M.state m.new).calls ≤ (M.state m.old).calls + 2 * length numbers.now }
-    ensures exact { OnOk result ((M.state m.new).calls
-        ≡ (M.state m.old).calls + 2 * length numbers.now) }
-    ensures cause { IfErr result (IsRefusedCall (M.state m.old) (M.state m.new)) }
-    ensures follows { M.follows m.old m.new }
-{
-    for i in 0..numbers.len() {
-        copy_sector(m, data_place(slot, i as u64), sizes.home_of(numbers[i]))?;
-    }
-    Ok(())
-}
-
-// Copies the record of this stamp home, if it is whole.
+// Copies the record of this stamp home, which is whole.
 fn copy_record<M: Medium>(m: &mut M, sizes: &Super, stamp: u64) -> Result<(), MediumFault>
-    requires { sectors_of (shape_of sizes.now) ≤ (M.state m.old).size }
-    ensures home { (entries : List Entry)
+    requires fits { sectors_of (shape_of sizes.now) ≤ (M.state m.old).size }
+    requires whole { HasWhole (shape_of sizes.now) (M.state m.old).content stamp }
+    ensures done { (entries : List Entry)
         → IsWhole (shape_of sizes.now) (M.state m.old).content stamp entries
-        → OnOk result ((b : ℕ) → (M.state m.new).content (first_home (shape_of sizes.now) + b)
-        ≡ with_blocks entries (home_of (shape_of sizes.now) (M.state m.old).content) b) }
+        → OnOk result ((i : ℕ) → i < length entries → (M.state m.new).content
+        (first_home (shape_of sizes.now) + (get_or entries i (0, [])).0) ≡ block_of entries i) }
     ensures elsewhere { (x : ℕ)
         → ¬ IsHomeInRecord (shape_of sizes.now) (M.state m.old).content stamp x
         → (M.state m.new).content x ≡ (M.state m.old).content x }
     ensures within { StaysWithin
         (freed_at (IsHomeInRecord (shape_of sizes.now) (M.state m.old).content stamp)
         (M.state m.old).may_leave) (M.state m.old) (M.state m.new) }
-    ensures calls { (M.state m.new).calls ≤ (M.state m.old).calls + 98 }
+    ensures calls { (M.state m.new).calls
+        ≤ (M.state m.old).calls + most_calls_of sizes.now.format }
     ensures exact { (entries : List Entry)
         → IsWhole (shape_of sizes.now) (M.state m.old).content stamp entries
-        → OnOk result ((M.state m.new).calls ≡ (M.state m.old).calls + 2 + 2 * length entries) }
+        → OnOk result ((M.state m.new).calls
+        ≡ (M.state m.old).calls + calls_of sizes.now.format (length entries)) }
     ensures cause { IfErr result (IsRefusedCall (M.state m.old) (M.state m.new)) }
     ensures follows { M.follows m.old m.new }
 {
-    match read_record(m, sizes, stamp)? {
-        None => Ok(()),
-        Some(record) => copy_blocks(m, sizes, slot_of(stamp, sizes.slots), &record.numbers),
+    match sizes.format {
+        LogFormat::One => copies_one::copy_record(m, sizes, stamp),
+        LogFormat::Two => copies_two::copy_record(m, sizes, stamp),
     }
 }
 
@@ -94,6 +72,8 @@ fn copy_record<M: Medium>(m: &mut M, sizes: &Super, stamp: u64) -> Result<(), Me
 pub(crate) fn copy_records<M: Medium>(m: &mut M, found: &Found) -> Result<(), MediumFault>
     requires fits { sectors_of (shape_of found.now.sizes) ≤ (M.state m.old).size }
     requires stamps { found.now.head + found.now.count < 2 ^ 63 }
+    requires whole { (j : ℕ) → j < found.now.count → HasWhole (shape_of found.now.sizes)
+        (M.state m.old).content (found.now.head + j) }
     ensures home { (records : List (List Entry)) → found.now.count ≡ length records
         → ((k : ℕ) → k < length records → IsWhole (shape_of found.now.sizes)
         (M.state m.old).content (found.now.head + k) (get_or records k []))
@@ -107,11 +87,13 @@ pub(crate) fn copy_records<M: Medium>(m: &mut M, found: &Found) -> Result<(), Me
         (freed_at (IsHomeInRecords (shape_of found.now.sizes) (M.state m.old).content
         found.now.head found.now.count) (M.state m.old).may_leave)
         (M.state m.old) (M.state m.new) }
-    ensures calls { (M.state m.new).calls ≤ (M.state m.old).calls + 98 * found.now.count }
+    ensures calls { (M.state m.new).calls
+        ≤ (M.state m.old).calls + most_calls_of found.now.sizes.format * found.now.count }
     ensures exact { (records : List (List Entry)) → found.now.count ≡ length records
         → ((k : ℕ) → k < length records → IsWhole (shape_of found.now.sizes)
         (M.state m.old).content (found.now.head + k) (get_or records k []))
-        → OnOk result ((M.state m.new).calls ≡ (M.state m.old).calls + copy_calls records) }
+        → OnOk result ((M.state m.new).calls
+        ≡ (M.state m.old).calls + copy_calls found.now.sizes.format records) }
     ensures cause { IfErr result (IsRefusedCall (M.state m.old) (M.state m.new)) }
     ensures follows { M.follows m.old m.new }
 {

@@ -2,25 +2,26 @@
 ghost use Rattle.std.specs.Prelude.{◌≡◌, ◌≢◌, ◌<◌, ◌≤◌, ◌+◌, ◌-◌, ◌*◌, ℕ, OnOk, OnErr, IfErr, MatchOption, replicate};
 ghost use Rattle.medium.specs.Medium.{Holds};
 ghost use Rattle.medium.specs.Moments.{IsFlushed, LeavesOnly, StaysWithin};
-ghost use Rattle.log_layout.specs.Places.{Shape, sectors_of};
+ghost use Rattle.log_layout.specs.declared.log_format.LogFormat.TheVariants.{One, Two};
+ghost use Rattle.log_layout.specs.Places.{new_shape, sectors_of};
 ghost use Rattle.log_layout.specs.Values.{shape_of};
 ghost use Rattle.recovery.specs.Copies.{freed_at, WithOrWithout, IsBetween};
 ghost use Rattle.recovery.specs.Formatted.{AreSizes, IsFormatted, FormatLeaves, IsFormatCause};
 
 use crate::FormatFault;
-use log_layout::{Head, Super};
+use log_layout::{Head, LogFormat, Super};
 use medium::{Medium, MediumFault};
 
 // These sizes, where they are in their limits and this many sectors are enough for them.
-fn sizes_of(sectors: u64, blocks: u64, slots: u64) -> Option<Super>
-    ensures { let shape : Shape = record { blocks = blocks; slots = slots } in
+fn sizes_of(format: LogFormat, sectors: u64, blocks: u64, slots: u64) -> Option<Super>
+    ensures { let shape = new_shape format blocks slots in
         MatchOption result (¬ AreSizes sectors shape)
         (λ sizes. (shape_of sizes ≡ shape) × AreSizes sectors shape) }
 {
     if blocks < 1 || blocks > 1 << 31 || slots < 1 || slots > 64 {
         return None;
     }
-    let sizes = Super::new(blocks, slots);
+    let sizes = Super::new(format, blocks, slots);
     if sizes.sectors() <= sectors {
         Some(sizes)
     } else {
@@ -89,24 +90,62 @@ fn write_image<M: Medium>(m: &mut M, sizes: &Super) -> Result<(), MediumFault>
     write_through(m, 0, &sizes.encode())
 }
 
-/// Makes an image of so many blocks of zeros, 1 to 2^31, with so many log slots, 1 to 64.
-///
-/// It takes `2 + 50 * slots + blocks` sectors. Until its first good flush a cut may leave what it could
-/// leave before, from then on no super, and in the end the new image.
-pub fn format<M: Medium>(m: &mut M, blocks: u64, slots: u64) -> Result<(), FormatFault>
-    ensures ok { let shape : Shape = record { blocks = blocks; slots = slots } in
+// Makes an image of this format.
+fn make<M: Medium>(m: &mut M, format: LogFormat, blocks: u64, slots: u64) -> Result<(), FormatFault>
+    ensures ok { let shape = new_shape format blocks slots in
         OnOk result (IsFormatted shape (M.state m.new)) }
-    ensures err { let shape : Shape = record { blocks = blocks; slots = slots } in
+    ensures err { let shape = new_shape format blocks slots in
         IfErr result (IsFormatCause shape (M.state m.old) (M.state m.new)) }
     ensures untouched { IfErr result (λ fault. fault ≡ FormatFault.BadSize → m.new ≡ m.old) }
-    ensures leaves { let shape : Shape = record { blocks = blocks; slots = slots } in
+    ensures leaves { let shape = new_shape format blocks slots in
+        FormatLeaves shape (M.state m.old) (M.state m.new) }
+    ensures size { (M.state m.new).size ≡ (M.state m.old).size }
+    ensures calls { let shape = new_shape format blocks slots in
+        OnOk result ((M.state m.new).calls ≡ (M.state m.old).calls + sectors_of shape + 5) }
+    ensures follows { M.follows m.old m.new }
+{
+    let sizes = sizes_of(format, m.sectors(), blocks, slots).ok_or(FormatFault::BadSize)?;
+    write_image(m, &sizes)?;
+    Ok(())
+}
+
+/// Makes an image of format 1, of so many blocks of zeros, 1 to 2^31, with so many log slots, 1 to
+/// 64.
+///
+/// It takes `2 + 50 * slots + blocks` sectors. Until its first good flush a cut may leave what it
+/// could leave before, from then on no super, and in the end the new image.
+pub fn format<M: Medium>(m: &mut M, blocks: u64, slots: u64) -> Result<(), FormatFault>
+    ensures ok { let shape = new_shape One blocks slots in
+        OnOk result (IsFormatted shape (M.state m.new)) }
+    ensures err { let shape = new_shape One blocks slots in
+        IfErr result (IsFormatCause shape (M.state m.old) (M.state m.new)) }
+    ensures untouched { IfErr result (λ fault. fault ≡ FormatFault.BadSize → m.new ≡ m.old) }
+    ensures leaves { let shape = new_shape One blocks slots in
         FormatLeaves shape (M.state m.old) (M.state m.new) }
     ensures size { (M.state m.new).size ≡ (M.state m.old).size }
     ensures calls { OnOk result ((M.state m.new).calls
         ≡ (M.state m.old).calls + 7 + 50 * slots + blocks) }
     ensures follows { M.follows m.old m.new }
 {
-    let sizes = sizes_of(m.sectors(), blocks, slots).ok_or(FormatFault::BadSize)?;
-    write_image(m, &sizes)?;
-    Ok(())
+    make(m, LogFormat::One, blocks, slots)
+}
+
+/// Makes an image of format 2, of so many blocks of zeros, 1 to 2^31, with so many log slots, 1 to
+/// 64.
+///
+/// It takes `2 + 249 * slots + blocks` sectors. A cut leaves the same as in a format of format 1.
+pub fn format2<M: Medium>(m: &mut M, blocks: u64, slots: u64) -> Result<(), FormatFault>
+    ensures ok { let shape = new_shape Two blocks slots in
+        OnOk result (IsFormatted shape (M.state m.new)) }
+    ensures err { let shape = new_shape Two blocks slots in
+        IfErr result (IsFormatCause shape (M.state m.old) (M.state m.new)) }
+    ensures untouched { IfErr result (λ fault. fault ≡ FormatFault.BadSize → m.new ≡ m.old) }
+    ensures leaves { let shape = new_shape Two blocks slots in
+        FormatLeaves shape (M.state m.old) (M.state m.new) }
+    ensures size { (M.state m.new).size ≡ (M.state m.old).size }
+    ensures calls { OnOk result ((M.state m.new).calls
+        ≡ (M.state m.old).calls + 7 + 249 * slots + blocks) }
+    ensures follows { M.follows m.old m.new }
+{
+    make(m, LogFormat::Two, blocks, slots)
 }

@@ -1,18 +1,23 @@
-//! The making of an image, and its recovery after any loss of power, format 1.
+//! The making of an image, and its recovery after any loss of power, in both formats.
 #![tactic(auto)]
 
 mod copies;
+mod copies_one;
+mod copies_two;
 mod format_fault;
 mod formatting;
 mod found;
 mod new_head;
+mod record_one;
+mod record_two;
 mod recovered;
 mod recovery;
+mod sector_two;
 mod start_fault;
 mod survey;
 
 pub use format_fault::FormatFault;
-pub use formatting::format;
+pub use formatting::{format, format2};
 pub use recovered::Recovered;
 pub use recovery::recover;
 pub use start_fault::StartFault;

@@ -5,8 +5,10 @@ ghost use Rattle.medium.specs.Medium.{Image};
 ghost use Rattle.medium.specs.Moments.{EachCut, LeavesOnly};
 ghost use Rattle.medium.specs.Blocks.{Array};
 ghost use Rattle.log_layout.specs.Places.{Shape};
-ghost use Rattle.log_layout.specs.Standing.{StandsFor, IsOurs};
+ghost use Rattle.log_image.specs.Standing.{StandsFor, IsOurs};
+ghost use Rattle.log_image.specs.ImageFaults.{HasShape};
 ghost use Rattle.recovery.specs.Causes.{IsCause, IsDeviceFault};
+ghost use Rattle.recovery.specs.Copies.{most_start_of};
 ghost use Rattle.recovery.specs.Recovered.{IsRecoveredFrom, IsFresh, IsOursForSome, IsOursWithNext, StandsForOneOf, SparesTheRest};
 
 use crate::copies::copy_records;
@@ -45,7 +47,10 @@ pub fn recover<M: Medium>(m: &mut M) -> Result<Recovered, StartFault>
     ensures spares { SparesTheRest (M.state m.old) (M.state m.new) }
     // Whatever the image: no count falls, and the size stays.
     ensures moments { LeavesOnly (λ _. Unit {0}) (M.state m.old) (M.state m.new) }
-    ensures calls { (M.state m.new).calls ≤ (M.state m.old).calls + 6 + 100 * 64 }
+    // Whatever the image, and where it has a super of a format.
+    ensures calls { (M.state m.new).calls ≤ (M.state m.old).calls + 6 + 738 * 64 }
+    ensures most { (shape : Shape) → HasShape (M.state m.old).size shape (M.state m.old).content
+        → (M.state m.new).calls ≤ (M.state m.old).calls + 6 + most_start_of shape.format * 64 }
     ensures follows { M.follows m.old m.new }
 {
     m.flush()?;

@@ -1,48 +1,39 @@
 //! What recovery reads before its first write.
-ghost use Rattle.std.specs.Prelude.{◌≡◌, ◌⊎◌, ◌<◌, ◌≤◌, ◌+◌, ◌*◌, ◌^◌, List, ℕ, OnOk, OnErr, IfOk, IfErr, length, min, All, IfSome, IsSomeAnd};
+ghost use Rattle.std.specs.Prelude.{◌≡◌, ◌<◌, ◌≤◌, ◌+◌, ◌*◌, ◌^◌, ℕ, OnOk, IfOk, IfErr, min, IsTrue, ◌↔◌};
 ghost use Rattle.medium.specs.Moments.{IsQuiet};
-ghost use Rattle.log_layout.specs.Places.{slot_place, sectors_of};
+ghost use Rattle.log_layout.specs.Places.{Shape, sectors_of};
 ghost use Rattle.log_layout.specs.Values.{shape_of};
-ghost use Rattle.log_layout.specs.Record.{Entry, numbers_of, entries_in, IsWhole};
-ghost use Rattle.log_layout.specs.Standing.{IsCount};
-ghost use Rattle.log_layout.specs.ImageFaults.{HasShape};
+ghost use Rattle.log_image.specs.Formats.{HasWhole};
+ghost use Rattle.log_image.specs.Standing.{IsCount};
+ghost use Rattle.log_image.specs.ImageFaults.{HasShape};
 ghost use Rattle.recovery.specs.Causes.{IsRefusedCall, IsCauseBy, MakesReadsAlone};
+ghost use Rattle.recovery.specs.Copies.{AreTries, most_reads_of};
 ghost use Rattle.recovery.specs.Found.{IsFound};
 
-use crate::StartFault;
 use crate::found::Found;
-use log_layout::{
-    Descriptor, Head, Super, SuperFault, commit_place, place_of, slot_of, whole_record,
-};
+use crate::record_one::read_record;
+use crate::{StartFault, record_two};
+use log_layout::{Head, LogFormat, Super, SuperFault};
 use medium::{Medium, MediumFault};
 
-/// Reads the record of a stamp, if it is whole.
-pub(crate) fn read_record<M: Medium>(
-    m: &mut M,
-    sizes: &Super,
-    stamp: u64,
-) -> Result<Option<Descriptor>, MediumFault>
+// Whether the record of a stamp is whole.
+fn is_whole<M: Medium>(m: &mut M, sizes: &Super, stamp: u64) -> Result<bool, MediumFault>
     requires { sectors_of (shape_of sizes.now) ≤ (M.state m.old).size }
     ensures quiet { IsQuiet (M.state m.old) (M.state m.new) }
     ensures reads { MakesReadsAlone (M.state m.old) (M.state m.new) }
-    ensures calls { (M.state m.new).calls ≤ (M.state m.old).calls + 2 }
-    ensures exact { OnOk result ((M.state m.new).calls ≡ (M.state m.old).calls + 2) }
+    ensures calls { (M.state m.new).calls
+        ≤ (M.state m.old).calls + most_reads_of sizes.now.format }
+    ensures exact { OnOk result
+        (AreTries sizes.now.format 1 (M.state m.old).calls (M.state m.new).calls) }
     ensures cause { IfErr result (IsRefusedCall (M.state m.old) (M.state m.new)) }
-    ensures some { IfOk result (λ found. IfSome found (λ d. IsWhole (shape_of sizes.now)
-        (M.state m.old).content stamp (entries_in (M.state m.old).content
-        (slot_place (shape_of sizes.now) stamp + 1) d.numbers.items)
-        × All (λ b. b < sizes.now.blocks) d.numbers.items)) }
-    ensures all { (entries : List Entry)
-        → IsWhole (shape_of sizes.now) (M.state m.old).content stamp entries
-        → IfOk result (λ found. IsSomeAnd found (λ d. d.numbers.items ≡ numbers_of entries)) }
+    ensures whole { IfOk result (λ whole. IsTrue whole
+        ↔ HasWhole (shape_of sizes.now) (M.state m.old).content stamp) }
     ensures follows { M.follows m.old m.new }
 {
-    let slot = slot_of(stamp, sizes.slots);
-    let mut descriptor = [0; 512];
-    m.read(place_of(slot), &mut descriptor)?;
-    let mut commit = [0; 512];
-    m.read(commit_place(slot), &mut commit)?;
-    Ok(whole_record(sizes.blocks, stamp, &descriptor, &commit))
+    match sizes.format {
+        LogFormat::One => Ok(read_record(m, sizes, stamp)?.is_some()),
+        LogFormat::Two => record_two::is_whole(m, sizes, stamp),
+    }
 }
 
 // Counts the whole records from the head on.
@@ -51,15 +42,16 @@ fn count_whole<M: Medium>(m: &mut M, sizes: &Super, head: u64) -> Result<u64, Me
     requires head { head < 2 ^ 63 }
     ensures quiet { IsQuiet (M.state m.old) (M.state m.new) }
     ensures reads { MakesReadsAlone (M.state m.old) (M.state m.new) }
-    ensures calls { (M.state m.new).calls ≤ (M.state m.old).calls + 2 * sizes.now.slots }
-    ensures exact { IfOk result (λ count. (M.state m.new).calls
-        ≡ (M.state m.old).calls + 2 * min (count + 1) sizes.now.slots) }
+    ensures calls { (M.state m.new).calls
+        ≤ (M.state m.old).calls + most_reads_of sizes.now.format * sizes.now.slots }
+    ensures exact { IfOk result (λ count. AreTries sizes.now.format
+        (min (count + 1) sizes.now.slots) (M.state m.old).calls (M.state m.new).calls) }
     ensures cause { IfErr result (IsRefusedCall (M.state m.old) (M.state m.new)) }
     ensures count { IfOk result (IsCount (shape_of sizes.now) (M.state m.old).content head) }
     ensures follows { M.follows m.old m.new }
 {
     for j in 0..sizes.slots {
-        if read_record(m, sizes, head + j)?.is_none() {
+        if !is_whole(m, sizes, head + j)? {
             return Ok(j);
         }
     }
@@ -101,9 +93,12 @@ fn read_super<M: Medium>(m: &mut M) -> Result<Super, StartFault>
 pub(crate) fn inspect<M: Medium>(m: &mut M) -> Result<Found, StartFault>
     ensures quiet { IsQuiet (M.state m.old) (M.state m.new) }
     ensures reads { MakesReadsAlone (M.state m.old) (M.state m.new) }
-    ensures calls { (M.state m.new).calls ≤ (M.state m.old).calls + 2 + 2 * 64 }
-    ensures exact { IfOk result (λ found. (M.state m.new).calls
-        ≡ (M.state m.old).calls + 2 + 2 * min (found.count + 1) found.sizes.slots) }
+    ensures calls { (M.state m.new).calls ≤ (M.state m.old).calls + 2 + 249 * 64 }
+    ensures most { (shape : Shape) → HasShape (M.state m.old).size shape (M.state m.old).content
+        → (M.state m.new).calls ≤ (M.state m.old).calls + 2 + most_reads_of shape.format * 64 }
+    ensures exact { IfOk result (λ found. AreTries found.sizes.format
+        (min (found.count + 1) found.sizes.slots) ((M.state m.old).calls + 2)
+        (M.state m.new).calls) }
     ensures err { IfErr result (IsCauseBy IsQuiet (M.state m.old) (M.state m.new)) }
     ensures ok { IfOk result (IsFound (M.state m.old).size (M.state m.old).content) }
     ensures follows { M.follows m.old m.new }

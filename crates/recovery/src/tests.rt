@@ -1,6 +1,7 @@
-//! Images of 16 blocks and 2 slots: 118 sectors, of which the first block is at home in sector 102.
+//! Images of format 1 have 16 blocks and 2 slots: 118 sectors, of which the first block is at home
+//! in sector 102. Those of format 2 have 40 blocks and 1 slot: 291 sectors, the first block in 251.
 use super::*;
-use log_layout::Super;
+use log_layout::{LogFormat, Super};
 use medium::{Kept, Medium, SimMedium, Switch};
 use std::alloc::AllocError;
 use std::test::Fail;
@@ -36,11 +37,16 @@ fn overwritten(
 ) -> Result<SimMedium, Fail> {
     let mut image = m.image().to_vec(rt.alloc())?;
     for (place, bytes) in changes {
-        for (to, from) in image.iter_mut().skip(*place).zip(bytes.iter()) {
-            *to = *from;
-        }
+        put(&mut image, *place, bytes);
     }
     Ok(SimMedium::new(rt.alloc(), image, 128).map_err(|_| AllocError)?)
+}
+
+// Writes these bytes from that place on.
+fn put(image: &mut [u8], place: usize, bytes: &[u8]) {
+    for (to, from) in image.iter_mut().skip(place).zip(bytes.iter()) {
+        *to = *from;
+    }
 }
 
 // What recovery answers for such an image.
@@ -55,7 +61,7 @@ fn answer(
 // The answer for this next stamp.
 fn with_next(next: u64) -> Result<Recovered, StartFault> {
     Ok(Recovered {
-        sizes: Super::new(16, 2),
+        sizes: Super::new(LogFormat::One, 16, 2),
         next,
     })
 }
@@ -194,6 +200,88 @@ fn a_record_that_is_not_whole_stays_where_it_is(rt: HostRuntime) -> Result<(), F
             (byte_of(&m, 107, 0), byte_of(&m, 108, 0)),
             (Some(0), Some(0))
         );
+    }
+    Ok(())
+}
+
+const SUPER_TWO: &[u8; 48] =
+    b"RDSUPER1\x02\0\0\0\0\0\0\0\xe8\x03\0\0\0\0\0\0\x08\0\0\0\0\0\0\0\x02\0\0\0\0\0\0\0\xca\x07\0\0\0\0\0\0";
+
+// The two descriptors, without their entries, and the commit of a record of stamp 1 with 31 blocks.
+const FIRST: &[u8; 32] = b"RDDESCR2\x01\0\0\0\0\0\0\0\x1f\0\0\0\0\0\0\0\0\0\0\0\0\0\0\0";
+
+const SECOND: &[u8; 32] = b"RDDESCR2\x01\0\0\0\0\0\0\0\x1f\0\0\0\0\0\0\0\x01\0\0\0\0\0\0\0";
+
+const COMMIT_TWO: &[u8; 24] = b"RDCOMMT2\x01\0\0\0\0\0\0\0\x1f\0\0\0\0\0\0\0";
+
+#[test]
+fn a_format_2_writes_its_super(rt: HostRuntime) -> Result<(), Fail> {
+    let image = vec![in rt.alloc(); 0xa5u8; 2994 * 512]?;
+    let mut m = SimMedium::new(rt.alloc(), image, 3000).map_err(|_| AllocError)?;
+    assert_eq!(rt; format2(&mut m, 1001, 8), Err(FormatFault::BadSize));
+    format2(&mut m, 1000, 8).map_err(|_| "no image")?;
+    assert!(rt; m.image().starts_with(SUPER_TWO));
+    assert_eq!(rt; recover(&mut m).map(|recovered| recovered.next), Ok(2));
+    Ok(())
+}
+
+// An image with a whole record of blocks 0 to 30, over which these bytes are written.
+fn with_record_two(rt: HostRuntime, changes: &[(usize, &[u8])]) -> Result<SimMedium, Fail> {
+    let zeros = vec![in rt.alloc(); 0u8; 291 * 512]?;
+    let mut m = SimMedium::new(rt.alloc(), zeros, 300).map_err(|_| AllocError)?;
+    format2(&mut m, 40, 1).map_err(|_| "no image")?;
+    let mut image = m.image().to_vec(rt.alloc())?;
+    put(&mut image, 2 * 512, FIRST);
+    put(&mut image, 3 * 512, SECOND);
+    put(&mut image, 250 * 512, COMMIT_TWO);
+    for i in 0..31 {
+        let entry = (2 + i / 30) * 512 + 32 + 16 * (i % 30);
+        put(
+            &mut image,
+            entry,
+            &[i as u8, 0, 0, 0, 0, 0, 0, 0, 0x40 + i as u8],
+        );
+        put(
+            &mut image,
+            (10 + i) * 512,
+            &[1, 0, 0, 0, 0, 0, 0, 0, 0x80 + i as u8],
+        );
+    }
+    for (place, bytes) in changes {
+        put(&mut image, *place, bytes);
+    }
+    Ok(SimMedium::new(rt.alloc(), image, 300).map_err(|_| AllocError)?)
+}
+
+// The bytes 0 and 8 of a sector.
+fn two_bytes_of(m: &SimMedium, sector: usize) -> (Option<u8>, Option<u8>) {
+    (byte_of(m, sector, 0), byte_of(m, sector, 8))
+}
+
+#[test]
+fn a_whole_record_of_format_2_goes_home(rt: HostRuntime) -> Result<(), Fail> {
+    let mut m = with_record_two(rt, &[])?;
+    assert_eq!(rt; recover(&mut m).map(|recovered| recovered.next), Ok(3));
+    assert_eq!(rt; two_bytes_of(&m, 251), (Some(0x40), Some(0x80)));
+    assert_eq!(rt; two_bytes_of(&m, 281), (Some(0x5e), Some(0x9e)));
+    Ok(())
+}
+
+// In turn: a data place of another stamp, a descriptor of another index, a number that does not
+// rise, a byte behind the last entry, a number that is no block's, and a commit of another count.
+#[test]
+fn a_record_of_format_2_that_is_not_whole_stays_where_it_is(rt: HostRuntime) -> Result<(), Fail> {
+    for (place, byte) in [
+        (12 * 512, 2),
+        (3 * 512 + 24, 0),
+        (3 * 512 + 32, 29),
+        (3 * 512 + 48, 1),
+        (3 * 512 + 32, 40),
+        (250 * 512 + 16, 30),
+    ] {
+        let mut m = with_record_two(rt, &[(place, &[byte])])?;
+        assert_eq!(rt; recover(&mut m).map(|recovered| recovered.next), Ok(2));
+        assert_eq!(rt; two_bytes_of(&m, 251), (Some(0), Some(0)));
     }
     Ok(())
 }

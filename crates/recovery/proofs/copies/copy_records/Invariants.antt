@@ -2,8 +2,9 @@ use Rattle.std.proofs.Common.{◌≡◌, ◌<◌, ◌≤◌, ◌+◌, ◌*◌, L
 use Rattle.medium.specs.Moments.{StaysWithin}
 use Rattle.log_layout.specs.Places.{first_home}
 use Rattle.log_layout.specs.Values.{shape_of}
-use Rattle.log_layout.specs.Record.{Entry, IsWhole, with_records, home_of}
-use Rattle.recovery.specs.Copies.{freed_at, copy_calls, IsHomeInRecords}
+use Rattle.log_image.specs.Record.{Entry, with_records, home_of}
+use Rattle.log_image.specs.Formats.{IsWhole}
+use Rattle.recovery.specs.Copies.{freed_at, copy_calls, most_calls_of, IsHomeInRecords}
 use Rattle.recovery.proofs.copies.copy_records.Given as goal
 
 abbrev pub invariant-loop-j : goal.invariant-loop-j
@@ -15,9 +16,9 @@ invariant-loop-j g l = record {
       → (g.M.Medium.state l.m).content x ≡ (g.M.Medium.state l.fn.m).content x;
   within : StaysWithin (freed_at (IsHomeInRecords (shape_of l.found.sizes) (g.M.Medium.state l.fn.m).content l.found.head l.found.count) (g.M.Medium.state l.fn.m).may_leave)
       (g.M.Medium.state l.fn.m) (g.M.Medium.state l.m);
-  calls : (g.M.Medium.state l.m).calls ≤ (g.M.Medium.state l.fn.m).calls + 98 * l.j;
+  calls : (g.M.Medium.state l.m).calls ≤ (g.M.Medium.state l.fn.m).calls + most_calls_of l.found.sizes.format * l.j;
   exact : (records : List (List Entry)) → l.found.count ≡ length records
       → ((k : ℕ) → k < length records → IsWhole (shape_of l.found.sizes) (g.M.Medium.state l.fn.m).content (l.found.head + k) (get_or records k []))
-      → (g.M.Medium.state l.m).calls ≡ (g.M.Medium.state l.fn.m).calls + copy_calls (take l.j records);
+      → (g.M.Medium.state l.m).calls ≡ (g.M.Medium.state l.fn.m).calls + copy_calls l.found.sizes.format (take l.j records);
   follows : g.M.Medium.follows l.fn.m l.m;
 }

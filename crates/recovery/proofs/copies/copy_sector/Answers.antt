@@ -1,3 +1,4 @@
+use Rattle.std.proofs.Common.{◌++◌, length, drop}
 use Rattle.recovery.proofs.Copying.{sector_copied}
 use Rattle.recovery.proofs.copies.copy_sector.Goals as goal
 
@@ -6,4 +7,5 @@ returns-clause-within g c =
     let old = g.M.Medium.state c.args.m.now in
     let mid = g.M.Medium.state c.read.new.self in
     let new = g.M.Medium.state c.write.new.self in
-    sector_copied c.args.to c.read.new.to old mid new (g.met.M.Medium.sound c.args.m.now) c.read.ensures.passes c.read.ensures.sets c.write.ensures.passes c.write.ensures.sets
+    sector_copied c.args.to (c.copy_from_slice.new.self ++ drop (length c.args.first.now) c.read.new.to) old mid new (g.met.M.Medium.sound c.args.m.now)
+    c.read.ensures.passes c.read.ensures.sets c.write.ensures.passes c.write.ensures.sets

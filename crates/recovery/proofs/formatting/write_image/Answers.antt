@@ -28,7 +28,7 @@ returns-in_err-write_through-clause-leaves g c =
     let shape = shape_of c.args.sizes.now in
     let old = g.M.Medium.state c.args.m.now in
     let first = g.M.Medium.state c.write_through.new.m in
-    first_leaves shape old first (replicate 512 0) refl (g.met.M.Medium.sound c.write_through.new.m) c.write_through.ensures.elsewhere c.write_through.ensures.moments c.write_through.ensures.most
+    first_leaves shape old first (omega (arith, c.args.sizes.now.home_is.0)) (replicate 512 0) refl (g.met.M.Medium.sound c.write_through.new.m) c.write_through.ensures.elsewhere c.write_through.ensures.moments c.write_through.ensures.most
 
 pub returns-in_err-clear-clause-leaves : goal.returns-in_err-clear-clause-leaves
 returns-in_err-clear-clause-leaves g c =
@@ -40,7 +40,7 @@ returns-in_err-clear-clause-leaves g c =
     let now = g.met.M.Medium.sound c.clear.new.m in
     let clearing = clear_leaves c.sectors.result first cleared done.1 done.0.here c.clear.ensures.within in
     let spared = subst (λ (n : ℕ). SparesFrom n first cleared) c.sectors.ensures (clear_spares 1 c.sectors.result first cleared now c.clear.ensures.elsewhere c.clear.ensures.within) in
-    then_leaves shape old first (replicate 512 0) refl (g.met.M.Medium.sound c.write_through.new.m) c.write_through.ensures.elsewhere c.write_through.ensures.moments
+    then_leaves shape old first (omega (arith, c.args.sizes.now.home_is.0)) (replicate 512 0) refl (g.met.M.Medium.sound c.write_through.new.m) c.write_through.ensures.elsewhere c.write_through.ensures.moments
     cleared c.in_ok-write_through.ensures.calls (none_leaves old.size shape first cleared clearing) spared
 
 pub returns-in_err-write_through-2-clause-leaves : goal.returns-in_err-write_through-2-clause-leaves
@@ -56,8 +56,8 @@ returns-in_err-write_through-2-clause-leaves g c =
     let headed = g.M.Medium.state c.write_through-2.new.m in
     let sound_headed = g.met.M.Medium.sound c.write_through-2.new.m in
     let heading = head_leaves c.encode.result first cleared headed now clearing c.write_through-2.ensures.moments in
-    let spared_too = spared_joined (sectors_of shape) first cleared headed spared (through_spares (sectors_of shape) 1 c.encode.result cleared headed (omega arith) sound_headed c.write_through-2.ensures.elsewhere c.write_through-2.ensures.moments) in
-    then_leaves shape old first (replicate 512 0) refl (g.met.M.Medium.sound c.write_through.new.m) c.write_through.ensures.elsewhere c.write_through.ensures.moments
+    let spared_too = spared_joined (sectors_of shape) first cleared headed spared (through_spares (sectors_of shape) 1 c.encode.result cleared headed (omega (arith, c.args.sizes.now.home_is.0)) sound_headed c.write_through-2.ensures.elsewhere c.write_through-2.ensures.moments) in
+    then_leaves shape old first (omega (arith, c.args.sizes.now.home_is.0)) (replicate 512 0) refl (g.met.M.Medium.sound c.write_through.new.m) c.write_through.ensures.elsewhere c.write_through.ensures.moments
     headed c.in_ok-write_through.ensures.calls (none_leaves old.size shape first headed heading) spared_too
 
 pub returns-clause-leaves : goal.returns-clause-leaves
@@ -73,11 +73,11 @@ returns-clause-leaves g c =
     let headed = g.M.Medium.state c.write_through-2.new.m in
     let sound_headed = g.met.M.Medium.sound c.write_through-2.new.m in
     let heading = head_leaves c.encode.result first cleared headed now clearing c.write_through-2.ensures.moments in
-    let spared_too = spared_joined (sectors_of shape) first cleared headed spared (through_spares (sectors_of shape) 1 c.encode.result cleared headed (omega arith) sound_headed c.write_through-2.ensures.elsewhere c.write_through-2.ensures.moments) in
+    let spared_too = spared_joined (sectors_of shape) first cleared headed spared (through_spares (sectors_of shape) 1 c.encode.result cleared headed (omega (arith, c.args.sizes.now.home_is.0)) sound_headed c.write_through-2.ensures.elsewhere c.write_through-2.ensures.moments) in
     let new = g.M.Medium.state c.write_through-3.new.m in
     let sound_new = g.met.M.Medium.sound c.write_through-3.new.m in
     let head = c.in_ok-write_through-2.ensures.done in
-    then_leaves shape old first (replicate 512 0) refl (g.met.M.Medium.sound c.write_through.new.m) c.write_through.ensures.elsewhere c.write_through.ensures.moments
+    then_leaves shape old first (omega (arith, c.args.sizes.now.home_is.0)) (replicate 512 0) refl (g.met.M.Medium.sound c.write_through.new.m) c.write_through.ensures.elsewhere c.write_through.ensures.moments
     new c.in_ok-write_through.ensures.calls
     (super_leaves old.size shape c.encode-2.result first headed new head.1
     (head.0.elsewhere 0 (λ e. omega arith) ∙ c.clear.ensures.elsewhere 0 (λ between. omega (arith, between.0)) ∙ done.0.here)
@@ -85,4 +85,4 @@ returns-clause-leaves g c =
     (subst (IsHead 1) (sym head.0.here) (subst (λ (n : ℕ). IsHead n c.encode.result) c.new.ensures c.encode.ensures))
     (λ x low high. head.0.elsewhere x (λ e. omega (arith, low, e)) ∙ c.in_ok-clear.ensures.zeros x (omega (arith, low)) (omega (arith, c.sectors.ensures, high)))
     heading c.write_through-3.ensures.moments)
-    (spared_joined (sectors_of shape) first headed new spared_too (through_spares (sectors_of shape) 0 c.encode-2.result headed new (omega arith) sound_new c.write_through-3.ensures.elsewhere c.write_through-3.ensures.moments))
+    (spared_joined (sectors_of shape) first headed new spared_too (through_spares (sectors_of shape) 0 c.encode-2.result headed new (omega (arith, c.args.sizes.now.home_is.0)) sound_new c.write_through-3.ensures.elsewhere c.write_through-3.ensures.moments))

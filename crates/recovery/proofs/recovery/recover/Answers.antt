@@ -1,10 +1,14 @@
-use Rattle.std.proofs.Common.{arith}
+use Rattle.std.proofs.Common.{◌≡◌, ◌≤◌, ◌+◌, ◌*◌, arith, sym, subst}
 use Rattle.std.proofs.lemmas.Result.{err_from_is_err_and}
 use Rattle.medium.proofs.Moments.{quiet_call, quiet_joined}
+use Rattle.log_layout.specs.Places.{Shape}
 use Rattle.log_layout.specs.Values.{shape_of}
+use Rattle.recovery.specs.Copies.{most_start_of}
 use Rattle.recovery.proofs.Causes.{cause_before, served}
 use Rattle.recovery.proofs.Recovering.{quiet_cuts, quiet_made, calls_made, made_joined, seen_cuts, seen_after, later_cuts, later_after, one_shape, copied_leaves, moved_leaves, recovered_fresh, recovered_from}
-use Rattle.recovery.proofs.Finding.{found_before}
+use Rattle.recovery.proofs.Copying.{log_ends}
+use Rattle.recovery.proofs.Finding.{found_before, shape_after, has_whole_same}
+use Rattle.recovery.proofs.Trying.{most_start, few_start, few_starts}
 use Rattle.recovery.proofs.Sparing.{quiet_spares, copies_spare, moves_spare, found_spares}
 use Rattle.recovery.proofs.recovery.recover.Goals as goal
 
@@ -16,9 +20,17 @@ pub copy_records-requires-clause-stamps : goal.copy_records-requires-clause-stam
 copy_records-requires-clause-stamps g c =
     let left = c.in_ok-found.ensures.ok.stamp_left in omega (arith, left)
 
+pub copy_records-requires-clause-whole : goal.copy_records-requires-clause-whole
+copy_records-requires-clause-whole g c j below =
+    let found = c.in_ok-found.found in
+    let mid = g.M.Medium.state c.flush.new.self in
+    let seen = g.M.Medium.state c.inspect.new.m in
+    has_whole_same (shape_of found.sizes) mid.content seen.content (found.head + j) c.inspect.ensures.quiet.content_stays (c.in_ok-found.ensures.ok.count.whole j below)
+
 pub move_head-requires-clause-inside : goal.move_head-requires-clause-inside
 move_head-requires-clause-inside g c =
-    let fits = c.in_ok-found.ensures.ok.shape.fits in let size = c.inspect.ensures.quiet.size_stays in let same = c.copy_records.ensures.within.size_stays in omega (arith, fits, size, same)
+    let fits = c.in_ok-found.ensures.ok.shape.fits in let size = c.inspect.ensures.quiet.size_stays in let same = c.copy_records.ensures.within.size_stays in
+    omega (arith, fits, size, same, log_ends (shape_of c.in_ok-found.found.sizes) c.in_ok-found.found.sizes.home_is)
 
 pub returns-in_err-flush-clause-cuts : goal.returns-in_err-flush-clause-cuts
 returns-in_err-flush-clause-cuts g c each =
@@ -230,3 +242,101 @@ returns-clause-spares g c =
     let new = g.M.Medium.state c.move_head.new.m in
     found_spares c.in_ok-found.found old seen new (g.met.M.Medium.sound c.args.m.now) (quiet_joined old mid seen flushed c.inspect.ensures.quiet) (found_before old mid c.in_ok-found.found flushed c.in_ok-found.ensures.ok)
     (moves_spare c.in_ok-found.found seen copied new (copies_spare c.in_ok-found.found seen copied (g.met.M.Medium.sound c.copy_records.new.m) c.copy_records.ensures.elsewhere c.copy_records.ensures.within) c.move_head.ensures.spares)
+
+pub returns-in_err-copy_records-clause-most : goal.returns-in_err-copy_records-clause-most
+returns-in_err-copy_records-clause-most g c shape has =
+    let old = g.M.Medium.state c.args.m.now in
+    let mid = g.M.Medium.state c.flush.new.self in
+    let flushed = quiet_call old mid c.flush.ensures.passes c.flush.ensures.content c.flush.ensures.sets in
+    let seen = g.M.Medium.state c.inspect.new.m in
+    let copied = g.M.Medium.state c.copy_records.new.m in
+    let found = c.in_ok-found.found in
+    let at_mid = c.in_ok-found.ensures.ok in
+    let few = at_mid.count.few in
+    let slots = found.sizes.most_slots in
+    let one : shape ≡ shape_of found.sizes = one_shape old mid seen (g.met.M.Medium.sound c.args.m.now) (g.met.M.Medium.sound c.flush.new.self) flushed c.flush.ensures.passes.calls_are c.in_ok-flush.ensures.ok c.inspect.ensures.quiet found at_mid shape has.super in
+    let most = most_start found.sizes.format old.calls mid.calls seen.calls copied.calls copied.calls found.count c.flush.ensures.passes.calls_are
+    (c.inspect.ensures.most (shape_of found.sizes) at_mid.shape) c.copy_records.ensures.calls (omega arith) (omega (arith, few, slots)) in
+    subst (λ (s : Shape). copied.calls ≤ old.calls + 6 + most_start_of s.format * 64) (sym one) most
+
+pub returns-in_err-copy_records-clause-calls : goal.returns-in_err-copy_records-clause-calls
+returns-in_err-copy_records-clause-calls g c =
+    let old = g.M.Medium.state c.args.m.now in
+    let mid = g.M.Medium.state c.flush.new.self in
+    let seen = g.M.Medium.state c.inspect.new.m in
+    let copied = g.M.Medium.state c.copy_records.new.m in
+    let found = c.in_ok-found.found in
+    let at_mid = c.in_ok-found.ensures.ok in
+    let few = at_mid.count.few in
+    let slots = found.sizes.most_slots in
+    few_starts found.sizes.format old.calls copied.calls
+    (most_start found.sizes.format old.calls mid.calls seen.calls copied.calls copied.calls found.count c.flush.ensures.passes.calls_are
+    (c.inspect.ensures.most (shape_of found.sizes) at_mid.shape) c.copy_records.ensures.calls (omega arith) (omega (arith, few, slots)))
+
+pub returns-in_err-move_head-clause-most : goal.returns-in_err-move_head-clause-most
+returns-in_err-move_head-clause-most g c shape has =
+    let old = g.M.Medium.state c.args.m.now in
+    let mid = g.M.Medium.state c.flush.new.self in
+    let flushed = quiet_call old mid c.flush.ensures.passes c.flush.ensures.content c.flush.ensures.sets in
+    let seen = g.M.Medium.state c.inspect.new.m in
+    let copied = g.M.Medium.state c.copy_records.new.m in
+    let found = c.in_ok-found.found in
+    let at_mid = c.in_ok-found.ensures.ok in
+    let few = at_mid.count.few in
+    let slots = found.sizes.most_slots in
+    let one : shape ≡ shape_of found.sizes = one_shape old mid seen (g.met.M.Medium.sound c.args.m.now) (g.met.M.Medium.sound c.flush.new.self) flushed c.flush.ensures.passes.calls_are c.in_ok-flush.ensures.ok c.inspect.ensures.quiet found at_mid shape has.super in
+    let most = most_start found.sizes.format old.calls mid.calls seen.calls copied.calls (g.M.Medium.state c.move_head.new.m).calls found.count c.flush.ensures.passes.calls_are
+    (c.inspect.ensures.most (shape_of found.sizes) at_mid.shape) c.copy_records.ensures.calls c.move_head.ensures.calls (omega (arith, few, slots)) in
+    subst (λ (s : Shape). (g.M.Medium.state c.move_head.new.m).calls ≤ old.calls + 6 + most_start_of s.format * 64) (sym one) most
+
+pub returns-in_err-move_head-clause-calls : goal.returns-in_err-move_head-clause-calls
+returns-in_err-move_head-clause-calls g c =
+    let old = g.M.Medium.state c.args.m.now in
+    let mid = g.M.Medium.state c.flush.new.self in
+    let seen = g.M.Medium.state c.inspect.new.m in
+    let copied = g.M.Medium.state c.copy_records.new.m in
+    let found = c.in_ok-found.found in
+    let at_mid = c.in_ok-found.ensures.ok in
+    let few = at_mid.count.few in
+    let slots = found.sizes.most_slots in
+    few_starts found.sizes.format old.calls (g.M.Medium.state c.move_head.new.m).calls
+    (most_start found.sizes.format old.calls mid.calls seen.calls copied.calls (g.M.Medium.state c.move_head.new.m).calls found.count c.flush.ensures.passes.calls_are
+    (c.inspect.ensures.most (shape_of found.sizes) at_mid.shape) c.copy_records.ensures.calls c.move_head.ensures.calls (omega (arith, few, slots)))
+
+pub returns-clause-most : goal.returns-clause-most
+returns-clause-most g c shape has =
+    let old = g.M.Medium.state c.args.m.now in
+    let mid = g.M.Medium.state c.flush.new.self in
+    let flushed = quiet_call old mid c.flush.ensures.passes c.flush.ensures.content c.flush.ensures.sets in
+    let seen = g.M.Medium.state c.inspect.new.m in
+    let copied = g.M.Medium.state c.copy_records.new.m in
+    let found = c.in_ok-found.found in
+    let at_mid = c.in_ok-found.ensures.ok in
+    let few = at_mid.count.few in
+    let slots = found.sizes.most_slots in
+    let one : shape ≡ shape_of found.sizes = one_shape old mid seen (g.met.M.Medium.sound c.args.m.now) (g.met.M.Medium.sound c.flush.new.self) flushed c.flush.ensures.passes.calls_are c.in_ok-flush.ensures.ok c.inspect.ensures.quiet found at_mid shape has.super in
+    let most = most_start found.sizes.format old.calls mid.calls seen.calls copied.calls (g.M.Medium.state c.move_head.new.m).calls found.count c.flush.ensures.passes.calls_are
+    (c.inspect.ensures.most (shape_of found.sizes) at_mid.shape) c.copy_records.ensures.calls c.move_head.ensures.calls (omega (arith, few, slots)) in
+    subst (λ (s : Shape). (g.M.Medium.state c.move_head.new.m).calls ≤ old.calls + 6 + most_start_of s.format * 64) (sym one) most
+
+pub returns-clause-calls : goal.returns-clause-calls
+returns-clause-calls g c =
+    let old = g.M.Medium.state c.args.m.now in
+    let mid = g.M.Medium.state c.flush.new.self in
+    let seen = g.M.Medium.state c.inspect.new.m in
+    let copied = g.M.Medium.state c.copy_records.new.m in
+    let found = c.in_ok-found.found in
+    let at_mid = c.in_ok-found.ensures.ok in
+    let few = at_mid.count.few in
+    let slots = found.sizes.most_slots in
+    few_starts found.sizes.format old.calls (g.M.Medium.state c.move_head.new.m).calls
+    (most_start found.sizes.format old.calls mid.calls seen.calls copied.calls (g.M.Medium.state c.move_head.new.m).calls found.count c.flush.ensures.passes.calls_are
+    (c.inspect.ensures.most (shape_of found.sizes) at_mid.shape) c.copy_records.ensures.calls c.move_head.ensures.calls (omega (arith, few, slots)))
+
+pub returns-in_err-found-clause-most : goal.returns-in_err-found-clause-most
+returns-in_err-found-clause-most g c shape has =
+    let old = g.M.Medium.state c.args.m.now in
+    let mid = g.M.Medium.state c.flush.new.self in
+    let flushed = quiet_call old mid c.flush.ensures.passes c.flush.ensures.content c.flush.ensures.sets in
+    few_start shape.format old.calls mid.calls (g.M.Medium.state c.inspect.new.m).calls c.flush.ensures.passes.calls_are
+    (c.inspect.ensures.most shape (shape_after old mid shape flushed has))

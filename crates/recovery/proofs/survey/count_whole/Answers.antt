@@ -1,29 +1,38 @@
 use Rattle.std.proofs.Common.{inl, inr, ◌∙◌, ◌+◌, sym, subst, arith}
 use Rattle.std.proofs.lemmas.Bool.{cases_eq}
-use Rattle.medium.proofs.Moments.{quiet_joined}
+use Rattle.medium.proofs.Moments.{quiet_start, quiet_joined}
 use Rattle.log_layout.specs.Values.{shape_of}
-use Rattle.log_layout.specs.Record.{HasWhole}
-use Rattle.log_layout.proofs.Wholeness.{HasWhole-same}
-use Rattle.recovery.proofs.Finding.{found_some}
+use Rattle.log_image.specs.Formats.{HasWhole}
+use Rattle.recovery.proofs.Finding.{has_whole_same}
+use Rattle.recovery.proofs.Trying.{no_tries, tries_joined}
 use Rattle.recovery.proofs.survey.count_whole.Goals as goal
+
+pub loop-j-init : goal.loop-j-init
+loop-j-init g c = record {
+  quiet = quiet_start (g.M.Medium.state c.args.m.now);
+  reads = λ kind other. λ i. (g.M.Medium.state c.args.m.now).made kind;
+  tries = no_tries c.args.sizes.now.format (g.M.Medium.state c.args.m.now).calls;
+  whole = λ k below. absurd (omega arith);
+  follows = g.met.M.Medium.follows_itself c.args.m.now;
+}
 
 pub loop-j-preserved : goal.loop-j-preserved
 loop-j-preserved g c =
     let shape = shape_of c.args.sizes.now in
     let old = g.M.Medium.state c.args.m.now in
     let mid = g.M.Medium.state c.loop-j.m in
-    let new = g.M.Medium.state c.read_record.new.m in
+    let new = g.M.Medium.state c.is_whole.new.m in
     let inv = c.loop-j.invariant in
-    let found = found_some c.in_ok-read_record.field-0 _ c.if-is_none.ensures c.in_ok-read_record.ensures.some in
-    let here : HasWhole shape mid.content (c.args.head + c.loop-j.j) = (_, found.1.0) in
-    let there = HasWhole-same shape mid.content old.content (c.args.head + c.loop-j.j) (λ x low high. sym (inv.quiet.content_stays x)) here in
+    let j = c.loop-j.j in
+    let here : HasWhole shape mid.content (c.args.head + j) = c.in_ok-is_whole.ensures.whole.0 c.if-not-branch.false in
+    let there = has_whole_same shape mid.content old.content (c.args.head + j) (λ x. sym (inv.quiet.content_stays x)) here in
     record {
-      quiet = quiet_joined old mid new inv.quiet c.read_record.ensures.quiet;
-      reads = λ kind other. c.read_record.ensures.reads kind other ∙ inv.reads kind other;
-      calls = omega (arith, inv.calls, c.in_ok-read_record.ensures.exact);
-      whole = λ k below. elim (cases_eq c.loop-j.j k) [
+      quiet = quiet_joined old mid new inv.quiet c.is_whole.ensures.quiet;
+      reads = λ kind other. c.is_whole.ensures.reads kind other ∙ inv.reads kind other;
+      tries = tries_joined c.args.sizes.now.format j 1 old.calls mid.calls new.calls inv.tries c.in_ok-is_whole.ensures.exact;
+      whole = λ k below. elim (cases_eq j k) [
         | inl is ↦ subst (λ n. HasWhole shape old.content (c.args.head + n)) is there
         | inr not ↦ inv.whole k (omega arith)
       ];
-      follows = g.met.M.Medium.follows_through c.args.m.now c.loop-j.m c.read_record.new.m inv.follows c.read_record.ensures.follows;
+      follows = g.met.M.Medium.follows_through c.args.m.now c.loop-j.m c.is_whole.new.m inv.follows c.is_whole.ensures.follows;
     }

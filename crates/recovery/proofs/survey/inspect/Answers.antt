@@ -2,8 +2,9 @@ use Rattle.std.proofs.Common.{◌∙◌, ◌+◌, sym, subst, arith}
 use Rattle.medium.proofs.Moments.{quiet_call, quiet_joined}
 use Rattle.log_layout.specs.Values.{shape_of}
 use Rattle.log_layout.specs.Sectors.{IsHead}
-use Rattle.log_layout.proofs.Wholeness.{IsCount-same}
-use Rattle.log_layout.proofs.StandingLaws.{count_stands}
+use Rattle.log_layout.proofs.Decoding.{IsSuper-one}
+use Rattle.log_image.proofs.StandingLaws.{IsCount-same, count_stands}
+use Rattle.recovery.proofs.Trying.{most_found}
 use Rattle.recovery.proofs.survey.inspect.Goals as goal
 
 pub returns-then-head-count-clause-ok : goal.returns-then-head-count-clause-ok
@@ -33,3 +34,53 @@ returns-else-head-count-clause-err g c =
       (shape, s.array, c.in-Some.head.stamp + c.in_ok-count.count + 1, s.stands, omega (arith, c.if-head-count.false)),
       quiet_joined old mid new (quiet_joined old seen mid c.read_super.ensures.quiet (quiet_call seen mid c.read.ensures.passes c.read.ensures.content c.read.ensures.sets)) c.count_whole.ensures.quiet,
     )
+
+pub returns-then-head-count-clause-quiet : goal.returns-then-head-count-clause-quiet
+returns-then-head-count-clause-quiet g c =
+    let old = g.M.Medium.state c.args.m.now in
+    let first = g.M.Medium.state c.read_super.new.m in
+    let second = g.M.Medium.state c.read.new.self in
+    let last = g.M.Medium.state c.count_whole.new.m in
+    let read = quiet_call first second c.read.ensures.passes c.read.ensures.content c.read.ensures.sets in
+    quiet_joined old first last c.read_super.ensures.quiet
+    (quiet_joined first second last read c.count_whole.ensures.quiet)
+
+pub returns-else-head-count-clause-quiet : goal.returns-else-head-count-clause-quiet
+returns-else-head-count-clause-quiet g c =
+    let old = g.M.Medium.state c.args.m.now in
+    let first = g.M.Medium.state c.read_super.new.m in
+    let second = g.M.Medium.state c.read.new.self in
+    let last = g.M.Medium.state c.count_whole.new.m in
+    let read = quiet_call first second c.read.ensures.passes c.read.ensures.content c.read.ensures.sets in
+    quiet_joined old first last c.read_super.ensures.quiet
+    (quiet_joined first second last read c.count_whole.ensures.quiet)
+
+pub returns-in_err-count-clause-most : goal.returns-in_err-count-clause-most
+returns-in_err-count-clause-most g c shape has =
+    let sizes = c.in_ok-sizes.sizes in
+    let old = g.M.Medium.state c.args.m.now in
+    let mid = g.M.Medium.state c.read.new.self in
+    let few = c.in_ok-sizes.sizes.most_slots in
+    most_found shape (shape_of sizes) sizes.slots old.calls mid.calls (g.M.Medium.state c.count_whole.new.m).calls
+    (IsSuper-one shape (shape_of sizes) (old.content 0) has.super c.in_ok-sizes.ensures.ok.super) few
+    (omega (arith, c.read_super.ensures.calls, c.read.ensures.passes.calls_are)) c.count_whole.ensures.calls
+
+pub returns-then-head-count-clause-most : goal.returns-then-head-count-clause-most
+returns-then-head-count-clause-most g c shape has =
+    let sizes = c.in_ok-sizes.sizes in
+    let old = g.M.Medium.state c.args.m.now in
+    let mid = g.M.Medium.state c.read.new.self in
+    let few = c.in_ok-sizes.sizes.most_slots in
+    most_found shape (shape_of sizes) sizes.slots old.calls mid.calls (g.M.Medium.state c.count_whole.new.m).calls
+    (IsSuper-one shape (shape_of sizes) (old.content 0) has.super c.in_ok-sizes.ensures.ok.super) few
+    (omega (arith, c.read_super.ensures.calls, c.read.ensures.passes.calls_are)) c.count_whole.ensures.calls
+
+pub returns-else-head-count-clause-most : goal.returns-else-head-count-clause-most
+returns-else-head-count-clause-most g c shape has =
+    let sizes = c.in_ok-sizes.sizes in
+    let old = g.M.Medium.state c.args.m.now in
+    let mid = g.M.Medium.state c.read.new.self in
+    let few = c.in_ok-sizes.sizes.most_slots in
+    most_found shape (shape_of sizes) sizes.slots old.calls mid.calls (g.M.Medium.state c.count_whole.new.m).calls
+    (IsSuper-one shape (shape_of sizes) (old.content 0) has.super c.in_ok-sizes.ensures.ok.super) few
+    (omega (arith, c.read_super.ensures.calls, c.read.ensures.passes.calls_are)) c.count_whole.ensures.calls

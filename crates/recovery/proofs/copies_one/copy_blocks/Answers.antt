@@ -1,0 +1,70 @@
+use Rattle.std.proofs.Common.{◌≡◌, inl, inr, ◌∙◌, ◌+◌, ◌*◌, ℕ, get_or, refl, sym, ap, arith}
+use Rattle.std.proofs.lemmas.Bool.{cases_eq}
+use Rattle.log_layout.specs.Places.{first_home}
+use Rattle.log_layout.specs.Values.{shape_of}
+use Rattle.recovery.specs.Copies.{IsHomeOf}
+use Rattle.recovery.proofs.Copying.{none_copied, copies_joined}
+use Rattle.recovery.proofs.WholeOne.{slot_one}
+use Rattle.recovery.proofs.copies_one.copy_blocks.Goals as goal
+
+pub copy_sector-requires-clause-from_inside : goal.copy_sector-requires-clause-from_inside
+copy_sector-requires-clause-from_inside g c =
+    let size = c.loop-i.invariant.within.size_stays in
+    let ends = slot_one (shape_of c.args.sizes.now) c.args.slot c.requires.format c.args.sizes.now.home_is c.requires.slot in
+    omega (arith, c.data_place.ensures, c.requires.fits, ends, c.requires.few, c.loop-i-test.true, size)
+
+pub copy_sector-requires-clause-to_inside : goal.copy_sector-requires-clause-to_inside
+copy_sector-requires-clause-to_inside g c =
+    let size = c.loop-i.invariant.within.size_stays in
+    let below = c.requires.inside c.loop-i.i 0 c.loop-i-test.true in
+    omega (arith, c.home_of.ensures, below, c.requires.fits, size)
+
+pub loop-i-init : goal.loop-i-init
+loop-i-init g c = record {
+  copied = λ k below. absurd (omega arith);
+  elsewhere = λ x not. refl;
+  within = none_copied (IsHomeOf (shape_of c.args.sizes.now) c.args.numbers.now) (g.M.Medium.state c.args.m.now) (g.met.M.Medium.sound c.args.m.now);
+  calls = omega arith;
+  follows = g.met.M.Medium.follows_itself c.args.m.now;
+}
+
+pub returns-in_err-copy_sector-clause-within : goal.returns-in_err-copy_sector-clause-within
+returns-in_err-copy_sector-clause-within g c =
+    copies_joined (IsHomeOf (shape_of c.args.sizes.now) c.args.numbers.now) (λ x. x ≡ c.home_of.result) (IsHomeOf (shape_of c.args.sizes.now) c.args.numbers.now)
+    (g.M.Medium.state c.args.m.now) (g.M.Medium.state c.loop-i.m) (g.M.Medium.state c.copy_sector.new.m) (g.met.M.Medium.sound c.loop-i.m)
+    (λ x h. h) (λ x e. (c.loop-i.i, c.loop-i-test.true, e ∙ c.home_of.ensures)) c.loop-i.invariant.within c.copy_sector.ensures.within
+
+pub returns-in_err-copy_sector-clause-elsewhere : goal.returns-in_err-copy_sector-clause-elsewhere
+returns-in_err-copy_sector-clause-elsewhere g c x not =
+    c.copy_sector.ensures.elsewhere x (λ e. not (c.loop-i.i, c.loop-i-test.true, e ∙ c.home_of.ensures)) ∙ c.loop-i.invariant.elsewhere x not
+
+pub loop-i-preserved : goal.loop-i-preserved
+loop-i-preserved g c =
+    let old = g.M.Medium.state c.args.m.now in
+    let mid = g.M.Medium.state c.loop-i.m in
+    let new = g.M.Medium.state c.copy_sector.new.m in
+    let shape = shape_of c.args.sizes.now in
+    let ns = c.args.numbers.now in
+    let i = c.loop-i.i in
+    let inv = c.loop-i.invariant in
+    let inside = c.loop-i-test.true in
+    let from : c.data_place.result ≡ 2 + 50 * c.args.slot + 1 + i = c.data_place.ensures in
+    let to : c.home_of.result ≡ first_home shape + get_or ns i 0 = c.home_of.ensures in
+    let ends = slot_one shape c.args.slot c.requires.format c.args.sizes.now.home_is c.requires.slot in
+    let few = c.requires.few in
+    record {
+      copied = λ k below. elim (cases_eq k i) [
+        | inl same ↦
+            ap (λ (j : ℕ). new.content (first_home shape + get_or ns j 0)) same ∙ ap new.content (sym to) ∙ c.in_ok-copy_sector.ensures.done ∙ ap mid.content from
+            ∙ inv.elsewhere (2 + 50 * c.args.slot + 1 + i) (λ h. let is = h.2 in omega (arith, is, ends, few, inside))
+            ∙ ap (λ (j : ℕ). old.content (2 + 50 * c.args.slot + 1 + j)) (sym same)
+        | inr other ↦
+            let up = c.requires.rising k i (omega arith) inside in
+            c.copy_sector.ensures.elsewhere (first_home shape + get_or ns k 0) (λ e. omega (arith, e, to, up)) ∙ inv.copied k (omega arith)
+      ];
+      elsewhere = λ x not. c.copy_sector.ensures.elsewhere x (λ e. not (i, inside, e ∙ to)) ∙ inv.elsewhere x not;
+      within = copies_joined (IsHomeOf shape ns) (λ x. x ≡ c.home_of.result) (IsHomeOf shape ns) old mid new (g.met.M.Medium.sound c.loop-i.m)
+          (λ x h. h) (λ x e. (i, inside, e ∙ to)) inv.within c.copy_sector.ensures.within;
+      calls = omega (arith, inv.calls, c.in_ok-copy_sector.ensures.exact);
+      follows = g.met.M.Medium.follows_through c.args.m.now c.loop-i.m c.copy_sector.new.m inv.follows c.copy_sector.ensures.follows;
+    }

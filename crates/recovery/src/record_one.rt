@@ -1,0 +1,41 @@
+//! The record of a stamp, in format 1.
+ghost use Rattle.std.specs.Prelude.{◌≡◌, ◌≤◌, ◌+◌, List, OnOk, IfOk, IfErr, IfSome, IsSomeAnd};
+ghost use Rattle.medium.specs.Moments.{IsQuiet};
+ghost use Rattle.log_layout.specs.declared.log_format.LogFormat.TheVariants.{One};
+ghost use Rattle.log_layout.specs.Places.{sectors_of};
+ghost use Rattle.log_layout.specs.Values.{shape_of};
+ghost use Rattle.log_image.specs.Record.{Entry, numbers_of};
+ghost use Rattle.log_image.specs.Formats.{IsWhole};
+ghost use Rattle.recovery.specs.Causes.{IsRefusedCall, MakesReadsAlone};
+
+use log_layout::{Descriptor, Super, commit_place, place_of, slot_of, whole_record};
+use medium::{Medium, MediumFault};
+
+/// Reads the record of a stamp, if it is whole.
+pub(crate) fn read_record<M: Medium>(
+    m: &mut M,
+    sizes: &Super,
+    stamp: u64,
+) -> Result<Option<Descriptor>, MediumFault>
+    requires format { sizes.now.format ≡ One }
+    requires fits { sectors_of (shape_of sizes.now) ≤ (M.state m.old).size }
+    ensures quiet { IsQuiet (M.state m.old) (M.state m.new) }
+    ensures reads { MakesReadsAlone (M.state m.old) (M.state m.new) }
+    ensures calls { (M.state m.new).calls ≤ (M.state m.old).calls + 2 }
+    ensures exact { OnOk result ((M.state m.new).calls ≡ (M.state m.old).calls + 2) }
+    ensures cause { IfErr result (IsRefusedCall (M.state m.old) (M.state m.new)) }
+    ensures some { IfOk result (λ found. IfSome found (λ d. (entries : List Entry)
+        × IsWhole (shape_of sizes.now) (M.state m.old).content stamp entries
+        × (d.numbers.items ≡ numbers_of entries))) }
+    ensures all { (entries : List Entry)
+        → IsWhole (shape_of sizes.now) (M.state m.old).content stamp entries
+        → IfOk result (λ found. IsSomeAnd found (λ d. d.numbers.items ≡ numbers_of entries)) }
+    ensures follows { M.follows m.old m.new }
+{
+    let slot = slot_of(stamp, sizes.slots);
+    let mut descriptor = [0; 512];
+    m.read(place_of(slot), &mut descriptor)?;
+    let mut commit = [0; 512];
+    m.read(commit_place(slot), &mut commit)?;
+    Ok(whole_record(sizes.blocks, stamp, &descriptor, &commit))
+}
