@@ -4,6 +4,7 @@ use Rattle.std.specs.Prelude.{if◌then◌else◌, ◌==◌}
 use Rattle.std.proofs.lemmas.Bool.Decides.{nat_tests}
 use Rattle.cache.specs.Blocks.{is_listed, Listed}
 use Rattle.cache.specs.Entries.{Entries}
+use Rattle.log_layout.specs.Places.{Shape}
 use Rattle.redo_log.specs.Batch.{IsBatch}
 use Rattle.blocks.specs.Kept.{IsBatchOf}
 
@@ -21,8 +22,8 @@ listed_at (n ∷ numbers) zero d below = ap (λ (t : Bool). if t then true else 
 listed_at (n ∷ numbers) (suc k) d below = or_else (n == get_or numbers k d) (is_listed numbers (get_or numbers k d)) (listed_at numbers k d (omega (arith, below)))
 
 -- a batch that holds blocks can be logged
-pub is_batch : (blocks : ℕ) (batch : Entries) → IsBatchOf blocks batch → 0 < length batch.numbers → IsBatch blocks batch.numbers batch.bytes
-is_batch blocks batch kept some = record {
+pub is_batch : (shape : Shape) (batch : Entries) → IsBatchOf shape batch → 0 < length batch.numbers → IsBatch shape batch.numbers batch.bytes
+is_batch shape batch kept some = record {
   some = some;
   few = omega (arith, kept.well_formed.within, kept.room);
   rising = kept.well_formed.rising;

@@ -6,8 +6,8 @@ use Rattle.std.proofs.Math.Seq.{take-length}
 use Rattle.medium.specs.Medium.{State, Image}
 use Rattle.medium.specs.Blocks.{Array, Write, apply, after}
 use Rattle.log_layout.specs.Places.{Shape}
-use Rattle.log_layout.specs.Record.{Entry, numbers_of, with_blocks}
-use Rattle.log_layout.specs.Standing.{IsOurs}
+use Rattle.log_image.specs.Record.{Entry, numbers_of, with_blocks}
+use Rattle.log_image.specs.Standing.{IsOurs}
 use Rattle.redo_log.specs.Value.{LogValue, HasRoom, begun}
 use Rattle.redo_log.specs.Batch.{IsBatch, entries_from, entries_of}
 use Rattle.redo_log.specs.Held.{View, HoldsView, MayLeave, with_record, with_begun}
@@ -17,7 +17,7 @@ use Rattle.cache.specs.Entries.{Entries, map_of}
 use Rattle.cache.proofs.Arrays.{over_put}
 use Rattle.blocks.specs.Book.{Same, Book, after_first, array_of, with_write, promised}
 use Rattle.blocks.specs.Finding.{StandsAs, MayFind}
-use Rattle.blocks.specs.StoreValue.{Cached, FitsBook, wants}
+use Rattle.blocks.specs.StoreValue.{Cached, FitsBook, wants, steps_for}
 
 -- blocks over two arrays that have the same block
 pub over_same : (blocks : Blocks) (a c : Array) (b : ℕ) → a b ≡ c b → over blocks a b ≡ over blocks c b
@@ -82,9 +82,22 @@ pub wants_most : (numbers : List ℕ) → wants numbers ≤ 1
 wants_most [] = omega arith
 wants_most (n ∷ numbers) = omega arith
 
-pub no_wants : (numbers : List ℕ) → wants numbers ≡ 0 → numbers ≡ []
-no_wants [] e = refl
-no_wants (n ∷ numbers) e = absurd (omega (arith, e))
+-- an empty batch takes no steps, and another takes some
+pub steps_for_none : (most : ℕ) (numbers : List ℕ) → numbers ≡ [] → steps_for most numbers ≡ 0
+steps_for_none most [] e = refl
+steps_for_none most (n ∷ numbers) e = absurd (cc e)
+
+pub steps_for_some : (most : ℕ) (numbers : List ℕ) → 0 < length numbers → steps_for most numbers ≡ most
+steps_for_some most [] some = absurd (omega (arith, some))
+steps_for_some most (n ∷ numbers) some = refl
+
+pub steps_for_most : (most : ℕ) (numbers : List ℕ) → steps_for most numbers ≤ most
+steps_for_most most [] = omega arith
+steps_for_most most (n ∷ numbers) = omega arith
+
+pub no_steps_for : (most : ℕ) (numbers : List ℕ) → 0 < most → steps_for most numbers ≡ 0 → numbers ≡ []
+no_steps_for most [] some e = refl
+no_steps_for most (n ∷ numbers) some e = absurd (omega (arith, some, e))
 
 -- an image that is ours for an array is ours for one with the same blocks
 pub ours_same : (size : ℕ) (shape : Shape) (image : Image) (a c : Array) (next : ℕ) → Same shape.blocks a c → IsOurs size shape image a next → IsOurs size shape image c next
@@ -103,15 +116,13 @@ ours_same size shape image a c next same ours = record {
     ends = ours.stands.ends;
     next_is = ours.stands.next_is;
   };
-  descriptors = ours.descriptors;
-  commits = ours.commits;
+  carries = ours.carries;
 }
 
 -- it stands so for that array
 pub stands_as : (size blocks : ℕ) (shape : Shape) (image : Image) (a c : Array) (next : ℕ) → shape.blocks ≡ blocks → Same blocks a c → IsOurs size shape image a next → StandsAs size blocks image c next
 stands_as size blocks shape image a c next is same ours =
-    let here : IsOurs size (record { blocks = shape.blocks; slots = shape.slots }) image c next = ours_same size shape image a c next (subst (λ n. Same n a c) (sym is) same) ours in
-    (shape.slots, subst (λ (n : ℕ). IsOurs size (record { blocks = n; slots = shape.slots }) image c next) is here)
+    (shape, is, ours_same size shape image a c next (subst (λ n. Same n a c) (sym is) same) ours)
 
 -- the log goes on, with the same array and the same record under way
 pub moves : (m m' : State) (s : Cached) (book : Book) (log' : LogValue) (view' : View) (f : FitsBook m s book) → HoldsView log' m' view'
@@ -136,7 +147,7 @@ moves m m' s book log' view' f holds array under_way ours shape stamp fewer = re
 }
 
 -- the frozen batch is begun
-pub begins : (m : State) (s : Cached) (book : Book) (f : FitsBook m s book) → HasRoom s.log → IsBatch s.log.shape.blocks s.frozen.numbers s.frozen.bytes
+pub begins : (m : State) (s : Cached) (book : Book) (f : FitsBook m s book) → HasRoom s.log → IsBatch s.log.shape s.frozen.numbers s.frozen.bytes
     → FitsBook m (record s { log = begun s.frozen.numbers s.log }) book
 begins m s book f room batch = record {
   view = with_begun (entries_of s.frozen.numbers s.frozen.bytes) f.view;

@@ -9,3 +9,5 @@ pub mod Reading
 pub mod Settling
 pub mod Room
 pub mod Counting
+pub mod Limits
+pub mod Retired

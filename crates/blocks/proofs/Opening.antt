@@ -6,10 +6,10 @@ use Rattle.medium.specs.Moments.{EachCut, IsFlushed, LeavesOnly}
 use Rattle.medium.specs.Blocks.{Array, Write, apply, after}
 use Rattle.medium.proofs.Moments.{at_exit, only_image}
 use Rattle.log_layout.specs.Places.{Shape}
-use Rattle.log_layout.specs.Standing.{StandsFor, Stands, IsOurs}
-use Rattle.log_layout.specs.ImageFaults as image
-use Rattle.log_layout.proofs.StandingLaws.{StandsFor-one}
-use Rattle.log_layout.proofs.FaultLaws.{HasFault-stands}
+use Rattle.log_image.specs.Standing.{StandsFor, Stands, IsOurs}
+use Rattle.log_image.specs.ImageFaults as image
+use Rattle.log_image.proofs.StandingLaws.{StandsFor-one}
+use Rattle.log_image.proofs.FaultLaws.{HasFault-stands}
 use Rattle.recovery.specs.Causes.{IsCause}
 use Rattle.recovery.specs.Recovered.{IsOursForSome, StandsForOneOf}
 use Rattle.recovery.specs.declared.start_fault.StartFault.{StartFault}
@@ -29,7 +29,7 @@ after_same [] a c b e = e
 after_same (w ∷ writes) a c b e = after_same writes (apply a w) (apply c w) b (apply_same w a c b e)
 
 may_find_ours : (size : ℕ) (book : Book) (image : Image) → MayFind size book image → IsOursForSome size image
-may_find_ours size book image m = (record { blocks = book.blocks; slots = m.stands.0 }, after_first m.count book, m.next, m.stands.1)
+may_find_ours size book image m = (m.stands.0, after_first m.count book, m.next, m.stands.2)
 
 -- what may be found of a book is ours
 pub found_ours : (size : ℕ) (book : Book) (write : Option Write) (image : Image) → FoundWith size book write image → IsOursForSome size image
@@ -40,18 +40,18 @@ found_ours size book (Some w) image m = ⊎_elim (may_find_ours size book image)
 pub ours_for_opening : (size : ℕ) (book : Book) (image : Image) → StandsForOpening size book image → IsOursForSome size image
     → StandsAs size book.blocks image book.opening book.stamp
 ours_for_opening size book image there is =
-    let one = StandsFor-one size size is.0 (record { blocks = book.blocks; slots = there.0 }) image is.1 book.opening is.2 book.stamp is.3.stands there.1 in
-    let blocks_same : is.0.blocks ≡ book.blocks = ap (λ (x : Shape). x.blocks) one.0 in
+    let one = StandsFor-one size size is.0 there.0 image is.1 book.opening is.2 book.stamp is.3.stands there.2 in
+    let blocks_same : is.0.blocks ≡ book.blocks = ap (λ (x : Shape). x.blocks) one.0 ∙ there.1 in
     let arrays : Same book.blocks is.1 book.opening = subst (λ (n : ℕ). Same n is.1 book.opening) blocks_same one.2 in
     subst (λ (t : ℕ). StandsAs size book.blocks image book.opening t) one.1
     (stands_as size book.blocks is.0 image is.1 book.opening is.2 blocks_same arrays is.3)
 
 -- it stands for the opening of each book for which it is ours, and so for something
 pub stands_for_opening : (size : ℕ) (book : Book) (image : Image) → StandsAs size book.blocks image book.opening book.stamp → StandsForOpening size book image
-stands_for_opening size book image is = (is.0, is.1.stands)
+stands_for_opening size book image is = (is.0, is.1, is.2.stands)
 
 pub stands_for_some : (size : ℕ) (book : Book) (image : Image) → StandsForOpening size book image → Stands size image
-stands_for_some size book image there = (record { blocks = book.blocks; slots = there.0 }, book.opening, book.stamp, there.1)
+stands_for_some size book image there = (there.0, book.opening, book.stamp, there.2)
 
 -- ---- a start that is good
 
@@ -80,12 +80,11 @@ pub serves : (before after : State) (s : Cached) (array : Array) (next : ℕ) �
     → ((ours : Bool) → (ours ≡ true → EachCut (IsOursForSome before.size) before) → FitsBook after s (opened (blocks_of s) array next ours))
     → (book : Book) → OpensOn before book → FitsBook after s book
 serves before after s array next stood fits book on =
-    let shape : Shape = record { blocks = book.blocks; slots = on.stands.0 } in
-    let one = StandsFor-one before.size before.size (layout_of s) shape before.content array book.opening next book.stamp stood on.stands.1 in
+    let one = StandsFor-one before.size before.size (layout_of s) on.stands.0 before.content array book.opening next book.stamp stood on.stands.2 in
     let f : FitsBook after s (opened (blocks_of s) book.opening next book.ours) =
     reopened after s (opened (blocks_of s) array next book.ours) book.opening one.2 (fits book.ours on.ours) in
     subst (FitsBook after s) (sym on.opens)
-    (subst (λ (n : ℕ). FitsBook after s (opened n book.opening book.stamp book.ours)) (ap (λ (x : Shape). x.blocks) one.0)
+    (subst (λ (n : ℕ). FitsBook after s (opened n book.opening book.stamp book.ours)) (ap (λ (x : Shape). x.blocks) one.0 ∙ on.stands.1)
     (subst (λ (t : ℕ). FitsBook after s (opened (blocks_of s) book.opening t book.ours)) one.1 f))
 
 -- contents that stand for something open a book that claims no more
@@ -93,7 +92,7 @@ pub opens_on : (m : State) (shape : Shape) (array : Array) (next : ℕ) → Stan
     → OpensOn m (opened shape.blocks array next false)
 opens_on m shape array next stood = record {
   opens = refl;
-  stands = (shape.slots, stood);
+  stands = (shape, refl, stood);
   ours = λ ours. absurd (false≢true ours);
 }
 
@@ -102,7 +101,7 @@ opens_on m shape array next stood = record {
 module _ (before after : State) (sound : IsSound after) (size_stays : after.size ≡ before.size) (book : Book) (on : OpensOn before book)
     (flushed : IsFlushed before) where
   -- an image that is ours for the blocks of the book, with its stamp or the next
-  may_find_by : (image : Image) (next : ℕ) (shape : Shape) (found : Array) → (record { blocks = book.blocks; slots = on.stands.0 } ≡ shape)
+  may_find_by : (image : Image) (next : ℕ) (shape : Shape) (found : Array) → shape.blocks ≡ book.blocks
       → ((x : ℕ) → x < book.blocks → book.opening x ≡ found x) → next ≤ book.stamp + 1 → IsOurs before.size shape image found next
       → MayFind before.size (opened book.blocks book.opening book.stamp book.ours) image
   may_find_by image next shape found same blocks_same bound is_ours = record {
@@ -110,7 +109,7 @@ module _ (before after : State) (sound : IsSound after) (size_stays : after.size
     next = next;
     promises = omega arith;
     accepted = omega arith;
-    stands = stands_as before.size book.blocks shape image found book.opening next (sym (ap (λ (x : Shape). x.blocks) same)) (λ b below. sym (blocks_same b below)) is_ours;
+    stands = stands_as before.size book.blocks shape image found book.opening next same (λ b below. sym (blocks_same b below)) is_ours;
     bound = omega (arith, bound);
   }
 
@@ -121,14 +120,15 @@ module _ (before after : State) (sound : IsSound after) (size_stays : after.size
       let was : IsOurs before.size one.shape before.content one.array one.next =
       subst (λ (i : Image). IsOurs before.size one.shape i one.array one.next)
       (only_image before.content before.may_leave flushed one.before one.allowed) one.was in
-      let shape : Shape = record { blocks = book.blocks; slots = on.stands.0 } in
-      let same = StandsFor-one before.size before.size shape one.shape before.content book.opening one.array book.stamp one.next on.stands.1 was.stands in
+      let same = StandsFor-one before.size before.size on.stands.0 one.shape before.content book.opening one.array book.stamp one.next on.stands.2 was.stands in
+      let blocks_same : one.shape.blocks ≡ book.blocks = sym (ap (λ (x : Shape). x.blocks) same.0) ∙ on.stands.1 in
+      let arrays : Same book.blocks book.opening one.array = subst (λ (n : ℕ). Same n book.opening one.array) on.stands.1 same.2 in
       let stamps : book.stamp ≡ one.next = same.1 in
       subst (λ (n : ℕ). MayFind n book image) (sym size_stays)
       (subst (λ (b : Book). MayFind before.size b image) (sym on.opens)
       (⊎_elim
-      (λ is. may_find_by image one.next one.shape one.array same.0 same.2 (omega (arith, stamps)) is)
-      (λ is. may_find_by image (one.next + 1) one.shape one.array same.0 same.2 (omega (arith, stamps)) is)
+      (λ is. may_find_by image one.next one.shape one.array blocks_same arrays (omega (arith, stamps)) is)
+      (λ is. may_find_by image (one.next + 1) one.shape one.array blocks_same arrays (omega (arith, stamps)) is)
       one.is))
 
 -- ---- why a start is refused
@@ -136,12 +136,11 @@ module _ (before after : State) (sound : IsSound after) (size_stays : after.size
 module _ (before after : State) (book : Book) (on : OpensOn before book) where
   no_fault : (fault : image.ImageFault) → image.HasFault before.size before.content fault → ⊥
   no_fault fault h =
-      HasFault-stands before.size before.content fault h (record { blocks = book.blocks; slots = on.stands.0 }, book.opening, book.stamp, on.stands.1)
+      HasFault-stands before.size before.content fault h (on.stands.0, book.opening, book.stamp, on.stands.2)
 
   used_up : image.HasNoStampLeft before.size before.content → 2 ^ 63 ≤ book.stamp
   used_up (shape, array, next, stood, past) =
-      let other : Shape = record { blocks = book.blocks; slots = on.stands.0 } in
-      let same = StandsFor-one before.size before.size shape other before.content array book.opening next book.stamp stood on.stands.1 in
+      let same = StandsFor-one before.size before.size shape on.stands.0 before.content array book.opening next book.stamp stood on.stands.2 in
       let stamps : next ≡ book.stamp = same.1 in
       omega (arith, stamps, past)
 

@@ -2,7 +2,7 @@
 use Rattle.std.proofs.Common.{◌≡◌, ◌≤◌, ◌<◌, ◌+◌, inl, inr, arith, sym, ◌∙◌, Bool, true, false, length}
 use Rattle.std.proofs.lemmas.Bool.{false≢true, cases_lt}
 use Rattle.medium.specs.Medium.{State}
-use Rattle.blocks.specs.StoreValue.{Cached, is_dead, wants, steps_left}
+use Rattle.blocks.specs.StoreValue.{Cached, is_dead, steps_for, batch_steps, steps_left}
 use Rattle.blocks.specs.Turns.{IsPaid}
 use Rattle.blocks.proofs.Stepping.{waiting_idle}
 
@@ -31,8 +31,8 @@ pays_none m old new fewer = record { most = omega arith; rest = λ lives. omega 
 -- the batches change places
 pub pays_swap : (m : State) (s : Cached) → s.log.steps_left ≡ 0 → IsPaid m m s (record s { active = s.frozen; frozen = s.active })
 pays_swap m s idle =
-    let before = waiting_idle s.log.steps_left (wants s.frozen.numbers) idle in
-    let after = waiting_idle s.log.steps_left (wants s.active.numbers) idle in
+    let before = waiting_idle s.log.steps_left (steps_for (batch_steps s) s.frozen.numbers) idle in
+    let after = waiting_idle s.log.steps_left (steps_for (batch_steps s) s.active.numbers) idle in
     pays_none m s (record s { active = s.frozen; frozen = s.active }) (λ lives. omega (arith, before, after))
 
 -- a log without room and without a record under way has one to retire

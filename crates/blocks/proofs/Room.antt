@@ -37,7 +37,7 @@ most_one old new so_far = ⊎_elim (λ same. omega (arith, same)) (λ freed. ome
 
 -- so far nothing but retire steps of the oldest record were made, or that is retired
 abbrev pub RetiresOldest : LogValue → LogValue → Type 0
-RetiresOldest old new = (new ≡ record old { retire_steps_left = new.retire_steps_left }) ⊎ (new ≡ oldest_retired old)
+RetiresOldest old new = (new ≡ record old { retire_steps_left = new.retire_steps_left; kept = new.kept }) ⊎ (new ≡ oldest_retired old)
 
 -- one retire step more, of a log without room
 pub retires_more : (old mid new : LogValue) → (HasRoom mid → ⊥) → mid.under_way ≡ [] → mid.steps_left ≡ 0 → IsRetireStepped mid new
@@ -46,8 +46,8 @@ retires_more old mid new full under_way idle stepped one so_far = ⊎_elim
     (λ same. ⊎_elim
     (λ more.
     let is = stepped.more more in
-    let all = is ∙ ap (λ (l : LogValue). record l { retire_steps_left = mid.retire_steps_left - 1 }) same in
-    inl (all ∙ ap (λ (n : ℕ). record old { retire_steps_left = n }) (sym (ap (λ (l : LogValue). l.retire_steps_left) all))))
+    let all = is ∙ ap (λ (l : LogValue). record l { retire_steps_left = mid.retire_steps_left - 1; kept = new.kept }) same in
+    inl (all ∙ ap (λ (n : ℕ). record old { retire_steps_left = n; kept = new.kept }) (sym (ap (λ (l : LogValue). l.retire_steps_left) all))))
     (λ few.
     let is = stepped.last (omega (arith, few, stepped.some)) in
     inr (is ∙ ap (λ (l : LogValue). oldest_retired l) same))

@@ -5,16 +5,16 @@ use Rattle.std.proofs.lemmas.List.{length-map}
 use Rattle.medium.specs.Medium.{State, Image}
 use Rattle.medium.specs.Moments.{EachCut}
 use Rattle.medium.specs.Blocks.{Array}
-use Rattle.log_layout.specs.Record.{Entry, numbers_of, with_records, home_of}
+use Rattle.log_image.specs.Record.{Entry, numbers_of, with_records, home_of}
 use Rattle.redo_log.specs.Value.{LogValue, Owes, retire_steps_of}
-use Rattle.redo_log.specs.Logged.{Logged}
+use Rattle.log_image.specs.Standing.{Keeps}
 use Rattle.redo_log.proofs.Handing.{home_is}
 use Rattle.cache.specs.Blocks.{over}
 use Rattle.cache.specs.Entries.{map_of}
 use Rattle.blocks.specs.Book.{Book, array_of}
-use Rattle.blocks.specs.StoreValue.{Cached, layout_of, is_dead, wants, steps_left, FitsBook}
+use Rattle.blocks.specs.StoreValue.{Cached, layout_of, is_dead, steps_for, batch_steps, steps_left, FitsBook}
 use Rattle.blocks.specs.Settled.{IsAtHome, IsSettled}
-use Rattle.blocks.proofs.Fitting.{over_none, wants_none}
+use Rattle.blocks.proofs.Fitting.{over_none, steps_for_none}
 use Rattle.blocks.proofs.Stepping.{waiting_idle, nothing_left, settles_all}
 
 -- a list without elements is empty
@@ -44,17 +44,16 @@ module _ (m : State) (s : Cached) (live : is_dead s ≡ false) (none : steps_lef
       home_is s.log m f.view f.holds live b (omega (arith, below, f.blocks)) (λ age waits. absurd (omega (arith, waits, ap (λ (l : List (List ℕ)). length l) empty)))
       ∙ durable book f b below
 
-  left_home : (book : Book) (f : FitsBook m s book) (b : ℕ) → b < book.blocks → (image : Image) → Logged s.log.shape s.log.head f.view.records f.view.array image
+  left_home : (book : Book) (f : FitsBook m s book) (b : ℕ) → b < book.blocks → (image : Image) → Keeps s.log.shape image s.log.head f.view.records f.view.array
       → home_of s.log.shape image b ≡ array_of book b
-  left_home book f b below image logged =
+  left_home book f b below image keeps =
       sym (home_alone f.view.records (home_of s.log.shape image) b (no_records book f))
-      ∙ (logged.keeps.blocks b (omega (arith, below, f.blocks)) ∙ durable book f b below)
+      ∙ (keeps.blocks b (omega (arith, below, f.blocks)) ∙ durable book f b below)
 
   cut_home : (book : Book) → FitsBook m s book → book.ours ≡ true → EachCut (IsAtHome (layout_of s) book) m
-  cut_home book f ours image cut b below = ⊎_elim
-      (λ rest. left_home book f b below image rest)
-      (λ more. absurd (omega (arith, more.0, none)))
-      ((f.holds.guards live (f.ours ∙ ours)).each image cut)
+  cut_home book f ours image cut b below =
+      let safe = (f.holds.guards live (f.ours ∙ ours)).each image cut in
+      left_home book f b below image (safe.rests (omega (arith, none))).keeps
 
   -- a store without steps whose log has no record is at rest
   pub at_rest : s.log.under_way ≡ [] → IsSettled m s
@@ -80,9 +79,16 @@ settled m s owes under_way live none =
 
 -- no retire step is owed where no record waits and none is under way
 pub owes_none : (log : LogValue) → Owes log → log.under_way ≡ [] → log.waiting ≡ [] → log.retire_steps_left ≡ 0
-owes_none log owes under_way empty = owes.none_waits empty ∙ ap (λ (l : List ℕ). retire_steps_of l) under_way
+owes_none log owes under_way empty = owes.none_waits empty ∙ ap (λ (l : List ℕ). retire_steps_of log.shape.format l) under_way
 
 -- no step is left where no record is under way, none is owed, and both batches are empty
 pub none_left : (s : Cached) → s.log.steps_left ≡ 0 → s.log.retire_steps_left ≡ 0 → s.frozen.numbers ≡ [] → s.active.numbers ≡ [] → steps_left s ≡ 0
 none_left s idle owed frozen active =
-    omega (arith, waiting_idle s.log.steps_left (wants s.frozen.numbers) idle, wants_none s.frozen.numbers frozen, wants_none s.active.numbers active, idle, owed)
+    omega (
+      arith,
+      waiting_idle s.log.steps_left (steps_for (batch_steps s) s.frozen.numbers) idle,
+      steps_for_none (batch_steps s) s.frozen.numbers frozen,
+      steps_for_none (batch_steps s) s.active.numbers active,
+      idle,
+      owed,
+    )

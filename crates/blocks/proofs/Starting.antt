@@ -1,13 +1,17 @@
 -- The store that a recovery starts.
-use Rattle.std.proofs.Common.{◌≡◌, ℕ, [], refl, sym, subst, arith}
+use Rattle.std.proofs.Common.{◌≡◌, ◌≤◌, ℕ, [], false, refl, sym, subst, arith}
 use Rattle.std.specs.Prelude.{Bool, true}
 use Rattle.medium.specs.Medium.{State, Image, IsSound}
 use Rattle.medium.specs.Moments.{EachCut}
 use Rattle.medium.specs.Blocks.{Array}
-use Rattle.log_layout.specs.Places.{Shape}
+use Rattle.std.proofs.lemmas.Bool.{false≢true}
+use Rattle.log_layout.specs.Places.{Shape, limit_of, sectors_of}
+use Rattle.log_layout.specs.declared.super_sector.Super.{Super}
+use Rattle.log_layout.specs.declared.log_format.LogFormat.{LogFormat}
 use Rattle.log_layout.specs.Values.{shape_of}
-use Rattle.log_layout.specs.Standing.{IsOurs, DescriptorsBelow, CommitsBelow}
-use Rattle.log_layout.proofs.StandingLaws.{StandsFor-one}
+use Rattle.log_image.specs.Formats.{CarriesBelow}
+use Rattle.log_image.specs.Standing.{IsOurs}
+use Rattle.log_image.proofs.StandingLaws.{StandsFor-one}
 use Rattle.recovery.specs.Recovered as recovered
 use Rattle.recovery.specs.Recovered.{IsRecoveredFrom, IsOursForSome}
 use Rattle.recovery.specs.declared.recovered.Recovered.{Recovered}
@@ -17,6 +21,7 @@ use Rattle.redo_log.specs.Value.{idle_from}
 use Rattle.redo_log.proofs.Handing.{idle_holds}
 use Rattle.cache.specs.Entries.{Entries}
 use Rattle.blocks.specs.Book.{opened}
+use Rattle.blocks.specs.Kept.{IsBatchOf, IsKept}
 use Rattle.blocks.specs.StoreValue.{Cached, FitsBook}
 use Rattle.blocks.specs.Started.{IsStarted}
 use Rattle.blocks.proofs.Opening.{serves, opens_on}
@@ -25,17 +30,41 @@ use Rattle.blocks.proofs.Opening.{serves, opens_on}
 fresh_log : (shape : Shape) (array : Array) (next : ℕ) (image : Image) → recovered.IsFresh shape array next image → IsFresh shape next array image
 fresh_log shape array next image f = record {
   keeps = record { super = f.super; head_is = f.head; whole = λ j below. absurd (omega arith); blocks = f.home };
-  descriptors = f.descriptors;
-  commits = f.commits;
+  carries = λ slot o stamp low small c. omega (arith, f.carries slot o stamp low small c);
 }
 
--- an empty batch with room for 48 blocks
-abbrev pub empty_batch : Entries
-empty_batch = record { room = 48; numbers = []; bytes = [] }
+-- an empty batch with room for as many blocks as a record of this format
+abbrev pub empty_batch : LogFormat → Entries
+empty_batch format = record { room = limit_of format; numbers = []; bytes = [] }
 
 -- a store with nothing cached, whose first record takes this stamp
 abbrev pub started : Shape → ℕ → Cached
-started shape next = record { log = idle_from shape next; active = empty_batch; frozen = empty_batch }
+started shape next = record { log = idle_from shape next; active = empty_batch shape.format; frozen = empty_batch shape.format }
+
+-- it is kept as every store is
+pub started_kept : (size : ℕ) (sizes : Super) (next : ℕ) → sectors_of (shape_of sizes) ≤ size → IsKept size sizes (started (shape_of sizes) next) false
+started_kept size sizes next fits = record {
+  shape = refl;
+  fits = fits;
+  active = empty_kept;
+  frozen = empty_kept;
+  writes = λ live w. absurd (false≢true w);
+  rests = λ live w. refl;
+  under_way = λ live some. absurd (omega arith);
+  none_under_way = λ live none. refl;
+  ring = omega arith;
+  some = λ some. absurd (omega arith);
+  few_steps = omega arith;
+  few_retire_steps = omega arith;
+  owes = λ some. absurd (omega arith);
+}
+  where
+    empty_kept : IsBatchOf (shape_of sizes) (empty_batch sizes.format)
+    empty_kept = record {
+      well_formed = record { rising = λ i j less below. absurd (omega arith); sized = refl; within = omega arith };
+      room = refl;
+      inside = λ n listed. absurd (false≢true listed);
+    }
 
 -- it fits a life that opens with the array that is at home
 opens : (shape : Shape) (array : Array) (next : ℕ) (ours : Bool) (m : State) → HoldsView (idle_from shape next) m (resting_view array ours)
@@ -65,12 +94,10 @@ module _ (before after : State) (answer : Recovered) (from : IsRecoveredFrom bef
   was_ours each =
       let e = each before.content sound.holds_content in
       let one = StandsFor-one before.size before.size (shape_of answer.sizes) e.0 before.content from.array e.1 answer.next e.2 from.stood e.3.stands in
-      let descriptors = subst (λ (s : Shape). DescriptorsBelow s before.content e.2) (sym one.0) e.3.descriptors in
-      let commits = subst (λ (s : Shape). CommitsBelow s before.content e.2) (sym one.0) e.3.commits in
+      let carries = subst (λ (s : Shape). CarriesBelow s before.content e.2) (sym one.0) e.3.carries in
       record {
         stands = from.stood;
-        descriptors = subst (λ (n : ℕ). DescriptorsBelow (shape_of answer.sizes) before.content n) (sym one.1) descriptors;
-        commits = subst (λ (n : ℕ). CommitsBelow (shape_of answer.sizes) before.content n) (sym one.1) commits;
+        carries = subst (λ (n : ℕ). CarriesBelow (shape_of answer.sizes) before.content n) (sym one.1) carries;
       }
 
   -- the log and the medium hold the array, and under the premise what a cut may leave

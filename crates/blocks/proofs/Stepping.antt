@@ -1,5 +1,5 @@
 -- The turns of the store's own functions, from what the log's calls do.
-use Rattle.std.proofs.Common.{◌≡◌, ◌≤◌, ◌<◌, ℕ, ◌+◌, ◌*◌, ◌-◌, ◌^◌, zero, suc, inl, inr, ⊎_elim, arith, ◌∙◌, sym, refl, ap, true, List, [], ◌∷◌, length, drop, length-append}
+use Rattle.std.proofs.Common.{◌≡◌, ◌≤◌, ◌<◌, ℕ, ◌+◌, ◌-◌, ◌^◌, zero, suc, inl, inr, ⊎_elim, arith, ◌∙◌, sym, refl, ap, true, List, [], ◌∷◌, length, drop, length-append}
 use Rattle.std.proofs.lemmas.Bool.{false≢true, cases_lt}
 use Rattle.std.proofs.lemmas.List.{length-map}
 use Rattle.medium.specs.Medium.{State, IsSound}
@@ -7,7 +7,7 @@ use Rattle.medium.specs.Moments.{LeavesOnly, SparesFrom}
 use Rattle.medium.proofs.Moments.{started, weaker}
 use Rattle.medium.proofs.Sparing.{spared_start}
 use Rattle.log_layout.specs.Places.{sectors_of}
-use Rattle.log_layout.specs.Record.{Entry, numbers_of}
+use Rattle.log_image.specs.Record.{Entry, numbers_of}
 use Rattle.redo_log.specs.Value.{LogValue, HasRoom, begun, died, IsStepped, IsRetireStepped, behind_oldest}
 use Rattle.redo_log.specs.Batch.{IsBatch}
 use Rattle.redo_log.specs.Held.{View, HoldsView, MayLeave, with_record, view_retired, stamps_of}
@@ -18,9 +18,9 @@ use Rattle.cache.specs.Entries.{Entries, map_of}
 use Rattle.medium.specs.Blocks.{Write}
 use Rattle.blocks.specs.Book.{Book, promised}
 use Rattle.blocks.specs.Finding.{MayFind, Found}
-use Rattle.blocks.specs.StoreValue.{Cached, layout_of, wants, waiting, steps_left, FitsBook}
+use Rattle.blocks.specs.StoreValue.{Cached, layout_of, steps_for, batch_steps, waiting, steps_left, FitsBook}
 use Rattle.blocks.specs.Turns.{GoesOn, IsTurn, IsWriteTurn}
-use Rattle.blocks.proofs.Fitting.{moves, begins, becomes_durable, freezes, appends, settles, finds, no_wants}
+use Rattle.blocks.proofs.Fitting.{moves, begins, becomes_durable, freezes, appends, settles, finds, no_steps_for}
 use Rattle.blocks.proofs.Turning.{exits}
 
 -- no count has fallen, and the store lives as it did
@@ -143,7 +143,7 @@ module _ (m : State) (sound : IsSound m) (s : Cached) where
   still_found book f ours = started (MayFind m.size book) m sound (exits m s book f ours)
 
   -- the record of the frozen batch is begun
-  pub begins_record : HasRoom s.log → IsBatch s.log.shape.blocks s.frozen.numbers s.frozen.bytes → IsTurn m m s (record s { log = begun s.frozen.numbers s.log })
+  pub begins_record : HasRoom s.log → IsBatch s.log.shape s.frozen.numbers s.frozen.bytes → IsTurn m m s (record s { log = begun s.frozen.numbers s.log })
   begins_record room batch = record {
     fits = λ book f. begins m s book f room batch;
     cuts = still_found;
@@ -186,16 +186,17 @@ module _ (m : State) (sound : IsSound m) (s : Cached) where
     goes_on = here m sound s (record s { active = more }) refl refl;
   }
 
-pub waiting_idle : (steps wanted : ℕ) → steps ≡ 0 → waiting steps wanted ≡ 112 * wanted
-waiting_idle zero wanted e = refl
-waiting_idle (suc steps) wanted e = absurd (omega (arith, e))
+pub waiting_idle : (begun steps : ℕ) → begun ≡ 0 → waiting begun steps ≡ steps
+waiting_idle zero steps e = refl
+waiting_idle (suc begun) steps e = absurd (omega (arith, e))
 
 -- where no step is left both batches are empty
 pub nothing_left : (s : Cached) → steps_left s ≡ 0 → (s.frozen.numbers ≡ []) × (s.active.numbers ≡ [])
 nothing_left s none =
     let idle : s.log.steps_left ≡ 0 = omega (arith, none) in
-    let counted = waiting_idle s.log.steps_left (wants s.frozen.numbers) idle in
-    (no_wants s.frozen.numbers (omega (arith, none, counted)), no_wants s.active.numbers (omega (arith, none)))
+    let counted = waiting_idle s.log.steps_left (steps_for (batch_steps s) s.frozen.numbers) idle in
+    let some : 0 < batch_steps s = omega arith in
+    (no_steps_for (batch_steps s) s.frozen.numbers some (omega (arith, none, counted)), no_steps_for (batch_steps s) s.active.numbers some (omega (arith, none)))
 
 -- and every write is durable
 pub settles_all : (m : State) (s : Cached) (book : Book) → steps_left s ≡ 0 → FitsBook m s book → FitsBook m s (promised book)

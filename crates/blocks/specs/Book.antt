@@ -46,10 +46,11 @@ opened blocks array stamp ours = record { blocks = blocks; opening = array; stam
 abbrev pub StampsOut : Book → Type 0
 StampsOut book = 2 ^ 63 - 1 ≤ book.stamp + length book.writes
 
--- so many bytes are 1 to 48 whole blocks of 512 bytes, and from this address on end at the number of blocks or before
-pub record IsTransfer (blocks address size : ℕ) : Type 0 where
+-- so many bytes are whole blocks of 512 bytes, 1 to as many as the limit, and from this address on
+-- end at the number of blocks or before
+pub record IsTransfer (limit blocks address size : ℕ) : Type 0 where
   pub some : 512 ≤ size
-  pub most : size ≤ 48 * 512
+  pub most : size ≤ limit * 512
   pub whole : size % 512 ≡ 0
   pub inside : address + size / 512 ≤ blocks
 

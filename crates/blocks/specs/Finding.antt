@@ -1,16 +1,16 @@
 -- What a start after a loss of power may find.
-use Rattle.std.specs.Prelude.{◌⊎◌, ℕ, ◌+◌, ◌≤◌, length, Option, Some, None}
+use Rattle.std.specs.Prelude.{◌≡◌, ◌⊎◌, ℕ, ◌+◌, ◌≤◌, length, Option, Some, None}
 use Rattle.medium.specs.Medium.{Image}
 use Rattle.medium.specs.Blocks.{Array, Write}
 use Rattle.log_layout.specs.Places.{Shape}
-use Rattle.log_layout.specs.Standing.{IsOurs}
+use Rattle.log_image.specs.Standing.{IsOurs}
 use Rattle.blocks.specs.Book.{Book, after_first, with_write}
 
--- the image of a medium of so many sectors, with so many logical blocks and some log slots, is ours, and stands for this array
--- with this next stamp
+-- the image of a medium of so many sectors is ours, with so many logical blocks in some shape, and
+-- stands for this array with this next stamp
 abbrev pub StandsAs : ℕ → ℕ → Image → Array → ℕ → Type 0
-StandsAs size blocks image array next = (slots : ℕ)
-    × (let shape : Shape = record { blocks = blocks; slots = slots } in IsOurs size shape image array next)
+StandsAs size blocks image array next =
+    (shape : Shape) × (shape.blocks ≡ blocks) × IsOurs size shape image array next
 
 -- the image stands for the array after some of the first writes of the book, the promised ones at least
 pub record MayFind (size : ℕ) (book : Book) (image : Image) : Type 0 where

@@ -1,24 +1,26 @@
 -- What is true of the fields of every store.
 use Rattle.std.specs.Prelude.{◌≡◌, ℕ, ◌+◌, ◌*◌, ◌≤◌, ◌<◌, Bool, true, false, [], length}
-use Rattle.log_layout.specs.Places.{sectors_of}
+use Rattle.log_layout.specs.Places.{Shape, limit_of, sectors_of}
 use Rattle.log_layout.specs.Values.{shape_of}
 use Rattle.log_layout.specs.declared.super_sector.Super.{Super}
 use Rattle.cache.specs.Blocks.{Listed}
 use Rattle.cache.specs.Entries.{Entries, IsWellFormed}
+use Rattle.redo_log.specs.Value.{most_steps, most_retire_steps}
 use Rattle.blocks.specs.StoreValue.{Cached}
 
--- a batch of the store: it has room for 48 blocks, and each of its numbers is below the number of blocks
-pub record IsBatchOf (blocks : ℕ) (batch : Entries) : Type 0 where
+-- a batch of the store: it has room for as many blocks as a record has at most, and each of its
+-- numbers is below the number of blocks
+pub record IsBatchOf (shape : Shape) (batch : Entries) : Type 0 where
   pub well_formed : IsWellFormed batch
-  pub room : batch.room ≡ 48
-  pub inside : (n : ℕ) → Listed batch.numbers n → n < blocks
+  pub room : batch.room ≡ limit_of shape.format
+  pub inside : (n : ℕ) → Listed batch.numbers n → n < shape.blocks
 
 -- the log and the batches of a store over a medium of so many sectors, with these sizes, and whether a record is under way
 pub record IsKept (size : ℕ) (sizes : Super) (cached : Cached) (writing : Bool) : Type 0 where
   pub shape : cached.log.shape ≡ shape_of sizes
   pub fits : sectors_of cached.log.shape ≤ size
-  pub active : IsBatchOf cached.log.shape.blocks cached.active
-  pub frozen : IsBatchOf cached.log.shape.blocks cached.frozen
+  pub active : IsBatchOf cached.log.shape cached.active
+  pub frozen : IsBatchOf cached.log.shape cached.frozen
   pub writes : cached.log.dead ≡ false → writing ≡ true → 0 < cached.log.steps_left
   pub rests : cached.log.dead ≡ false → writing ≡ false → cached.log.steps_left ≡ 0
   -- the record under way is the frozen batch
@@ -26,7 +28,8 @@ pub record IsKept (size : ℕ) (sizes : Super) (cached : Cached) (writing : Bool
   pub none_under_way : cached.log.dead ≡ false → cached.log.steps_left ≡ 0 → cached.log.under_way ≡ []
   pub ring : cached.log.next ≤ cached.log.head + cached.log.shape.slots
   pub some : 0 < cached.log.steps_left → 0 < length cached.frozen.numbers
-  pub few_steps : cached.log.steps_left ≤ 52
-  pub few_retire_steps : cached.log.retire_steps_left ≤ 50 * cached.log.shape.slots
+  pub few_steps : cached.log.steps_left ≤ most_steps cached.log.shape.format
+  pub few_retire_steps : cached.log.retire_steps_left
+      ≤ most_retire_steps cached.log.shape.format * cached.log.shape.slots
   -- a record that is under way has to be retired later
   pub owes : 0 < cached.log.steps_left → 0 < cached.log.retire_steps_left

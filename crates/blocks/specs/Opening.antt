@@ -5,7 +5,7 @@ use Rattle.medium.specs.Medium.{State, Image}
 use Rattle.medium.specs.Moments.{EachCut}
 use Rattle.medium.specs.declared.fault.MediumFault.TheVariants as medium
 pub use Rattle.log_layout.specs.Places.{Shape}
-pub use Rattle.log_layout.specs.Standing.{StandsFor, IsOurs, Stands}
+pub use Rattle.log_image.specs.Standing.{StandsFor, IsOurs, Stands}
 pub use Rattle.recovery.specs.Causes.{IsRefusedCall}
 pub use Rattle.recovery.specs.Recovered.{IsOursForSome, IsOursWithNext, StandsForOneOf}
 pub use Rattle.recovery.specs.declared.start_fault.StartFault.{StartFault}
@@ -14,11 +14,12 @@ pub use Rattle.recovery.specs.declared.start_fault.StartFault.TheVariants.{BadSu
 pub use Rattle.recovery.specs.declared.start_fault.StartFault.TheVariants.{BadSize, BadHead, StampsUsedUp}
 use Rattle.blocks.specs.Book.{Book, opened}
 
--- the image stands for the blocks and the next stamp with which the book opens
+-- the image has as many blocks as the book, in some shape, and stands for them and the next stamp
+-- with which the book opens
 abbrev pub StandsForOpening : ℕ → Book → Image → Type 0
-StandsForOpening size book image = (slots : ℕ)
-    × (let shape : Shape = record { blocks = book.blocks; slots = slots } in
-    StandsFor size shape image book.opening book.stamp)
+StandsForOpening size book image =
+    (shape : Shape) × (shape.blocks ≡ book.blocks)
+    × StandsFor size shape image book.opening book.stamp
 
 -- A first life over a medium opens with this book: the contents stand for its blocks and its next
 -- stamp. Where the book says so, every image that a cut may leave is ours.

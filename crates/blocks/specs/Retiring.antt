@@ -1,6 +1,6 @@
 -- Which records a call of a store writes to the log, and which it retires: none but what room asks
 -- for.
-use Rattle.std.specs.Prelude.{◌≡◌, ◌+◌, ◌-◌, ◌≤◌, ℕ, zero, suc, List, [], ◌∷◌, ◌++◌, drop, nat_lt}
+use Rattle.std.specs.Prelude.{◌≡◌, ◌+◌, ◌-◌, ◌≤◌, ℕ, zero, suc, List, [], ◌∷◌, ◌++◌, drop, replicate, nat_lt}
 use Rattle.std.specs.Prelude.{if◌then◌else◌}
 use Rattle.redo_log.specs.Value.{LogValue, HasRoom, begun, behind_oldest}
 
@@ -15,6 +15,7 @@ oldest_retired log = record log {
   head = log.head + 1;
   waiting = drop 1 log.waiting;
   retire_steps_left = behind_oldest log;
+  kept = replicate 512 0;
 }
 
 -- room for one more record: the oldest alone is retired, and only where no slot is free

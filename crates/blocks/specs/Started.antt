@@ -4,8 +4,10 @@ use Rattle.medium.specs.Medium.{State, Image}
 use Rattle.medium.specs.Moments.{EachCut, LeavesOnly, IsFlushed}
 use Rattle.medium.specs.Blocks.{Array}
 use Rattle.log_layout.specs.Places.{Shape}
-use Rattle.log_layout.specs.Standing.{StandsFor, IsOurs}
+use Rattle.log_image.specs.Standing.{StandsFor, IsOurs}
+use Rattle.log_image.specs.ImageFaults.{HasShape}
 use Rattle.recovery.specs.Causes.{IsCause}
+use Rattle.recovery.specs.Copies.{most_start_of}
 use Rattle.recovery.specs.Recovered.{IsRecoveredFrom, IsOursForSome, IsOursWithNext, StandsForOneOf}
 use Rattle.recovery.specs.declared.recovered.Recovered.{Recovered}
 use Rattle.recovery.specs.declared.start_fault.StartFault.{StartFault}
@@ -46,7 +48,10 @@ IsOursSince P before after = before.calls + 2 ≤ after.calls
 -- no count falls, the size stays, and the calls are those of a recovery at most
 pub record IsBounded (before after : State) : Type 0 where
   pub moments : LeavesOnly (λ _. Unit {0}) before after
-  pub calls : after.calls ≤ before.calls + 6 + 100 * 64
+  pub calls : after.calls ≤ before.calls + 6 + 738 * 64
+  -- fewer in format 1
+  pub most : (shape : Shape) → HasShape before.size shape before.content
+      → after.calls ≤ before.calls + 6 + most_start_of shape.format * 64
 
 -- What a start leaves at each moment, whether it is good or refused.
 pub record StartLeaves (before after : State) : Type 0 where

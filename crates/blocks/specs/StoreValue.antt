@@ -3,8 +3,8 @@ use Rattle.std.specs.Prelude.{◌≡◌, ◌⊎◌, ◌↔◌, ℕ, ◌+◌, ◌
 use Rattle.medium.specs.Medium.{State}
 use Rattle.cache.specs.Blocks.{over, Listed, unlisted, InRange}
 use Rattle.cache.specs.Entries.{Entries, map_of}
-use Rattle.log_layout.specs.Places.{Shape}
-use Rattle.redo_log.specs.Value.{LogValue}
+use Rattle.log_layout.specs.Places.{Shape, limit_of}
+use Rattle.redo_log.specs.Value.{LogValue, most_steps, most_retire_steps}
 use Rattle.redo_log.specs.Batch.{entries_of}
 use Rattle.redo_log.specs.Held.{View, HoldsView}
 use Rattle.blocks.specs.Book.{Book, Same, after_first, array_of}
@@ -21,7 +21,8 @@ pub record StoreValue (M : Type 0) : Type 0 where
   pub medium : M
   pub cached : Cached
 
--- how many logical blocks and how many log slots there are
+-- the format of the log, how many logical blocks and log slots there are, and where block 0 is at
+-- home
 abbrev pub layout_of : Cached → Shape
 layout_of s = s.log.shape
 
@@ -30,6 +31,15 @@ blocks_of s = (layout_of s).blocks
 
 abbrev pub slots_of : Cached → ℕ
 slots_of s = (layout_of s).slots
+
+-- how many blocks a transfer, a batch and a record have at most
+abbrev pub transfer_limit : Cached → ℕ
+transfer_limit s = limit_of (layout_of s).format
+
+-- how many steps a batch takes at most from its record's first call until that is retired
+abbrev pub batch_steps : Cached → ℕ
+batch_steps s =
+    most_steps (layout_of s).format + most_retire_steps (layout_of s).format + 10
 
 -- no write is accepted until the next start
 abbrev pub is_dead : Cached → Bool
@@ -48,32 +58,42 @@ abbrev pub wants : List ℕ → ℕ
 wants [] = 0
 wants (n ∷ numbers) = 1
 
+-- a batch that holds blocks takes so many steps, and an empty one none
+abbrev pub steps_for : ℕ → List ℕ → ℕ
+steps_for most [] = 0
+steps_for most (n ∷ numbers) = most
+
 -- a frozen batch counts as long as its record is not begun
 abbrev pub waiting : ℕ → ℕ → ℕ
-waiting zero wanted = 112 * wanted
-waiting (suc steps) wanted = 0
+waiting zero steps = steps
+waiting (suc begun) steps = 0
 
--- How many background steps are left at most: those of the records that are begun, and 112 for each batch that is to become a
--- record. A batch of 48 blocks takes 52 steps to be written, and 50 to be retired.
+-- How many background steps are left at most: those of the records that are begun, and those of
+-- each batch that is to become a record.
 abbrev pub steps_left : Cached → ℕ
 steps_left s = s.log.steps_left + s.log.retire_steps_left
-    + waiting s.log.steps_left (wants s.frozen.numbers) + 112 * wants s.active.numbers
+    + waiting s.log.steps_left (steps_for (batch_steps s) s.frozen.numbers)
+    + steps_for (batch_steps s) s.active.numbers
 
--- these numbers and those of the range are at most 48 together
-abbrev pub FitsBeside : List ℕ → ℕ → ℕ → Type 0
-FitsBeside numbers address count = length numbers + unlisted numbers address count ≤ 48
+-- these numbers and those of the range are at most so many together
+abbrev pub FitsBeside : ℕ → List ℕ → ℕ → ℕ → Type 0
+FitsBeside limit numbers address count = length numbers + unlisted numbers address count ≤ limit
 
 -- The batch that takes writes after one more: it takes the range up where both fit together, and else has the range alone.
-pub record TakesRange (old : List ℕ) (address count : ℕ) (new : List ℕ) : Type 0 where
-  pub beside : FitsBeside old address count → (n : ℕ) → Listed new n ↔ (Listed old n ⊎ InRange address count n)
-  pub alone : ¬ FitsBeside old address count → (n : ℕ) → Listed new n ↔ InRange address count n
+pub record TakesRange (limit : ℕ) (old : List ℕ) (address count : ℕ) (new : List ℕ) : Type 0 where
+  pub beside : FitsBeside limit old address count
+      → (n : ℕ) → Listed new n ↔ (Listed old n ⊎ InRange address count n)
+  pub alone : ¬ FitsBeside limit old address count
+      → (n : ℕ) → Listed new n ↔ InRange address count n
 
 -- what is true of every store, live or dead
 pub record HasLimits (s : Cached) : Type 0 where
   pub some_blocks : 1 ≤ blocks_of s
   pub most_blocks : blocks_of s ≤ 2 ^ 31
-  pub active_fits : length (active_of s) ≤ 48
-  pub few_steps : steps_left s ≤ (slots_of s + 4) * (2 * 48 + 16)
+  pub least_limit : 48 ≤ transfer_limit s
+  pub most_limit : transfer_limit s ≤ 240
+  pub active_fits : length (active_of s) ≤ transfer_limit s
+  pub few_steps : steps_left s ≤ (slots_of s + 4) * (2 * transfer_limit s + 16)
 
 -- A store shows three arrays: what is durable, that with the frozen batch, and that with the active batch too. It fits a book in
 -- which they are the array after some of the first writes, after more of them, and after all.

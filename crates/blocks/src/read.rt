@@ -4,23 +4,25 @@ ghost use Rattle.std.specs.Prelude.{OnOk, IfErr, OnErr};
 ghost use Rattle.medium.specs.Moments.{IsQuiet};
 ghost use Rattle.medium.specs.declared.fault.MediumFault.TheVariants as medium_fault;
 ghost use Rattle.blocks.specs.Book.{Book, IsTransfer, array_of, blocks_at};
-ghost use Rattle.blocks.specs.StoreValue.{blocks_of, is_dead, FitsBook};
+ghost use Rattle.blocks.specs.StoreValue.{blocks_of, transfer_limit, is_dead, FitsBook};
 ghost use Rattle.blocks.specs.Turns.{IsTurn, IsReadCause};
-ghost use Rattle.blocks.specs.Calls.{copy_reads, block_reads, reads_of};
+ghost use Rattle.blocks.specs.Calls.{durable_reads, block_reads, reads_of};
 
 use crate::store::BLOCK;
 use crate::{Store, StoreFault};
 use medium::{Medium, MediumFault};
 
 impl<M: Medium> Store<M> {
-    /// Reads 1 to 48 blocks from an address on: each from the active batch, else from the frozen
-    /// one, else its newest logged copy, else from home. At an `Err` the array may hold anything.
+    /// Reads 1 to `limit` blocks from an address on: each from the active batch, else from the
+    /// frozen one, else its newest logged copy, else from home. At an `Err` the array may hold
+    /// anything.
     ///
     /// # Errors
     ///
     /// `ReadFault` where the medium refused a read, `Dead` on a dead store. The store is unchanged.
     pub fn read(&mut self, address: u64, to: &mut [u8]) -> Result<(), StoreFault>
-        requires { IsTransfer (blocks_of self.old.cached) address (length to.old) }
+        requires { IsTransfer (transfer_limit self.old.cached) (blocks_of self.old.cached)
+            address (length to.old) }
         ensures ok { (book : Book) → FitsBook (M.state self.old.medium) self.old.cached book
             → OnOk result (to.new ≡ blocks_at (array_of book) address (length to.old / 512)) }
         ensures err { IfErr result (λ fault. IsReadCause (M.state self.old.medium)
@@ -62,7 +64,7 @@ impl<M: Medium> Store<M> {
             (M.state self.new.medium) self.old.cached fault) }
         ensures stays { self.new.cached ≡ self.old.cached }
         ensures quiet { IsQuiet (M.state self.old.medium) (M.state self.new.medium) }
-        ensures calls { (M.state self.new.medium).calls ≤ (M.state self.old.medium).calls + 1 }
+        ensures calls { (M.state self.new.medium).calls ≤ (M.state self.old.medium).calls + 2 }
         ensures reads { (M.state self.new.medium).calls
             ≤ (M.state self.old.medium).calls + block_reads self.old.cached block }
         ensures exactly { OnOk result ((M.state self.new.medium).calls
@@ -100,7 +102,9 @@ impl<M: Medium> Store<M> {
         ensures stays { self.new.cached ≡ self.old.cached }
         ensures quiet { IsQuiet (M.state self.old.medium) (M.state self.new.medium) }
         ensures calls { (M.state self.new.medium).calls
-            ≡ (M.state self.old.medium).calls + copy_reads }
+            ≤ (M.state self.old.medium).calls + durable_reads self.old.cached.log block }
+        ensures exactly { OnOk result ((M.state self.new.medium).calls
+            ≡ (M.state self.old.medium).calls + durable_reads self.old.cached.log block) }
         ensures follows { M.follows self.old.medium self.new.medium }
     {
         match self.log.find(block) {

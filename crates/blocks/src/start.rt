@@ -3,8 +3,8 @@ ghost use Rattle.std.specs.Prelude.{◌≡◌, ◌⊎◌, ◌<◌, ◌≤◌, �
 ghost use Rattle.std.specs.Prelude.{IfOk, IfErr, MatchResult};
 ghost use Rattle.medium.specs.Moments.{EachCut, LeavesOnly};
 ghost use Rattle.medium.specs.Blocks.{Array};
-ghost use Rattle.log_layout.specs.Places.{Shape};
-ghost use Rattle.log_layout.specs.Standing.{StandsFor, IsOurs};
+ghost use Rattle.log_layout.specs.Places.{Shape, limit_of};
+ghost use Rattle.log_image.specs.Standing.{StandsFor, IsOurs};
 ghost use Rattle.log_layout.specs.Values.{shape_of};
 ghost use Rattle.redo_log.specs.Value.{idle_from};
 ghost use Rattle.recovery.specs.Causes.{IsDeviceFault};
@@ -12,7 +12,6 @@ ghost use Rattle.recovery.specs.Recovered.{IsOursForSome, IsOursWithNext, Stands
 ghost use Rattle.recovery.specs.Recovered.{SparesTheRest};
 ghost use Rattle.blocks.specs.Started.{IsStarted, IsStartCause, IsOursSince, IsBounded};
 
-use crate::store::ROOM;
 use crate::{StartError, Store};
 use cache::Batch;
 use medium::Medium;
@@ -38,16 +37,17 @@ impl Parts {
         requires most { recovered.now.next < 2 ^ 63 }
         ensures ok { IfOk result (λ parts. parts ≡ record {
           log = idle_from (shape_of recovered.now.sizes) recovered.now.next;
-          active = record { room = 48; numbers = []; bytes = [] };
-          frozen = record { room = 48; numbers = []; bytes = [] };
+          active = record { room = limit_of recovered.now.sizes.format; numbers = []; bytes = [] };
+          frozen = record { room = limit_of recovered.now.sizes.format; numbers = []; bytes = [] };
         }) }
         ensures err { IfErr result (λ fault. fault ≡ StartFault.NoMemory) }
     {
-        let log = Log::idle(alloc, &recovered.sizes, recovered.next).map_err(
-            |_| StartFault::NoMemory,
-        )?;
-        let active = Batch::new(alloc, ROOM).map_err(|_| StartFault::NoMemory)?;
-        let frozen = Batch::new(alloc, ROOM).map_err(|_| StartFault::NoMemory)?;
+        let Ok(log) = Log::idle(alloc, &recovered.sizes, recovered.next) else {
+            return Err(StartFault::NoMemory);
+        };
+        let limit = recovered.sizes.format.limit() as usize;
+        let active = Batch::new(alloc, limit).map_err(|_| StartFault::NoMemory)?;
+        let frozen = Batch::new(alloc, limit).map_err(|_| StartFault::NoMemory)?;
         Ok(Parts {
             log,
             active,

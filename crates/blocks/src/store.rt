@@ -3,7 +3,8 @@ ghost use Rattle.std.specs.Prelude.{◌≡◌, ◌↔◌, ◌<◌, ◌≤◌, �
 ghost use Rattle.medium.specs.Moments.{EachCut, IsUnchanged};
 ghost use Rattle.blocks.specs.Book.{Book};
 ghost use Rattle.blocks.specs.Finding.{MayFind};
-ghost use Rattle.blocks.specs.StoreValue.{blocks_of, is_dead, steps_left, HasLimits, FitsBook};
+ghost use Rattle.blocks.specs.StoreValue.{blocks_of, transfer_limit, is_dead, steps_left};
+ghost use Rattle.blocks.specs.StoreValue.{HasLimits, FitsBook};
 ghost use Rattle.blocks.specs.Settled.{IsSettled};
 ghost use Rattle.blocks.specs.Turns.{IsTurn};
 
@@ -12,9 +13,6 @@ use log_layout::Super;
 use medium::{Medium, Switch};
 use redo_log::Log;
 use std::marker::Model;
-
-// How many blocks a batch has room for.
-pub(crate) const ROOM: usize = 48;
 
 // How many bytes a block has.
 pub(crate) const BLOCK: usize = 512;
@@ -56,6 +54,15 @@ impl<M: Medium> Store<M> {
         ensures most { result ≤ 2147483648 }
     {
         self.sizes.blocks
+    }
+
+    /// How many blocks a read and a write have at most, as many as a batch and a record of the log.
+    pub fn limit(&self) -> u32
+        ensures is { result ≡ transfer_limit self.now.cached }
+        ensures least { 48 ≤ result }
+        ensures most { result ≤ 240 }
+    {
+        self.sizes.format.limit()
     }
 
     /// Whether the store accepts no write until the next start: a write or a flush was refused, or

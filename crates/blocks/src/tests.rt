@@ -52,6 +52,7 @@ fn restarted(
 }
 
 // Writes 30 blocks of one byte over and over.
+#[tactic(auto, using(crate::proofs::Limits::limit_least))]
 fn write_30(store: &mut Store<SimMedium>, address: u64, byte: u8) -> Result<(), StoreFault>
     requires size { blocks_of store.old.cached ≡ 1000 }
     requires inside { address + 30 ≤ 1000 }
@@ -61,6 +62,7 @@ fn write_30(store: &mut Store<SimMedium>, address: u64, byte: u8) -> Result<(), 
 }
 
 // Writes block 5 twice.
+#[tactic(auto, using(crate::proofs::Limits::limit_least))]
 fn write_twice(store: &mut Store<SimMedium>) -> Result<(), StoreFault>
     requires { blocks_of store.old.cached ≡ 1000 }
     ensures { blocks_of store.new.cached ≡ 1000 }
@@ -70,6 +72,7 @@ fn write_twice(store: &mut Store<SimMedium>) -> Result<(), StoreFault>
 }
 
 // The first byte of a block.
+#[tactic(auto, using(crate::proofs::Limits::limit_least))]
 fn byte_of(store: &mut Store<SimMedium>, block: u64) -> Result<u8, StoreFault>
     requires size { blocks_of store.old.cached ≡ 1000 }
     requires inside { block < 1000 }
@@ -198,6 +201,7 @@ fn a_refused_flush_is_the_end(rt: HostRuntime) -> Result<(), Fail> {
 }
 
 // Writes one block, and makes it durable.
+#[tactic(auto, using(crate::proofs::Limits::limit_least))]
 fn write_through(store: &mut Store<SimMedium>, block: u64, byte: u8) -> Result<(), StoreFault>
     requires size { blocks_of store.old.cached ≡ 1000 }
     requires inside { block < 1000 }

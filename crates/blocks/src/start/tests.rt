@@ -50,6 +50,7 @@ fn start(rt: HostRuntime, medium: SimMedium) -> Result<Store<SimMedium>, StartFa
 }
 
 // The first bytes of blocks 4 to 7.
+#[tactic(auto, using(crate::proofs::Limits::limit_least))]
 fn four_to_seven(store: &mut Store<SimMedium>) -> Result<[u8; 4], Fail> {
     let mut bytes = [0xee; 2048];
     if store.blocks() != 16 {
@@ -119,6 +120,7 @@ fn a_faulty_image_is_refused(rt: HostRuntime) -> Result<(), Fail> {
 
 // The first byte of the last block after one life: a start, a write, a sync, a cut, a start and a
 // read.
+#[tactic(auto, using(crate::proofs::Limits::limit_least))]
 fn one_life(rt: HostRuntime, blocks: u64, slots: u64) -> Result<u8, Fail>
     requires some { 1 ≤ blocks }
     requires few { blocks ≤ 65000 }

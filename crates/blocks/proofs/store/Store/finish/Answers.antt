@@ -56,3 +56,6 @@ returns-clause-finishes g c =
     on_ok_weaker c.write_out-2.result
     (λ written. written ∙ ap (λ (log : LogValue). written_out log) begun_is ∙ finishes_begun old.frozen.numbers old.log idle some)
     c.write_out-2.ensures.written
+
+pub returns-in_err-begin-clause-turn : goal.returns-in_err-begin-clause-turn
+returns-in_err-begin-clause-turn g c = turns _ _ _ _ _ _ c.make_room.ensures.turn c.begin.ensures.turn

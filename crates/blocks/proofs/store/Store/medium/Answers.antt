@@ -1,7 +1,11 @@
 use Rattle.std.proofs.Common.{arith}
 use Rattle.blocks.proofs.Turning.{exits}
+use Rattle.blocks.proofs.Limits.{has_limits}
 use Rattle.blocks.proofs.Settling.{settled}
 use Rattle.blocks.proofs.store.Store.medium.Goals as goal
+
+pub returns-clause-limits : goal.returns-clause-limits
+returns-clause-limits g c = rw (← c.self.view_is) (has_limits _ c.self.inside.sizes _ c.self.inside.writing c.self.invariant)
 
 pub returns-clause-at_rest : goal.returns-clause-at_rest
 returns-clause-at_rest g c book fits ours = exits _ _ book fits ours

@@ -1,7 +1,39 @@
-use Rattle.std.proofs.Common.{arith}
+use Rattle.std.proofs.Common.{◌≡◌, ◌∙◌, [], arith, ap, sym, subst}
+use Rattle.std.proofs.lemmas.Bool.{false≢true}
+use Rattle.medium.specs.Moments.{IsUnchanged}
+use Rattle.medium.proofs.Moments.{unchanged}
 use Rattle.blocks.proofs.Stepping.{retires, dies}
+use Rattle.blocks.proofs.Retired.{retained, still_kept, died_kept, is_retiring, is_dying}
 use Rattle.blocks.proofs.store.Store.retire.Goals as goal
 use Rattle.blocks.proofs.store.Store.retire.Goals.{in-Ok, in-Err}
+
+pub invariant_of-self : goal.invariant_of-self
+invariant_of-self g c =
+    let i = c.self.inside in
+    let before = (g.M.Medium.state i.medium).size in
+    let after = (g.M.Medium.state c.retire_step.new.m).size in
+    let idle = ap (λ v. v.cached.log.steps_left) c.self.view_is ∙ c.requires.idle in
+    elim c.match-retire_step.branch [
+      | in-Ok w ↦ still_kept before after i.sizes _ c.retire_step.new.self i.writing w.in-Ok.ensures.size idle
+          (retained _ c.retire_step.new.self (λ none. (w.in-Ok.ensures.none none).1) w.in-Ok.ensures.ok) c.self.invariant
+      | in-Err w ↦ died_kept before after i.sizes _ c.retire_step.new.self i.writing w.in-Err.ensures.size w.in-Err.ensures.err c.self.invariant
+    ]
+
+pub returns-clause-retiring : goal.returns-clause-retiring
+returns-clause-retiring g c =
+    let i = c.self.inside in
+    let before = g.M.Medium.state i.medium in
+    let after = g.M.Medium.state c.retire_step.new.m in
+    let live = ap (λ v. v.cached.log.dead) c.self.view_is ∙ c.requires.live in
+    elim c.match-retire_step.branch [
+      | in-Ok w ↦ rw (← c.self.view_is)
+          (is_retiring before after _ c.retire_step.new.self
+          (λ none. ((w.in-Ok.ensures.none none).1, subst (λ m. IsUnchanged (g.M.Medium.state c.self.inside.medium) (g.M.Medium.state m)) (sym (w.in-Ok.ensures.none none).2) (unchanged before)))
+          w.in-Ok.ensures.calls live w.in-Ok.ensures.failures w.in-Ok.ensures.ok)
+      | in-Err w ↦ rw (← c.self.view_is)
+          (is_dying before after _ c.retire_step.new.self (λ none. absurd (false≢true (w.in-Err.ensures.none none).0))
+          w.in-Err.ensures.calls w.in-Err.ensures.failures w.in-Err.ensures.err)
+    ]
 
 pub returns-clause-turn : goal.returns-clause-turn
 returns-clause-turn g c =

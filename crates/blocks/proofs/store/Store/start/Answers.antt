@@ -1,6 +1,9 @@
-use Rattle.std.proofs.Common.{inl, inr, sym, subst}
+use Rattle.std.proofs.Common.{◌≤◌, inl, inr, sym, subst, arith, false}
 use Rattle.blocks.specs.Started.{IsStarted}
-use Rattle.blocks.proofs.Starting.{starts}
+use Rattle.log_layout.specs.Places.{sectors_of}
+use Rattle.log_layout.specs.Values.{shape_of}
+use Rattle.blocks.specs.Kept.{IsKept}
+use Rattle.blocks.proofs.Starting.{starts, started_kept}
 use Rattle.blocks.proofs.store.Store.start.Goals as goal
 
 pub returns-in-Err-clause-served : goal.returns-in-Err-clause-served
@@ -15,3 +18,11 @@ returns-in-Ok-new-clause-ok g c =
 
 pub returns-in-Err-new-clause-err : goal.returns-in-Err-new-clause-err
 returns-in-Err-new-clause-err g c = inr (c.in-Err-new.ensures.err, c.in-Ok.recovered, c.in-Ok.ensures.ok)
+
+pub invariant_of-result : goal.invariant_of-result
+invariant_of-result g c =
+    let sizes = c.in-Ok.recovered.sizes in
+    let after = g.M.Medium.state c.recover.new.m in
+    let fits : sectors_of (shape_of c.in-Ok.recovered.sizes) ≤ (g.M.Medium.state c.recover.new.m).size = omega (arith, c.in-Ok.ensures.ok.stood.fits, c.recover.ensures.moments.size_stays) in
+    subst (λ p. IsKept after.size sizes (record { log = p.log; active = p.active; frozen = p.frozen }) false)
+    (sym c.in-Ok-new.ensures.ok) (started_kept after.size sizes c.in-Ok.recovered.next fits)

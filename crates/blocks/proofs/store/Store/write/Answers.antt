@@ -1,6 +1,8 @@
 use Rattle.std.proofs.Common.{◌≡◌, ◌∙◌, ◌/◌, ap, [], length, arith}
 use Rattle.std.proofs.lemmas.Result.{err_from_is_err_and}
+use Rattle.log_layout.specs.Places.{Shape, limit_of}
 use Rattle.cache.proofs.Arrays.{unlisted_empty}
+use Rattle.blocks.specs.StoreValue.{transfer_limit}
 use Rattle.blocks.proofs.Turning.{turns, stays, not_written, then_written}
 use Rattle.blocks.proofs.store.Store.write.Goals as goal
 
@@ -15,7 +17,8 @@ returns-in_err-finish-clause-turn g c =
 pub append-requires-2-clause-fits : goal.append-requires-2-clause-fits
 append-requires-2-clause-fits g c =
     let active : c.freeze.new.self.cached.active.numbers ≡ [] = ap (λ cached. cached.active.numbers) c.freeze.ensures.swapped ∙ c.in_ok-finish.ensures.done.1 in
-    rw active (omega (arith, unlisted_empty c.args.address (length c.args.bytes.now / 512)))
+    let limit = ap (λ cached. transfer_limit cached) c.freeze.ensures.swapped ∙ ap (λ (shape : Shape). limit_of shape.format) c.finish.ensures.turn.goes_on.layout_stays in
+    rw active (omega (arith, unlisted_empty c.args.address (length c.args.bytes.now / 512), limit, c.requires.most))
 
 pub returns-clause-turn : goal.returns-clause-turn
 returns-clause-turn g c = then_written _ _ _ _ _ _ _ (turns _ _ _ _ _ _ c.finish.ensures.turn c.freeze.ensures.turn) c.append-2.ensures.turn

@@ -1,0 +1,49 @@
+-- How many blocks a transfer has at most, and how many steps are left at most.
+use Rattle.std.proofs.Common.{◌≡◌, ◌≤◌, ℕ, ◌+◌, ◌*◌, ap, arith, Bool, zero, suc}
+use Rattle.log_layout.specs.Places.{Shape, limit_of}
+use Rattle.log_layout.specs.declared.log_format.LogFormat.{LogFormat}
+use Rattle.log_layout.specs.declared.log_format.LogFormat.TheVariants.{One, Two}
+use Rattle.log_layout.specs.declared.super_sector.Super.{Super}
+use Rattle.blocks.specs.StoreValue.{Cached, layout_of, blocks_of, slots_of, batch_steps, steps_for, waiting, HasLimits}
+use Rattle.redo_log.specs.Value.{most_steps, most_retire_steps}
+use Rattle.blocks.specs.Kept.{IsKept}
+use Rattle.blocks.proofs.Fitting.{steps_for_most}
+
+-- no format has a lower limit, or a higher one
+pub limit_least : (format : LogFormat) → 48 ≤ limit_of format
+limit_least One = omega arith
+limit_least Two = omega arith
+
+pub limit_most : (format : LogFormat) → limit_of format ≤ 240
+limit_most One = omega arith
+limit_most Two = omega arith
+
+waiting_most : (begun steps : ℕ) → waiting begun steps ≤ steps
+waiting_most zero steps = omega arith
+waiting_most (suc begun) steps = omega arith
+
+-- what the records and the batches take together
+few : (format : LogFormat) (slots steps left frozen active : ℕ) → steps ≤ most_steps format → left ≤ most_retire_steps format * slots
+    → frozen ≤ most_steps format + most_retire_steps format + 10 → active ≤ most_steps format + most_retire_steps format + 10
+    → steps + left + frozen + active ≤ (slots + 4) * (2 * limit_of format + 16)
+few One slots steps left frozen active a b c d = omega (arith, a, b, c, d)
+few Two slots steps left frozen active a b c d = omega (arith, a, b, c, d)
+
+-- the limits of a store
+pub has_limits : (size : ℕ) (sizes : Super) (s : Cached) (writing : Bool) → IsKept size sizes s writing → HasLimits s
+has_limits size sizes s writing kept =
+    let format : LogFormat = (layout_of s).format in
+    let blocks : blocks_of s ≡ sizes.blocks = ap (λ (shape : Shape). shape.blocks) kept.shape in
+    record {
+      some_blocks = omega (arith, blocks, sizes.some_blocks);
+      most_blocks = omega (arith, blocks, sizes.most_blocks);
+      least_limit = limit_least format;
+      most_limit = limit_most format;
+      active_fits = omega (arith, kept.active.well_formed.within, kept.active.room);
+      few_steps = few format (slots_of s) s.log.steps_left s.log.retire_steps_left
+          (waiting s.log.steps_left (steps_for (batch_steps s) s.frozen.numbers)) (steps_for (batch_steps s) s.active.numbers)
+          kept.few_steps
+          kept.few_retire_steps
+          (omega (arith, waiting_most s.log.steps_left (steps_for (batch_steps s) s.frozen.numbers), steps_for_most (batch_steps s) s.frozen.numbers))
+          (steps_for_most (batch_steps s) s.active.numbers);
+    }
