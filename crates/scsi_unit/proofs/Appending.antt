@@ -37,9 +37,9 @@ blocks_are address (suc count) bytes size =
     })
 
 -- a WRITE of some blocks that are on the disk, over their bytes
-is_write_by : (blocks : ℕ) (transfer : Transfer) (taken : List ℕ) → IsWithin blocks 48 transfer → transfer.count ≢ 0
+is_write_by : (blocks limit : ℕ) (transfer : Transfer) (taken : List ℕ) → IsWithin blocks limit transfer → transfer.count ≢ 0
     → length taken ≡ 512 * transfer.count → IsWrite blocks (write_by transfer taken)
-is_write_by blocks transfer taken within some size =
+is_write_by blocks limit transfer taken within some size =
     let are = blocks_are transfer.address transfer.count (take (512 * transfer.count) taken) (omega (arith, size, length-take (512 * transfer.count) taken)) in
     record {
       some = omega (arith, are.count_is, some);
@@ -54,15 +54,15 @@ is_not_zero : (n : ℕ) → n ≢ 0 → (512 * n == 0) ≡ false
 is_not_zero n some = grind (arith, nat_tests)
 
 -- the write of a transfer, where it moves blocks
-some_at : (blocks : ℕ) (transfer : Transfer) (taken : List ℕ) (write : Write) (moved : Bool) → IsWithin blocks 48 transfer
+some_at : (blocks limit : ℕ) (transfer : Transfer) (taken : List ℕ) (write : Write) (moved : Bool) → IsWithin blocks limit transfer
     → (moved ≡ true → (transfer.count ≢ 0) × (length taken ≡ 512 * transfer.count))
     → (if moved then Some (write_by transfer taken) else None) ≡ Some write → IsWrite blocks write
-some_at blocks transfer taken write true within so is =
+some_at blocks limit transfer taken write true within so is =
     let same : write_by transfer taken ≡ write = cc in
-    subst (λ (w : Write). IsWrite blocks w) same (is_write_by blocks transfer taken within (so refl).0 (so refl).1)
-some_at blocks transfer taken write false within so is = cc
+    subst (λ (w : Write). IsWrite blocks w) same (is_write_by blocks limit transfer taken within (so refl).0 (so refl).1)
+some_at blocks limit transfer taken write false within so is = cc
 
-module _ (blocks : ℕ) (transfer : Transfer) (taken : List ℕ) (exact : (n : ℕ) → takes (512 * transfer.count) ≡ intent.Out n → length taken ≡ n) where
+module _ (blocks limit : ℕ) (transfer : Transfer) (taken : List ℕ) (exact : (n : ℕ) → takes (512 * transfer.count) ≡ intent.Out n → length taken ≡ n) where
   some_not_zero : (zero : Bool) → (zero ≡ false → transfer.count ≢ 0) → not zero ≡ true → transfer.count ≢ 0
   some_not_zero true differ moved = cc
   some_not_zero false differ moved = differ refl
@@ -72,20 +72,20 @@ module _ (blocks : ℕ) (transfer : Transfer) (taken : List ℕ) (exact : (n : �
       let some = some_not_zero (transfer.count == 0) (λ no. eqb-false transfer.count 0 no) moved in
       (some, exact (512 * transfer.count) (takes_size (512 * transfer.count) (512 * transfer.count == 0) (is_not_zero transfer.count some)))
 
-  is_some_write : (write : Write) → IsWithin blocks 48 transfer → some_write transfer taken ≡ Some write → IsWrite blocks write
-  is_some_write write within is = some_at blocks transfer taken write (moves_blocks transfer) within moved_size is
+  is_some_write : (write : Write) → IsWithin blocks limit transfer → some_write transfer taken ≡ Some write → IsWrite blocks write
+  is_some_write write within is = some_at blocks limit transfer taken write (moves_blocks transfer) within moved_size is
 
 -- the write of a command that the unit serves
-written_by : (blocks : ℕ) (command : Command) (taken : List ℕ) (write : Write) → IsSupported blocks 48 command
+written_by : (blocks limit : ℕ) (command : Command) (taken : List ℕ) (write : Write) → IsSupported blocks limit command
     → ((n : ℕ) → moves command ≡ intent.Out n → length taken ≡ n) → write_of_command command taken ≡ Some write → IsWrite blocks write
-written_by blocks (command.Write10 transfer) taken write served exact is = is_some_write blocks transfer taken exact write served is
-written_by blocks (command.Write16 transfer) taken write served exact is = is_some_write blocks transfer taken exact write served is
-written_by blocks command taken write served exact is = cc
+written_by blocks limit (command.Write10 transfer) taken write served exact is = is_some_write blocks limit transfer taken exact write served is
+written_by blocks limit (command.Write16 transfer) taken write served exact is = is_some_write blocks limit transfer taken exact write served is
+written_by blocks limit command taken write served exact is = cc
 
 written_after : (unit : UnitState) (told : Result Command Sense) (taken : List ℕ) (write : Write)
-    → ((command : Command) → told ≡ Ok command → IsSupported unit.book.blocks 48 command)
+    → ((command : Command) → told ≡ Ok command → IsSupported unit.book.blocks unit.limit command)
     → ((n : ℕ) → moves_after told ≡ intent.Out n → length taken ≡ n) → write_after told taken ≡ Some write → IsWrite unit.book.blocks write
-written_after unit (Ok command) taken write served exact is = written_by unit.book.blocks command taken write (served command refl) exact is
+written_after unit (Ok command) taken write served exact is = written_by unit.book.blocks unit.limit command taken write (served command refl) exact is
 written_after unit (Err sense) taken write served exact is = cc
 
 pub writes_are_writes : WritesAreWrites

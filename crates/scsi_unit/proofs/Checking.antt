@@ -5,7 +5,7 @@ use Rattle.sense.specs.declared.codes.Sense.{Sense}
 use Rattle.cdb.specs.declared.command.Command.{Command}
 use Rattle.cdb.specs.Table.{byte_at, command_of}
 use Rattle.scsi_unit.specs.declared.intent.Intent.TheVariants as intent
-use Rattle.scsi_unit.specs.Rules.{needs_medium, passes_attention, checked_for_fault, command_by, moves, moves_after, intention_by, transfer_limit}
+use Rattle.scsi_unit.specs.Rules.{needs_medium, passes_attention, checked_for_fault, command_by, moves, moves_after, intention_by}
 
 -- a command that a faulted unit does not refuse moves what it moves without the fault
 not_refused : (refuses : Bool) (sense : Sense) (command : Command) (n : ℕ)
@@ -27,28 +27,28 @@ without_fault_at true sense told n out = out
 without_fault_at false sense told n out = without_fault told n out
 
 -- what a faulted unit takes it takes without the fault
-pub steady_by : (blocks : ℕ) (attention was is : Bool) (block : List ℕ) (n : ℕ)
+pub steady_by : (blocks limit : ℕ) (attention was is : Bool) (block : List ℕ) (n : ℕ)
     → (is ≡ was) ⊎ ((was ≡ false) × (is ≡ true))
-    → intention_by blocks attention is block ≡ intent.Out n
-    → intention_by blocks attention was block ≡ intent.Out n
+    → intention_by blocks limit attention is block ≡ intent.Out n
+    → intention_by blocks limit attention was block ≡ intent.Out n
 unfolding intention_by command_by
-steady_by blocks attention was is block n change out = elim change [
-  | inl same ↦ subst (λ (f : Bool). intention_by blocks attention f block ≡ intent.Out n) same out
-  | inr died ↦ subst (λ (f : Bool). intention_by blocks attention f block ≡ intent.Out n) (sym died.0)
-      (without_fault_at (attention && not (passes_attention (byte_at 0 block))) _ (command_of blocks transfer_limit block) n
-      (subst (λ (f : Bool). intention_by blocks attention f block ≡ intent.Out n) died.1 out))
+steady_by blocks limit attention was is block n change out = elim change [
+  | inl same ↦ subst (λ (f : Bool). intention_by blocks limit attention f block ≡ intent.Out n) same out
+  | inr died ↦ subst (λ (f : Bool). intention_by blocks limit attention f block ≡ intent.Out n) (sym died.0)
+      (without_fault_at (attention && not (passes_attention (byte_at 0 block))) _ (command_of blocks limit block) n
+      (subst (λ (f : Bool). intention_by blocks limit attention f block ≡ intent.Out n) died.1 out))
 ]
 
 -- an intention is that of the command that passes the checks
-pub intention_is : (blocks : ℕ) (attention faulted : Bool) (block : List ℕ)
-    → intention_by blocks attention faulted block ≡ moves_after (command_by blocks attention faulted block)
+pub intention_is : (blocks limit : ℕ) (attention faulted : Bool) (block : List ℕ)
+    → intention_by blocks limit attention faulted block ≡ moves_after (command_by blocks limit attention faulted block)
 unfolding intention_by
-intention_is blocks attention faulted block = refl
+intention_is blocks limit attention faulted block = refl
 
-pub intention_of_command : (blocks : ℕ) (attention faulted : Bool) (block : List ℕ) (command : Command)
-    → command_by blocks attention faulted block ≡ Ok command → intention_by blocks attention faulted block ≡ moves command
-intention_of_command blocks attention faulted block command passed =
-    intention_is blocks attention faulted block ∙ ap moves_after passed
+pub intention_of_command : (blocks limit : ℕ) (attention faulted : Bool) (block : List ℕ) (command : Command)
+    → command_by blocks limit attention faulted block ≡ Ok command → intention_by blocks limit attention faulted block ≡ moves command
+intention_of_command blocks limit attention faulted block command passed =
+    intention_is blocks limit attention faulted block ∙ ap moves_after passed
 
 -- a command that passes the checks is not refused for a fault
 not_faulted : (refuses : Bool) (sense : Sense) (command other : Command)
@@ -70,9 +70,9 @@ passes_all true sense faulted told command passed = cc
 passes_all false sense faulted told command passed = passes_fault faulted told command passed
 
 -- a command that passes the checks is one of the table, which the unit serves
-pub passed_by : (blocks : ℕ) (attention faulted : Bool) (block : List ℕ) (command : Command)
-    → command_by blocks attention faulted block ≡ Ok command
-    → (command_of blocks transfer_limit block ≡ Ok command) × ((faulted && needs_medium command) ≡ false)
+pub passed_by : (blocks limit : ℕ) (attention faulted : Bool) (block : List ℕ) (command : Command)
+    → command_by blocks limit attention faulted block ≡ Ok command
+    → (command_of blocks limit block ≡ Ok command) × ((faulted && needs_medium command) ≡ false)
 unfolding command_by
-passed_by blocks attention faulted block command passed =
-    passes_all (attention && not (passes_attention (byte_at 0 block))) _ faulted (command_of blocks transfer_limit block) command passed
+passed_by blocks limit attention faulted block command passed =
+    passes_all (attention && not (passes_attention (byte_at 0 block))) _ faulted (command_of blocks limit block) command passed

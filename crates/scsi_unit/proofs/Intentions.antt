@@ -106,20 +106,20 @@ unfolding block_limits
 length-block_limits most = refl
 
 -- INQUIRY data, by the tests of the page code
-vital_at : (who : Identification) → length who.vendor ≡ 8 → length who.product ≡ 16 → length who.serial ≡ 12 → (a b c d : Bool)
-    → length (unwrap_or (if a then Some supported_pages else if b then Some (unit_serial_number who) else if c then Some (device_identification who) else if d then Some (block_limits 48) else None) [])
+vital_at : (limit : ℕ) (who : Identification) → length who.vendor ≡ 8 → length who.product ≡ 16 → length who.serial ≡ 12 → (a b c d : Bool)
+    → length (unwrap_or (if a then Some supported_pages else if b then Some (unit_serial_number who) else if c then Some (device_identification who) else if d then Some (block_limits limit) else None) [])
     ≡ unwrap_or (if a then Some 8 else if b then Some 16 else if c then Some 44 else if d then Some 64 else None) 0
-vital_at who vendor product serial true b c d = length-supported_pages
-vital_at who vendor product serial false true c d = length-unit_serial_number who serial
-vital_at who vendor product serial false false true d = length-device_identification who vendor product serial
-vital_at who vendor product serial false false false true = length-block_limits 48
-vital_at who vendor product serial false false false false = refl
+vital_at limit who vendor product serial true b c d = length-supported_pages
+vital_at limit who vendor product serial false true c d = length-unit_serial_number who serial
+vital_at limit who vendor product serial false false true d = length-device_identification who vendor product serial
+vital_at limit who vendor product serial false false false true = length-block_limits limit
+vital_at limit who vendor product serial false false false false = refl
 
 length-inquiry_data : (unit : UnitState) → IsSized unit → (page : Option ℕ)
-    → length (unwrap_or (inquiry_data unit.identity 48 page) []) ≡ unwrap_or (inquiry_size page) 0
+    → length (unwrap_or (inquiry_data unit.identity unit.limit page) []) ≡ unwrap_or (inquiry_size page) 0
 length-inquiry_data unit sized None = length-standard_data unit.identity sized.vendor sized.product sized.revision
 length-inquiry_data unit sized (Some code) =
-    vital_at unit.identity sized.vendor sized.product sized.serial (code == 0x00) (code == 0x80) (code == 0x83) (code == 0xb0)
+    vital_at unit.limit unit.identity sized.vendor sized.product sized.serial (code == 0x00) (code == 0x80) (code == 0x83) (code == 0xb0)
 
 vital_most : (a b c d : Bool) → unwrap_or (if a then Some 8 else if b then Some 16 else if c then Some 44 else if d then Some 64 else None) 0 ≤ 64
 vital_most true b c d = omega arith
@@ -140,19 +140,19 @@ take_nil : (k : ℕ) → take k (let none : List ℕ = [] in none) ≡ []
 take_nil zero = refl
 take_nil (suc k) = refl
 
-vital_none : (who : Identification) (allocation : ℕ) (a b c d : Bool)
+vital_none : (limit : ℕ) (who : Identification) (allocation : ℕ) (a b c d : Bool)
     → min allocation (unwrap_or (if a then Some 8 else if b then Some 16 else if c then Some 44 else if d then Some 64 else None) 0) ≡ 0
-    → take allocation (unwrap_or (if a then Some supported_pages else if b then Some (unit_serial_number who) else if c then Some (device_identification who) else if d then Some (block_limits 48) else None) []) ≡ []
-vital_none who allocation true b c d none = take_none allocation _ (omega (arith, none))
-vital_none who allocation false true c d none = take_none allocation _ (omega (arith, none))
-vital_none who allocation false false true d none = take_none allocation _ (omega (arith, none))
-vital_none who allocation false false false true none = take_none allocation _ (omega (arith, none))
-vital_none who allocation false false false false none = take_nil allocation
+    → take allocation (unwrap_or (if a then Some supported_pages else if b then Some (unit_serial_number who) else if c then Some (device_identification who) else if d then Some (block_limits limit) else None) []) ≡ []
+vital_none limit who allocation true b c d none = take_none allocation _ (omega (arith, none))
+vital_none limit who allocation false true c d none = take_none allocation _ (omega (arith, none))
+vital_none limit who allocation false false true d none = take_none allocation _ (omega (arith, none))
+vital_none limit who allocation false false false true none = take_none allocation _ (omega (arith, none))
+vital_none limit who allocation false false false false none = take_nil allocation
 
-inquiry_none : (who : Identification) (allocation : ℕ) (page : Option ℕ) → min allocation (unwrap_or (inquiry_size page) 0) ≡ 0
-    → take allocation (unwrap_or (inquiry_data who 48 page) []) ≡ []
-inquiry_none who allocation None none = take_none allocation _ (omega (arith, none))
-inquiry_none who allocation (Some code) none = vital_none who allocation (code == 0x00) (code == 0x80) (code == 0x83) (code == 0xb0) none
+inquiry_none : (limit : ℕ) (who : Identification) (allocation : ℕ) (page : Option ℕ) → min allocation (unwrap_or (inquiry_size page) 0) ≡ 0
+    → take allocation (unwrap_or (inquiry_data who limit page) []) ≡ []
+inquiry_none limit who allocation None none = take_none allocation _ (omega (arith, none))
+inquiry_none limit who allocation (Some code) none = vital_none limit who allocation (code == 0x00) (code == 0x80) (code == 0x83) (code == 0xb0) none
 
 -- the blocks of a range, each of 512 bytes
 length-blocks_at : (array : Array) (address count : ℕ) → ((b : ℕ) → address ≤ b → b < address + count → length (array b) ≡ 512)
@@ -165,7 +165,7 @@ length-blocks_at array address (suc count) sized =
 
 -- ---- command by command
 
-read_so : (unit : UnitState) (transfer : Transfer) (n : ℕ) → IsSized unit → IsWithin unit.book.blocks 48 transfer
+read_so : (unit : UnitState) (transfer : Transfer) (n : ℕ) → IsSized unit → IsWithin unit.book.blocks unit.limit transfer
     → sends (512 * transfer.count) ≡ intent.In n → length (blocks_at (array_of unit.book) transfer.address transfer.count) ≡ n
 read_so unit transfer n sized within is =
     length-blocks_at (array_of unit.book) transfer.address transfer.count (λ b low high. sized.blocks b (omega (arith, high, within.on_medium)))
@@ -185,13 +185,13 @@ writes_none unit transfer taken true true = refl
 writes_none unit transfer taken true false = refl
 
 -- what a command was intended to send it sends
-sends_so : (unit : UnitState) (command : Command) (taken : List ℕ) (n : ℕ) → IsSized unit → IsSupported unit.book.blocks 48 command
+sends_so : (unit : UnitState) (command : Command) (taken : List ℕ) (n : ℕ) → IsSized unit → IsSupported unit.book.blocks unit.limit command
     → moves command ≡ intent.In n → IfOk (effect_of command taken unit).answer (λ sent. length sent ≡ n)
 sends_so unit command.TestUnitReady taken n sized served is = cc
 sends_so unit (command.RequestSense allocation) taken n sized served is =
     length-take allocation (fixed_sense (reported unit.kept)) ∙ ap (min allocation) (length-fixed_sense (reported unit.kept)) ∙ (sends_is (min allocation 18) n is).0
 sends_so unit (command.Inquiry page allocation) taken n sized served is =
-    length-take allocation (unwrap_or (inquiry_data unit.identity 48 page) []) ∙ ap (min allocation) (length-inquiry_data unit sized page)
+    length-take allocation (unwrap_or (inquiry_data unit.identity unit.limit page) []) ∙ ap (min allocation) (length-inquiry_data unit sized page)
     ∙ (sends_is (min allocation (unwrap_or (inquiry_size page) 0)) n is).0
 sends_so unit (command.ModeSelect size) taken n sized served is = absurd (takes_no_in size n (size == 0) is)
 sends_so unit (command.ModeSense control page subpage allocation) taken n sized served is =
@@ -212,7 +212,7 @@ sends_none : (unit : UnitState) (command : Command) (taken : List ℕ) → ((n :
 sends_none unit command.TestUnitReady taken never = refl
 sends_none unit (command.RequestSense allocation) taken never = take_none allocation _ (omega (arith, sends_nothing (min allocation 18) never))
 sends_none unit (command.Inquiry page allocation) taken never =
-    inquiry_none unit.identity allocation page (sends_nothing (min allocation (unwrap_or (inquiry_size page) 0)) never)
+    inquiry_none unit.limit unit.identity allocation page (sends_nothing (min allocation (unwrap_or (inquiry_size page) 0)) never)
 sends_none unit (command.ModeSelect size) taken never = selects_none unit (selected_by size taken unit.write_cache)
 sends_none unit (command.ModeSense control page subpage allocation) taken never = take_none allocation _ (omega (arith, sends_nothing (min allocation 24) never))
 sends_none unit command.ReadCapacity10 taken never = absurd (never 8 refl)
@@ -226,22 +226,22 @@ sends_none unit (command.Write16 transfer) taken never = writes_none unit transf
 sends_none unit (command.SynchronizeCache16 range) taken never = refl
 sends_none unit (command.ReadCapacity16 allocation) taken never = take_none allocation _ (omega (arith, sends_nothing (min allocation 32) never))
 
--- at most 48 blocks are moved
-in_most : (blocks : ℕ) (command : Command) (n : ℕ) → IsSupported blocks 48 command → moves command ≡ intent.In n → (0 < n) × (n ≤ 24576)
-in_most blocks command.TestUnitReady n served is = cc
-in_most blocks (command.RequestSense allocation) n served is = let so = sends_is (min allocation 18) n is in (so.1, omega (arith, so.0))
-in_most blocks (command.Inquiry page allocation) n served is =
-    let so = sends_is (min allocation (unwrap_or (inquiry_size page) 0)) n is in (so.1, omega (arith, so.0, inquiry_most page))
-in_most blocks (command.ModeSelect size) n served is = absurd (takes_no_in size n (size == 0) is)
-in_most blocks (command.ModeSense control page subpage allocation) n served is = let so = sends_is (min allocation 24) n is in (so.1, omega (arith, so.0))
-in_most blocks command.ReadCapacity10 n served is = let so = sends_is 8 n is in (so.1, omega (arith, so.0))
-in_most blocks (command.Read10 transfer) n served is = let so = sends_is (512 * transfer.count) n is in (so.1, omega (arith, so.0, served.few))
-in_most blocks (command.Write10 transfer) n served is = absurd (takes_no_in (512 * transfer.count) n (512 * transfer.count == 0) is)
-in_most blocks (command.SynchronizeCache10 range) n served is = cc
-in_most blocks (command.Read16 transfer) n served is = let so = sends_is (512 * transfer.count) n is in (so.1, omega (arith, so.0, served.few))
-in_most blocks (command.Write16 transfer) n served is = absurd (takes_no_in (512 * transfer.count) n (512 * transfer.count == 0) is)
-in_most blocks (command.SynchronizeCache16 range) n served is = cc
-in_most blocks (command.ReadCapacity16 allocation) n served is = let so = sends_is (min allocation 32) n is in (so.1, omega (arith, so.0))
+-- no more bytes are moved than the most blocks of a transfer have
+in_most : (blocks limit : ℕ) (command : Command) (n : ℕ) → 0 < limit → IsSupported blocks limit command → moves command ≡ intent.In n → (0 < n) × (n ≤ 512 * limit)
+in_most blocks limit command.TestUnitReady n some served is = cc
+in_most blocks limit (command.RequestSense allocation) n some served is = let so = sends_is (min allocation 18) n is in (so.1, omega (arith, so.0, some))
+in_most blocks limit (command.Inquiry page allocation) n some served is =
+    let so = sends_is (min allocation (unwrap_or (inquiry_size page) 0)) n is in (so.1, omega (arith, so.0, some, inquiry_most page))
+in_most blocks limit (command.ModeSelect size) n some served is = absurd (takes_no_in size n (size == 0) is)
+in_most blocks limit (command.ModeSense control page subpage allocation) n some served is = let so = sends_is (min allocation 24) n is in (so.1, omega (arith, so.0, some))
+in_most blocks limit command.ReadCapacity10 n some served is = let so = sends_is 8 n is in (so.1, omega (arith, so.0, some))
+in_most blocks limit (command.Read10 transfer) n some served is = let so = sends_is (512 * transfer.count) n is in (so.1, omega (arith, so.0, some, served.few))
+in_most blocks limit (command.Write10 transfer) n some served is = absurd (takes_no_in (512 * transfer.count) n (512 * transfer.count == 0) is)
+in_most blocks limit (command.SynchronizeCache10 range) n some served is = cc
+in_most blocks limit (command.Read16 transfer) n some served is = let so = sends_is (512 * transfer.count) n is in (so.1, omega (arith, so.0, some, served.few))
+in_most blocks limit (command.Write16 transfer) n some served is = absurd (takes_no_in (512 * transfer.count) n (512 * transfer.count == 0) is)
+in_most blocks limit (command.SynchronizeCache16 range) n some served is = cc
+in_most blocks limit (command.ReadCapacity16 allocation) n some served is = let so = sends_is (min allocation 32) n is in (so.1, omega (arith, so.0, some))
 
 one_of_three : (size : ℕ) (a b c : Bool) → (a ≡ true → 0 ≡ size) → (b ≡ true → 4 ≡ size) → (c ≡ true → 24 ≡ size)
     → IsTrue (a || (b || (c || false))) → size ≤ 24
@@ -253,20 +253,20 @@ one_of_three size false false false x y z one = absurd (false≢true one)
 list_most : (size : ℕ) → IsTrue (is_one_of (0 ∷ 4 ∷ 24 ∷ []) size) → size ≤ 24
 list_most size one = one_of_three size (0 == size) (4 == size) (24 == size) (eqb-true 0 size) (eqb-true 4 size) (eqb-true 24 size) one
 
-out_most : (blocks : ℕ) (command : Command) (n : ℕ) → IsSupported blocks 48 command → moves command ≡ intent.Out n → (0 < n) × (n ≤ 24576)
-out_most blocks command.TestUnitReady n served is = cc
-out_most blocks (command.RequestSense allocation) n served is = absurd (sends_no_out (min allocation 18) n (min allocation 18 == 0) is)
-out_most blocks (command.Inquiry page allocation) n served is = absurd (sends_no_out (min allocation (unwrap_or (inquiry_size page) 0)) n (min allocation (unwrap_or (inquiry_size page) 0) == 0) is)
-out_most blocks (command.ModeSelect size) n served is = let so = takes_is size n is in (so.1, omega (arith, so.0, list_most size served))
-out_most blocks (command.ModeSense control page subpage allocation) n served is = absurd (sends_no_out (min allocation 24) n (min allocation 24 == 0) is)
-out_most blocks command.ReadCapacity10 n served is = absurd (sends_no_out 8 n (8 == 0) is)
-out_most blocks (command.Read10 transfer) n served is = absurd (sends_no_out (512 * transfer.count) n (512 * transfer.count == 0) is)
-out_most blocks (command.Write10 transfer) n served is = let so = takes_is (512 * transfer.count) n is in (so.1, omega (arith, so.0, served.few))
-out_most blocks (command.SynchronizeCache10 range) n served is = cc
-out_most blocks (command.Read16 transfer) n served is = absurd (sends_no_out (512 * transfer.count) n (512 * transfer.count == 0) is)
-out_most blocks (command.Write16 transfer) n served is = let so = takes_is (512 * transfer.count) n is in (so.1, omega (arith, so.0, served.few))
-out_most blocks (command.SynchronizeCache16 range) n served is = cc
-out_most blocks (command.ReadCapacity16 allocation) n served is = absurd (sends_no_out (min allocation 32) n (min allocation 32 == 0) is)
+out_most : (blocks limit : ℕ) (command : Command) (n : ℕ) → 0 < limit → IsSupported blocks limit command → moves command ≡ intent.Out n → (0 < n) × (n ≤ 512 * limit)
+out_most blocks limit command.TestUnitReady n some served is = cc
+out_most blocks limit (command.RequestSense allocation) n some served is = absurd (sends_no_out (min allocation 18) n (min allocation 18 == 0) is)
+out_most blocks limit (command.Inquiry page allocation) n some served is = absurd (sends_no_out (min allocation (unwrap_or (inquiry_size page) 0)) n (min allocation (unwrap_or (inquiry_size page) 0) == 0) is)
+out_most blocks limit (command.ModeSelect size) n some served is = let so = takes_is size n is in (so.1, omega (arith, so.0, some, list_most size served))
+out_most blocks limit (command.ModeSense control page subpage allocation) n some served is = absurd (sends_no_out (min allocation 24) n (min allocation 24 == 0) is)
+out_most blocks limit command.ReadCapacity10 n some served is = absurd (sends_no_out 8 n (8 == 0) is)
+out_most blocks limit (command.Read10 transfer) n some served is = absurd (sends_no_out (512 * transfer.count) n (512 * transfer.count == 0) is)
+out_most blocks limit (command.Write10 transfer) n some served is = let so = takes_is (512 * transfer.count) n is in (so.1, omega (arith, so.0, some, served.few))
+out_most blocks limit (command.SynchronizeCache10 range) n some served is = cc
+out_most blocks limit (command.Read16 transfer) n some served is = absurd (sends_no_out (512 * transfer.count) n (512 * transfer.count == 0) is)
+out_most blocks limit (command.Write16 transfer) n some served is = let so = takes_is (512 * transfer.count) n is in (so.1, omega (arith, so.0, some, served.few))
+out_most blocks limit (command.SynchronizeCache16 range) n some served is = cc
+out_most blocks limit (command.ReadCapacity16 allocation) n some served is = absurd (sends_no_out (min allocation 32) n (min allocation 32 == 0) is)
 
 -- a command that takes nothing writes nothing
 some_write_none : (transfer : Transfer) (taken : List ℕ) → 512 * transfer.count ≡ 0 → some_write transfer taken ≡ None
@@ -328,13 +328,13 @@ of_fail (Ok command) sense is = absurd (no_fail command sense is)
 of_fail (Err other) sense is = cc
 
 -- a command that passed the checks is one that the unit carries out
-pub served_by : (unit : UnitState) (block : List ℕ) (command : Command) → checked unit block ≡ Ok command → IsSupported unit.book.blocks 48 command
+pub served_by : (unit : UnitState) (block : List ℕ) (command : Command) → checked unit block ≡ Ok command → IsSupported unit.book.blocks unit.limit command
 served_by unit block command passed =
-    IfOk-at_ok (IsSupported unit.book.blocks 48) (passed_by unit.book.blocks unit.kept.attention unit.faulted block command passed).0
-    (supported unit.book.blocks 48 block)
+    IfOk-at_ok (IsSupported unit.book.blocks unit.limit) (passed_by unit.book.blocks unit.limit unit.kept.attention unit.faulted block command passed).0
+    (supported unit.book.blocks unit.limit block)
 
 pub moved_by : (unit : UnitState) (block : List ℕ) → intention unit block ≡ moves_after (checked unit block)
-moved_by unit block = intention_is unit.book.blocks unit.kept.attention unit.faulted block
+moved_by unit block = intention_is unit.book.blocks unit.limit unit.kept.attention unit.faulted block
 
 -- the data of each outcome, if there are any
 sent_outcome : (P : List ℕ → Type 0) (refused : Bool) (told : Result Command Sense) (taken : List ℕ) (old new : UnitState) (answer : Result (List ℕ) Sense)
@@ -359,10 +359,10 @@ unwritten_by (Err sense) taken never = refl
 
 pub keeps_intentions : KeepsIntentions
 keeps_intentions = record {
-  most_in = λ unit block n is. let found = of_in (checked unit block) n (sym (moved_by unit block) ∙ is) in
-      in_most unit.book.blocks found.0 n (served_by unit block found.0 found.1) found.2;
-  most_out = λ unit block n is. let found = of_out (checked unit block) n (sym (moved_by unit block) ∙ is) in
-      out_most unit.book.blocks found.0 n (served_by unit block found.0 found.1) found.2;
+  most_in = λ unit block n some is. let found = of_in (checked unit block) n (sym (moved_by unit block) ∙ is) in
+      in_most unit.book.blocks unit.limit found.0 n some (served_by unit block found.0 found.1) found.2;
+  most_out = λ unit block n some is. let found = of_out (checked unit block) n (sym (moved_by unit block) ∙ is) in
+      out_most unit.book.blocks unit.limit found.0 n some (served_by unit block found.0 found.1) found.2;
   sent = λ refused block taken old new answer n sized is outcome.
       sent_outcome (λ sent. length sent ≡ n) refused (checked old block) taken old new answer
       (λ command passed. sends_so old command taken n sized (served_by old block command passed)

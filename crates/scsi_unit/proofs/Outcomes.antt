@@ -8,7 +8,7 @@ use Rattle.sense.specs.declared.codes.Sense.{Sense}
 use Rattle.cdb.specs.declared.command.Command.{Command}
 use Rattle.scsi_unit.specs.Rules.{UnitState, Effect, fails, effect_of, checked, write_after, write_of_command, with_progress, IsByTable, IsOutcome, needs_medium, intention}
 use Rattle.sense.specs.Waiting.{after_failure}
-use Rattle.scsi_unit.specs.Laws.{IsFunction, IsSameLife, KeepsWrites, StaysFaulted, TicksOnly, is_promising}
+use Rattle.scsi_unit.specs.Laws.{IsFunction, IsSameLife, KeepsLimit, KeepsWrites, StaysFaulted, TicksOnly, is_promising}
 use Rattle.scsi_unit.specs.declared.intent.Intent.TheVariants as intent
 use Rattle.scsi_unit.proofs.Checking.{passed_by, steady_by}
 use Rattle.scsi_unit.proofs.Turning.{died_or_not}
@@ -143,6 +143,20 @@ keeps_writes = record {
   accepted = λ refused block taken sent old new write is outcome. good_writes refused (checked old block) taken sent old new write is outcome;
 }
 
+-- ---- the most blocks of a transfer
+
+pub keeps_limit : KeepsLimit
+keeps_limit = record {
+  command = λ refused block taken old new answer outcome. let told = checked old block in
+      by_cases (λ u. u.limit ≡ old.limit) refused told taken old new answer
+      (table_leaves told taken old).1.limit_is
+      (λ sense e. refl)
+      (λ book sense e which. refl)
+      outcome;
+  tick = λ refused old new ticked. ⊎_elim (λ same. ap (λ (u : UnitState). u.limit) same)
+      (λ o. ap (λ (u : UnitState). u.limit) o.after) ticked;
+}
+
 -- ---- a faulted unit, and steps in the background
 
 faulted_outcome : (refused : Bool) (told : Result Command Sense) (taken : List ℕ) (old new : UnitState) (answer : Result (List ℕ) Sense)
@@ -163,7 +177,7 @@ faulted_outcome refused (Err sense) taken old new answer served faulted outcome 
 pub stays_faulted : StaysFaulted
 stays_faulted = record {
   command = λ refused block taken old new answer faulted outcome. faulted_outcome refused (checked old block) taken old new answer
-      (λ command passed. subst (λ (b : Bool). (b && needs_medium command) ≡ false) faulted (passed_by old.book.blocks old.kept.attention old.faulted block command passed).1)
+      (λ command passed. subst (λ (b : Bool). (b && needs_medium command) ≡ false) faulted (passed_by old.book.blocks old.limit old.kept.attention old.faulted block command passed).1)
       faulted outcome;
   tick = λ refused old new faulted ticked. ⊎_elim (λ same. same)
       (λ o. o.after ∙ ap (λ (f : Bool). record old { faulted = f }) (sym faulted)) ticked;
@@ -178,7 +192,7 @@ ticks_only = record {
       (λ o. ⊎_elim (λ refused. absurd (false≢true refused)) (λ out. absurd (stamps out)) o.cause) ticked;
   intentions = λ refused old new block n ticked out. ⊎_elim
       (λ same. subst (λ (u : UnitState). intention u block ≡ intent.Out n) same out)
-      (λ o. steady_by old.book.blocks old.kept.attention old.faulted true block n (died_or_not old.faulted true (λ _. refl))
+      (λ o. steady_by old.book.blocks old.limit old.kept.attention old.faulted true block n (died_or_not old.faulted true (λ _. refl))
       (subst (λ (u : UnitState). intention u block ≡ intent.Out n) o.after out))
       ticked;
 }

@@ -10,7 +10,7 @@ use Rattle.medium.specs.Moments.{LeavesOnly}
 use Rattle.medium.specs.Blocks.{Write}
 use Rattle.blocks.specs.Book.{Book, array_of, blocks_at, promised}
 use Rattle.blocks.specs.Finding.{FoundWith}
-use Rattle.blocks.specs.StoreValue.{StoreValue, FitsBook, blocks_of, is_dead}
+use Rattle.blocks.specs.StoreValue.{StoreValue, FitsBook, blocks_of, transfer_limit, is_dead}
 use Rattle.blocks.specs.Turns.{IsTurn}
 use Rattle.blocks.proofs.Turning.{stays, turns}
 use Rattle.sense.specs.declared.codes.Sense.{Sense}
@@ -24,14 +24,26 @@ use Rattle.cdb.specs.declared.command.Transfer.{Transfer}
 use Rattle.cdb.specs.declared.command.BlockRange.{BlockRange}
 use Rattle.scsi_unit.specs.Rules.{UnitState, Effect, takes, gives, fails, made_durable, effect_of, moves_blocks, forces_reading, write_of_command, write_after, wants_writing, with_progress, MayFault, IsByTable, IsOutcome}
 use Rattle.scsi_unit.specs.Capacity.{capacity_10}
-use Rattle.scsi_unit.specs.UnitValue.{UnitValue, state_of, answer_of}
+use Rattle.scsi_unit.specs.UnitValue.{UnitValue, unit_limit, state_of, answer_of}
 use Rattle.scsi_unit.specs.Serving.{has_refused}
 use Rattle.scsi_unit.specs.Performing.{settled, silent, Performs, Spares}
-use Rattle.scsi_unit.proofs.Turning.{may_fault, refused_so}
+use Rattle.scsi_unit.proofs.Turning.{may_fault, refused_so, limit_stays}
 
 -- a unit with this book, and faulted or not
 abbrev pub become : UnitState → Book → Bool → UnitState
 become unit book faulted = record unit { book = book; faulted = faulted }
+
+-- a unit with this limit
+abbrev pub limited : ℕ → UnitState → UnitState
+limited limit unit = record unit { limit = limit }
+
+-- an outcome of a unit whose limit stays is that of the unit with the limit that it had
+pub outcome_as : {M : Type 0} (refused : Bool) (told : Result Command Sense) (taken : List ℕ) (unit : UnitState) (answer : Result (List ℕ) Sense)
+    (new : UnitValue M) (next : Book) (limit : ℕ) → unit_limit new ≡ limit
+    → IsOutcome refused told taken unit answer (settled answer (limited limit (state_of new next)))
+    → IsOutcome refused told taken unit answer (settled answer (state_of new next))
+outcome_as refused told taken unit answer new next limit same outcome =
+    subst (λ (n : ℕ). IsOutcome refused told taken unit answer (settled answer (limited n (state_of new next)))) (sym same) outcome
 
 -- where all accepted writes are promised, or nothing is changed
 abbrev pub durable_if : Bool → Book → Book
@@ -78,17 +90,19 @@ module _ {M : Type 0} (before after : State) (old : UnitValue M) (last : StoreVa
   pub performs_by : (new : UnitValue M) → new.store ≡ last → new.identity ≡ old.identity
       → (told : Result Command Sense) (taken : List ℕ) (answer : Result (List ℕ) Sense) → write_after told taken ≡ None
       → ((book : Book) → FitsBook before old.store.cached book
-      → (next : Book) × IsOutcome (has_refused before after) told taken (state_of old book) answer (settled answer (state_of new next)) × FitsBook after last.cached next)
+      → (next : Book) × IsOutcome (has_refused before after) told taken (state_of old book) answer (settled answer (limited (unit_limit old) (state_of new next))) × FitsBook after last.cached next)
       → Performs before after told taken old answer new
-  performs_by new is identity told taken answer none line = record {
-    line = λ book fits. let found = line book fits in
-        (found.0, found.1, subst (λ (s : StoreValue M). FitsBook after s.cached found.0) (sym is) found.2);
-    cuts = λ book fits ours. subst (λ (w : Option Write). LeavesOnly (FoundWith before.size book w) before after) (sym none) (turn.cuts book fits ours);
-    failures_stay = turn.goes_on.failures_stay;
-    size_stays = turn.goes_on.size_stays;
-    blocks_stay = ap (λ (s : StoreValue M). blocks_of s.cached) is ∙ turn.goes_on.blocks_stay;
-    identity_stays = identity;
-  }
+  performs_by new is identity told taken answer none line =
+      let limit : unit_limit new ≡ unit_limit old = ap (λ (s : StoreValue M). transfer_limit s.cached) is ∙ limit_stays old.store.cached last.cached turn.goes_on.layout_stays in record {
+        line = λ book fits. let found = line book fits in
+            (found.0, outcome_as (has_refused before after) told taken (state_of old book) answer new found.0 (unit_limit old) limit found.1, subst (λ (s : StoreValue M). FitsBook after s.cached found.0) (sym is) found.2);
+        cuts = λ book fits ours. subst (λ (w : Option Write). LeavesOnly (FoundWith before.size book w) before after) (sym none) (turn.cuts book fits ours);
+        failures_stay = turn.goes_on.failures_stay;
+        size_stays = turn.goes_on.size_stays;
+        blocks_stay = ap (λ (s : StoreValue M). blocks_of s.cached) is ∙ turn.goes_on.blocks_stay;
+        limit_stays = limit;
+        identity_stays = identity;
+      }
 
   -- the store died while it made writes durable
   pub dies_writing : (command : Command) (taken : List ℕ) (sense : Sense) → write_of_command command taken ≡ None
@@ -138,7 +152,7 @@ forces_as transfer moves = and_true transfer.fua (moves_blocks transfer) moves
 -- a command that makes no call of the store
 module _ {M : Type 0} (m : State) (sound : IsSound m) (old new : UnitValue M) (store : new.store ≡ old.store) (identity : new.identity ≡ old.identity) where
   pub performs_none : (told : Result Command Sense) (taken : List ℕ) (answer : Result (List ℕ) Sense) → write_after told taken ≡ None
-      → ((book : Book) → FitsBook m old.store.cached book → IsOutcome (has_refused m m) told taken (state_of old book) answer (settled answer (state_of new book)))
+      → ((book : Book) → FitsBook m old.store.cached book → IsOutcome (has_refused m m) told taken (state_of old book) answer (settled answer (limited (unit_limit old) (state_of new book))))
       → Performs m m told taken old answer new
   performs_none told taken answer none outcome =
       performs_by m m old old.store (stays m old.store.cached sound) new store identity told taken answer none (λ book fits. (book, outcome book fits, fits))
@@ -176,7 +190,7 @@ module _ {M : Type 0} (before mid after : State) (old : UnitValue M) (half last 
         performs_by before after old last (turns before mid after old.store.cached half.cached last.cached turn more) (record old { store = last }) refl refl (Ok (command.Read10 transfer)) taken (Ok (take sent out)) refl (λ book fits.
         let kept = durable book fits in (
           durable_if wanted book,
-          inl (subst (λ (b : Bool). IsByTable (gives (blocks_at (array_of book) transfer.address transfer.count) (if b then made_durable (state_of old book) else state_of old book)) (Ok (take sent out)) (settled (Ok (take sent out)) (state_of (record old { store = last }) (durable_if wanted book))))
+          inl (subst (λ (b : Bool). IsByTable (gives (blocks_at (array_of book) transfer.address transfer.count) (if b then made_durable (state_of old book) else state_of old book)) (Ok (take sent out)) (settled (Ok (take sent out)) (limited (unit_limit old) (state_of (record old { store = last }) (durable_if wanted book)))))
               (sym (and_true transfer.fua (moves_blocks transfer) moves ∙ fua))
               (let bytes : take sent out ≡ blocks_at (array_of book) transfer.address transfer.count =
               ap (λ (n : ℕ). take n out) size ∙ read (durable_if wanted book) kept ∙ ap (λ (a : Array). blocks_at a transfer.address transfer.count) (array_kept wanted book) in
@@ -207,6 +221,7 @@ reads_16 before after transfer taken old answer new done = record {
   failures_stay = done.failures_stay;
   size_stays = done.size_stays;
   blocks_stay = done.blocks_stay;
+  limit_stays = done.limit_stays;
   identity_stays = done.identity_stays;
 }
 
@@ -219,6 +234,7 @@ writes_16 before after transfer taken old answer new done = record {
   failures_stay = done.failures_stay;
   size_stays = done.size_stays;
   blocks_stay = done.blocks_stay;
+  limit_stays = done.limit_stays;
   identity_stays = done.identity_stays;
 }
 
@@ -231,6 +247,7 @@ synchronizes_16 before after range taken old answer new done = record {
   failures_stay = done.failures_stay;
   size_stays = done.size_stays;
   blocks_stay = done.blocks_stay;
+  limit_stays = done.limit_stays;
   identity_stays = done.identity_stays;
 }
 
@@ -265,15 +282,15 @@ takes_enough bytes taken exact = takes_at bytes taken (bytes == 0) (λ zero. eqb
 
 pub spares_reading_16 : {M : Type 0} (transfer : Transfer) (taken : List ℕ) (old : UnitValue M) (answer : Result (List ℕ) Sense) (new : UnitValue M)
     → Spares (Ok (command.Read10 transfer)) taken old answer new → Spares (Ok (command.Read16 transfer)) taken old answer new
-spares_reading_16 transfer taken old answer new spares = record { untouched = spares.untouched; plain = spares.plain; active = spares.active }
+spares_reading_16 transfer taken old answer new spares = record { untouched = spares.untouched; plain = spares.plain; active = spares.active; log = spares.log }
 
 pub spares_writing_16 : {M : Type 0} (transfer : Transfer) (taken : List ℕ) (old : UnitValue M) (answer : Result (List ℕ) Sense) (new : UnitValue M)
     → Spares (Ok (command.Write10 transfer)) taken old answer new → Spares (Ok (command.Write16 transfer)) taken old answer new
-spares_writing_16 transfer taken old answer new spares = record { untouched = spares.untouched; plain = spares.plain; active = spares.active }
+spares_writing_16 transfer taken old answer new spares = record { untouched = spares.untouched; plain = spares.plain; active = spares.active; log = spares.log }
 
 pub spares_synchronizing_16 : {M : Type 0} (range : BlockRange) (taken : List ℕ) (old : UnitValue M) (answer : Result (List ℕ) Sense) (new : UnitValue M)
     → Spares (Ok (command.SynchronizeCache10 range)) taken old answer new → Spares (Ok (command.SynchronizeCache16 range)) taken old answer new
-spares_synchronizing_16 range taken old answer new spares = record { untouched = spares.untouched; plain = spares.plain; active = spares.active }
+spares_synchronizing_16 range taken old answer new spares = record { untouched = spares.untouched; plain = spares.plain; active = spares.active; log = spares.log }
 
 -- what was told, where it is known
 pub answer_at : (result : Result ℕ Sense) (size : ℕ) (out bytes : List ℕ) → result ≡ Ok size → IfOk result (λ sent. take sent out ≡ bytes)

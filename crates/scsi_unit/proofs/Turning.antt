@@ -1,14 +1,15 @@
 -- From the turns of a store to the events of a unit.
-use Rattle.std.proofs.Common.{◌≡◌, ◌⊎◌, ◌<◌, ◌≤◌, ◌+◌, [], inl, inr, ⊎_elim, ℕ, Bool, true, false, arith, refl, ap, subst}
+use Rattle.std.proofs.Common.{◌≡◌, ◌⊎◌, ◌<◌, ◌≤◌, ◌+◌, [], inl, inr, ⊎_elim, ℕ, Bool, true, false, arith, refl, ap, subst, ◌∙◌}
 use Rattle.std.proofs.lemmas.Bool.Decides.{nat_tests}
 use Rattle.medium.specs.Medium.{State}
+use Rattle.log_layout.specs.Places.{Shape, limit_of}
 use Rattle.blocks.specs.Background.{IsBackgroundStep}
 use Rattle.blocks.specs.Book.{Book}
-use Rattle.blocks.specs.StoreValue.{Cached, StoreValue, FitsBook, blocks_of, is_dead, active_of, steps_left}
+use Rattle.blocks.specs.StoreValue.{Cached, StoreValue, FitsBook, layout_of, blocks_of, transfer_limit, is_dead, active_of, steps_left}
 use Rattle.blocks.specs.Turns.{GoesOn, HasCause, IsTurn}
 use Rattle.scsi_unit.specs.Rules.{MayFault, Ticks, intention_by}
 use Rattle.scsi_unit.specs.declared.intent.Intent.TheVariants as intent
-use Rattle.scsi_unit.specs.UnitValue.{UnitValue, state_of}
+use Rattle.scsi_unit.specs.UnitValue.{UnitValue, unit_limit, state_of}
 use Rattle.scsi_unit.specs.Serving.{has_refused, TicksOver}
 use Rattle.scsi_unit.proofs.Checking.{steady_by}
 
@@ -29,17 +30,29 @@ pub may_fault : (before after : State) (old : Cached) (book : Book) → HasCause
 may_fault before after old book cause fits =
     ⊎_elim (λ grew. inl (refused_so before after grew)) (λ out. inr (out book fits)) cause
 
+-- where the shape of the log stays, the most blocks of a transfer stay too
+pub limit_stays : (old new : Cached) → layout_of new ≡ layout_of old → transfer_limit new ≡ transfer_limit old
+limit_stays old new same = ap (λ (s : Shape). limit_of s.format) same
+
+-- a unit after a turn of its store has the limit that it had
+limit_as : {M : Type 0} {before after : State} (old : UnitValue M) (store : StoreValue M) (book : Book)
+    → GoesOn before after old.store.cached store.cached
+    → state_of (record old { store = store }) book ≡ record (state_of old book) { faulted = is_dead store.cached }
+limit_as old store book on =
+    ap (λ (n : ℕ). record (state_of old book) { limit = n; faulted = is_dead store.cached }) (limit_stays old.store.cached store.cached on.layout_stays)
+
 -- a step in the background
 pub ticks_line : {M : Type 0} (before after : State) (old : UnitValue M) (store : StoreValue M)
     (book : Book) → GoesOn before after old.store.cached store.cached
     → FitsBook before old.store.cached book
     → Ticks (has_refused before after) (state_of old book) (state_of (record old { store = store }) book)
 ticks_line before after old store book on fits =
+    let limit = limit_as old store book on in
     elim (died_or_not (is_dead old.store.cached) (is_dead store.cached) on.dead_stays) [
-      | inl same ↦ inl (ap (λ (dead : Bool). record (state_of old book) { faulted = dead }) same)
+      | inl same ↦ inl (limit ∙ ap (λ (dead : Bool). record (state_of old book) { faulted = dead }) same)
       | inr died ↦ inr (record {
         cause = may_fault before after old.store.cached book (on.cause died.0 died.1) fits;
-        after = ap (λ (dead : Bool). record (state_of old book) { faulted = dead }) died.1;
+        after = limit ∙ ap (λ (dead : Bool). record (state_of old book) { faulted = dead }) died.1;
       })
     ]
 
@@ -57,10 +70,11 @@ ticks_over before after old store turn step few left active = record {
   failures_stay = turn.goes_on.failures_stay;
   size_stays = turn.goes_on.size_stays;
   blocks_stay = turn.goes_on.blocks_stay;
+  limit_stays = limit_stays old.store.cached store.cached turn.goes_on.layout_stays;
   others_stay = refl;
-  steady = λ block n out. steady_by (blocks_of old.store.cached) old.kept.attention (is_dead old.store.cached) (is_dead store.cached) block n
+  steady = λ block n out. steady_by (blocks_of old.store.cached) (unit_limit old) old.kept.attention (is_dead old.store.cached) (is_dead store.cached) block n
       (died_or_not (is_dead old.store.cached) (is_dead store.cached) turn.goes_on.dead_stays)
-      (subst (λ (b : ℕ). intention_by b old.kept.attention (is_dead store.cached) block ≡ intent.Out n) turn.goes_on.blocks_stay out);
+      (subst (λ (s : Shape). intention_by s.blocks (limit_of s.format) old.kept.attention (is_dead store.cached) block ≡ intent.Out n) turn.goes_on.layout_stays out);
   few = few;
   left = left;
   active = active;

@@ -17,11 +17,11 @@ use Rattle.cdb.specs.declared.command.Command.TheVariants as command
 use Rattle.cdb.specs.declared.command.Transfer.{Transfer}
 use Rattle.cdb.specs.declared.command.BlockRange.{BlockRange}
 use Rattle.scsi_unit.specs.Rules.{UnitState, Effect, gives, clears, selected_by, made_durable, accepting, selects, moves_blocks, write_by, some_write, wants_writing, with_progress, MayFault, IsByTable, IsOutcome}
-use Rattle.scsi_unit.specs.UnitValue.{UnitValue, state_of}
+use Rattle.scsi_unit.specs.UnitValue.{UnitValue, unit_limit, state_of}
 use Rattle.scsi_unit.specs.Serving.{has_refused}
 use Rattle.scsi_unit.specs.Performing.{settled, silent, Performs}
-use Rattle.scsi_unit.proofs.Turning.{may_fault, refused_so}
-use Rattle.scsi_unit.proofs.Performing.{become, died, durable_if, given, performs_by, performs_none, dies_writing}
+use Rattle.scsi_unit.proofs.Turning.{may_fault, refused_so, limit_stays}
+use Rattle.scsi_unit.proofs.Performing.{become, limited, outcome_as, died, durable_if, given, performs_by, performs_none, dies_writing}
 
 -- ---- WRITE
 
@@ -66,10 +66,11 @@ write_refused before after old last transfer taken moves live done sense was tur
     let w = write_by transfer taken in
     let turn = subst (λ (r : Result (Unit {0}) Sense). IsWriteTurn w (is_ok r) before after old.store.cached last.cached) was turned in
     let dead = MatchResult-at_err (λ _. is_dead last.cached ≡ false) (λ (s : Sense). (s ≡ write_error) × (is_dead last.cached ≡ true)) sense was answer in
+    let limit = limit_stays old.store.cached last.cached turn.goes_on.layout_stays in
     record {
       line = λ book fits. (
         book,
-        inr (inr (record {
+        outcome_as (has_refused before after) (Ok (command.Write10 transfer)) taken (state_of old book) (Err sense) (record old { store = last }) book (unit_limit old) limit (inr (inr (record {
           cause = subst (λ (v : Option Write). MayFault (has_refused before after) (with_progress book v)) (sym (some_write_is transfer taken moves))
               (may_fault_with before after old.store.cached book w (turn.goes_on.cause live dead.1) fits);
           writes = moves;
@@ -78,13 +79,14 @@ write_refused before after old last transfer taken moves live done sense was tur
           accepted = inl refl;
           after = subst (λ (e : Sense). settled (Err e) (become (state_of old book) book (is_dead last.cached)) ≡ record (state_of old book) { book = book; kept = after_failure write_error old.kept; faulted = true })
               (sym dead.0) (died (state_of old book) book (is_dead last.cached) dead.1);
-        })),
+        }))),
         turn.fits book fits,
       );
       cuts = λ book fits ours. subst (λ (v : Option Write). LeavesOnly (FoundWith before.size book v) before after) (sym (some_write_is transfer taken moves)) (turn.cuts book fits ours);
       failures_stay = turn.goes_on.failures_stay;
       size_stays = turn.goes_on.size_stays;
       blocks_stay = turn.goes_on.blocks_stay;
+      limit_stays = limit;
       identity_stays = refl;
     }
 
@@ -103,20 +105,23 @@ module _ {M : Type 0} (before mid after : State) (old : UnitValue M) (half last 
 
   packed : (answer : Result (List ℕ) Sense)
       → ((book : Book) → FitsBook before old.store.cached book
-      → (next : Book) × IsOutcome (has_refused before after) (Ok (command.Write10 transfer)) taken (state_of old book) answer (settled answer (state_of (record old { store = last }) next)) × FitsBook after last.cached next)
+      → (next : Book) × IsOutcome (has_refused before after) (Ok (command.Write10 transfer)) taken (state_of old book) answer (settled answer (limited (unit_limit old) (state_of (record old { store = last }) next))) × FitsBook after last.cached next)
       → Performs before after (Ok (command.Write10 transfer)) taken old answer (record old { store = last })
-  packed answer line = record {
-    line = line;
-    cuts = λ book fits ours. subst (λ (v : Option Write). LeavesOnly (FoundWith before.size book v) before after) (sym (some_write_is transfer taken moves))
-        (joined_same (Found before.size book (write_by transfer taken)) before mid after (turn.cuts book fits ours)
-        (weaker (MayFind mid.size (with_write book (write_by transfer taken))) (Found before.size book (write_by transfer taken)) mid after
-        (λ image found. inr (subst (λ (n : ℕ). MayFind n (with_write book (write_by transfer taken)) image) turn.goes_on.size_stays found))
-        (more.cuts (with_write book (write_by transfer taken)) (turn.fits book fits) ours)));
-    failures_stay = omega (arith, turn.goes_on.failures_stay, more.goes_on.failures_stay);
-    size_stays = more.goes_on.size_stays ∙ turn.goes_on.size_stays;
-    blocks_stay = more.goes_on.blocks_stay ∙ turn.goes_on.blocks_stay;
-    identity_stays = refl;
-  }
+  packed answer line =
+      let limit = limit_stays half.cached last.cached more.goes_on.layout_stays ∙ limit_stays old.store.cached half.cached turn.goes_on.layout_stays in record {
+        line = λ book fits. let found = line book fits in
+            (found.0, outcome_as (has_refused before after) (Ok (command.Write10 transfer)) taken (state_of old book) answer (record old { store = last }) found.0 (unit_limit old) limit found.1, found.2);
+        cuts = λ book fits ours. subst (λ (v : Option Write). LeavesOnly (FoundWith before.size book v) before after) (sym (some_write_is transfer taken moves))
+            (joined_same (Found before.size book (write_by transfer taken)) before mid after (turn.cuts book fits ours)
+            (weaker (MayFind mid.size (with_write book (write_by transfer taken))) (Found before.size book (write_by transfer taken)) mid after
+            (λ image found. inr (subst (λ (n : ℕ). MayFind n (with_write book (write_by transfer taken)) image) turn.goes_on.size_stays found))
+            (more.cuts (with_write book (write_by transfer taken)) (turn.fits book fits) ours)));
+        failures_stay = omega (arith, turn.goes_on.failures_stay, more.goes_on.failures_stay);
+        size_stays = more.goes_on.size_stays ∙ turn.goes_on.size_stays;
+        blocks_stay = more.goes_on.blocks_stay ∙ turn.goes_on.blocks_stay;
+        limit_stays = limit;
+        identity_stays = refl;
+      }
 
   -- the unit after a good WRITE
   after_writing : (wanted : Bool) (unit : UnitState) (faulted : Bool) → faulted ≡ unit.faulted
@@ -130,7 +135,7 @@ module _ {M : Type 0} (before mid after : State) (old : UnitValue M) (half last 
       → Performs before after (Ok (command.Write10 transfer)) taken old (silent done) (record old { store = last })
   writes_blocks (Ok finished) promises answer = packed (Ok []) (λ book fits. (
     durable_if (transfer.fua || not old.write_cache) (with_write book (write_by transfer taken)),
-    inl (subst (λ (b : Bool). IsByTable (written b (transfer.fua || not old.write_cache) (write_by transfer taken) (state_of old book)) (Ok []) (settled (Ok []) (state_of (record old { store = last }) (durable_if (transfer.fua || not old.write_cache) (with_write book (write_by transfer taken))))))
+    inl (subst (λ (b : Bool). IsByTable (written b (transfer.fua || not old.write_cache) (write_by transfer taken) (state_of old book)) (Ok []) (settled (Ok []) (limited (unit_limit old) (state_of (record old { store = last }) (durable_if (transfer.fua || not old.write_cache) (with_write book (write_by transfer taken)))))))
         (sym moves) (after_writing (transfer.fua || not old.write_cache) (state_of old book) (is_dead last.cached) (answer ∙ sym live))),
     promises (with_write book (write_by transfer taken)) (turn.fits book fits),
   ))
@@ -188,7 +193,7 @@ selects_bit before after old last turn live length taken enabled chosen done val
     let alive = MatchResult-at_ok (λ _. is_dead last.cached ≡ false) (λ (s : Sense). (s ≡ write_error) × (is_dead last.cached ≡ true)) value was answer in
     performs_by before after old last turn (record old { store = last; write_cache = enabled }) refl refl (Ok (command.ModeSelect length)) taken (Ok []) refl (λ book fits. (
       durable_if (old.write_cache && not enabled) book,
-      inl (subst (λ (r : Result Bool Sense). IsByTable (selects r (state_of old book)) (Ok []) (settled (Ok []) (state_of (record old { store = last; write_cache = enabled }) (durable_if (old.write_cache && not enabled) book))))
+      inl (subst (λ (r : Result Bool Sense). IsByTable (selects r (state_of old book)) (Ok []) (settled (Ok []) (limited (unit_limit old) (state_of (record old { store = last; write_cache = enabled }) (durable_if (old.write_cache && not enabled) book)))))
           (sym chosen) (selects_as (old.write_cache && not enabled) enabled (state_of old book) (is_dead last.cached) (alive ∙ sym live))),
       IfOk-at_ok (λ _. FitsBook after last.cached (durable_if (old.write_cache && not enabled) book)) was (promises book fits),
     ))

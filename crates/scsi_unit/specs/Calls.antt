@@ -2,9 +2,10 @@
 use Rattle.std.specs.Prelude.{ℕ, ◌+◌, ◌*◌, ◌≤◌, ◌||◌, not, Bool, List, Result, Ok, Err}
 use Rattle.std.specs.Prelude.{if◌then◌else◌}
 use Rattle.medium.specs.Medium.{State}
-use Rattle.blocks.specs.StoreValue.{Cached, steps_left}
--- handed on to the layers above: one call for each block that no batch has
-pub use Rattle.blocks.specs.Calls.{reads_of}
+use Rattle.blocks.specs.StoreValue.{Cached, batch_steps, steps_left}
+-- handed on to the layers above: for each block that no batch has, one call from home, and from
+-- the log one in format 1 and two in format 2
+pub use Rattle.blocks.specs.Calls.{reads_of, most_reads}
 use Rattle.sense.specs.declared.codes.Sense.{Sense}
 use Rattle.cdb.specs.declared.command.Command.{Command}
 use Rattle.cdb.specs.declared.command.Command.TheVariants as command
@@ -17,18 +18,18 @@ use Rattle.scsi_unit.specs.Serving.{command_for}
 abbrev pub calls_of_sync : Cached → ℕ
 calls_of_sync cached = 2 * steps_left cached
 
--- a READ: one for each block that is in no batch; with FUA the batches are empty by then
+-- a READ: those of each block that is in no batch; with FUA the batches are empty by then
 abbrev pub calls_of_read : Transfer → Cached → ℕ
 calls_of_read transfer cached =
-    if forces_reading transfer then calls_of_sync cached + transfer.count
+    if forces_reading transfer then calls_of_sync cached + most_reads cached * transfer.count
     else reads_of cached transfer.address transfer.count
 
--- a WRITE: those that make room for it; with FUA or without the cache it is made durable too, and
--- the batch that it goes to takes 112 steps at most
+-- a WRITE: those that make room for it; with FUA or without the cache it is made durable too: two
+-- more for each step that a batch takes at most
 abbrev pub calls_of_write : Transfer → Bool → Cached → ℕ
 calls_of_write transfer write_cache cached =
     if not (moves_blocks transfer) then 0
-    else if transfer.fua || not write_cache then calls_of_sync cached + 2 * 112
+    else if transfer.fua || not write_cache then calls_of_sync cached + 2 * batch_steps cached
     else calls_of_sync cached
 
 -- a command, over the bytes taken for it

@@ -1,6 +1,6 @@
 -- What follows from the rules of the logical unit, whatever its state.
-use Rattle.std.specs.Prelude.{◌≡◌, ◌≢◌, ◌⊎◌, ◌<◌, ◌≤◌, ℕ, Bool, true, false, List, [], ◌∷◌, ◌++◌, length}
-use Rattle.std.specs.Prelude.{◌&&◌, ◌||◌, not}
+use Rattle.std.specs.Prelude.{◌≡◌, ◌≢◌, ◌⊎◌, ◌<◌, ◌≤◌, ◌*◌, ℕ, Bool, true, false, List, []}
+use Rattle.std.specs.Prelude.{◌∷◌, ◌++◌, length, ◌&&◌, ◌||◌, not}
 use Rattle.std.specs.Prelude.{if◌then◌else◌}
 use Rattle.std.specs.Prelude.{Option, Some, None, Result, Ok, Err, IfOk}
 use Rattle.medium.specs.Medium.{Image}
@@ -15,6 +15,7 @@ use Rattle.scsi_unit.specs.declared.intent.Intent.TheVariants as intent
 use Rattle.scsi_unit.specs.Rules.{UnitState, checked, intention, write_in_progress, with_progress}
 use Rattle.scsi_unit.specs.Rules.{forces_reading, moves_blocks, clears, selected_by}
 use Rattle.scsi_unit.specs.Rules.{CarriesOut, Ticks}
+use Rattle.scsi_unit.specs.Limit.{HasLimit}
 
 -- no stamp is wanting for a command, with its write counted
 abbrev pub HasStamps : List ℕ → List ℕ → UnitState → Type 0
@@ -39,12 +40,12 @@ pub record IsSized (unit : UnitState) : Type 0 where
   pub serial : length unit.identity.serial ≡ 12
   pub blocks : (b : ℕ) → b < unit.book.blocks → length (array_of unit.book b) ≡ 512
 
--- a command moves what it intended to, and at most 48 blocks
+-- a command moves what it intended to, and no more bytes than the most blocks of a transfer have
 pub record KeepsIntentions : Type 0 where
-  pub most_in : (unit : UnitState) (block : List ℕ) (n : ℕ) → intention unit block ≡ intent.In n
-      → (0 < n) × (n ≤ 24576)
-  pub most_out : (unit : UnitState) (block : List ℕ) (n : ℕ) → intention unit block ≡ intent.Out n
-      → (0 < n) × (n ≤ 24576)
+  pub most_in : (unit : UnitState) (block : List ℕ) (n : ℕ) → 0 < unit.limit
+      → intention unit block ≡ intent.In n → (0 < n) × (n ≤ 512 * unit.limit)
+  pub most_out : (unit : UnitState) (block : List ℕ) (n : ℕ) → 0 < unit.limit
+      → intention unit block ≡ intent.Out n → (0 < n) × (n ≤ 512 * unit.limit)
   -- a good command sends as many bytes as it intended to send
   pub sent : (refused : Bool) (block taken : List ℕ) (old new : UnitState)
       (answer : Result (List ℕ) Sense) (n : ℕ) → IsSized old → intention old block ≡ intent.In n
@@ -135,6 +136,14 @@ pub record TicksOnly : Type 0 where
       → Ticks refused old new → intention new block ≡ intent.Out n
       → intention old block ≡ intent.Out n
 
+-- no command and no step in the background changes the most blocks of a transfer
+pub record KeepsLimit : Type 0 where
+  pub command : (refused : Bool) (block taken : List ℕ) (old new : UnitState)
+      (answer : Result (List ℕ) Sense) → CarriesOut refused block taken old answer new
+      → new.limit ≡ old.limit
+  pub tick : (refused : Bool) (old new : UnitState) → Ticks refused old new
+      → new.limit ≡ old.limit
+
 -- what is known of an image by the books for which it stands
 pub record KnowsImages : Type 0 where
   -- what may be found of a book is ours
@@ -148,3 +157,8 @@ pub record KnowsImages : Type 0 where
       → StandsAs size book.blocks image book.opening book.stamp → StandsForOpening size book image
   pub stands : (size : ℕ) (book : Book) (image : Image) → StandsForOpening size book image
       → Stands size image
+  -- it has a limit, and no other
+  pub some_limit : (size : ℕ) (image : Image) → Stands size image
+      → (limit : ℕ) × HasLimit size limit image
+  pub one_limit : (size limit other : ℕ) (image : Image) → HasLimit size limit image
+      → HasLimit size other image → limit ≡ other

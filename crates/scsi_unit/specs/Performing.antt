@@ -10,8 +10,8 @@ use Rattle.sense.specs.Waiting.{Waiting, after_failure}
 use Rattle.cdb.specs.declared.command.Command.{Command}
 use Rattle.cdb.specs.declared.command.Transfer.{Transfer}
 use Rattle.scsi_unit.specs.Rules.{UnitState, write_after, IsOutcome}
-use Rattle.scsi_unit.specs.UnitValue.{UnitValue, state_of, FitsUnit}
-use Rattle.scsi_unit.specs.Serving.{has_refused, wants_medium, plain_write, ActiveAfter}
+use Rattle.scsi_unit.specs.UnitValue.{UnitValue, unit_limit, state_of, FitsUnit}
+use Rattle.scsi_unit.specs.Serving.{has_refused, wants_medium, plain_write, ActiveAfter, LogAfter}
 
 -- what is kept once a command has answered: its sense, if it failed, and none of an earlier one
 abbrev pub settled_kept : Result (List ℕ) Sense → Waiting → Waiting
@@ -36,6 +36,7 @@ pub record Performs {M : Type 0} (before after : State) (told : Result Command S
   pub failures_stay : before.failures ≤ after.failures
   pub size_stays : after.size ≡ before.size
   pub blocks_stay : blocks_of new.store.cached ≡ blocks_of old.store.cached
+  pub limit_stays : unit_limit new ≡ unit_limit old
   pub identity_stays : new.identity ≡ old.identity
 
 -- which calls of the medium it made
@@ -43,11 +44,13 @@ pub record Spares {M : Type 0} (told : Result Command Sense) (taken : List ℕ) 
     (answer : Result (List ℕ) Sense) (new : UnitValue M) : Type 0 where
   pub untouched : wants_medium told taken old.write_cache ≡ false → new.store ≡ old.store
   pub plain : (transfer : Transfer) → plain_write told old.write_cache ≡ Some transfer
-      → FitsBeside (active_of old.store.cached) transfer.address transfer.count
+      → FitsBeside (unit_limit old) (active_of old.store.cached) transfer.address transfer.count
       → (new.store.medium ≡ old.store.medium) × (is_ok answer ≡ true)
   pub active : is_dead new.store.cached ≡ false
-      → ActiveAfter told taken old.write_cache
+      → ActiveAfter (unit_limit old) told taken old.write_cache
       (active_of old.store.cached) (active_of new.store.cached)
+  pub log : is_ok answer ≡ true
+      → LogAfter told taken old.write_cache old.store.cached new.store.cached
 
 -- the answer of a command that sends no data
 abbrev pub silent : Result (Unit {0}) Sense → Result (List ℕ) Sense

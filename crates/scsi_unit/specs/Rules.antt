@@ -26,6 +26,8 @@ use Rattle.scsi_unit.specs.Capacity.{capacity_10, capacity_16}
 pub record UnitState : Type 0 where
   -- the writes accepted so far, and how many of them are promised
   pub book : Book
+  -- the most blocks of one READ or WRITE
+  pub limit : ℕ
   pub identity : Identification
   -- what waits for REQUEST SENSE
   pub kept : Waiting
@@ -35,18 +37,15 @@ pub record UnitState : Type 0 where
   pub faulted : Bool
 
 -- a unit after its start: the unit attention is pending, no sense is kept, and WCE is 1
-abbrev pub opened_unit : Identification → Book → UnitState
-opened_unit identity book = record {
+abbrev pub opened_unit : ℕ → Identification → Book → UnitState
+opened_unit limit identity book = record {
   book = book;
+  limit = limit;
   identity = identity;
   kept = record { sense = None; attention = true };
   write_cache = true;
   faulted = false;
 }
-
--- the most blocks of one READ or WRITE
-abbrev pub transfer_limit : ℕ
-transfer_limit = 48
 
 -- ---- the checks of a command
 
@@ -77,15 +76,16 @@ checked_for_fault faulted (Ok command) =
 checked_for_fault faulted (Err sense) = Err sense
 
 -- The command of a command block, or the sense with which it is refused, by a unit with so many
--- blocks, with or without a pending unit attention, faulted or not. The checks in order: the unit
--- attention; what the table of commands says of the block; that the unit is not faulted.
-unfoldable pub command_by : ℕ → Bool → Bool → List ℕ → Result Command Sense
-command_by blocks attention faulted block =
+-- blocks, with so many in a transfer at most, with or without a pending unit attention, faulted or
+-- not. The checks in order: the unit attention; what the table of commands says of the block; that
+-- the unit is not faulted.
+unfoldable pub command_by : ℕ → ℕ → Bool → Bool → List ℕ → Result Command Sense
+command_by blocks limit attention faulted block =
     if attention && not (passes_attention (byte_at 0 block)) then Err power_on_or_reset_occurred
-    else checked_for_fault faulted (command_of blocks transfer_limit block)
+    else checked_for_fault faulted (command_of blocks limit block)
 
 abbrev pub checked : UnitState → List ℕ → Result Command Sense
-checked unit block = command_by unit.book.blocks unit.kept.attention unit.faulted block
+checked unit block = command_by unit.book.blocks unit.limit unit.kept.attention unit.faulted block
 
 -- ---- the intention of a command
 
@@ -118,11 +118,13 @@ moves_after (Ok command) = moves command
 moves_after (Err sense) = intent.Fail sense
 
 -- what a command block is about to move, or the sense with which it is refused
-unfoldable pub intention_by : ℕ → Bool → Bool → List ℕ → Intent
-intention_by blocks attention faulted block = moves_after (command_by blocks attention faulted block)
+unfoldable pub intention_by : ℕ → ℕ → Bool → Bool → List ℕ → Intent
+intention_by blocks limit attention faulted block =
+    moves_after (command_by blocks limit attention faulted block)
 
 abbrev pub intention : UnitState → List ℕ → Intent
-intention unit block = intention_by unit.book.blocks unit.kept.attention unit.faulted block
+intention unit block =
+    intention_by unit.book.blocks unit.limit unit.kept.attention unit.faulted block
 
 -- ---- the table of commands, where the medium refuses nothing and stamps are left
 
@@ -207,7 +209,7 @@ abbrev pub effect_of : Command → List ℕ → UnitState → Effect
 effect_of command.TestUnitReady taken unit = gives [] unit
 effect_of (command.RequestSense allocation) taken unit = reports allocation unit
 effect_of (command.Inquiry page allocation) taken unit =
-    gives (take allocation (unwrap_or (inquiry_data unit.identity transfer_limit page) [])) unit
+    gives (take allocation (unwrap_or (inquiry_data unit.identity unit.limit page) [])) unit
 effect_of (command.ModeSelect length) taken unit =
     selects (selected_by length taken unit.write_cache) unit
 effect_of (command.ModeSense control page subpage allocation) taken unit =

@@ -6,8 +6,10 @@ use Rattle.medium.specs.Moments.{LeavesOnly}
 use Rattle.blocks.specs.Background.{IsBackgroundStep}
 use Rattle.blocks.specs.Book.{Book}
 use Rattle.blocks.specs.Finding.{MayFind, FoundWith}
-use Rattle.blocks.specs.StoreValue.{blocks_of, is_dead, active_of, steps_left}
-use Rattle.blocks.specs.StoreValue.{FitsBeside, TakesRange}
+use Rattle.blocks.specs.Calls.{TurnsBatches}
+use Rattle.blocks.specs.Retiring.{finished}
+use Rattle.blocks.specs.StoreValue.{Cached, blocks_of, is_dead, active_of, steps_left}
+use Rattle.blocks.specs.StoreValue.{transfer_limit, FitsBeside, TakesRange}
 use Rattle.sense.specs.declared.codes.Sense.{Sense}
 use Rattle.cdb.specs.declared.command.Command.{Command}
 use Rattle.cdb.specs.declared.command.Command.TheVariants as command
@@ -16,7 +18,7 @@ use Rattle.scsi_unit.specs.declared.intent.Intent.TheVariants as intent
 use Rattle.scsi_unit.specs.Rules.{command_by, moves_blocks, reads_blocks}
 use Rattle.scsi_unit.specs.Rules.{wants_writing, write_in_progress}
 use Rattle.scsi_unit.specs.Rules.{CarriesOut, Ticks}
-use Rattle.scsi_unit.specs.UnitValue.{UnitValue, state_of, intention_of, FitsUnit}
+use Rattle.scsi_unit.specs.UnitValue.{UnitValue, unit_limit, state_of, intention_of, FitsUnit}
 
 -- ---- a command
 
@@ -41,6 +43,7 @@ pub record Serves {M : Type 0} (before after : State) (block taken : List ℕ) (
   pub failures_stay : before.failures ≤ after.failures
   pub size_stays : after.size ≡ before.size
   pub blocks_stay : blocks_of new.store.cached ≡ blocks_of old.store.cached
+  pub limit_stays : unit_limit new ≡ unit_limit old
   pub identity_stays : new.identity ≡ old.identity
 
 -- ---- the calls of the medium that a command makes, and the batch that takes writes
@@ -49,7 +52,7 @@ pub record Serves {M : Type 0} (before after : State) (block taken : List ℕ) (
 abbrev pub command_for : {M : Type 0} → UnitValue M → List ℕ → Result Command Sense
 command_for unit block =
     let cached = unit.store.cached in
-    command_by (blocks_of cached) unit.kept.attention (is_dead cached) block
+    command_by (blocks_of cached) (unit_limit unit) unit.kept.attention (is_dead cached) block
 
 -- the command reads blocks, writes blocks, or makes writes durable
 abbrev pub wants_medium : Result Command Sense → List ℕ → Bool → Bool
@@ -74,22 +77,53 @@ abbrev pub IsEmptied : Bool → List ℕ → List ℕ → Type 0
 IsEmptied false old new = new ≡ old
 IsEmptied true old new = (new ≡ old) ⊎ (new ≡ [])
 
--- the same after a WRITE that moves blocks or none, and makes them durable or does not
-abbrev pub IsWrittenTo : Bool → Bool → Transfer → List ℕ → List ℕ → Type 0
-IsWrittenTo false durable transfer old new = new ≡ old
-IsWrittenTo true false transfer old new = TakesRange old transfer.address transfer.count new
-IsWrittenTo true true transfer old new =
-    TakesRange old transfer.address transfer.count new ⊎ (new ≡ [])
+-- the same after a WRITE that moves blocks or none, and makes them durable or does not; a batch has
+-- as many blocks as a transfer at most
+abbrev pub IsWrittenTo : ℕ → Bool → Bool → Transfer → List ℕ → List ℕ → Type 0
+IsWrittenTo limit false durable transfer old new = new ≡ old
+IsWrittenTo limit true false transfer old new =
+    TakesRange limit old transfer.address transfer.count new
+IsWrittenTo limit true true transfer old new =
+    TakesRange limit old transfer.address transfer.count new ⊎ (new ≡ [])
 
 -- the same after a command, or after its refusal
-abbrev pub ActiveAfter : Result Command Sense → List ℕ → Bool → List ℕ → List ℕ → Type 0
-ActiveAfter (Ok (command.Write10 transfer)) taken write_cache old new =
-    IsWrittenTo (moves_blocks transfer) (transfer.fua || not write_cache) transfer old new
-ActiveAfter (Ok (command.Write16 transfer)) taken write_cache old new =
-    IsWrittenTo (moves_blocks transfer) (transfer.fua || not write_cache) transfer old new
-ActiveAfter (Ok command) taken write_cache old new =
+abbrev pub ActiveAfter : ℕ → Result Command Sense → List ℕ → Bool → List ℕ → List ℕ → Type 0
+ActiveAfter limit (Ok (command.Write10 transfer)) taken write_cache old new =
+    IsWrittenTo limit (moves_blocks transfer) (transfer.fua || not write_cache) transfer old new
+ActiveAfter limit (Ok (command.Write16 transfer)) taken write_cache old new =
+    IsWrittenTo limit (moves_blocks transfer) (transfer.fua || not write_cache) transfer old new
+ActiveAfter limit (Ok command) taken write_cache old new =
     IsEmptied (wants_writing command taken write_cache) old new
-ActiveAfter (Err sense) taken write_cache old new = new ≡ old
+ActiveAfter limit (Err sense) taken write_cache old new = new ≡ old
+
+-- Where writes are made durable the record of each batch is written, and none is retired but for
+-- room; else nothing changes.
+abbrev pub IsFinished : Bool → Cached → Cached → Type 0
+IsFinished false old new = new ≡ old
+IsFinished true old new =
+    new.log ≡ finished old.active.numbers (finished old.frozen.numbers old.log)
+
+-- a good write of the store, and then its writes are made durable or are not
+pub record IsWrittenThrough (durable : Bool) (transfer : Transfer) (old new : Cached) : Type 0 where
+  pub mid : Cached
+  pub turns : TurnsBatches old mid transfer.address transfer.count
+  pub takes : TakesRange (transfer_limit old) (active_of old) transfer.address transfer.count (active_of mid)
+  pub finishes : IsFinished durable mid new
+
+-- the same after a WRITE that moves blocks or none
+abbrev pub IsLoggedWrite : Bool → Bool → Transfer → Cached → Cached → Type 0
+IsLoggedWrite false durable transfer old new = new ≡ old
+IsLoggedWrite true durable transfer old new = IsWrittenThrough durable transfer old new
+
+-- the batches and the log after a good command
+abbrev pub LogAfter : Result Command Sense → List ℕ → Bool → Cached → Cached → Type 0
+LogAfter (Ok (command.Write10 transfer)) taken write_cache old new =
+    IsLoggedWrite (moves_blocks transfer) (transfer.fua || not write_cache) transfer old new
+LogAfter (Ok (command.Write16 transfer)) taken write_cache old new =
+    IsLoggedWrite (moves_blocks transfer) (transfer.fua || not write_cache) transfer old new
+LogAfter (Ok command) taken write_cache old new =
+    IsFinished (wants_writing command taken write_cache) old new
+LogAfter (Err sense) taken write_cache old new = new ≡ old
 
 -- Which calls of the medium a command makes: none that it does not need.
 pub record IsSparing {M : Type 0} (block taken : List ℕ) (old : UnitValue M)
@@ -100,11 +134,14 @@ pub record IsSparing {M : Type 0} (block taken : List ℕ) (old : UnitValue M)
   -- a plain WRITE that fits beside the batch that takes writes makes no call, and is good
   pub plain : (transfer : Transfer)
       → plain_write (command_for old block) old.write_cache ≡ Some transfer
-      → FitsBeside (active_of old.store.cached) transfer.address transfer.count
+      → FitsBeside (unit_limit old) (active_of old.store.cached) transfer.address transfer.count
       → (new.store.medium ≡ old.store.medium) × (is_ok answer ≡ true)
   pub active : is_dead new.store.cached ≡ false
-      → ActiveAfter (command_for old block) taken old.write_cache
+      → ActiveAfter (unit_limit old) (command_for old block) taken old.write_cache
       (active_of old.store.cached) (active_of new.store.cached)
+  -- a good one writes no record but those of its batches, and retires none but for room
+  pub log : is_ok answer ≡ true
+      → LogAfter (command_for old block) taken old.write_cache old.store.cached new.store.cached
 
 -- ---- a step in the background
 
@@ -120,6 +157,7 @@ pub record TicksOver {M : Type 0} (before after : State) (old new : UnitValue M)
   pub failures_stay : before.failures ≤ after.failures
   pub size_stays : after.size ≡ before.size
   pub blocks_stay : blocks_of new.store.cached ≡ blocks_of old.store.cached
+  pub limit_stays : unit_limit new ≡ unit_limit old
   pub others_stay : new ≡ record old { store = new.store }
   -- no command comes to take data, or other data, by it
   pub steady : (block : List ℕ) (n : ℕ) → intention_of new block ≡ intent.Out n

@@ -6,8 +6,10 @@ use Rattle.blocks.specs.Book.{Book}
 use Rattle.blocks.specs.StoreValue.{Cached}
 use Rattle.pages.specs.Identification.{Identification}
 use Rattle.scsi_unit.specs.Rules.{opened_unit}
-use Rattle.scsi_unit.specs.UnitValue.{UnitValue, state_of}
+use Rattle.scsi_unit.specs.UnitValue.{UnitValue, unit_limit, state_of}
 use Rattle.blocks.specs.Opening.{StartFault}
+-- the limit of a unit is that of the image that it starts on
+pub use Rattle.scsi_unit.specs.Limit.{HasLimit}
 pub use Rattle.blocks.specs.Opening.{IsOursForSome, Stands, StandsForOpening, OpensOn, IsCauseFor}
 pub use Rattle.blocks.specs.Started.{IsStarted, IsStartCause, StartLeaves}
 -- for the number of blocks with which a life opened
@@ -19,7 +21,9 @@ pub use Rattle.blocks.specs.StoreValue.{layout_of, blocks_of}
 pub record IsUnitStarted {M : Type 0} (before after : State) (identity : Identification)
     (unit : UnitValue M) : Type 0 where
   pub store : IsStarted before after unit.store.cached
-  pub opened : (book : Book) → state_of unit book ≡ opened_unit identity book
+  -- its limit is that of the image
+  pub limit : HasLimit before.size (unit_limit unit) before.content
+  pub opened : (book : Book) → state_of unit book ≡ opened_unit (unit_limit unit) identity book
 
 -- Why no unit has started. Where a life may open over the contents, only few causes are possible.
 pub record IsNotStarted (before after : State) (fault : StartFault) : Type 0 where

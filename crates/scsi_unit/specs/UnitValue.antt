@@ -5,7 +5,7 @@ use Rattle.sense.specs.Waiting.{Waiting}
 use Rattle.sense.specs.declared.codes.Sense.{Sense}
 use Rattle.pages.specs.Identification.{Identification}
 use Rattle.blocks.specs.Book.{Book}
-use Rattle.blocks.specs.StoreValue.{StoreValue, FitsBook, blocks_of, is_dead}
+use Rattle.blocks.specs.StoreValue.{StoreValue, FitsBook, blocks_of, transfer_limit, is_dead}
 use Rattle.scsi_unit.specs.declared.intent.Intent.{Intent}
 use Rattle.scsi_unit.specs.Rules.{UnitState, intention_by}
 
@@ -16,10 +16,15 @@ pub record UnitValue (M : Type 0) : Type 0 where
   pub kept : Waiting
   pub write_cache : Bool
 
+-- the most blocks of one READ or WRITE of a unit
+abbrev pub unit_limit : {M : Type 0} → UnitValue M → ℕ
+unit_limit unit = transfer_limit unit.store.cached
+
 -- the state of a unit, with a book of its life; it is faulted where its store is dead
 abbrev pub state_of : {M : Type 0} → UnitValue M → Book → UnitState
 state_of unit book = record {
   book = book;
+  limit = unit_limit unit;
   identity = unit.identity;
   kept = unit.kept;
   write_cache = unit.write_cache;
@@ -34,7 +39,7 @@ FitsUnit m unit book = FitsBook m unit.store.cached book
 abbrev pub intention_of : {M : Type 0} → UnitValue M → List ℕ → Intent
 intention_of unit block =
     let cached = unit.store.cached in
-    intention_by (blocks_of cached) unit.kept.attention (is_dead cached) block
+    intention_by (blocks_of cached) (unit_limit unit) unit.kept.attention (is_dead cached) block
 
 -- what a call told, and wrote to the front of a buffer, as the answer to a command
 abbrev pub answer_of : Result ℕ Sense → List ℕ → Result (List ℕ) Sense

@@ -4,6 +4,7 @@ ghost use Rattle.blocks.specs.StoreValue.{blocks_of, is_dead};
 ghost use Rattle.cdb.specs.Supported.{IsSupported};
 ghost use Rattle.pages.specs.Inquiry.{inquiry_size};
 ghost use Rattle.scsi_unit.specs.Rules.{passes_attention, needs_medium, sends, takes, moves};
+ghost use Rattle.scsi_unit.specs.UnitValue.{unit_limit};
 ghost use Rattle.scsi_unit.specs.Serving.{command_for};
 
 use crate::{Intent, Unit};
@@ -11,9 +12,6 @@ use cdb::{Command, parse};
 use medium::Medium;
 use pages::Identity;
 use sense::Sense;
-
-/// The most blocks of one READ or WRITE.
-pub const TRANSFER_LIMIT: u32 = 48;
 
 /// The bytes of a logical block.
 pub const BLOCK: u32 = 512;
@@ -59,12 +57,13 @@ impl<M: Medium> Unit<M> {
     pub(crate) fn command(&self, block: &[u8]) -> Result<Command, Sense>
         requires { 0 < length block.now }
         ensures value { result ≡ command_for self.now block.now }
-        ensures supported { IfOk result (IsSupported (blocks_of self.now.store.cached) 48) }
+        ensures supported { IfOk result
+            (IsSupported (blocks_of self.now.store.cached) (unit_limit self.now)) }
     {
         if self.kept.attention() && !passes_attention(block[0]) {
             return Err(Sense::POWER_ON_OR_RESET_OCCURRED);
         }
-        let command = parse(block, self.store.blocks(), TRANSFER_LIMIT)?;
+        let command = parse(block, self.store.blocks(), self.store.limit())?;
         if self.store.is_dead() && needs_medium(&command) {
             return Err(Sense::INTERNAL_TARGET_FAILURE);
         }
@@ -92,13 +91,13 @@ fn takes(bytes: u32) -> Intent
     }
 }
 
-// The number of bytes of INQUIRY data, if there is such a page.
+// The number of bytes of INQUIRY data, if there is such a page. It is the same whatever the limit.
 fn inquiry_size(identity: &Identity, page: Option<u8>) -> u32
     ensures is { result ≡ unwrap_or (inquiry_size page) 0 }
     ensures most { result ≤ 64 }
 {
     let mut data = [0; 64];
-    match identity.inquiry(page, TRANSFER_LIMIT, &mut data) {
+    match identity.inquiry(page, 0, &mut data) {
         Some(size) => size as u32,
         None => 0,
     }
@@ -106,7 +105,7 @@ fn inquiry_size(identity: &Identity, page: Option<u8>) -> u32
 
 // What a command is about to move.
 pub(crate) fn moves(identity: &Identity, command: &Command) -> Intent
-    requires { (n : ℕ) × IsSupported n 48 command.now }
+    requires { (n : ℕ) × (limit : ℕ) × (limit ≤ 240) × IsSupported n limit command.now }
     ensures { result ≡ moves command.now }
 {
     match command {

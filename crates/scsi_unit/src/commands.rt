@@ -10,13 +10,13 @@ ghost use Rattle.pages.specs.Mode.{mode_data};
 ghost use Rattle.scsi_unit.specs.declared.intent.Intent.TheVariants as intent;
 ghost use Rattle.scsi_unit.specs.Capacity.{capacity_10, capacity_16};
 ghost use Rattle.scsi_unit.specs.Rules.{needs_medium, moves};
-ghost use Rattle.scsi_unit.specs.UnitValue.{intention_of, answer_of};
+ghost use Rattle.scsi_unit.specs.UnitValue.{unit_limit, intention_of, answer_of};
 ghost use Rattle.scsi_unit.specs.Serving.{command_for};
 ghost use Rattle.scsi_unit.specs.Calls.{calls_of, calls_after};
 ghost use Rattle.scsi_unit.specs.Performing.{Performs, Spares};
 
 use crate::Unit;
-use crate::checks::{BLOCK, TRANSFER_LIMIT};
+use crate::checks::BLOCK;
 use byteorder::{BigEndian, ByteOrder};
 use cdb::Command;
 use medium::Medium;
@@ -68,7 +68,7 @@ impl<M: Medium> Unit<M> {
         requires some { 0 < length block.now }
         requires taken { (n : ℕ) → intention_of self.old block.now ≡ intent.Out n
             → length taken.now ≡ n }
-        requires room { length out.old ≡ 24576 }
+        requires room { length out.old ≡ 512 * unit_limit self.old }
         ensures performs { Performs (M.state self.old.store.medium)
             (M.state self.new.store.medium) (command_for self.old block.now) taken.now self.old
             (answer_of result out.new) self.new }
@@ -80,7 +80,7 @@ impl<M: Medium> Unit<M> {
             self.old.store.cached }
         ensures sent { (n : ℕ) → intention_of self.old block.now ≡ intent.In n
             → IfOk result (λ sent. sent ≡ n) }
-        ensures most { IfOk result (λ sent. sent ≤ 24576) }
+        ensures most { IfOk result (λ sent. sent ≤ 512 * unit_limit self.old) }
         ensures follows { M.follows self.old.store.medium self.new.store.medium }
     {
         let command = self.command(block)?;
@@ -90,9 +90,10 @@ impl<M: Medium> Unit<M> {
     // Performs a command.
     fn perform(&mut self, command: Command, taken: &[u8], out: &mut [u8]) -> Result<usize, Sense>
         requires served { (is_dead self.old.store.cached && needs_medium command) ≡ false }
-        requires supported { IsSupported (blocks_of self.old.store.cached) 48 command }
+        requires supported { IsSupported (blocks_of self.old.store.cached) (unit_limit self.old)
+            command }
         requires taken { (n : ℕ) → moves command ≡ intent.Out n → length taken.now ≡ n }
-        requires room { length out.old ≡ 24576 }
+        requires room { length out.old ≡ 512 * unit_limit self.old }
         ensures performs { Performs (M.state self.old.store.medium)
             (M.state self.new.store.medium) (Ok command) taken.now self.old
             (answer_of result out.new) self.new }
@@ -102,7 +103,7 @@ impl<M: Medium> Unit<M> {
             ≤ (M.state self.old.store.medium).calls
             + calls_of command taken.now self.old.write_cache self.old.store.cached }
         ensures sent { (n : ℕ) → moves command ≡ intent.In n → IfOk result (λ sent. sent ≡ n) }
-        ensures most { IfOk result (λ sent. sent ≤ 24576) }
+        ensures most { IfOk result (λ sent. sent ≤ 512 * unit_limit self.old) }
         ensures follows { M.follows self.old.store.medium self.new.store.medium }
     {
         match command {
@@ -149,7 +150,7 @@ impl<M: Medium> Unit<M> {
 
     // REQUEST SENSE: what is reported waits no longer.
     fn report(&mut self, allocation: u8, out: &mut [u8]) -> usize
-        requires { length out.old ≡ 24576 }
+        requires { length out.old ≡ 512 * unit_limit self.old }
         ensures size { result ≡ min allocation 18 }
         ensures sent { take result out.new
             ≡ take allocation (fixed_sense (reported self.old.kept)) }
@@ -161,15 +162,16 @@ impl<M: Medium> Unit<M> {
 
     // INQUIRY: standard data, or a vital product data page.
     fn inquire(&self, page: Option<u8>, allocation: u16, out: &mut [u8]) -> usize
-        requires { length out.old ≡ 24576 }
+        requires { length out.old ≡ 512 * unit_limit self.now }
         ensures size { result ≡ min allocation (unwrap_or (inquiry_size page) 0) }
         ensures sent { take result out.new
-            ≡ take allocation (unwrap_or (inquiry_data self.now.identity 48 page) []) }
+            ≡ take allocation
+            (unwrap_or (inquiry_data self.now.identity (unit_limit self.now) page) []) }
     {
         let mut bytes = [0; 64];
         let size = self
             .identity
-            .inquiry(page, TRANSFER_LIMIT, &mut bytes)
+            .inquiry(page, self.store.limit(), &mut bytes)
             .unwrap_or(0);
         send(&bytes[..size], usize::from(allocation), out)
     }
@@ -184,7 +186,7 @@ impl<M: Medium> Unit<M> {
         out: &mut [u8],
     ) -> Result<usize, Sense>
         requires there { HasModePage control page subpage }
-        requires room { length out.old ≡ 24576 }
+        requires room { length out.old ≡ 512 * unit_limit self.now }
         ensures size { result ≡ Ok (min allocation 24) }
         ensures sent { IfOk result (λ sent. take sent out.new
             ≡ take allocation (mode_data control self.now.write_cache)) }

@@ -1,7 +1,9 @@
 // How a unit starts.
-ghost use Rattle.std.specs.Prelude.{IfOk, IfErr, MatchResult};
+ghost use Rattle.std.specs.Prelude.{ℕ, IfOk, IfErr, MatchResult};
+ghost use Rattle.medium.specs.Moments.{EachCut, LeavesOnly};
 ghost use Rattle.blocks.specs.Started.{StartLeaves};
-ghost use Rattle.scsi_unit.specs.Starting.{IsUnitStarted, IsNotStarted};
+ghost use Rattle.scsi_unit.specs.Limit.{HasLimit};
+ghost use Rattle.scsi_unit.specs.Starting.{IsOursForSome, IsUnitStarted, IsNotStarted};
 
 use crate::Unit;
 use blocks::{StartError, Store};
@@ -12,7 +14,8 @@ use std::alloc::Global;
 impl<M: Medium> Unit<M> {
     /// Starts a unit on a medium: recovers the medium, and makes the room for the store. The unit
     /// attention of a power on is pending, no sense is kept, and the write cache is enabled. The
-    /// blocks are those for which the contents of the medium stood.
+    /// blocks are those for which the contents of the medium stood, and so is the limit. Where
+    /// every image was ours and had one limit, every image that a cut may leave has it.
     ///
     /// # Errors
     ///
@@ -26,6 +29,13 @@ impl<M: Medium> Unit<M> {
         ensures leaves { MatchResult result
             (λ unit. StartLeaves (M.state medium) (M.state unit.store.medium))
             (λ error. StartLeaves (M.state medium) (M.state error.medium)) }
+        ensures limit { (limit : ℕ) → EachCut (IsOursForSome (M.state medium).size) (M.state medium)
+            → EachCut (HasLimit (M.state medium).size limit) (M.state medium)
+            → MatchResult result
+            (λ unit. LeavesOnly (HasLimit (M.state medium).size limit)
+            (M.state medium) (M.state unit.store.medium))
+            (λ error. LeavesOnly (HasLimit (M.state medium).size limit)
+            (M.state medium) (M.state error.medium)) }
         ensures follows { MatchResult result
             (λ unit. M.follows medium unit.store.medium)
             (λ error. M.follows medium error.medium) }

@@ -3,13 +3,14 @@ ghost use Rattle.std.specs.Prelude.{◌≡◌, ◌⊎◌, ◌≤◌, ◌<◌, �
 ghost use Rattle.std.specs.Prelude.{IfOk, OnOk, IfErr, MatchResult, is_ok, if◌then◌else◌};
 ghost use Rattle.blocks.specs.Background.{IsBackgroundStep};
 ghost use Rattle.blocks.specs.Book.{Book, array_of, blocks_at, promised, write_of};
-ghost use Rattle.blocks.specs.Calls.{reads_of};
-ghost use Rattle.blocks.specs.StoreValue.{blocks_of, is_dead, active_of, steps_left, FitsBook};
+ghost use Rattle.blocks.specs.Calls.{reads_of, TurnsBatches};
+ghost use Rattle.blocks.specs.StoreValue.{blocks_of, transfer_limit, is_dead, active_of};
+ghost use Rattle.blocks.specs.StoreValue.{batch_steps, steps_left, FitsBook};
 ghost use Rattle.blocks.specs.StoreValue.{FitsBeside, TakesRange};
 ghost use Rattle.blocks.specs.Turns.{IsTurn, IsWriteTurn};
 ghost use Rattle.sense.specs.Codes.{unrecovered_read_error, write_error};
 ghost use Rattle.cdb.specs.Supported.{IsWithin};
-ghost use Rattle.scsi_unit.specs.Serving.{IsEmptied};
+ghost use Rattle.scsi_unit.specs.Serving.{IsEmptied, IsFinished};
 ghost use Rattle.scsi_unit.specs.Calls.{calls_of_sync};
 
 use crate::checks::BLOCK;
@@ -30,6 +31,7 @@ pub(crate) fn make_durable<M: Medium>(store: &mut Store<M>, wanted: bool) -> Res
         (λ sense. (sense ≡ write_error) × (is_dead store.new.cached ≡ true)) }
     ensures unwanted { wanted ≡ false → (store.new ≡ store.old) × (is_ok result ≡ true) }
     ensures active { IsEmptied wanted (active_of store.old.cached) (active_of store.new.cached) }
+    ensures log { OnOk result (IsFinished wanted store.old.cached store.new.cached) }
     ensures calls { (M.state store.new.medium).calls ≤ (M.state store.old.medium).calls
         + (if wanted then calls_of_sync store.old.cached else 0) }
     ensures follows { M.follows store.old.medium store.new.medium }
@@ -49,8 +51,9 @@ pub(crate) fn read_blocks<M: Medium>(
 ) -> Result<usize, Sense>
     requires live { is_dead store.old.cached ≡ false }
     requires some { 0 < transfer.count }
-    requires within { IsWithin (blocks_of store.old.cached) 48 transfer }
-    requires room { length out.old ≡ 24576 }
+    requires within { IsWithin (blocks_of store.old.cached) (transfer_limit store.old.cached)
+        transfer }
+    requires room { length out.old ≡ 512 * transfer_limit store.old.cached }
     ensures ok { (book : Book) → FitsBook (M.state store.old.medium) store.old.cached book
         → OnOk result (take (512 * transfer.count) out.new
         ≡ blocks_at (array_of book) transfer.address transfer.count) }
@@ -79,21 +82,27 @@ pub(crate) fn write_blocks<M: Medium>(
 ) -> Result<(), Sense>
     requires live { is_dead store.old.cached ≡ false }
     requires some { 0 < transfer.count }
-    requires within { IsWithin (blocks_of store.old.cached) 48 transfer }
+    requires within { IsWithin (blocks_of store.old.cached) (transfer_limit store.old.cached)
+        transfer }
     requires taken { 512 * transfer.count ≤ length taken.now }
     ensures turn { IsWriteTurn (write_of transfer.address (take (512 * transfer.count) taken.now))
         (is_ok result) (M.state store.old.medium) (M.state store.new.medium)
         store.old.cached store.new.cached }
     ensures answer { MatchResult result (λ _. is_dead store.new.cached ≡ false)
         (λ sense. (sense ≡ write_error) × (is_dead store.new.cached ≡ true)) }
-    ensures active { OnOk result (TakesRange (active_of store.old.cached)
-        transfer.address transfer.count (active_of store.new.cached)) }
-    ensures quiet { FitsBeside (active_of store.old.cached) transfer.address transfer.count
+    ensures active { OnOk result (TakesRange (transfer_limit store.old.cached)
+        (active_of store.old.cached) transfer.address transfer.count
+        (active_of store.new.cached)) }
+    ensures batches { OnOk result (TurnsBatches store.old.cached store.new.cached
+        transfer.address transfer.count) }
+    ensures quiet { FitsBeside (transfer_limit store.old.cached) (active_of store.old.cached)
+        transfer.address transfer.count
         → (store.new.medium ≡ store.old.medium) × (is_ok result ≡ true) }
     ensures calls { (M.state store.new.medium).calls
         ≤ (M.state store.old.medium).calls + calls_of_sync store.old.cached }
     ensures paid { OnOk result ((M.state store.new.medium).calls + calls_of_sync store.new.cached
-        ≤ (M.state store.old.medium).calls + calls_of_sync store.old.cached + 224) }
+        ≤ (M.state store.old.medium).calls + calls_of_sync store.old.cached
+        + 2 * batch_steps store.old.cached) }
     ensures follows { M.follows store.old.medium store.new.medium }
 {
     let blocks = &taken[..(BLOCK * transfer.count) as usize];

@@ -49,7 +49,7 @@ fn over<M: Medium>(
 ) -> Result<Answer, Fail>
     requires { 0 < length block.now }
 {
-    let mut out = [0; 24576];
+    let mut out = vec![in rt.alloc(); 0u8; 512 * unit.limit() as usize]?;
     if let Intent::Out(size) = unit.intend(block) {
         if taken.len() != size as usize {
             return Err(Fail::from("other data"));

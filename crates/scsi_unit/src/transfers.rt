@@ -4,7 +4,7 @@ ghost use Rattle.blocks.specs.StoreValue.{blocks_of, is_dead};
 ghost use Rattle.cdb.specs.Supported.{IsWithin};
 ghost use Rattle.cdb.specs.declared.command.BlockRange.{BlockRange};
 ghost use Rattle.cdb.specs.declared.command.Command.TheVariants as command;
-ghost use Rattle.scsi_unit.specs.UnitValue.{answer_of};
+ghost use Rattle.scsi_unit.specs.UnitValue.{unit_limit, answer_of};
 ghost use Rattle.scsi_unit.specs.Calls.{calls_of_sync, calls_of_read, calls_of_write, calls_of};
 ghost use Rattle.scsi_unit.specs.Performing.{Performs, Spares, silent};
 
@@ -19,8 +19,9 @@ impl<M: Medium> Unit<M> {
     // READ: with FUA all accepted writes are made durable first.
     pub(crate) fn read(&mut self, transfer: Transfer, out: &mut [u8]) -> Result<usize, Sense>
         requires live { is_dead self.old.store.cached ≡ false }
-        requires within { IsWithin (blocks_of self.old.store.cached) 48 transfer }
-        requires room { length out.old ≡ 24576 }
+        requires within { IsWithin (blocks_of self.old.store.cached) (unit_limit self.old)
+            transfer }
+        requires room { length out.old ≡ 512 * unit_limit self.old }
         ensures performs { (taken : List ℕ) → Performs (M.state self.old.store.medium)
             (M.state self.new.store.medium) (Ok (command.Read10 transfer)) taken self.old
             (answer_of result out.new) self.new }
@@ -41,7 +42,8 @@ impl<M: Medium> Unit<M> {
     // WRITE: with FUA, or without the write cache, all accepted writes are made durable.
     pub(crate) fn write(&mut self, transfer: Transfer, taken: &[u8]) -> Result<(), Sense>
         requires live { is_dead self.old.store.cached ≡ false }
-        requires within { IsWithin (blocks_of self.old.store.cached) 48 transfer }
+        requires within { IsWithin (blocks_of self.old.store.cached) (unit_limit self.old)
+            transfer }
         requires taken { 512 * transfer.count ≤ length taken.now }
         ensures performs { Performs (M.state self.old.store.medium)
             (M.state self.new.store.medium) (Ok (command.Write10 transfer)) taken.now self.old

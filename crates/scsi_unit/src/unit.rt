@@ -7,7 +7,9 @@ ghost use Rattle.blocks.specs.Finding.{MayFind};
 ghost use Rattle.blocks.specs.Settled.{IsSettled};
 ghost use Rattle.blocks.specs.StoreValue.{is_dead, steps_left, HasLimits, FitsBook};
 ghost use Rattle.scsi_unit.specs.Rules.{opened_unit, intention};
-ghost use Rattle.scsi_unit.specs.UnitValue.{state_of, intention_of, answer_of, FitsUnit};
+ghost use Rattle.scsi_unit.specs.UnitValue.{unit_limit, state_of, intention_of, answer_of};
+ghost use Rattle.scsi_unit.specs.UnitValue.{FitsUnit};
+ghost use Rattle.scsi_unit.specs.Limit.{HasLimit};
 ghost use Rattle.scsi_unit.specs.Serving.{Serves, IsSparing, TicksOver};
 ghost use Rattle.scsi_unit.specs.Calls.{IsBounded};
 ghost use Rattle.scsi_unit.specs.Performing.{settled_kept};
@@ -54,7 +56,7 @@ impl<M: Medium> Unit<M> {
           write_cache = true;
         } }
         ensures opened { is_dead store.cached ≡ false → (book : Book)
-            → state_of result book ≡ opened_unit identity book }
+            → state_of result book ≡ opened_unit (unit_limit result) identity book }
     {
         Unit {
             store,
@@ -64,15 +66,24 @@ impl<M: Medium> Unit<M> {
         }
     }
 
+    /// How many blocks one READ or WRITE moves at most. No call changes it.
+    pub fn limit(&self) -> u32
+        ensures is { result ≡ unit_limit self.now }
+        ensures least { 48 ≤ result }
+        ensures most { result ≤ 240 }
+    {
+        self.store.limit()
+    }
+
     /// What a command block is about to move: 1 to 16 bytes, of which those past the command are
-    /// ignored. At most 48 blocks are moved.
+    /// ignored. At most `limit` blocks are moved.
     #[tactic(auto, unfolding(crate::specs::Rules::intention_by))]
     pub fn intend(&self, block: &[u8]) -> Intent
         requires { 0 < length block.now }
         ensures intention { result ≡ intention_of self.now block.now }
         ensures by_book { (book : Book) → FitsUnit (M.state self.now.store.medium) self.now book
             → result ≡ intention (state_of self.now book) block.now }
-        ensures most { (n : ℕ) → result ≡ Intent.Out n → (0 < n) × (n ≤ 24576) }
+        ensures most { (n : ℕ) → result ≡ Intent.Out n → (0 < n) × (n ≤ 512 * unit_limit self.now) }
     {
         match self.command(block) {
             Ok(command) => moves(&self.identity, &command),
@@ -81,8 +92,9 @@ impl<M: Medium> Unit<M> {
     }
 
     /// Carries out a command block, of 1 to 16 bytes, over the data taken for it, and writes the
-    /// data to send to the front of `out`, which has 24,576 bytes. The answer is the number of
-    /// these. Where the block intends to take data, `taken` has as many bytes; else it is ignored.
+    /// data to send to the front of `out`, which has room for `limit` blocks of 512 bytes. The
+    /// answer is the number of these. Where the block intends to take data, `taken` has as many
+    /// bytes; else it is ignored.
     ///
     /// # Errors
     ///
@@ -91,7 +103,7 @@ impl<M: Medium> Unit<M> {
         requires some { 0 < length block.now }
         requires taken { (n : ℕ) → intention_of self.old block.now ≡ Intent.Out n
             → length taken.now ≡ n }
-        requires room { length out.old ≡ 24576 }
+        requires room { length out.old ≡ 512 * unit_limit self.old }
         ensures serves { Serves (M.state self.old.store.medium) (M.state self.new.store.medium)
             block.now taken.now self.old (answer_of result out.new) self.new }
         ensures sparing { IsSparing block.now taken.now self.old
@@ -100,7 +112,7 @@ impl<M: Medium> Unit<M> {
             (M.state self.new.store.medium) block.now taken.now self.old }
         ensures sent { (n : ℕ) → intention_of self.old block.now ≡ Intent.In n
             → IfOk result (λ sent. sent ≡ n) }
-        ensures most { IfOk result (λ sent. sent ≤ 24576) }
+        ensures most { IfOk result (λ sent. sent ≤ 512 * unit_limit self.old) }
         ensures follows { M.follows self.old.store.medium self.new.store.medium }
     {
         let answer = self.perform_block(block, taken, out);
@@ -135,6 +147,7 @@ impl<M: Medium> Unit<M> {
     ///
     /// Between two calls a cut leaves what may be found of each book that the unit fits. Where no
     /// background step is left, each accepted write is durable and at home, and no record waits.
+    /// What a cut leaves has the limit of the unit, where every image was ours.
     pub fn medium(&self) -> &M
         ensures is { result.now ≡ self.now.store.medium }
         ensures limits { HasLimits self.now.store.cached }
@@ -144,6 +157,10 @@ impl<M: Medium> Unit<M> {
         ensures at_rest { (book : Book)
             → FitsUnit (M.state self.now.store.medium) self.now book → book.ours ≡ true
             → EachCut (MayFind (M.state self.now.store.medium).size book)
+            (M.state self.now.store.medium) }
+        ensures limit { (book : Book)
+            → FitsUnit (M.state self.now.store.medium) self.now book → book.ours ≡ true
+            → EachCut (HasLimit (M.state self.now.store.medium).size (unit_limit self.now))
             (M.state self.now.store.medium) }
     {
         self.store.medium()

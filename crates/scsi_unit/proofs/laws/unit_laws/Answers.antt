@@ -1,4 +1,4 @@
-use Rattle.scsi_unit.proofs.UnitLaws.{keeps_intentions, is_function, keeps_writes, writes_are_writes, stays_faulted, ticks_only, knows_images}
+use Rattle.scsi_unit.proofs.UnitLaws.{keeps_intentions, is_function, keeps_writes, writes_are_writes, stays_faulted, ticks_only, keeps_limit, knows_images}
 use Rattle.scsi_unit.proofs.laws.unit_laws.Goals as goal
 
 pub returns-clause-function : goal.returns-clause-function
@@ -18,6 +18,9 @@ returns-clause-faults c = stays_faulted
 
 pub returns-clause-ticks : goal.returns-clause-ticks
 returns-clause-ticks c = ticks_only
+
+pub returns-clause-limit : goal.returns-clause-limit
+returns-clause-limit c = keeps_limit
 
 pub returns-clause-images : goal.returns-clause-images
 returns-clause-images c = knows_images

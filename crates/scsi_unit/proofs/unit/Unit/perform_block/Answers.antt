@@ -1,6 +1,7 @@
 use Rattle.std.proofs.Common.{sym, ◌∙◌}
 use Rattle.std.proofs.lemmas.Result.{err_from_is_err_and}
 use Rattle.blocks.specs.StoreValue.{blocks_of, is_dead}
+use Rattle.scsi_unit.specs.UnitValue.{unit_limit}
 use Rattle.scsi_unit.proofs.Checking.{intention_of_command, passed_by}
 use Rattle.scsi_unit.proofs.Performing.{refuses}
 use Rattle.scsi_unit.proofs.unit.Unit.perform_block.Goals as goal
@@ -15,17 +16,17 @@ returns-in_err-command-clause-performs g c =
 pub perform-requires-clause-served : goal.perform-requires-clause-served
 perform-requires-clause-served g c =
     let unit = c.args.self.now in
-    (passed_by (blocks_of unit.store.cached) unit.kept.attention (is_dead unit.store.cached) c.args.block.now c.in_ok-command.command
+    (passed_by (blocks_of unit.store.cached) (unit_limit unit) unit.kept.attention (is_dead unit.store.cached) c.args.block.now c.in_ok-command.command
     (sym c.command.ensures.value ∙ c.in_ok-command.was)).1
 
 pub perform-requires-clause-taken : goal.perform-requires-clause-taken
 perform-requires-clause-taken g c n out =
     let unit = c.args.self.now in
-    c.requires.taken n (intention_of_command (blocks_of unit.store.cached) unit.kept.attention (is_dead unit.store.cached) c.args.block.now c.in_ok-command.command
+    c.requires.taken n (intention_of_command (blocks_of unit.store.cached) (unit_limit unit) unit.kept.attention (is_dead unit.store.cached) c.args.block.now c.in_ok-command.command
     (sym c.command.ensures.value ∙ c.in_ok-command.was) ∙ out)
 
 pub returns-clause-sent : goal.returns-clause-sent
 returns-clause-sent g c n is_in =
     let unit = c.args.self.now in
-    c.perform.ensures.sent n (sym (intention_of_command (blocks_of unit.store.cached) unit.kept.attention (is_dead unit.store.cached) c.args.block.now c.in_ok-command.command
+    c.perform.ensures.sent n (sym (intention_of_command (blocks_of unit.store.cached) (unit_limit unit) unit.kept.attention (is_dead unit.store.cached) c.args.block.now c.in_ok-command.command
     (sym c.command.ensures.value ∙ c.in_ok-command.was)) ∙ is_in)

@@ -64,4 +64,4 @@ returns-clause-bounded g c =
     subst P c.self.view_is
     (read_ends c.args.transfer i.store.cached half.cached (state i.store.medium).calls (state half.medium).calls (state last.medium).calls
     (moves_some c.args.transfer c.if-transfer-eq0.false) c.make_durable.ensures.calls
-    (λ plain. ap (λ (s : StoreValue g.row.M.Denot). s.cached) (c.make_durable.ensures.unwanted plain).0) c.read_blocks.ensures.calls)
+    (λ plain. ap (λ (s : StoreValue g.row.M.Denot). s.cached) (c.make_durable.ensures.unwanted plain).0) c.make_durable.ensures.turn.goes_on.layout_stays c.read_blocks.ensures.calls)

@@ -1,0 +1,5 @@
+use Rattle.scsi_unit.proofs.Books.{limit_between_calls}
+use Rattle.scsi_unit.proofs.unit.Unit.medium.Goals as goal
+
+pub returns-clause-limit : goal.returns-clause-limit
+returns-clause-limit g c book fits ours = limit_between_calls _ c.args.self.now book fits ours
