@@ -14,7 +14,8 @@ use Rattle.scsi_unit.specs.Starting.{IsOursForSome, StandsForOpening, OpensOn, b
 use Rattle.bot_machine.specs.Disk.{DiskValue, FitsDisk}
 use Rattle.bot_machine.specs.Opening.{IsOpened}
 use Rattle.bot_machine.specs.Lives.{Remains, Place, before_first, between, IsLeft, Opens}
-use Rattle.bot_machine.specs.LivesValue.{book_at, FoundAt}
+use Rattle.bot_machine.specs.LivesValue.{HasLimit, book_at, LeavesLimit, FoundAt}
+use Rattle.bot_machine.specs.declared.stage.Stage.TheVariants.{Rests}
 use Rattle.bot_machine.proofs.UnitLaws.{knows_images}
 
 -- ---- what a life has left
@@ -55,9 +56,21 @@ first_found m book none h ours image cut =
     let same : image ≡ (state_of m).content = only_image (state_of m).content (state_of m).may_leave (none_flushed m none) image cut in
     knows_images.ours_for size book image (subst (StandsForOpening size book) (sym same) h.stands) (h.ours ours image cut)
 
+-- nothing is unflushed: what the contents have every image has
+pub first_limited : (m : Sim) (limit : ℕ) → m.unflushed ≡ [] → HasLimit (state_of m).size limit (state_of m).content → LeavesLimit limit (Rests m)
+first_limited m limit none has image cut =
+    let same : image ≡ (state_of m).content = only_image (state_of m).content (state_of m).may_leave (none_flushed m none) image cut in
+    subst (HasLimit (state_of m).size limit) (sym same) has
+
 -- what a life has left is ours
 pub remains_ours : (m : State) (remains : Remains) → EachCut (FoundAt m.size (between remains)) m → EachCut (IsOursForSome m.size) m
 remains_ours m remains found image cut = knows_images.found_ours m.size remains.book remains.in_progress image (found image cut)
+
+-- the image that a life has left has the limit of the disk that starts on it
+pub next_limit : (m : Sim) (limit other : ℕ) → LeavesLimit limit (Rests m) → HasLimit (state_of m).size other (state_of m).content → other ≡ limit
+next_limit m limit other leaves has =
+    knows_images.one_limit (state_of m).size other limit (state_of m).content has
+    (content_has (HasLimit (state_of m).size limit) (state_of m) (is_sound m) leaves)
 
 -- a book with which a life may open here; where it is ours the contents stand for it
 pub record WouldOpen (m : State) (place : Place) : Type 0 where

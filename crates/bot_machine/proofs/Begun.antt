@@ -1,28 +1,30 @@
 -- What comes of a start: a disk runs, power goes, or the start is refused.
-use Rattle.std.proofs.Common.{◌≡◌, ltb-true, ◌+◌, Bool, true, false, [], ◌∷◌, None, refl, sym, subst, ◌∙◌, ap, arith, inl, inr, ⊎_elim}
+use Rattle.std.proofs.Common.{◌≡◌, ltb-true, ℕ, ◌+◌, Bool, true, false, [], ◌∷◌, None, refl, sym, subst, ◌∙◌, ap, arith, inl, inr, ⊎_elim}
 use Rattle.std.proofs.lemmas.Bool.{cases_Bool}
 use Rattle.medium.specs.Moments.{EachCut}
 use Rattle.medium.specs.Sim.{Sim, state_of, ComesAfter}
+use Rattle.medium.specs.SimLaws.{is_sound}
+use Rattle.medium.proofs.Moments.{at_exit}
 use Rattle.medium.proofs.Keeping.{none_flushed}
 use Rattle.scsi_unit.specs.StartFaults.{StartFault, NoMemory, Read, Write, Flush, BadSuper, BadVersion, BadSize, BadHead, StampsUsedUp}
 use Rattle.scsi_unit.specs.Identification.{Identification}
 use Rattle.scsi_unit.specs.Books.{Book, MayFind, opened}
 use Rattle.scsi_unit.specs.Starting.{Stands, IsCauseFor, blocks_of}
 use Rattle.scsi_unit.specs.Rules.{UnitState}
-use Rattle.scsi_unit.specs.UnitValue.{state_of as unit_state}
+use Rattle.scsi_unit.specs.UnitValue.{unit_limit, state_of as unit_state}
 use Rattle.bot_machine.specs.declared.stage.Stage.{Stage}
 use Rattle.bot_machine.specs.declared.stage.Stage.TheVariants.{Rests, Runs}
 use Rattle.bot_machine.specs.Exchange.{Line, at_rest}
 use Rattle.bot_machine.specs.Disk.{DiskValue, on_line, over}
 use Rattle.bot_machine.specs.Opening.{IsOpened, IsNotOpened, StartLeaves}
-use Rattle.bot_machine.specs.Lives.{starts, Remains, Place, before_first, between, runs, off, Standing, started, LifeBegins, LivesStep}
-use Rattle.bot_machine.specs.LivesValue.{HasBegun, book_at, FitsLives, LivesGoTo, LivesGoOn, MayRefuse, LivesStopAt, LivesStop}
+use Rattle.bot_machine.specs.Lives.{starts, Remains, Place, before_first, between, runs, off, Standing, KeepsLimit, started, LifeBegins, LivesStep}
+use Rattle.bot_machine.specs.LivesValue.{HasBegun, HasLimit, book_at, LeavesLimit, FitsLives, LivesGoTo, LivesGoOn, MayRefuse, LivesStopAt, LivesStop}
 use Rattle.scsi_unit.specs.Serving.{has_refused}
 use Rattle.bot_machine.specs.Moving.{StartsIn}
 use Rattle.bot_machine.proofs.Moved.{one_move, some_refused}
 use Rattle.bot_machine.proofs.Happening.{lives_at, stays, one_run, one_counted, armed_then, on_or_off}
-use Rattle.bot_machine.proofs.Beginning.{WouldOpen, first_opens, next_opens, HasOpened, first_opened, next_opened}
-use Rattle.bot_machine.proofs.UnitLaws.{between_calls, knows_images}
+use Rattle.bot_machine.proofs.Beginning.{WouldOpen, first_opens, next_opens, next_limit, HasOpened, first_opened, next_opened}
+use Rattle.bot_machine.proofs.UnitLaws.{between_calls, limit_between_calls, start_keeps_limit, knows_images}
 
 -- ---- what a start leaves, where it has no disk
 
@@ -30,6 +32,14 @@ use Rattle.bot_machine.proofs.UnitLaws.{between_calls, knows_images}
 may_find : (before after : Sim) (leaves : StartLeaves (state_of before) (state_of after)) → before.unflushed ≡ []
     → (place : Place) (w : WouldOpen (state_of before) place) → w.book.ours ≡ true → EachCut (MayFind (state_of after).size w.book) (state_of after)
 may_find before after leaves none place w ours = leaves.finds w.book (w.on ours) ours (none_flushed before none)
+
+-- where each image had one limit, each still has it
+limited_start : (before after : Sim) (leaves : StartLeaves (state_of before) (state_of after)) (place : Place) (limit : ℕ)
+    (w : WouldOpen (state_of before) place) → w.book.ours ≡ true → LeavesLimit limit (Rests before) → LeavesLimit limit (Rests after)
+limited_start before after leaves place limit w ours has =
+    subst (λ (n : ℕ). EachCut (HasLimit n limit) (state_of after)) (sym leaves.bounded.moments.size_stays)
+    (at_exit (HasLimit (state_of before).size limit) (state_of before) (state_of after) (is_sound after)
+    (start_keeps_limit (state_of before) (state_of after) limit leaves ((w.on ours).ours ours) has))
 
 -- ---- why a start is refused
 
@@ -54,34 +64,37 @@ record LifeBegun (identity : Identification) (refused : Bool) (here : Standing) 
   life : LifeBegins identity refused here there
   fits : FitsLives (lives_at identity new) there
   ours : (book_at there.place).ours ≡ (book_at here.place).ours
+  limit_stays : (book_at here.place).ours ≡ true → there.limit ≡ here.limit
 
 module _ (identity : Identification) (m : Sim) (on : m.power.off ≡ false) where
   -- where a life has begun, lives go there
   goes_there : (new : Stage) (refused : Bool)
-      → ((book : Book) (armed : Bool) → FitsLives (lives_at identity (Rests m)) (record { place = before_first book; armed = armed })
-      → LifeBegun identity refused (record { place = before_first book; armed = armed }) new)
-      → ((remains : Remains) (armed : Bool) → FitsLives (lives_at identity (Rests m)) (record { place = between remains; armed = armed })
-      → LifeBegun identity refused (record { place = between remains; armed = armed }) new)
-      → (place : Place) (armed : Bool) → FitsLives (lives_at identity (Rests m)) (record { place = place; armed = armed })
-      → LivesGoTo (lives_at identity new) (record { place = place; armed = armed }) (starts ∷ []) [] (refused ∷ [])
-  goes_there new refused first next (before_first book) armed fits =
-      let b = first book armed fits in
+      → ((book : Book) (armed : Bool) (limit : ℕ) → FitsLives (lives_at identity (Rests m)) (record { place = before_first book; armed = armed; limit = limit })
+      → LifeBegun identity refused (record { place = before_first book; armed = armed; limit = limit }) new)
+      → ((remains : Remains) (armed : Bool) (limit : ℕ) → FitsLives (lives_at identity (Rests m)) (record { place = between remains; armed = armed; limit = limit })
+      → LifeBegun identity refused (record { place = between remains; armed = armed; limit = limit }) new)
+      → (place : Place) (armed : Bool) (limit : ℕ) → FitsLives (lives_at identity (Rests m)) (record { place = place; armed = armed; limit = limit })
+      → LivesGoTo (lives_at identity new) (record { place = place; armed = armed; limit = limit }) (starts ∷ []) [] (refused ∷ [])
+  goes_there new refused first next (before_first book) armed limit fits =
+      let b = first book armed limit fits in
       record {
         there = b.there;
-        run = one_run identity refused (record { place = before_first book; armed = armed }) b.there starts [] (refl, b.life);
+        run = one_run identity refused (record { place = before_first book; armed = armed; limit = limit }) b.there starts [] (refl, b.life);
         fits = b.fits;
         ours = b.ours;
+        limit_stays = b.limit_stays;
       }
-  goes_there new refused first next (between remains) armed fits =
-      let b = next remains armed fits in
+  goes_there new refused first next (between remains) armed limit fits =
+      let b = next remains armed limit fits in
       record {
         there = b.there;
-        run = one_run identity refused (record { place = between remains; armed = armed }) b.there starts [] (refl, b.life);
+        run = one_run identity refused (record { place = between remains; armed = armed; limit = limit }) b.there starts [] (refl, b.life);
         fits = b.fits;
         ours = b.ours;
+        limit_stays = b.limit_stays;
       }
-  goes_there new refused first next (runs conversation) armed fits = absurd fits.is_at
-  goes_there new refused first next (off remains) armed fits = on_or_off m.power.off on fits.is_at
+  goes_there new refused first next (runs conversation) armed limit fits = absurd fits.is_at
+  goes_there new refused first next (off remains) armed limit fits = on_or_off m.power.off on fits.is_at
 
   -- ---- the start has a disk
 
@@ -93,41 +106,51 @@ module _ (identity : Identification) (m : Sim) (on : m.power.off ≡ false) wher
     abbrev grew : Bool
     grew = has_refused (state_of m) (state_of new)
 
-    module _ (place : Place) (armed : Bool) (fits : FitsLives (lives_at identity (Rests m)) (record { place = place; armed = armed }))
-        (h : HasOpened (state_of new) disk place) where
+    module _ (place : Place) (armed : Bool) (limit : ℕ) (fits : FitsLives (lives_at identity (Rests m)) (record { place = place; armed = armed; limit = limit }))
+        (h : HasOpened (state_of new) disk place) (keeps : KeepsLimit place limit (unit_limit disk.unit))
+        (same : (book_at place).ours ≡ true → unit_limit disk.unit ≡ limit) where
       abbrev here : Standing
-      here = record { place = place; armed = armed }
+      here = record { place = place; armed = armed; limit = limit }
 
-      says : started identity h.book ≡ over disk h.book
+      says : started (unit_limit disk.unit) identity h.book ≡ over disk h.book
       says = sym (ap (λ (l : Line). on_line l (unit_state disk.unit h.book)) is_opened.line
           ∙ ap (λ (u : UnitState). on_line at_rest u) (is_opened.unit h.book))
 
       begun_on : new.power.off ≡ false → LifeBegun identity grew here (Runs disk)
       begun_on still = record {
-        there = record { place = runs (started identity h.book); armed = armed };
-        life = record { book = h.book; opens = h.opens; begins = inl refl };
+        there = record { place = runs (started (unit_limit disk.unit) identity h.book); armed = armed; limit = unit_limit disk.unit };
+        life = record { book = h.book; opens = h.opens; limit = unit_limit disk.unit; keeps_limit = keeps; begins = inl refl };
         fits = record {
           is_at = record { on = still; says = says; fits = h.fits };
+          limit_at = refl;
+          limited = λ ours. limit_between_calls (state_of new) disk.unit h.book h.fits ours;
           found = λ ours. between_calls (state_of new) disk.unit h.book h.fits ours;
           unfused = λ e. follows.no_fuse_stays (fits.unfused e);
         };
         ours = h.ours;
+        limit_stays = same;
       }
 
       begun_off : new.power.off ≡ true → LifeBegun identity grew here (Runs disk)
       begun_off is_off = record {
-        there = record { place = off (record { book = h.book; in_progress = None }); armed = armed };
+        there = record { place = off (record { book = h.book; in_progress = None }); armed = armed; limit = limit };
         life = record {
           book = h.book;
           opens = h.opens;
+          limit = unit_limit disk.unit;
+          keeps_limit = keeps;
           begins = inr (record { fused = armed_then here m new follows fits.unfused on is_off; cause = some_refused (state_of m) (state_of new) (follows.goes_off on is_off).1; after = refl });
         };
         fits = record {
           is_at = is_off;
+          limit_at = tt;
+          limited = λ ours. subst (λ (n : ℕ). EachCut (HasLimit (state_of new).size n) (state_of new)) (same (sym h.ours ∙ ours))
+              (limit_between_calls (state_of new) disk.unit h.book h.fits ours);
           found = λ ours. between_calls (state_of new) disk.unit h.book h.fits ours;
           unfused = λ e. follows.no_fuse_stays (fits.unfused e);
         };
         ours = h.ours;
+        limit_stays = λ ours. refl;
       }
 
       begun : LifeBegun identity grew here (Runs disk)
@@ -140,9 +163,13 @@ module _ (identity : Identification) (m : Sim) (on : m.power.off ≡ false) wher
           (refl, subst (λ (b : Bool). StartsIn b identity m (Runs disk)) (sym on) (is_opened, record { leaves = leaves; follows = follows })) refl;
       refused = one_counted grew (state_of m).failures (state_of new).failures (ltb-true (state_of m).failures (state_of new).failures) follows.failures_stay;
       goes = λ here fits. goes_there (Runs disk) grew
-          (λ book armed f. begun (before_first book) armed f (first_opened m (state_of new) identity disk is_opened book f.is_at.1))
-          (λ remains armed f. begun (between remains) armed f (next_opened m (state_of new) identity disk is_opened remains f.found))
-          here.place here.armed fits;
+          (λ book armed limit f.
+          let one = knows_images.one_limit (state_of m).size (unit_limit disk.unit) limit (state_of m).content is_opened.limit f.limit_at in
+          begun (before_first book) armed limit f (first_opened m (state_of new) identity disk is_opened book f.is_at.1) one (λ ours. one))
+          (λ remains armed limit f.
+          let one : remains.book.ours ≡ true → unit_limit disk.unit ≡ limit = λ ours. next_limit m limit (unit_limit disk.unit) (f.limited ours) is_opened.limit in
+          begun (between remains) armed limit f (next_opened m (state_of new) identity disk is_opened remains f.found) one one)
+          here.place here.armed here.limit fits;
       size_stays = leaves.bounded.moments.size_stays;
       identity_stays = refl;
     }
@@ -155,25 +182,30 @@ module _ (identity : Identification) (m : Sim) (on : m.power.off ≡ false) wher
       abbrev refuses : Bool
       refuses = has_refused (state_of m) (state_of after)
 
-      begun_cut : (place : Place) (armed : Bool) → FitsLives (lives_at identity (Rests m)) (record { place = place; armed = armed })
-          → m.unflushed ≡ [] → (w : WouldOpen (state_of m) place) → LifeBegun identity refuses (record { place = place; armed = armed }) (Rests after)
-      begun_cut place armed fits none w = record {
-        there = record { place = off (record { book = w.book; in_progress = None }); armed = armed };
+      begun_cut : (place : Place) (armed : Bool) (limit : ℕ) → FitsLives (lives_at identity (Rests m)) (record { place = place; armed = armed; limit = limit })
+          → KeepsLimit place limit limit → m.unflushed ≡ [] → (w : WouldOpen (state_of m) place) → LifeBegun identity refuses (record { place = place; armed = armed; limit = limit }) (Rests after)
+      begun_cut place armed limit fits keeps none w = record {
+        there = record { place = off (record { book = w.book; in_progress = None }); armed = armed; limit = limit };
         life = record {
           book = w.book;
           opens = w.opens;
+          limit = limit;
+          keeps_limit = keeps;
           begins = inr (record {
-            fused = armed_then (record { place = place; armed = armed }) m after follows fits.unfused on is_off;
+            fused = armed_then (record { place = place; armed = armed; limit = limit }) m after follows fits.unfused on is_off;
             cause = some_refused (state_of m) (state_of after) (follows.goes_off on is_off).1;
             after = refl;
           });
         };
         fits = record {
           is_at = is_off;
+          limit_at = tt;
+          limited = λ ours. limited_start m after leaves place limit w ours (fits.limited (sym w.ours ∙ ours));
           found = λ ours. may_find m after leaves none place w ours;
           unfused = λ e. follows.no_fuse_stays (fits.unfused e);
         };
         ours = w.ours;
+        limit_stays = λ ours. refl;
       }
 
       pub start_is_cut : LivesGoOn (lives_at identity (Rests m)) (starts ∷ []) [] (lives_at identity (Rests after))
@@ -183,33 +215,34 @@ module _ (identity : Identification) (m : Sim) (on : m.power.off ≡ false) wher
             (refl, subst (λ (b : Bool). StartsIn b identity m (Rests after)) (sym on) (record { leaves = leaves; follows = follows }, is_off)) refl;
         refused = one_counted refuses (state_of m).failures (state_of after).failures (ltb-true (state_of m).failures (state_of after).failures) follows.failures_stay;
         goes = λ here fits. goes_there (Rests after) refuses
-            (λ book armed f. begun_cut (before_first book) armed f f.is_at.0.flushed (first_opens (state_of m) book f.is_at.1))
-            (λ remains armed f. begun_cut (between remains) armed f f.is_at.flushed (next_opens m remains f.found))
-            here.place here.armed fits;
+            (λ book armed limit f. begun_cut (before_first book) armed limit f refl f.is_at.0.flushed (first_opens (state_of m) book f.is_at.1))
+            (λ remains armed limit f. begun_cut (between remains) armed limit f (λ ours. refl) f.is_at.flushed (next_opens m remains f.found))
+            here.place here.armed here.limit fits;
         size_stays = leaves.bounded.moments.size_stays;
         identity_stays = refl;
       }
 
     -- it was refused, and the power is on
     module _ (still : after.power.off ≡ false) (fault : StartFault) (h : IsNotOpened (state_of m) (state_of after) fault) where
-      stops_by : (place : Place) (armed : Bool) → m.unflushed ≡ [] → (w : WouldOpen (state_of m) place)
-          → LivesStopAt (lives_at identity (Rests after)) (record { place = place; armed = armed }) [] [] [] (0 + (state_of m).failures) fault
-      stops_by place armed none w = record {
-        there = record { place = place; armed = armed };
+      stops_by : (place : Place) (armed : Bool) (limit : ℕ) → ((book_at place).ours ≡ true → LeavesLimit limit (Rests m)) → m.unflushed ≡ [] → (w : WouldOpen (state_of m) place)
+          → LivesStopAt (lives_at identity (Rests after)) (record { place = place; armed = armed; limit = limit }) [] [] [] (0 + (state_of m).failures) fault
+      stops_by place armed limit limited none w = record {
+        there = record { place = place; armed = armed; limit = limit };
         run = (refl, refl);
         book = w.book;
         opens = w.opens;
         ours = w.ours;
         cause = λ ours. counted m after w.book fault (h.possible w.book (w.on ours));
+        limited = λ ours. limited_start m after leaves place limit w ours (limited (sym w.ours ∙ ours));
         found = λ ours. may_find m after leaves none place w ours;
       }
 
-      stops_at : (place : Place) (armed : Bool) → FitsLives (lives_at identity (Rests m)) (record { place = place; armed = armed })
-          → LivesStopAt (lives_at identity (Rests after)) (record { place = place; armed = armed }) [] [] [] (0 + (state_of m).failures) fault
-      stops_at (before_first book) armed f = stops_by (before_first book) armed f.is_at.0.flushed (first_opens (state_of m) book f.is_at.1)
-      stops_at (between remains) armed f = stops_by (between remains) armed f.is_at.flushed (next_opens m remains f.found)
-      stops_at (runs conversation) armed f = absurd f.is_at
-      stops_at (off remains) armed f = on_or_off m.power.off on f.is_at
+      stops_at : (place : Place) (armed : Bool) (limit : ℕ) → FitsLives (lives_at identity (Rests m)) (record { place = place; armed = armed; limit = limit })
+          → LivesStopAt (lives_at identity (Rests after)) (record { place = place; armed = armed; limit = limit }) [] [] [] (0 + (state_of m).failures) fault
+      stops_at (before_first book) armed limit f = stops_by (before_first book) armed limit f.limited f.is_at.0.flushed (first_opens (state_of m) book f.is_at.1)
+      stops_at (between remains) armed limit f = stops_by (between remains) armed limit f.limited f.is_at.flushed (next_opens m remains f.found)
+      stops_at (runs conversation) armed limit f = absurd f.is_at
+      stops_at (off remains) armed limit f = on_or_off m.power.off on f.is_at
 
       pub start_is_refused : LivesStop (lives_at identity (Rests m)) [] [] fault (lives_at identity (Rests after))
       start_is_refused = record {
@@ -218,7 +251,7 @@ module _ (identity : Identification) (m : Sim) (on : m.power.off ≡ false) wher
         moves = (refl, refl);
         start = record { called = record { leaves = leaves; follows = follows }; cause = h; on = still };
         refused = let f = follows.failures_stay in omega (arith, f);
-        goes = λ here fits. stops_at here.place here.armed fits;
+        goes = λ here fits. stops_at here.place here.armed here.limit fits;
         rests = refl;
         on = still;
         size_stays = leaves.bounded.moments.size_stays;
@@ -228,27 +261,27 @@ module _ (identity : Identification) (m : Sim) (on : m.power.off ≡ false) wher
 -- ---- nothing is started
 
 module _ (identity : Identification) where
-  running : (disk : DiskValue Sim) (place : Place) (armed : Bool) → FitsLives (lives_at identity (Runs disk)) (record { place = place; armed = armed })
-      → LivesStep identity false (record { place = place; armed = armed }) starts [] (record { place = place; armed = armed })
-  running disk (before_first book) armed f = absurd f.is_at
-  running disk (between remains) armed f = absurd f.is_at
-  running disk (runs conversation) armed f = (refl, refl)
-  running disk (off remains) armed f = (refl, refl)
+  running : (disk : DiskValue Sim) (place : Place) (armed : Bool) (limit : ℕ) → FitsLives (lives_at identity (Runs disk)) (record { place = place; armed = armed; limit = limit })
+      → LivesStep identity false (record { place = place; armed = armed; limit = limit }) starts [] (record { place = place; armed = armed; limit = limit })
+  running disk (before_first book) armed limit f = absurd f.is_at
+  running disk (between remains) armed limit f = absurd f.is_at
+  running disk (runs conversation) armed limit f = (refl, refl)
+  running disk (off remains) armed limit f = (refl, refl)
 
   -- a disk runs already
   pub start_of_disk : (disk : DiskValue Sim) → LivesGoOn (lives_at identity (Runs disk)) (starts ∷ []) [] (lives_at identity (Runs disk))
-  start_of_disk disk = stays identity (Runs disk) starts [] (refl, refl) (λ here fits. running disk here.place here.armed fits)
+  start_of_disk disk = stays identity (Runs disk) starts [] (refl, refl) (λ here fits. running disk here.place here.armed here.limit fits)
 
-  without_power : (m : Sim) → m.power.off ≡ true → (place : Place) (armed : Bool) → FitsLives (lives_at identity (Rests m)) (record { place = place; armed = armed })
-      → LivesStep identity false (record { place = place; armed = armed }) starts [] (record { place = place; armed = armed })
-  without_power m is_off (before_first book) armed f = on_or_off m.power.off f.is_at.0.on is_off
-  without_power m is_off (between remains) armed f = on_or_off m.power.off f.is_at.on is_off
-  without_power m is_off (runs conversation) armed f = absurd f.is_at
-  without_power m is_off (off remains) armed f = (refl, refl)
+  without_power : (m : Sim) → m.power.off ≡ true → (place : Place) (armed : Bool) (limit : ℕ) → FitsLives (lives_at identity (Rests m)) (record { place = place; armed = armed; limit = limit })
+      → LivesStep identity false (record { place = place; armed = armed; limit = limit }) starts [] (record { place = place; armed = armed; limit = limit })
+  without_power m is_off (before_first book) armed limit f = on_or_off m.power.off f.is_at.0.on is_off
+  without_power m is_off (between remains) armed limit f = on_or_off m.power.off f.is_at.on is_off
+  without_power m is_off (runs conversation) armed limit f = absurd f.is_at
+  without_power m is_off (off remains) armed limit f = (refl, refl)
 
   -- power is off already
   pub start_without_power : (m : Sim) → m.power.off ≡ true → LivesGoOn (lives_at identity (Rests m)) (starts ∷ []) [] (lives_at identity (Rests m))
-  start_without_power m is_off = stays identity (Rests m) starts [] (refl, subst (λ (b : Bool). StartsIn b identity m (Rests m)) (sym is_off) refl) (λ here fits. without_power m is_off here.place here.armed fits)
+  start_without_power m is_off = stays identity (Rests m) starts [] (refl, subst (λ (b : Bool). StartsIn b identity m (Rests m)) (sym is_off) refl) (λ here fits. without_power m is_off here.place here.armed here.limit fits)
 
 -- ---- whatever the medium holds
 

@@ -22,12 +22,14 @@ use Rattle.bot_machine.specs.declared.stage.Stage.{Stage}
 use Rattle.bot_machine.specs.declared.stage.Stage.TheVariants.{Rests, Runs}
 use Rattle.bot_machine.specs.Conversation.{Conversation, refused_events}
 use Rattle.bot_machine.specs.Acts.{write_of_event}
-use Rattle.bot_machine.specs.Disk.{DiskValue, over, UnitStep, IsStep}
+use Rattle.bot_machine.specs.Disk.{DiskValue, over, FitsDisk, UnitStep, IsStep}
 use Rattle.scsi_unit.specs.Rules.{UnitState}
+use Rattle.scsi_unit.specs.UnitValue.{unit_limit}
+use Rattle.bot_machine.proofs.UnitLaws.{limit_between_calls}
 use Rattle.bot_machine.specs.Lives.{Action, arms, plays, cuts, Remains, Place, before_first, between, runs, off, Standing, after_cut, LivesStep, LivesRun}
 use Rattle.bot_machine.specs.Moving.{Does, FuseMoves, EventMovesIn, EventMoves}
 use Rattle.bot_machine.proofs.Moved.{one_move, none_refused, some_refused}
-use Rattle.bot_machine.specs.LivesValue.{LivesValue, medium_in, state_in, IsAtRest, OpensOn, IsAt, book_at, FoundAt, FitsLives, LivesGoTo, LivesGoOn}
+use Rattle.bot_machine.specs.LivesValue.{LivesValue, medium_in, state_in, IsAtRest, OpensOn, HasLimit, IsAt, LimitAt, LeavesLimit, book_at, FoundAt, FitsLives, LivesGoTo, LivesGoOn}
 
 -- one action is a run
 pub one_run : (identity : Identification) (refused : Bool) (old new : Standing) (action : Action) (answers : List Answer)
@@ -78,6 +80,7 @@ module _ (identity : Identification) where
       run = one_run identity false here here action answers (step here fits);
       fits = fits;
       ours = refl;
+      limit_stays = λ ours. refl;
     };
     size_stays = refl;
     identity_stays = refl;
@@ -106,6 +109,12 @@ module _ (identity : Identification) where
   fused_running writes disk (runs conversation) h = record { on = h.on; says = h.says; fits = h.fits }
   fused_running writes disk (off remains) h = h
 
+  limit_still : (place : Place) (limit : ℕ) (stage new : Stage) → state_in new ≡ state_in stage → LimitAt place limit stage → LimitAt place limit new
+  limit_still (before_first book) limit stage new same h = subst (λ (m : State). HasLimit m.size limit m.content) (sym same) h
+  limit_still (between remains) limit stage new same h = tt
+  limit_still (runs conversation) limit stage new same h = h
+  limit_still (off remains) limit stage new same h = tt
+
   arms_fuse : (writes : ℕ) (stage new : Stage) → state_in new ≡ state_in stage → FuseMoves writes stage new
       → ((place : Place) → IsAt place stage → IsAt place new)
       → LivesGoOn (lives_at stage) (arms writes ∷ []) [] (lives_at new)
@@ -118,10 +127,13 @@ module _ (identity : Identification) where
       run = one_run identity false here (record here { armed = true }) (arms writes) [] (refl, refl);
       fits = record {
         is_at = keeps here.place fits.is_at;
+        limit_at = limit_still here.place here.limit stage new same fits.limit_at;
+        limited = λ ours. subst (λ (m : State). EachCut (HasLimit m.size here.limit) m) (sym same) (fits.limited ours);
         found = λ ours. subst (λ (m : State). EachCut (FoundAt m.size here.place) m) (sym same) (fits.found ours);
         unfused = λ e. absurd (false≢true (sym e));
       };
       ours = refl;
+      limit_stays = λ ours. refl;
     };
     size_stays = ap (λ (m : State). m.size) same;
     identity_stays = refl;
@@ -179,6 +191,22 @@ module _ (identity : Identification) where
     cut_found (runs conversation) n e h ours = subst (λ (k : ℕ). EachCut (MayFind k conversation.unit.book) (state_of new)) (sym e) (left_before (MayFind (state_of old).size conversation.unit.book) (h ours))
     cut_found (off remains) n e h ours = subst (λ (k : ℕ). EachCut (FoundAt k (off remains)) (state_of new)) (sym e) (left_before (FoundAt (state_of old).size (off remains)) (h ours))
 
+    cut_limit_at : (stage : Stage) (place : Place) (limit : ℕ) → medium_in stage ≡ old → IsAt place stage → LimitAt place limit stage
+        → LimitAt (after_cut place) limit (Rests new)
+    cut_limit_at (Rests m) (before_first book) limit e at h =
+        subst (λ (n : ℕ). HasLimit n limit (state_of new).content) (sym size)
+        (subst (HasLimit (state_of old).size limit) (sym (content_stays (subst (λ (x : Sim). x.unflushed ≡ []) e at.0.flushed)))
+        (subst (λ (x : Sim). HasLimit (state_of x).size limit (state_of x).content) e h))
+    cut_limit_at (Runs disk) (before_first book) limit e at h = absurd at
+    cut_limit_at stage (between remains) limit e at h = tt
+    cut_limit_at stage (runs conversation) limit e at h = tt
+    cut_limit_at stage (off remains) limit e at h = tt
+
+    cut_limited : (stage : Stage) (limit : ℕ) → medium_in stage ≡ old → LeavesLimit limit stage → LeavesLimit limit (Rests new)
+    cut_limited stage limit e h =
+        subst (λ (n : ℕ). EachCut (HasLimit n limit) (state_of new)) (sym size)
+        (left_before (HasLimit (state_of old).size limit) (subst (λ (x : Sim). EachCut (HasLimit (state_of x).size limit) (state_of x)) e h))
+
     book_after_cut : (place : Place) → (book_at (after_cut place)).ours ≡ (book_at place).ours
     book_after_cut (before_first book) = refl
     book_after_cut (between remains) = refl
@@ -192,14 +220,17 @@ module _ (identity : Identification) where
           (none_refused (state_in stage) (state_of new) (ap of_all cut.refused_stay ∙ sym (ap (λ (x : Sim). of_all x.refused) e)));
       refused = let f = ap (λ (x : Sim). of_all x.refused) e in let g = ap of_all cut.refused_stay in omega (arith, f, g);
       goes = λ here fits. record {
-        there = record { place = after_cut here.place; armed = false };
-        run = one_run identity false here (record { place = after_cut here.place; armed = false }) (cuts keep) [] (refl, refl);
+        there = record here { place = after_cut here.place; armed = false };
+        run = one_run identity false here (record here { place = after_cut here.place; armed = false }) (cuts keep) [] (refl, refl);
         fits = record {
           is_at = cut_place stage here.place e fits.is_at;
+          limit_at = cut_limit_at stage here.place here.limit e fits.is_at fits.limit_at;
+          limited = λ ours. cut_limited stage here.limit e (fits.limited (sym (book_after_cut here.place) ∙ ours));
           found = cut_found here.place (state_of new).size size (subst (λ (x : Sim). (book_at here.place).ours ≡ true → EachCut (FoundAt (state_of x).size here.place) (state_of x)) e fits.found);
           unfused = λ unarmed. ap (λ (p : Power). p.fuse) cut.power_on;
         };
         ours = book_after_cut here.place;
+        limit_stays = λ ours. refl;
       };
       size_stays = size ∙ sym (ap (λ (x : Sim). (state_of x).size) e);
       identity_stays = refl;
@@ -225,28 +256,42 @@ module _ (identity : Identification) where
     played given answered = subst (λ (b : Bool). EventMovesIn b old event given (Runs new)) (sym on)
         (new, refl, record { told = answer; step = step; follows = follows; answered = answered })
 
+    -- the limit of the unit is what it was, and what a cut leaves has it
+    same_limit : (conversation : Conversation UnitState) (limit : ℕ) → conversation ≡ over old conversation.unit.book → limit ≡ conversation.unit.limit
+        → limit ≡ unit_limit new.unit
+    same_limit conversation limit says is = is ∙ ap (λ (x : Conversation UnitState). x.unit.limit) says ∙ sym step.limit_stays
+
+    limited_after : (limit : ℕ) (later : Book) → FitsDisk after new later → later.ours ≡ true → limit ≡ unit_limit new.unit
+        → EachCut (HasLimit after.size limit) after
+    limited_after limit later fits ours is =
+        subst (λ (n : ℕ). EachCut (HasLimit after.size n) after) (sym is) (limit_between_calls after new.unit later fits ours)
+
     module _ (still : new.unit.store.medium.power.off ≡ false) where
-      ends_at : (place : Place) (armed : Bool) → FitsLives (lives_at (Runs old)) (record { place = place; armed = armed })
-          → LivesGoTo (lives_at (Runs new)) (record { place = place; armed = armed }) (plays event ∷ []) (answer ∷ []) (grew ∷ [])
-      ends_at (before_first book) armed fits = absurd fits.is_at
-      ends_at (between remains) armed fits = absurd fits.is_at
-      ends_at (runs conversation) armed fits =
+      ends_at : (place : Place) (armed : Bool) (limit : ℕ) → FitsLives (lives_at (Runs old)) (record { place = place; armed = armed; limit = limit })
+          → LivesGoTo (lives_at (Runs new)) (record { place = place; armed = armed; limit = limit }) (plays event ∷ []) (answer ∷ []) (grew ∷ [])
+      ends_at (before_first book) armed limit fits = absurd fits.is_at
+      ends_at (between remains) armed limit fits = absurd fits.is_at
+      ends_at (runs conversation) armed limit fits =
           let p = step.proceeds conversation.unit.book fits.is_at.fits in
-          let there : Standing = record { place = runs (over new p.later); armed = armed } in
+          let there : Standing = record { place = runs (over new p.later); armed = armed; limit = limit } in
+          let same : limit ≡ unit_limit new.unit = same_limit conversation limit fits.is_at.says fits.limit_at in
           let moves : UnitStep grew conversation event answer (over new p.later) =
           subst (λ (x : Conversation UnitState). UnitStep grew x event answer (over new p.later)) (sym fits.is_at.says) p.moves in
           record {
             there = there;
-            run = one_run identity grew (record { place = runs conversation; armed = armed }) there (plays event) (answer ∷ [])
+            run = one_run identity grew (record { place = runs conversation; armed = armed; limit = limit }) there (plays event) (answer ∷ [])
                 (answer, refl, inl (record { later = over new p.later; step = moves; after = refl }));
             fits = record {
               is_at = record { on = still; says = refl; fits = p.fits };
+              limit_at = same;
+              limited = λ ours. limited_after limit p.later p.fits ours same;
               found = λ ours. p.at_exit (sym p.ours ∙ ours);
               unfused = λ e. follows.no_fuse_stays (fits.unfused e);
             };
             ours = p.ours;
+            limit_stays = λ ours. refl;
           }
-      ends_at (off remains) armed fits = on_or_off old.unit.store.medium.power.off on fits.is_at
+      ends_at (off remains) armed limit fits = on_or_off old.unit.store.medium.power.off on fits.is_at
 
       -- the power is on afterwards
       pub event_ends : LivesGoOn (lives_at (Runs old)) (plays event ∷ []) (answer ∷ []) (lives_at (Runs new))
@@ -254,22 +299,22 @@ module _ (identity : Identification) where
         refusals = grew ∷ [];
         moves = one_move identity grew (Runs old) (Runs new) (plays event) (answer ∷ []) (answer, refl, played answer (ap (λ (b : Bool). if b then Off else answer) (sym still))) refl;
         refused = one_counted grew before.failures after.failures (ltb-true before.failures after.failures) step.elapses.failures_stay;
-        goes = λ here fits. ends_at here.place here.armed fits;
+        goes = λ here fits. ends_at here.place here.armed here.limit fits;
         size_stays = step.elapses.size_stays;
         identity_stays = refl;
       }
 
     module _ (is_off : new.unit.store.medium.power.off ≡ true) where
-      cut_at : (place : Place) (armed : Bool) → FitsLives (lives_at (Runs old)) (record { place = place; armed = armed })
-          → LivesGoTo (lives_at (Runs new)) (record { place = place; armed = armed }) (plays event ∷ []) (Off ∷ []) (grew ∷ [])
-      cut_at (before_first book) armed fits = absurd fits.is_at
-      cut_at (between remains) armed fits = absurd fits.is_at
-      cut_at (runs conversation) armed fits =
+      cut_at : (place : Place) (armed : Bool) (limit : ℕ) → FitsLives (lives_at (Runs old)) (record { place = place; armed = armed; limit = limit })
+          → LivesGoTo (lives_at (Runs new)) (record { place = place; armed = armed; limit = limit }) (plays event ∷ []) (Off ∷ []) (grew ∷ [])
+      cut_at (before_first book) armed limit fits = absurd fits.is_at
+      cut_at (between remains) armed limit fits = absurd fits.is_at
+      cut_at (runs conversation) armed limit fits =
           let book = conversation.unit.book in
           let p = step.proceeds book fits.is_at.fits in
           let remains : Remains = record { book = book; in_progress = write_of_event conversation event } in
-          let here : Standing = record { place = runs conversation; armed = armed } in
-          let there : Standing = record { place = off remains; armed = armed } in
+          let here : Standing = record { place = runs conversation; armed = armed; limit = limit } in
+          let there : Standing = record { place = off remains; armed = armed; limit = limit } in
           record {
             there = there;
             run = one_run identity grew here there (plays event) (Off ∷ []) (
@@ -286,14 +331,17 @@ module _ (identity : Identification) where
             );
             fits = record {
               is_at = is_off;
+              limit_at = tt;
+              limited = λ ours. limited_after limit p.later p.fits (p.ours ∙ ours) (same_limit conversation limit fits.is_at.says fits.limit_at);
               found = λ ours. subst (λ (n : ℕ). EachCut (FoundWith n book remains.in_progress) after) (sym step.elapses.size_stays)
                   (subst (λ (x : Conversation UnitState). EachCut (FoundWith before.size book (write_of_event x event)) after) (sym fits.is_at.says)
                   (at_exit (FoundWith before.size book (write_of_event (over old book) event)) before after (is_sound new.unit.store.medium) (p.cuts ours)));
               unfused = λ e. follows.no_fuse_stays (fits.unfused e);
             };
             ours = refl;
+            limit_stays = λ ours. refl;
           }
-      cut_at (off remains) armed fits = on_or_off old.unit.store.medium.power.off on fits.is_at
+      cut_at (off remains) armed limit fits = on_or_off old.unit.store.medium.power.off on fits.is_at
 
       -- power went in it
       pub event_is_cut : LivesGoOn (lives_at (Runs old)) (plays event ∷ []) (Off ∷ []) (lives_at (Runs new))
@@ -301,33 +349,33 @@ module _ (identity : Identification) where
         refusals = grew ∷ [];
         moves = one_move identity grew (Runs old) (Runs new) (plays event) (Off ∷ []) (Off, refl, played Off (ap (λ (b : Bool). if b then Off else answer) (sym is_off))) refl;
         refused = one_counted grew before.failures after.failures (ltb-true before.failures after.failures) step.elapses.failures_stay;
-        goes = λ here fits. cut_at here.place here.armed fits;
+        goes = λ here fits. cut_at here.place here.armed here.limit fits;
         size_stays = step.elapses.size_stays;
         identity_stays = refl;
       }
 
   -- power is off already
-  off_at_rest : (m : Sim) (event : Event) → m.power.off ≡ true → (place : Place) (armed : Bool)
-      → FitsLives (lives_at (Rests m)) (record { place = place; armed = armed })
-      → LivesStep identity false (record { place = place; armed = armed }) (plays event) (Off ∷ []) (record { place = place; armed = armed })
-  off_at_rest m event is_off (before_first book) armed fits = on_or_off m.power.off fits.is_at.0.on is_off
-  off_at_rest m event is_off (between remains) armed fits = on_or_off m.power.off fits.is_at.on is_off
-  off_at_rest m event is_off (runs conversation) armed fits = absurd fits.is_at
-  off_at_rest m event is_off (off remains) armed fits = (Off, refl, (refl, refl))
+  off_at_rest : (m : Sim) (event : Event) → m.power.off ≡ true → (place : Place) (armed : Bool) (limit : ℕ)
+      → FitsLives (lives_at (Rests m)) (record { place = place; armed = armed; limit = limit })
+      → LivesStep identity false (record { place = place; armed = armed; limit = limit }) (plays event) (Off ∷ []) (record { place = place; armed = armed; limit = limit })
+  off_at_rest m event is_off (before_first book) armed limit fits = on_or_off m.power.off fits.is_at.0.on is_off
+  off_at_rest m event is_off (between remains) armed limit fits = on_or_off m.power.off fits.is_at.on is_off
+  off_at_rest m event is_off (runs conversation) armed limit fits = absurd fits.is_at
+  off_at_rest m event is_off (off remains) armed limit fits = (Off, refl, (refl, refl))
 
-  off_running : (disk : DiskValue Sim) (event : Event) → disk.unit.store.medium.power.off ≡ true → (place : Place) (armed : Bool)
-      → FitsLives (lives_at (Runs disk)) (record { place = place; armed = armed })
-      → LivesStep identity false (record { place = place; armed = armed }) (plays event) (Off ∷ []) (record { place = place; armed = armed })
-  off_running disk event is_off (before_first book) armed fits = absurd fits.is_at
-  off_running disk event is_off (between remains) armed fits = absurd fits.is_at
-  off_running disk event is_off (runs conversation) armed fits = on_or_off disk.unit.store.medium.power.off fits.is_at.on is_off
-  off_running disk event is_off (off remains) armed fits = (Off, refl, (refl, refl))
+  off_running : (disk : DiskValue Sim) (event : Event) → disk.unit.store.medium.power.off ≡ true → (place : Place) (armed : Bool) (limit : ℕ)
+      → FitsLives (lives_at (Runs disk)) (record { place = place; armed = armed; limit = limit })
+      → LivesStep identity false (record { place = place; armed = armed; limit = limit }) (plays event) (Off ∷ []) (record { place = place; armed = armed; limit = limit })
+  off_running disk event is_off (before_first book) armed limit fits = absurd fits.is_at
+  off_running disk event is_off (between remains) armed limit fits = absurd fits.is_at
+  off_running disk event is_off (runs conversation) armed limit fits = on_or_off disk.unit.store.medium.power.off fits.is_at.on is_off
+  off_running disk event is_off (off remains) armed limit fits = (Off, refl, (refl, refl))
 
   -- an event that comes to a medium without power
   pub event_at_rest : (m : Sim) (event : Event) → m.power.off ≡ true → LivesGoOn (lives_at (Rests m)) (plays event ∷ []) (Off ∷ []) (lives_at (Rests m))
-  event_at_rest m event is_off = stays (Rests m) (plays event) (Off ∷ []) (Off, refl, (refl, refl)) (λ here fits. off_at_rest m event is_off here.place here.armed fits)
+  event_at_rest m event is_off = stays (Rests m) (plays event) (Off ∷ []) (Off, refl, (refl, refl)) (λ here fits. off_at_rest m event is_off here.place here.armed here.limit fits)
 
   -- an event that comes to a disk without power
   pub event_off : (disk : DiskValue Sim) (event : Event) → disk.unit.store.medium.power.off ≡ true
       → LivesGoOn (lives_at (Runs disk)) (plays event ∷ []) (Off ∷ []) (lives_at (Runs disk))
-  event_off disk event is_off = stays (Runs disk) (plays event) (Off ∷ []) (Off, refl, subst (λ (b : Bool). EventMovesIn b disk event Off (Runs disk)) (sym is_off) (refl, refl)) (λ here fits. off_running disk event is_off here.place here.armed fits)
+  event_off disk event is_off = stays (Runs disk) (plays event) (Off ∷ []) (Off, refl, subst (λ (b : Bool). EventMovesIn b disk event Off (Runs disk)) (sym is_off) (refl, refl)) (λ here fits. off_running disk event is_off here.place here.armed here.limit fits)

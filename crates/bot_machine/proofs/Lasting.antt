@@ -1,5 +1,5 @@
 -- Whole lives, one after the other, from the first.
-use Rattle.std.proofs.Common.{◌≡◌, Bool, ◌<◌, ◌≤◌, ℕ, ◌+◌, suc, false, List, [], ◌∷◌, ◌++◌, None, length, take, drop, get_or, refl, sym, subst, ◌∙◌, ap, arith, append_assoc, drop-cons}
+use Rattle.std.proofs.Common.{◌≡◌, Bool, ◌<◌, ◌≤◌, ℕ, ◌+◌, suc, List, [], ◌∷◌, ◌++◌, None, length, take, drop, get_or, refl, sym, subst, ◌∙◌, ap, arith, append_assoc, drop-cons}
 use Rattle.std.proofs.lemmas.List.{append-nil, take_more, take-append-drop}
 use Rattle.std.proofs.lemmas.List.Sums.{sum_by-append, sum_by-take-le}
 use Rattle.std.specs.Prelude.{Option, Some, MatchOption}
@@ -16,11 +16,11 @@ use Rattle.bot_machine.specs.Moving.{MovesBy}
 use Rattle.bot_machine.specs.Answers.{Room}
 use Rattle.bot_machine.specs.Conversation.{refused_events}
 use Rattle.bot_machine.specs.Opening.{IsNotOpened}
-use Rattle.bot_machine.specs.Lives.{Action, before_first, Standing, LivesRun}
-use Rattle.bot_machine.specs.LivesValue.{LivesValue, medium_in, state_in, IsAtRest, OpensOn, FitsLives, LivesGoOn, LivesStopAt, LivesStop}
-use Rattle.bot_machine.specs.Lifetimes.{actions_of, actions_of_all, armed_by, events_in, AppendsFor, EndsIn, AreLived, StopsIn, AreLivedUpTo}
+use Rattle.bot_machine.specs.Lives.{Action, Standing, LivesRun}
+use Rattle.bot_machine.specs.LivesValue.{LivesValue, medium_in, state_in, IsAtRest, OpensOn, HasLimit, LeavesLimit, FitsLives, LivesGoOn, LivesStopAt, LivesStop}
+use Rattle.bot_machine.specs.Lifetimes.{first_standing, actions_of, actions_of_all, armed_by, events_in, AppendsFor, EndsIn, AreLived, StopsIn, AreLivedUpTo}
 use Rattle.bot_machine.proofs.Playing.{rests, lives_stop, lives_stop-refusals}
-use Rattle.bot_machine.proofs.Beginning.{first_found}
+use Rattle.bot_machine.proofs.Beginning.{first_found, first_limited}
 
 -- no life yet
 pub none_yet : (lives : LivesValue) (answers : Room) → AppendsFor lives lives answers answers [] 0
@@ -69,10 +69,13 @@ not_for_a_fuse None old armed after fault same h = subst (λ (x : LivesValue). I
 not_for_a_fuse (Some writes) old armed after fault fused h = subst (λ (m : Sim). IsNotOpened (state_of m) after fault) fused h
 
 -- the first lives, over a medium that opens with this book
-first_fits : (m : Sim) (identity : Identification) → IsAtRest m → m.power.fuse ≡ None → (book : Book) → OpensOn (state_of m) book
-    → FitsLives (record { identity = identity; stage = Rests m }) (record { place = before_first book; armed = false })
-first_fits m identity rest unfused book opens = record {
+first_fits : (m : Sim) (identity : Identification) → IsAtRest m → m.power.fuse ≡ None → (limit : ℕ) (book : Book) → OpensOn (state_of m) book
+    → HasLimit (state_of m).size limit (state_of m).content
+    → FitsLives (record { identity = identity; stage = Rests m }) (first_standing limit book)
+first_fits m identity rest unfused limit book opens has = record {
   is_at = (rest, opens);
+  limit_at = has;
+  limited = λ ours. first_limited m limit rest.flushed has;
   found = first_found m book rest.flushed opens;
   unfused = λ unarmed. unfused;
 }
@@ -94,13 +97,15 @@ module _ (m : Sim) (identity : Identification) (rest : IsAtRest m) (unfused : m.
     unfused = unfused_after;
   }
     where
-      ends : (book : Book) → OpensOn (state_of m) book → EndsIn identity book (actions_of_all lives) told on.refusals (medium_in after.stage)
-      ends book opens =
-          let here : Standing = record { place = before_first book; armed = false } in
-          let g = on.goes here (first_fits m identity rest unfused book opens) in
+      ends : (limit : ℕ) (book : Book) → OpensOn (state_of m) book → HasLimit (state_of m).size limit (state_of m).content
+          → EndsIn identity limit book (actions_of_all lives) told on.refusals (medium_in after.stage)
+      ends limit book opens has =
+          let here : Standing = first_standing limit book in
+          let g = on.goes here (first_fits m identity rest unfused limit book opens has) in
           record {
             last = g.there;
             run = subst (λ (x : Identification). LivesRun x here (actions_of_all lives) told on.refusals g.there) on.identity_stays g.run;
+            limited = λ ours. subst (λ (n : ℕ). LeavesLimit n after.stage) (g.limit_stays ours) (g.fits.limited (g.ours ∙ ours));
             found = λ ours. g.fits.found (g.ours ∙ ours);
           }
 
@@ -182,14 +187,16 @@ module _ (m : Sim) (identity : Identification) (rest : IsAtRest m) (unfused : m.
     on = stop.on;
   }
     where
-      stops : (book : Book) → OpensOn (state_of m) book → StopsIn identity book (actions_of_all lived ++ armed_by life.fuse) told stop.refusals
+      stops : (limit : ℕ) (book : Book) → OpensOn (state_of m) book → HasLimit (state_of m).size limit (state_of m).content
+          → StopsIn identity limit book (actions_of_all lived ++ armed_by life.fuse) told stop.refusals
           (refused_events stop.refusals + (state_of m).failures) fault (medium_in after.stage)
-      stops book opens =
-          let here : Standing = record { place = before_first book; armed = false } in
-          let g = stop.goes here (first_fits m identity rest unfused book opens) in
+      stops limit book opens has =
+          let here : Standing = first_standing limit book in
+          let g = stop.goes here (first_fits m identity rest unfused limit book opens has) in
           record {
             last = g.there;
             run = subst (λ (x : Identification). LivesRun x here (actions_of_all lived ++ armed_by life.fuse) told stop.refusals g.there) stop.identity_stays g.run;
+            limited = λ ours. g.limited (g.ours ∙ ours);
             next = g.book;
             opens = g.opens;
             cause = λ ours. g.cause (g.ours ∙ ours);

@@ -13,7 +13,7 @@ use Rattle.bot_machine.specs.declared.stage.Stage.{Stage}
 use Rattle.bot_machine.specs.declared.stage.Stage.TheVariants.{Rests}
 use Rattle.bot_machine.specs.Moving.{MovesBy}
 use Rattle.bot_machine.specs.Lifetimes.{AppendsFor}
-use Rattle.bot_machine.specs.LivesValue.{LivesValue, state_in, FitsLives, LivesGoTo, LivesGoOn, MayRefuse, LivesStopAt, LivesStop}
+use Rattle.bot_machine.specs.LivesValue.{LivesValue, state_in, LeavesLimit, FitsLives, LivesGoTo, LivesGoOn, MayRefuse, LivesStopAt, LivesStop}
 use Rattle.bot_machine.proofs.Moved.{MovesBy-append}
 
 -- events with a refused call are counted one list after the other
@@ -51,7 +51,7 @@ rests lives = record {
   refusals = [];
   moves = (refl, refl);
   refused = omega arith;
-  goes = λ here fits. record { there = here; run = (refl, refl); fits = fits; ours = refl };
+  goes = λ here fits. record { there = here; run = (refl, refl); fits = fits; ours = refl; limit_stays = λ ours. refl };
   size_stays = refl;
   identity_stays = refl;
 }
@@ -85,6 +85,7 @@ module _ (a b c : LivesValue) (xs ys : List Action) (told more : List Answer) (f
             run = LivesRun-append c.identity xs ys told more first.refusals next.refusals here mid.there last.there (first_run next.identity_stays here fits) last.run;
             fits = last.fits;
             ours = last.ours ∙ mid.ours;
+            limit_stays = λ ours. last.limit_stays (mid.ours ∙ ours) ∙ mid.limit_stays ours;
           }
 
   -- lives go on, and a start is refused
@@ -129,6 +130,7 @@ module _ (a b c : LivesValue) (xs ys : List Action) (told more : List Answer) (f
             opens = last.opens;
             ours = last.ours ∙ mid.ours;
             cause = λ ours. causes last.book fault (state_in c.stage).failures (last.cause ours);
+            limited = λ ours. subst (λ (n : ℕ). LeavesLimit n c.stage) (mid.limit_stays (sym (last.ours ∙ mid.ours) ∙ ours)) (last.limited ours);
             found = last.found;
           }
 

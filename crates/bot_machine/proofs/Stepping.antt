@@ -1,5 +1,5 @@
 -- What a packet to Bulk-Out does, by whether it is halted and by what is left of the exchange.
-use Rattle.std.proofs.Common.{◌≡◌, ℕ, Bool, true, false, List, [], slice_range, refl, subst, arith}
+use Rattle.std.proofs.Common.{◌≡◌, ℕ, Bool, true, false, List, [], slice_range, refl, sym, subst, arith}
 use Rattle.std.specs.Prelude.{None, Option, Result}
 use Rattle.wrappers.specs.declared.case.Endpoint.{Endpoint}
 use Rattle.medium.specs.Medium.{State, IsSound}
@@ -8,7 +8,7 @@ use Rattle.scsi_unit.specs.Books.{Book}
 use Rattle.scsi_unit.specs.Rules.{CarriesOut, Ticks}
 use Rattle.scsi_unit.specs.Calls.{IsBounded}
 use Rattle.scsi_unit.specs.Serving.{has_refused, IsSparing, TicksOver}
-use Rattle.scsi_unit.specs.UnitValue.{state_of}
+use Rattle.scsi_unit.specs.UnitValue.{unit_limit, state_of}
 use Rattle.bot_machine.specs.declared.event.Event.TheVariants as event
 use Rattle.bot_machine.specs.declared.event.Answer.{Answer}
 use Rattle.bot_machine.specs.declared.event.Answer.TheVariants as answer
@@ -22,7 +22,7 @@ use Rattle.bot_machine.specs.Acts.{PacketCarriesOut, write_of_packet}
 use Rattle.bot_machine.specs.Disk.{DiskValue, on_line, FitsDisk, Proceeds, Tells, IsStep, Elapses}
 use Rattle.scsi_unit.specs.declared.intent.Intent.{Intent}
 use Rattle.scsi_unit.specs.declared.intent.Intent.TheVariants as intent
-use Rattle.bot_machine.specs.Refinement.{taking_of, left_of, halt_of, IsInPhase}
+use Rattle.bot_machine.specs.Refinement.{taking_of, left_of, halt_of, IsInPhase, IsKept}
 use Rattle.bot_machine.specs.Packets.{packets_of}
 use Rattle.bot_machine.specs.Serving.{OpensOn, TakesOn, RestsOn, SparesOn}
 use Rattle.bot_machine.proofs.Proceeding.{staying, proceeding, proceeding_so}
@@ -46,6 +46,7 @@ module _ {M : Type 0} (before after : State) (old new : DiskValue M) (packet : L
         → (answer : Result (List ℕ) Sense) × IsSparing block taken old.unit answer new.unit
         × IsBounded before after block taken old.unit × Tells answer new.line
     pub elapses : Elapses before after
+    pub limit_stays : unit_limit new.unit ≡ unit_limit old.unit
 
   does : DoesFor old.line.out_halted old.line.left
       → IsStep before after old (event.Out (record { items = packet })) told new
@@ -55,6 +56,7 @@ module _ {M : Type 0} (before after : State) (old new : DiskValue M) (packet : L
     ticks = tt;
     spares = d.spares;
     elapses = d.elapses;
+    limit_stays = d.limit_stays;
   }
 
   does_for : (halted : Bool) (left : Script) → halted ≡ old.line.out_halted → left ≡ old.line.left → DoesFor halted left
@@ -71,6 +73,7 @@ stalled m disk packet sound halted =
       rests = λ book fits none. refl;
       spares = λ book fits block taken carries. absurd carries;
       elapses = no_time m;
+      limit_stays = refl;
     })
 
 -- a packet while something is sent
@@ -83,6 +86,7 @@ not_ready m disk packet packets halt status sound halted left =
       rests = λ book fits none. refl;
       spares = λ book fits block taken carries. absurd carries;
       elapses = no_time m;
+      limit_stays = refl;
     })
 
 -- a packet where a command wrapper is expected
@@ -90,14 +94,15 @@ pub begins : {M : Type 0} (before after : State) (old new : DiskValue M) (packet
     → false ≡ old.line.out_halted → finished ≡ old.line.left
     → OpensOn before after old.unit new.unit old.line new.line packet
     → RestsOn before old.unit new.unit finished packet → SparesOn before after old.unit new.unit new.line finished packet
-    → Elapses before after → IsStep before after old (event.Out (record { items = packet })) answer.Ack new
-begins before after old new packet halted left opens rests spares elapses =
+    → Elapses before after → unit_limit new.unit ≡ unit_limit old.unit → IsStep before after old (event.Out (record { items = packet })) answer.Ack new
+begins before after old new packet halted left opens rests spares elapses limit =
     does_for before after old new packet answer.Ack false finished halted left (record {
       proceeds = λ book fits. proceeding_so before after old.unit new.unit _ _ None None book (opens book fits) refl
           (λ later moves. (refl, moves));
       rests = rests;
       spares = spares;
       elapses = elapses;
+      limit_stays = limit;
     })
 
 -- a packet where data is expected
@@ -106,14 +111,15 @@ pub goes_on : {M : Type 0} (before after : State) (old new : DiskValue M) (packe
     → TakesOn before after old.unit new.unit old.line new.line t taken packet
     → RestsOn before old.unit new.unit (taking_of t taken) packet
     → SparesOn before after old.unit new.unit new.line (taking_of t taken) packet
-    → Elapses before after → IsStep before after old (event.Out (record { items = packet })) answer.Ack new
-goes_on before after old new packet t taken halted left takes rests spares elapses =
+    → Elapses before after → unit_limit new.unit ≡ unit_limit old.unit → IsStep before after old (event.Out (record { items = packet })) answer.Ack new
+goes_on before after old new packet t taken halted left takes rests spares elapses limit =
     does_for before after old new packet answer.Ack false (taking_of t taken) halted left (record {
       proceeds = λ book fits. proceeding_so before after old.unit new.unit _ _ _ _ book (takes book fits) refl
           (λ later moves. (refl, moves));
       rests = rests;
       spares = spares;
       elapses = elapses;
+      limit_stays = limit;
     })
 
 -- a step in the background
@@ -131,6 +137,7 @@ ticked before after old new ticks line = record {
     failures_stay = ticks.failures_stay;
     size_stays = ticks.size_stays;
   };
+  limit_stays = ticks.limit_stays;
 }
 
 -- a token to Bulk-In
@@ -142,6 +149,7 @@ token m disk sound = record {
   ticks = tt;
   spares = λ book fits block taken carries. absurd carries;
   elapses = no_time m;
+  limit_stays = refl;
 }
 
 -- a setup packet
@@ -153,6 +161,7 @@ asked m disk packet told line sound step = record {
   ticks = tt;
   spares = λ book fits block taken carries. absurd carries;
   elapses = no_time m;
+  limit_stays = refl;
 }
 
 -- in the phases that take nothing something is sent
@@ -165,10 +174,10 @@ sends (DataIn from to halt) command out taken staging status =
 sends Status command out taken staging status = ([], None, refl)
 
 -- a unit that comes to take no other data goes on with the phase
-pub still_in_phase : (old new : List ℕ → Intent) → ((block : List ℕ) (n : ℕ) → new block ≡ intent.Out n → old block ≡ intent.Out n)
-    → (phase : Phase) → IsInPhase old phase → IsInPhase new phase
-still_in_phase old new steady Command h = tt
-still_in_phase old new steady (DataOut t) h = record {
+pub still_in_phase : (limit : ℕ) (old new : List ℕ → Intent) → ((block : List ℕ) (n : ℕ) → new block ≡ intent.Out n → old block ≡ intent.Out n)
+    → (phase : Phase) → IsInPhase limit old phase → IsInPhase limit new phase
+still_in_phase limit old new steady Command h = tt
+still_in_phase limit old new steady (DataOut t) h = record {
   is_case = h.is_case;
   moment = h.moment;
   some_block = h.some_block;
@@ -178,5 +187,11 @@ still_in_phase old new steady (DataOut t) h = record {
   filled_is = h.filled_is;
   intended = λ n is. h.intended n (steady t.exchange.command.block.items n is);
 }
-still_in_phase old new steady (DataIn from to halt) h = h
-still_in_phase old new steady Status h = tt
+still_in_phase limit old new steady (DataIn from to halt) h = h
+still_in_phase limit old new steady Status h = tt
+
+-- what is kept with one limit is kept with another that is the same
+pub kept_as : (old new : ℕ) (intention : List ℕ → Intent) (phase : Phase) (taken staging : List ℕ) → new ≡ old
+    → IsKept old intention phase taken staging → IsKept new intention phase taken staging
+kept_as old new intention phase taken staging same kept =
+    subst (λ (n : ℕ). IsKept n intention phase taken staging) (sym same) kept

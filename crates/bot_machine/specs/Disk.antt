@@ -14,7 +14,7 @@ use Rattle.scsi_unit.specs.Books.{MayFind, FoundWith}
 use Rattle.scsi_unit.specs.Rules.{UnitState, CarriesOut, Ticks}
 use Rattle.scsi_unit.specs.Calls.{IsBounded}
 use Rattle.scsi_unit.specs.Serving.{has_refused, IsSparing, TicksOver}
-use Rattle.scsi_unit.specs.UnitValue.{UnitValue, state_of, FitsUnit}
+use Rattle.scsi_unit.specs.UnitValue.{UnitValue, unit_limit, state_of, FitsUnit}
 use Rattle.bot_machine.specs.declared.event.Event.{Event}
 use Rattle.bot_machine.specs.declared.event.Event.TheVariants as happens
 use Rattle.bot_machine.specs.declared.event.Answer.{Answer}
@@ -100,6 +100,7 @@ pub record IsStep {M : Type 0} (before after : State) (old : DiskValue M) (event
       → (told : Result (List ℕ) Sense) × IsSparing block taken old.unit told new.unit
       × IsBounded before after block taken old.unit × Tells told new.line
   pub elapses : Elapses before after
+  pub limit_stays : unit_limit new.unit ≡ unit_limit old.unit
 
 -- an image that a cut in one of the events of a run may leave: accepted writes of the book at the
 -- beginning of that event, perhaps with the one in progress in it

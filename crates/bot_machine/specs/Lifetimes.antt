@@ -17,7 +17,8 @@ use Rattle.bot_machine.specs.Lives.{Action, arms, starts, plays, cuts, before_fi
 use Rattle.bot_machine.specs.Lives.{Opens, LivesRun}
 use Rattle.bot_machine.specs.declared.stage.Stage.TheVariants.{Rests}
 use Rattle.bot_machine.specs.Moving.{MovesBy, IsRefusedStart}
-use Rattle.bot_machine.specs.LivesValue.{LivesValue, LivesGoOn, IsAtRest, OpensOn, FoundAt, MayRefuse}
+use Rattle.bot_machine.specs.LivesValue.{LivesValue, LivesGoOn, IsAtRest, OpensOn, HasLimit}
+use Rattle.bot_machine.specs.LivesValue.{LeavesLimit, FoundAt, MayRefuse}
 
 -- what is done before the start of a life
 abbrev pub armed_by : Option ℕ → List Action
@@ -42,12 +43,17 @@ events_in lives = sum_by (λ (life : Life). length life.events.items) lives
 abbrev pub Appends : List Answer → Room → Room → Type 0
 Appends told old new = new ≡ record old { list = old.list ++ told }
 
--- Lives whose first opens with this book, and what a cut of the medium may leave after them.
-pub record EndsIn (identity : Identification) (book : Book) (actions : List Action)
+-- before the first life, which opens with this book and has this limit
+abbrev pub first_standing : ℕ → Book → Standing
+first_standing limit book = record { place = before_first book; armed = false; limit = limit }
+
+-- Lives whose first opens with this book and has this limit, and what a cut of the medium may leave
+-- after them.
+pub record EndsIn (identity : Identification) (limit : ℕ) (book : Book) (actions : List Action)
     (told : List Answer) (refusals : List Bool) (after : Sim) : Type 0 where
   pub last : Standing
-  pub run : LivesRun identity (record { place = before_first book; armed = false }) actions told
-      refusals last
+  pub run : LivesRun identity (first_standing limit book) actions told refusals last
+  pub limited : book.ours ≡ true → LeavesLimit limit (Rests after)
   pub found : book.ours ≡ true → EachCut (FoundAt (state_of after).size last.place) (state_of after)
 
 -- lives went on by these actions, and the answers to so many events were appended
@@ -70,19 +76,20 @@ pub record AreLived (before : Sim) (identity : Identification) (lives : List Lif
   pub refusals : List Bool
   pub moves : MovesBy identity (Rests before) (actions_of_all lives) told refusals (Rests after)
   pub refused : refused_events refusals + (state_of before).failures ≤ (state_of after).failures
-  pub ends : (book : Book) → OpensOn (state_of before) book
-      → EndsIn identity book (actions_of_all lives) told refusals after
+  pub ends : (limit : ℕ) (book : Book) → OpensOn (state_of before) book
+      → HasLimit (state_of before).size limit (state_of before).content
+      → EndsIn identity limit book (actions_of_all lives) told refusals after
   pub rests : IsAtRest after
   pub unfused : after.power.fuse ≡ None
 
--- Lives whose first opens with this book, and the book with which the next would have opened, whose
--- start was refused.
-pub record StopsIn (identity : Identification) (book : Book) (actions : List Action)
+-- Lives whose first opens with this book and has this limit, and the book with which the next would
+-- have opened, whose start was refused.
+pub record StopsIn (identity : Identification) (limit : ℕ) (book : Book) (actions : List Action)
     (told : List Answer) (refusals : List Bool) (counted : ℕ) (fault : StartFault) (after : Sim)
     : Type 0 where
   pub last : Standing
-  pub run : LivesRun identity (record { place = before_first book; armed = false }) actions told
-      refusals last
+  pub run : LivesRun identity (first_standing limit book) actions told refusals last
+  pub limited : book.ours ≡ true → LeavesLimit limit (Rests after)
   pub next : Book
   pub opens : Opens last.place next
   pub cause : book.ours ≡ true → MayRefuse next counted (state_of after).failures fault
@@ -107,7 +114,9 @@ pub record AreLivedUpTo (before : Sim) (identity : Identification) (lives : List
   pub refusals : List Bool
   pub refusals_are : refusals ≡ were_lived.refusals ++ arming
   pub refused : refused_events refusals + (state_of before).failures ≤ (state_of after).failures
-  pub stops : (book : Book) → OpensOn (state_of before) book → StopsIn identity book
+  pub stops : (limit : ℕ) (book : Book) → OpensOn (state_of before) book
+      → HasLimit (state_of before).size limit (state_of before).content
+      → StopsIn identity limit book
       (actions_of_all lived ++ armed_by life.fuse) told refusals
       (refused_events refusals + (state_of before).failures) fault after
   pub on : after.power.off ≡ false

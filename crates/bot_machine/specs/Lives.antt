@@ -47,6 +47,8 @@ pub record Standing : Type 0 where
   pub place : Place
   -- a fuse was armed in this life
   pub armed : Bool
+  -- the most blocks of one READ or WRITE: it is told by the image
+  pub limit : ℕ
 
 -- The next life may find these blocks, with this next stamp: those after the first so many accepted
 -- writes, the promised ones at least, perhaps with the write in progress, whole.
@@ -73,9 +75,17 @@ Opens (between remains) next = OpensAfter remains next
 Opens (runs conversation) next = ⊥
 Opens (off remains) next = ⊥
 
+-- A life that begins at this place has this limit: the first that of the image with which the lives
+-- began, and a later one, where every image was ours then, that of the life before.
+abbrev pub KeepsLimit : Place → ℕ → ℕ → Type 0
+KeepsLimit (before_first book) old limit = limit ≡ old
+KeepsLimit (between remains) old limit = remains.book.ours ≡ true → limit ≡ old
+KeepsLimit (runs conversation) old limit = ⊥
+KeepsLimit (off remains) old limit = ⊥
+
 -- a disk that has just started with this book
-abbrev pub started : Identification → Book → Conversation UnitState
-started identity book = on_line at_rest (opened_unit identity book)
+abbrev pub started : ℕ → Identification → Book → Conversation UnitState
+started limit identity book = on_line at_rest (opened_unit limit identity book)
 
 -- Power goes: only where a fuse was armed in this life, and in a call that the medium refused.
 pub record PowerGoes (refused : Bool) (remains : Remains) (old new : Standing) : Type 0 where
@@ -88,7 +98,9 @@ pub record LifeBegins (identity : Identification) (refused : Bool) (old new : St
     : Type 0 where
   pub book : Book
   pub opens : Opens old.place book
-  pub begins : (new ≡ record old { place = runs (started identity book) })
+  pub limit : ℕ
+  pub keeps_limit : KeepsLimit old.place old.limit limit
+  pub begins : (new ≡ record old { place = runs (started limit identity book); limit = limit })
       ⊎ PowerGoes refused (record { book = book; in_progress = None }) old new
 
 -- a start changes nothing where a disk runs, or where power is off
@@ -140,7 +152,7 @@ LivesStep identity refused old starts answers new =
 LivesStep identity refused old (plays event) answers new =
     (answer : Answer) × (answers ≡ answer ∷ []) × PlaysAt old.place refused event answer old new
 LivesStep identity refused old (cuts keeps) answers new =
-    (answers ≡ []) × (new ≡ record { place = after_cut old.place; armed = false })
+    (answers ≡ []) × (new ≡ record old { place = after_cut old.place; armed = false })
 
 -- Actions and their answers, in order. The truth values say in which the medium refused a call.
 abbrev pub LivesRun : Identification → Standing → List Action → List Answer → List Bool → Standing

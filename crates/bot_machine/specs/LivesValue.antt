@@ -6,6 +6,8 @@ use Rattle.medium.specs.Sim.{Sim, state_of}
 use Rattle.scsi_unit.specs.StartFaults.{StartFault, NoMemory, Read, Write, Flush}
 use Rattle.scsi_unit.specs.StartFaults.{BadSuper, BadVersion, BadSize, BadHead, StampsUsedUp}
 use Rattle.scsi_unit.specs.Starting.{Stands}
+-- the limit of a disk is that of the image that it starts on
+pub use Rattle.scsi_unit.specs.Starting.{HasLimit}
 pub use Rattle.bot_machine.specs.Moving.{medium_in, state_in}
 use Rattle.bot_machine.specs.Moving.{MovesBy, IsRefusedStart}
 -- a first life over a medium opens with a book as its unit does
@@ -75,9 +77,24 @@ FoundAt size (between remains) image = FoundWith size remains.book remains.in_pr
 FoundAt size (runs conversation) image = MayFind size conversation.unit.book image
 FoundAt size (off remains) image = FoundWith size remains.book remains.in_progress image
 
+-- the limit of lives that stand here: the contents have it when the first begins, and a disk that
+-- runs
+abbrev pub LimitAt : Place → ℕ → Stage → Type 0
+LimitAt (before_first book) limit stage =
+    HasLimit (state_in stage).size limit (state_in stage).content
+LimitAt (between remains) limit stage = ⊤
+LimitAt (runs conversation) limit stage = limit ≡ conversation.unit.limit
+LimitAt (off remains) limit stage = ⊤
+
+-- every image that a cut may leave of this stage has this limit
+abbrev pub LeavesLimit : ℕ → Stage → Type 0
+LeavesLimit limit stage = EachCut (HasLimit (state_in stage).size limit) (state_in stage)
+
 -- lives stand here
 pub record FitsLives (lives : LivesValue) (here : Standing) : Type 0 where
   pub is_at : IsAt here.place lives.stage
+  pub limit_at : LimitAt here.place here.limit lives.stage
+  pub limited : (book_at here.place).ours ≡ true → LeavesLimit here.limit lives.stage
   pub found : (book_at here.place).ours ≡ true
       → EachCut (FoundAt (state_in lives.stage).size here.place) (state_in lives.stage)
   pub unfused : here.armed ≡ false → (medium_in lives.stage).power.fuse ≡ None
@@ -89,6 +106,8 @@ pub record LivesGoTo (after : LivesValue) (here : Standing) (actions : List Acti
   pub run : LivesRun after.identity here actions answers refusals there
   pub fits : FitsLives after there
   pub ours : (book_at there.place).ours ≡ (book_at here.place).ours
+  -- the format of an image never changes
+  pub limit_stays : (book_at here.place).ours ≡ true → there.limit ≡ here.limit
 
 -- Lives go on by these actions, with these answers: so does the disk itself, and so do the lives of
 -- each book. The actions in which the medium refused a call are the same, and at most as many as
@@ -128,6 +147,7 @@ pub record LivesStopAt (after : LivesValue) (here : Standing) (actions : List Ac
   pub opens : Opens there.place book
   pub ours : book.ours ≡ (book_at here.place).ours
   pub cause : book.ours ≡ true → MayRefuse book counted (state_in after.stage).failures fault
+  pub limited : book.ours ≡ true → LeavesLimit here.limit after.stage
   pub found : book.ours ≡ true
       → EachCut (MayFind (state_in after.stage).size book) (state_in after.stage)
 

@@ -4,9 +4,10 @@ use Rattle.medium.specs.Medium.{State}
 use Rattle.scsi_unit.specs.Books.{Book}
 use Rattle.scsi_unit.specs.Identification.{Identification}
 use Rattle.scsi_unit.specs.StartFaults.{StartFault, NoMemory}
-use Rattle.scsi_unit.specs.Starting.{IsStarted, IsStartCause, HasStore, OpensOn, IsCauseFor}
+use Rattle.scsi_unit.specs.Starting.{IsStarted, IsStartCause, HasStore, HasLimit}
+use Rattle.scsi_unit.specs.Starting.{OpensOn, IsCauseFor}
 use Rattle.scsi_unit.specs.Rules.{opened_unit}
-use Rattle.scsi_unit.specs.UnitValue.{state_of}
+use Rattle.scsi_unit.specs.UnitValue.{unit_limit, state_of}
 use Rattle.bot_machine.specs.Exchange.{at_rest}
 use Rattle.bot_machine.specs.Disk.{DiskValue}
 -- what a start leaves is what the start of its unit does
@@ -18,7 +19,10 @@ pub record IsOpened {M : Type 0} (before after : State) (identity : Identificati
     (disk : DiskValue M) : Type 0 where
   pub store : IsStarted before after disk.unit.store.cached
   pub line : disk.line ≡ at_rest
-  pub unit : (book : Book) → state_of disk.unit book ≡ opened_unit identity book
+  pub unit : (book : Book)
+      → state_of disk.unit book ≡ opened_unit (unit_limit disk.unit) identity book
+  -- its limit is that of the image
+  pub limit : HasLimit before.size (unit_limit disk.unit) before.content
 
 -- Why no disk has started: its unit has not, or it has and there is no memory for what the transport
 -- keeps. Where a life may open over the contents, only few causes are possible.

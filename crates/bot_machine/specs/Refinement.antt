@@ -1,6 +1,6 @@
 -- What the disk's fields stand for.
-use Rattle.std.specs.Prelude.{◌≡◌, ⊤, ◌≤◌, ◌<◌, ℕ, ◌-◌, min, Bool, true, false, List, [], take, length}
-use Rattle.std.specs.Prelude.{slice_range, Option, Some, None}
+use Rattle.std.specs.Prelude.{◌≡◌, ⊤, ◌≤◌, ◌<◌, ℕ, ◌-◌, ◌*◌, min, Bool, true, false, List, []}
+use Rattle.std.specs.Prelude.{take, length, slice_range, Option, Some, None}
 use Rattle.wrappers.specs.declared.case.Case.{Case}
 use Rattle.wrappers.specs.declared.case.Case.TheVariants.{C5, C6}
 use Rattle.wrappers.specs.declared.case.Endpoint.{Endpoint}
@@ -51,32 +51,35 @@ line_with wire left = record {
 abbrev pub line_of : Wire → List ℕ → List ℕ → Line
 line_of wire taken staging = line_with wire (left_of wire.phase taken staging wire.status)
 
--- Data is taken: the case takes data, and the bytes taken are the intended ones of those that came.
--- What the unit intends to take now, if it still does, is what it intended when the wrapper came.
-pub record IsTaking (intention : List ℕ → Intent) (t : Taking) : Type 0 where
+-- Data is taken: the case takes data, and the bytes taken are the intended ones of those that came,
+-- of as many blocks as a transfer has at most. What the unit intends to take now, if it still does,
+-- is what it intended when the wrapper came.
+pub record IsTaking (limit : ℕ) (intention : List ℕ → Intent) (t : Taking) : Type 0 where
   pub is_case : IsCase t.exchange.case t.exchange.command.host t.exchange.intended
   pub moment : moment_of t.exchange.case ≡ after_data
   pub some_block : 0 < length t.exchange.command.block.items
   pub some_due : 0 < t.due
   pub within : t.due ≤ size_of_way t.exchange.command.host
-  pub room : size_of_way t.exchange.intended ≤ 24576
+  pub room : size_of_way t.exchange.intended ≤ 512 * limit
   pub filled_is : t.filled
       ≡ min (size_of_way t.exchange.intended) (size_of_way t.exchange.command.host - t.due)
   pub intended : (n : ℕ) → intention t.exchange.command.block.items ≡ intent.Out n
       → size_of_way t.exchange.intended ≡ n
 
--- what holds of a phase, by what the unit intends for a command block
-abbrev pub IsInPhase : (List ℕ → Intent) → Phase → Type 0
-IsInPhase intention Command = ⊤
-IsInPhase intention (DataOut t) = IsTaking intention t
-IsInPhase intention (DataIn from to halt) = (from < to) × (to ≤ 24576)
-IsInPhase intention Status = ⊤
+-- what holds of a phase, by the most blocks of a transfer and what the unit intends for a command
+-- block
+abbrev pub IsInPhase : ℕ → (List ℕ → Intent) → Phase → Type 0
+IsInPhase limit intention Command = ⊤
+IsInPhase limit intention (DataOut t) = IsTaking limit intention t
+IsInPhase limit intention (DataIn from to halt) = (from < to) × (to ≤ 512 * limit)
+IsInPhase limit intention Status = ⊤
 
 -- what holds of the fields of every disk
-pub record IsKept (intention : List ℕ → Intent) (phase : Phase) (taken staging : List ℕ) : Type 0 where
-  pub taken_room : length taken ≡ 24576
-  pub staging_room : length staging ≡ 24576
-  pub phase_holds : IsInPhase intention phase
+pub record IsKept (limit : ℕ) (intention : List ℕ → Intent) (phase : Phase)
+    (taken staging : List ℕ) : Type 0 where
+  pub taken_room : length taken ≡ 512 * limit
+  pub staging_room : length staging ≡ 512 * limit
+  pub phase_holds : IsInPhase limit intention phase
 
 -- when a command is carried out
 abbrev pub moment_meant : When → Moment

@@ -1,5 +1,5 @@
 -- What the parts of an event do to the unit and to the line.
-use Rattle.std.specs.Prelude.{◌≡◌, ◌<◌, ◌≤◌, ◌⊎◌, ℕ, false, List, length, take, None, Result}
+use Rattle.std.specs.Prelude.{◌≡◌, ◌<◌, ◌≤◌, ◌*◌, ◌⊎◌, ℕ, false, List, length, take, None, Result}
 use Rattle.wrappers.specs.declared.command.Cbw.{Cbw}
 use Rattle.wrappers.specs.declared.case.Case.{Case}
 use Rattle.wrappers.specs.declared.way.Way.TheVariants as ways
@@ -11,7 +11,7 @@ use Rattle.scsi_unit.specs.Books.{Book}
 use Rattle.scsi_unit.specs.Rules.{CarriesOut, Ticks, write_in_progress}
 use Rattle.scsi_unit.specs.Calls.{IsBounded}
 use Rattle.scsi_unit.specs.Serving.{has_refused, IsSparing}
-use Rattle.scsi_unit.specs.UnitValue.{UnitValue, state_of, FitsUnit, intention_of}
+use Rattle.scsi_unit.specs.UnitValue.{UnitValue, unit_limit, state_of, FitsUnit, intention_of}
 use Rattle.bot_machine.specs.declared.exchange.Exchange.{Exchange}
 use Rattle.bot_machine.specs.declared.wire.Taking.{Taking}
 use Rattle.bot_machine.specs.Exchange.{Line, Script}
@@ -28,7 +28,7 @@ pub record IsBegun {M : Type 0} (unit : UnitValue M) (packet : List ℕ) (exchan
   pub only : (other : Cbw) → SpellsCommand packet other → other ≡ exchange.command
   pub some_block : 0 < length exchange.command.block.items
   pub intended : exchange.intended ≡ way_of (intention_of unit exchange.command.block.items)
-  pub few : (n : ℕ) → exchange.intended ≡ ways.Out n → n ≤ 24576
+  pub few : (n : ℕ) → exchange.intended ≡ ways.Out n → n ≤ 512 * unit_limit unit
   pub is_case : IsCase exchange.case exchange.command.host exchange.intended
   pub one_case : (other : Case) → IsCase other exchange.command.host exchange.intended → other ≡ exchange.case
 

@@ -1,12 +1,15 @@
 // A disk: the transport over a logical unit.
-ghost use Rattle.std.specs.Prelude.{⊤, ◌↔◌, ◌≡◌, false, IsTrue, ◌≤◌, ◌<◌, true, length, IfOk, IfErr, MatchResult};
+ghost use Rattle.std.specs.Prelude.{⊤, ◌↔◌, ◌≡◌, ◌≤◌, ◌<◌, ℕ, false, true, length};
+ghost use Rattle.std.specs.Prelude.{IsTrue, IfOk, IfErr, MatchResult};
 ghost use Rattle.std.specs.Borrow.{sem, follows_so};
 ghost use mathlib.Core.Option.{none};
-ghost use Rattle.medium.specs.Moments.{EachCut, IsUnchanged};
+ghost use Rattle.medium.specs.Moments.{EachCut, LeavesOnly, IsUnchanged};
 ghost use Rattle.scsi_unit.specs.Books.{Book};
 ghost use Rattle.scsi_unit.specs.Books.{MayFind};
 ghost use Rattle.scsi_unit.specs.Background.{IsSettled, HasLimits, is_dead, steps_left};
 ghost use Rattle.scsi_unit.specs.Serving.{TicksOver};
+ghost use Rattle.scsi_unit.specs.Starting.{HasLimit, IsOursForSome};
+ghost use Rattle.scsi_unit.specs.UnitValue.{unit_limit};
 ghost use Rattle.bot_machine.specs.Exchange.{at_rest, in_answer, after_in};
 ghost use Rattle.bot_machine.specs.Answers.{answer_to_out, answer_to_in, answer_to_setup, IsPacket};
 ghost use Rattle.bot_machine.specs.Conversation.{SetupStep};
@@ -26,9 +29,6 @@ use std::alloc::Global;
 use std::marker::Model;
 use std::mem;
 
-// The bytes of the longest transfer.
-const ROOM: usize = 24_576;
-
 /// A disk over a medium.
 #[derive(Drop)]
 pub struct Disk<M: Medium> {
@@ -45,7 +45,7 @@ impl<M: Medium> Model for Disk<M> {
 
     ghost Value = { DiskValue M };
 
-    ghost use Rattle.scsi_unit.specs.UnitValue.{intention_of};
+    ghost use Rattle.scsi_unit.specs.UnitValue.{unit_limit, intention_of};
     ghost use Rattle.bot_machine.specs.Refinement.{line_of, IsKept};
 
     ghost view = { λ d. record {
@@ -54,14 +54,16 @@ impl<M: Medium> Model for Disk<M> {
     } };
 
     ghost invariant = { λ d.
-        IsKept (intention_of d.unit) d.wire.phase d.taken.items d.staging.items };
+        IsKept (unit_limit d.unit) (intention_of d.unit) d.wire.phase
+        d.taken.items d.staging.items };
 }
 
 impl<M: Medium> Disk<M> {
     /// Starts a disk on a medium: recovers the medium, and makes the room for all that is kept in
     /// memory. A command block wrapper is expected, the unit attention of a power on is pending,
     /// and the write cache is enabled. The blocks are those for which the contents of the medium
-    /// stood.
+    /// stood, and the room is that for a transfer over them. Where every image was ours and had one
+    /// limit, every image that a cut may leave has it.
     ///
     /// # Errors
     ///
@@ -75,18 +77,26 @@ impl<M: Medium> Disk<M> {
         ensures leaves { MatchResult result
             (λ disk. StartLeaves (M.state medium) (M.state disk.unit.store.medium))
             (λ error. StartLeaves (M.state medium) (M.state error.medium)) }
+        ensures limit { (limit : ℕ) → EachCut (IsOursForSome (M.state medium).size) (M.state medium)
+            → EachCut (HasLimit (M.state medium).size limit) (M.state medium)
+            → MatchResult result
+            (λ disk. LeavesOnly (HasLimit (M.state medium).size limit)
+            (M.state medium) (M.state disk.unit.store.medium))
+            (λ error. LeavesOnly (HasLimit (M.state medium).size limit)
+            (M.state medium) (M.state error.medium)) }
         ensures follows { MatchResult result
             (λ disk. M.follows medium disk.unit.store.medium)
             (λ error. M.follows medium error.medium) }
     {
         let unit = Unit::start(alloc, medium, identity)?;
-        let Ok(taken) = vec![in alloc; 0; ROOM] else {
+        let room = 512 * unit.limit() as usize;
+        let Ok(taken) = vec![in alloc; 0; room] else {
             return Err(StartError {
                 fault: StartFault::NoMemory,
                 medium: unit.into_medium(),
             });
         };
-        let Ok(staging) = vec![in alloc; 0; ROOM] else {
+        let Ok(staging) = vec![in alloc; 0; room] else {
             return Err(StartError {
                 fault: StartFault::NoMemory,
                 medium: unit.into_medium(),
@@ -98,6 +108,15 @@ impl<M: Medium> Disk<M> {
             taken,
             staging,
         })
+    }
+
+    /// How many blocks one READ or WRITE moves at most. The image tells it, and no call changes it.
+    pub fn limit(&self) -> u32
+        ensures is { result ≡ unit_limit self.now.unit }
+        ensures least { 48 ≤ result }
+        ensures most { result ≤ 240 }
+    {
+        self.unit.limit()
     }
 
     /// Whether no step in the background is left: each accepted write is durable and at home then,
@@ -115,7 +134,8 @@ impl<M: Medium> Disk<M> {
     /// The medium that the disk stands on.
     ///
     /// Between two calls a cut leaves what may be found of each book that the disk fits. Where no
-    /// step in the background is left, each accepted write is durable and at home.
+    /// step in the background is left, each accepted write is durable and at home. What a cut
+    /// leaves has the limit of the disk, where every image was ours.
     pub fn medium(&self) -> &M
         ensures is { result.now ≡ self.now.unit.store.medium }
         ensures limits { HasLimits self.now.unit.store.cached }
@@ -126,6 +146,10 @@ impl<M: Medium> Disk<M> {
             → FitsDisk (M.state self.now.unit.store.medium) self.now book → book.ours ≡ true
             → EachCut (MayFind (M.state self.now.unit.store.medium).size book)
             (M.state self.now.unit.store.medium) }
+        ensures limit { (book : Book)
+            → FitsDisk (M.state self.now.unit.store.medium) self.now book → book.ours ≡ true
+            → EachCut (HasLimit (M.state self.now.unit.store.medium).size
+            (unit_limit self.now.unit)) (M.state self.now.unit.store.medium) }
     {
         self.unit.medium()
     }

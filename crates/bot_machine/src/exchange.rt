@@ -1,5 +1,5 @@
 // The exchange of one command, as its wrapper began it.
-ghost use Rattle.std.specs.Prelude.{◌≡◌};
+ghost use Rattle.std.specs.Prelude.{◌≡◌, ◌≤◌};
 ghost use Rattle.bot_machine.specs.Exchange.{moment_of, case_if_failed};
 ghost use Rattle.bot_machine.specs.Intentions.{way_of};
 ghost use Rattle.bot_machine.specs.Refinement.{moment_meant, sent_size};
@@ -49,7 +49,8 @@ pub(crate) fn after_failure(case: Case) -> Case
 
 // How many of the bytes that a good command gave are sent.
 pub(crate) fn size_sent(case: Case, size: usize) -> usize
-    ensures { result ≡ sent_size case size }
+    ensures is { result ≡ sent_size case size }
+    ensures most { result ≤ size }
 {
     match case {
         Case::C5 | Case::C6 => size,

@@ -1,9 +1,10 @@
 // Lives of a disk over a medium in memory.
-ghost use Rattle.std.specs.Prelude.{◌≡◌, ◌↔◌, [], ◌∷◌, None, true, false, OnOk, IfOk, IfErr};
+ghost use Rattle.std.specs.Prelude.{◌≡◌, ◌↔◌, ℕ, [], ◌∷◌, None, true, false, OnOk, IfOk, IfErr};
 ghost use Rattle.medium.specs.Sim.{state_of, IsCut, IsFused, ComesAfter};
 ghost use Rattle.medium.specs.Writes.{keeps};
 ghost use Rattle.scsi_unit.specs.Books.{Book};
-ghost use Rattle.bot_machine.specs.Lives.{starts, plays, cuts, arms, before_first};
+ghost use Rattle.bot_machine.specs.Lives.{starts, plays, cuts, arms};
+ghost use Rattle.bot_machine.specs.Lifetimes.{first_standing};
 
 use crate::event::{Answer, Event};
 use crate::stage::{self, Stage};
@@ -42,6 +43,7 @@ impl Lives {
       HasBegun,
       IsAtRest,
       OpensOn,
+      HasLimit,
       FitsLives,
       LivesGoOn,
       IsRefused,
@@ -51,12 +53,13 @@ impl Lives {
     /// No life has been yet.
     ///
     /// Where the power of the medium is on, nothing is unflushed and no fuse is armed, the first life
-    /// opens with the blocks for which the contents stand.
+    /// opens with the blocks for which the contents stand, and has their limit.
     pub fn new(medium: SimMedium, identity: Identity) -> Lives
         ensures value { result ≡ record { identity = identity; stage = Rests medium } }
-        ensures first { (book : Book) → IsAtRest medium → medium.power.fuse ≡ None
+        ensures first { (limit : ℕ) (book : Book) → IsAtRest medium → medium.power.fuse ≡ None
             → OpensOn (state_of medium) book
-            → FitsLives result (record { place = before_first book; armed = false }) }
+            → HasLimit (state_of medium).size limit (state_of medium).content
+            → FitsLives result (first_standing limit book) }
     {
         Lives {
             identity,

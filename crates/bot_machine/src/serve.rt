@@ -1,5 +1,5 @@
 // What the disk does with a packet to Bulk-Out.
-ghost use Rattle.std.specs.Prelude.{◌≡◌, ◌≤◌, ◌<◌, ◌+◌, ◌++◌, ℕ, List, Result, MatchOption};
+ghost use Rattle.std.specs.Prelude.{◌≡◌, ◌≤◌, ◌<◌, ◌+◌, ◌*◌, ◌++◌, ℕ, List, Result, MatchOption};
 ghost use Rattle.std.specs.Prelude.{length, min, take};
 ghost use Rattle.wrappers.specs.Cases.{IsCase};
 ghost use Rattle.wrappers.specs.Command.{SpellsNone};
@@ -7,7 +7,7 @@ ghost use Rattle.wrappers.specs.declared.way.Way.TheVariants as ways;
 ghost use Rattle.scsi_unit.specs.Rules.{Sense};
 ghost use Rattle.scsi_unit.specs.Calls.{IsBounded};
 ghost use Rattle.scsi_unit.specs.Serving.{IsSparing};
-ghost use Rattle.scsi_unit.specs.UnitValue.{intention_of};
+ghost use Rattle.scsi_unit.specs.UnitValue.{unit_limit, intention_of};
 ghost use Rattle.bot_machine.specs.Disk.{Elapses, Tells};
 ghost use Rattle.bot_machine.specs.Exchange.{Script, finished};
 ghost use Rattle.bot_machine.specs.Refinement.{
@@ -40,7 +40,7 @@ fn carry_out<M: Medium>(
         → intention_of unit.old exchange.now.command.block.items ≡ Intent.In n }
     requires takes { (n : ℕ) → intention_of unit.old exchange.now.command.block.items
         ≡ Intent.Out n → length bytes.now ≡ n }
-    requires room { length staging.old ≡ 24576 }
+    requires room { length staging.old ≡ 512 * unit_limit unit.old }
     ensures carried_out { (taken : List ℕ) (left : Script) → CarriesOutOn
         (M.state unit.old.store.medium) (M.state unit.new.store.medium) unit.old unit.new
         (line_with wire.old left) (line_of wire.new taken staging.new) exchange.now bytes.now }
@@ -49,7 +49,8 @@ fn carry_out<M: Medium>(
         × IsBounded (M.state unit.old.store.medium) (M.state unit.new.store.medium)
         exchange.now.command.block.items bytes.now unit.old
         × ((taken : List ℕ) → Tells answer (line_of wire.new taken staging.new)) }
-    ensures phase { IsInPhase (intention_of unit.new) wire.new.phase }
+    ensures phase { IsInPhase (unit_limit unit.new) (intention_of unit.new) wire.new.phase }
+    ensures limit { unit_limit unit.new ≡ unit_limit unit.old }
     ensures elapses { Elapses (M.state unit.old.store.medium) (M.state unit.new.store.medium) }
     ensures follows { M.follows unit.old.store.medium unit.new.store.medium }
 {
@@ -83,7 +84,7 @@ pub(crate) fn open<M: Medium>(
     packet: &[u8],
 )
     requires expected { wire.old.phase ≡ Phase.Command }
-    requires room { length staging.old ≡ 24576 }
+    requires room { length staging.old ≡ 512 * unit_limit unit.old }
     ensures opens { (taken : List ℕ) → OpensOn
         (M.state unit.old.store.medium) (M.state unit.new.store.medium) unit.old unit.new
         (line_of wire.old taken staging.old) (line_of wire.new taken staging.new) packet.now }
@@ -91,7 +92,8 @@ pub(crate) fn open<M: Medium>(
     ensures spares { (taken : List ℕ) → SparesOn
         (M.state unit.old.store.medium) (M.state unit.new.store.medium) unit.old unit.new
         (line_of wire.new taken staging.new) finished packet.now }
-    ensures phase { IsInPhase (intention_of unit.new) wire.new.phase }
+    ensures phase { IsInPhase (unit_limit unit.new) (intention_of unit.new) wire.new.phase }
+    ensures limit { unit_limit unit.new ≡ unit_limit unit.old }
     ensures elapses { Elapses (M.state unit.old.store.medium) (M.state unit.new.store.medium) }
     ensures follows { M.follows unit.old.store.medium unit.new.store.medium }
 {
@@ -123,9 +125,9 @@ pub(crate) fn take_data<M: Medium>(
     packet: &[u8],
     pending: Taking,
 )
-    requires taken { length taken.old ≡ 24576 }
-    requires room { length staging.old ≡ 24576 }
-    requires taking { IsTaking (intention_of unit.old) pending }
+    requires taken { length taken.old ≡ 512 * unit_limit unit.old }
+    requires room { length staging.old ≡ 512 * unit_limit unit.old }
+    requires taking { IsTaking (unit_limit unit.old) (intention_of unit.old) pending }
     ensures takes { (left : Script) → TakesOn
         (M.state unit.old.store.medium) (M.state unit.new.store.medium) unit.old unit.new
         (line_with wire.old left) (line_of wire.new taken.new staging.new)
@@ -135,7 +137,8 @@ pub(crate) fn take_data<M: Medium>(
     ensures spares { SparesOn
         (M.state unit.old.store.medium) (M.state unit.new.store.medium) unit.old unit.new
         (line_of wire.new taken.new staging.new) (taking_of pending taken.old) packet.now }
-    ensures phase { IsInPhase (intention_of unit.new) wire.new.phase }
+    ensures phase { IsInPhase (unit_limit unit.new) (intention_of unit.new) wire.new.phase }
+    ensures limit { unit_limit unit.new ≡ unit_limit unit.old }
     ensures elapses { Elapses (M.state unit.old.store.medium) (M.state unit.new.store.medium) }
     ensures follows { M.follows unit.old.store.medium unit.new.store.medium }
 {

@@ -1,5 +1,5 @@
 // The line to the host: halts, the lock, and what is left of the exchange.
-ghost use Rattle.std.specs.Prelude.{◌≡◌, ◌≢◌, ◌≤◌, ◌<◌, ℕ, List, Some, true, take, length};
+ghost use Rattle.std.specs.Prelude.{◌≡◌, ◌≢◌, ◌≤◌, ◌<◌, ◌*◌, ℕ, List, Some, true, take, length};
 ghost use Rattle.wrappers.specs.Cases.{IsPossible};
 ghost use Rattle.scsi_unit.specs.declared.intent.Intent.{Intent};
 ghost use Rattle.bot_machine.specs.Exchange.{
@@ -63,7 +63,8 @@ impl Wire {
     // Nothing is halted, and a command wrapper is expected.
     pub(crate) fn at_rest() -> Wire
         ensures line { (taken staging : List ℕ) → line_of result taken staging ≡ at_rest }
-        ensures phase { (intention : List ℕ → Intent) → IsInPhase intention result.phase }
+        ensures phase { (limit : ℕ) (intention : List ℕ → Intent)
+            → IsInPhase limit intention result.phase }
     {
         Wire {
             in_halted: false,
@@ -128,12 +129,12 @@ impl Wire {
     // Lays out what is sent: the first bytes of the staging buffer, a halt after them, and the
     // status wrapper.
     pub(crate) fn lay_out(&mut self, size: usize, halt: Option<Endpoint>, status: [u8; 13])
-        requires fits { size ≤ 24576 }
         requires halts_in { 0 < size → halt ≢ Some Endpoint.Out }
-        ensures line { (taken staging : List ℕ) (left : Script) → length staging ≡ 24576
+        ensures line { (taken staging : List ℕ) (left : Script) → size ≤ length staging
             → line_of self.new taken staging
             ≡ laid_out (packets_of (take size staging)) halt status (line_with self.old left) }
-        ensures phase { (intention : List ℕ → Intent) → IsInPhase intention self.new.phase }
+        ensures phase { (limit : ℕ) (intention : List ℕ → Intent) → size ≤ 512 * limit
+            → IsInPhase limit intention self.new.phase }
     {
         self.status = status;
         if size > 0 {
@@ -154,17 +155,17 @@ impl Wire {
     // buffer, the halt of the case, and the status.
     pub(crate) fn tell(&mut self, exchange: &Exchange, case: Case, size: usize, status: Status)
         requires possible { IsPossible case exchange.now.command.host exchange.now.intended }
-        requires fits { size ≤ 24576 }
         requires halts_in { 0 < size
             → (outcome_for case exchange.now.command exchange.now.intended).halt
             ≢ Some Endpoint.Out }
-        ensures line { (taken staging : List ℕ) (left : Script) → length staging ≡ 24576
+        ensures line { (taken staging : List ℕ) (left : Script) → size ≤ length staging
             → line_of self.new taken staging
             ≡ laid_out (packets_of (take size staging))
             (outcome_for case exchange.now.command exchange.now.intended).halt
             (status_for case exchange.now.command exchange.now.intended status)
             (line_with self.old left) }
-        ensures phase { (intention : List ℕ → Intent) → IsInPhase intention self.new.phase }
+        ensures phase { (limit : ℕ) (intention : List ℕ → Intent) → size ≤ 512 * limit
+            → IsInPhase limit intention self.new.phase }
     {
         let told = outcome(case, exchange.command.host, exchange.intended);
         let status = write_csw(exchange.command.tag, told.residue, status);

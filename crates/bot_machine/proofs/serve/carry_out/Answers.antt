@@ -1,4 +1,4 @@
-use Rattle.std.proofs.Common.{◌≡◌, length, take, arith, length-take}
+use Rattle.std.proofs.Common.{take, arith, length-take}
 use Rattle.std.specs.Prelude.{Ok, Err}
 use Rattle.bot_machine.proofs.UnitLaws.{ours_stay}
 use Rattle.bot_machine.specs.Exchange.{finished}
@@ -12,7 +12,6 @@ use Rattle.bot_machine.proofs.serve.carry_out.Goals as goal
 pub returns-in-Ok-clause-carried_out : goal.returns-in-Ok-clause-carried_out
 returns-in-Ok-clause-carried_out g c = λ taken left book fits.
     let out = c.carry_out.new.out in
-    let room : length out ≡ 24576 = omega arith in
     let line = rw c.as_slice.ensures.value at (c.in-Ok.ensures.serves.line book fits) in
     proceeding _ _ _ _ _ _ book line.0
     (record {
@@ -21,49 +20,48 @@ returns-in-Ok-clause-carried_out g c = λ taken left book fits.
       moved = λ n intended.
           let size = rw c.as_slice.ensures.value at c.in-Ok.ensures.sent in
           omega (arith, size n (c.requires.sends n intended), c.in-Ok.ensures.most, length-take c.in-Ok.size out);
-      after = rw (c.size_sent-size.ensures, ← sent_in-size c.args.exchange.now.case c.in-Ok.size out)
-          at (c.tell.ensures.line taken out left room);
+      after = rw (c.size_sent-size.ensures.is, ← sent_in-size c.args.exchange.now.case c.in-Ok.size out)
+          at (c.tell.ensures.line taken out left (omega (arith, c.in-Ok.ensures.most)));
     })
     line.2 (ours_stay _ _ _ _ _ _ line.1)
     (rw c.as_slice.ensures.value at (c.in-Ok.ensures.serves.cuts book fits))
 
 pub returns-in-Ok-clause-spares : goal.returns-in-Ok-clause-spares
 returns-in-Ok-clause-spares g c =
-    let out = c.carry_out.new.out in
-    let room : length out ≡ 24576 = omega arith in (
+    let out = c.carry_out.new.out in (
       Ok (take c.in-Ok.size out),
       rw c.as_slice.ensures.value at c.in-Ok.ensures.sparing,
       rw c.as_slice.ensures.value at c.in-Ok.ensures.bounded,
-      (λ taken. tells (Ok (take c.in-Ok.size out)) _ _ _ _ _ (line_with c.args.wire.now finished) (c.tell.ensures.line taken out finished room)),
+      (λ taken. tells (Ok (take c.in-Ok.size out)) _ _ _ _ _ (line_with c.args.wire.now finished) (c.tell.ensures.line taken out finished (omega (arith, c.in-Ok.ensures.most)))),
     )
 
 pub returns-in-Ok-clause-phase : goal.returns-in-Ok-clause-phase
-returns-in-Ok-clause-phase g c = c.tell.ensures.phase _
+returns-in-Ok-clause-phase g c =
+    let stays = c.in-Ok.ensures.serves.limit_stays in
+    c.tell.ensures.phase _ _ (omega (arith, stays, c.in-Ok.ensures.most))
 
 pub returns-in-Err-clause-carried_out : goal.returns-in-Err-clause-carried_out
 returns-in-Err-clause-carried_out g c = λ taken left book fits.
     let out = c.carry_out.new.out in
-    let room : length out ≡ 24576 = omega arith in
     let line = rw c.as_slice.ensures.value at (c.in-Err.ensures.serves.line book fits) in
     proceeding _ _ _ _ _ _ book line.0
     (record {
       answer = Err c.in-Err.field-0;
       effect = line.1;
       moved = λ n intended. tt;
-      after = rw (c.after_failure.ensures, packets_of-none) at (c.tell-in-Err.ensures.line taken out left room);
+      after = rw (c.after_failure.ensures, packets_of-none) at (c.tell-in-Err.ensures.line taken out left (omega arith));
     })
     line.2 (ours_stay _ _ _ _ _ _ line.1)
     (rw c.as_slice.ensures.value at (c.in-Err.ensures.serves.cuts book fits))
 
 pub returns-in-Err-clause-spares : goal.returns-in-Err-clause-spares
 returns-in-Err-clause-spares g c =
-    let out = c.carry_out.new.out in
-    let room : length out ≡ 24576 = omega arith in (
+    let out = c.carry_out.new.out in (
       Err c.in-Err.field-0,
       rw c.as_slice.ensures.value at c.in-Err.ensures.sparing,
       rw c.as_slice.ensures.value at c.in-Err.ensures.bounded,
-      (λ taken. tells (Err c.in-Err.field-0) _ _ _ _ _ (line_with c.args.wire.now finished) (c.tell-in-Err.ensures.line taken out finished room)),
+      (λ taken. tells (Err c.in-Err.field-0) _ _ _ _ _ (line_with c.args.wire.now finished) (c.tell-in-Err.ensures.line taken out finished (omega arith))),
     )
 
 pub returns-in-Err-clause-phase : goal.returns-in-Err-clause-phase
-returns-in-Err-clause-phase g c = c.tell-in-Err.ensures.phase _
+returns-in-Err-clause-phase g c = c.tell-in-Err.ensures.phase _ _ (omega arith)

@@ -1,4 +1,4 @@
-use Rattle.std.proofs.Common.{◌≡◌, ◌∙◌, inl, inr, [], refl}
+use Rattle.std.proofs.Common.{◌≡◌, ◌∙◌, inl, inr, [], refl, arith}
 use Rattle.bot_machine.proofs.Packets.{packets_of-none}
 use Rattle.bot_machine.proofs.Proceeding.{staying, proceeding_so}
 use Rattle.bot_machine.proofs.Opening.{opens, no_write, carries_out, carried_at_once}
@@ -54,7 +54,7 @@ returns-in-Never-clause-opens g c = λ taken book fits.
     (inl (opens _ _ book fits _ c.in-Some.exchange c.in-Some.ensures _ _ _ (rw (← c.in-Never.ensures) (
       refl,
       rw packets_of-none at (c.tell.ensures.line taken c.args.staging.now
-          (left_of wire.phase taken c.args.staging.now wire.status) c.requires.room),
+          (left_of wire.phase taken c.args.staging.now wire.status) (omega arith)),
     ))))
 
 pub returns-in-Never-clause-spares : goal.returns-in-Never-clause-spares
@@ -63,4 +63,4 @@ returns-in-Never-clause-spares g c = λ came book fits block taken carries.
     absurd (let e : never ≡ at_once = c.in-Never.ensures ∙ same.0 in cc)
 
 pub returns-in-Never-clause-phase : goal.returns-in-Never-clause-phase
-returns-in-Never-clause-phase g c = c.tell.ensures.phase _
+returns-in-Never-clause-phase g c = c.tell.ensures.phase _ _ (omega arith)

@@ -16,11 +16,11 @@ returns-then-packet-min-clause-takes g c = λ left book fits.
       size = let s : length c.args.packet.now ≢ min 512 c.args.pending.due = omega arith in s;
       unit = refl;
       after = rw (c.write_csw-status.ensures, packets_of-none)
-          at (c.lay_out.ensures.line c.args.taken.now c.args.staging.now left c.requires.room);
+          at (c.lay_out.ensures.line c.args.taken.now c.args.staging.now left (omega arith));
     })))
 
 pub returns-then-packet-min-clause-phase : goal.returns-then-packet-min-clause-phase
-returns-then-packet-min-clause-phase g c = c.lay_out.ensures.phase _
+returns-then-packet-min-clause-phase g c = c.lay_out.ensures.phase _ _ (omega arith)
 
 pub returns-then-due-gt512-clause-takes : goal.returns-then-due-gt512-clause-takes
 returns-then-due-gt512-clause-takes g c = λ left book fits.

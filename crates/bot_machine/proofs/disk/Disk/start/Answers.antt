@@ -24,7 +24,7 @@ pub invariant_of-result : goal.invariant_of-result
 invariant_of-result g c = record {
   taken_room = search (rules, places);
   staging_room = search (rules, places);
-  phase_holds = c.at_rest.ensures.phase _;
+  phase_holds = c.at_rest.ensures.phase _ _;
 }
 
 pub returns-clause-ok : goal.returns-clause-ok
@@ -32,4 +32,11 @@ returns-clause-ok g c = record {
   store = c.in_ok-unit.ensures.ok.store;
   line = c.at_rest.ensures.line _ _;
   unit = c.in_ok-unit.ensures.ok.opened;
+  limit = c.in_ok-unit.ensures.ok.limit;
 }
+
+pub returns-in_default-clause-limit : goal.returns-in_default-clause-limit
+returns-in_default-clause-limit g c limit ours has = rw c.into_medium.ensures (c.in_ok-unit.ensures.limit limit ours has)
+
+pub returns-in_default-vec-clause-limit : goal.returns-in_default-vec-clause-limit
+returns-in_default-vec-clause-limit g c limit ours has = rw c.into_medium-in_default-vec.ensures (c.in_ok-unit.ensures.limit limit ours has)

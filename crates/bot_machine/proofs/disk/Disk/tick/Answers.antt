@@ -1,13 +1,16 @@
 use Rattle.std.proofs.Common.{refl}
-use Rattle.bot_machine.proofs.Stepping.{ticked, still_in_phase}
+use Rattle.bot_machine.proofs.Stepping.{ticked, still_in_phase, kept_as}
 use Rattle.bot_machine.proofs.disk.Disk.tick.Goals as goal
 
 pub returns-clause-step : goal.returns-clause-step
 returns-clause-step g c = rw (← c.self.view_is) (ticked _ _ _ _ c.tick.ensures.ticks refl)
 
 pub invariant_of-self : goal.invariant_of-self
-invariant_of-self g c = record {
-  taken_room = c.self.invariant.taken_room;
-  staging_room = c.self.invariant.staging_room;
-  phase_holds = still_in_phase _ _ c.tick.ensures.ticks.steady c.self.inside.wire.phase c.self.invariant.phase_holds;
-}
+invariant_of-self g c =
+    let ticks = c.tick.ensures.ticks in
+    let d = c.self.inside in
+    kept_as _ _ _ d.wire.phase d.taken.items d.staging.items ticks.limit_stays (record {
+      taken_room = c.self.invariant.taken_room;
+      staging_room = c.self.invariant.staging_room;
+      phase_holds = still_in_phase _ _ _ ticks.steady d.wire.phase c.self.invariant.phase_holds;
+    })
