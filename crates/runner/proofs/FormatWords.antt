@@ -1,6 +1,6 @@
 -- The parser of `format` takes its words: word by word, since at once they are too much for one computation.
 use Rattle.std.proofs.Common.{◌≡◌, ◌∙◌, ℕ, List, [], ◌∷◌, true, false, None, Some, codes, ap, refl}
-use Rattle.std.specs.Prelude.{◌&&◌}
+use Rattle.std.specs.Prelude.{◌&&◌, Bool, fold}
 use Rattle.std.specs.Cmp.Derive.{both_true}
 use Rattle.std.specs.List.{list_all}
 use Rattle.std.specs.Str.{bytes_eq}
@@ -90,43 +90,85 @@ turn-slots : (image blocks slots : List ℕ) → IsPlain slots → turn_passes s
 unfolding clap_on_literals
 turn-slots image blocks slots plain = let a = plain.stripped in let b = plain.other in simp (a, b)
 
--- a word passes, and those behind it
-passes-more : (w v : Walk) (word : List ℕ) (words : List (List ℕ)) → turn_passes shape [] w word ≡ true → walked rules [] w word ≡ v
-    → walk_passes shape [] v words ≡ true → walk_passes shape [] w (word ∷ words) ≡ true
-unfolding walk_passes
-passes-more w v word words turn to rest = both_true turn (ap (λ u. walk_passes shape [] u words) to ∙ rest)
+-- at the name of the third option, which may be there
+abbrev at_format : List ℕ → List ℕ → List ℕ → Walk
+at_format image blocks slots =
+    after_step rules (codes "--format") (behind_slots image blocks slots) (waiting_for (codes "format") (behind_slots image blocks slots)) (next (option (codes "format")))
 
-passes-none : (w : Walk) → walk_passes shape [] w [] ≡ true
-unfolding walk_passes
-passes-none w = refl
+abbrev behind_format : List ℕ → List ℕ → List ℕ → List ℕ → Walk
+behind_format image blocks slots number = behind_value (codes "format") number (at_format image blocks slots)
 
-end_passes : (image blocks slots : List ℕ) → let end = (behind_slots image blocks slots).held in
-    (settle_passes rules false end && (list_all default_passes rules && is_valid shape (finished rules end) false)) ≡ true
+walked-format_name : (image blocks slots : List ℕ) → walked rules [] (behind_slots image blocks slots) (codes "--format") ≡ at_format image blocks slots
 unfolding clap_on_literals
-end_passes image blocks slots = refl
+walked-format_name image blocks slots = refl
 
--- the parser of `format` passes its words
-pub format_passes : (image blocks slots : List ℕ) → IsPlain image → IsPlain blocks → IsPlain slots
+walked-format : (image blocks slots number : List ℕ) → IsPlain number
+    → walked rules [] (at_format image blocks slots) number ≡ behind_format image blocks slots number
+unfolding clap_on_literals
+walked-format image blocks slots number plain = let a = plain.stripped in let b = plain.other in simp (a, b)
+
+turn-format_name : (image blocks slots : List ℕ) → turn_passes shape [] (behind_slots image blocks slots) (codes "--format") ≡ true
+unfolding clap_on_literals
+turn-format_name image blocks slots = refl
+
+turn-format : (image blocks slots number : List ℕ) → IsPlain number → turn_passes shape [] (at_format image blocks slots) number ≡ true
+unfolding clap_on_literals
+turn-format image blocks slots number plain = let a = plain.stripped in let b = plain.other in simp (a, b)
+
+-- these words pass behind a walk, and lead to another
+record Leads (w v : Walk) (words : List (List ℕ)) : Type 0 where
+  pub pass : walk_passes shape [] w words ≡ true
+  pub to : fold (walked rules []) w words ≡ v
+
+leads-none : (w : Walk) → Leads w w []
+unfolding walk_passes
+leads-none w = record { pass = refl; to = refl }
+
+leads-more : (w u v : Walk) (word : List ℕ) (words : List (List ℕ)) → turn_passes shape [] w word ≡ true → walked rules [] w word ≡ u
+    → Leads u v words → Leads w v (word ∷ words)
+unfolding walk_passes
+leads-more w u v word words turn to rest = record {
+  pass = both_true turn (ap (λ u. walk_passes shape [] u words) to ∙ rest.pass);
+  to = ap (λ u. fold (walked rules []) u words) to ∙ rest.to;
+}
+
+-- what is checked behind the last word
+abbrev end_passes : Walk → Bool
+end_passes w = settle_passes rules false w.held && (list_all default_passes rules && is_valid shape (finished rules w.held) false)
+
+end-slots : (image blocks slots : List ℕ) → end_passes (behind_slots image blocks slots) ≡ true
+unfolding clap_on_literals
+end-slots image blocks slots = refl
+
+end-format : (image blocks slots number : List ℕ) → end_passes (behind_format image blocks slots number) ≡ true
+unfolding clap_on_literals
+end-format image blocks slots number = refl
+
+level : (v : Walk) (words : List (List ℕ)) → Leads start v words → end_passes v ≡ true → level_passes shape [] nothing_held words false ≡ true
+level v words leads ends = both_true leads.pass (ap end_passes leads.to ∙ ends)
+
+-- the words as far as the sizes lead behind the sizes
+leads-sizes : (image blocks slots : List ℕ) (ending : List (List ℕ)) (v : Walk) → IsPlain image → IsPlain blocks → IsPlain slots
+    → Leads (behind_slots image blocks slots) v ending
+    → Leads start v (image ∷ codes "--blocks" ∷ blocks ∷ codes "--slots" ∷ slots ∷ ending)
+leads-sizes image blocks slots ending v a b c rest =
+    leads-more start (behind_image image) v _ _ (turn-image image a) (walked-image image a)
+    (leads-more (behind_image image) (at_blocks image) v _ _ (turn-blocks_name image) (walked-blocks_name image)
+    (leads-more (at_blocks image) (behind_blocks image blocks) v _ _ (turn-blocks image blocks b) (walked-blocks image blocks b)
+    (leads-more (behind_blocks image blocks) (at_slots image blocks) v _ _ (turn-slots_name image blocks) (walked-slots_name image blocks)
+    (leads-more (at_slots image blocks) (behind_slots image blocks slots) v _ _ (turn-slots image blocks slots c) (walked-slots image blocks slots c) rest))))
+
+-- the parser of `format` passes its words, without a format and with one
+pub sizes_pass : (image blocks slots : List ℕ) → IsPlain image → IsPlain blocks → IsPlain slots
     → level_passes shape [] nothing_held (image ∷ codes "--blocks" ∷ blocks ∷ codes "--slots" ∷ slots ∷ []) false ≡ true
-format_passes image blocks slots a b c =
-    let to_image = walked-image image a in
-    let to_name = walked-blocks_name image in
-    let to_blocks = walked-blocks image blocks b in
-    let to_second = walked-slots_name image blocks in
-    let to_slots = walked-slots image blocks slots c in
-    let go : Walk → List ℕ → Walk = walked rules [] in
-    let end : go (go (go (go (go start image) (codes "--blocks")) blocks) (codes "--slots")) slots ≡ behind_slots image blocks slots
-    = ap (λ w. go (go (go (go w (codes "--blocks")) blocks) (codes "--slots")) slots) to_image
-    ∙ ap (λ w. go (go (go w blocks) (codes "--slots")) slots) to_name
-    ∙ ap (λ w. go (go w (codes "--slots")) slots) to_blocks
-    ∙ ap (λ w. go w slots) to_second
-    ∙ to_slots in
-    both_true
-    (passes-more start (behind_image image) image (codes "--blocks" ∷ blocks ∷ codes "--slots" ∷ slots ∷ []) (turn-image image a) to_image
-    (passes-more (behind_image image) (at_blocks image) (codes "--blocks") (blocks ∷ codes "--slots" ∷ slots ∷ []) (turn-blocks_name image) to_name
-    (passes-more (at_blocks image) (behind_blocks image blocks) blocks (codes "--slots" ∷ slots ∷ []) (turn-blocks image blocks b) to_blocks
-    (passes-more (behind_blocks image blocks) (at_slots image blocks) (codes "--slots") (slots ∷ []) (turn-slots_name image blocks) to_second
-    (passes-more (at_slots image blocks) (behind_slots image blocks slots) slots [] (turn-slots image blocks slots c) to_slots
-    (passes-none (behind_slots image blocks slots)))))))
-    (ap (λ (w : Walk). settle_passes rules false w.held && (list_all default_passes rules && is_valid shape (finished rules w.held) false)) end
-    ∙ end_passes image blocks slots)
+sizes_pass image blocks slots a b c =
+    let end = behind_slots image blocks slots in
+    level end _ (leads-sizes image blocks slots [] end a b c (leads-none end)) (end-slots image blocks slots)
+
+pub format_passes : (image blocks slots number : List ℕ) → IsPlain image → IsPlain blocks → IsPlain slots → IsPlain number
+    → level_passes shape [] nothing_held (image ∷ codes "--blocks" ∷ blocks ∷ codes "--slots" ∷ slots ∷ codes "--format" ∷ number ∷ []) false ≡ true
+format_passes image blocks slots number a b c d =
+    let end = behind_format image blocks slots number in
+    let at_end = leads-more (at_format image blocks slots) end end _ _ (turn-format image blocks slots number d) (walked-format image blocks slots number d) (leads-none end) in
+    let ending = leads-more (behind_slots image blocks slots) (at_format image blocks slots) end _ _ (turn-format_name image blocks slots) (walked-format_name image blocks slots) at_end in
+    level end _ (leads-sizes image blocks slots _ end a b c ending) (end-format image blocks slots number)

@@ -6,6 +6,7 @@ use Rattle.bot_machine.specs.Books.{opened}
 use Rattle.bot_machine.specs.Starting.{blocks_of, layout_of}
 use Rattle.bot_machine.proofs.UnitLaws.{between_calls}
 use Rattle.bot_machine.specs.Rules.{UnitState}
+use Rattle.bot_machine.specs.UnitValue.{unit_limit}
 use Rattle.bot_machine.specs.declared.event.Event.{Event}
 use Rattle.bot_machine.specs.declared.event.Answer.{Answer}
 use Rattle.bot_machine.specs.Conversation.{Conversation}
@@ -36,7 +37,7 @@ life before mid after old new events answers refusals opening leaves so = record
       let book = opened (blocks_of old.unit.store.cached) opening.store.array opening.store.next ours in
       let fits = opening.store.fits ours each in
       let ran = so.runs book fits in
-      let start : over old book ≡ started book = ap₂ on_line opening.line (opening.unit book) in (
+      let start : over old book ≡ started (unit_limit old.unit) book = ap₂ on_line opening.line (opening.unit book) in (
         over new ran.0,
         subst (λ (c : Conversation UnitState). UnitRun c events answers refusals (over new ran.0)) start ran.1,
         λ is_ours. between_calls after new.unit ran.0 ran.2 (ran.3 ∙ is_ours),

@@ -10,6 +10,7 @@ use Rattle.medium.specs.SimLaws.{is_sound, size_whole}
 use Rattle.medium.specs.Writes.{sector_of, are_whole, keeps}
 use Rattle.medium.proofs.Keeping.{kept_allowed, none_size, none_content, none_flushed}
 use Rattle.medium.proofs.Moments.{only_image, content_has}
+use Rattle.log_layout.specs.Places.{limit_of}
 use Rattle.recovery.specs.Formatted.{Shape, IsFormatted}
 use Rattle.bot_machine.specs.Books.{Book, opened, StandsAs}
 use Rattle.bot_machine.specs.Identification.{Identification}
@@ -24,15 +25,15 @@ use Rattle.bot_machine.specs.Disk.{UnitStep}
 use Rattle.bot_machine.specs.Exchange.{Script, finished, taking, sending, Moment, at_once, after_data, never, moment_of}
 use Rattle.bot_machine.specs.Intentions.{Intends}
 use Rattle.bot_machine.specs.Lives.{Action, arms, starts, plays, cuts, Remains, Place, before_first, between, runs, off, Standing, Opens, LifeBegins, PowerGoes, LivesStep, LivesRun, after_cut}
-use Rattle.bot_machine.specs.LivesValue.{OpensOn, book_at, FoundAt}
-use Rattle.bot_machine.specs.Lifetimes.{actions_of_all, armed_by}
+use Rattle.bot_machine.specs.LivesValue.{OpensOn, HasLimit, book_at, FoundAt}
+use Rattle.bot_machine.specs.Lifetimes.{first_standing, actions_of_all, armed_by}
 use Rattle.bot_machine.proofs.Beginning.{next_opens}
 use Rattle.bot_machine.proofs.UnitLaws.{knows_images, ours_stay}
 use Rattle.runner.specs.Laws.{IsReadyFor, FormatIsReady, LivesAreReady}
 
 -- an image that is ours for a book is ours for something
 ours_for_some : (size blocks : ℕ) (image : Image) (array : Array) (next : ℕ) → StandsAs size blocks image array next → IsOursForSome size image
-ours_for_some size blocks image array next s = (record { blocks = blocks; slots = s.0 }, array, next, s.1)
+ours_for_some size blocks image array next s = (s.0, array, next, s.2)
 
 -- where nothing is unflushed and the contents are ours for a book, a life opens with it
 opens_at_rest : (m : Sim) (blocks : ℕ) (array : Array) (next : ℕ) → m.unflushed ≡ [] → StandsAs (state_of m).size blocks (state_of m).content array next
@@ -71,18 +72,26 @@ module _ (shape : Shape) (made cut : Sim) (keep : ℕ → Bool) (f : IsFormatted
   content_same = λ i s. content_at s i
 
   stands_made : StandsAs (state_of made).size shape.blocks (state_of made).content zeros 2
-  stands_made = (shape.slots, f.ours)
+  stands_made = (shape, refl, f.ours)
 
   stands_cut : StandsAs (state_of cut).size shape.blocks (state_of cut).content zeros 2
   stands_cut =
       subst (λ (n : ℕ). StandsAs n shape.blocks (state_of cut).content zeros 2) (sym size_same)
       (subst (λ (image : Image). StandsAs (state_of made).size shape.blocks image zeros 2) (sym content_same) stands_made)
 
-  is_ready : IsReadyFor cut (opened shape.blocks zeros 2 true)
+  -- the contents have the limit of the format
+  limited_cut : HasLimit (state_of cut).size (limit_of shape.format) (state_of cut).content
+  limited_cut =
+      subst (λ (n : ℕ). HasLimit n (limit_of shape.format) (state_of cut).content) (sym size_same)
+      (subst (HasLimit (state_of made).size (limit_of shape.format)) (sym content_same)
+      (record { shape = shape; array = zeros; next = 2; stands = f.ours.stands; limit_is = refl }))
+
+  is_ready : IsReadyFor cut (limit_of shape.format) (opened shape.blocks zeros 2 true)
   is_ready = record {
     rests = record { on = ap (λ p. p.off) c.power_on; flushed = c.none };
     unfused = ap (λ p. p.fuse) c.power_on;
     opens = opens_at_rest cut shape.blocks zeros 2 c.none stands_cut;
+    limited = limited_cut;
     ours = refl;
   }
 
@@ -155,24 +164,24 @@ module _ (identity : Identification) (book : Book) where
       (λ is. subst (λ (s : Standing). IsFrom book s.place) (sym is) (record { first = tt; ours = ours }))
       (λ goes. from_off refused old new _ goes ours) begins.begins
 
-  from_start : (refused : Bool) (place : Place) (armed : Bool) (new : Standing) (told : List Answer) → IsFrom book place
-      → LivesStep identity refused (record { place = place; armed = armed }) starts told new → IsFrom book new.place
-  from_start refused (before_first other) armed new told from h =
+  from_start : (refused : Bool) (place : Place) (armed : Bool) (limit : ℕ) (new : Standing) (told : List Answer) → IsFrom book place
+      → LivesStep identity refused (record { place = place; armed = armed; limit = limit }) starts told new → IsFrom book new.place
+  from_start refused (before_first other) armed limit new told from h =
       from_begun refused _ new h.1 (ap (λ (b : Book). b.ours) h.1.opens ∙ from.ours)
-  from_start refused (between remains) armed new told from h =
+  from_start refused (between remains) armed limit new told from h =
       from_begun refused _ new h.1 (ap (λ (b : Book). b.ours) h.1.opens.opens ∙ from.ours)
-  from_start refused (runs conversation) armed new told from h = subst (λ (s : Standing). IsFrom book s.place) (sym h.1) from
-  from_start refused (off remains) armed new told from h = subst (λ (s : Standing). IsFrom book s.place) (sym h.1) from
+  from_start refused (runs conversation) armed limit new told from h = subst (λ (s : Standing). IsFrom book s.place) (sym h.1) from
+  from_start refused (off remains) armed limit new told from h = subst (λ (s : Standing). IsFrom book s.place) (sym h.1) from
 
-  from_event : (refused : Bool) (place : Place) (armed : Bool) (new : Standing) (happens : Event) (told : List Answer) → IsFrom book place
-      → LivesStep identity refused (record { place = place; armed = armed }) (plays happens) told new → IsFrom book new.place
-  from_event refused (before_first other) armed new happens told from h = absurd h.2
-  from_event refused (between remains) armed new happens told from h = absurd h.2
-  from_event refused (runs conversation) armed new happens told from h = ⊎_elim
+  from_event : (refused : Bool) (place : Place) (armed : Bool) (limit : ℕ) (new : Standing) (happens : Event) (told : List Answer) → IsFrom book place
+      → LivesStep identity refused (record { place = place; armed = armed; limit = limit }) (plays happens) told new → IsFrom book new.place
+  from_event refused (before_first other) armed limit new happens told from h = absurd h.2
+  from_event refused (between remains) armed limit new happens told from h = absurd h.2
+  from_event refused (runs conversation) armed limit new happens told from h = ⊎_elim
       (λ ends. subst (λ (s : Standing). IsFrom book s.place) (sym ends.after)
       (record { first = tt; ours = step_ours refused happens conversation ends.later h.0 ends.step ∙ from.ours }))
       (λ cut. from_off refused _ new _ cut.goes from.ours) h.2
-  from_event refused (off remains) armed new happens told from h = subst (λ (s : Standing). IsFrom book s.place) (sym h.2.1) from
+  from_event refused (off remains) armed limit new happens told from h = subst (λ (s : Standing). IsFrom book s.place) (sym h.2.1) from
 
   from_cut : (place : Place) → IsFrom book place → IsFrom book (after_cut place)
   from_cut (before_first other) from = from
@@ -183,8 +192,8 @@ module _ (identity : Identification) (book : Book) where
   from_step : (refused : Bool) (old new : Standing) (action : Action) (told : List Answer) → IsFrom book old.place
       → LivesStep identity refused old action told new → IsFrom book new.place
   from_step refused old new (arms writes) told from h = subst (λ (s : Standing). IsFrom book s.place) (sym h.1) from
-  from_step refused old new starts told from h = from_start refused old.place old.armed new told from h
-  from_step refused old new (plays happens) told from h = from_event refused old.place old.armed new happens told from h
+  from_step refused old new starts told from h = from_start refused old.place old.armed old.limit new told from h
+  from_step refused old new (plays happens) told from h = from_event refused old.place old.armed old.limit new happens told from h
   from_step refused old new (cuts keep) told from h = subst (λ (s : Standing). IsFrom book s.place) (sym h.1) (from_cut old.place from)
 
   from_run : (actions : List Action) (old new : Standing) (told : List Answer) (refusals : List Bool) → IsFrom book old.place
@@ -264,10 +273,19 @@ opens_next m book (runs conversation) none is ours from rests found = absurd res
 opens_next m book (off remains) none is ours from rests found = absurd rests
 
 pub lives_are_ready : LivesAreReady
-lives_are_ready = λ before after identity lives told lived book opens ours.
-    let ends = lived.ends book opens in
-    let first : Standing = record { place = before_first book; armed = false } in
+lives_are_ready = λ before after identity lives told lived limit book opens has ours.
+    let ends = lived.ends limit book opens has in
+    let first : Standing = first_standing limit book in
     let from = from_run identity book (actions_of_all lives) first ends.last told lived.refusals (record { first = refl; ours = refl }) ends.run in
     let rests = all_between identity lives first ends.last told lived.refusals tt ends.run in
-    let next = opens_next after book ends.last.place lived.rests.flushed opens.opens ours from rests (ends.found ours) in
-    (next.0, record { rests = lived.rests; unfused = lived.unfused; opens = next.1; ours = next.2 }, next.3)
+    let next = opens_next after book ends.last.place lived.rests.flushed opens.opens ours from rests (ends.found ours) in (
+      next.0,
+      record {
+        rests = lived.rests;
+        unfused = lived.unfused;
+        opens = next.1;
+        limited = content_has (HasLimit (state_of after).size limit) (state_of after) (is_sound after) (ends.limited ours);
+        ours = next.2;
+      },
+      next.3,
+    )

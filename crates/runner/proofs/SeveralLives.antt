@@ -9,9 +9,9 @@ use Rattle.bot_machine.specs.declared.event.Answer.{Answer}
 use Rattle.bot_machine.specs.declared.stage.Stage.{Stage}
 use Rattle.bot_machine.specs.declared.stage.Stage.TheVariants.{Rests}
 use Rattle.bot_machine.specs.Conversation.{refused_events}
-use Rattle.bot_machine.specs.Lifetimes.{EndsIn, StopsIn}
-use Rattle.bot_machine.specs.Lives.{Action, plays, before_first, Standing, Opens, LivesRun}
-use Rattle.bot_machine.specs.LivesValue.{LivesValue, MayRefuse, IsRefused, FitsLives, OpensOn, IsAtRest}
+use Rattle.bot_machine.specs.Lifetimes.{first_standing, EndsIn, StopsIn}
+use Rattle.bot_machine.specs.Lives.{Action, plays, Standing, Opens, LivesRun}
+use Rattle.bot_machine.specs.LivesValue.{LivesValue, MayRefuse, IsRefused, HasLimit, LeavesLimit, FitsLives, OpensOn, IsAtRest}
 use Rattle.bot_machine.specs.Moving.{medium_in, MovesBy, IsRefusedStart}
 use Rattle.runner.specs.declared.fault.ScriptError.{ScriptError as ErrorOf}
 use Rattle.runner.specs.declared.fault.ScriptFault.{ScriptFault}
@@ -27,9 +27,6 @@ use Rattle.runner.specs.Script.{StopsAt, identification}
 -- no life has been yet
 abbrev first_over : Sim → LivesValue
 first_over medium = record { identity = identification; stage = Rests medium }
-
-abbrev first_with : Book → Standing
-first_with book = record { place = before_first book; armed = false }
 
 -- where nothing is done, nothing moves, and lives stand where they stood
 not_moved : (identity : Identification) (refusals : List Bool) (old new : Stage) → MovesBy identity old [] [] refusals new → new ≡ old
@@ -54,7 +51,8 @@ may_refuse book fewer counted failures start.BadHead le h = h
 may_refuse book fewer counted failures start.StampsUsedUp le h = h
 
 module _ (medium : Sim) (rest : IsAtRest medium) (unfused : medium.power.fuse ≡ None)
-    (fits : (book : Book) → OpensOn (state_of medium) book → FitsLives (first_over medium) (first_with book)) where
+    (fits : (limit : ℕ) (book : Book) → OpensOn (state_of medium) book → HasLimit (state_of medium).size limit (state_of medium).content
+    → FitsLives (first_over medium) (first_standing limit book)) where
   are_lives : (actions : List Action) (answers : List Answer) (new : LivesValue) → Acted (first_over medium) actions answers new
       → AreLives medium (medium_in new.stage) actions answers
   are_lives actions answers new acted = record {
@@ -67,27 +65,31 @@ module _ (medium : Sim) (rest : IsAtRest medium) (unfused : medium.power.fuse �
     ends = ends;
   }
     where
-      ends : (book : Book) → OpensOn (state_of medium) book → EndsIn identification book actions answers acted.goes_on.refusals (medium_in new.stage)
-      ends book opens =
-          let g = acted.goes_on.goes (first_with book) (fits book opens) in
+      ends : (limit : ℕ) (book : Book) → OpensOn (state_of medium) book → HasLimit (state_of medium).size limit (state_of medium).content
+          → EndsIn identification limit book actions answers acted.goes_on.refusals (medium_in new.stage)
+      ends limit book opens has =
+          let g = acted.goes_on.goes (first_standing limit book) (fits limit book opens has) in
           record {
             last = g.there;
-            run = subst (λ (i : Identification). LivesRun i (first_with book) actions answers acted.goes_on.refusals g.there) acted.goes_on.identity_stays g.run;
+            run = subst (λ (i : Identification). LivesRun i (first_standing limit book) actions answers acted.goes_on.refusals g.there) acted.goes_on.identity_stays g.run;
+            limited = λ ours. subst (λ (n : ℕ). LeavesLimit n new.stage) (g.limit_stays ours) (g.fits.limited (g.ours ∙ ours));
             found = λ ours. g.fits.found (g.ours ∙ ours);
           }
 
   stops : (actions : List Action) (answers : List Answer) (mid new : LivesValue) (fault : StartFault) (acted : Acted (first_over medium) actions answers mid)
-      (refused : IsRefused mid fault new) (book : Book) → OpensOn (state_of medium) book
-      → StopsIn identification book actions answers acted.goes_on.refusals
+      (refused : IsRefused mid fault new) (limit : ℕ) (book : Book) → OpensOn (state_of medium) book
+      → HasLimit (state_of medium).size limit (state_of medium).content
+      → StopsIn identification limit book actions answers acted.goes_on.refusals
       (refused_events acted.goes_on.refusals + (state_of medium).failures) fault (medium_in new.stage)
-  stops actions answers mid new fault acted refused book opens =
+  stops actions answers mid new fault acted refused limit book opens has =
       let on = acted.goes_on in
-      let g = on.goes (first_with book) (fits book opens) in
+      let g = on.goes (first_standing limit book) (fits limit book opens has) in
       let l = refused.stops.goes g.there g.fits in
       let fewer = on.refused in
       record {
         last = g.there;
-        run = subst (λ (i : Identification). LivesRun i (first_with book) actions answers on.refusals g.there) on.identity_stays g.run;
+        run = subst (λ (i : Identification). LivesRun i (first_standing limit book) actions answers on.refusals g.there) on.identity_stays g.run;
+        limited = λ ours. subst (λ (n : ℕ). LeavesLimit n new.stage) (g.limit_stays ours) (l.limited (l.ours ∙ g.ours ∙ ours));
         next = l.book;
         opens = subst (λ (s : Standing). Opens s.place l.book) (stays new.identity refused.stops.refusals g.there l.there l.run) l.opens;
         cause = λ ours. may_refuse l.book (refused_events on.refusals + (state_of medium).failures)
@@ -164,13 +166,15 @@ module _ (medium : Sim) (rest : IsAtRest medium) (unfused : medium.power.fuse �
 
 module _ (medium : Sim) (rest : IsAtRest medium) (unfused : medium.power.fuse ≡ None) (identity : Identification) (is : identity ≡ identification)
     (lives : LivesValue) (value : lives ≡ record { identity = identity; stage = Rests medium })
-    (opens : (book : Book) → IsAtRest medium → medium.power.fuse ≡ None → OpensOn (state_of medium) book → FitsLives lives (first_with book))
+    (opens : (limit : ℕ) (book : Book) → IsAtRest medium → medium.power.fuse ≡ None → OpensOn (state_of medium) book
+    → HasLimit (state_of medium).size limit (state_of medium).content → FitsLives lives (first_standing limit book))
     (left was now : Option (List ℕ)) (script : List ℕ) (read : IsRead left script) where
   same : lives ≡ first_over medium
   same = rw is at value
 
-  fits : (book : Book) → OpensOn (state_of medium) book → FitsLives (first_over medium) (first_with book)
-  fits book on = subst (λ (l : LivesValue). FitsLives l (first_with book)) same (opens book rest unfused on)
+  fits : (limit : ℕ) (book : Book) → OpensOn (state_of medium) book → HasLimit (state_of medium).size limit (state_of medium).content
+      → FitsLives (first_over medium) (first_standing limit book)
+  fits limit book on has = subst (λ (l : LivesValue). FitsLives l (first_standing limit book)) same (opens limit book rest unfused on has)
 
   -- a script that was played whole
   pub is_played : (after : Sim) → PlaysAll was now lives (lines_of script) after → ArePlayed left was now medium after

@@ -1,5 +1,5 @@
 -- The parser takes the words of the command line.
-use Rattle.runner.proofs.FormatWords.{IsPlain, format_passes}
+use Rattle.runner.proofs.FormatWords.{IsPlain, sizes_pass, format_passes}
 use Rattle.std.proofs.Common.{inl, inr, ap, ◌≡◌, ◌<◌, ℕ, List, [], ◌∷◌, true, false, None, ◌^◌, ◌∙◌, codes, slice_index, sym, refl, arith}
 use Rattle.std.specs.Prelude.{◌⊎◌, ◌&&◌, Bool, is_some, Result, Ok, Err, IsErrAnd, IfErr}
 use Rattle.std.specs.Str.{bytes_eq}
@@ -16,7 +16,9 @@ use Rattle.clap.specs.declared.error.kind.ErrorKind.TheVariants as kinds
 use Rattle.runner.specs.declared.refusal.Refusal.{Refusal}
 use Rattle.runner.specs.declared.refusal.Refusal.TheVariants as refused
 use Rattle.runner.specs.Status.{refusal_of_kind}
-use Rattle.runner.specs.Task.{IsFileWord, IsSizeWord, IsCommandLine}
+use Rattle.log_layout.specs.declared.log_format.LogFormat.{LogFormat}
+use Rattle.log_layout.specs.declared.log_format.LogFormat.TheVariants.{One, Two}
+use Rattle.runner.specs.Task.{IsFileWord, IsSizeWord, IsEnding, IsCommandLine, format_word}
 use Rattle.runner.specs.Parser.{usbdisk_app, format_app}
 use Rattle.runner.proofs.Numerals.{decimal-no_hyphen}
 
@@ -48,20 +50,38 @@ takes_script verb image script (inr is) a b c d = rw is (simp (a, b, c, d))
 both : (x y z : Bool) → x ≡ true → y ≡ true → z ≡ true → (x && (y && z)) ≡ true
 both x y z a b c = simp (a, b, c)
 
--- the words behind `format` go to its own parser
-to_format : (a b c d e : List ℕ) → level_passes (built_leaf format_app.top) [] nothing_held (a ∷ b ∷ c ∷ d ∷ e ∷ []) false ≡ true
+-- the five words behind `format` go to its own parser, and seven
+sizes_to_format : (a b c d e : List ℕ) → level_passes (built_leaf format_app.top) [] nothing_held (a ∷ b ∷ c ∷ d ∷ e ∷ []) false ≡ true
     → takes usbdisk_app (codes "format" ∷ a ∷ b ∷ c ∷ d ∷ e ∷ []) ≡ true
 unfolding clap_on_literals
-to_format a b c d e passes =
+sizes_to_format a b c d e passes =
     let words = codes "format" ∷ a ∷ b ∷ c ∷ d ∷ e ∷ [] in
     let app = built usbdisk_app in
     let stop = (walk app.top.rules (names_of app) nothing_held words).stopped in
     both (is_simple usbdisk_app) (entered_passes app stop) (level_passes app.top (names_of app) nothing_held words (is_some (entered app stop))) refl passes refl
 
-takes_format : (image blocks slots : List ℕ) → IsPlain image → IsPlain blocks → IsPlain slots
-    → takes usbdisk_app (codes "format" ∷ image ∷ codes "--blocks" ∷ blocks ∷ codes "--slots" ∷ slots ∷ []) ≡ true
-takes_format image blocks slots a b c =
-    to_format image (codes "--blocks") blocks (codes "--slots") slots (format_passes image blocks slots a b c)
+to_format : (a b c d e f g : List ℕ) → level_passes (built_leaf format_app.top) [] nothing_held (a ∷ b ∷ c ∷ d ∷ e ∷ f ∷ g ∷ []) false ≡ true
+    → takes usbdisk_app (codes "format" ∷ a ∷ b ∷ c ∷ d ∷ e ∷ f ∷ g ∷ []) ≡ true
+unfolding clap_on_literals
+to_format a b c d e f g passes =
+    let words = codes "format" ∷ a ∷ b ∷ c ∷ d ∷ e ∷ f ∷ g ∷ [] in
+    let app = built usbdisk_app in
+    let stop = (walk app.top.rules (names_of app) nothing_held words).stopped in
+    both (is_simple usbdisk_app) (entered_passes app stop) (level_passes app.top (names_of app) nothing_held words (is_some (entered app stop))) refl passes refl
+
+-- the number of a format begins with no hyphen
+plain_number : (format : LogFormat) → IsPlain (format_word format)
+plain_number One = record { stripped = refl; other = refl }
+plain_number Two = record { stripped = refl; other = refl }
+
+takes_format : (image blocks slots : List ℕ) (ending : List (List ℕ)) (format : LogFormat) → IsPlain image → IsPlain blocks → IsPlain slots
+    → IsEnding ending format
+    → takes usbdisk_app (codes "format" ∷ image ∷ codes "--blocks" ∷ blocks ∷ codes "--slots" ∷ slots ∷ ending) ≡ true
+takes_format image blocks slots ending format a b c (inl is) =
+    rw is (to_format image (codes "--blocks") blocks (codes "--slots") slots (codes "--format") (format_word format)
+    (format_passes image blocks slots (format_word format) a b c (plain_number format)))
+takes_format image blocks slots ending format a b c (inr is) =
+    rw is.0 (sizes_to_format image (codes "--blocks") blocks (codes "--slots") slots (sizes_pass image blocks slots a b c))
 
 -- the digits of a number are no word for a file of their own, but do not begin with a hyphen either
 digits_word : (word : List ℕ) (size : ℕ) → IsSizeWord word size → IsFileWord word
@@ -73,10 +93,11 @@ plain : (word : List ℕ) → IsFileWord word → IsPlain word
 plain word is_file = record { stripped = no_hyphen word is_file; other = not_hyphens word is_file }
 
 takes_line : (words : List (List ℕ)) → IsCommandLine words → takes usbdisk_app words ≡ true
-takes_line words (inl (image, blocks, slots, are)) =
+takes_line words (inl (image, format, blocks, slots, are)) =
     let b = digits_word are.blocks_word blocks are.blocks_are in
     let s = digits_word are.slots_word slots are.slots_are in
-    rw are.words_are (takes_format image are.blocks_word are.slots_word (plain image are.image_word) (plain are.blocks_word b) (plain are.slots_word s))
+    rw are.words_are (takes_format image are.blocks_word are.slots_word are.ending format (plain image are.image_word) (plain are.blocks_word b)
+    (plain are.slots_word s) are.format_is)
 takes_line words (inr (inl (image, script, are))) =
     rw are.words_are (takes_script (codes "run") image script (inl refl) (no_hyphen image are.image_word) (no_hyphen script are.script_word)
     (not_hyphens image are.image_word) (not_hyphens script are.script_word))

@@ -2,22 +2,24 @@
 -- that lives have left.
 use Rattle.std.specs.Prelude.{◌≡◌, ℕ, Bool, true, List, None, replicate}
 use Rattle.medium.specs.Sim.{Sim, state_of, IsCut}
+use Rattle.log_layout.specs.Places.{limit_of}
 use Rattle.recovery.specs.Formatted.{Shape, IsFormatted}
 use Rattle.bot_machine.specs.Books.{Book, opened}
 use Rattle.bot_machine.specs.Identification.{Identification}
 use Rattle.bot_machine.specs.declared.event.Answer.{Answer}
 use Rattle.bot_machine.specs.declared.life.Life.{Life}
 use Rattle.bot_machine.specs.Lives.{Opens}
-use Rattle.bot_machine.specs.LivesValue.{OpensOn, IsAtRest}
+use Rattle.bot_machine.specs.LivesValue.{OpensOn, HasLimit, IsAtRest}
 use Rattle.bot_machine.specs.Lifetimes.{AreLived}
 
--- A first life opens over the medium with this book: its power is on, nothing is unflushed and no
--- fuse is armed; the contents stand for the blocks of the book, and every image that a cut may
--- leave is ours.
-pub record IsReadyFor (medium : Sim) (book : Book) : Type 0 where
+-- A first life opens over the medium with this book, and has this limit: its power is on, nothing
+-- is unflushed and no fuse is armed; the contents stand for the blocks of the book in a format with
+-- this limit, and every image that a cut may leave is ours.
+pub record IsReadyFor (medium : Sim) (limit : ℕ) (book : Book) : Type 0 where
   pub rests : IsAtRest medium
   pub unfused : medium.power.fuse ≡ None
   pub opens : OpensOn (state_of medium) book
+  pub limited : HasLimit (state_of medium).size limit (state_of medium).content
   pub ours : book.ours ≡ true
 
 -- After a good format a cut, whatever it keeps, leaves a medium over which a life opens: with
@@ -25,12 +27,15 @@ pub record IsReadyFor (medium : Sim) (book : Book) : Type 0 where
 abbrev pub FormatIsReady : Type 0
 FormatIsReady = (shape : Shape) (made cut : Sim) (keeps : ℕ → Bool)
     → IsFormatted shape (state_of made) → IsCut keeps made cut
-    → IsReadyFor cut (opened shape.blocks (λ block. replicate 512 0) 2 true)
+    → IsReadyFor cut (limit_of shape.format)
+    (opened shape.blocks (λ block. replicate 512 0) 2 true)
 
 -- Lives that began over a medium where every image was ours leave one over which a life opens
--- again: with a book with which a life may open where they have left off.
+-- again: with the same limit, and a book with which a life may open where they have left off.
 abbrev pub LivesAreReady : Type 0
 LivesAreReady = (before after : Sim) (identity : Identification) (lives : List Life)
     (told : List Answer) (lived : AreLived before identity lives told after)
-    (book : Book) (opens : OpensOn (state_of before) book) → book.ours ≡ true
-    → (next : Book) × IsReadyFor after next × Opens (lived.ends book opens).last.place next
+    (limit : ℕ) (book : Book) (opens : OpensOn (state_of before) book)
+    (has : HasLimit (state_of before).size limit (state_of before).content) → book.ours ≡ true
+    → (next : Book) × IsReadyFor after limit next
+    × Opens (lived.ends limit book opens has).last.place next

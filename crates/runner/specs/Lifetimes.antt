@@ -10,7 +10,7 @@ use Rattle.bot_machine.specs.declared.event.Answer.TheVariants.{Off}
 use Rattle.bot_machine.specs.Conversation.{refused_events}
 use Rattle.bot_machine.specs.Lifetimes.{EndsIn, StopsIn}
 use Rattle.bot_machine.specs.Lives.{Action, arms, starts, plays, cuts}
-use Rattle.bot_machine.specs.LivesValue.{OpensOn}
+use Rattle.bot_machine.specs.LivesValue.{OpensOn, HasLimit}
 use Rattle.bot_machine.specs.Moving.{medium_in, MovesBy, IsRefusedStart}
 use Rattle.bot_machine.specs.declared.stage.Stage.{Stage}
 use Rattle.bot_machine.specs.declared.stage.Stage.TheVariants.{Rests}
@@ -94,8 +94,9 @@ pub record AreLives (before after : Sim) (actions : List Action) (answers : List
   pub moves : MovesBy identification (Rests before) actions answers refusals stage
   pub left : medium_in stage ≡ after
   pub refused : refused_events refusals + (state_of before).failures ≤ (state_of after).failures
-  pub ends : (book : Book) → OpensOn (state_of before) book
-      → EndsIn identification book actions answers refusals after
+  pub ends : (limit : ℕ) (book : Book) → OpensOn (state_of before) book
+      → HasLimit (state_of before).size limit (state_of before).content
+      → EndsIn identification limit book actions answers refusals after
 
 -- Lives of a disk, and then, where no disk ran, a start that was refused with this fault, though
 -- power did not go in it. For each book with which a first life opens it was refused for a cause,
@@ -108,6 +109,7 @@ pub record AreStopped (before after : Sim) (actions : List Action) (answers : Li
   pub start : IsRefusedStart mid fault after
   pub counted : refused_events lives.refusals + (state_of before).failures
       ≤ (state_of after).failures
-  pub stops : (book : Book) → OpensOn (state_of before) book
-      → StopsIn identification book actions answers lives.refusals
+  pub stops : (limit : ℕ) (book : Book) → OpensOn (state_of before) book
+      → HasLimit (state_of before).size limit (state_of before).content
+      → StopsIn identification limit book actions answers lives.refusals
       (refused_events lives.refusals + (state_of before).failures) fault after

@@ -10,10 +10,15 @@ word_rule name = record (new_rule name) { required = true }
 abbrev pub option_rule : List ℕ → Rule
 option_rule name = record (new_rule name) { long = Some name; required = true }
 
+-- an option with a value, which may be there
+abbrev pub free_option_rule : List ℕ → Rule
+free_option_rule name = record (new_rule name) { long = Some name }
+
 abbrev pub format_app : App
 format_app =
-    with_rule (with_rule (with_rule (new_app (codes "format")) (word_rule (codes "IMAGE")))
-    (option_rule (codes "blocks"))) (option_rule (codes "slots"))
+    with_rule (with_rule (with_rule (with_rule (new_app (codes "format"))
+    (word_rule (codes "IMAGE"))) (option_rule (codes "blocks"))) (option_rule (codes "slots")))
+    (free_option_rule (codes "format"))
 
 -- `run` or `sim`
 abbrev pub script_app : List ℕ → App

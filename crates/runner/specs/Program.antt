@@ -6,8 +6,9 @@ use Rattle.medium.specs.ImageFile.{Copied, IsImage, fresh}
 use Rattle.medium.specs.Sim.{Sim}
 use Rattle.medium.specs.Power.{powered}
 use Rattle.medium.specs.Tally.{none}
+use Rattle.log_layout.specs.declared.log_format.LogFormat.{LogFormat}
+use Rattle.log_layout.specs.Places.{new_shape, sectors_of}
 use Rattle.recovery.specs.Formatted.{AreSizes, IsFormatted}
-use Rattle.recovery.specs.Formatted.{sectors_of}
 use Rattle.runner.specs.declared.fault.ScriptFault.{ScriptFault}
 use Rattle.runner.specs.declared.refusal.Refusal.{Refusal}
 use Rattle.runner.specs.declared.refusal.Refusal.TheVariants as refused
@@ -18,15 +19,16 @@ use Rattle.runner.specs.Streams.{AppendsSome}
 use Rattle.runner.specs.Task.{AreFormatWords, IsScriptCommand, IsCommandLine}
 use Rattle.runner.specs.Text.{ended}
 
--- so many blocks and log slots make an image of at most 65,536 sectors
-abbrev pub AreImageSizes : ℕ → ℕ → Type 0
-AreImageSizes blocks slots = AreSizes 65536 (record { blocks = blocks; slots = slots })
+-- so many blocks and log slots of this format make an image of at most 65,536 sectors
+abbrev pub AreImageSizes : LogFormat → ℕ → ℕ → Type 0
+AreImageSizes format blocks slots = AreSizes 65536 (new_shape format blocks slots)
 
--- an image file of exactly the sectors that so many blocks and log slots take, formatted
-pub record IsMade (blocks slots : ℕ) (made : Copied) : Type 0 where
-  pub sizes : AreImageSizes blocks slots
-  pub exact : length made.bytes ≡ 512 * sectors_of (record { blocks = blocks; slots = slots })
-  pub formatted : IsFormatted (record { blocks = blocks; slots = slots }) (file.state_of made)
+-- an image file of exactly the sectors that so many blocks and log slots of this format take,
+-- formatted
+pub record IsMade (format : LogFormat) (blocks slots : ℕ) (made : Copied) : Type 0 where
+  pub sizes : AreImageSizes format blocks slots
+  pub exact : length made.bytes ≡ 512 * sectors_of (new_shape format blocks slots)
+  pub formatted : IsFormatted (new_shape format blocks slots) (file.state_of made)
 
 -- a simulated medium of these bytes, all flushed, with room for 16,384 unflushed writes
 abbrev pub simulated : List ℕ → Sim
@@ -46,10 +48,10 @@ abbrev pub IsUnread : Refusal → Type 0
 IsUnread refusal = (refusal ≡ refused.ImageLength) ⊎ ((refusal ≡ refused.File) ⊎ (refusal ≡ refused.NoMemory))
 
 module _ (was now : Option (List ℕ)) where
-  -- an image file of these sizes was made, and exactly this was appended
-  pub record IsFormat (blocks slots : ℕ) : Type 0 where
+  -- an image file of this format and these sizes was made, and exactly this was appended
+  pub record IsFormat (format : LogFormat) (blocks slots : ℕ) : Type 0 where
     pub made : Copied
-    pub is_made : IsMade blocks slots made
+    pub is_made : IsMade format blocks slots made
     pub written : Appends was now (ended (codes "formatted"))
 
   -- exactly the text of a life of some script's events on some image file was appended
@@ -71,14 +73,17 @@ module _ (was now : Option (List ℕ)) where
 
   -- what the words ask for was done
   abbrev pub HasDone : List (List ℕ) → Type 0
-  HasDone words = ((image : List ℕ) × (blocks : ℕ) × (slots : ℕ) × AreFormatWords words image blocks slots × IsFormat blocks slots)
+  HasDone words = (
+      (image : List ℕ) × (format : LogFormat) × (blocks : ℕ) × (slots : ℕ)
+      × AreFormatWords words image format blocks slots × IsFormat format blocks slots)
       ⊎ ((IsScriptCommand (codes "run") words × IsRun) ⊎ (IsScriptCommand (codes "sim") words × IsSim))
 
   -- No image file was made: the sizes are out of their limits. Or they are not, and there was no memory, or a file failed, the output
   -- perhaps.
-  abbrev pub IsFormatRefused : ℕ → ℕ → Refusal → Type 0
-  IsFormatRefused blocks slots refusal = ((refusal ≡ refused.ImageSize) × (¬ AreImageSizes blocks slots) × Keeps was now)
-      ⊎ ((¬ (¬ AreImageSizes blocks slots))
+  abbrev pub IsFormatRefused : LogFormat → ℕ → ℕ → Refusal → Type 0
+  IsFormatRefused format blocks slots refusal =
+      ((refusal ≡ refused.ImageSize) × (¬ AreImageSizes format blocks slots) × Keeps was now)
+      ⊎ ((¬ (¬ AreImageSizes format blocks slots))
       × (((refusal ≡ refused.NoMemory) × Keeps was now) ⊎ ((refusal ≡ refused.File) × AppendsSome was now (ended (codes "formatted")))))
 
   -- a script on an image file was refused, and this is why
@@ -111,7 +116,9 @@ module _ (was now : Option (List ℕ)) where
   -- what the words ask for was not done
   abbrev pub HasNotDone : List (List ℕ) → Refusal → Type 0
   HasNotDone words refusal =
-      ((image : List ℕ) × (blocks : ℕ) × (slots : ℕ) × AreFormatWords words image blocks slots × IsFormatRefused blocks slots refusal)
+      ((image : List ℕ) × (format : LogFormat) × (blocks : ℕ) × (slots : ℕ)
+      × AreFormatWords words image format blocks slots
+      × IsFormatRefused format blocks slots refusal)
       ⊎ ((IsScriptCommand (codes "run") words × IsRunRefused refusal) ⊎ (IsScriptCommand (codes "sim") words × IsSimRefused refusal))
 
   -- why words were refused: there was no memory to read them; or they are no command line; or what they ask for was not done

@@ -3,6 +3,7 @@ use Rattle.std.specs.Prelude.{◌≡◌, ◌≤◌, ℕ, ◌+◌, Bool, true, Li
 use Rattle.medium.specs.Medium.{State}
 use Rattle.medium.specs.Moments.{EachCut}
 use Rattle.medium.specs.Blocks.{Array}
+use Rattle.log_layout.specs.Places.{limit_of}
 use Rattle.bot_machine.specs.Starting.{Shape}
 use Rattle.bot_machine.specs.Starting.{StandsFor}
 use Rattle.bot_machine.specs.Starting.{IsOursForSome}
@@ -73,9 +74,9 @@ identification = record {
   serial = codes "000000000001";
 }
 
--- a disk that has just started on this book
-abbrev pub started : Book → Conversation UnitState
-started book = on_line at_rest (opened_unit identification book)
+-- a disk that has just started on this book, and moves so many blocks at most
+abbrev pub started : ℕ → Book → Conversation UnitState
+started limit book = on_line at_rest (opened_unit limit identification book)
 
 -- A disk starts on the medium and plays the events, each one step of it, and the medium that comes
 -- back is the one that the last of them left: nothing is done to it afterwards.
@@ -100,5 +101,7 @@ pub record IsLife (before after : State) (events : List Event) (answers : List A
   pub refusals : List Bool
   pub refused : refused_events refusals + before.failures ≤ after.failures
   pub runs : (ours : Bool) → (ours ≡ true → EachCut (IsOursForSome before.size) before)
-      → (last : Conversation UnitState) × UnitRun (started (opened shape.blocks array next ours)) events answers refusals last
+      → (last : Conversation UnitState)
+      × UnitRun (started (limit_of shape.format) (opened shape.blocks array next ours))
+      events answers refusals last
       × (ours ≡ true → EachCut (MayFind after.size last.unit.book) after)

@@ -1,13 +1,15 @@
 // Image files, as media.
-ghost use Rattle.std.specs.Prelude.{◌≡◌, ◌⊎◌, ◌↔◌, ℕ, List, IfOk, IfErr, IfSome, IfNone};
-ghost use Rattle.recovery.specs.Formatted.{sectors_of};
+ghost use Rattle.std.specs.Prelude.{◌≡◌, ◌⊎◌, ◌↔◌, ℕ, List, IfOk, IfErr, IfSome, IfNone, OnOk};
+ghost use Rattle.log_layout.specs.Places.{new_shape, sectors_of};
+ghost use Rattle.recovery.specs.Formatted.{IsFormatCause, IsFormatted};
 ghost use Rattle.medium.specs.ImageFile.{IsImage, fresh};
 ghost use Rattle.runner.specs.Program.{AreImageSizes, IsMade, simulated};
 
 use crate::read::{ReadFault, read_to_limit};
 use crate::refusal::Refusal;
-use medium::{FileMedium, SimError, SimMedium};
-use recovery::{FormatFault, format};
+use log_layout::LogFormat;
+use medium::{FileMedium, Medium, SimError, SimMedium};
+use recovery::FormatFault;
 use std::fs;
 use std::fs::Files;
 
@@ -17,38 +19,57 @@ const IMAGE_LIMIT: usize = 65_536 * 512;
 /// The unflushed writes that a simulated medium holds.
 const ROOM: usize = 16_384;
 
-/// Makes an image file of so many blocks of zeros, with so many log slots, in place of one that is
-/// there. The sizes are tested before the file is touched.
+/// Makes an image file of this format and so many blocks of zeros, with so many log slots, in place
+/// of one that is there. The sizes are tested before the file is touched.
 pub(crate) fn make_image<R: Files + AllocGlobal>(
     rt: &R,
     path: &str,
+    format: LogFormat,
     blocks: u64,
     slots: u64,
 ) -> Result<FileMedium<R::File>, Refusal>
-    ensures made { IfOk result (IsMade blocks slots) }
-    ensures size { (result ≡ Err Refusal.ImageSize) ↔ ¬ AreImageSizes blocks slots }
+    ensures made { IfOk result (IsMade format blocks slots) }
+    ensures size { (result ≡ Err Refusal.ImageSize) ↔ ¬ AreImageSizes format blocks slots }
     ensures refused { IfErr result (λ refusal. (refusal ≡ Refusal.ImageSize)
         ⊎ ((refusal ≡ Refusal.File) ⊎ (refusal ≡ Refusal.NoMemory))) }
 {
-    let sectors = image_sectors(blocks, slots).ok_or(Refusal::ImageSize)?;
+    let sectors = image_sectors(format, blocks, slots).ok_or(Refusal::ImageSize)?;
     let mut medium = FileMedium::create(rt, path, sectors)?;
-    match format(&mut medium, blocks, slots) {
+    match format_medium(&mut medium, format, blocks, slots) {
         Ok(()) => Ok(medium),
         Err(FormatFault::BadSize) => Err(Refusal::ImageSize),
         Err(FormatFault::Medium) => Err(Refusal::File),
     }
 }
 
-// The sectors of an image with these sizes, if it may have them.
-fn image_sectors(blocks: u64, slots: u64) -> Option<u64>
-    ensures some { IfSome result (λ sectors. AreImageSizes blocks slots
-        × (sectors ≡ sectors_of (record { blocks = blocks; slots = slots }))) }
-    ensures none { IfNone result (AreImageSizes blocks slots → ⊥) }
+// Makes an image of this format on a medium.
+fn format_medium<M: Medium>(
+    m: &mut M,
+    format: LogFormat,
+    blocks: u64,
+    slots: u64,
+) -> Result<(), FormatFault>
+    ensures ok { OnOk result (IsFormatted (new_shape format blocks slots) (M.state m.new)) }
+    ensures err { IfErr result
+        (IsFormatCause (new_shape format blocks slots) (M.state m.old) (M.state m.new)) }
+    ensures follows { M.follows m.old m.new }
+{
+    match format {
+        LogFormat::One => recovery::format(m, blocks, slots),
+        LogFormat::Two => recovery::format2(m, blocks, slots),
+    }
+}
+
+// The sectors of an image of this format with these sizes, if it may have them.
+fn image_sectors(format: LogFormat, blocks: u64, slots: u64) -> Option<u64>
+    ensures some { IfSome result (λ sectors. AreImageSizes format blocks slots
+        × (sectors ≡ sectors_of (new_shape format blocks slots))) }
+    ensures none { IfNone result (AreImageSizes format blocks slots → ⊥) }
 {
     if blocks < 1 || blocks > 65_536 || slots < 1 || slots > 64 {
         return None;
     }
-    let sectors = 2 + 50 * slots + blocks;
+    let sectors = 2 + format.slot_sectors() * slots + blocks;
     if sectors > 65_536 {
         return None;
     }

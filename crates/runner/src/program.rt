@@ -21,17 +21,22 @@ use crate::refusal::Refusal;
 use crate::script::run_script;
 use crate::sim::sim_script;
 use crate::task::{Task, read_words};
+use log_layout::LogFormat;
 use std::alloc::{AllocError, Global};
 use std::env::Env;
 use std::fs::Files;
 use std::io::{ErrorKind, Write};
 use std::{env, fs};
 
+#[cfg(test)]
+mod tests;
+
 /// Does what the words after the program's name ask for, and gives the exit status.
 ///
-/// `format IMAGE --blocks N --slots K` makes an image file and prints `formatted`; `run IMAGE SCRIPT`
-/// plays a script on a disk over an image file; `sim IMAGE SCRIPT` reads an image file into memory,
-/// which it leaves alone, and plays a script on a disk over it, which may lose its power.
+/// `format IMAGE --blocks N --slots K` makes an image file and prints `formatted`: of format 1, or
+/// of that which `--format 1` or `--format 2` behind it tells. `run IMAGE SCRIPT` plays a script on
+/// a disk over an image file; `sim IMAGE SCRIPT` reads an image file into memory, which it leaves
+/// alone, and plays a script on a disk over it, which may lose its power.
 pub fn command<R: Files + AllocGlobal, O: Write, E: Write>(
     rt: &R,
     words: &[&str],
@@ -125,9 +130,10 @@ fn carry_out<R: Files + AllocGlobal, O: Write>(
     match read_words(rt.alloc(), words)? {
         Task::Format {
             image,
+            format,
             blocks,
             slots,
-        } => make(rt, image, blocks, slots, out),
+        } => make(rt, image, format, blocks, slots, out),
         Task::Run { image, script } => run(rt, image, script, out),
         Task::Sim { image, script } => sim(rt, image, script, out),
     }
@@ -137,15 +143,17 @@ fn carry_out<R: Files + AllocGlobal, O: Write>(
 fn make<R: Files + AllocGlobal, O: Write>(
     rt: &R,
     image: &str,
+    format: LogFormat,
     blocks: u64,
     slots: u64,
     out: &mut O,
 ) -> Result<(), Refusal>
-    ensures done { OnOk result (IsFormat (O.contents out.old) (O.contents out.new) blocks slots) }
+    ensures done { OnOk result (IsFormat (O.contents out.old) (O.contents out.new)
+        format blocks slots) }
     ensures refused { IfErr result (IsFormatRefused (O.contents out.old) (O.contents out.new)
-        blocks slots) }
+        format blocks slots) }
 {
-    make_image(rt, image, blocks, slots)?;
+    make_image(rt, image, format, blocks, slots)?;
     match write_out(out, b"formatted\n") {
         Ok(()) => Ok(()),
         Err(_) => Err(Refusal::File),

@@ -3,11 +3,12 @@ ghost use Rattle.std.specs.Prelude.{◌≡◌, ◌⊎◌, ◌↔◌, [], ◌∷�
 ghost use Rattle.clap.specs.Words.{app_of};
 ghost use Rattle.clap.specs.declared.builder.command.Command.TheViews.{out-Command};
 ghost use Rattle.runner.specs.Parser.{usbdisk_app, format_app, script_app};
-ghost use Rattle.runner.specs.Task.{SpellsTask, IsCommandLine, IsFileWord};
+ghost use Rattle.runner.specs.Task.{SpellsTask, IsCommandLine, IsFileWord, IsEnding};
 
 use crate::number::read_number;
 use crate::refusal::Refusal;
 use clap::{Arg, Command};
+use log_layout::LogFormat;
 use std::alloc::{AllocError, Global};
 
 // The greatest size that a word may tell.
@@ -16,9 +17,10 @@ const MOST: u64 = 4_294_967_295;
 /// What a command line asks for.
 #[derive(Clone, Copy)]
 pub(crate) enum Task<'a> {
-    /// To make an image of so many blocks of zeros, with so many slots for the log.
+    /// To make an image of so many blocks of zeros, with so many slots for the log of a format.
     Format {
         image: &'a str,
+        format: LogFormat,
         blocks: u64,
         slots: u64,
     },
@@ -34,8 +36,9 @@ pub(crate) enum Task<'a> {
     },
 }
 
-/// Reads the words after the program's name: `format IMAGE --blocks N --slots K`, `run IMAGE SCRIPT`
-/// or `sim IMAGE SCRIPT`. No file word begins with a hyphen.
+/// Reads the words after the program's name: `format IMAGE --blocks N --slots K`, behind which
+/// `--format 1` or `--format 2` may stand, `run IMAGE SCRIPT` or `sim IMAGE SCRIPT`. No file word
+/// begins with a hyphen.
 pub(crate) fn read_words<'a>(alloc: Global, words: &'a [&'a str]) -> Result<Task<'a>, Refusal>
     ensures spelled { IfOk result (SpellsTask (map (λ word. word.now) words.entry.now)) }
     ensures refused { IfErr result (λ refusal. (refusal ≡ Refusal.NoMemory)
@@ -58,7 +61,7 @@ fn parser<'a>(alloc: Global) -> Result<Command<'a>, AllocError>
         .subcommand(script_parser(alloc, "sim")?)
 }
 
-// `format IMAGE --blocks N --slots K`.
+// `format IMAGE --blocks N --slots K [--format F]`.
 fn format_parser<'a>(alloc: Global) -> Result<Command<'a>, AllocError>
     ensures shape { IfOk result (λ command. app_of command ≡ format_app) }
     ensures local { IfOk result (λ command. (out-Command command).has_globals ≡ false) }
@@ -66,7 +69,8 @@ fn format_parser<'a>(alloc: Global) -> Result<Command<'a>, AllocError>
     Command::new(alloc, "format")
         .arg(Arg::new(alloc, "IMAGE").required(true))?
         .arg(Arg::new(alloc, "blocks").long("blocks").required(true))?
-        .arg(Arg::new(alloc, "slots").long("slots").required(true))
+        .arg(Arg::new(alloc, "slots").long("slots").required(true))?
+        .arg(Arg::new(alloc, "format").long("format"))
 }
 
 // `run IMAGE SCRIPT` or `sim IMAGE SCRIPT`.
@@ -86,8 +90,8 @@ fn exactly<'a>(words: &'a [&'a str]) -> Option<Task<'a>>
 {
     match words {
         [verb, image, script] => script_task(verb, image, script),
-        [verb, image, first, blocks, second, slots] => {
-            format_task(verb, image, first, blocks, second, slots)
+        [verb, image, first, blocks, second, slots, ending @ ..] => {
+            format_task(verb, image, first, blocks, second, slots, ending)
         }
         _ => None,
     }
@@ -112,7 +116,7 @@ fn script_task<'a>(verb: &str, image: &'a str, script: &'a str) -> Option<Task<'
     None
 }
 
-// What six words ask for.
+// What six words ask for, and those behind them.
 fn format_task<'a>(
     verb: &str,
     image: &'a str,
@@ -120,22 +124,54 @@ fn format_task<'a>(
     blocks: &str,
     second: &str,
     slots: &str,
+    ending: &[&str],
 ) -> Option<Task<'a>>
     ensures task { IfSome result (SpellsTask (verb.now ∷ image.entry.now ∷ first.now
-        ∷ blocks.now ∷ second.now ∷ slots.now ∷ [])) }
+        ∷ blocks.now ∷ second.now ∷ slots.now ∷ map (λ word. word.now) ending.now)) }
     ensures none { IfNone result (IsCommandLine (verb.now ∷ image.entry.now ∷ first.now
-        ∷ blocks.now ∷ second.now ∷ slots.now ∷ []) → ⊥) }
+        ∷ blocks.now ∷ second.now ∷ slots.now ∷ map (λ word. word.now) ending.now) → ⊥) }
 {
     if verb != "format" || first != "--blocks" || second != "--slots" || !is_file_word(image) {
         return None;
     }
     let blocks = read_number(blocks.as_bytes(), 0, MOST)?;
     let slots = read_number(slots.as_bytes(), 0, MOST)?;
+    let format = read_ending(ending)?;
     Some(Task::Format {
         image,
+        format,
         blocks,
         slots,
     })
+}
+
+// The format that the words behind the sizes tell: format 1, where there are none.
+fn read_ending(ending: &[&str]) -> Option<LogFormat>
+    ensures format { IfSome result (IsEnding (map (λ word. word.now) ending.now)) }
+    ensures none { IfNone result ((format : LogFormat)
+        → IsEnding (map (λ word. word.now) ending.now) format → ⊥) }
+{
+    match ending {
+        [] => Some(LogFormat::One),
+        [name, number] => named_format(name, number),
+        _ => None,
+    }
+}
+
+// The format with this number, behind this name.
+fn named_format(name: &str, number: &str) -> Option<LogFormat>
+    ensures format { IfSome result (IsEnding (name.now ∷ number.now ∷ [])) }
+    ensures none { IfNone result ((format : LogFormat)
+        → IsEnding (name.now ∷ number.now ∷ []) format → ⊥) }
+{
+    if name != "--format" {
+        return None;
+    }
+    match number {
+        "1" => Some(LogFormat::One),
+        "2" => Some(LogFormat::Two),
+        _ => None,
+    }
 }
 
 // Whether a word may be that of a file.

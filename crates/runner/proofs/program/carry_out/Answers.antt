@@ -5,7 +5,7 @@ use Rattle.runner.proofs.program.carry_out.Goals as goal
 pub returns-in-Format-clause-done : goal.returns-in-Format-clause-done
 returns-in-Format-clause-done g c =
     let spelled = rw c.in-Format.is at c.in_ok-image.ensures.spelled in
-    on_ok_weaker c.make.result (λ done. inl (c.in-Format.image.now, _, _, spelled, done)) c.make.ensures.done
+    on_ok_weaker c.make.result (λ done. inl (c.in-Format.image.now, _, _, _, spelled, done)) c.make.ensures.done
 
 pub returns-in-Run-clause-done : goal.returns-in-Run-clause-done
 returns-in-Run-clause-done g c =

@@ -5,7 +5,7 @@ use Rattle.runner.proofs.program.command.Goals as goal
 
 -- what was done was asked for
 asked_for : (was now : Option (List ℕ)) (words : List (List ℕ)) → HasDone was now words → IsCommandLine words
-asked_for was now words (inl done) = inl (done.0, done.1, done.2, done.3)
+asked_for was now words (inl done) = inl (done.0, done.1, done.2, done.3, done.4)
 asked_for was now words (inr (inl done)) = inr (inl done.0)
 asked_for was now words (inr (inr done)) = inr (inr done.0)
 

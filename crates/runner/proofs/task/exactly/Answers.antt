@@ -1,0 +1,27 @@
+use Rattle.std.proofs.Common.{◌≡◌, ◌≤◌, ◌-◌, ℕ, List, ◌∷◌, ap, sym, subst, map, take, drop, length, arith}
+use Rattle.std.specs.Prelude.{get_or}
+use Rattle.std.specs.Borrow.{Bor}
+use Rattle.std.proofs.lemmas.List.{take_all}
+use Rattle.runner.specs.Task.{IsCommandLine}
+use Rattle.runner.proofs.Options.{none_weaker}
+use Rattle.runner.proofs.task.exactly.Goals as goal
+
+abbrev Word : Type 0
+Word = Bor (List ℕ)
+
+abbrev texts : List Word → List (List ℕ)
+texts = map (λ word. word.now)
+
+-- six words, and those behind them
+six : (words : List Word) (other : Word) → 6 ≤ length words
+    → texts words
+    ≡ (get_or words 0 other).now ∷ (get_or words 1 other).now ∷ (get_or words 2 other).now ∷ (get_or words 3 other).now
+    ∷ (get_or words 4 other).now ∷ (get_or words 5 other).now ∷ texts (take (length words - 6) (drop 6 words))
+six (a ∷ b ∷ c ∷ d ∷ e ∷ f ∷ rest) other many =
+    let all : take (length (a ∷ b ∷ c ∷ d ∷ e ∷ f ∷ rest) - 6) rest ≡ rest = take_all _ rest (omega arith) in
+    ap (λ behind. a.now ∷ b.now ∷ c.now ∷ d.now ∷ e.now ∷ f.now ∷ texts behind) (sym all)
+six _ other few = absurd (omega (arith, few))
+
+pub returns-in-len6-up-clause-none : goal.returns-in-len6-up-clause-none
+returns-in-len6-up-clause-none c =
+    none_weaker c.format_task.result (λ never line. never (subst IsCommandLine (six c.args.words.now _ c.in-len6-up.len_at_least) line)) c.format_task.ensures.none
