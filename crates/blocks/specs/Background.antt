@@ -34,7 +34,8 @@ pub record IsRecordStep (before after : State) (old new : Cached) : Type 0 where
 -- The frozen batch comes first: the batches stay as they are. Where it is empty the active batch
 -- takes its place.
 pub record FreezesNext (old new : Cached) : Type 0 where
-  pub frozen_first : 0 < length old.frozen.numbers → (new.active ≡ old.active) × (new.frozen ≡ old.frozen)
+  pub frozen_first : 0 < length old.frozen.numbers → (new.active ≡ old.active)
+      × (new.frozen ≡ old.frozen)
   pub else_active : old.frozen.numbers ≡ [] → (new.active ≡ old.frozen) × (new.frozen ≡ old.active)
 
 -- The record of the next batch is begun, without a call of the medium. Where no stamp is left for
@@ -67,4 +68,5 @@ pub record IsBackgroundStep (before after : State) (old new : Cached) : Type 0 w
   pub dead : is_dead old ≡ true → (new ≡ old) × IsUnchanged before after
   pub goes_on : is_dead old ≡ false → 0 < old.log.steps_left → IsRecordStep before after old new
   pub begins : is_dead old ≡ false → MayBegin old → IsBeginning before after old new
-  pub retires : is_dead old ≡ false → old.log.steps_left ≡ 0 → ¬ MayBegin old → IsRetiring before after old new
+  pub retires : is_dead old ≡ false → old.log.steps_left ≡ 0 → ¬ MayBegin old
+      → IsRetiring before after old new

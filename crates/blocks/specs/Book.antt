@@ -1,5 +1,6 @@
 -- The book of a life: the writes that were accepted, and how many of them are promised.
-use Rattle.std.specs.Prelude.{◌≡◌, ℕ, ◌+◌, ◌-◌, ◌*◌, ◌/◌, ◌%◌, ◌^◌, ◌≤◌, ◌<◌, zero, suc, Bool, List, [], ◌∷◌, ◌++◌, length, take}
+use Rattle.std.specs.Prelude.{◌≡◌, ℕ, ◌+◌, ◌-◌, ◌*◌, ◌/◌, ◌%◌, ◌^◌, ◌≤◌, ◌<◌, zero, suc, Bool, List}
+use Rattle.std.specs.Prelude.{[], ◌∷◌, ◌++◌, length, take}
 use Rattle.medium.specs.Blocks.{Array, Write, after}
 use Rattle.cache.specs.Blocks.{chunks}
 
@@ -40,7 +41,8 @@ promised book = record book { mark = length book.writes }
 
 -- a life that opens
 abbrev pub opened : ℕ → Array → ℕ → Bool → Book
-opened blocks array stamp ours = record { blocks = blocks; opening = array; stamp = stamp; writes = []; mark = 0; ours = ours }
+opened blocks array stamp ours =
+    record { blocks = blocks; opening = array; stamp = stamp; writes = []; mark = 0; ours = ours }
 
 -- no stamp may be left for a record: each takes one, and there are no more of them than writes
 abbrev pub StampsOut : Book → Type 0

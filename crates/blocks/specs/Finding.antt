@@ -12,7 +12,8 @@ abbrev pub StandsAs : ℕ → ℕ → Image → Array → ℕ → Type 0
 StandsAs size blocks image array next =
     (shape : Shape) × (shape.blocks ≡ blocks) × IsOurs size shape image array next
 
--- the image stands for the array after some of the first writes of the book, the promised ones at least
+-- the image stands for the array after some of the first writes of the book, the promised ones at
+-- least
 pub record MayFind (size : ℕ) (book : Book) (image : Image) : Type 0 where
   pub count : ℕ
   pub next : ℕ

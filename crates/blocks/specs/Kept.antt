@@ -15,7 +15,8 @@ pub record IsBatchOf (shape : Shape) (batch : Entries) : Type 0 where
   pub room : batch.room ≡ limit_of shape.format
   pub inside : (n : ℕ) → Listed batch.numbers n → n < shape.blocks
 
--- the log and the batches of a store over a medium of so many sectors, with these sizes, and whether a record is under way
+-- the log and the batches of a store over a medium of so many sectors, with these sizes, and
+-- whether a record is under way
 pub record IsKept (size : ℕ) (sizes : Super) (cached : Cached) (writing : Bool) : Type 0 where
   pub shape : cached.log.shape ≡ shape_of sizes
   pub fits : sectors_of cached.log.shape ≤ size
@@ -24,8 +25,10 @@ pub record IsKept (size : ℕ) (sizes : Super) (cached : Cached) (writing : Bool
   pub writes : cached.log.dead ≡ false → writing ≡ true → 0 < cached.log.steps_left
   pub rests : cached.log.dead ≡ false → writing ≡ false → cached.log.steps_left ≡ 0
   -- the record under way is the frozen batch
-  pub under_way : cached.log.dead ≡ false → 0 < cached.log.steps_left → cached.log.under_way ≡ cached.frozen.numbers
-  pub none_under_way : cached.log.dead ≡ false → cached.log.steps_left ≡ 0 → cached.log.under_way ≡ []
+  pub under_way : cached.log.dead ≡ false → 0 < cached.log.steps_left
+      → cached.log.under_way ≡ cached.frozen.numbers
+  pub none_under_way : cached.log.dead ≡ false → cached.log.steps_left ≡ 0
+      → cached.log.under_way ≡ []
   pub ring : cached.log.next ≤ cached.log.head + cached.log.shape.slots
   pub some : 0 < cached.log.steps_left → 0 < length cached.frozen.numbers
   pub few_steps : cached.log.steps_left ≤ most_steps cached.log.shape.format

@@ -9,9 +9,11 @@ pub use Rattle.log_image.specs.Standing.{StandsFor, IsOurs, Stands}
 pub use Rattle.recovery.specs.Causes.{IsRefusedCall}
 pub use Rattle.recovery.specs.Recovered.{IsOursForSome, IsOursWithNext, StandsForOneOf}
 pub use Rattle.recovery.specs.declared.start_fault.StartFault.{StartFault}
-pub use Rattle.recovery.specs.declared.start_fault.StartFault.TheVariants.{NoMemory, Read, Write, Flush}
+pub use Rattle.recovery.specs.declared.start_fault.StartFault.TheVariants.{NoMemory, Read, Write}
+pub use Rattle.recovery.specs.declared.start_fault.StartFault.TheVariants.{Flush}
 pub use Rattle.recovery.specs.declared.start_fault.StartFault.TheVariants.{BadSuper, BadVersion}
-pub use Rattle.recovery.specs.declared.start_fault.StartFault.TheVariants.{BadSize, BadHead, StampsUsedUp}
+pub use Rattle.recovery.specs.declared.start_fault.StartFault.TheVariants.{BadSize, BadHead}
+pub use Rattle.recovery.specs.declared.start_fault.StartFault.TheVariants.{StampsUsedUp}
 use Rattle.blocks.specs.Book.{Book, opened}
 
 -- the image has as many blocks as the book, in some shape, and stands for them and the next stamp

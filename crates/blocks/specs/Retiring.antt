@@ -1,6 +1,7 @@
 -- Which records a call of a store writes to the log, and which it retires: none but what room asks
 -- for.
-use Rattle.std.specs.Prelude.{◌≡◌, ◌+◌, ◌-◌, ◌≤◌, ℕ, zero, suc, List, [], ◌∷◌, ◌++◌, drop, replicate, nat_lt}
+use Rattle.std.specs.Prelude.{◌≡◌, ◌+◌, ◌-◌, ◌≤◌, ℕ, zero, suc, List, [], ◌∷◌, ◌++◌, drop}
+use Rattle.std.specs.Prelude.{replicate, nat_lt}
 use Rattle.std.specs.Prelude.{if◌then◌else◌}
 use Rattle.redo_log.specs.Value.{LogValue, HasRoom, begun, behind_oldest}
 

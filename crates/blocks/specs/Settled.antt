@@ -8,7 +8,8 @@ use Rattle.blocks.specs.StoreValue.{Cached, layout_of, FitsBook}
 
 -- each block of the book stands at home in the image
 abbrev pub IsAtHome : Shape → Book → Image → Type 0
-IsAtHome shape book image = (b : ℕ) → b < book.blocks → image (first_home shape + b) ≡ array_of book b
+IsAtHome shape book image = (b : ℕ) → b < book.blocks
+    → image (first_home shape + b) ≡ array_of book b
 
 -- No record waits and none is under way, and both batches are empty. Each accepted write is durable
 -- and at home, also in all that a cut may leave.

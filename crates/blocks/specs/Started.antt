@@ -15,11 +15,12 @@ use Rattle.recovery.specs.declared.start_fault.StartFault.TheVariants.{NoMemory}
 use Rattle.blocks.specs.Book.{Book, opened}
 use Rattle.blocks.specs.Finding.{MayFind}
 use Rattle.blocks.specs.Opening.{OpensOn}
-use Rattle.blocks.specs.StoreValue.{Cached, layout_of, blocks_of, is_dead, active_of, steps_left, FitsBook}
+use Rattle.blocks.specs.StoreValue.{Cached, layout_of, blocks_of, is_dead, active_of, steps_left}
+use Rattle.blocks.specs.StoreValue.{FitsBook}
 
--- A store that has started serves the array for which the contents of the medium stood. It fits a life that
--- opens with it, under the premise that every image was ours only where every one was. Nothing is cached, and
--- nothing is left to do.
+-- A store that has started serves the array for which the contents of the medium stood. It fits a
+-- life that opens with it, under the premise that every image was ours only where every one was.
+-- Nothing is cached, and nothing is left to do.
 pub record IsStarted (before after : State) (new : Cached) : Type 0 where
   pub array : Array
   pub next : ℕ
@@ -34,13 +35,14 @@ pub record IsStarted (before after : State) (new : Cached) : Type 0 where
   pub empty : active_of new ≡ []
   pub rests : steps_left new ≡ 0
 
--- Why a start is refused: for want of memory only once the medium is recovered, else as recovery is.
+-- Why a start is refused: for want of memory only once the medium is recovered, else as recovery
+-- is.
 abbrev pub IsStartCause : State → State → StartFault → Type 0
 IsStartCause before after fault = IsCause before after fault
     ⊎ ((fault ≡ NoMemory) × (answer : Recovered) × IsRecoveredFrom before after answer)
 
--- Every image that a cut may have left after the first call has P. A second call is made only where the
--- first, a flush, was good.
+-- Every image that a cut may have left after the first call has P. A second call is made only where
+-- the first, a flush, was good.
 abbrev pub IsOursSince : (Image → Type 0) → State → State → Type 0
 IsOursSince P before after = before.calls + 2 ≤ after.calls
     → (image : Image) → after.left_since (before.calls + 1) image → P image

@@ -1,5 +1,6 @@
 -- What a caller sees of a store, and which books it fits.
-use Rattle.std.specs.Prelude.{◌≡◌, ◌⊎◌, ◌↔◌, ℕ, ◌+◌, ◌*◌, ◌^◌, ◌≤◌, ◌<◌, zero, suc, Bool, List, [], ◌∷◌, length}
+use Rattle.std.specs.Prelude.{◌≡◌, ◌⊎◌, ◌↔◌, ℕ, ◌+◌, ◌*◌, ◌^◌, ◌≤◌, ◌<◌, zero, suc, Bool, List, []}
+use Rattle.std.specs.Prelude.{◌∷◌, length}
 use Rattle.medium.specs.Medium.{State}
 use Rattle.cache.specs.Blocks.{over, Listed, unlisted, InRange}
 use Rattle.cache.specs.Entries.{Entries, map_of}
@@ -79,7 +80,8 @@ steps_left s = s.log.steps_left + s.log.retire_steps_left
 abbrev pub FitsBeside : ℕ → List ℕ → ℕ → ℕ → Type 0
 FitsBeside limit numbers address count = length numbers + unlisted numbers address count ≤ limit
 
--- The batch that takes writes after one more: it takes the range up where both fit together, and else has the range alone.
+-- The batch that takes writes after one more: it takes the range up where both fit together, and
+-- else has the range alone.
 pub record TakesRange (limit : ℕ) (old : List ℕ) (address count : ℕ) (new : List ℕ) : Type 0 where
   pub beside : FitsBeside limit old address count
       → (n : ℕ) → Listed new n ↔ (Listed old n ⊎ InRange address count n)
@@ -95,8 +97,9 @@ pub record HasLimits (s : Cached) : Type 0 where
   pub active_fits : length (active_of s) ≤ transfer_limit s
   pub few_steps : steps_left s ≤ (slots_of s + 4) * (2 * transfer_limit s + 16)
 
--- A store shows three arrays: what is durable, that with the frozen batch, and that with the active batch too. It fits a book in
--- which they are the array after some of the first writes, after more of them, and after all.
+-- A store shows three arrays: what is durable, that with the frozen batch, and that with the active
+-- batch too. It fits a book in which they are the array after some of the first writes, after more
+-- of them, and after all.
 pub record FitsBook (m : State) (s : Cached) (book : Book) : Type 0 where
   -- what the log and the medium hold
   pub view : View
@@ -113,8 +116,10 @@ pub record FitsBook (m : State) (s : Cached) (book : Book) : Type 0 where
   pub accepted : middle_count ≤ length book.writes
   pub floor : Same book.blocks view.array (after_first floor_count book)
   pub middle : Same book.blocks (over (map_of s.frozen) view.array) (after_first middle_count book)
-  pub now : Same book.blocks (over (map_of s.active) (over (map_of s.frozen) view.array)) (array_of book)
-  -- there is a stamp for each batch: the next one behind the durable records, with the batches counted, is among those that the
-  -- writes allow
-  pub stamps : s.log.head + length s.log.waiting + wants s.frozen.numbers + wants s.active.numbers ≤ book.stamp + length book.writes
+  pub now : Same book.blocks (over (map_of s.active) (over (map_of s.frozen) view.array))
+      (array_of book)
+  -- there is a stamp for each batch: the next one behind the durable records, with the batches
+  -- counted, is among those that the writes allow
+  pub stamps : s.log.head + length s.log.waiting + wants s.frozen.numbers + wants s.active.numbers
+      ≤ book.stamp + length book.writes
   pub ours : view.ours ≡ book.ours

@@ -13,7 +13,8 @@ use Rattle.blocks.specs.StoreValue.{Cached, layout_of, blocks_of, is_dead, steps
 
 -- a call of the medium was refused since, or the stamps are out in each book that the store fitted
 abbrev pub HasCause : State → State → Cached → Type 0
-HasCause before after old = (before.failures < after.failures) ⊎ ((book : Book) → FitsBook before old book → StampsOut book)
+HasCause before after old = (before.failures < after.failures)
+    ⊎ ((book : Book) → FitsBook before old book → StampsOut book)
 
 -- No refusal is forgotten, the sizes stay, and a store that is dead stays so. One that dies has a
 -- cause. The sectors behind the image are spared, at each moment.
@@ -28,24 +29,31 @@ pub record GoesOn (before after : State) (old new : Cached) : Type 0 where
 
 -- why a read is refused: the medium refused one, or the store was dead
 abbrev pub IsReadCause : State → State → Cached → StoreFault → Type 0
-IsReadCause before after old ReadFault = (before.failures < after.failures) × (before.refused Read < after.refused Read)
+IsReadCause before after old ReadFault = (before.failures < after.failures)
+    × (before.refused Read < after.refused Read)
 IsReadCause before after old Dead = is_dead old ≡ true
 
--- A turn of a store that accepts no write: it fits the books that it fitted, and a cut at any moment of it leaves what may be
--- found of them.
+-- A turn of a store that accepts no write: it fits the books that it fitted, and a cut at any
+-- moment of it leaves what may be found of them.
 pub record IsTurn (before after : State) (old new : Cached) : Type 0 where
   pub fits : (book : Book) → FitsBook before old book → FitsBook after new book
-  pub cuts : (book : Book) → FitsBook before old book → book.ours ≡ true → LeavesOnly (MayFind before.size book) before after
+  pub cuts : (book : Book) → FitsBook before old book → book.ours ≡ true
+      → LeavesOnly (MayFind before.size book) before after
   pub goes_on : GoesOn before after old new
 
--- A turn that accepts one write, or none: it fits the books that it fitted with that write last, or as they were, and a cut at any
--- moment of it leaves what may be found of them, perhaps with the write, whole.
-pub record IsWriteTurn (write : Write) (accepted : Bool) (before after : State) (old new : Cached) : Type 0 where
-  pub fits : (book : Book) → FitsBook before old book → FitsBook after new (if accepted then with_write book write else book)
-  pub cuts : (book : Book) → FitsBook before old book → book.ours ≡ true → LeavesOnly (Found before.size book write) before after
+-- A turn that accepts one write, or none: it fits the books that it fitted with that write last, or
+-- as they were, and a cut at any moment of it leaves what may be found of them, perhaps with the
+-- write, whole.
+pub record IsWriteTurn (write : Write) (accepted : Bool) (before after : State) (old new : Cached)
+    : Type 0 where
+  pub fits : (book : Book) → FitsBook before old book
+      → FitsBook after new (if accepted then with_write book write else book)
+  pub cuts : (book : Book) → FitsBook before old book → book.ours ≡ true
+      → LeavesOnly (Found before.size book write) before after
   pub goes_on : GoesOn before after old new
 
 -- each background step makes at most two calls of the medium, and what it makes is no longer left
 pub record IsPaid (before after : State) (old new : Cached) : Type 0 where
   pub most : after.calls ≤ before.calls + 2 * steps_left old
-  pub rest : is_dead new ≡ false → after.calls + 2 * steps_left new ≤ before.calls + 2 * steps_left old
+  pub rest : is_dead new ≡ false
+      → after.calls + 2 * steps_left new ≤ before.calls + 2 * steps_left old

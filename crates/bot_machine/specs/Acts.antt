@@ -1,5 +1,6 @@
 -- What an event has the unit do: carry out a command, or make a step in the background.
-use Rattle.std.specs.Prelude.{◌≡◌, ⊤, ◌≤◌, ℕ, ◌==◌, ◌&&◌, nat_le, Bool, true, false, if◌then◌else◌, List}
+use Rattle.std.specs.Prelude.{◌≡◌, ⊤, ◌≤◌, ℕ, ◌==◌, ◌&&◌, nat_le, Bool, true, false, if◌then◌else◌}
+use Rattle.std.specs.Prelude.{List}
 use Rattle.std.specs.Prelude.{[], ◌++◌, length, take, Option, None}
 use Rattle.medium.specs.Blocks.{Write}
 use Rattle.wrappers.specs.declared.command.Cbw.{Cbw}
@@ -15,7 +16,8 @@ use Rattle.bot_machine.specs.Conversation.{Conversation}
 use Rattle.bot_machine.specs.Intentions.{Intends}
 
 -- the packet spells the wrapper of a command that is carried out at once, over no bytes
-pub record CarriesOutAtOnce (packet : List ℕ) (unit : UnitState) (block taken : List ℕ) : Type 0 where
+pub record CarriesOutAtOnce (packet : List ℕ) (unit : UnitState) (block taken : List ℕ)
+    : Type 0 where
   pub command : Cbw
   pub intended : Way
   pub case : Case
@@ -27,7 +29,8 @@ pub record CarriesOutAtOnce (packet : List ℕ) (unit : UnitState) (block taken 
   pub none_taken : taken ≡ []
 
 -- the packet ends the data of a command, which is carried out over the intended bytes
-pub record CarriesOutLast (command : Cbw) (intended : Way) (bytes : List ℕ) (due : ℕ) (packet : List ℕ)
+pub record CarriesOutLast (command : Cbw) (intended : Way) (bytes : List ℕ) (due : ℕ)
+    (packet : List ℕ)
     (block taken : List ℕ) : Type 0 where
   pub size : length packet ≡ due
   pub last : due ≤ 512

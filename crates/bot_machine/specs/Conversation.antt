@@ -1,6 +1,7 @@
 -- The conversation of a host and a disk:
 -- the events matched in order against the exchanges that the wrappers begin.
-use Rattle.std.specs.Prelude.{◌≡◌, ◌≢◌, ◌⊎◌, ◌<◌, ◌≤◌, ℕ, ◌+◌, ◌-◌, min, Bool, true, false, List, []}
+use Rattle.std.specs.Prelude.{◌≡◌, ◌≢◌, ◌⊎◌, ◌<◌, ◌≤◌, ℕ, ◌+◌, ◌-◌, min, Bool, true, false, List}
+use Rattle.std.specs.Prelude.{[]}
 use Rattle.std.specs.Prelude.{◌∷◌, ◌++◌, length, take, None, Result, IfOk}
 use Rattle.wrappers.specs.declared.command.Cbw.{Cbw}
 use Rattle.wrappers.specs.declared.way.Way.{Way}

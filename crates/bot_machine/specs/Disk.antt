@@ -42,21 +42,24 @@ abbrev pub FitsDisk : {M : Type 0} → State → DiskValue M → Book → Type 0
 FitsDisk m disk book = FitsUnit m disk.unit book
 
 -- one event by the rules of the unit, where the medium refused a call in it or refused none
-abbrev pub UnitStep : Bool → Conversation UnitState → Event → Answer → Conversation UnitState → Type 0
+abbrev pub UnitStep : Bool → Conversation UnitState → Event → Answer → Conversation UnitState
+    → Type 0
 UnitStep refused old event answer new = Step Intends CarriesOut Ticks refused old event answer new
 
 -- events by the rules of the unit
 abbrev pub UnitRun : Conversation UnitState → List Event → List Answer → List Bool
     → Conversation UnitState → Type 0
-UnitRun old events answers refusals new = Run Intends CarriesOut Ticks old events answers refusals new
+UnitRun old events answers refusals new =
+    Run Intends CarriesOut Ticks old events answers refusals new
 
 -- the count of refused calls does not fall, and the size stays
 pub record Elapses (before after : State) : Type 0 where
   pub failures_stay : before.failures ≤ after.failures
   pub size_stays : after.size ≡ before.size
 
--- A unit proceeds from one moment to another: from a book that it fits, as Moves says, to one that it
--- fits then. A cut at any moment between finds accepted writes, perhaps with the one in progress.
+-- A unit proceeds from one moment to another: from a book that it fits, as Moves says, to one that
+-- it fits then. A cut at any moment between finds accepted writes, perhaps with the one in
+-- progress.
 pub record Proceeds {M : Type 0} (before after : State) (old new : UnitValue M)
     (Moves : UnitState → UnitState → Type 0) (write : Option Write) (book : Book) : Type 0 where
   pub later : Book
@@ -104,10 +107,12 @@ pub record IsStep {M : Type 0} (before after : State) (old : DiskValue M) (event
 
 -- an image that a cut in one of the events of a run may leave: accepted writes of the book at the
 -- beginning of that event, perhaps with the one in progress in it
-abbrev pub FoundIn : ℕ → (old : Conversation UnitState) (events : List Event) (answers : List Answer)
+abbrev pub FoundIn : ℕ
+    → (old : Conversation UnitState) (events : List Event) (answers : List Answer)
     (refusals : List Bool) (new : Conversation UnitState)
     → UnitRun old events answers refusals new → Image → Type 0
-FoundIn size old (event ∷ events) (answer ∷ answers) (refused ∷ refusals) new (mid, step, rest) image =
+FoundIn size old (event ∷ events) (answer ∷ answers) (refused ∷ refusals) new (mid, step, rest)
+    image =
     FoundWith size old.unit.book (write_of_event old event) image
     ⊎ FoundIn size mid events answers refusals new rest image
 FoundIn size old events answers refusals new run image = ⊥

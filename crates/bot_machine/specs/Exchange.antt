@@ -1,11 +1,13 @@
 -- The exchange of a command, laid out at once, and the line to the host that it goes over
 -- (Bulk-Only Transport 1.0, 5 and 6).
-use Rattle.std.specs.Prelude.{ℕ, Bool, true, false, if◌then◌else◌, List, [], ◌∷◌, Option, Some, None}
+use Rattle.std.specs.Prelude.{ℕ, Bool, true, false, if◌then◌else◌, List, [], ◌∷◌, Option, Some}
+use Rattle.std.specs.Prelude.{None}
 use Rattle.std.specs.Prelude.{Result, Ok, Err}
 use Rattle.wrappers.specs.declared.command.Cbw.{Cbw}
 use Rattle.wrappers.specs.declared.way.Way.{Way}
 use Rattle.wrappers.specs.declared.case.Case.{Case}
-use Rattle.wrappers.specs.declared.case.Case.TheVariants.{C1, C2, C3, C4, C5, C6, C7, C8, C9, C10, C11}
+use Rattle.wrappers.specs.declared.case.Case.TheVariants.{C1, C2, C3, C4, C5, C6, C7, C8, C9, C10}
+use Rattle.wrappers.specs.declared.case.Case.TheVariants.{C11}
 use Rattle.wrappers.specs.declared.case.Case.TheVariants.{C12, C13}
 use Rattle.wrappers.specs.declared.case.Endpoint.{Endpoint}
 use Rattle.wrappers.specs.declared.case.Endpoint.TheVariants as endpoint
@@ -17,7 +19,8 @@ use Rattle.wrappers.specs.Cases.{outcome_of, size_of_way}
 use Rattle.bot_machine.specs.declared.event.Answer.{Answer}
 use Rattle.bot_machine.specs.declared.event.Answer.TheVariants.{Ack, Nak, Stall, Data, Byte, Two}
 use Rattle.bot_machine.specs.Packets.{packets_of}
-use Rattle.bot_machine.specs.Requests.{Request, mass_storage_reset, get_max_lun, clear_halt, get_status}
+use Rattle.bot_machine.specs.Requests.{Request, mass_storage_reset, get_max_lun, clear_halt}
+use Rattle.bot_machine.specs.Requests.{get_status}
 
 -- what is left of an exchange
 pub data Script : Type 0 where

@@ -57,7 +57,8 @@ pub record EndsIn (identity : Identification) (limit : ℕ) (book : Book) (actio
   pub found : book.ours ≡ true → EachCut (FoundAt (state_of after).size last.place) (state_of after)
 
 -- lives went on by these actions, and the answers to so many events were appended
-pub record AppendsFor (before after : LivesValue) (old new : Room) (actions : List Action) (events : ℕ)
+pub record AppendsFor (before after : LivesValue) (old new : Room) (actions : List Action)
+    (events : ℕ)
     : Type 0 where
   pub told : List Answer
   pub appends : Appends told old new
@@ -95,8 +96,9 @@ pub record StopsIn (identity : Identification) (limit : ℕ) (book : Book) (acti
   pub cause : book.ours ≡ true → MayRefuse next counted (state_of after).failures fault
   pub found : book.ours ≡ true → EachCut (MayFind (state_of after).size next) (state_of after)
 
--- The first of these lives were lived, and left a medium in this state. The start of the one after them
--- was refused with this fault, though power did not go in it: why, whatever the medium held at first.
+-- The first of these lives were lived, and left a medium in this state. The start of the one after
+-- them was refused with this fault, though power did not go in it: why, whatever the medium held at
+-- first.
 pub record AreLivedUpTo (before : Sim) (identity : Identification) (lives : List Life)
     (told : List Answer) (fault : StartFault) (after : Sim) : Type 0 where
   pub lived : List Life

@@ -1,6 +1,6 @@
--- Lives of a disk: each opens with a start, and ends with a loss of power.
--- They are told by books and conversations alone: an array, whole writes to it, and what a host and a
--- disk say to one another.
+-- Lives of a disk: each opens with a start, and ends with a loss of power. They are told by books
+-- and conversations alone: an array, whole writes to it, and what a host and a disk say to one
+-- another.
 use Rattle.std.specs.Prelude.{◌≡◌, ◌⊎◌, ℕ, ◌+◌, ◌≤◌, Bool, true, false, List, [], ◌∷◌, ◌++◌, length}
 use Rattle.std.specs.Prelude.{Option, None}
 use Rattle.medium.specs.Blocks.{Write}
@@ -26,8 +26,8 @@ pub data Action : Type 0 where
   -- power is cut; which of the unflushed writes are kept, by their numbers
   cuts : (ℕ → Bool) → Action
 
--- what a life leaves behind: its book at the end of its last whole event, and the write, if there is
--- one, of the event that was cut
+-- what a life leaves behind: its book at the end of its last whole event, and the write, if there
+-- is one, of the event that was cut
 pub record Remains : Type 0 where
   pub book : Book
   pub in_progress : Option Write
@@ -62,8 +62,8 @@ pub record IsLeft (remains : Remains) (next : Book) : Type 0 where
   pub opening : next.opening ≡ after_first count book
   pub stamp : next.stamp ≤ book.stamp + length book.writes + 1
 
--- The next life opens with no writes, and nothing promised: with what the one before has left, where
--- every image of the medium was ours when the lives began.
+-- The next life opens with no writes, and nothing promised: with what the one before has left,
+-- where every image of the medium was ours when the lives began.
 pub record OpensAfter (remains : Remains) (next : Book) : Type 0 where
   pub opens : next ≡ opened next.blocks next.opening next.stamp remains.book.ours
   pub left : remains.book.ours ≡ true → IsLeft remains next

@@ -21,7 +21,8 @@ use Rattle.bot_machine.specs.declared.stage.Stage.TheVariants.{Rests, Runs}
 use Rattle.bot_machine.specs.Conversation.{Conversation, refused_events}
 use Rattle.bot_machine.specs.Disk.{DiskValue, over, FitsDisk}
 use Rattle.bot_machine.specs.Opening.{IsNotOpened}
-use Rattle.bot_machine.specs.Lives.{Action, Place, before_first, between, runs, off, Standing, Opens}
+use Rattle.bot_machine.specs.Lives.{Action, Place, before_first, between, runs, off, Standing}
+use Rattle.bot_machine.specs.Lives.{Opens}
 use Rattle.bot_machine.specs.Lives.{LivesRun}
 
 -- what is seen of lives: who the disk is, and its medium, with the disk where one runs
@@ -169,7 +170,8 @@ pub record LivesStop (before : LivesValue) (actions : List Action) (answers : Li
   pub size_stays : (state_in after.stage).size ≡ (state_in before.stage).size
   pub identity_stays : after.identity ≡ before.identity
 
--- a start is refused with this fault, though power did not go in it: why, and where lives stand then
+-- a start is refused with this fault, though power did not go in it: why, and where lives stand
+-- then
 pub record IsRefused (before : LivesValue) (fault : StartFault) (after : LivesValue) : Type 0 where
   pub stops : LivesStop before [] [] fault after
   pub cause : IsNotOpened (state_in before.stage) (state_in after.stage) fault

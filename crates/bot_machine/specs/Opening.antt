@@ -24,8 +24,8 @@ pub record IsOpened {M : Type 0} (before after : State) (identity : Identificati
   -- its limit is that of the image
   pub limit : HasLimit before.size (unit_limit disk.unit) before.content
 
--- Why no disk has started: its unit has not, or it has and there is no memory for what the transport
--- keeps. Where a life may open over the contents, only few causes are possible.
+-- Why no disk has started: its unit has not, or it has and there is no memory for what the
+-- transport keeps. Where a life may open over the contents, only few causes are possible.
 pub record IsNotOpened (before after : State) (fault : StartFault) : Type 0 where
   pub cause : IsStartCause before after fault ⊎ ((fault ≡ NoMemory) × HasStore before after)
   pub possible : (book : Book) → OpensOn before book → IsCauseFor book before after fault

@@ -11,14 +11,16 @@ use Rattle.scsi_unit.specs.declared.intent.Intent.TheVariants as intent
 use Rattle.bot_machine.specs.declared.exchange.When.{When}
 use Rattle.bot_machine.specs.declared.exchange.When.TheVariants.{AtOnce, AfterData, Never}
 use Rattle.bot_machine.specs.declared.request.ControlRequest.{ControlRequest}
-use Rattle.bot_machine.specs.declared.request.ControlRequest.TheVariants.{MassStorageReset, GetMaxLun}
+use Rattle.bot_machine.specs.declared.request.ControlRequest.TheVariants.{MassStorageReset}
+use Rattle.bot_machine.specs.declared.request.ControlRequest.TheVariants.{GetMaxLun}
 use Rattle.bot_machine.specs.declared.request.ControlRequest.TheVariants.{ClearHalt, GetStatus}
 use Rattle.bot_machine.specs.declared.wire.Taking.{Taking}
 use Rattle.bot_machine.specs.declared.wire.Phase.{Phase}
 use Rattle.bot_machine.specs.declared.wire.Phase.TheVariants.{Command, DataOut, DataIn, Status}
 use Rattle.bot_machine.specs.declared.wire.Wire.{Wire}
 use Rattle.bot_machine.specs.Packets.{packets_of}
-use Rattle.bot_machine.specs.Requests.{Request, mass_storage_reset, get_max_lun, clear_halt, get_status}
+use Rattle.bot_machine.specs.Requests.{Request, mass_storage_reset, get_max_lun, clear_halt}
+use Rattle.bot_machine.specs.Requests.{get_status}
 use Rattle.bot_machine.specs.Exchange.{Script, Line, finished, taking, sending, Moment, at_once}
 use Rattle.bot_machine.specs.Exchange.{after_data, never, moment_of}
 
@@ -29,9 +31,11 @@ halt_of false = None
 
 -- the rest of an exchange whose data is taken
 abbrev pub taking_of : Taking → List ℕ → Script
-taking_of t taken = taking t.exchange.case t.exchange.command t.exchange.intended (take t.filled taken) t.due
+taking_of t taken =
+    taking t.exchange.case t.exchange.command t.exchange.intended (take t.filled taken) t.due
 
--- what is left of the exchange, by the phase, the bytes taken, the bytes to send and the status wrapper
+-- what is left of the exchange, by the phase, the bytes taken, the bytes to send and the status
+-- wrapper
 abbrev pub left_of : Phase → List ℕ → List ℕ → List ℕ → Script
 left_of Command taken staging status = finished
 left_of (DataOut t) taken staging status = taking_of t taken

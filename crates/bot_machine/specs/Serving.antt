@@ -21,21 +21,24 @@ use Rattle.bot_machine.specs.Acts.{PacketCarriesOut, write_of_packet}
 use Rattle.bot_machine.specs.Refinement.{taking_of}
 use Rattle.bot_machine.specs.Disk.{on_line, Proceeds, Tells}
 
--- A packet spells a command wrapper, and begins this exchange: the one of its command, of what the unit
--- intends for it, and of the case that this makes.
-pub record IsBegun {M : Type 0} (unit : UnitValue M) (packet : List ℕ) (exchange : Exchange) : Type 0 where
+-- A packet spells a command wrapper, and begins this exchange: the one of its command, of what the
+-- unit intends for it, and of the case that this makes.
+pub record IsBegun {M : Type 0} (unit : UnitValue M) (packet : List ℕ) (exchange : Exchange)
+    : Type 0 where
   pub spelled : SpellsCommand packet exchange.command
   pub only : (other : Cbw) → SpellsCommand packet other → other ≡ exchange.command
   pub some_block : 0 < length exchange.command.block.items
   pub intended : exchange.intended ≡ way_of (intention_of unit exchange.command.block.items)
   pub few : (n : ℕ) → exchange.intended ≡ ways.Out n → n ≤ 512 * unit_limit unit
   pub is_case : IsCase exchange.case exchange.command.host exchange.intended
-  pub one_case : (other : Case) → IsCase other exchange.command.host exchange.intended → other ≡ exchange.case
+  pub one_case : (other : Case) → IsCase other exchange.command.host exchange.intended
+      → other ≡ exchange.case
 
 module _ {M : Type 0} (before after : State) (old new : UnitValue M) (from to : Line) where
   -- the command of an exchange is carried out over these bytes
   abbrev pub CarriesOutOn : Exchange → List ℕ → Type 0
-  CarriesOutOn exchange bytes = (book : Book) → FitsUnit before old book → Proceeds before after old new
+  CarriesOutOn exchange bytes = (book : Book) → FitsUnit before old book
+      → Proceeds before after old new
       (λ unit later. IsCarriedOut Intends CarriesOut Ticks (has_refused before after)
       exchange.case exchange.command exchange.intended bytes (on_line from unit) (on_line to later))
       (write_in_progress (state_of old book) exchange.command.block.items bytes) book
@@ -59,7 +62,8 @@ module _ {M : Type 0} (before after : State) (old new : UnitValue M) (from to : 
 -- where a packet has no command carried out, the unit stays as it is
 abbrev pub RestsOn : {M : Type 0} → State → UnitValue M → UnitValue M → Script → List ℕ → Type 0
 RestsOn before old new left packet = (book : Book) → FitsUnit before old book
-    → ((block taken : List ℕ) → PacketCarriesOut false left packet (state_of old book) block taken → ⊥)
+    → ((block taken : List ℕ) → PacketCarriesOut false left packet (state_of old book) block taken
+        → ⊥)
     → new ≡ old
 
 -- Where a packet has a command carried out, the unit makes no call of the medium that it does not

@@ -25,7 +25,8 @@ answers_without_ticks (event.In ∷ events) (answer ∷ answers) =
     answer ∷ answers_without_ticks events answers
 answers_without_ticks (event.Setup packet ∷ events) (answer ∷ answers) =
     answer ∷ answers_without_ticks events answers
-answers_without_ticks (event.Tick ∷ events) (answer ∷ answers) = answers_without_ticks events answers
+answers_without_ticks (event.Tick ∷ events) (answer ∷ answers) =
+    answers_without_ticks events answers
 answers_without_ticks events answers = []
 
 -- stamps are left in an event, with the write in progress in it counted
@@ -33,7 +34,8 @@ abbrev pub HasStamps : Conversation UnitState → Event → Type 0
 HasStamps s happens = ¬ StampsOut (with_progress s.unit.book (write_of_event s happens))
 
 -- in no event of a run the medium refused a call, and stamps are left in each
-abbrev pub IsUntroubled : (old : Conversation UnitState) (events : List Event) (answers : List Answer)
+abbrev pub IsUntroubled
+    : (old : Conversation UnitState) (events : List Event) (answers : List Answer)
     (refusals : List Bool) (new : Conversation UnitState)
     → UnitRun old events answers refusals new → Type 0
 IsUntroubled old (happens ∷ events) (answer ∷ answers) (refused ∷ refusals) new (mid, step, rest) =
@@ -47,5 +49,6 @@ TicksAreStruck = (old new other : Conversation UnitState) (events fewer : List E
     (answers told : List Answer) (refusals refused : List Bool)
     (run : UnitRun old events answers refusals new) (again : UnitRun old fewer told refused other)
     → without_ticks events ≡ without_ticks fewer
-    → IsUntroubled old events answers refusals new run → IsUntroubled old fewer told refused other again
+    → IsUntroubled old events answers refusals new run
+        → IsUntroubled old fewer told refused other again
     → (answers_without_ticks events answers ≡ answers_without_ticks fewer told) × (new ≡ other)

@@ -29,7 +29,8 @@ pub record WouldStandAt (numbers : List ℕ) (number place : ℕ) : Type 0 where
   pub before : (k : ℕ) → k < place → slice_index numbers k < number
   pub past : (k : ℕ) → place ≤ k → k < length numbers → number < slice_index numbers k
 
--- the number stands at this place, or would stand there: the numbers before it are smaller, and the one at it is not
+-- the number stands at this place, or would stand there: the numbers before it are smaller, and the
+-- one at it is not
 pub record HasPlace (numbers : List ℕ) (number place : ℕ) : Type 0 where
   pub inside : place ≤ length numbers
   pub before : (k : ℕ) → k < place → slice_index numbers k < number

@@ -1,5 +1,6 @@
 -- Format 1, as a layout: a descriptor and n data places, a flush, a commit, a flush.
-use Rattle.std.specs.Prelude.{◌<◌, ◌≤◌, ℕ, ◌+◌, ◌-◌, List, [], ◌∷◌, length, map, if◌then◌else◌, nat_lt}
+use Rattle.std.specs.Prelude.{◌<◌, ◌≤◌, ℕ, ◌+◌, ◌-◌, List, [], ◌∷◌, length, map, if◌then◌else◌}
+use Rattle.std.specs.Prelude.{nat_lt}
 use Rattle.std.specs.List.{range_with_len}
 use Rattle.medium.specs.Medium.{Image}
 use Rattle.log_layout.specs.Spelling.{spelling, number_in, descriptor_mark, commit_mark}

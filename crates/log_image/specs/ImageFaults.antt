@@ -2,7 +2,8 @@
 use Rattle.std.specs.Prelude.{◌≡◌, ◌⊎◌, ◌≤◌, ◌<◌, ℕ, ◌^◌}
 use Rattle.medium.specs.Medium.{Image}
 use Rattle.medium.specs.Blocks.{Array}
-use Rattle.log_layout.specs.declared.super_fault.SuperFault.TheVariants.{Magic, Version, Rest, Sizes}
+use Rattle.log_layout.specs.declared.super_fault.SuperFault.TheVariants.{Magic, Version, Rest}
+use Rattle.log_layout.specs.declared.super_fault.SuperFault.TheVariants.{Sizes}
 use Rattle.log_layout.specs.Places.{Shape, sectors_of}
 use Rattle.log_layout.specs.Sectors.{IsSuper, IsHead}
 use Rattle.log_layout.specs.SuperFaults.{IsSuperFault}

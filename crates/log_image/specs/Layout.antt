@@ -1,12 +1,14 @@
 -- How records lie in a log, whatever the format.
-use Rattle.std.specs.Prelude.{◌≡◌, ◌<◌, ◌≤◌, ℕ, ◌+◌, ◌*◌, ◌-◌, ◌%◌, ◌^◌, List, [], length, get_or, All}
+use Rattle.std.specs.Prelude.{◌≡◌, ◌<◌, ◌≤◌, ℕ, ◌+◌, ◌*◌, ◌-◌, ◌%◌, ◌^◌, List, [], length, get_or}
+use Rattle.std.specs.Prelude.{All}
 use Rattle.medium.specs.Medium.{Image}
 use Rattle.medium.specs.Blocks.{Array}
 use Rattle.log_layout.specs.Places.{Shape}
 use Rattle.log_layout.specs.Sectors.{IsSuper, IsHead, IsRising}
 use Rattle.log_image.specs.Record.{Entry, numbers_of, with_records, home_of}
 
--- The sectors of a record are numbered in the order in which they are written, from 0 to parts n - 1.
+-- The sectors of a record are numbered in the order in which they are written, from 0 to parts n -
+-- 1.
 pub record Layout : Type 1 where
   -- how many sectors a slot has
   pub slot_sectors : ℕ
@@ -64,7 +66,8 @@ module _ (L : Layout) (shape : Shape) where
   CarriesBelowIn image end = (slot o stamp : ℕ) → slot < shape.slots → o < L.slot_sectors
       → L.carries o stamp (image (2 + L.slot_sectors * slot + o)) → stamp < end
 
-  -- the image has this head, these whole records from it on, and home with them laid over is this array
+  -- the image has this head, these whole records from it on, and home with them laid over is this
+  -- array
   pub record KeepsIn (image : Image) (head : ℕ) (records : List (List Entry)) (array : Array)
       : Type 0 where
     pub super : IsSuper shape (image 0)

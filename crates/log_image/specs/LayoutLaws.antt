@@ -18,10 +18,12 @@ pub record Laws (L : Layout) : Type 0 where
   pub apart : (n p q : ℕ) → n ≤ L.most → p < L.parts n → q < L.parts n
       → L.offset n p ≡ L.offset n q → p ≡ q
   pub last : (n : ℕ) → L.offset n (L.parts n - 1) ≡ L.slot_sectors - 1
-  -- a part carries its record's stamp, but those that are flushed before the last one is written need not
+  -- a part carries its record's stamp, but those that are flushed before the last one is written
+  -- need not
   pub carries : (blocks stamp : ℕ) (entries : List Entry) (p : ℕ)
       → IsRecordOf L blocks stamp entries → p < L.parts (length entries)
-      → (p < L.early (length entries)) ⊎ L.carries (L.offset (length entries) p) stamp (L.part stamp entries p)
+      → (p < L.early (length entries))
+          ⊎ L.carries (L.offset (length entries) p) stamp (L.part stamp entries p)
   pub last_is_late : (n : ℕ) → L.early n < L.parts n
   -- and no other
   pub one_stamp : (blocks stamp other : ℕ) (entries : List Entry) (p : ℕ)

@@ -1,5 +1,6 @@
 -- Records of blocks, and arrays with records laid over them.
-use Rattle.std.specs.Prelude.{◌≡◌, ◌≤◌, ◌<◌, ℕ, ◌+◌, ◌*◌, List, [], ◌∷◌, get_or, slice_range, if◌then◌else◌, ◌==◌}
+use Rattle.std.specs.Prelude.{◌≡◌, ◌≤◌, ◌<◌, ℕ, ◌+◌, ◌*◌, List, [], ◌∷◌, get_or, slice_range}
+use Rattle.std.specs.Prelude.{if◌then◌else◌, ◌==◌}
 use Rattle.medium.specs.Medium.{Image}
 use Rattle.medium.specs.Blocks.{Array}
 pub use Rattle.log_layout.specs.Entry.{Entry, numbers_of}

@@ -1,11 +1,12 @@
 -- A record under way: what its medium holds, and what a cut may leave.
-use Rattle.std.specs.Prelude.{◌≡◌, ◌⊎◌, ◌<◌, ◌≤◌, ℕ, ◌+◌, ◌*◌, List, [], ◌∷◌, ◌++◌, length, get_or, drop}
-use Rattle.medium.specs.Medium.{Image, State}
-use Rattle.medium.specs.Moments.{EachCut}
+use Rattle.std.specs.Prelude.{◌≡◌, ◌⊎◌, ◌<◌, ◌≤◌, ℕ, ◌+◌, ◌*◌, List, [], ◌∷◌, ◌++◌, length, get_or}
+use Rattle.std.specs.Prelude.{drop}
+use Rattle.medium.specs.Medium.{Image}
 use Rattle.medium.specs.Blocks.{Array}
 use Rattle.log_layout.specs.Places.{Shape}
 use Rattle.log_image.specs.Record.{Entry, with_blocks}
-use Rattle.log_image.specs.Layout.{Layout, CarriesBelowIn, KeepsIn, LoggedIn, RestsIn, IsFree, part_at}
+use Rattle.log_image.specs.Layout.{Layout, CarriesBelowIn, KeepsIn, LoggedIn, RestsIn, IsFree}
+use Rattle.log_image.specs.Layout.{part_at}
 use Rattle.log_image.specs.LayoutLaws.{IsRecordOf}
 
 -- what a log has
@@ -29,34 +30,44 @@ with_less v = record v { head = v.head + 1; records = drop 1 v.records }
 
 -- the record under way is durable
 abbrev pub with_record : View → View
-with_record v = record v { records = v.records ++ v.under_way ∷ []; under_way = []; array = with_blocks v.under_way v.array }
+with_record v =
+    record v { records = v.records ++ v.under_way ∷ []; under_way = [];
+    array = with_blocks v.under_way v.array }
 
--- the image has the super, the head and the durable records of this view, and home makes its array with them
+-- the image has the super, the head and the durable records of this view, and home makes its array
+-- with them
 abbrev pub KeepsView : Layout → View → Image → Type 0
 KeepsView L v image = KeepsIn L v.shape image v.head v.records v.array
 
--- the image stands for the view's array: its records, and no more, follow the head, and its log carries no stamp from the next on
+-- the image stands for the view's array: its records, and no more, follow the head, and its log
+-- carries no stamp from the next on
 abbrev pub Found : Layout → View → Image → Type 0
 Found L v image = LoggedIn L v.shape image v.head v.records v.array
 
--- the view's records are there, none is under way, and the log carries no stamp from the next one on
+-- the view's records are there, none is under way, and the log carries no stamp from the next one
+-- on
 abbrev pub Resting : Layout → View → Image → Type 0
 Resting L v image = RestsIn L v.shape image v.head v.records v.array
 
--- what a cut may leave while a record is under way: that it is not whole, or that it is, with its blocks
+-- what a cut may leave while a record is under way: that it is not whole, or that it is, with its
+-- blocks
 abbrev pub MayLeave : Layout → View → Image → Type 0
 MayLeave L v image = Found L v image ⊎ Found L (with_record v) image
 
--- Of a record with this stamp, parts below `durable` are there, those below `so_far` are there or do not carry its stamp, and
--- the others do not. No sector of the log carries a later stamp.
-pub record WrittenSoFar (L : Layout) (shape : Shape) (stamp : ℕ) (entries : List Entry) (so_far durable : ℕ) (image : Image) : Type 0 where
+-- Of a record with this stamp, parts below `durable` are there, those below `so_far` are there or
+-- do not carry its stamp, and the others do not. No sector of the log carries a later stamp.
+pub record WrittenSoFar (L : Layout) (shape : Shape) (stamp : ℕ) (entries : List Entry)
+    (so_far durable : ℕ) (image : Image) : Type 0 where
   pub carries : CarriesBelowIn L shape image (stamp + 1)
-  pub flushed : (p : ℕ) → p < durable → p < L.parts (length entries) → image (part_at L shape stamp (length entries) p) ≡ L.part stamp entries p
+  pub flushed : (p : ℕ) → p < durable → p < L.parts (length entries)
+      → image (part_at L shape stamp (length entries) p) ≡ L.part stamp entries p
   pub either : (p : ℕ) → p < so_far → p < L.parts (length entries)
       → (image (part_at L shape stamp (length entries) p) ≡ L.part stamp entries p)
-      ⊎ IsFree L stamp (L.offset (length entries) p) (image (part_at L shape stamp (length entries) p))
+      ⊎ IsFree L stamp (L.offset (length entries) p)
+          (image (part_at L shape stamp (length entries) p))
   pub free : (p : ℕ) → so_far ≤ p → p < L.parts (length entries)
-      → IsFree L stamp (L.offset (length entries) p) (image (part_at L shape stamp (length entries) p))
+      → IsFree L stamp (L.offset (length entries) p)
+          (image (part_at L shape stamp (length entries) p))
 
 -- the durable records are there, and the record under way so far
 pub record Guarded (L : Layout) (v : View) (so_far durable : ℕ) (image : Image) : Type 0 where
@@ -70,15 +81,8 @@ pub record HasSlots (L : Layout) (v : View) : Type 0 where
   pub behind : 2 + L.slot_sectors * v.shape.slots ≤ v.shape.home
   pub under_way : IsRecordOf L v.shape.blocks (stamp_of v) v.under_way
 
--- of the record under way so many parts are written, and so many flushed
-pub record Staged (L : Layout) (m : State) (v : View) (so_far durable : ℕ) : Type 0 where
-  pub fits : v.shape.home + v.shape.blocks ≤ m.size
-  pub slots : HasSlots L v
-  pub written : (p : ℕ) → p < so_far → p < L.parts (length v.under_way) → m.content (part_at L v.shape (stamp_of v) (length v.under_way) p) ≡ L.part (stamp_of v) v.under_way p
-  pub each : EachCut (Guarded L v so_far durable) m
-  -- the other parts are written behind the flush of the early ones
-  pub early : L.early (length v.under_way) < so_far → L.early (length v.under_way) ≤ durable
-
 -- the blocks of the oldest record are at home
 abbrev pub IsHomed : View → Image → Type 0
-IsHomed v image = (i : ℕ) → i < length (get_or v.records 0 []) → image (v.shape.home + (get_or (get_or v.records 0 []) i (0, [])).0) ≡ (get_or (get_or v.records 0 []) i (0, [])).1
+IsHomed v image = (i : ℕ) → i < length (get_or v.records 0 [])
+    → image (v.shape.home + (get_or (get_or v.records 0 []) i (0, [])).0)
+    ≡ (get_or (get_or v.records 0 []) i (0, [])).1

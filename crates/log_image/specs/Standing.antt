@@ -7,7 +7,8 @@ use Rattle.log_image.specs.Record.{Entry}
 use Rattle.log_image.specs.Layout.{KeepsIn}
 use Rattle.log_image.specs.Formats.{layout_of, HasWhole, CarriesBelow}
 
--- the image has this head, these whole records from it on, and home with them laid over is this array
+-- the image has this head, these whole records from it on, and home with them laid over is this
+-- array
 abbrev pub Keeps : Shape → Image → ℕ → List (List Entry) → Array → Type 0
 Keeps shape image head records array =
     KeepsIn (layout_of shape.format) shape image head records array

@@ -1,7 +1,8 @@
 -- What is wrong with a sector that should be a super.
 use Rattle.std.specs.Prelude.{◌≡◌, ◌⊎◌, ℕ, List, drop, replicate}
 use Rattle.log_layout.specs.declared.super_fault.SuperFault.{SuperFault}
-use Rattle.log_layout.specs.declared.super_fault.SuperFault.TheVariants.{Magic, Version, Rest, Sizes}
+use Rattle.log_layout.specs.declared.super_fault.SuperFault.TheVariants.{Magic, Version, Rest}
+use Rattle.log_layout.specs.declared.super_fault.SuperFault.TheVariants.{Sizes}
 use Rattle.log_layout.specs.Places.{Shape}
 use Rattle.log_layout.specs.Spelling.{number_in, super_mark}
 use Rattle.log_layout.specs.Sectors.{IsSuper}

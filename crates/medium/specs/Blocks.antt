@@ -1,5 +1,6 @@
 -- A block device above its sectors: logical blocks of 512 bytes, and writes to them.
-use Rattle.std.specs.Prelude.{◌≡◌, ℕ, ◌+◌, ◌-◌, ◌≤◌, List, [], ◌∷◌, length, get_or, All, if◌then◌else◌, nat_le}
+use Rattle.std.specs.Prelude.{◌≡◌, ℕ, ◌+◌, ◌-◌, ◌≤◌, List, [], ◌∷◌, length, get_or, All}
+use Rattle.std.specs.Prelude.{if◌then◌else◌, nat_le}
 
 -- the bytes of every logical block, by its address
 abbrev pub Array : Type 0

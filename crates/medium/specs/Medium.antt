@@ -1,5 +1,6 @@
 -- A medium of sectors: what a read gives, and what a loss of power may leave.
-use Rattle.std.specs.Prelude.{◌≡◌, ◌≢◌, ◌⊎◌, ◌<◌, ◌≤◌, ℕ, ◌+◌, List, length, Result, IfErr, is_ok, if◌then◌else◌}
+use Rattle.std.specs.Prelude.{◌≡◌, ◌≢◌, ◌⊎◌, ◌<◌, ◌≤◌, ℕ, ◌+◌, List, length, Result, IfErr, is_ok}
+use Rattle.std.specs.Prelude.{if◌then◌else◌}
 use Rattle.medium.specs.declared.fault.MediumFault.{MediumFault}
 
 -- the bytes of every sector, by its number

@@ -1,5 +1,6 @@
 -- When a medium in memory refuses a call.
-use Rattle.std.specs.Prelude.{⊤, ◌≤◌, ℕ, ◌-◌, Bool, true, false, not, ◌&&◌, ◌||◌, Option, Some, None, if◌then◌else◌, ◌==◌, nat_lt}
+use Rattle.std.specs.Prelude.{⊤, ◌≤◌, ℕ, ◌-◌, Bool, true, false, not, ◌&&◌, ◌||◌, Option, Some}
+use Rattle.std.specs.Prelude.{None, if◌then◌else◌, ◌==◌, nat_lt}
 use Rattle.medium.specs.declared.fault.MediumFault.{MediumFault}
 use Rattle.medium.specs.declared.fault.MediumFault.TheVariants.{Read, Write, Flush}
 use Rattle.medium.specs.declared.power.Power.{Power}

@@ -1,5 +1,6 @@
 -- A medium in memory: what its sectors hold, and what a cut may leave of them.
-use Rattle.std.specs.Prelude.{◌≡◌, ◌≢◌, ◌⊎◌, ℕ, ◌+◌, ◌-◌, ◌/◌, ◌%◌, ◌^◌, ◌<◌, ◌≤◌, min, Bool, true, false, None, Some, List, [], ◌∷◌, ◌++◌, length, if◌then◌else◌, nat_lt}
+use Rattle.std.specs.Prelude.{◌≡◌, ◌≢◌, ◌⊎◌, ℕ, ◌+◌, ◌-◌, ◌/◌, ◌%◌, ◌^◌, ◌<◌, ◌≤◌, min, Bool, true}
+use Rattle.std.specs.Prelude.{false, None, Some, List, [], ◌∷◌, ◌++◌, length, if◌then◌else◌, nat_lt}
 use Rattle.medium.specs.Medium.{State, Image, Sets, CutLeaves}
 use Rattle.medium.specs.Power as power
 use Rattle.medium.specs.Power.{admits, powered, StaysArmed}
@@ -25,8 +26,8 @@ pub record Sim : Type 0 where
   pub made : Tally
   pub refused : Tally
 
--- How many sectors there are. A model with an unflushed write of another length is given none, so that
--- the law on lengths holds of every model; no real medium is such.
+-- How many sectors there are. A model with an unflushed write of another length is given none, so
+-- that the law on lengths holds of every model; no real medium is such.
 abbrev pub size_of : Sim → ℕ
 size_of m = if are_whole m.unflushed then length m.flushed / 512 else 0
 
@@ -68,7 +69,8 @@ after_call m kind room = record m {
 abbrev pub after_write : Sim → ℕ → List ℕ → Sim
 after_write m s bytes =
     if admits m.power Write (fits m)
-    then record (after_call m Write (fits m)) { unflushed = m.unflushed ++ record { sector = s; block = bytes } ∷ [] }
+    then record (after_call m Write (fits m)) { unflushed = m.unflushed
+        ++ record { sector = s; block = bytes } ∷ [] }
     else after_call m Write (fits m)
 
 -- A flush that happens: each sector is flushed as a read gives it, and nothing is unflushed.

@@ -1,5 +1,6 @@
 -- What holds of a medium in memory at each moment.
-use Rattle.std.specs.Prelude.{◌≡◌, ◌≢◌, ◌⊎◌, ℕ, ◌*◌, ◌/◌, ◌<◌, min, true, false, Option, Some, None, List, [], ◌∷◌, length, drop, ◌==◌}
+use Rattle.std.specs.Prelude.{◌≡◌, ◌≢◌, ◌⊎◌, ℕ, ◌*◌, ◌/◌, ◌<◌, min, true, false, Option, Some, None}
+use Rattle.std.specs.Prelude.{List, [], ◌∷◌, length, drop, ◌==◌}
 use Rattle.std.proofs.Common.{inl, inr, ⊎_elim, refl, ◌∙◌, ap, arith}
 use Rattle.std.proofs.lemmas.Bool.{cases_Bool, and_parts}
 use Rattle.std.proofs.lemmas.Bool.Decides.{eqb_tells, nat_tests}
@@ -18,10 +19,12 @@ among_next : (w : UnflushedWrite) (ws : List UnflushedWrite) (s : ℕ) (c : List
     → (latest (w ∷ ws) s c ≡ c) ⊎ IsWritten (w ∷ ws) s (latest (w ∷ ws) s c)
 among_next w ws s c (inl here) of_block of_c = rw here.0
     (⊎_elim (λ same. inr (inl (here.1, same))) (λ later. inr (inr later)) of_block)
-among_next w ws s c (inr other) of_block of_c = rw other.0 (⊎_elim inl (λ later. inr (inr later)) of_c)
+among_next w ws s c (inr other) of_block of_c =
+    rw other.0 (⊎_elim inl (λ later. inr (inr later)) of_c)
 
 -- what a sector holds after some writes is what it held or what one of them put there
-pub among : (ws : List UnflushedWrite) (s : ℕ) (c : List ℕ) → (latest ws s c ≡ c) ⊎ IsWritten ws s (latest ws s c)
+pub among : (ws : List UnflushedWrite) (s : ℕ) (c : List ℕ) → (latest ws s c ≡ c)
+    ⊎ IsWritten ws s (latest ws s c)
 among [] s c = inl refl
 among (w ∷ ws) s c =
     among_next w ws s c (eqb_tells s w.sector) (among ws s w.block) (among ws s c)
@@ -34,7 +37,8 @@ none_of_no_sectors : (m : Sim) → are_whole m.unflushed ≡ false → size_of m
 none_of_no_sectors m not = rw not refl
 
 -- a sector that lies within the bytes has 512 of them
-pub whole_sector : (bytes : List ℕ) (s : ℕ) → s < length bytes / 512 → length (sector_of bytes s) ≡ 512
+pub whole_sector : (bytes : List ℕ) (s : ℕ) → s < length bytes / 512
+    → length (sector_of bytes s) ≡ 512
 whole_sector bytes s inside =
     length-take 512 (drop (512 * s) bytes)
     ∙ ap (λ (n : ℕ). min 512 n) (length-drop (512 * s) bytes)
@@ -52,7 +56,8 @@ whole_write (w ∷ ws) s c whole h =
 sized : (m : Sim) (s : ℕ) (c : List ℕ) → s < size_of m → sets_of m s c → length c ≡ 512
 sized m s c inside left = elim (cases_Bool (are_whole m.unflushed)) [
   | inl whole ↦ ⊎_elim
-      (λ same. ap (λ (l : List ℕ). length l) same ∙ whole_sector m.flushed s (rw (size_whole m whole) at inside))
+      (λ same. ap (λ (l
+          : List ℕ). length l) same ∙ whole_sector m.flushed s (rw (size_whole m whole) at inside))
       (λ written. whole_write m.unflushed s c whole written) left
   | inr not ↦ absurd (omega (arith, inside, none_of_no_sectors m not))
 ]

@@ -1,5 +1,7 @@
--- INQUIRY data: standard data and vital product data pages (SPC-4, 6.6 and 7.8; SBC-3, block limits page).
-use Rattle.std.specs.Prelude.{◌≡◌, ℕ, ◌+◌, ◌≤◌, ◌==◌, List, [], ◌∷◌, ◌++◌, drop, replicate, slice_index, Option, Some, None, if◌then◌else◌}
+-- INQUIRY data: standard data and vital product data pages (SPC-4, 6.6 and 7.8; SBC-3, block limits
+-- page).
+use Rattle.std.specs.Prelude.{◌≡◌, ℕ, ◌+◌, ◌≤◌, ◌==◌, List, [], ◌∷◌, ◌++◌, drop, replicate}
+use Rattle.std.specs.Prelude.{slice_index, Option, Some, None, if◌then◌else◌}
 use Rattle.byteorder.specs.Endian.{big_bytes, big_number}
 use Rattle.pages.specs.Identification.{Identification}
 
@@ -25,8 +27,8 @@ standard_data who =
     -- 32, product revision level
     ++ who.revision
 
--- a vital product data page: qualifier and type as in standard data, page code, how many bytes follow
--- in two bytes, and these bytes
+-- a vital product data page: qualifier and type as in standard data, page code, how many bytes
+-- follow in two bytes, and these bytes
 abbrev pub vital_page : ℕ → ℕ → List ℕ → List ℕ
 vital_page code count bytes = (0x00 ∷ code ∷ 0x00 ∷ count ∷ []) ++ bytes
 
@@ -102,8 +104,8 @@ abbrev pub inquiry_size : Option ℕ → Option ℕ
 inquiry_size None = Some 36
 inquiry_size (Some code) = vital_size code
 
--- how many bytes there are by the count that the data hold themselves: in standard data what follows
--- byte 4, in a page what follows byte 3
+-- how many bytes there are by the count that the data hold themselves: in standard data what
+-- follows byte 4, in a page what follows byte 3
 abbrev pub told_size : Option ℕ → List ℕ → ℕ
 told_size None bytes = 5 + slice_index bytes 4
 told_size (Some code) bytes = 4 + big_number 2 (drop 2 bytes)

@@ -1,10 +1,13 @@
 -- Mode parameters (SPC-4, 7.5) with the caching mode page (SBC-3).
-use Rattle.std.specs.Prelude.{◌≡◌, ◌⊎◌, ◌+◌, slice_index, ◌==◌, ◌||◌, ◌&&◌, nat_lt, ℕ, Bool, true, false, List, [], ◌∷◌, ◌++◌, replicate, bytes_eq, Result, Ok, Err, Option, Some, None, unwrap_or, if◌then◌else◌}
+use Rattle.std.specs.Prelude.{◌≡◌, ◌⊎◌, ◌+◌, slice_index, ◌==◌, ◌||◌, ◌&&◌, nat_lt, ℕ, Bool, true}
+use Rattle.std.specs.Prelude.{false, List, [], ◌∷◌, ◌++◌, replicate, bytes_eq, Result, Ok, Err}
+use Rattle.std.specs.Prelude.{Option, Some, None, unwrap_or, if◌then◌else◌}
 use Rattle.sense.specs.declared.codes.Sense.{Sense}
 use Rattle.sense.specs.Codes.{invalid_field_in_cdb, invalid_field_in_parameter_list}
 use Rattle.sense.specs.Codes.{saving_parameters_not_supported}
 
--- a mode parameter header: mode data length, medium type, device-specific parameter, block descriptor length
+-- a mode parameter header: mode data length, medium type, device-specific parameter, block
+-- descriptor length
 abbrev pub mode_header : ℕ → ℕ → List ℕ
 mode_header following device = following ∷ 0x00 ∷ device ∷ 0x00 ∷ []
 
@@ -28,12 +31,13 @@ wce_of control wce = if control == 0 then wce else true
 abbrev pub mode_data : ℕ → Bool → List ℕ
 mode_data control wce = mode_header 0x17 0x10 ++ caching_page (wce_of control wce)
 
--- mode data of this size count themselves: what follows byte 0, and what of the page follows its byte 1
+-- mode data of this size count themselves: what follows byte 0, and what of the page follows its
+-- byte 1
 abbrev pub CountsItself : List ℕ → ℕ → Type 0
 CountsItself bytes size = (slice_index bytes 0 + 1 ≡ size) × (slice_index bytes 5 + 6 ≡ size)
 
--- the number of bytes that MODE SENSE sends: of the caching page, or of all pages, which are that one;
--- no other page or subpage is there, and page control 3, saved values, is not supported
+-- the number of bytes that MODE SENSE sends: of the caching page, or of all pages, which are that
+-- one; no other page or subpage is there, and page control 3, saved values, is not supported
 abbrev pub mode_sense_answer : ℕ → ℕ → ℕ → Result ℕ Sense
 mode_sense_answer control page subpage =
     if ((page == 0x08) || (page == 0x3f)) && (subpage == 0x00)
@@ -48,8 +52,8 @@ page_bit (code ∷ page) =
     else if bytes_eq (code ∷ page) (caching_page false) then Ok (Some false)
     else Err invalid_field_in_parameter_list
 
--- the bit WCE that a parameter list of MODE SELECT carries, if it has a page. In a header all is 0 but
--- the device-specific parameter, which is ignored.
+-- the bit WCE that a parameter list of MODE SELECT carries, if it has a page. In a header all is 0
+-- but the device-specific parameter, which is ignored.
 abbrev pub selected_bit : List ℕ → Result (Option Bool) Sense
 selected_bit [] = Ok None
 selected_bit (following ∷ medium ∷ device ∷ descriptors ∷ page) =

@@ -6,7 +6,10 @@ use Rattle.medium.specs.declared.fault.MediumFault.{MediumFault}
 use Rattle.medium.specs.declared.fault.MediumFault.TheVariants as medium
 use Rattle.log_image.specs.ImageFaults as image
 use Rattle.recovery.specs.declared.start_fault.StartFault.{StartFault}
-use Rattle.recovery.specs.declared.start_fault.StartFault.TheVariants.{NoMemory, Read, Write, Flush, BadSuper, BadVersion, BadSize, BadHead, StampsUsedUp}
+use Rattle.recovery.specs.declared.start_fault.StartFault.TheVariants.{NoMemory, Read, Write, Flush}
+use Rattle.recovery.specs.declared.start_fault.StartFault.TheVariants.{BadSuper, BadVersion}
+use Rattle.recovery.specs.declared.start_fault.StartFault.TheVariants.{BadSize, BadHead}
+use Rattle.recovery.specs.declared.start_fault.StartFault.TheVariants.{StampsUsedUp}
 
 -- the start's name for a call that the medium refused
 abbrev pub start_fault_of : MediumFault → StartFault
@@ -36,8 +39,10 @@ IsCauseBy Calls old new NoMemory = ⊥
 IsCauseBy Calls old new Read = IsRefusedCall old new medium.Read
 IsCauseBy Calls old new Write = IsRefusedCall old new medium.Write
 IsCauseBy Calls old new Flush = IsRefusedCall old new medium.Flush
-IsCauseBy Calls old new BadSuper = image.HasFault old.size old.content image.BadSuper × Calls old new
-IsCauseBy Calls old new BadVersion = image.HasFault old.size old.content image.BadVersion × Calls old new
+IsCauseBy Calls old new BadSuper = image.HasFault old.size old.content image.BadSuper
+    × Calls old new
+IsCauseBy Calls old new BadVersion = image.HasFault old.size old.content image.BadVersion
+    × Calls old new
 IsCauseBy Calls old new BadSize = image.HasFault old.size old.content image.BadSize × Calls old new
 IsCauseBy Calls old new BadHead = image.HasFault old.size old.content image.BadHead × Calls old new
 IsCauseBy Calls old new StampsUsedUp = image.HasNoStampLeft old.size old.content × Calls old new

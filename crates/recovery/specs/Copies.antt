@@ -1,5 +1,6 @@
 -- The sectors that are written, and what a cut leaves of them.
-use Rattle.std.specs.Prelude.{◌≡◌, ◌≢◌, ◌⊎◌, ℕ, ◌+◌, ◌*◌, ◌<◌, ◌≤◌, List, [], ◌∷◌, length, slice_index}
+use Rattle.std.specs.Prelude.{◌≡◌, ◌≢◌, ◌⊎◌, ℕ, ◌+◌, ◌*◌, ◌<◌, ◌≤◌, List, [], ◌∷◌, length}
+use Rattle.std.specs.Prelude.{slice_index}
 use Rattle.medium.specs.Medium.{Image, Sets, CutLeaves, Holds}
 use Rattle.log_layout.specs.declared.log_format.LogFormat.{LogFormat}
 use Rattle.log_layout.specs.declared.log_format.LogFormat.TheVariants.{One, Two}
@@ -24,16 +25,19 @@ IsBetween first end x = (first ≤ x) × (x < end)
 
 -- one of these blocks is at home in the sector
 abbrev pub IsHomeOf : Shape → List ℕ → ℕ → Type 0
-IsHomeOf shape numbers x = (i : ℕ) × (i < length numbers) × (x ≡ first_home shape + slice_index numbers i)
+IsHomeOf shape numbers x = (i : ℕ) × (i < length numbers)
+    × (x ≡ first_home shape + slice_index numbers i)
 
 -- a block of the whole record of this stamp is at home in the sector
 abbrev pub IsHomeInRecord : Shape → Image → ℕ → ℕ → Type 0
 IsHomeInRecord shape image stamp x =
-    (entries : List Entry) × IsWhole shape image stamp entries × IsHomeOf shape (numbers_of entries) x
+    (entries : List Entry) × IsWhole shape image stamp entries
+        × IsHomeOf shape (numbers_of entries) x
 
 -- a block of one of so many whole records from this stamp on is at home in the sector
 abbrev pub IsHomeInRecords : Shape → Image → ℕ → ℕ → ℕ → Type 0
-IsHomeInRecords shape image head count x = (j : ℕ) × (j < count) × IsHomeInRecord shape image (head + j) x
+IsHomeInRecords shape image head count x = (j : ℕ) × (j < count)
+    × IsHomeInRecord shape image (head + j) x
 
 -- how many calls it takes to read again what names the blocks of a record of so many, which are its
 -- descriptors and its commit, and to read and write each block

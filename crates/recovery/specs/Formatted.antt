@@ -16,8 +16,8 @@ pub record AreSizes (size : ℕ) (shape : Shape) : Type 0 where
   pub most_slots : shape.slots ≤ 64
   pub fits : sectors_of shape ≤ size
 
--- The one image that a cut may leave has these sizes, the head at stamp 1, and zeros everywhere else;
--- it is ours, for blocks of zeros, and its next stamp is 2.
+-- The one image that a cut may leave has these sizes, the head at stamp 1, and zeros everywhere
+-- else; it is ours, for blocks of zeros, and its next stamp is 2.
 pub record IsFormatted (shape : Shape) (m : State) : Type 0 where
   pub flushed : IsFlushed m
   pub super : IsSuper shape (m.content 0)
@@ -39,7 +39,8 @@ pub record FormatLeaves (shape : Shape) (old new : State) : Type 0 where
   pub cuts : LeavesOnly (IsMidFormat shape old) old new
   -- From its first good flush on, the second call, no old image is left.
   -- A third call follows a good flush only.
-  pub after_flush : old.calls + 3 ≤ new.calls → (image : Image) → new.left_since (old.calls + 2) image
+  pub after_flush : old.calls + 3 ≤ new.calls → (image : Image)
+      → new.left_since (old.calls + 2) image
       → IsNoneOrNew old.size shape image
   pub spares : SparesFrom (sectors_of shape) old new
 

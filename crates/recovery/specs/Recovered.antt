@@ -22,7 +22,8 @@ pub record IsRecoveredFrom (old new : State) (answer : Recovered) : Type 0 where
   pub stamp_left : answer.next < 2 ^ 63
   pub flushed : IsFlushed new
   pub head : IsHead answer.next (new.content 1)
-  pub home : (b : ℕ) → b < answer.sizes.blocks → new.content (first_home (shape_of answer.sizes) + b) ≡ array b
+  pub home : (b : ℕ) → b < answer.sizes.blocks
+      → new.content (first_home (shape_of answer.sizes) + b) ≡ array b
   pub elsewhere : (x : ℕ) → x ≢ 1
       → (x < first_home (shape_of answer.sizes)) ⊎ (sectors_of (shape_of answer.sizes) ≤ x)
       → new.content x ≡ old.content x
@@ -39,14 +40,16 @@ pub record IsFresh (shape : Shape) (array : Array) (next : ℕ) (image : Image) 
 
 -- the image is ours
 abbrev pub IsOursForSome : ℕ → Image → Type 0
-IsOursForSome size image = (shape : Shape) × (array : Array) × (next : ℕ) × IsOurs size shape image array next
+IsOursForSome size image = (shape : Shape) × (array : Array) × (next : ℕ)
+    × IsOurs size shape image array next
 
 -- the image is ours for this array, with this next stamp or the one behind it
 abbrev pub IsOursWithNext : ℕ → Shape → Array → ℕ → Image → Type 0
 IsOursWithNext size shape array next image =
     IsOurs size shape image array next ⊎ IsOurs size shape image array (next + 1)
 
--- the image is ours for an array that an image allowed before stood for, with its next stamp or the one behind it
+-- the image is ours for an array that an image allowed before stood for, with its next stamp or the
+-- one behind it
 pub record StandsForOneOf (old : State) (image : Image) : Type 0 where
   pub before : Image
   pub allowed : CutLeaves old.may_leave before
@@ -59,6 +62,7 @@ pub record StandsForOneOf (old : State) (image : Image) : Type 0 where
 -- The sectors behind the image are spared, and every sector where the contents stand for nothing
 -- with a stamp left.
 pub record SparesTheRest (old new : State) : Type 0 where
-  pub behind : (shape : Shape) → HasShape old.size shape old.content → SparesFrom (sectors_of shape) old new
+  pub behind : (shape : Shape) → HasShape old.size shape old.content
+      → SparesFrom (sectors_of shape) old new
   pub unserved : ((shape : Shape) (array : Array) (next : ℕ)
       → StandsFor old.size shape old.content array next → 2 ^ 63 ≤ next) → SparesFrom 0 old new

@@ -3,7 +3,8 @@ use Rattle.std.specs.Prelude.{◌≡◌, ◌<◌, ℕ, ◌+◌, ◌*◌, ◌/◌
 use Rattle.byteorder.specs.Endian.{little_bytes, little_number}
 use Rattle.medium.specs.Medium.{Image}
 use Rattle.log_layout.specs.Places.{Shape, first_home}
-use Rattle.log_layout.specs.SectorsTwo.{descriptor_mark, descriptors_of, place_bytes, entries_here, IsCommitTwo}
+use Rattle.log_layout.specs.SectorsTwo.{descriptor_mark, descriptors_of, place_bytes, entries_here}
+use Rattle.log_layout.specs.SectorsTwo.{IsCommitTwo}
 
 -- the number in the eight bytes from this place on
 unfoldable pub number_from : List ℕ → ℕ → ℕ

@@ -4,8 +4,8 @@ use Rattle.log_layout.specs.Places.{Shape, limit_of}
 use Rattle.log_layout.specs.Sectors.{IsRising}
 pub use Rattle.log_image.specs.Record.{entries_from, entries_of}
 
--- 1 to as many block numbers as a record has at most, which rise and are below the number of blocks,
--- and 512 bytes for each
+-- 1 to as many block numbers as a record has at most, which rise and are below the number of
+-- blocks, and 512 bytes for each
 pub record IsBatch (shape : Shape) (numbers bytes : List ℕ) : Type 0 where
   pub some : 1 ≤ length numbers
   pub few : length numbers ≤ limit_of shape.format

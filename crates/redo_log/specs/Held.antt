@@ -1,5 +1,6 @@
 -- What a log and its medium hold together.
-use Rattle.std.specs.Prelude.{◌≡◌, ◌⊎◌, ℕ, ◌+◌, ◌-◌, ◌≤◌, ◌<◌, List, [], ◌∷◌, ◌++◌, length, get_or, drop, map, All, Bool, true, false}
+use Rattle.std.specs.Prelude.{◌≡◌, ◌⊎◌, ℕ, ◌+◌, ◌-◌, ◌≤◌, ◌<◌, List, [], ◌∷◌, ◌++◌, length, get_or}
+use Rattle.std.specs.Prelude.{drop, map, All, Bool, true, false}
 use Rattle.medium.specs.Medium.{State, Image}
 use Rattle.medium.specs.Moments.{EachCut}
 use Rattle.medium.specs.Blocks.{Array}
@@ -145,8 +146,8 @@ made_of log = steps_of log.shape.format log.under_way - log.steps_left
 abbrev pub turned_of : LogValue → ℕ
 turned_of log = turns_home log.shape.format (length (get_or log.waiting 0 [])) + 2 - of_oldest log
 
--- The log and its medium hold this: contents always, and, where every image was ours, all that a cut
--- may leave. Of a dead log only what a cut may leave is known.
+-- The log and its medium hold this: contents always, and, where every image was ours, all that a
+-- cut may leave. Of a dead log only what a cut may leave is known.
 pub record HoldsView (log : LogValue) (m : State) (view : View) : Type 0 where
   pub fits : sectors_of log.shape ≤ m.size
   pub durable : log.waiting ≡ map numbers_of view.records

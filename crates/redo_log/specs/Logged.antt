@@ -9,7 +9,8 @@ use Rattle.log_image.specs.Formats.{layout_of, IsWhole}
 use Rattle.log_image.specs.Standing.{IsOurs}
 
 -- the image has these records whole from this stamp on, it is ours, and it stands for this array
-pub record HasRecords (size : ℕ) (shape : Shape) (head : ℕ) (records : List (List Entry)) (array : Array)
+pub record HasRecords (size : ℕ) (shape : Shape) (head : ℕ) (records : List (List Entry))
+    (array : Array)
     (image : Image) : Type 0 where
   pub whole : (j : ℕ) → j < length records → IsWhole shape image (head + j) (get_or records j [])
   pub ours : IsOurs size shape image array (head + length records + 1)
@@ -31,7 +32,8 @@ AreHome shape entries count image = (i : ℕ) → i < count → i < length entri
     → image (first_home shape + (get_or entries i (0, [])).0) ≡ (get_or entries i (0, [])).1
 
 -- these records are whole in their slots, and laid over the blocks at home they make this array
-pub record Laid (shape : Shape) (head : ℕ) (records : List (List Entry)) (array : Array) (image : Image)
+pub record Laid (shape : Shape) (head : ℕ) (records : List (List Entry)) (array : Array)
+    (image : Image)
     : Type 0 where
   pub whole : (j : ℕ) → j < length records → IsWhole shape image (head + j) (get_or records j [])
   pub blocks : (b : ℕ) → b < shape.blocks → with_records records (home_of shape image) b ≡ array b

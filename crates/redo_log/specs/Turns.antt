@@ -1,5 +1,6 @@
 -- The turns that retire a durable record.
-use Rattle.std.specs.Prelude.{◌≡◌, ℕ, ◌+◌, ◌*◌, ◌/◌, ◌%◌, ◌<◌, List, ◌++◌, length, drop, slice_index, slice_range, Option, Some, None}
+use Rattle.std.specs.Prelude.{◌≡◌, ℕ, ◌+◌, ◌*◌, ◌/◌, ◌%◌, ◌<◌, List, ◌++◌, length, drop}
+use Rattle.std.specs.Prelude.{slice_index, slice_range, Option, Some, None}
 use Rattle.medium.specs.Medium.{State, Stays, Holds, Only}
 use Rattle.medium.specs.Moments.{IsQuiet}
 use Rattle.log_layout.specs.declared.log_format.LogFormat.{LogFormat}
@@ -39,7 +40,8 @@ IsTurned (Load from) old new = Stays old.content new.content
 IsTurned (Copy from to first) old new =
     Holds to (begun_with first (old.content from)) old.content new.content
 IsTurned Flush old new = Stays old.content new.content × Only old.content new.may_leave
-IsTurned (Head bytes) old new = Holds 1 bytes old.content new.content × Only new.content new.may_leave
+IsTurned (Head bytes) old new = Holds 1 bytes old.content new.content
+    × Only new.content new.may_leave
 
 -- which bytes are kept after it
 abbrev pub kept_by : Turn → State → List ℕ → List ℕ

@@ -1,5 +1,6 @@
 -- What a caller sees of a redo log, and how its calls change that.
-use Rattle.std.specs.Prelude.{◌≡◌, ℕ, ◌+◌, ◌-◌, ◌%◌, ◌<◌, List, [], ◌∷◌, ◌++◌, length, get_or, slice_index, drop, replicate, sum_by, Contains, Bool, true, false}
+use Rattle.std.specs.Prelude.{◌≡◌, ℕ, ◌+◌, ◌-◌, ◌%◌, ◌<◌, List, [], ◌∷◌, ◌++◌, length, get_or}
+use Rattle.std.specs.Prelude.{slice_index, drop, replicate, sum_by, Contains, Bool, true, false}
 use Rattle.log_layout.specs.declared.log_format.LogFormat.{LogFormat}
 use Rattle.log_layout.specs.declared.log_format.LogFormat.TheVariants.{One, Two}
 use Rattle.log_layout.specs.Places.{Shape}
@@ -39,7 +40,8 @@ idle_from shape next = record {
   dead = false;
 }
 
--- a record may be begun: none is under way, and the stamps from the durable head's on leave a slot free
+-- a record may be begun: none is under way, and the stamps from the durable head's on leave a slot
+-- free
 pub record HasRoom (log : LogValue) : Type 0 where
   pub none_under_way : log.under_way ≡ []
   pub no_steps : log.steps_left ≡ 0
@@ -89,9 +91,11 @@ begun numbers log = record log {
 
 -- a step was made that answered so
 abbrev pub IsStepped : Progress → LogValue → LogValue → Type 0
-IsStepped More old new = (1 < old.steps_left) × (new ≡ record old { steps_left = old.steps_left - 1 })
+IsStepped More old new = (1 < old.steps_left)
+    × (new ≡ record old { steps_left = old.steps_left - 1 })
 IsStepped Durable old new = (old.steps_left ≡ 1)
-    × (new ≡ record old { under_way = []; waiting = old.waiting ++ old.under_way ∷ []; steps_left = 0 })
+    × (new ≡ record old { under_way = []; waiting = old.waiting ++ old.under_way ∷ [];
+        steps_left = 0 })
 
 -- how many retire steps are left when the oldest durable record is retired
 abbrev pub behind_oldest : LogValue → ℕ
@@ -102,7 +106,8 @@ behind_oldest log = sum_by (retire_steps_of log.shape.format) (drop 1 log.waitin
 abbrev pub of_oldest : LogValue → ℕ
 of_oldest log = log.retire_steps_left - behind_oldest log
 
--- retire steps are owed for each record that waits, and for the one under way alone where none waits
+-- retire steps are owed for each record that waits, and for the one under way alone where none
+-- waits
 pub record Owes (log : LogValue) : Type 0 where
   pub none_waits : log.waiting ≡ []
       → log.retire_steps_left ≡ retire_steps_of log.shape.format log.under_way
@@ -122,16 +127,18 @@ pub record IsRetireStepped (old new : LogValue) : Type 0 where
         kept = replicate 512 0;
       }
 
--- the slot and the place hold the newest logged copy of this block: its number stands there in a durable
--- record, and in no newer one
+-- the slot and the place hold the newest logged copy of this block: its number stands there in a
+-- durable record, and in no newer one
 pub record IsNewestCopy (log : LogValue) (block slot place : ℕ) : Type 0 where
   pub age : ℕ
   pub waits : age < length log.waiting
   pub slot_is : slot ≡ (log.head + age) % log.shape.slots
   pub inside : place < length (get_or log.waiting age [])
   pub named : slice_index (get_or log.waiting age []) place ≡ block
-  pub newest : (newer : ℕ) → age < newer → newer < length log.waiting → ¬ Contains (get_or log.waiting newer []) block
+  pub newest : (newer : ℕ) → age < newer → newer < length log.waiting
+      → ¬ Contains (get_or log.waiting newer []) block
 
 -- no durable record that is not retired has this block
 abbrev pub HasNoCopy : LogValue → ℕ → Type 0
-HasNoCopy log block = (age : ℕ) → age < length log.waiting → ¬ Contains (get_or log.waiting age []) block
+HasNoCopy log block = (age : ℕ) → age < length log.waiting
+    → ¬ Contains (get_or log.waiting age []) block

@@ -4,7 +4,8 @@ use Rattle.bot_machine.specs.declared.event.Event.{Event}
 use Rattle.bot_machine.specs.declared.event.Event.TheVariants as event
 use Rattle.bot_machine.specs.Packets.{packets_of}
 use Rattle.runner.specs.declared.line.ScriptLine.{ScriptLine}
-use Rattle.runner.specs.declared.line.ScriptLine.TheVariants.{Skipped, Out, Fill, In, Setup, Tick, Fuse, Cut}
+use Rattle.runner.specs.declared.line.ScriptLine.TheVariants.{Skipped, Out, Fill, In, Setup, Tick}
+use Rattle.runner.specs.declared.line.ScriptLine.TheVariants.{Fuse, Cut}
 
 -- a packet to Bulk-Out
 abbrev pub packet_out : List ℕ → Event

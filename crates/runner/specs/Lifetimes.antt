@@ -1,5 +1,6 @@
 -- What a script of several lives plays, and its text.
-use Rattle.std.specs.Prelude.{◌≡◌, ◌≤◌, ℕ, ◌+◌, Bool, true, false, List, [], ◌∷◌, ◌++◌, flat_map, ◌==◌}
+use Rattle.std.specs.Prelude.{◌≡◌, ◌≤◌, ℕ, ◌+◌, Bool, true, false, List, [], ◌∷◌, ◌++◌, flat_map}
+use Rattle.std.specs.Prelude.{◌==◌}
 use Rattle.std.specs.List.{list_any}
 use Rattle.medium.specs.Sim.{Sim, state_of}
 use Rattle.bot_machine.specs.StartFaults.{StartFault}
@@ -17,7 +18,8 @@ use Rattle.bot_machine.specs.declared.stage.Stage.TheVariants.{Rests}
 use Rattle.runner.specs.declared.kept.KeptWrites.{KeptWrites}
 use Rattle.runner.specs.declared.kept.KeptWrites.TheVariants as kept
 use Rattle.runner.specs.declared.line.ScriptLine.{ScriptLine}
-use Rattle.runner.specs.declared.line.ScriptLine.TheVariants.{Skipped, Out, Fill, In, Setup, Tick, Fuse, Cut}
+use Rattle.runner.specs.declared.line.ScriptLine.TheVariants.{Skipped, Out, Fill, In, Setup, Tick}
+use Rattle.runner.specs.declared.line.ScriptLine.TheVariants.{Fuse, Cut}
 use Rattle.runner.specs.Line.{Spells}
 use Rattle.runner.specs.Events.{events_of}
 use Rattle.runner.specs.Script.{InTurn, identification}
@@ -61,17 +63,19 @@ text_of_lives (arms writes ∷ actions) answers = text_of_lives actions answers
 text_of_lives (starts ∷ actions) answers = text_of_lives actions answers
 text_of_lives (cuts keeps ∷ actions) answers = text_of_lives actions answers
 text_of_lives (plays event ∷ actions) [] = []
-text_of_lives (plays event ∷ actions) (answer ∷ answers) = line_for event answer ++ text_of_lives actions answers
+text_of_lives (plays event ∷ actions) (answer ∷ answers) =
+    line_for event answer ++ text_of_lives actions answers
 
--- Each event has one answer, which is Off only behind a fuse of the same life. The truth value says that one
--- is armed before.
+-- Each event has one answer, which is Off only behind a fuse of the same life. The truth value says
+-- that one is armed before.
 abbrev pub AnswersFit : Bool → List Action → List Answer → Type 0
 AnswersFit fused [] answers = answers ≡ []
 AnswersFit fused (arms writes ∷ actions) answers = AnswersFit true actions answers
 AnswersFit fused (starts ∷ actions) answers = AnswersFit fused actions answers
 AnswersFit fused (cuts keeps ∷ actions) answers = AnswersFit false actions answers
 AnswersFit fused (plays event ∷ actions) [] = ⊥
-AnswersFit fused (plays event ∷ actions) (answer ∷ answers) = (answer ≡ Off → fused ≡ true) × AnswersFit fused actions answers
+AnswersFit fused (plays event ∷ actions) (answer ∷ answers) = (answer ≡ Off → fused ≡ true)
+    × AnswersFit fused actions answers
 
 -- whether a fuse is armed after these actions
 abbrev pub fused_after : Bool → List Action → Bool

@@ -1,8 +1,10 @@
 -- What one line of a script asks for.
-use Rattle.std.specs.Prelude.{◌≡◌, ◌⊎◌, ◌<◌, ◌≤◌, ℕ, List, [], ◌∷◌, ◌++◌, All, length, map, codes, decimal, Ok}
+use Rattle.std.specs.Prelude.{◌≡◌, ◌⊎◌, ◌<◌, ◌≤◌, ℕ, List, [], ◌∷◌, ◌++◌, All, length, map, codes}
+use Rattle.std.specs.Prelude.{decimal, Ok}
 use Rattle.hex.specs.Hex.{decode_of}
 use Rattle.runner.specs.declared.line.ScriptLine.{ScriptLine}
-use Rattle.runner.specs.declared.line.ScriptLine.TheVariants.{Skipped, Out, Fill, In, Setup, Tick, Fuse, Cut}
+use Rattle.runner.specs.declared.line.ScriptLine.TheVariants.{Skipped, Out, Fill, In, Setup, Tick}
+use Rattle.runner.specs.declared.line.ScriptLine.TheVariants.{Fuse, Cut}
 use Rattle.runner.specs.declared.line.ScriptKind.{ScriptKind}
 use Rattle.runner.specs.declared.line.ScriptKind.TheVariants.{OneLife, Lives}
 use Rattle.runner.specs.declared.kept.KeptWrites.{KeptWrites}
@@ -56,7 +58,8 @@ pub record SpellsNumbers (text numbers : List ℕ) : Type 0 where
 abbrev pub SpellsCut : List ℕ → KeptWrites → Type 0
 SpellsCut line kept.None = line ≡ codes "cut none"
 SpellsCut line kept.All = line ≡ codes "cut all"
-SpellsCut line (kept.These numbers) = (text : List ℕ) × (line ≡ codes "cut " ++ text) × SpellsNumbers text numbers.items
+SpellsCut line (kept.These numbers) = (text : List ℕ) × (line ≡ codes "cut " ++ text)
+    × SpellsNumbers text numbers.items
 
 -- the line spells what it asks for
 abbrev pub Spells : List ℕ → ScriptLine → Type 0

@@ -3,7 +3,8 @@ use Rattle.std.specs.Prelude.{ℕ, List, [], ◌==◌, Option, Some, None}
 use Rattle.std.specs.Borrow.{Bor}
 use Rattle.std.specs.List.{slice_split}
 
--- the parts between one separator and the next; what stands after the last one is a part too, perhaps an empty one
+-- the parts between one separator and the next; what stands after the last one is a part too,
+-- perhaps an empty one
 abbrev pub parts_of : ℕ → List ℕ → List (List ℕ)
 parts_of separator bytes = slice_split (λ byte. byte == separator) bytes
 

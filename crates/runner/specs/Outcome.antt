@@ -7,7 +7,8 @@ use Rattle.bot_machine.specs.declared.event.Answer.{Answer}
 use Rattle.bot_machine.specs.Opening.{IsNotOpened, StartLeaves}
 use Rattle.bot_machine.specs.StartFaults.{StartFault}
 use Rattle.runner.specs.declared.fault.ScriptFault.{ScriptFault}
-use Rattle.runner.specs.declared.fault.ScriptFault.TheVariants.{Line, TooLong, Start, NoMemory, Reader, Writer}
+use Rattle.runner.specs.declared.fault.ScriptFault.TheVariants.{Line, TooLong, Start, NoMemory}
+use Rattle.runner.specs.declared.fault.ScriptFault.TheVariants.{Reader, Writer}
 use Rattle.runner.specs.declared.line.ScriptKind.{ScriptKind}
 use Rattle.runner.specs.declared.line.ScriptKind.TheVariants.{OneLife}
 use Rattle.runner.specs.Line.{IsScriptLine}
@@ -48,8 +49,10 @@ HasTaken NoMemory was now = IsReadSoFar read.NoMemory script_limit was now
 HasTaken Reader was now = IsReadSoFar read.Reader script_limit was now
 HasTaken Writer was now = IsAtEnd now
 
-module _ {M : Type 0} (state : M → State) (left : Option (List ℕ)) (was now : Option (List ℕ)) (medium : M) where
-  -- the script was played whole: exactly the text of the answers in a life of its events was appended
+module _ {M : Type 0} (state : M → State) (left : Option (List ℕ)) (was now : Option (List ℕ))
+    (medium : M) where
+  -- the script was played whole: exactly the text of the answers in a life of its events was
+  -- appended
   pub record IsPlayed (after : M) : Type 0 where
     pub script : List ℕ
     pub read : IsRead left script
@@ -90,7 +93,8 @@ module _ {M : Type 0} (state : M → State) (left : Option (List ℕ)) (was now 
   -- why a script was refused, and what was written then
   abbrev pub IsRefused : ScriptFault → M → Type 0
   IsRefused (Line number) back = IsUntouched medium back was now × HasBadLine OneLife left number
-  IsRefused TooLong back = IsUntouched medium back was now × IfSome left (λ all. script_limit < length all)
+  IsRefused TooLong back = IsUntouched medium back was now
+      × IfSome left (λ all. script_limit < length all)
   IsRefused (Start fault) back = IsNotStarted fault back
   IsRefused NoMemory back = IsUntouched medium back was now
   IsRefused Reader back = IsUntouched medium back was now

@@ -7,7 +7,8 @@ use Rattle.bot_machine.specs.declared.event.Event.{Event}
 use Rattle.bot_machine.specs.declared.event.Answer.{Answer}
 use Rattle.bot_machine.specs.Lives.{Action, starts, plays}
 use Rattle.runner.specs.declared.fault.ScriptFault.{ScriptFault}
-use Rattle.runner.specs.declared.fault.ScriptFault.TheVariants.{Line, TooLong, Start, NoMemory, Reader, Writer}
+use Rattle.runner.specs.declared.fault.ScriptFault.TheVariants.{Line, TooLong, Start, NoMemory}
+use Rattle.runner.specs.declared.fault.ScriptFault.TheVariants.{Reader, Writer}
 use Rattle.runner.specs.declared.line.ScriptKind.TheVariants.{Lives}
 use Rattle.runner.specs.Lifetimes.{LineActs, Acts, AreLives, AreStopped, text_of_lives}
 use Rattle.runner.specs.Lines.{lines_of}
@@ -17,7 +18,8 @@ use Rattle.runner.specs.Streams.{AppendsUpTo}
 use Rattle.runner.specs.Text.{line_for}
 
 module _ (left was now : Option (List ℕ)) (medium : Sim) where
-  -- the script was played whole: exactly the text of the answers in lives of its actions was appended
+  -- the script was played whole: exactly the text of the answers in lives of its actions was
+  -- appended
   pub record ArePlayed (after : Sim) : Type 0 where
     pub script : List ℕ
     pub read : IsRead left script
@@ -58,7 +60,8 @@ module _ (left was now : Option (List ℕ)) (medium : Sim) where
   -- why a script was refused, and what was written then
   abbrev pub AreRefused : ScriptFault → Sim → Type 0
   AreRefused (Line number) back = IsUntouched medium back was now × HasBadLine Lives left number
-  AreRefused TooLong back = IsUntouched medium back was now × IfSome left (λ all. script_limit < length all)
+  AreRefused TooLong back = IsUntouched medium back was now
+      × IfSome left (λ all. script_limit < length all)
   AreRefused (Start fault) back = AreRefusedAStart fault back
   AreRefused NoMemory back = IsUntouched medium back was now
   AreRefused Reader back = IsUntouched medium back was now

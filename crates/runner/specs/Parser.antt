@@ -22,12 +22,14 @@ format_app =
 
 -- `run` or `sim`
 abbrev pub script_app : List ℕ → App
-script_app verb = with_rule (with_rule (new_app verb) (word_rule (codes "IMAGE"))) (word_rule (codes "SCRIPT"))
+script_app verb =
+    with_rule (with_rule (new_app verb) (word_rule (codes "IMAGE"))) (word_rule (codes "SCRIPT"))
 
 -- the program with no subcommand yet
 abbrev pub bare_app : App
 bare_app = record (new_app (codes "usbdisk")) {
-  top = record (new_app (codes "usbdisk")).top { no_binary_name = true; subcommand_required = true };
+  top = record (new_app (codes "usbdisk")).top
+      { no_binary_name = true; subcommand_required = true };
 }
 
 abbrev pub usbdisk_app : App

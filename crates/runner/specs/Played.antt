@@ -12,17 +12,20 @@ use Rattle.runner.specs.Text.{line_for, text_of}
 
 -- Over each book that it fits a disk played these events with these answers. The truth values say
 -- in which of them the medium refused a call.
-pub record Answers {M : Type 0} (before after : State) (old : DiskValue M) (events : List Event) (answers : List Answer)
+pub record Answers {M : Type 0} (before after : State) (old : DiskValue M) (events : List Event)
+    (answers : List Answer)
     (refusals : List Bool) (new : DiskValue M) : Type 0 where
   pub one_each : length answers ≡ length events
   pub refused : refused_events refusals + before.failures ≤ after.failures
   pub size_stays : after.size ≡ before.size
   pub runs : (book : Book) → FitsDisk before old book
-      → (later : Book) × UnitRun (over old book) events answers refusals (over new later) × FitsDisk after new later
+      → (later : Book) × UnitRun (over old book) events answers refusals (over new later)
+          × FitsDisk after new later
       × (later.ours ≡ book.ours)
 
 -- it played them step by step, with answers of this text
-pub record Tells {M : Type 0} (state : M → State) (old : DiskValue M) (events : List Event) (text : List ℕ) (new : DiskValue M)
+pub record Tells {M : Type 0} (state : M → State) (old : DiskValue M) (events : List Event)
+    (text : List ℕ) (new : DiskValue M)
     : Type 0 where
   pub answers : List Answer
   pub refusals : List Bool
@@ -30,7 +33,8 @@ pub record Tells {M : Type 0} (state : M → State) (old : DiskValue M) (events 
   pub told : text ≡ text_of events answers
 
 -- it did, and left this medium
-pub record Leaves {M : Type 0} (state : M → State) (old : DiskValue M) (events : List Event) (text : List ℕ)
+pub record Leaves {M : Type 0} (state : M → State) (old : DiskValue M) (events : List Event)
+    (text : List ℕ)
     (after : M) : Type 0 where
   pub new : DiskValue M
   pub tells : Tells state old events text new

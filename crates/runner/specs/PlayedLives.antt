@@ -8,7 +8,8 @@ use Rattle.bot_machine.specs.declared.event.Answer.{Answer}
 use Rattle.bot_machine.specs.Lives.{Action, starts, plays}
 use Rattle.bot_machine.specs.LivesValue.{LivesValue, LivesGoOn, IsRefused, medium_in}
 use Rattle.runner.specs.declared.fault.ScriptFault.{ScriptFault}
-use Rattle.runner.specs.declared.fault.ScriptFault.TheVariants.{Line, TooLong, Start, NoMemory, Reader, Writer}
+use Rattle.runner.specs.declared.fault.ScriptFault.TheVariants.{Line, TooLong, Start, NoMemory}
+use Rattle.runner.specs.declared.fault.ScriptFault.TheVariants.{Reader, Writer}
 use Rattle.runner.specs.Lifetimes.{LineActs, Acts, AnswersFit, fused_after, text_of_lives}
 use Rattle.runner.specs.Script.{StopsAt}
 use Rattle.runner.specs.Streams.{AppendsUpTo}
@@ -16,10 +17,12 @@ use Rattle.runner.specs.Text.{line_for}
 
 -- where this says that no fuse is armed, none is, and the power is on
 abbrev pub FuseIs : Bool → LivesValue → Type 0
-FuseIs fused lives = fused ≡ false → ((medium_in lives.stage).power.fuse ≡ None) × ((medium_in lives.stage).power.off ≡ false)
+FuseIs fused lives = fused ≡ false → ((medium_in lives.stage).power.fuse ≡ None)
+    × ((medium_in lives.stage).power.off ≡ false)
 
 -- lives went on by these actions, with these answers, one an event
-pub record Acted (old : LivesValue) (actions : List Action) (answers : List Answer) (new : LivesValue) : Type 0 where
+pub record Acted (old : LivesValue) (actions : List Action) (answers : List Answer)
+    (new : LivesValue) : Type 0 where
   pub goes_on : LivesGoOn old actions answers new
   pub fits : (fused : Bool) → FuseIs fused old → AnswersFit fused actions answers
   pub fuse : (fused : Bool) → FuseIs fused old → FuseIs (fused_after fused actions) new
@@ -60,7 +63,8 @@ module _ (was now : Option (List ℕ)) (old : LivesValue) where
   EndsBy actions answers last new Reader = ⊥
 
   -- the first of these actions were done, and at the next one lives ended for a fault
-  pub record BreaksOff (actions : List Action) (new : LivesValue) (fault : ScriptFault) : Type 0 where
+  pub record BreaksOff (actions : List Action) (new : LivesValue) (fault : ScriptFault)
+      : Type 0 where
     pub first : List Action
     pub last : Action
     pub rest : List Action

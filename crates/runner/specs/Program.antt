@@ -45,7 +45,8 @@ simulated image = record {
 
 -- a file was not read, or was no image, or there was no memory for it
 abbrev pub IsUnread : Refusal → Type 0
-IsUnread refusal = (refusal ≡ refused.ImageLength) ⊎ ((refusal ≡ refused.File) ⊎ (refusal ≡ refused.NoMemory))
+IsUnread refusal = (refusal ≡ refused.ImageLength)
+    ⊎ ((refusal ≡ refused.File) ⊎ (refusal ≡ refused.NoMemory))
 
 module _ (was now : Option (List ℕ)) where
   -- an image file of this format and these sizes was made, and exactly this was appended
@@ -76,15 +77,17 @@ module _ (was now : Option (List ℕ)) where
   HasDone words = (
       (image : List ℕ) × (format : LogFormat) × (blocks : ℕ) × (slots : ℕ)
       × AreFormatWords words image format blocks slots × IsFormat format blocks slots)
-      ⊎ ((IsScriptCommand (codes "run") words × IsRun) ⊎ (IsScriptCommand (codes "sim") words × IsSim))
+      ⊎ ((IsScriptCommand (codes "run") words × IsRun)
+          ⊎ (IsScriptCommand (codes "sim") words × IsSim))
 
-  -- No image file was made: the sizes are out of their limits. Or they are not, and there was no memory, or a file failed, the output
-  -- perhaps.
+  -- No image file was made: the sizes are out of their limits. Or they are not, and there was no
+  -- memory, or a file failed, the output perhaps.
   abbrev pub IsFormatRefused : LogFormat → ℕ → ℕ → Refusal → Type 0
   IsFormatRefused format blocks slots refusal =
       ((refusal ≡ refused.ImageSize) × (¬ AreImageSizes format blocks slots) × Keeps was now)
       ⊎ ((¬ (¬ AreImageSizes format blocks slots))
-      × (((refusal ≡ refused.NoMemory) × Keeps was now) ⊎ ((refusal ≡ refused.File) × AppendsSome was now (ended (codes "formatted")))))
+      × (((refusal ≡ refused.NoMemory) × Keeps was now)
+          ⊎ ((refusal ≡ refused.File) × AppendsSome was now (ended (codes "formatted")))))
 
   -- a script on an image file was refused, and this is why
   pub record IsPlayRefused (refusal : Refusal) : Type 0 where
@@ -119,9 +122,12 @@ module _ (was now : Option (List ℕ)) where
       ((image : List ℕ) × (format : LogFormat) × (blocks : ℕ) × (slots : ℕ)
       × AreFormatWords words image format blocks slots
       × IsFormatRefused format blocks slots refusal)
-      ⊎ ((IsScriptCommand (codes "run") words × IsRunRefused refusal) ⊎ (IsScriptCommand (codes "sim") words × IsSimRefused refusal))
+      ⊎ ((IsScriptCommand (codes "run") words × IsRunRefused refusal)
+          ⊎ (IsScriptCommand (codes "sim") words × IsSimRefused refusal))
 
-  -- why words were refused: there was no memory to read them; or they are no command line; or what they ask for was not done
+  -- why words were refused: there was no memory to read them; or they are no command line; or what
+  -- they ask for was not done
   abbrev pub IsRefusedFor : List (List ℕ) → Refusal → Type 0
   IsRefusedFor words refusal = ((refusal ≡ refused.NoMemory) × Keeps was now)
-      ⊎ (((refusal ≡ refused.Words) × (¬ IsCommandLine words) × Keeps was now) ⊎ HasNotDone words refusal)
+      ⊎ (((refusal ≡ refused.Words) × (¬ IsCommandLine words) × Keeps was now)
+          ⊎ HasNotDone words refusal)

@@ -34,7 +34,8 @@ pub record LinePlays (line : List ℕ) (events : List Event) : Type 0 where
 abbrev pub InTurn : {A : Type 0} → (List ℕ → List A → Type 0) → List (List ℕ) → List A → Type 0
 InTurn LineGives [] all = all ≡ []
 InTurn {A} LineGives (line ∷ lines) all =
-    (first : List A) × (rest : List A) × LineGives line first × InTurn LineGives lines rest × (all ≡ first ++ rest)
+    (first : List A) × (rest : List A) × LineGives line first × InTurn LineGives lines rest
+        × (all ≡ first ++ rest)
 
 -- Lines give in turn up to one thing, at one line: the lines before that line give the first of
 -- all, the line gives this part of its own and then the last thing; what the line gives behind that
@@ -89,11 +90,13 @@ pub record IsLeftBy {M : Type 0} (state : M → State) (medium : M) (events : Li
   pub steps : StepsThrough state first events answers refusals last
   pub left : back ≡ last.unit.store.medium
 
--- A life of a disk: its events and their answers, from a start on a medium in one state until the medium is in another. The disk
--- opens with the array and the next stamp for which the contents stood, and the answers are by the rules of the unit; in some events
--- the medium refused a call, whatever the premise. Where every image that a cut could leave was ours, each one that a cut may leave
--- afterwards stands for accepted writes, all promised ones among them.
-pub record IsLife (before after : State) (events : List Event) (answers : List Answer) : Type 0 where
+-- A life of a disk: its events and their answers, from a start on a medium in one state until the
+-- medium is in another. The disk opens with the array and the next stamp for which the contents
+-- stood, and the answers are by the rules of the unit; in some events the medium refused a call,
+-- whatever the premise. Where every image that a cut could leave was ours, each one that a cut may
+-- leave afterwards stands for accepted writes, all promised ones among them.
+pub record IsLife (before after : State) (events : List Event) (answers : List Answer)
+    : Type 0 where
   pub shape : Shape
   pub array : Array
   pub next : ℕ

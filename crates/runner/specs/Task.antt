@@ -39,7 +39,8 @@ pub record AreFormatWords (words : List (List ℕ)) (image : List ℕ) (format :
   pub format_is : IsEnding ending format
 
 -- `run` or `sim`, a word for the image and one for the script
-pub record AreScriptWords (verb : List ℕ) (words : List (List ℕ)) (image script : List ℕ) : Type 0 where
+pub record AreScriptWords (verb : List ℕ) (words : List (List ℕ)) (image script : List ℕ)
+    : Type 0 where
   pub words_are : words ≡ verb ∷ image ∷ script ∷ []
   pub image_word : IsFileWord image
   pub script_word : IsFileWord script
@@ -58,7 +59,9 @@ IsFormatLine words =
     × AreFormatWords words image format blocks slots
 
 abbrev pub IsScriptCommand : List ℕ → List (List ℕ) → Type 0
-IsScriptCommand verb words = (image : List ℕ) × (script : List ℕ) × AreScriptWords verb words image script
+IsScriptCommand verb words = (image : List ℕ) × (script : List ℕ)
+    × AreScriptWords verb words image script
 
 abbrev pub IsCommandLine : List (List ℕ) → Type 0
-IsCommandLine words = IsFormatLine words ⊎ (IsScriptCommand (codes "run") words ⊎ IsScriptCommand (codes "sim") words)
+IsCommandLine words = IsFormatLine words
+    ⊎ (IsScriptCommand (codes "run") words ⊎ IsScriptCommand (codes "sim") words)

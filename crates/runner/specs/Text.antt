@@ -4,7 +4,8 @@ use Rattle.hex.specs.Hex.{encode_lower}
 use Rattle.bot_machine.specs.declared.event.Event.{Event}
 use Rattle.bot_machine.specs.declared.event.Event.TheVariants.{Tick}
 use Rattle.bot_machine.specs.declared.event.Answer.{Answer}
-use Rattle.bot_machine.specs.declared.event.Answer.TheVariants.{Ack, Nak, Stall, Data, Byte, Two, Ticked, Off}
+use Rattle.bot_machine.specs.declared.event.Answer.TheVariants.{Ack, Nak, Stall, Data, Byte, Two}
+use Rattle.bot_machine.specs.declared.event.Answer.TheVariants.{Ticked, Off}
 
 -- a text and a line feed
 abbrev pub ended : List ℕ → List ℕ

@@ -1,5 +1,6 @@
 -- What the parts of carrying out a command do, before its sense is kept.
-use Rattle.std.specs.Prelude.{◌≡◌, ◌≤◌, ℕ, true, false, List, [], Some, None, Result, Ok, Err, is_ok}
+use Rattle.std.specs.Prelude.{◌≡◌, ◌≤◌, ℕ, true, false, List, [], Some, None, Result, Ok, Err}
+use Rattle.std.specs.Prelude.{is_ok}
 use Rattle.medium.specs.Medium.{State}
 use Rattle.medium.specs.Moments.{LeavesOnly}
 use Rattle.blocks.specs.Book.{Book}

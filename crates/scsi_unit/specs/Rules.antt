@@ -128,7 +128,8 @@ intention unit block =
 
 -- ---- the table of commands, where the medium refuses nothing and stamps are left
 
--- what a command does: the data that it sends or the sense with which it fails, and the unit after it
+-- what a command does: the data that it sends or the sense with which it fails, and the unit after
+-- it
 pub record Effect : Type 0 where
   pub answer : Result (List ℕ) Sense
   pub after : UnitState

@@ -1,5 +1,6 @@
 -- What carrying out a command does to a unit over its medium, and to each book that the unit fits.
-use Rattle.std.specs.Prelude.{◌≡◌, ◌⊎◌, ℕ, ◌<◌, ◌≤◌, ◌+◌, nat_lt, ◌&&◌, ◌||◌, not, Bool, true, false}
+use Rattle.std.specs.Prelude.{◌≡◌, ◌⊎◌, ℕ, ◌<◌, ◌≤◌, ◌+◌, nat_lt, ◌&&◌, ◌||◌, not, Bool, true}
+use Rattle.std.specs.Prelude.{false}
 use Rattle.std.specs.Prelude.{List, [], Option, Some, None, Result, Ok, Err, is_ok, if◌then◌else◌}
 use Rattle.medium.specs.Medium.{State}
 use Rattle.medium.specs.Moments.{LeavesOnly}
@@ -107,7 +108,8 @@ IsFinished true old new =
 pub record IsWrittenThrough (durable : Bool) (transfer : Transfer) (old new : Cached) : Type 0 where
   pub mid : Cached
   pub turns : TurnsBatches old mid transfer.address transfer.count
-  pub takes : TakesRange (transfer_limit old) (active_of old) transfer.address transfer.count (active_of mid)
+  pub takes : TakesRange (transfer_limit old) (active_of old) transfer.address transfer.count
+      (active_of mid)
   pub finishes : IsFinished durable mid new
 
 -- the same after a WRITE that moves blocks or none

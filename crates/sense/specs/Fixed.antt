@@ -1,7 +1,8 @@
 -- Sense data in fixed format (SPC-4 4.5.3).
 use Rattle.std.specs.Prelude.{ℕ, List, [], ◌∷◌}
 use Rattle.sense.specs.declared.codes.SenseKey.{SenseKey}
-use Rattle.sense.specs.declared.codes.SenseKey.TheVariants.{NoSense, MediumError, HardwareError, IllegalRequest, UnitAttention}
+use Rattle.sense.specs.declared.codes.SenseKey.TheVariants.{NoSense, MediumError, HardwareError}
+use Rattle.sense.specs.declared.codes.SenseKey.TheVariants.{IllegalRequest, UnitAttention}
 use Rattle.sense.specs.declared.codes.Sense.{Sense}
 
 -- the sense key as a number

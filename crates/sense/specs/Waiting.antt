@@ -1,5 +1,6 @@
 -- The sense that a logical unit keeps for REQUEST SENSE, and its pending unit attention.
-use Rattle.std.specs.Prelude.{◌==◌, ◌&&◌, Bool, true, false, Option, Some, None, if◌then◌else◌, is_some}
+use Rattle.std.specs.Prelude.{◌==◌, ◌&&◌, Bool, true, false, Option, Some, None, if◌then◌else◌}
+use Rattle.std.specs.Prelude.{is_some}
 use Rattle.sense.specs.declared.codes.Sense.{Sense}
 use Rattle.sense.specs.Codes.{no_sense, power_on_or_reset_occurred}
 use Rattle.sense.specs.Fixed.{key_number}
@@ -11,12 +12,14 @@ pub record Waiting : Type 0 where
 
 -- the sense is 6/29/00, that a power on or reset occurred
 abbrev pub reports_reset : Sense → Bool
-reports_reset sense = (key_number sense.key == 0x6) && (sense.code == 0x29) && (sense.qualifier == 0x00)
+reports_reset sense =
+    (key_number sense.key == 0x6) && (sense.code == 0x29) && (sense.qualifier == 0x00)
 
 -- a command failed with a sense: it is kept, and 6/29/00 ends the unit attention
 abbrev pub after_failure : Sense → Waiting → Waiting
 after_failure sense waiting =
-    record { sense = Some sense; attention = (if reports_reset sense then false else waiting.attention) }
+    record { sense = Some sense;
+        attention = (if reports_reset sense then false else waiting.attention) }
 
 -- what REQUEST SENSE reports: the kept sense, else the pending unit attention, else no sense
 abbrev pub reported_of : Option Sense → Bool → Sense
@@ -29,4 +32,5 @@ reported waiting = reported_of waiting.sense waiting.attention
 
 -- what then waits on: a unit attention behind a kept sense, else nothing
 abbrev pub after_report : Waiting → Waiting
-after_report waiting = record { sense = None; attention = is_some waiting.sense && waiting.attention }
+after_report waiting =
+    record { sense = None; attention = is_some waiting.sense && waiting.attention }

@@ -1,9 +1,11 @@
 -- The thirteen cases of the bulk-only transport: the table, and the rules that it follows.
-use Rattle.std.specs.Prelude.{◌≡◌, ◌<◌, ◌≤◌, ◌⊎◌, ◌↔◌, ⊤, ℕ, ◌+◌, ◌-◌, nat_le, true, false, IsTrue, if◌then◌else◌, Some, None}
+use Rattle.std.specs.Prelude.{◌≡◌, ◌<◌, ◌≤◌, ◌⊎◌, ◌↔◌, ⊤, ℕ, ◌+◌, ◌-◌, nat_le, true, false, IsTrue}
+use Rattle.std.specs.Prelude.{if◌then◌else◌, Some, None}
 use Rattle.wrappers.specs.declared.way.Way.{Way}
 use Rattle.wrappers.specs.declared.way.Way.TheVariants.{Nothing, In, Out}
 use Rattle.wrappers.specs.declared.case.Case.{Case}
-use Rattle.wrappers.specs.declared.case.Case.TheVariants.{C1, C2, C3, C4, C5, C6, C7, C8, C9, C10, C11, C12, C13}
+use Rattle.wrappers.specs.declared.case.Case.TheVariants.{C1, C2, C3, C4, C5, C6, C7, C8, C9, C10}
+use Rattle.wrappers.specs.declared.case.Case.TheVariants.{C11, C12, C13}
 use Rattle.wrappers.specs.declared.case.Endpoint.TheVariants as endpoint
 use Rattle.wrappers.specs.declared.case.Outcome.{Outcome}
 

@@ -1,5 +1,6 @@
 -- Command block wrappers, as bytes.
-use Rattle.std.specs.Prelude.{◌≡◌, ◌≢◌, ◌≤◌, ◌<◌, ◌%◌, ℕ, List, [], ◌∷◌, length, take, drop, slice_index}
+use Rattle.std.specs.Prelude.{◌≡◌, ◌≢◌, ◌≤◌, ◌<◌, ◌%◌, ℕ, List, [], ◌∷◌, length, take, drop}
+use Rattle.std.specs.Prelude.{slice_index}
 use Rattle.byteorder.specs.Endian.{little_number}
 use Rattle.wrappers.specs.declared.way.Way.{Way}
 use Rattle.wrappers.specs.declared.way.Way.TheVariants.{Nothing, In, Out}
