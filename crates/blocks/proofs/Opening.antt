@@ -13,7 +13,7 @@ use Rattle.log_image.proofs.FaultLaws.{HasFault-stands}
 use Rattle.recovery.specs.Causes.{IsCause}
 use Rattle.recovery.specs.Recovered.{IsOursForSome, StandsForOneOf}
 use Rattle.recovery.specs.declared.start_fault.StartFault.{StartFault}
-use Rattle.recovery.specs.declared.start_fault.StartFault.TheVariants.{NoMemory, Read, Write as WriteFault, Flush, BadSuper, BadVersion, BadSize, BadHead, StampsUsedUp}
+use Rattle.recovery.specs.declared.start_fault.StartFault.TheVariants.{NoMemory, Read, Write as WriteFault, Flush, BadSuper, BadVersion, BadSize, BadHead, StampsUsedUp, LogTooSmall}
 use Rattle.blocks.specs.Book.{Book, Same, after_first, opened, with_write}
 use Rattle.blocks.specs.Finding.{StandsAs, MayFind, FoundWith}
 use Rattle.blocks.specs.StoreValue.{Cached, layout_of, blocks_of, FitsBook}
@@ -159,3 +159,4 @@ module _ (before after : State) (book : Book) (on : OpensOn before book) where
   is_cause_for BadSize h = cause_of BadSize (λ c. no_fault image.BadSize c.0) (λ e. absurd (cc e)) h
   is_cause_for BadHead h = cause_of BadHead (λ c. no_fault image.BadHead c.0) (λ e. absurd (cc e)) h
   is_cause_for StampsUsedUp h = cause_of StampsUsedUp (λ c. used_up c.0) (λ e. absurd (cc e)) h
+  is_cause_for LogTooSmall h = cause_of LogTooSmall (λ c. c) (λ e. absurd (cc e)) h

@@ -14,6 +14,7 @@ pub use Rattle.recovery.specs.declared.start_fault.StartFault.TheVariants.{Flush
 pub use Rattle.recovery.specs.declared.start_fault.StartFault.TheVariants.{BadSuper, BadVersion}
 pub use Rattle.recovery.specs.declared.start_fault.StartFault.TheVariants.{BadSize, BadHead}
 pub use Rattle.recovery.specs.declared.start_fault.StartFault.TheVariants.{StampsUsedUp}
+pub use Rattle.recovery.specs.declared.start_fault.StartFault.TheVariants.{LogTooSmall}
 use Rattle.blocks.specs.Book.{Book, opened}
 
 -- the image has as many blocks as the book, in some shape, and stands for them and the next stamp
@@ -42,3 +43,4 @@ IsCauseFor book before after BadVersion = ⊥
 IsCauseFor book before after BadSize = ⊥
 IsCauseFor book before after BadHead = ⊥
 IsCauseFor book before after StampsUsedUp = 2 ^ 63 ≤ book.stamp
+IsCauseFor book before after LogTooSmall = ⊥

@@ -6,7 +6,7 @@ use Rattle.medium.specs.Sim.{Sim, state_of, ComesAfter}
 use Rattle.medium.specs.SimLaws.{is_sound}
 use Rattle.medium.proofs.Moments.{at_exit}
 use Rattle.medium.proofs.Keeping.{none_flushed}
-use Rattle.scsi_unit.specs.StartFaults.{StartFault, NoMemory, Read, Write, Flush, BadSuper, BadVersion, BadSize, BadHead, StampsUsedUp}
+use Rattle.scsi_unit.specs.StartFaults.{StartFault, NoMemory, Read, Write, Flush, BadSuper, BadVersion, BadSize, BadHead, StampsUsedUp, LogTooSmall}
 use Rattle.scsi_unit.specs.Identification.{Identification}
 use Rattle.scsi_unit.specs.Books.{Book, MayFind, opened}
 use Rattle.scsi_unit.specs.Starting.{Stands, IsCauseFor, blocks_of}
@@ -55,6 +55,7 @@ counted before after book BadVersion h = h
 counted before after book BadSize h = h
 counted before after book BadHead h = h
 counted before after book StampsUsedUp h = h
+counted before after book LogTooSmall h = h
 
 -- ---- where lives stand after a start
 

@@ -3,7 +3,7 @@ use Rattle.std.proofs.Common.{◌≡◌, ℕ, ◌+◌, ◌≤◌, Bool, true, fa
 use Rattle.std.proofs.lemmas.List.{append-nil}
 use Rattle.scsi_unit.specs.Identification.{Identification}
 use Rattle.scsi_unit.specs.StartFaults.{StartFault}
-use Rattle.scsi_unit.specs.StartFaults.{NoMemory, Read, Write, Flush, BadSuper, BadVersion, BadSize, BadHead, StampsUsedUp}
+use Rattle.scsi_unit.specs.StartFaults.{NoMemory, Read, Write, Flush, BadSuper, BadVersion, BadSize, BadHead, StampsUsedUp, LogTooSmall}
 use Rattle.scsi_unit.specs.Books.{Book}
 use Rattle.bot_machine.specs.declared.event.Answer.{Answer}
 use Rattle.bot_machine.specs.Answers.{Room}
@@ -117,6 +117,7 @@ module _ (a b c : LivesValue) (xs ys : List Action) (told more : List Answer) (f
       causes book BadSize failures h = h
       causes book BadHead failures h = h
       causes book StampsUsedUp failures h = h
+      causes book LogTooSmall failures h = h
 
       goes : (here : Standing) → FitsLives a here → LivesStopAt c here (xs ++ ys) (told ++ more) (first.refusals ++ next.refusals)
           (refused_events (first.refusals ++ next.refusals) + (state_in a.stage).failures) fault

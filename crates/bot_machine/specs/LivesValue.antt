@@ -5,6 +5,7 @@ use Rattle.medium.specs.Moments.{EachCut}
 use Rattle.medium.specs.Sim.{Sim, state_of}
 use Rattle.scsi_unit.specs.StartFaults.{StartFault, NoMemory, Read, Write, Flush}
 use Rattle.scsi_unit.specs.StartFaults.{BadSuper, BadVersion, BadSize, BadHead, StampsUsedUp}
+use Rattle.scsi_unit.specs.StartFaults.{LogTooSmall}
 use Rattle.scsi_unit.specs.Starting.{Stands}
 -- the limit of a disk is that of the image that it starts on
 pub use Rattle.scsi_unit.specs.Starting.{HasLimit}
@@ -136,6 +137,7 @@ MayRefuse book counted failures BadVersion = ⊥
 MayRefuse book counted failures BadSize = ⊥
 MayRefuse book counted failures BadHead = ⊥
 MayRefuse book counted failures StampsUsedUp = 2 ^ 63 ≤ book.stamp
+MayRefuse book counted failures LogTooSmall = ⊥
 
 -- from one standing, by actions and their answers, to one from where the next start was refused
 pub record LivesStopAt (after : LivesValue) (here : Standing) (actions : List Action)

@@ -16,7 +16,7 @@ use Rattle.recovery.specs.Causes.{IsRefusedCall, MakesReadsAlone, WritesNothing,
 use Rattle.recovery.specs.Recovered.{IsRecoveredFrom}
 use Rattle.recovery.specs.declared.recovered.Recovered.{Recovered}
 use Rattle.recovery.specs.declared.start_fault.StartFault.{StartFault}
-use Rattle.recovery.specs.declared.start_fault.StartFault.TheVariants.{NoMemory, Read, Write, Flush, BadSuper, BadVersion, BadSize, BadHead, StampsUsedUp}
+use Rattle.recovery.specs.declared.start_fault.StartFault.TheVariants.{NoMemory, Read, Write, Flush, BadSuper, BadVersion, BadSize, BadHead, StampsUsedUp, LogTooSmall}
 
 module _ (old mid new : State) {result : Result (Unit {0}) MediumFault} (flush : Passes medium.Flush result old mid) (quiet : IsQuiet old mid) (reads : MakesReadsAlone mid new) where
   same : mid.content ≡ old.content
@@ -49,6 +49,7 @@ module _ (old mid new : State) {result : Result (Unit {0}) MediumFault} (flush :
   cause_before BadSize h = (fault_before image.BadSize h.0, wrote_nothing h.1)
   cause_before BadHead h = (fault_before image.BadHead h.0, wrote_nothing h.1)
   cause_before StampsUsedUp h = (none_left_before h.0, wrote_nothing h.1)
+  cause_before LogTooSmall h = h
 
 -- contents that stand for something, with a stamp left, are no cause
 pub served : (old new : State) (fault : StartFault) → IsCause old new fault → (shape : Shape) (array : Array) (next : ℕ) → StandsFor old.size shape old.content array next → next < 2 ^ 63 → IsDeviceFault fault
@@ -60,6 +61,7 @@ served old new BadSuper h shape array next s left = absurd (HasFault-stands old.
 served old new BadVersion h shape array next s left = absurd (HasFault-stands old.size old.content image.BadVersion h.0 (shape, array, next, s))
 served old new BadSize h shape array next s left = absurd (HasFault-stands old.size old.content image.BadSize h.0 (shape, array, next, s))
 served old new BadHead h shape array next s left = absurd (HasFault-stands old.size old.content image.BadHead h.0 (shape, array, next, s))
+served old new LogTooSmall h shape array next s left = absurd h
 served old new StampsUsedUp h shape array next s left =
     let w = h.0 in
     let one = StandsFor-one old.size old.size w.0 shape old.content w.1 array w.2 next w.3 s in

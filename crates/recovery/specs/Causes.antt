@@ -9,7 +9,7 @@ use Rattle.recovery.specs.declared.start_fault.StartFault.{StartFault}
 use Rattle.recovery.specs.declared.start_fault.StartFault.TheVariants.{NoMemory, Read, Write, Flush}
 use Rattle.recovery.specs.declared.start_fault.StartFault.TheVariants.{BadSuper, BadVersion}
 use Rattle.recovery.specs.declared.start_fault.StartFault.TheVariants.{BadSize, BadHead}
-use Rattle.recovery.specs.declared.start_fault.StartFault.TheVariants.{StampsUsedUp}
+use Rattle.recovery.specs.declared.start_fault.StartFault.TheVariants.{StampsUsedUp, LogTooSmall}
 
 -- the start's name for a call that the medium refused
 abbrev pub start_fault_of : MediumFault → StartFault
@@ -46,6 +46,7 @@ IsCauseBy Calls old new BadVersion = image.HasFault old.size old.content image.B
 IsCauseBy Calls old new BadSize = image.HasFault old.size old.content image.BadSize × Calls old new
 IsCauseBy Calls old new BadHead = image.HasFault old.size old.content image.BadHead × Calls old new
 IsCauseBy Calls old new StampsUsedUp = image.HasNoStampLeft old.size old.content × Calls old new
+IsCauseBy Calls old new LogTooSmall = ⊥
 
 -- why a recovery is refused: by the medium, or by the image, and then nothing was written
 abbrev pub IsCause : State → State → StartFault → Type 0

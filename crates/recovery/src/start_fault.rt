@@ -28,6 +28,9 @@ pub enum StartFault {
     /// No stamp is left for the next record.
     #[error("the stamps are used up")]
     StampsUsedUp = 9,
+    /// The log of format 1 has too few sectors for a slot of format 2: fewer than 5 slots.
+    #[error("the log is too small for format 2")]
+    LogTooSmall = 10,
 }
 
 impl From<MediumFault> for StartFault {

@@ -49,6 +49,7 @@ may_refuse book fewer counted failures start.BadVersion le h = h
 may_refuse book fewer counted failures start.BadSize le h = h
 may_refuse book fewer counted failures start.BadHead le h = h
 may_refuse book fewer counted failures start.StampsUsedUp le h = h
+may_refuse book fewer counted failures start.LogTooSmall le h = h
 
 module _ (medium : Sim) (rest : IsAtRest medium) (unfused : medium.power.fuse ≡ None)
     (fits : (limit : ℕ) (book : Book) → OpensOn (state_of medium) book → HasLimit (state_of medium).size limit (state_of medium).content

@@ -44,6 +44,7 @@ refusal_of_start start.BadVersion = refused.Image 6
 refusal_of_start start.BadSize = refused.Image 7
 refusal_of_start start.BadHead = refused.Image 8
 refusal_of_start start.StampsUsedUp = refused.Image 9
+refusal_of_start start.LogTooSmall = refused.Image 10
 
 -- a script that was not played to its end
 abbrev pub refusal_of_fault : ScriptFault → Refusal
