@@ -7,6 +7,7 @@ pub use Rattle.scsi_unit.specs.StartFaults
 pub use Rattle.scsi_unit.specs.Starting
 pub use Rattle.scsi_unit.specs.Rules
 pub use Rattle.scsi_unit.specs.UnitValue
+pub mod PacketBytes
 pub mod Packets
 pub mod Requests
 pub mod Exchange

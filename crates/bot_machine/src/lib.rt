@@ -10,6 +10,7 @@ mod laws;
 mod life;
 mod lifetimes;
 mod lives;
+mod packet_size;
 mod request;
 mod run;
 mod serve;
@@ -23,6 +24,7 @@ pub use laws::conversation_laws;
 pub use life::Life;
 pub use lifetimes::run_lives;
 pub use lives::Lives;
+pub use packet_size::PacketSize;
 pub use run::{answer_to, run_events};
 pub use scsi_unit::{Identity, StartError, StartFault};
 
