@@ -69,8 +69,10 @@ after_call m kind room = record m {
 abbrev pub after_write : Sim → ℕ → List ℕ → Sim
 after_write m s bytes =
     if admits m.power Write (fits m)
-    then record (after_call m Write (fits m)) { unflushed = m.unflushed
-        ++ record { sector = s; block = bytes } ∷ [] }
+    then record (after_call m Write (fits m)) {
+      unflushed = m.unflushed
+          ++ record { sector = s; block = bytes } ∷ [];
+    }
     else after_call m Write (fits m)
 
 -- A flush that happens: each sector is flushed as a read gives it, and nothing is unflushed.

@@ -57,7 +57,7 @@ sized : (m : Sim) (s : ℕ) (c : List ℕ) → s < size_of m → sets_of m s c �
 sized m s c inside left = elim (cases_Bool (are_whole m.unflushed)) [
   | inl whole ↦ ⊎_elim
       (λ same. ap (λ (l
-          : List ℕ). length l) same ∙ whole_sector m.flushed s (rw (size_whole m whole) at inside))
+      : List ℕ). length l) same ∙ whole_sector m.flushed s (rw (size_whole m whole) at inside))
       (λ written. whole_write m.unflushed s c whole written) left
   | inr not ↦ absurd (omega (arith, inside, none_of_no_sectors m not))
 ]

@@ -1,7 +1,8 @@
 -- Lists of writes to sectors, and which of them a cut keeps.
 use Rattle.std.specs.Prelude.{◌≡◌, ◌⊎◌, ℕ, ◌+◌, ◌*◌, ◌≤◌, Bool, true, false, List, [], ◌∷◌, length}
 use Rattle.std.specs.Prelude.{take, drop, if◌then◌else◌, ◌==◌}
-use Rattle.std.specs.List.{list_any, list_all}
+use Rattle.std.specs.Int.{bit_at}
+use Rattle.std.specs.List.{list_any, list_all, filter, range_with_len}
 use Rattle.medium.specs.Medium.{Image}
 use Rattle.medium.specs.declared.unflushed.UnflushedWrite.{UnflushedWrite}
 use Rattle.medium.specs.declared.kept.Kept.{Kept}
@@ -34,11 +35,16 @@ abbrev pub LieWithin : ℕ → List UnflushedWrite → Type 0
 LieWithin size [] = Unit {0}
 LieWithin size (w ∷ ws) = (512 * (w.sector + 1) ≤ size) × LieWithin size ws
 
+-- the numbers of the bits that are set in a mask, below 64
+abbrev pub kept_by : ℕ → List ℕ
+kept_by mask = filter (λ number. bit_at mask number == 1) (range_with_len 0 64)
+
 -- whether the write of this number is kept
 abbrev pub keeps : Kept → ℕ → Bool
 keeps kept.None number = false
 keeps kept.All number = true
 keeps (kept.These numbers) number = list_any (λ n. n == number) numbers.items
+keeps (kept.Mask mask) number = list_any (λ n. n == number) (kept_by mask)
 
 -- the writes that are kept, where the first of these has this number
 abbrev pub kept_writes : (ℕ → Bool) → ℕ → List UnflushedWrite → List UnflushedWrite

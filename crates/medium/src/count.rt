@@ -28,4 +28,11 @@ impl Count {
     {
         Count { of: PhantomData }
     }
+
+    // The same number.
+    pub(crate) fn copy(&self) -> Count
+        ensures { result.number ≡ self.now.number }
+    {
+        Count { of: PhantomData }
+    }
 }

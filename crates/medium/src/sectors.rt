@@ -1,5 +1,5 @@
 // Sectors in a row of bytes, and lists of writes to them.
-ghost use Rattle.std.specs.Prelude.{◌≡◌, ◌+◌, ◌*◌, ◌<◌, ◌≤◌, ℕ, [], length, vec_capacity};
+ghost use Rattle.std.specs.Prelude.{◌≡◌, ◌+◌, ◌*◌, ◌<◌, ◌≤◌, ◌++◌, ℕ, [], length, vec_capacity};
 ghost use Rattle.medium.specs.Medium.{Holds};
 ghost use Rattle.medium.specs.Writes.{sector_of, applied, LieWithin, kept_writes, keeps};
 
@@ -63,4 +63,15 @@ pub(crate) fn settle(bytes: &mut Vec<u8>, writes: &mut Vec<UnflushedWrite>, kept
 {
     apply(bytes, writes, kept);
     writes.clear();
+}
+
+// Appends writes to a list that has room for them.
+pub(crate) fn append(list: &mut Vec<UnflushedWrite>, writes: &[UnflushedWrite])
+    requires { length list.old.items + length writes.now ≤ vec_capacity list.old }
+    ensures items { list.new.items ≡ list.old.items ++ writes.now }
+    ensures capacity { vec_capacity list.new ≡ vec_capacity list.old }
+{
+    for write in writes {
+        list.push_reserved(*write);
+    }
 }

@@ -1,5 +1,5 @@
 // A medium in memory, whose power can be cut.
-ghost use Rattle.std.specs.Prelude.{◌≡◌, ◌≢◌, ◌⊎◌, ◌%◌, ◌↔◌, [], length, IfOk, IsErrOf};
+ghost use Rattle.std.specs.Prelude.{◌≡◌, ◌≢◌, ◌⊎◌, ◌%◌, ◌↔◌, [], length, IfOk, IfSome, IsErrOf};
 ghost use Rattle.medium.specs.Medium.{CutLeaves};
 ghost use Rattle.medium.specs.Moments.{IsFlushed};
 ghost use Rattle.medium.specs.Power.{powered, admits};
@@ -12,7 +12,7 @@ use crate::fault::MediumFault;
 use crate::kept::Kept;
 use crate::medium::Medium;
 use crate::power::Power;
-use crate::sectors::{SECTOR, load_after, settle};
+use crate::sectors::{SECTOR, append, load_after, settle};
 use crate::switch::Switch;
 use crate::tally::Calls;
 use crate::unflushed::UnflushedWrite;
@@ -30,7 +30,7 @@ pub enum SimError {
 }
 
 /// Sectors in memory: the flushed bytes, and the writes since, in order of issue.
-/// After `new` no call takes memory.
+/// After `new` no call but `copy` takes memory.
 #[derive(Drop)]
 pub struct SimMedium {
     bytes: Vec<u8>,
@@ -93,8 +93,28 @@ impl SimMedium {
         })
     }
 
+    /// A medium in the same state: its bytes, the unflushed writes, the room, the power with fuse and
+    /// failure, and the counts. `None` for want of memory.
+    pub fn copy(&self, alloc: Global) -> Option<SimMedium>
+        ensures { IfSome result (λ m. m ≡ self.now) }
+    {
+        let bytes = Vec::from_slice(alloc, &self.bytes).ok()?;
+        let mut writes = Vec::with_capacity(alloc, self.room).ok()?;
+        append(&mut writes, &self.writes);
+        Some(SimMedium {
+            bytes,
+            writes,
+            room: self.room,
+            power: self.power,
+            flushes: self.flushes,
+            calls: self.calls.copy(),
+            made: self.made.copy(),
+            refused: self.refused.copy(),
+        })
+    }
+
     /// Cuts the power and turns it on again. Of the unflushed writes the kept ones are applied in
-    /// order of issue, and the others are lost. Fuse and failure are disarmed.
+    /// order of issue, and the others are lost. Fuse and failure are disarmed. It takes no memory.
     pub fn cut(&mut self, kept: &Kept)
         ensures cut { IsCut (keeps kept.now) self.old self.new }
         ensures allowed { CutLeaves (state_of self.old).may_leave (state_of self.new).content }

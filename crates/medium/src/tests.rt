@@ -46,6 +46,39 @@ fn a_cut_keeps_what_it_is_told(rt: HostRuntime) -> Result<(), Fail> {
 }
 
 #[test]
+fn a_mask_keeps_the_writes_of_its_bits(rt: HostRuntime) -> Result<(), Fail> {
+    let mut m = zeros(rt, 2, 4)?;
+    assert_eq!(rt; fill(&mut m, 0, 1), Ok(()));
+    assert_eq!(rt; fill(&mut m, 1, 2), Ok(()));
+    assert_eq!(rt; fill(&mut m, 0, 3), Ok(()));
+    m.cut(&Kept::Mask(0b011));
+    assert_eq!(rt; (m.image()[0], m.image()[512]), (1, 2));
+    assert_eq!(rt; fill(&mut m, 0, 4), Ok(()));
+    assert_eq!(rt; fill(&mut m, 1, 5), Ok(()));
+    m.cut(&Kept::Mask(1 << 63 | 0b10));
+    assert_eq!(rt; (m.image()[0], m.image()[512]), (1, 5));
+    Ok(())
+}
+
+#[test]
+fn a_copy_goes_on_like_the_medium(rt: HostRuntime) -> Result<(), Fail> {
+    let mut m = zeros(rt, 1, 4)?;
+    assert_eq!(rt; m.flush(), Ok(()));
+    m.fuse(1);
+    assert_eq!(rt; fill(&mut m, 0, 1), Ok(()));
+    let mut copy = m.copy(rt.alloc()).ok_or("no memory")?;
+    m.cut(&Kept::None);
+    assert_eq!(rt;
+        (copy.unflushed(), copy.flushes(), copy.is_off()),
+        (1, 1, false)
+    );
+    assert_eq!(rt; fill(&mut copy, 0, 2), Err(MediumFault::Write));
+    copy.cut(&Kept::All);
+    assert_eq!(rt; (m.image()[0], copy.image()[0]), (0, 1));
+    Ok(())
+}
+
+#[test]
 fn the_power_goes_at_the_write_that_the_fuse_refuses(rt: HostRuntime) -> Result<(), Fail> {
     let mut m = zeros(rt, 1, 4)?;
     let mut block = [9; 512];

@@ -93,7 +93,7 @@ fn cut(lives: &mut Lives, kept: &KeptWrites, mut numbers: Vec<u32>) -> Vec<u32>
             lives.cut(&kept);
             match kept {
                 Kept::These(numbers) => numbers,
-                Kept::None | Kept::All => unreachable!(),
+                Kept::None | Kept::All | Kept::Mask(_) => unreachable!(),
             }
         }
     }
