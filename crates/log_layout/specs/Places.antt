@@ -1,5 +1,5 @@
 -- Where the parts of a medium stand: super, head, slots of the log, and blocks at home.
-use Rattle.std.specs.Prelude.{◌≤◌, ◌<◌, ℕ, ◌+◌, ◌*◌}
+use Rattle.std.specs.Prelude.{◌≤◌, ◌<◌, ℕ, ◌+◌, ◌*◌, ◌/◌}
 use Rattle.log_layout.specs.declared.log_format.LogFormat.{LogFormat}
 use Rattle.log_layout.specs.declared.log_format.LogFormat.TheVariants.{One, Two}
 
@@ -52,4 +52,14 @@ new_shape format blocks slots = record {
   blocks = blocks;
   slots = slots;
   home = 2 + slot_sectors_of format * slots;
+}
+
+-- The shape after a migration to format 2: the same blocks at home in the same sectors, and as many
+-- slots as lie in the log of format 1.
+abbrev pub migrated : Shape → Shape
+migrated shape = record {
+  format = Two;
+  blocks = shape.blocks;
+  slots = slot_sectors_of One * shape.slots / slot_sectors_of Two;
+  home = shape.home;
 }

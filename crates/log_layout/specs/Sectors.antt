@@ -14,7 +14,7 @@ version_of Two = 2
 pub record IsSuper (shape : Shape) (bytes : List ℕ) : Type 0 where
   pub spelled : bytes
       ≡ spelling (super_mark ∷ version_of shape.format ∷ shape.blocks ∷ shape.slots ∷ 2 ∷
-          shape.home ∷ [])
+      shape.home ∷ [])
   pub some_blocks : 1 ≤ shape.blocks
   pub most_blocks : shape.blocks ≤ 2 ^ 31
   pub some_slots : 1 ≤ shape.slots

@@ -25,7 +25,8 @@ pub struct Super {
 }
 
 impl Super {
-    ghost use Rattle.log_layout.specs.Places.{Shape, new_shape};
+    ghost use Rattle.log_layout.specs.declared.log_format.LogFormat.TheVariants.{One};
+    ghost use Rattle.log_layout.specs.Places.{Shape, migrated, new_shape};
     ghost use Rattle.log_layout.specs.Sectors.{IsSuper};
     ghost use Rattle.log_layout.specs.SuperFaults.{IsSuperFault};
     ghost use Rattle.log_layout.specs.Values.{shape_of};
@@ -43,6 +44,22 @@ impl Super {
             blocks,
             slots,
             home: FIRST_SLOT + format.slot_sectors() * slots,
+        }
+    }
+
+    /// The super after a migration to format 2: the same blocks at home in the same sectors, and as
+    /// many slots as lie in the log of format 1.
+    pub fn migrated(&self) -> Super
+        requires one { self.now.format ≡ One }
+        requires room { 5 ≤ self.now.slots }
+        ensures { shape_of result ≡ migrated (shape_of self.now) }
+    {
+        let sectors = LogFormat::One.slot_sectors() * self.slots;
+        Super {
+            format: LogFormat::Two,
+            blocks: self.blocks,
+            slots: sectors / LogFormat::Two.slot_sectors(),
+            home: self.home,
         }
     }
 

@@ -1,18 +1,20 @@
 -- Why a recovery is refused, and what that rules out.
-use Rattle.std.proofs.Common.{◌≡◌, ◌∙◌, ◌<◌, ◌^◌, ℕ, Result, refl, subst, arith}
+use Rattle.std.proofs.Common.{◌≡◌, ◌∙◌, ◌<◌, ◌^◌, ℕ, Result, refl, sym, subst, arith}
 use Rattle.medium.specs.Medium.{State, Image, Passes}
 use Rattle.medium.specs.Moments.{IsQuiet}
 use Rattle.medium.specs.Blocks.{Array}
 use Rattle.medium.specs.declared.fault.MediumFault.{MediumFault}
 use Rattle.medium.specs.declared.fault.MediumFault.TheVariants as medium
 use Rattle.medium.proofs.Moments.{quiet_joined}
+use Rattle.log_layout.specs.declared.log_format.LogFormat.TheVariants.{One}
 use Rattle.log_layout.specs.Places.{Shape}
+use Rattle.log_layout.proofs.Decoding.{IsSuper-one}
 use Rattle.log_image.specs.Standing.{StandsFor}
 use Rattle.log_layout.specs.Values.{shape_of}
 use Rattle.log_image.specs.ImageFaults as image
 use Rattle.log_image.proofs.StandingLaws.{StandsFor-one}
 use Rattle.log_image.proofs.FaultLaws.{HasFault-stands}
-use Rattle.recovery.specs.Causes.{IsRefusedCall, MakesReadsAlone, WritesNothing, IsCauseBy, IsCause, IsDeviceFault}
+use Rattle.recovery.specs.Causes.{IsRefusedCall, MakesReadsAlone, WritesNothing, IsCause, HasFewSlots, IsRefusalBy, IsDeviceFault}
 use Rattle.recovery.specs.Recovered.{IsRecoveredFrom}
 use Rattle.recovery.specs.declared.recovered.Recovered.{Recovered}
 use Rattle.recovery.specs.declared.start_fault.StartFault.{StartFault}
@@ -38,18 +40,56 @@ module _ (old mid new : State) {result : Result (Unit {0}) MediumFault} (flush :
     one_flush = reads medium.Flush (λ e. absurd (cc e)) ∙ flush.made_is;
   }
 
-  -- a cause by reads after a flush is one for both
-  pub cause_before : (fault : StartFault) → IsCauseBy IsQuiet mid new fault → IsCause old new fault
-  cause_before NoMemory h = h
-  cause_before Read h = refused_before medium.Read h
-  cause_before Write h = refused_before medium.Write h
-  cause_before Flush h = refused_before medium.Flush h
-  cause_before BadSuper h = (fault_before image.BadSuper h.0, wrote_nothing h.1)
-  cause_before BadVersion h = (fault_before image.BadVersion h.0, wrote_nothing h.1)
-  cause_before BadSize h = (fault_before image.BadSize h.0, wrote_nothing h.1)
-  cause_before BadHead h = (fault_before image.BadHead h.0, wrote_nothing h.1)
-  cause_before StampsUsedUp h = (none_left_before h.0, wrote_nothing h.1)
-  cause_before LogTooSmall h = h
+  few_before : (least : ℕ) → HasFewSlots least mid.size mid.content → HasFewSlots least old.size old.content
+  few_before least h = subst (λ (n : ℕ). HasFewSlots least n old.content) quiet.size_stays (subst (λ (i : Image). HasFewSlots least mid.size i) same h)
+
+  pub few_after : (least : ℕ) → HasFewSlots least old.size old.content → HasFewSlots least mid.size mid.content
+  few_after least h = subst (λ (n : ℕ). HasFewSlots least n mid.content) (sym quiet.size_stays) (subst (λ (i : Image). HasFewSlots least old.size i) (sym same) h)
+
+  -- a refusal by reads after a flush is one by both
+  pub refusal_before : (least : ℕ) (fault : StartFault) → IsRefusalBy least IsQuiet mid new fault → IsRefusalBy least WritesNothing old new fault
+  refusal_before least NoMemory h = h
+  refusal_before least Read h = refused_before medium.Read h
+  refusal_before least Write h = refused_before medium.Write h
+  refusal_before least Flush h = refused_before medium.Flush h
+  refusal_before least BadSuper h = (fault_before image.BadSuper h.0, wrote_nothing h.1)
+  refusal_before least BadVersion h = (fault_before image.BadVersion h.0, wrote_nothing h.1)
+  refusal_before least BadSize h = (fault_before image.BadSize h.0, wrote_nothing h.1)
+  refusal_before least BadHead h = (fault_before image.BadHead h.0, wrote_nothing h.1)
+  refusal_before least StampsUsedUp h = (λ few. h.0 (few_after least few), none_left_before h.1, wrote_nothing h.2)
+  refusal_before least LogTooSmall h = (few_before least h.0, wrote_nothing h.1)
+
+-- a start that asks for no slots is refused as a recovery is
+pub refusal_cause : (old new : State) (fault : StartFault) → IsRefusalBy 0 WritesNothing old new fault → IsCause old new fault
+refusal_cause old new NoMemory h = h
+refusal_cause old new Read h = h
+refusal_cause old new Write h = h
+refusal_cause old new Flush h = h
+refusal_cause old new BadSuper h = h
+refusal_cause old new BadVersion h = h
+refusal_cause old new BadSize h = h
+refusal_cause old new BadHead h = h
+refusal_cause old new StampsUsedUp h = (h.1, h.2)
+refusal_cause old new LogTooSmall h = let few = h.0.few in omega (arith, few)
+
+-- contents that stand for something, with a stamp left and enough slots, are refused by the device
+pub served_slots : (least : ℕ) (old new : State) (fault : StartFault) → IsRefusalBy least WritesNothing old new fault → (shape : Shape) (array : Array) (next : ℕ) → StandsFor old.size shape old.content array next
+    → next < 2 ^ 63 → (¬ HasFewSlots least old.size old.content) → IsDeviceFault fault
+served_slots least old new NoMemory h shape array next s left some = absurd h
+served_slots least old new Read h shape array next s left some = (medium.Read, refl)
+served_slots least old new Write h shape array next s left some = (medium.Write, refl)
+served_slots least old new Flush h shape array next s left some = (medium.Flush, refl)
+served_slots least old new BadSuper h shape array next s left some = absurd (HasFault-stands old.size old.content image.BadSuper h.0 (shape, array, next, s))
+served_slots least old new BadVersion h shape array next s left some = absurd (HasFault-stands old.size old.content image.BadVersion h.0 (shape, array, next, s))
+served_slots least old new BadSize h shape array next s left some = absurd (HasFault-stands old.size old.content image.BadSize h.0 (shape, array, next, s))
+served_slots least old new BadHead h shape array next s left some = absurd (HasFault-stands old.size old.content image.BadHead h.0 (shape, array, next, s))
+served_slots least old new LogTooSmall h shape array next s left some = absurd (some h.0)
+served_slots least old new StampsUsedUp h shape array next s left some =
+    let w = h.1 in
+    let one = StandsFor-one old.size old.size w.0 shape old.content w.1 array w.2 next w.3 s in
+    let same = one.1 in
+    let past = w.4 in
+    absurd (omega (arith, same, past, left))
 
 -- contents that stand for something, with a stamp left, are no cause
 pub served : (old new : State) (fault : StartFault) → IsCause old new fault → (shape : Shape) (array : Array) (next : ℕ) → StandsFor old.size shape old.content array next → next < 2 ^ 63 → IsDeviceFault fault
@@ -81,3 +121,13 @@ used_up old new answer h r =
     let past = h.4 in
     let left = r.stamp_left in
     omega (arith, same, past, left)
+
+-- an image with this super has few slots only where the super has
+pub enough_slots : (least size : ℕ) (shape : Shape) (content : Image) → image.HasShape size shape content → (¬ ((shape.format ≡ One) × (shape.slots < least))) → ¬ HasFewSlots least size content
+enough_slots least size shape content has not few =
+    let same : few.shape ≡ shape = IsSuper-one few.shape shape (content 0) few.has.super has.super in
+    not (subst (λ (s : Shape). (s.format ≡ One) × (s.slots < least)) same (few.one, few.few))
+
+-- no log has fewer slots than none
+pub no_few : (old : State) → ¬ HasFewSlots 0 old.size old.content
+no_few old few = let below = few.few in omega (arith, below)

@@ -14,3 +14,4 @@ pub mod Making
 pub mod Trying
 pub mod Listing
 pub mod Homing
+pub mod Migrating

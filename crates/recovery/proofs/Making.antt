@@ -4,22 +4,33 @@ use Rattle.std.specs.Prelude.{replicate}
 use Rattle.medium.specs.Medium.{State, Image, CutLeaves, Holds, Within, Gains, Passes, IsSound}
 use Rattle.medium.specs.Moments.{EachCut, IsFlushed, LeavesOnly, StaysWithin, SparesFrom}
 use Rattle.medium.specs.declared.fault.MediumFault.{MediumFault}
-use Rattle.medium.proofs.Moments.{started, started_within, goes_on, goes_on_within, weaker, joined_same, at_exit, each_write, shrunk}
+use Rattle.medium.proofs.Moments.{started, started_within, gains_within, goes_on, goes_on_within, weaker, joined_same, at_exit, each_write, shrunk}
 use Rattle.medium.proofs.Sparing.{HasSpared, spared_start, spared_joined}
 use Rattle.log_layout.specs.Places.{Shape, sectors_of}
 use Rattle.log_layout.specs.Sectors.{IsSuper, IsHead}
 use Rattle.log_image.specs.Standing.{IsOurs}
-use Rattle.recovery.specs.Copies.{freed_at, WithOrWithout, IsBetween}
+use Rattle.recovery.specs.Copies.{freed_at, cleared_at, WithOrWithout, IsBetween}
 use Rattle.recovery.specs.Formatted.{IsNoneOrNew, IsMidFormat, FormatLeaves}
+use Rattle.recovery.proofs.Copying.{sets_within}
 use Rattle.recovery.proofs.Sparing.{spared_by, spared_within}
 use Rattle.recovery.proofs.Zeros.{zeros_ours}
 
--- one write frees its sector
-pub sector_freed : (place : ℕ) (bytes : List ℕ) (old new : State) {fault : MediumFault} {result : Result (Unit {0}) MediumFault} → IsSound old
-    → Passes fault result old new → Gains place bytes old.may_leave new.may_leave → StaysWithin (freed_at (λ x. x ≡ place) old.may_leave) old new
-sector_freed place bytes old new {fault} {result} sound wrote gains =
-    goes_on_within (freed_at (λ x. x ≡ place) old.may_leave) old old new (started_within (freed_at (λ x. x ≡ place) old.may_leave) old sound (λ s c left. inl left)) wrote
-    (λ s c left. ⊎_elim inl (λ here. inr here.0) (gains s c left))
+-- before the first write
+pub none_cleared : (places : ℕ → Type 0) (m : State) → IsSound m → StaysWithin (cleared_at places m.may_leave) m m
+none_cleared places m sound = started_within (cleared_at places m.may_leave) m sound (λ s c left. inl left)
+
+-- one sector more is cleared
+pub one_more_cleared : (places : ℕ → Type 0) (place : ℕ) (old mid new : State) {fault : MediumFault} {result : Result (Unit {0}) MediumFault} → IsSound mid → places place
+    → StaysWithin (cleared_at places old.may_leave) old mid → Passes fault result mid new → Gains place (replicate 512 0) mid.may_leave new.may_leave → StaysWithin (cleared_at places old.may_leave) old new
+one_more_cleared places place old mid new {fault} {result} sound is so_far wrote gains =
+    goes_on_within (cleared_at places old.may_leave) old mid new so_far wrote
+    (gains_within (cleared_at places old.may_leave) mid.may_leave new.may_leave place (replicate 512 0) (sets_within (cleared_at places old.may_leave) old mid sound so_far) gains
+    (λ s c here. inr (subst places (sym here.0) is, here.1)))
+
+-- in sectors that are cleared there may be anything
+pub cleared_freed : (places : ℕ → Type 0) (old new : State) → StaysWithin (cleared_at places old.may_leave) old new → StaysWithin (freed_at places old.may_leave) old new
+cleared_freed places old new within = weaker (CutLeaves (cleared_at places old.may_leave)) (CutLeaves (freed_at places old.may_leave)) old new
+    (λ image cut s. ⊎_elim inl (λ zeros. inr zeros.0) (cut s)) within
 
 -- what each image is after a write
 pub each_with : (place : ℕ) (bytes : List ℕ) (old new : State) → IsSound old → Gains place bytes old.may_leave new.may_leave → EachCut (WithOrWithout place bytes old.may_leave) new
@@ -53,9 +64,9 @@ through_spares first place bytes old new below sound elsewhere moments = spared_
 
 -- sectors before these are cleared
 pub clear_spares : (first end : ℕ) (old new : State) → IsSound new → ((x : ℕ) → ¬ IsBetween first end x → new.content x ≡ old.content x)
-    → StaysWithin (freed_at (IsBetween first end) old.may_leave) old new → SparesFrom end old new
+    → StaysWithin (cleared_at (IsBetween first end) old.may_leave) old new → SparesFrom end old new
 clear_spares first end old new sound elsewhere within =
-    spared_within end (IsBetween first end) old new sound (λ s le between. omega (arith, le, between.1)) elsewhere within
+    spared_within end (IsBetween first end) old new sound (λ s le between. omega (arith, le, between.1)) elsewhere (cleared_freed (IsBetween first end) old new within)
 
 -- nothing was done
 pub nothing_done : (shape : Shape) (m : State) → IsSound m → FormatLeaves shape m m
@@ -96,9 +107,9 @@ abbrev pub HasNone : Image → Type 0
 HasNone image = image 0 ≡ replicate 512 0
 
 -- at each moment of a clearing behind a super that was cleared and flushed
-pub clear_leaves : (end : ℕ) (old new : State) → IsFlushed old → HasNone old.content → StaysWithin (freed_at (IsBetween 1 end) old.may_leave) old new → LeavesOnly HasNone old new
-clear_leaves end old new flushed none within = weaker (CutLeaves (freed_at (IsBetween 1 end) old.may_leave)) HasNone old new
-    (λ image cut. ⊎_elim (λ was. flushed 0 (image 0) was ∙ none) (λ between. absurd (omega (arith, between.0))) (cut 0)) within
+pub clear_leaves : (end : ℕ) (old new : State) → IsFlushed old → HasNone old.content → StaysWithin (cleared_at (IsBetween 1 end) old.may_leave) old new → LeavesOnly HasNone old new
+clear_leaves end old new flushed none within = weaker (CutLeaves (cleared_at (IsBetween 1 end) old.may_leave)) HasNone old new
+    (λ image cut. ⊎_elim (λ was. flushed 0 (image 0) was ∙ none) (λ zeros. absurd (omega (arith, zeros.0.0))) (cut 0)) within
 
 -- at each moment of the write of the head
 pub head_leaves : (bytes : List ℕ) (old mid new : State) → IsSound mid → LeavesOnly HasNone old mid → LeavesOnly (WithOrWithout 1 bytes mid.may_leave) mid new → LeavesOnly HasNone old new

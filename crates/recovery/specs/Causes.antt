@@ -1,9 +1,12 @@
 -- Why a start is refused.
-use Rattle.std.specs.Prelude.{◌≡◌, ◌≢◌, ◌<◌, ◌+◌}
-use Rattle.medium.specs.Medium.{State}
+use Rattle.std.specs.Prelude.{◌≡◌, ◌≢◌, ℕ, ◌<◌, ◌+◌}
+use Rattle.medium.specs.Medium.{State, Image}
 use Rattle.medium.specs.Moments.{IsQuiet}
 use Rattle.medium.specs.declared.fault.MediumFault.{MediumFault}
 use Rattle.medium.specs.declared.fault.MediumFault.TheVariants as medium
+use Rattle.log_layout.specs.declared.log_format.LogFormat.TheVariants.{One}
+use Rattle.log_layout.specs.Places.{Shape}
+use Rattle.log_layout.specs.Sectors.{IsHead}
 use Rattle.log_image.specs.ImageFaults as image
 use Rattle.recovery.specs.declared.start_fault.StartFault.{StartFault}
 use Rattle.recovery.specs.declared.start_fault.StartFault.TheVariants.{NoMemory, Read, Write, Flush}
@@ -51,6 +54,35 @@ IsCauseBy Calls old new LogTooSmall = ⊥
 -- why a recovery is refused: by the medium, or by the image, and then nothing was written
 abbrev pub IsCause : State → State → StartFault → Type 0
 IsCause old new fault = IsCauseBy WritesNothing old new fault
+
+-- The image has a good super of format 1 and a good head, but its log has fewer slots than these.
+pub record HasFewSlots (least size : ℕ) (content : Image) : Type 0 where
+  pub shape : Shape
+  pub has : image.HasShape size shape content
+  pub head : ℕ
+  pub head_is : IsHead head (content 1)
+  pub one : shape.format ≡ One
+  pub few : shape.slots < least
+
+-- Why a start is refused that asks for so many slots of a log of format 1. They are counted before
+-- it is found that no stamp is left.
+abbrev pub IsRefusalBy : ℕ → (State → State → Type 0) → State → State → StartFault → Type 0
+IsRefusalBy least Calls old new NoMemory = ⊥
+IsRefusalBy least Calls old new Read = IsRefusedCall old new medium.Read
+IsRefusalBy least Calls old new Write = IsRefusedCall old new medium.Write
+IsRefusalBy least Calls old new Flush = IsRefusedCall old new medium.Flush
+IsRefusalBy least Calls old new BadSuper = image.HasFault old.size old.content image.BadSuper
+    × Calls old new
+IsRefusalBy least Calls old new BadVersion = image.HasFault old.size old.content image.BadVersion
+    × Calls old new
+IsRefusalBy least Calls old new BadSize = image.HasFault old.size old.content image.BadSize
+    × Calls old new
+IsRefusalBy least Calls old new BadHead = image.HasFault old.size old.content image.BadHead
+    × Calls old new
+IsRefusalBy least Calls old new StampsUsedUp = (¬ HasFewSlots least old.size old.content)
+    × image.HasNoStampLeft old.size old.content × Calls old new
+IsRefusalBy least Calls old new LogTooSmall = HasFewSlots least old.size old.content
+    × Calls old new
 
 -- the medium refused a call
 abbrev pub IsDeviceFault : StartFault → Type 0

@@ -1,6 +1,6 @@
 -- The sectors that are written, and what a cut leaves of them.
 use Rattle.std.specs.Prelude.{◌≡◌, ◌≢◌, ◌⊎◌, ℕ, ◌+◌, ◌*◌, ◌<◌, ◌≤◌, List, [], ◌∷◌, length}
-use Rattle.std.specs.Prelude.{slice_index}
+use Rattle.std.specs.Prelude.{slice_index, replicate}
 use Rattle.medium.specs.Medium.{Image, Sets, CutLeaves, Holds}
 use Rattle.log_layout.specs.declared.log_format.LogFormat.{LogFormat}
 use Rattle.log_layout.specs.declared.log_format.LogFormat.TheVariants.{One, Two}
@@ -13,6 +13,10 @@ use Rattle.log_image.specs.Formats.{IsWhole}
 -- what a cut may leave, and in these sectors anything
 abbrev pub freed_at : (ℕ → Type 0) → Sets → Sets
 freed_at places sets s c = sets s c ⊎ places s
+
+-- what a cut may leave, and in these sectors zeros
+abbrev pub cleared_at : (ℕ → Type 0) → Sets → Sets
+cleared_at places sets s c = sets s c ⊎ (places s × (c ≡ replicate 512 0))
 
 -- an image that these sets allow, with these bytes written to that sector or not
 abbrev pub WithOrWithout : ℕ → List ℕ → Sets → Image → Type 0
@@ -32,7 +36,7 @@ IsHomeOf shape numbers x = (i : ℕ) × (i < length numbers)
 abbrev pub IsHomeInRecord : Shape → Image → ℕ → ℕ → Type 0
 IsHomeInRecord shape image stamp x =
     (entries : List Entry) × IsWhole shape image stamp entries
-        × IsHomeOf shape (numbers_of entries) x
+    × IsHomeOf shape (numbers_of entries) x
 
 -- a block of one of so many whole records from this stamp on is at home in the sector
 abbrev pub IsHomeInRecords : Shape → Image → ℕ → ℕ → ℕ → Type 0

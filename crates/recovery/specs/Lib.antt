@@ -4,3 +4,4 @@ pub mod Copies
 pub mod Recovered
 pub mod Formatted
 pub mod SlotTwo
+pub mod Migrated

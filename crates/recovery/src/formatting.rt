@@ -1,14 +1,12 @@
 //! The making of an image.
-ghost use Rattle.std.specs.Prelude.{◌≡◌, ◌≢◌, ◌<◌, ◌≤◌, ◌+◌, ◌-◌, ◌*◌, ℕ, OnOk, OnErr, IfErr, MatchOption, replicate};
-ghost use Rattle.medium.specs.Medium.{Holds};
-ghost use Rattle.medium.specs.Moments.{IsFlushed, LeavesOnly, StaysWithin};
+ghost use Rattle.std.specs.Prelude.{◌≡◌, ◌<◌, ◌≤◌, ◌+◌, ◌*◌, OnOk, OnErr, IfErr, MatchOption};
 ghost use Rattle.log_layout.specs.declared.log_format.LogFormat.TheVariants.{One, Two};
 ghost use Rattle.log_layout.specs.Places.{new_shape, sectors_of};
 ghost use Rattle.log_layout.specs.Values.{shape_of};
-ghost use Rattle.recovery.specs.Copies.{freed_at, WithOrWithout, IsBetween};
 ghost use Rattle.recovery.specs.Formatted.{AreSizes, IsFormatted, FormatLeaves, IsFormatCause};
 
 use crate::FormatFault;
+use crate::sectors::{clear, write_through};
 use log_layout::{Head, LogFormat, Super};
 use medium::{Medium, MediumFault};
 
@@ -27,49 +25,6 @@ fn sizes_of(format: LogFormat, sectors: u64, blocks: u64, slots: u64) -> Option<
     } else {
         None
     }
-}
-
-// Writes zeros to each sector from this one up to that one.
-fn clear<M: Medium>(m: &mut M, from: u64, end: u64) -> Result<(), MediumFault>
-    requires inside { end ≤ (M.state m.old).size }
-    requires some { from ≤ end }
-    ensures zeros { OnOk result ((x : ℕ) → from ≤ x → x < end
-        → (M.state m.new).content x ≡ replicate 512 0) }
-    ensures elsewhere { (x : ℕ) → ¬ IsBetween from end x
-        → (M.state m.new).content x ≡ (M.state m.old).content x }
-    ensures within { StaysWithin (freed_at (IsBetween from end) (M.state m.old).may_leave)
-        (M.state m.old) (M.state m.new) }
-    ensures size { (M.state m.new).size ≡ (M.state m.old).size }
-    ensures calls { OnOk result ((M.state m.new).calls ≡ (M.state m.old).calls + (end - from)) }
-    ensures failures { (M.state m.old).failures ≤ (M.state m.new).failures }
-    ensures cause { OnErr result ((M.state m.old).failures < (M.state m.new).failures) }
-    ensures follows { M.follows m.old m.new }
-{
-    for sector in from..end {
-        m.write(sector, &[0; 512])?;
-    }
-    Ok(())
-}
-
-// Writes a sector and flushes it.
-fn write_through<M: Medium>(m: &mut M, place: u64, sector: &[u8; 512]) -> Result<(), MediumFault>
-    requires { place < (M.state m.old).size }
-    ensures done { OnOk result
-        (Holds place sector.now (M.state m.old).content (M.state m.new).content
-        × IsFlushed (M.state m.new)) }
-    ensures elsewhere { (x : ℕ) → x ≢ place
-        → (M.state m.new).content x ≡ (M.state m.old).content x }
-    ensures moments { LeavesOnly (WithOrWithout place sector.now (M.state m.old).may_leave)
-        (M.state m.old) (M.state m.new) }
-    ensures size { (M.state m.new).size ≡ (M.state m.old).size }
-    ensures calls { OnOk result ((M.state m.new).calls ≡ (M.state m.old).calls + 2) }
-    ensures most { (M.state m.new).calls ≤ (M.state m.old).calls + 2 }
-    ensures failures { (M.state m.old).failures ≤ (M.state m.new).failures }
-    ensures cause { OnErr result ((M.state m.old).failures < (M.state m.new).failures) }
-    ensures follows { M.follows m.old m.new }
-{
-    m.write(place, sector)?;
-    m.flush()
 }
 
 // Writes an image of these sizes. The super goes first and comes last, so that a format that is cut

@@ -1,12 +1,13 @@
 //! What recovery reads before its first write.
 ghost use Rattle.std.specs.Prelude.{◌≡◌, ◌<◌, ◌≤◌, ◌+◌, ◌*◌, ◌^◌, ℕ, OnOk, IfOk, IfErr, min, IsTrue, ◌↔◌};
 ghost use Rattle.medium.specs.Moments.{IsQuiet};
+ghost use Rattle.log_layout.specs.declared.log_format.LogFormat.TheVariants.{One};
 ghost use Rattle.log_layout.specs.Places.{Shape, sectors_of};
 ghost use Rattle.log_layout.specs.Values.{shape_of};
 ghost use Rattle.log_image.specs.Formats.{HasWhole};
 ghost use Rattle.log_image.specs.Standing.{IsCount};
 ghost use Rattle.log_image.specs.ImageFaults.{HasShape};
-ghost use Rattle.recovery.specs.Causes.{IsRefusedCall, IsCauseBy, MakesReadsAlone};
+ghost use Rattle.recovery.specs.Causes.{IsRefusedCall, IsRefusalBy, HasFewSlots, MakesReadsAlone};
 ghost use Rattle.recovery.specs.Copies.{AreTries, most_reads_of};
 ghost use Rattle.recovery.specs.Found.{IsFound};
 
@@ -64,7 +65,9 @@ fn read_super<M: Medium>(m: &mut M) -> Result<Super, StartFault>
     ensures reads { MakesReadsAlone (M.state m.old) (M.state m.new) }
     ensures calls { (M.state m.new).calls ≤ (M.state m.old).calls + 1 }
     ensures exact { OnOk result ((M.state m.new).calls ≡ (M.state m.old).calls + 1) }
-    ensures err { IfErr result (IsCauseBy IsQuiet (M.state m.old) (M.state m.new)) }
+    // It is none that the rest of the image decides.
+    ensures err { (least : ℕ)
+        → IfErr result (IsRefusalBy least IsQuiet (M.state m.old) (M.state m.new)) }
     ensures ok { IfOk result (λ sizes.
         HasShape (M.state m.old).size (shape_of sizes) (M.state m.old).content) }
     ensures follows { M.follows m.old m.new }
@@ -89,8 +92,19 @@ fn read_super<M: Medium>(m: &mut M) -> Result<Super, StartFault>
     }
 }
 
-/// Reads all that recovery has to know before its first write.
-pub(crate) fn inspect<M: Medium>(m: &mut M) -> Result<Found, StartFault>
+// Whether the log is of format 1 and has fewer slots than these.
+fn has_few_slots(sizes: &Super, least: u64) -> bool
+    ensures { IsTrue result ↔ ((sizes.now.format ≡ One) × (sizes.now.slots < least)) }
+{
+    match sizes.format {
+        LogFormat::One => sizes.slots < least,
+        LogFormat::Two => false,
+    }
+}
+
+/// Reads all that recovery has to know before its first write. A log of format 1 with fewer slots
+/// than these is too small.
+pub(crate) fn inspect<M: Medium>(m: &mut M, least: u64) -> Result<Found, StartFault>
     ensures quiet { IsQuiet (M.state m.old) (M.state m.new) }
     ensures reads { MakesReadsAlone (M.state m.old) (M.state m.new) }
     ensures calls { (M.state m.new).calls ≤ (M.state m.old).calls + 2 + 249 * 64 }
@@ -99,7 +113,9 @@ pub(crate) fn inspect<M: Medium>(m: &mut M) -> Result<Found, StartFault>
     ensures exact { IfOk result (λ found. AreTries found.sizes.format
         (min (found.count + 1) found.sizes.slots) ((M.state m.old).calls + 2)
         (M.state m.new).calls) }
-    ensures err { IfErr result (IsCauseBy IsQuiet (M.state m.old) (M.state m.new)) }
+    ensures err { IfErr result (IsRefusalBy least IsQuiet (M.state m.old) (M.state m.new)) }
+    ensures room { OnOk result
+        (¬ HasFewSlots least (M.state m.old).size (M.state m.old).content) }
     ensures ok { IfOk result (IsFound (M.state m.old).size (M.state m.old).content) }
     ensures follows { M.follows m.old m.new }
 {
@@ -109,6 +125,9 @@ pub(crate) fn inspect<M: Medium>(m: &mut M) -> Result<Found, StartFault>
     let Some(head) = Head::decode(&sector) else {
         return Err(StartFault::BadHead);
     };
+    if has_few_slots(&sizes, least) {
+        return Err(StartFault::LogTooSmall);
+    }
     let count = count_whole(m, &sizes, head.stamp)?;
     if head.stamp + count < (1 << 63) - 1 {
         Ok(Found {

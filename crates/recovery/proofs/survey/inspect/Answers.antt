@@ -1,9 +1,11 @@
 use Rattle.std.proofs.Common.{◌∙◌, ◌+◌, sym, subst, arith}
+use Rattle.std.proofs.lemmas.Result.{err_from_is_err_and}
 use Rattle.medium.proofs.Moments.{quiet_call, quiet_joined}
 use Rattle.log_layout.specs.Values.{shape_of}
 use Rattle.log_layout.specs.Sectors.{IsHead}
 use Rattle.log_layout.proofs.Decoding.{IsSuper-one}
 use Rattle.log_image.proofs.StandingLaws.{IsCount-same, count_stands}
+use Rattle.recovery.proofs.Causes.{enough_slots}
 use Rattle.recovery.proofs.Trying.{most_found}
 use Rattle.recovery.proofs.survey.inspect.Goals as goal
 
@@ -31,6 +33,8 @@ returns-else-head-count-clause-err g c =
     let count = IsCount-same shape mid.content old.content c.in-Some.head.stamp c.in_ok-count.count
     (λ x. sym (c.read_super.ensures.quiet.content_stays x) ∙ sym (c.read.ensures.content x)) c.in_ok-count.ensures.count in
     let s = count_stands old.size shape old.content c.in-Some.head.stamp c.in_ok-count.count c.in_ok-sizes.ensures.ok.fits c.in_ok-sizes.ensures.ok.super head count in (
+      enough_slots c.args.least old.size (shape_of c.in_ok-sizes.sizes) old.content c.in_ok-sizes.ensures.ok
+          (λ both. let is = c.if-has_few_slots.ensures.1 both in absurd (cc is)),
       (shape, s.array, c.in-Some.head.stamp + c.in_ok-count.count + 1, s.stands, omega (arith, c.if-head-count.false)),
       quiet_joined old mid new (quiet_joined old seen mid c.read_super.ensures.quiet (quiet_call seen mid c.read.ensures.passes c.read.ensures.content c.read.ensures.sets)) c.count_whole.ensures.quiet,
     )
@@ -84,3 +88,14 @@ returns-else-head-count-clause-most g c shape has =
     most_found shape (shape_of sizes) sizes.slots old.calls mid.calls (g.M.Medium.state c.count_whole.new.m).calls
     (IsSuper-one shape (shape_of sizes) (old.content 0) has.super c.in_ok-sizes.ensures.ok.super) few
     (omega (arith, c.read_super.ensures.calls, c.read.ensures.passes.calls_are)) c.count_whole.ensures.calls
+
+pub returns-then-head-count-clause-room : goal.returns-then-head-count-clause-room
+returns-then-head-count-clause-room g c =
+    let old = g.M.Medium.state c.args.m.now in
+    enough_slots c.args.least old.size (shape_of c.in_ok-sizes.sizes) old.content c.in_ok-sizes.ensures.ok
+    (λ both. let is = c.if-has_few_slots.ensures.1 both in absurd (cc is))
+
+pub returns-in_err-sizes-clause-err : goal.returns-in_err-sizes-clause-err
+returns-in_err-sizes-clause-err g c =
+    let p = err_from_is_err_and c.from_residual.result c.from_residual.ensures.1 in
+    rw (p.1, p.2) (c.in_err-sizes.ensures.err c.args.least)

@@ -1,20 +1,16 @@
-use Rattle.std.proofs.Common.{◌≡◌, inl, inr, ◌∙◌, ap, arith}
-use Rattle.medium.proofs.Moments.{failures_grow}
-use Rattle.std.specs.Prelude.{replicate}
+use Rattle.std.proofs.Common.{inl, inr, ◌∙◌, ap, arith}
 use Rattle.std.proofs.lemmas.Bool.{cases_eq}
 use Rattle.recovery.specs.Copies.{IsBetween}
-use Rattle.recovery.proofs.Copying.{copies_joined}
-use Rattle.recovery.proofs.Making.{sector_freed}
-use Rattle.recovery.proofs.formatting.clear.Goals as goal
+use Rattle.recovery.proofs.Making.{one_more_cleared}
+use Rattle.recovery.proofs.sectors.clear.Goals as goal
 
 pub returns-in_err-write-clause-within : goal.returns-in_err-write-clause-within
 returns-in_err-write-clause-within g c =
     let old = g.M.Medium.state c.args.m.now in
     let mid = g.M.Medium.state c.loop-sector.m in
     let new = g.M.Medium.state c.write.new.self in
-    copies_joined (IsBetween c.args.from c.args.end) (λ x. x ≡ c.loop-sector.sector) (IsBetween c.args.from c.args.end) old mid new (g.met.M.Medium.sound c.loop-sector.m)
-    (λ x h. h) (λ x e. (omega (arith, e, c.loop-sector.auto.sector), omega (arith, e, c.loop-sector-test.true))) c.loop-sector.invariant.within
-    (sector_freed c.loop-sector.sector (replicate 512 0) mid new (g.met.M.Medium.sound c.loop-sector.m) c.write.ensures.passes c.write.ensures.sets)
+    one_more_cleared (IsBetween c.args.from c.args.end) c.loop-sector.sector old mid new (g.met.M.Medium.sound c.loop-sector.m)
+    (omega (arith, c.loop-sector.auto.sector), omega (arith, c.loop-sector-test.true)) c.loop-sector.invariant.within c.write.ensures.passes c.write.ensures.sets
 
 pub loop-sector-preserved : goal.loop-sector-preserved
 loop-sector-preserved g c =
@@ -31,11 +27,9 @@ loop-sector-preserved g c =
         | inr not ↦ wrote.elsewhere x not ∙ inv.zeros x low (omega (arith, high, not))
       ];
       elsewhere = λ x not. wrote.elsewhere x (λ e. not (omega (arith, e, past), omega (arith, e, inside))) ∙ inv.elsewhere x not;
-      within = copies_joined (IsBetween c.args.from c.args.end) (λ x. x ≡ c.loop-sector.sector) (IsBetween c.args.from c.args.end) old mid new (g.met.M.Medium.sound c.loop-sector.m)
-          (λ x h. h) (λ x e. (omega (arith, e, past), omega (arith, e, inside))) inv.within
-          (sector_freed c.loop-sector.sector (replicate 512 0) mid new (g.met.M.Medium.sound c.loop-sector.m) c.write.ensures.passes c.write.ensures.sets);
+      within = one_more_cleared (IsBetween c.args.from c.args.end) c.loop-sector.sector old mid new (g.met.M.Medium.sound c.loop-sector.m)
+          (omega (arith, past), omega (arith, inside)) inv.within c.write.ensures.passes c.write.ensures.sets;
       size = c.write.ensures.passes.size_stays ∙ inv.size;
       calls = omega (arith, c.write.ensures.passes.calls_are, inv.calls, past);
-      failures = omega (arith, inv.failures, failures_grow mid new c.write.ensures.passes);
       follows = g.met.M.Medium.follows_through c.args.m.now c.loop-sector.m c.write.new.self inv.follows c.write.ensures.follows;
     }

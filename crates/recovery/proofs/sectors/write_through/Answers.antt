@@ -1,5 +1,5 @@
 use Rattle.recovery.proofs.Making.{sector_written, sector_flushed}
-use Rattle.recovery.proofs.formatting.write_through.Goals as goal
+use Rattle.recovery.proofs.sectors.write_through.Goals as goal
 
 pub returns-in_err-write-clause-moments : goal.returns-in_err-write-clause-moments
 returns-in_err-write-clause-moments g c =

@@ -1,0 +1,93 @@
+-- What a migration to format 2 answers, and what it leaves.
+use Rattle.std.specs.Prelude.{◌≡◌, ◌⊎◌, ℕ, ◌+◌, ◌*◌, ◌^◌, ◌<◌, ◌≤◌, length, min, replicate, Bool, true, false}
+use Rattle.medium.specs.Medium.{State, Image, CutLeaves}
+use Rattle.medium.specs.Moments.{EachCut, IsFlushed, LeavesOnly, SparesFrom}
+use Rattle.medium.specs.Blocks.{Array}
+use Rattle.log_layout.specs.declared.log_format.LogFormat.TheVariants.{One, Two}
+use Rattle.log_layout.specs.Places.{Shape, first_home, sectors_of, migrated}
+use Rattle.log_layout.specs.Sectors.{IsSuper, IsHead}
+use Rattle.log_layout.specs.Values.{shape_of}
+use Rattle.log_image.specs.Standing.{StandsFor, IsOurs}
+use Rattle.recovery.specs.Causes.{HasFewSlots, WritesNothing, IsRefusalBy}
+use Rattle.recovery.specs.Copies.{copy_calls, AreTries}
+use Rattle.recovery.specs.Recovered.{IsRecoveredFrom, IsFresh, IsOursForSome, IsOursWithNext, SparesTheRest}
+use Rattle.recovery.specs.declared.recovered.Recovered.{Recovered}
+use Rattle.recovery.specs.declared.start_fault.StartFault.{StartFault}
+
+-- a log of format 1 in which a slot of format 2 has room
+pub record CanMigrate (shape : Shape) : Type 0 where
+  pub one : shape.format ≡ One
+  pub room : 5 ≤ shape.slots
+
+-- the image is a good one of format 1, but no slot of format 2 has room in its log
+abbrev pub HasSmallLog : ℕ → Image → Type 0
+HasSmallLog size image = HasFewSlots 5 size image
+
+-- The one image that a cut may leave has the super of format 2, this head, and zeros from there up
+-- to home.
+pub record IsMadeTwo (shape : Shape) (next : ℕ) (m : State) : Type 0 where
+  pub flushed : IsFlushed m
+  pub super : IsSuper (migrated shape) (m.content 0)
+  pub head : IsHead next (m.content 1)
+  pub zeros : (x : ℕ) → 2 ≤ x → x < first_home shape → m.content x ≡ replicate 512 0
+
+-- no record waits in the image, which is of the format that it had or of format 2
+abbrev pub IsFreshInEither : Shape → Array → ℕ → Image → Type 0
+IsFreshInEither shape array next image =
+    IsFresh shape array next image ⊎ IsFresh (migrated shape) array next image
+
+-- The answer is what contents of format 1 stood for, with a stamp left for the next record, and the
+-- sizes of format 2. They have become format 2, with the head at that stamp and the array at home,
+-- which is ours, and every sector behind the image is as it was. The calls are those of a recovery,
+-- and then a write for each sector of the log, a flush, the head, a flush, the super and a flush.
+pub record IsMigratedFrom (old new : State) (answer : Recovered) : Type 0 where
+  pub shape : Shape
+  pub could : CanMigrate shape
+  pub sizes_are : shape_of answer.sizes ≡ migrated shape
+  pub array : Array
+  pub stood : StandsFor old.size shape old.content array answer.next
+  pub stamp_left : answer.next < 2 ^ 63
+  pub made : IsMadeTwo shape answer.next new
+  pub home : (b : ℕ) → b < shape.blocks → new.content (first_home shape + b) ≡ array b
+  pub behind : (x : ℕ) → sectors_of shape ≤ x → new.content x ≡ old.content x
+  pub ours : IsOurs old.size (migrated shape) new.content array (answer.next + 1)
+  pub calls : AreTries One (min (length stood.records + 1) shape.slots)
+      (old.calls + 6 + copy_calls One stood.records + 50 * shape.slots + 5) new.calls
+
+-- by whether there was format 1: it has become format 2, or there was format 2 and it is recovered
+abbrev pub IsMigrationBy : Bool → State → State → Recovered → Type 0
+IsMigrationBy true old new answer = IsMigratedFrom old new answer
+IsMigrationBy false old new answer = (answer.sizes.format ≡ Two) × IsRecoveredFrom old new answer
+
+-- why a migration is refused: by the medium, or by the image, and then nothing was written
+abbrev pub IsMigrationCause : State → State → StartFault → Type 0
+IsMigrationCause old new fault = IsRefusalBy 5 WritesNothing old new fault
+
+-- The image is ours for this array, in the format that it had, with this next stamp or the one
+-- behind it, or in format 2 in place of format 1, with the one behind it.
+abbrev pub IsOursInEither : ℕ → Shape → Array → ℕ → Image → Type 0
+IsOursInEither size shape array next image = IsOursWithNext size shape array next image
+    ⊎ (CanMigrate shape × IsOurs size (migrated shape) image array (next + 1))
+
+-- so for an array that an image allowed before stood for
+pub record StandsInEither (old : State) (image : Image) : Type 0 where
+  pub before : Image
+  pub allowed : CutLeaves old.may_leave before
+  pub shape : Shape
+  pub array : Array
+  pub next : ℕ
+  pub was : IsOurs old.size shape before array next
+  pub is : IsOursInEither old.size shape array next image
+
+-- What a migration leaves at each moment of it, good or refused.
+pub record MigrationLeaves (old new : State) : Type 0 where
+  -- Where every image is ours, a cut leaves one that is ours for one of the arrays.
+  pub cuts : EachCut (IsOursForSome old.size) old → LeavesOnly (StandsInEither old) old new
+  -- From the first good flush on it is that of the contents. A second call follows a good one only.
+  pub after_flush : (shape : Shape) (array : Array) (next : ℕ)
+      → IsOurs old.size shape old.content array next → old.calls + 2 ≤ new.calls
+      → (image : Image) → new.left_since (old.calls + 1) image
+      → IsOursInEither old.size shape array next image
+  pub spares : SparesTheRest old new
+  -- nothing is written where the log is too small
+  pub small : HasSmallLog old.size old.content → SparesFrom 0 old new

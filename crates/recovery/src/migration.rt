@@ -1,0 +1,88 @@
+//! The migration of an image of format 1 to format 2.
+ghost use Rattle.std.specs.Prelude.{◌≡◌, ◌<◌, ◌≤◌, ◌+◌, ◌*◌, ◌^◌, ℕ, OnOk, IfOk, IfErr};
+ghost use Rattle.medium.specs.Moments.{EachCut, IsFlushed, LeavesOnly, SparesFrom};
+ghost use Rattle.medium.specs.Blocks.{Array};
+ghost use Rattle.log_layout.specs.Places.{Shape, first_home, sectors_of, migrated};
+ghost use Rattle.log_layout.specs.Values.{shape_of};
+ghost use Rattle.log_image.specs.Standing.{StandsFor, IsOurs};
+ghost use Rattle.recovery.specs.Causes.{IsDeviceFault, IsRefusedCall};
+ghost use Rattle.recovery.specs.Recovered.{IsFresh};
+ghost use Rattle.recovery.specs.Migrated.{CanMigrate, HasSmallLog, IsMadeTwo, IsMigrationBy, IsMigrationCause, IsFreshInEither, MigrationLeaves};
+
+use crate::new_head::move_head;
+use crate::recovery::recover_at_least;
+use crate::sectors::{clear, write_through};
+use crate::{Recovered, StartFault};
+use log_layout::LogFormat;
+use medium::{Medium, MediumFault};
+
+/// Recovers an image and, where it is of format 1, makes it one of format 2 with the same blocks:
+/// zeros to each sector of its log, a flush, the head, a flush, the super and a flush. It answers
+/// what is there then, and whether it was of format 1. It takes no memory.
+///
+/// A fault of the image is found before the first write: those of a recovery, and, before that no
+/// stamp is left, that the log of format 1 has fewer than 5 slots.
+pub fn migrate<M: Medium>(m: &mut M) -> Result<(Recovered, bool), StartFault>
+    // A function of the contents: what they stood for, whether or not other images were allowed.
+    ensures ok { IfOk result (λ answer.
+        IsMigrationBy answer.1 (M.state m.old) (M.state m.new) answer.0) }
+    // Where the contents were ours, nothing in any image carries the next stamp or a later one.
+    ensures fresh { (shape : Shape) (array : Array) (next : ℕ)
+        → IsOurs (M.state m.old).size shape (M.state m.old).content array next
+        → IfOk result (λ answer.
+        EachCut (IsFresh (shape_of answer.0.sizes) array next) (M.state m.new)) }
+    ensures err { IfErr result (IsMigrationCause (M.state m.old) (M.state m.new)) }
+    // Contents that stand for something, with a stamp left and a log that is no small one, are
+    // refused by the device alone.
+    ensures served { (shape : Shape) (array : Array) (next : ℕ)
+        → StandsFor (M.state m.old).size shape (M.state m.old).content array next → next < 2 ^ 63
+        → (¬ HasSmallLog (M.state m.old).size (M.state m.old).content)
+        → IfErr result IsDeviceFault }
+    // At each moment, good or refused.
+    ensures leaves { MigrationLeaves (M.state m.old) (M.state m.new) }
+    // Whatever the image: no count falls, and the size stays.
+    ensures moments { LeavesOnly (λ _. Unit {0}) (M.state m.old) (M.state m.new) }
+    ensures calls { (M.state m.new).calls ≤ (M.state m.old).calls + 6 + 738 * 64 }
+    ensures follows { M.follows m.old m.new }
+{
+    let found = recover_at_least(m, 5)?;
+    match found.sizes.format {
+        LogFormat::One => Ok((make_two(m, &found)?, true)),
+        LogFormat::Two => Ok((found, false)),
+    }
+}
+
+// Makes what was recovered of format 1 an image of format 2. The log is wiped and flushed before the
+// super is of format 2, so that no old bytes are ever read as a record of it.
+fn make_two<M: Medium>(m: &mut M, found: &Recovered) -> Result<Recovered, MediumFault>
+    requires can { CanMigrate (shape_of found.now.sizes) }
+    requires fits { sectors_of (shape_of found.now.sizes) ≤ (M.state m.old).size }
+    requires flushed { IsFlushed (M.state m.old) }
+    requires least { 1 ≤ found.now.next }
+    requires most { found.now.next < 2 ^ 63 }
+    ensures answer { IfOk result (λ made.
+        (shape_of made.sizes ≡ migrated (shape_of found.now.sizes))
+        × (made.next ≡ found.now.next)) }
+    ensures made { OnOk result
+        (IsMadeTwo (shape_of found.now.sizes) found.now.next (M.state m.new)) }
+    ensures leaves { (array : Array)
+        → IsFresh (shape_of found.now.sizes) array found.now.next (M.state m.old).content
+        → LeavesOnly (IsFreshInEither (shape_of found.now.sizes) array found.now.next)
+        (M.state m.old) (M.state m.new) }
+    ensures spares { SparesFrom (first_home (shape_of found.now.sizes))
+        (M.state m.old) (M.state m.new) }
+    ensures exact { OnOk result
+        ((M.state m.new).calls ≡ (M.state m.old).calls + 50 * found.now.sizes.slots + 5) }
+    ensures calls { (M.state m.new).calls ≤ (M.state m.old).calls + 50 * found.now.sizes.slots + 5 }
+    ensures cause { IfErr result (IsRefusedCall (M.state m.old) (M.state m.new)) }
+    ensures follows { M.follows m.old m.new }
+{
+    let sizes = found.sizes.migrated();
+    clear(m, 2, sizes.home)?;
+    move_head(m, found.next)?;
+    write_through(m, 0, &sizes.encode())?;
+    Ok(Recovered {
+        sizes,
+        next: found.next,
+    })
+}
