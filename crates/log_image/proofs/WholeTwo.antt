@@ -10,23 +10,15 @@ use Rattle.medium.specs.Medium.{Image}
 use Rattle.log_layout.specs.Places.{Shape}
 use Rattle.log_layout.specs.Spelling.{number_in}
 use Rattle.log_layout.specs.Sectors.{IsRising}
-use Rattle.log_layout.specs.SectorsTwo.{descriptors_of, descriptor_bytes, place_bytes, commit_bytes, firsts_of, chunk_of, IsDescriptorTwo, IsCommitTwo}
+use Rattle.log_layout.specs.SectorsTwo.{descriptor_bytes, place_bytes, commit_bytes, firsts_of, chunk_of, IsDescriptorTwo, IsCommitTwo}
 use Rattle.log_layout.proofs.EntriesTwo.{number_is, first_is, commit_count}
 use Rattle.log_layout.proofs.RecordTwo.{numbers_of_chunk, descriptor_of_two, descriptor_two, place_own}
 use Rattle.log_image.specs.Record.{Entry, numbers_of, block_of}
 use Rattle.log_image.specs.Layout.{IsWholeIn}
 use Rattle.log_image.specs.Format2.{format2, entry_in, record_in, part2, offset2}
+use Rattle.log_image.specs.SlotTwo.{HasDescriptors, HasPlaces}
 use Rattle.log_image.proofs.Format2Laws.{Kind, Described, Placed, Committed, kind_of, offset_descriptor, offset_place, offset_commit, part_descriptor, part_place, part_commit}
 use Rattle.log_image.proofs.Copying.{place_there}
-
--- the descriptors of a record with these block numbers stand from this sector on
-abbrev pub HasDescriptors : Image → ℕ → ℕ → List ℕ → Type 0
-HasDescriptors image at stamp numbers = (j : ℕ) → j < descriptors_of (length numbers)
-    → (firsts : List (List ℕ)) × IsDescriptorTwo stamp (length numbers) j (take 30 (drop (30 * j) numbers)) firsts (image (at + j))
-
--- and the data places of a record of so many blocks
-abbrev pub HasPlaces : Image → ℕ → ℕ → ℕ → Type 0
-HasPlaces image at stamp count = (i : ℕ) → i < count → image (at + (8 + i)) ≡ place_bytes stamp (image (at + (8 + i)))
 
 -- data places have 512 bytes each
 abbrev pub AreSectors : Image → ℕ → ℕ → Type 0

@@ -3,6 +3,7 @@ pub mod Layout
 pub mod LayoutLaws
 pub mod Format1
 pub mod Format2
+pub mod SlotTwo
 pub mod Formats
 pub mod Copies
 pub mod Standing

@@ -104,7 +104,7 @@ fn are_block_numbers(numbers: &[u64]) -> bool
 }
 
 /// Whether each number is below the next.
-pub(crate) fn are_rising(numbers: &[u64]) -> bool
+pub fn are_rising(numbers: &[u64]) -> bool
     ensures { IsTrue result ↔ IsRising numbers.now }
 {
     for i in 1..numbers.len() {

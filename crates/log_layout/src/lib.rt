@@ -22,7 +22,7 @@ mod whole;
 pub use commit::Commit;
 pub use commit_two::Commit2;
 pub use data_two::{data_sector2, is_data2};
-pub use descriptor::Descriptor;
+pub use descriptor::{Descriptor, are_rising};
 pub use descriptor_two::Descriptor2;
 pub use head::Head;
 pub use laws::layout_laws;

@@ -1,32 +1,112 @@
--- The blocks that the descriptors of a slot name are those of its record.
-use Rattle.std.proofs.Common.{◌≡◌, ℕ, ◌+◌, ◌*◌, ◌%◌, ◌<◌, List, [], length, get_or, refl, sym, ◌∙◌, ap, arith}
+-- The blocks that a descriptor of a whole record names are the record's.
+use Rattle.std.proofs.Common.{◌≡◌, ℕ, ◌+◌, ◌*◌, ◌-◌, ◌%◌, ◌<◌, ◌≤◌, List, [], ◌++◌, length, get_or, take, drop, refl, sym, ◌∙◌, ap, subst, arith}
+use Rattle.std.specs.Prelude.{All, min}
+use Rattle.std.proofs.Math.ListN.{get_or-map}
+use Rattle.std.proofs.lemmas.Nat.{mod_below}
+use Rattle.std.proofs.lemmas.List.Elements.{All-take, All-drop}
+use Rattle.std.proofs.lemmas.List.{length-map, length-take, length-drop, get_or-take, get_or-drop}
 use Rattle.medium.specs.Medium.{Image}
 use Rattle.log_layout.specs.declared.log_format.LogFormat.TheVariants.{Two}
-use Rattle.log_layout.specs.Places.{Shape, first_home}
-use Rattle.log_image.specs.Record.{Entry, numbers_of}
-use Rattle.log_image.specs.Format2.{entry_in}
+use Rattle.log_layout.specs.Places.{Shape, first_home, IsFirstHome}
+use Rattle.log_layout.specs.SectorsTwo.{descriptors_of, chunk_of, firsts_of, place_bytes, IsDescriptorTwo, IsCommitTwo}
+use Rattle.log_layout.proofs.BytesTwo.{place_rest, two_parts}
+use Rattle.log_layout.proofs.RecordTwo.{numbers_of_chunk}
+use Rattle.log_image.specs.Record.{Entry, numbers_of, block_of}
 use Rattle.log_image.specs.Formats.{IsWhole}
-use Rattle.recovery.specs.Copies.{IsHomeInRecord}
-use Rattle.recovery.specs.SlotTwo.{block_number, IsHomeOfListed}
+use Rattle.log_image.proofs.Copying.{place_there}
+use Rattle.log_image.proofs.WholeTwo.{commit_whole, descriptor_whole}
+use Rattle.recovery.specs.Copies.{IsHomeOf, IsHomeInRecord}
 use Rattle.recovery.proofs.Copying.{number_of, long_as}
-use Rattle.recovery.proofs.WholeTwo.{as_two, entry_is, number_is}
+use Rattle.recovery.proofs.WholeTwo.{as_two, slot_two}
 
-module _ (shape : Shape) (image : Image) (stamp slot : ℕ) (es : List Entry) (two : shape.format ≡ Two) (where_is : slot ≡ stamp % shape.slots) (whole : IsWhole shape image stamp es) where
-  -- the i-th entry
-  pub entry_listed : (i : ℕ) → i < length es → get_or es i (0, []) ≡ entry_in image (2 + 249 * slot) i
-  entry_listed i below =
-      entry_is shape image stamp es (as_two shape image stamp es two whole) i below ∙ ap (λ (k : ℕ). entry_in image (2 + 249 * k) i) (sym where_is)
+module _ (shape : Shape) (image : Image) (stamp slot : ℕ) (es : List Entry) (two : shape.format ≡ Two) (where_is : slot ≡ stamp % shape.slots)
+    (some : 1 ≤ shape.slots) (home : IsFirstHome shape.format shape.slots shape.home) (whole : IsWhole shape image stamp es) where
+  -- its commit
+  pub committed : IsCommitTwo stamp (length es) (image (2 + 249 * slot + 248))
+  committed = subst (λ (k : ℕ). IsCommitTwo stamp (length es) (image (2 + 249 * k + 248))) (sym where_is) (commit_whole shape image stamp es (as_two shape image stamp es two whole))
 
-  -- its number
-  pub number_listed : (i : ℕ) → i < length es → (get_or es i (0, [])).0 ≡ block_number image (2 + 249 * slot) i
-  number_listed i below = ap (λ (e : Entry). e.0) (entry_listed i below) ∙ sym (number_is image (2 + 249 * slot) i)
+  few : length es ≤ 240
+  few = (as_two shape image stamp es two whole).fit.few
 
-  -- where it is at home
-  pub home_listed : (n x : ℕ) → n ≡ length es → IsHomeOfListed shape image (2 + 249 * slot) n x → IsHomeInRecord shape image stamp x
-  home_listed n x many home =
-      let i = home.0 in
-      let below = home.1 in
-      let inside : home.0 < length es = omega (arith, below, many) in
-      let long = long_as es (numbers_of es) refl in
-      let number : get_or (numbers_of es) home.0 0 ≡ block_number image (2 + 249 * slot) home.0 = number_of es (numbers_of es) home.0 refl ∙ number_listed home.0 inside in
-      (es, whole, (home.0, omega (arith, inside, long), home.2 ∙ ap (λ (k : ℕ). first_home shape + k) (sym number)))
+  -- the slot stands before home
+  pub in_front : (x : ℕ) → x < 249 → ¬ IsHomeInRecord shape image stamp (2 + 249 * slot + x)
+  in_front x small h =
+      let is = h.2.2 in
+      let ends = slot_two shape (stamp % shape.slots) two home (mod_below stamp shape.slots some) in
+      omega (arith, ends, where_is, is, small)
+
+  -- descriptor j, in each image that is the same elsewhere
+  pub described : (now : Image) (count j : ℕ) → count ≡ length es → j < descriptors_of count → ((x : ℕ) → ¬ IsHomeInRecord shape image stamp x → now x ≡ image x)
+      → IsDescriptorTwo stamp count j (numbers_of (chunk_of es j)) (firsts_of (chunk_of es j)) (now (2 + 249 * slot + j))
+  described now count j many below elsewhere =
+      let same = elsewhere (2 + 249 * slot + j) (in_front j (omega (arith, many, below, few))) in
+      subst (λ (n : ℕ). IsDescriptorTwo stamp n j (numbers_of (chunk_of es j)) (firsts_of (chunk_of es j)) (now (2 + 249 * slot + j))) (sym many)
+      (subst (IsDescriptorTwo stamp (length es) j (numbers_of (chunk_of es j)) (firsts_of (chunk_of es j))) (sym (same ∙ ap (λ (k : ℕ). image (2 + 249 * k + j)) where_is))
+      (descriptor_whole shape image stamp es (as_two shape image stamp es two whole) j (omega (arith, many, below))))
+
+  module _ (j : ℕ) (numbers : List ℕ) (firsts : List (List ℕ)) (named : numbers ≡ numbers_of (chunk_of es j)) (begun : firsts ≡ firsts_of (chunk_of es j)) where
+    -- entry e is that of block 30 j + e
+    entry : (e : ℕ) → e < length numbers → get_or (chunk_of es j) e (0, []) ≡ get_or es (30 * j + e) (0, [])
+    entry e below = get_or-take 30 (drop (30 * j) es) e (0, []) (omega (arith, below, long_as (chunk_of es j) numbers named, length-take 30 (drop (30 * j) es))) ∙ get_or-drop (30 * j) es e (0, [])
+
+    pub in_record : (e : ℕ) → e < length numbers → 30 * j + e < length es
+    in_record e below = omega (arith, below, long_as (chunk_of es j) numbers named, length-take 30 (drop (30 * j) es), length-drop (30 * j) es)
+
+    pub number_named : (e : ℕ) → e < length numbers → get_or numbers e 0 ≡ (get_or es (30 * j + e) (0, [])).0
+    number_named e below = number_of (chunk_of es j) numbers e named ∙ ap (λ (x : Entry). x.0) (entry e below)
+
+    pub length_named : length numbers ≡ min 30 (length es - 30 * j)
+    length_named = omega (arith, long_as (chunk_of es j) numbers named, length-take 30 (drop (30 * j) es), length-drop (30 * j) es)
+
+    pub inside_named : All (λ b. b < shape.blocks) numbers
+    inside_named =
+        let P : ℕ → Type 0 = λ b. b < shape.blocks in
+        subst (All P) (sym (named ∙ numbers_of_chunk es j)) (All-take P 30 (drop (30 * j) (numbers_of es)) (All-drop P (30 * j) (numbers_of es) whole.fit.inside))
+
+    -- its first bytes and its data place make the block
+    pub block_named : (e : ℕ) → e < length numbers → get_or firsts e [] ++ drop 8 (image (2 + 249 * slot + (8 + (30 * j + e)))) ≡ block_of es (30 * j + e)
+    block_named e below =
+        let i : ℕ = 30 * j + e in
+        let first : Entry → List ℕ = λ x. take 8 x.1 in
+        let place : image (2 + 249 * slot + (8 + (30 * j + e))) ≡ place_bytes stamp (block_of es (30 * j + e)) =
+        ap (λ (k : ℕ). image (2 + 249 * k + (8 + (30 * j + e)))) where_is ∙ place_there shape image stamp es (as_two shape image stamp es two whole) i (in_record e below) in
+        ap (λ (l : List (List ℕ)). get_or l e [] ++ drop 8 (image (2 + 249 * slot + (8 + i)))) begun
+        ∙ ap (λ (l : List ℕ). l ++ drop 8 (image (2 + 249 * slot + (8 + i)))) (get_or-map first (chunk_of es j) e (0, []) ∙ ap first (entry e below))
+        ∙ ap (λ (l : List ℕ). take 8 (block_of es i) ++ drop 8 l) place
+        ∙ ap (λ (l : List ℕ). take 8 (block_of es i) ++ l) (place_rest stamp (block_of es i))
+        ∙ two_parts (block_of es i)
+
+    -- where it is at home
+    pub home_named : (x : ℕ) → IsHomeOf shape numbers x → IsHomeInRecord shape image stamp x
+    home_named x home =
+        let i : ℕ = 30 * j + home.0 in
+        let long = long_as es (numbers_of es) refl in
+        let number : get_or (numbers_of es) (30 * j + home.0) 0 ≡ get_or numbers home.0 0 = number_of es (numbers_of es) i refl ∙ sym (number_named home.0 home.1) in
+        (es, whole, (i, omega (arith, in_record home.0 home.1, long), home.2 ∙ ap (λ (k : ℕ). first_home shape + k) (sym number)))
+
+    -- the blocks before these are at home elsewhere
+    pub apart : (i : ℕ) → i < 30 * j → ¬ IsHomeOf shape numbers (first_home shape + (get_or es i (0, [])).0)
+    apart i less home =
+        let below = home.1 in
+        let is = home.2 in
+        let inside = in_record home.0 home.1 in
+        let up = whole.fit.rising i (30 * j + home.0) (omega arith) (omega (arith, inside, long_as es (numbers_of es) refl)) in
+        omega (arith, up, is, number_named home.0 home.1, number_of es (numbers_of es) i refl, number_of es (numbers_of es) (30 * j + home.0) refl)
+
+    -- once these are copied, from an image that is the same elsewhere
+    pub copied_here : (from to : Image) (index : ℕ) → index ≡ j → ((x : ℕ) → ¬ IsHomeInRecord shape image stamp x → from x ≡ image x)
+        → ((e : ℕ) → e < length numbers → to (first_home shape + get_or numbers e 0) ≡ get_or firsts e [] ++ drop 8 (from (2 + 249 * slot + (8 + (30 * index + e)))))
+        → (i : ℕ) → i < length es → 30 * j ≤ i → i < 30 * (j + 1) → to (first_home shape + (get_or es i (0, [])).0) ≡ block_of es i
+    copied_here from to index here elsewhere copied i inside least most =
+        let e : ℕ = i - 30 * j in
+        let back : 30 * j + e ≡ i = omega arith in
+        let below : e < length numbers = omega (arith, length_named) in
+        let place : from (2 + 249 * slot + (8 + (30 * index + e))) ≡ image (2 + 249 * slot + (8 + (30 * j + e))) =
+        ap (λ (k : ℕ). from (2 + 249 * slot + (8 + (30 * k + e)))) here 
+        ∙ elsewhere (2 + 249 * slot + (8 + (30 * j + e))) (in_front (8 + (30 * j + e)) (omega (arith, few, back, inside))) in
+        ap (λ (k : ℕ). to (first_home shape + (get_or es k (0, [])).0)) (sym back)
+        ∙ ap (λ (n : ℕ). to (first_home shape + n)) (sym (number_named e below))
+        ∙ copied e below
+        ∙ ap (λ (l : List ℕ). get_or firsts e [] ++ drop 8 l) place
+        ∙ block_named e below
+        ∙ ap (λ (k : ℕ). block_of es k) back

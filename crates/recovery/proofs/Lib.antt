@@ -1,4 +1,3 @@
-pub mod SpellingTwo
 pub mod WholeOne
 pub mod WholeTwo
 pub mod Carrying
@@ -12,6 +11,6 @@ pub mod Zeros
 pub mod Sparing
 pub mod Making
 pub mod Trying
-pub mod Listing
 pub mod Homing
 pub mod Migrating
+pub mod Naming

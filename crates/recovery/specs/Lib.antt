@@ -3,5 +3,4 @@ pub mod Found
 pub mod Copies
 pub mod Recovered
 pub mod Formatted
-pub mod SlotTwo
 pub mod Migrated

@@ -1,96 +1,56 @@
 //! The copying of a whole record home, in format 2.
-ghost use Rattle.std.specs.Prelude.{◌≡◌, ◌≢◌, ◌<◌, ◌≤◌, ◌+◌, ◌*◌, ◌/◌, ◌%◌, List, ℕ, OnOk, IfErr, [], ◌++◌, length, get_or, drop, slice_range};
+ghost use Rattle.std.specs.Prelude.{◌≡◌, ◌<◌, ◌≤◌, ◌+◌, ◌*◌, List, ℕ, OnOk, IfErr, [], ◌++◌, length, slice_index, get_or, drop, All};
 ghost use Rattle.medium.specs.Moments.{StaysWithin};
 ghost use Rattle.log_layout.specs.declared.log_format.LogFormat.TheVariants.{Two};
 ghost use Rattle.log_layout.specs.Places.{first_home, sectors_of};
 ghost use Rattle.log_layout.specs.SectorsTwo.{descriptors_of};
 ghost use Rattle.log_layout.specs.Values.{shape_of};
 ghost use Rattle.log_image.specs.Record.{Entry, block_of};
-ghost use Rattle.log_image.specs.Format2.{entry_in};
 ghost use Rattle.log_image.specs.Formats.{IsWhole, HasWhole};
 ghost use Rattle.recovery.specs.Causes.{IsRefusedCall};
-ghost use Rattle.recovery.specs.Copies.{freed_at, IsHomeInRecord};
-ghost use Rattle.recovery.specs.SlotTwo.{number_from, block_number, IsHomeOfListed};
+ghost use Rattle.recovery.specs.Copies.{freed_at, IsHomeOf, IsHomeInRecord};
 
 use crate::copies::copy_sector;
-use crate::record_two::{data_place, entry_place, read_count, read_descriptor};
-use crate::sector_two::number_at;
-use log_layout::{Super, slot_of};
+use crate::record_two::{ENTRIES, data_place, read_count, read_descriptor};
+use log_layout::{Descriptor2, Super, slot_of};
 use medium::{Medium, MediumFault};
 
-// Copies the i-th block home, which this descriptor names.
-fn copy_block<M: Medium>(
+// Copies the blocks home that a descriptor of the record in a slot names.
+fn copy_named<M: Medium>(
     m: &mut M,
     sizes: &Super,
     slot: u64,
-    i: u64,
-    descriptor: &[u8; 512],
+    descriptor: &Descriptor2,
 ) -> Result<(), MediumFault>
     requires slot { slot < 64 }
-    requires few { i < 240 }
-    requires fits { sectors_of (shape_of sizes.now) ≤ (M.state m.old).size }
-    requires log { 2 + 249 * slot + 249 ≤ (M.state m.old).size }
-    requires inside { number_from descriptor.now (32 + 16 * (i % 30)) < sizes.now.blocks }
-    ensures done { OnOk result ((M.state m.new).content (first_home (shape_of sizes.now)
-        + number_from descriptor.now (32 + 16 * (i % 30)))
-        ≡ slice_range descriptor.now (40 + 16 * (i % 30)) (40 + 16 * (i % 30) + 8)
-        ++ drop 8 ((M.state m.old).content (2 + 249 * slot + (8 + i)))) }
-    ensures elsewhere { (x : ℕ) → x ≢ first_home (shape_of sizes.now)
-        + number_from descriptor.now (32 + 16 * (i % 30))
-        → (M.state m.new).content x ≡ (M.state m.old).content x }
-    ensures within { StaysWithin (freed_at (λ x. x ≡ first_home (shape_of sizes.now)
-        + number_from descriptor.now (32 + 16 * (i % 30))) (M.state m.old).may_leave)
-        (M.state m.old) (M.state m.new) }
-    ensures calls { (M.state m.new).calls ≤ (M.state m.old).calls + 2 }
-    ensures exact { OnOk result ((M.state m.new).calls ≡ (M.state m.old).calls + 2) }
-    ensures cause { IfErr result (IsRefusedCall (M.state m.old) (M.state m.new)) }
-    ensures follows { M.follows m.old m.new }
-{
-    let place = entry_place(i);
-    let home = sizes.home_of(number_at(descriptor, place));
-    copy_sector(
-        m,
-        data_place(slot, i),
-        home,
-        &descriptor[place + 8..place + 16],
-    )
-}
-
-// Copies the first blocks of the record in a slot home.
-fn copy_blocks<M: Medium>(
-    m: &mut M,
-    sizes: &Super,
-    slot: u64,
-    count: u64,
-) -> Result<(), MediumFault>
-    requires slot { slot < 64 }
-    requires few { count ≤ 240 }
     requires fits { sectors_of (shape_of sizes.now) ≤ (M.state m.old).size }
     requires log { 2 + 249 * slot + 249 ≤ first_home (shape_of sizes.now) }
-    requires rising { (i k : ℕ) → i < k → k < count
-        → block_number (M.state m.old).content (2 + 249 * slot) i
-        < block_number (M.state m.old).content (2 + 249 * slot) k }
-    requires inside { (i : ℕ) → i < count
-        → block_number (M.state m.old).content (2 + 249 * slot) i < sizes.now.blocks }
-    ensures done { OnOk result ((i : ℕ) → i < count
+    requires inside { All (λ b. b < sizes.now.blocks) descriptor.now.numbers.items }
+    ensures done { OnOk result ((e : ℕ) → e < length descriptor.now.numbers.items
         → (M.state m.new).content (first_home (shape_of sizes.now)
-        + block_number (M.state m.old).content (2 + 249 * slot) i)
-        ≡ (entry_in (M.state m.old).content (2 + 249 * slot) i).1) }
-    ensures elsewhere { (x : ℕ) → ¬ IsHomeOfListed (shape_of sizes.now) (M.state m.old).content
-        (2 + 249 * slot) count x → (M.state m.new).content x ≡ (M.state m.old).content x }
-    ensures within { StaysWithin (freed_at (IsHomeOfListed (shape_of sizes.now)
-        (M.state m.old).content (2 + 249 * slot) count) (M.state m.old).may_leave)
+        + slice_index descriptor.now.numbers.items e)
+        ≡ get_or descriptor.now.firsts.items e [] ++ drop 8 ((M.state m.old).content
+        (2 + 249 * slot + (8 + (30 * descriptor.now.index + e))))) }
+    ensures elsewhere { (x : ℕ)
+        → ¬ IsHomeOf (shape_of sizes.now) descriptor.now.numbers.items x
+        → (M.state m.new).content x ≡ (M.state m.old).content x }
+    ensures within { StaysWithin (freed_at (IsHomeOf (shape_of sizes.now)
+        descriptor.now.numbers.items) (M.state m.old).may_leave)
         (M.state m.old) (M.state m.new) }
-    ensures calls { (M.state m.new).calls ≤ (M.state m.old).calls + 488 }
+    ensures calls { (M.state m.new).calls
+        ≤ (M.state m.old).calls + 2 * length descriptor.now.numbers.items }
     ensures exact { OnOk result ((M.state m.new).calls
-        ≡ (M.state m.old).calls + descriptors_of count + 2 * count) }
+        ≡ (M.state m.old).calls + 2 * length descriptor.now.numbers.items) }
     ensures cause { IfErr result (IsRefusedCall (M.state m.old) (M.state m.new)) }
     ensures follows { M.follows m.old m.new }
 {
-    let mut descriptor = [0; 512];
-    for i in 0..count {
-        read_descriptor(m, slot, i, &mut descriptor)?;
-        copy_block(m, sizes, slot, i, &descriptor)?;
+    for e in 0..descriptor.numbers.len() {
+        copy_sector(
+            m,
+            data_place(slot, ENTRIES * descriptor.index + e as u64),
+            sizes.home_of(descriptor.numbers[e]),
+            &descriptor.firsts[e],
+        )?;
     }
     Ok(())
 }
@@ -123,8 +83,14 @@ pub(crate) fn copy_record<M: Medium>(
     ensures follows { M.follows m.old m.new }
 {
     let slot = slot_of(stamp, sizes.slots);
-    match read_count(m, slot, stamp)? {
-        None => Ok(()),
-        Some(count) => copy_blocks(m, sizes, slot, count),
+    let Some(count) = read_count(m, slot, stamp)? else {
+        return Ok(());
+    };
+    for j in 0..count.div_ceil(ENTRIES) {
+        let Some(descriptor) = read_descriptor(m, slot, stamp, count, j)? else {
+            return Ok(());
+        };
+        copy_named(m, sizes, slot, &descriptor)?;
     }
+    Ok(())
 }

@@ -13,7 +13,6 @@ mod record_one;
 mod record_two;
 mod recovered;
 mod recovery;
-mod sector_two;
 mod sectors;
 mod start_fault;
 mod survey;

@@ -1,17 +1,21 @@
 //! Whether the record of a stamp is whole, in format 2.
-ghost use Rattle.std.specs.Prelude.{◌≡◌, ◌≤◌, ◌<◌, ◌+◌, ◌*◌, ◌/◌, ◌%◌, ◌^◌, ℕ, OnOk, IfOk, IfErr, IfSome, IsSomeAnd, IsTrue, ◌↔◌};
+ghost use Rattle.std.specs.Prelude.{◌≡◌, ◌≤◌, ◌<◌, ◌+◌, ◌*◌, ℕ, List, length, All, OnOk, IfOk, IfErr, IfSome, IsSomeAnd, IsTrue, ◌↔◌};
 ghost use Rattle.medium.specs.Moments.{IsQuiet};
 ghost use Rattle.log_layout.specs.declared.log_format.LogFormat.TheVariants.{Two};
 ghost use Rattle.log_layout.specs.Places.{sectors_of};
-ghost use Rattle.log_layout.specs.SectorsTwo.{descriptors_of};
+ghost use Rattle.log_layout.specs.Sectors.{IsRising};
+ghost use Rattle.log_layout.specs.SectorsTwo.{IsDescriptorTwo, IsCommitTwo};
 ghost use Rattle.log_layout.specs.Values.{shape_of};
 ghost use Rattle.log_image.specs.Formats.{HasWhole};
+ghost use Rattle.log_image.specs.SlotTwo.{HasDescriptors, HasPlaces};
 ghost use Rattle.recovery.specs.Causes.{IsRefusedCall, MakesReadsAlone};
-ghost use Rattle.recovery.specs.SlotTwo.{IsCommitted, IsHeaded, IsListed, AreStamped, block_number};
 
-use crate::sector_two::{ENTRIES, is_headed, number_at};
-use log_layout::{Commit2, Super, is_data2, place_of2, slot_of};
+use arrayvec::ArrayVec;
+use log_layout::{Commit2, Descriptor2, Super, are_rising, is_data2, place_of2, slot_of};
 use medium::{Medium, MediumFault};
+
+/// How many entries a descriptor has at most.
+pub(crate) const ENTRIES: u64 = 30;
 
 /// The first data place of a slot, behind the places of 8 descriptors.
 const FIRST_DATA: u64 = 8;
@@ -28,14 +32,6 @@ pub(crate) fn data_place(slot: u64, i: u64) -> u64
     place_of2(slot) + FIRST_DATA + i
 }
 
-/// Where the entry of the i-th block stands in its descriptor.
-pub(crate) fn entry_place(i: u64) -> usize
-    ensures is { result ≡ 32 + 16 * (i % 30) }
-    ensures inside { result + 16 ≤ 512 }
-{
-    32 + 16 * (i % ENTRIES) as usize
-}
-
 /// Reads how many blocks the record of a stamp has, if its commit is there.
 pub(crate) fn read_count<M: Medium>(
     m: &mut M,
@@ -49,9 +45,9 @@ pub(crate) fn read_count<M: Medium>(
     ensures calls { (M.state m.new).calls ≤ (M.state m.old).calls + 1 }
     ensures exact { OnOk result ((M.state m.new).calls ≡ (M.state m.old).calls + 1) }
     ensures cause { IfErr result (IsRefusedCall (M.state m.old) (M.state m.new)) }
-    ensures some { IfOk result (λ found. IfSome found
-        (IsCommitted (M.state m.old).content (2 + 249 * slot) stamp)) }
-    ensures all { (n : ℕ) → IsCommitted (M.state m.old).content (2 + 249 * slot) stamp n
+    ensures some { IfOk result (λ found. IfSome found (λ count.
+        IsCommitTwo stamp count ((M.state m.old).content (2 + 249 * slot + 248)))) }
+    ensures all { (n : ℕ) → IsCommitTwo stamp n ((M.state m.old).content (2 + 249 * slot + 248))
         → IfOk result (λ found. IsSomeAnd found (λ k. k ≡ n)) }
     ensures follows { M.follows m.old m.new }
 {
@@ -63,85 +59,80 @@ pub(crate) fn read_count<M: Medium>(
     }
 }
 
-/// Reads the descriptor of the i-th block, if that is the first block of a descriptor. Otherwise it
-/// is there already.
+/// Reads descriptor j of the record of a stamp with so many blocks, if it is there.
 pub(crate) fn read_descriptor<M: Medium>(
     m: &mut M,
     slot: u64,
-    i: u64,
-    descriptor: &mut [u8; 512],
-) -> Result<(), MediumFault>
-    requires slot { slot < 64 }
-    requires few { i < 240 }
-    requires inside { 2 + 249 * slot + 249 ≤ (M.state m.old).size }
-    requires before { 0 < i % 30
-        → descriptor.old ≡ (M.state m.old).content (2 + 249 * slot + i / 30) }
-    ensures read { OnOk result
-        (descriptor.new ≡ (M.state m.old).content (2 + 249 * slot + i / 30)) }
-    ensures quiet { IsQuiet (M.state m.old) (M.state m.new) }
-    ensures reads { MakesReadsAlone (M.state m.old) (M.state m.new) }
-    ensures calls { (M.state m.new).calls + descriptors_of i
-        ≤ (M.state m.old).calls + descriptors_of (i + 1) }
-    ensures exact { OnOk result ((M.state m.new).calls + descriptors_of i
-        ≡ (M.state m.old).calls + descriptors_of (i + 1)) }
-    ensures cause { IfErr result (IsRefusedCall (M.state m.old) (M.state m.new)) }
-    ensures follows { M.follows m.old m.new }
-{
-    if i % ENTRIES == 0 {
-        m.read(place_of2(slot) + i / ENTRIES, descriptor)
-    } else {
-        Ok(())
-    }
-}
-
-// Whether the descriptor of the i-th block is one of this record, if that is its first block.
-fn is_first_headed(descriptor: &[u8; 512], stamp: u64, count: u64, i: u64) -> bool
-    requires few { count ≤ 240 }
-    requires inside { i < count }
-    ensures { IsTrue result ↔ (i % 30 ≡ 0 → IsHeaded stamp count (i / 30) descriptor.now) }
-{
-    if i % ENTRIES == 0 {
-        is_headed(descriptor, stamp, count, i / ENTRIES)
-    } else {
-        true
-    }
-}
-
-// Whether the descriptors of so many blocks are there, with rising numbers below this one.
-fn are_listed<M: Medium>(
-    m: &mut M,
-    slot: u64,
-    blocks: u64,
     stamp: u64,
     count: u64,
-) -> Result<bool, MediumFault>
+    j: u64,
+) -> Result<Option<Descriptor2>, MediumFault>
     requires slot { slot < 64 }
-    requires some { 1 ≤ count }
+    requires few { j < 8 }
+    requires inside { 2 + 249 * slot + 249 ≤ (M.state m.old).size }
+    ensures quiet { IsQuiet (M.state m.old) (M.state m.new) }
+    ensures reads { MakesReadsAlone (M.state m.old) (M.state m.new) }
+    ensures calls { (M.state m.new).calls ≤ (M.state m.old).calls + 1 }
+    ensures exact { OnOk result ((M.state m.new).calls ≡ (M.state m.old).calls + 1) }
+    ensures cause { IfErr result (IsRefusedCall (M.state m.old) (M.state m.new)) }
+    ensures some { IfOk result (λ found. IfSome found (λ d. (d.index ≡ j)
+        × IsDescriptorTwo stamp count j d.numbers.items d.firsts.items
+        ((M.state m.old).content (2 + 249 * slot + j)))) }
+    ensures all { (numbers : List ℕ) (firsts : List (List ℕ)) → IsDescriptorTwo stamp count j
+        numbers firsts ((M.state m.old).content (2 + 249 * slot + j)) → IfOk result (λ found.
+        IsSomeAnd found (λ d. (d.numbers.items ≡ numbers) × (d.firsts.items ≡ firsts))) }
+    ensures follows { M.follows m.old m.new }
+{
+    let mut sector = [0; 512];
+    m.read(place_of2(slot) + j, &mut sector)?;
+    let Some(found) = Descriptor2::decode(&sector) else {
+        return Ok(None);
+    };
+    if found.stamp == stamp && found.count == count && found.index == j {
+        Ok(Some(found))
+    } else {
+        Ok(None)
+    }
+}
+
+// Reads the numbers of so many blocks, if their descriptors are there.
+fn read_numbers<M: Medium>(
+    m: &mut M,
+    slot: u64,
+    stamp: u64,
+    count: u64,
+) -> Result<Option<ArrayVec<u64, 240>>, MediumFault>
+    requires slot { slot < 64 }
     requires few { count ≤ 240 }
-    requires blocks { blocks ≤ 2 ^ 31 }
     requires inside { 2 + 249 * slot + 249 ≤ (M.state m.old).size }
     ensures quiet { IsQuiet (M.state m.old) (M.state m.new) }
     ensures reads { MakesReadsAlone (M.state m.old) (M.state m.new) }
     ensures calls { (M.state m.new).calls ≤ (M.state m.old).calls + 8 }
     ensures cause { IfErr result (IsRefusedCall (M.state m.old) (M.state m.new)) }
-    ensures listed { IfOk result (λ good. IsTrue good
-        ↔ IsListed blocks (M.state m.old).content (2 + 249 * slot) stamp count) }
+    ensures some { IfOk result (λ found. IfSome found (λ read. (length read.items ≡ count)
+        × HasDescriptors (M.state m.old).content (2 + 249 * slot) stamp read.items)) }
+    ensures all { (numbers : List ℕ) → length numbers ≡ count
+        → HasDescriptors (M.state m.old).content (2 + 249 * slot) stamp numbers
+        → IfOk result (λ found. IsSomeAnd found (λ read. read.items ≡ numbers)) }
     ensures follows { M.follows m.old m.new }
 {
-    let mut descriptor = [0; 512];
-    let mut least = 0;
-    for i in 0..count {
-        read_descriptor(m, slot, i, &mut descriptor)?;
-        let number = number_at(&descriptor, entry_place(i));
-        if !is_first_headed(&descriptor, stamp, count, i) {
-            return Ok(false);
-        }
-        if number < least || blocks <= number {
-            return Ok(false);
-        }
-        least = number + 1;
+    let mut numbers = ArrayVec::new();
+    for j in 0..count.div_ceil(ENTRIES) {
+        let Some(found) = read_descriptor(m, slot, stamp, count, j)? else {
+            return Ok(None);
+        };
+        let Ok(()) = numbers.try_extend_from_slice(&found.numbers) else {
+            return Ok(None);
+        };
     }
-    Ok(true)
+    Ok(Some(numbers))
+}
+
+// Whether a record below so many blocks may have these block numbers.
+fn are_blocks(numbers: &[u64], blocks: u64) -> bool
+    ensures { IsTrue result ↔ IsRising numbers.now × All (λ b. b < blocks) numbers.now }
+{
+    are_rising(numbers) && numbers.iter().all(|b| *b < blocks)
 }
 
 // Whether so many data places begin with the stamp.
@@ -154,7 +145,7 @@ fn are_stamped<M: Medium>(m: &mut M, slot: u64, stamp: u64, count: u64) -> Resul
     ensures calls { (M.state m.new).calls ≤ (M.state m.old).calls + count }
     ensures cause { IfErr result (IsRefusedCall (M.state m.old) (M.state m.new)) }
     ensures stamped { IfOk result (λ good. IsTrue good
-        ↔ AreStamped (M.state m.old).content (2 + 249 * slot) stamp count) }
+        ↔ HasPlaces (M.state m.old).content (2 + 249 * slot) stamp count) }
     ensures follows { M.follows m.old m.new }
 {
     let mut sector = [0; 512];
@@ -183,7 +174,10 @@ pub(crate) fn is_whole<M: Medium>(m: &mut M, sizes: &Super, stamp: u64) -> Resul
     let Some(count) = read_count(m, slot, stamp)? else {
         return Ok(false);
     };
-    if !are_listed(m, slot, sizes.blocks, stamp, count)? {
+    let Some(numbers) = read_numbers(m, slot, stamp, count)? else {
+        return Ok(false);
+    };
+    if !are_blocks(&numbers, sizes.blocks) {
         return Ok(false);
     }
     are_stamped(m, slot, stamp, count)

@@ -1,7 +1,7 @@
 use Rattle.std.proofs.Common.{◌≡◌, ◌+◌, ◌*◌}
 use Rattle.medium.specs.Moments.{IsQuiet}
 use Rattle.recovery.specs.Causes.{MakesReadsAlone}
-use Rattle.recovery.specs.SlotTwo.{AreStamped}
+use Rattle.log_image.specs.SlotTwo.{HasPlaces}
 use Rattle.recovery.proofs.record_two.are_stamped.Given as goal
 
 abbrev pub invariant-loop-i : goal.invariant-loop-i
@@ -9,6 +9,6 @@ invariant-loop-i g l = record {
   quiet : IsQuiet (g.M.Medium.state l.fn.m) (g.M.Medium.state l.m);
   reads : MakesReadsAlone (g.M.Medium.state l.fn.m) (g.M.Medium.state l.m);
   calls : (g.M.Medium.state l.m).calls ≡ (g.M.Medium.state l.fn.m).calls + l.i;
-  stamped : AreStamped (g.M.Medium.state l.fn.m).content (2 + 249 * l.slot) l.stamp l.i;
+  stamped : HasPlaces (g.M.Medium.state l.fn.m).content (2 + 249 * l.slot) l.stamp l.i;
   follows : g.M.Medium.follows l.fn.m l.m;
 }
