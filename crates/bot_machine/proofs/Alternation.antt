@@ -52,7 +52,7 @@ told_at_once-owes case command intended status s =
 told-owes : {F : Type 0} (case : Case) (command : Cbw) (intended : Way) (answer : Result
     (List ℕ) F) (s : Line) → Owes (Some command.tag) (told case command intended answer s).left
 told-owes case command intended (Ok bytes) s =
-    laid_out-owes command.tag (sent_in case bytes) (outcome_for case command intended).halt
+    laid_out-owes command.tag (sent_in s.packet_size case bytes) (outcome_for case command intended).halt
     (status_for case command intended Passed) s
     ((outcome_for case command intended).residue, Passed, refl)
 told-owes case command intended (Err fault) s =

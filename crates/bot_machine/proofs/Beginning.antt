@@ -9,7 +9,7 @@ use Rattle.medium.specs.SimLaws.{is_sound}
 use Rattle.medium.proofs.Moments.{only_image, content_has}
 use Rattle.medium.proofs.Keeping.{none_flushed}
 use Rattle.scsi_unit.specs.Books.{Book, StandsAs, FoundWith, after_first, opened, with_write}
-use Rattle.scsi_unit.specs.Identification.{Identification}
+use Rattle.bot_machine.specs.Device.{Device}
 use Rattle.scsi_unit.specs.Starting.{IsOursForSome, StandsForOpening, OpensOn, blocks_of}
 use Rattle.bot_machine.specs.Disk.{DiskValue, FitsDisk}
 use Rattle.bot_machine.specs.Opening.{IsOpened}
@@ -125,7 +125,7 @@ pub record HasOpened (after : State) (disk : DiskValue Sim) (place : Place) : Ty
   pub ours : book.ours ≡ (book_at place).ours
   pub fits : FitsDisk after disk book
 
-module _ (m : Sim) (after : State) (identity : Identification) (disk : DiskValue Sim) (h : IsOpened (state_of m) after identity disk) where
+module _ (m : Sim) (after : State) (device : Device) (disk : DiskValue Sim) (h : IsOpened (state_of m) after device disk) where
   pub first_opened : (book : Book) → OpensOn (state_of m) book → HasOpened after disk (before_first book)
   first_opened book on = record { book = book; opens = refl; ours = refl; fits = h.store.serves book on }
 

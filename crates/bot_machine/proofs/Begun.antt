@@ -7,7 +7,7 @@ use Rattle.medium.specs.SimLaws.{is_sound}
 use Rattle.medium.proofs.Moments.{at_exit}
 use Rattle.medium.proofs.Keeping.{none_flushed}
 use Rattle.scsi_unit.specs.StartFaults.{StartFault, NoMemory, Read, Write, Flush, BadSuper, BadVersion, BadSize, BadHead, StampsUsedUp, LogTooSmall}
-use Rattle.scsi_unit.specs.Identification.{Identification}
+use Rattle.bot_machine.specs.Device.{Device}
 use Rattle.scsi_unit.specs.Books.{Book, MayFind, opened}
 use Rattle.scsi_unit.specs.Starting.{Stands, IsCauseFor, blocks_of}
 use Rattle.scsi_unit.specs.Rules.{UnitState}
@@ -60,27 +60,27 @@ counted before after book LogTooSmall h = h
 -- ---- where lives stand after a start
 
 -- a life has begun
-record LifeBegun (identity : Identification) (refused : Bool) (here : Standing) (new : Stage) : Type 0 where
+record LifeBegun (device : Device) (refused : Bool) (here : Standing) (new : Stage) : Type 0 where
   there : Standing
-  life : LifeBegins identity refused here there
-  fits : FitsLives (lives_at identity new) there
+  life : LifeBegins device refused here there
+  fits : FitsLives (lives_at device new) there
   ours : (book_at there.place).ours ≡ (book_at here.place).ours
   limit_stays : (book_at here.place).ours ≡ true → there.limit ≡ here.limit
 
-module _ (identity : Identification) (m : Sim) (on : m.power.off ≡ false) where
+module _ (device : Device) (m : Sim) (on : m.power.off ≡ false) where
   -- where a life has begun, lives go there
   goes_there : (new : Stage) (refused : Bool)
-      → ((book : Book) (armed : Bool) (limit : ℕ) → FitsLives (lives_at identity (Rests m)) (record { place = before_first book; armed = armed; limit = limit })
-      → LifeBegun identity refused (record { place = before_first book; armed = armed; limit = limit }) new)
-      → ((remains : Remains) (armed : Bool) (limit : ℕ) → FitsLives (lives_at identity (Rests m)) (record { place = between remains; armed = armed; limit = limit })
-      → LifeBegun identity refused (record { place = between remains; armed = armed; limit = limit }) new)
-      → (place : Place) (armed : Bool) (limit : ℕ) → FitsLives (lives_at identity (Rests m)) (record { place = place; armed = armed; limit = limit })
-      → LivesGoTo (lives_at identity new) (record { place = place; armed = armed; limit = limit }) (starts ∷ []) [] (refused ∷ [])
+      → ((book : Book) (armed : Bool) (limit : ℕ) → FitsLives (lives_at device (Rests m)) (record { place = before_first book; armed = armed; limit = limit })
+      → LifeBegun device refused (record { place = before_first book; armed = armed; limit = limit }) new)
+      → ((remains : Remains) (armed : Bool) (limit : ℕ) → FitsLives (lives_at device (Rests m)) (record { place = between remains; armed = armed; limit = limit })
+      → LifeBegun device refused (record { place = between remains; armed = armed; limit = limit }) new)
+      → (place : Place) (armed : Bool) (limit : ℕ) → FitsLives (lives_at device (Rests m)) (record { place = place; armed = armed; limit = limit })
+      → LivesGoTo (lives_at device new) (record { place = place; armed = armed; limit = limit }) (starts ∷ []) [] (refused ∷ [])
   goes_there new refused first next (before_first book) armed limit fits =
       let b = first book armed limit fits in
       record {
         there = b.there;
-        run = one_run identity refused (record { place = before_first book; armed = armed; limit = limit }) b.there starts [] (refl, b.life);
+        run = one_run device refused (record { place = before_first book; armed = armed; limit = limit }) b.there starts [] (refl, b.life);
         fits = b.fits;
         ours = b.ours;
         limit_stays = b.limit_stays;
@@ -89,7 +89,7 @@ module _ (identity : Identification) (m : Sim) (on : m.power.off ≡ false) wher
       let b = next remains armed limit fits in
       record {
         there = b.there;
-        run = one_run identity refused (record { place = between remains; armed = armed; limit = limit }) b.there starts [] (refl, b.life);
+        run = one_run device refused (record { place = between remains; armed = armed; limit = limit }) b.there starts [] (refl, b.life);
         fits = b.fits;
         ours = b.ours;
         limit_stays = b.limit_stays;
@@ -99,7 +99,7 @@ module _ (identity : Identification) (m : Sim) (on : m.power.off ≡ false) wher
 
   -- ---- the start has a disk
 
-  module _ (disk : DiskValue Sim) (is_opened : IsOpened (state_of m) (state_of disk.unit.store.medium) identity disk)
+  module _ (disk : DiskValue Sim) (is_opened : IsOpened (state_of m) (state_of disk.unit.store.medium) device disk)
       (leaves : StartLeaves (state_of m) (state_of disk.unit.store.medium)) (follows : ComesAfter m disk.unit.store.medium) where
     abbrev new : Sim
     new = disk.unit.store.medium
@@ -107,19 +107,19 @@ module _ (identity : Identification) (m : Sim) (on : m.power.off ≡ false) wher
     abbrev grew : Bool
     grew = has_refused (state_of m) (state_of new)
 
-    module _ (place : Place) (armed : Bool) (limit : ℕ) (fits : FitsLives (lives_at identity (Rests m)) (record { place = place; armed = armed; limit = limit }))
+    module _ (place : Place) (armed : Bool) (limit : ℕ) (fits : FitsLives (lives_at device (Rests m)) (record { place = place; armed = armed; limit = limit }))
         (h : HasOpened (state_of new) disk place) (keeps : KeepsLimit place limit (unit_limit disk.unit))
         (same : (book_at place).ours ≡ true → unit_limit disk.unit ≡ limit) where
       abbrev here : Standing
       here = record { place = place; armed = armed; limit = limit }
 
-      says : started (unit_limit disk.unit) identity h.book ≡ over disk h.book
+      says : started (unit_limit disk.unit) device h.book ≡ over disk h.book
       says = sym (ap (λ (l : Line). on_line l (unit_state disk.unit h.book)) is_opened.line
-          ∙ ap (λ (u : UnitState). on_line at_rest u) (is_opened.unit h.book))
+          ∙ ap (λ (u : UnitState). on_line (at_rest device.packet_size) u) (is_opened.unit h.book))
 
-      begun_on : new.power.off ≡ false → LifeBegun identity grew here (Runs disk)
+      begun_on : new.power.off ≡ false → LifeBegun device grew here (Runs disk)
       begun_on still = record {
-        there = record { place = runs (started (unit_limit disk.unit) identity h.book); armed = armed; limit = unit_limit disk.unit };
+        there = record { place = runs (started (unit_limit disk.unit) device h.book); armed = armed; limit = unit_limit disk.unit };
         life = record { book = h.book; opens = h.opens; limit = unit_limit disk.unit; keeps_limit = keeps; begins = inl refl };
         fits = record {
           is_at = record { on = still; says = says; fits = h.fits };
@@ -132,7 +132,7 @@ module _ (identity : Identification) (m : Sim) (on : m.power.off ≡ false) wher
         limit_stays = same;
       }
 
-      begun_off : new.power.off ≡ true → LifeBegun identity grew here (Runs disk)
+      begun_off : new.power.off ≡ true → LifeBegun device grew here (Runs disk)
       begun_off is_off = record {
         there = record { place = off (record { book = h.book; in_progress = None }); armed = armed; limit = limit };
         life = record {
@@ -154,25 +154,25 @@ module _ (identity : Identification) (m : Sim) (on : m.power.off ≡ false) wher
         limit_stays = λ ours. refl;
       }
 
-      begun : LifeBegun identity grew here (Runs disk)
+      begun : LifeBegun device grew here (Runs disk)
       begun = ⊎_elim begun_off begun_on (cases_Bool new.power.off)
 
-    pub start_has_disk : LivesGoOn (lives_at identity (Rests m)) (starts ∷ []) [] (lives_at identity (Runs disk))
+    pub start_has_disk : LivesGoOn (lives_at device (Rests m)) (starts ∷ []) [] (lives_at device (Runs disk))
     start_has_disk = record {
       refusals = grew ∷ [];
-      moves = one_move identity grew (Rests m) (Runs disk) starts []
-          (refl, subst (λ (b : Bool). StartsIn b identity m (Runs disk)) (sym on) (is_opened, record { leaves = leaves; follows = follows })) refl;
+      moves = one_move device grew (Rests m) (Runs disk) starts []
+          (refl, subst (λ (b : Bool). StartsIn b device m (Runs disk)) (sym on) (is_opened, record { leaves = leaves; follows = follows })) refl;
       refused = one_counted grew (state_of m).failures (state_of new).failures (ltb-true (state_of m).failures (state_of new).failures) follows.failures_stay;
       goes = λ here fits. goes_there (Runs disk) grew
           (λ book armed limit f.
           let one = knows_images.one_limit (state_of m).size (unit_limit disk.unit) limit (state_of m).content is_opened.limit f.limit_at in
-          begun (before_first book) armed limit f (first_opened m (state_of new) identity disk is_opened book f.is_at.1) one (λ ours. one))
+          begun (before_first book) armed limit f (first_opened m (state_of new) device disk is_opened book f.is_at.1) one (λ ours. one))
           (λ remains armed limit f.
           let one : remains.book.ours ≡ true → unit_limit disk.unit ≡ limit = λ ours. next_limit m limit (unit_limit disk.unit) (f.limited ours) is_opened.limit in
-          begun (between remains) armed limit f (next_opened m (state_of new) identity disk is_opened remains f.found) one one)
+          begun (between remains) armed limit f (next_opened m (state_of new) device disk is_opened remains f.found) one one)
           here.place here.armed here.limit fits;
       size_stays = leaves.bounded.moments.size_stays;
-      identity_stays = refl;
+      device_stays = refl;
     }
 
   -- ---- the start has no disk
@@ -183,8 +183,8 @@ module _ (identity : Identification) (m : Sim) (on : m.power.off ≡ false) wher
       abbrev refuses : Bool
       refuses = has_refused (state_of m) (state_of after)
 
-      begun_cut : (place : Place) (armed : Bool) (limit : ℕ) → FitsLives (lives_at identity (Rests m)) (record { place = place; armed = armed; limit = limit })
-          → KeepsLimit place limit limit → m.unflushed ≡ [] → (w : WouldOpen (state_of m) place) → LifeBegun identity refuses (record { place = place; armed = armed; limit = limit }) (Rests after)
+      begun_cut : (place : Place) (armed : Bool) (limit : ℕ) → FitsLives (lives_at device (Rests m)) (record { place = place; armed = armed; limit = limit })
+          → KeepsLimit place limit limit → m.unflushed ≡ [] → (w : WouldOpen (state_of m) place) → LifeBegun device refuses (record { place = place; armed = armed; limit = limit }) (Rests after)
       begun_cut place armed limit fits keeps none w = record {
         there = record { place = off (record { book = w.book; in_progress = None }); armed = armed; limit = limit };
         life = record {
@@ -209,24 +209,24 @@ module _ (identity : Identification) (m : Sim) (on : m.power.off ≡ false) wher
         limit_stays = λ ours. refl;
       }
 
-      pub start_is_cut : LivesGoOn (lives_at identity (Rests m)) (starts ∷ []) [] (lives_at identity (Rests after))
+      pub start_is_cut : LivesGoOn (lives_at device (Rests m)) (starts ∷ []) [] (lives_at device (Rests after))
       start_is_cut = record {
         refusals = refuses ∷ [];
-        moves = one_move identity refuses (Rests m) (Rests after) starts []
-            (refl, subst (λ (b : Bool). StartsIn b identity m (Rests after)) (sym on) (record { leaves = leaves; follows = follows }, is_off)) refl;
+        moves = one_move device refuses (Rests m) (Rests after) starts []
+            (refl, subst (λ (b : Bool). StartsIn b device m (Rests after)) (sym on) (record { leaves = leaves; follows = follows }, is_off)) refl;
         refused = one_counted refuses (state_of m).failures (state_of after).failures (ltb-true (state_of m).failures (state_of after).failures) follows.failures_stay;
         goes = λ here fits. goes_there (Rests after) refuses
             (λ book armed limit f. begun_cut (before_first book) armed limit f refl f.is_at.0.flushed (first_opens (state_of m) book f.is_at.1))
             (λ remains armed limit f. begun_cut (between remains) armed limit f (λ ours. refl) f.is_at.flushed (next_opens m remains f.found))
             here.place here.armed here.limit fits;
         size_stays = leaves.bounded.moments.size_stays;
-        identity_stays = refl;
+        device_stays = refl;
       }
 
     -- it was refused, and the power is on
     module _ (still : after.power.off ≡ false) (fault : StartFault) (h : IsNotOpened (state_of m) (state_of after) fault) where
       stops_by : (place : Place) (armed : Bool) (limit : ℕ) → ((book_at place).ours ≡ true → LeavesLimit limit (Rests m)) → m.unflushed ≡ [] → (w : WouldOpen (state_of m) place)
-          → LivesStopAt (lives_at identity (Rests after)) (record { place = place; armed = armed; limit = limit }) [] [] [] (0 + (state_of m).failures) fault
+          → LivesStopAt (lives_at device (Rests after)) (record { place = place; armed = armed; limit = limit }) [] [] [] (0 + (state_of m).failures) fault
       stops_by place armed limit limited none w = record {
         there = record { place = place; armed = armed; limit = limit };
         run = (refl, refl);
@@ -238,14 +238,14 @@ module _ (identity : Identification) (m : Sim) (on : m.power.off ≡ false) wher
         found = λ ours. may_find m after leaves none place w ours;
       }
 
-      stops_at : (place : Place) (armed : Bool) (limit : ℕ) → FitsLives (lives_at identity (Rests m)) (record { place = place; armed = armed; limit = limit })
-          → LivesStopAt (lives_at identity (Rests after)) (record { place = place; armed = armed; limit = limit }) [] [] [] (0 + (state_of m).failures) fault
+      stops_at : (place : Place) (armed : Bool) (limit : ℕ) → FitsLives (lives_at device (Rests m)) (record { place = place; armed = armed; limit = limit })
+          → LivesStopAt (lives_at device (Rests after)) (record { place = place; armed = armed; limit = limit }) [] [] [] (0 + (state_of m).failures) fault
       stops_at (before_first book) armed limit f = stops_by (before_first book) armed limit f.limited f.is_at.0.flushed (first_opens (state_of m) book f.is_at.1)
       stops_at (between remains) armed limit f = stops_by (between remains) armed limit f.limited f.is_at.flushed (next_opens m remains f.found)
       stops_at (runs conversation) armed limit f = absurd f.is_at
       stops_at (off remains) armed limit f = on_or_off m.power.off on f.is_at
 
-      pub start_is_refused : LivesStop (lives_at identity (Rests m)) [] [] fault (lives_at identity (Rests after))
+      pub start_is_refused : LivesStop (lives_at device (Rests m)) [] [] fault (lives_at device (Rests after))
       start_is_refused = record {
         refusals = [];
         at = m;
@@ -256,33 +256,33 @@ module _ (identity : Identification) (m : Sim) (on : m.power.off ≡ false) wher
         rests = refl;
         on = still;
         size_stays = leaves.bounded.moments.size_stays;
-        identity_stays = refl;
+        device_stays = refl;
       }
 
 -- ---- nothing is started
 
-module _ (identity : Identification) where
-  running : (disk : DiskValue Sim) (place : Place) (armed : Bool) (limit : ℕ) → FitsLives (lives_at identity (Runs disk)) (record { place = place; armed = armed; limit = limit })
-      → LivesStep identity false (record { place = place; armed = armed; limit = limit }) starts [] (record { place = place; armed = armed; limit = limit })
+module _ (device : Device) where
+  running : (disk : DiskValue Sim) (place : Place) (armed : Bool) (limit : ℕ) → FitsLives (lives_at device (Runs disk)) (record { place = place; armed = armed; limit = limit })
+      → LivesStep device false (record { place = place; armed = armed; limit = limit }) starts [] (record { place = place; armed = armed; limit = limit })
   running disk (before_first book) armed limit f = absurd f.is_at
   running disk (between remains) armed limit f = absurd f.is_at
   running disk (runs conversation) armed limit f = (refl, refl)
   running disk (off remains) armed limit f = (refl, refl)
 
   -- a disk runs already
-  pub start_of_disk : (disk : DiskValue Sim) → LivesGoOn (lives_at identity (Runs disk)) (starts ∷ []) [] (lives_at identity (Runs disk))
-  start_of_disk disk = stays identity (Runs disk) starts [] (refl, refl) (λ here fits. running disk here.place here.armed here.limit fits)
+  pub start_of_disk : (disk : DiskValue Sim) → LivesGoOn (lives_at device (Runs disk)) (starts ∷ []) [] (lives_at device (Runs disk))
+  start_of_disk disk = stays device (Runs disk) starts [] (refl, refl) (λ here fits. running disk here.place here.armed here.limit fits)
 
-  without_power : (m : Sim) → m.power.off ≡ true → (place : Place) (armed : Bool) (limit : ℕ) → FitsLives (lives_at identity (Rests m)) (record { place = place; armed = armed; limit = limit })
-      → LivesStep identity false (record { place = place; armed = armed; limit = limit }) starts [] (record { place = place; armed = armed; limit = limit })
+  without_power : (m : Sim) → m.power.off ≡ true → (place : Place) (armed : Bool) (limit : ℕ) → FitsLives (lives_at device (Rests m)) (record { place = place; armed = armed; limit = limit })
+      → LivesStep device false (record { place = place; armed = armed; limit = limit }) starts [] (record { place = place; armed = armed; limit = limit })
   without_power m is_off (before_first book) armed limit f = on_or_off m.power.off f.is_at.0.on is_off
   without_power m is_off (between remains) armed limit f = on_or_off m.power.off f.is_at.on is_off
   without_power m is_off (runs conversation) armed limit f = absurd f.is_at
   without_power m is_off (off remains) armed limit f = (refl, refl)
 
   -- power is off already
-  pub start_without_power : (m : Sim) → m.power.off ≡ true → LivesGoOn (lives_at identity (Rests m)) (starts ∷ []) [] (lives_at identity (Rests m))
-  start_without_power m is_off = stays identity (Rests m) starts [] (refl, subst (λ (b : Bool). StartsIn b identity m (Rests m)) (sym is_off) refl) (λ here fits. without_power m is_off here.place here.armed here.limit fits)
+  pub start_without_power : (m : Sim) → m.power.off ≡ true → LivesGoOn (lives_at device (Rests m)) (starts ∷ []) [] (lives_at device (Rests m))
+  start_without_power m is_off = stays device (Rests m) starts [] (refl, subst (λ (b : Bool). StartsIn b device m (Rests m)) (sym is_off) refl) (λ here fits. without_power m is_off here.place here.armed here.limit fits)
 
 -- ---- whatever the medium holds
 
@@ -295,9 +295,9 @@ pub begun_without_power : (m after : Sim) → after.power.off ≡ true → HasBe
 begun_without_power m after is_off = record { started = is_off; stood = λ other e on. on_or_off after.power.off on is_off }
 
 -- a disk was started, on contents that stood for something
-pub begun_with : (m : Sim) (disk : DiskValue Sim) (identity : Identification) → IsOpened (state_of m) (state_of disk.unit.store.medium) identity disk
+pub begun_with : (m : Sim) (disk : DiskValue Sim) (device : Device) → IsOpened (state_of m) (state_of disk.unit.store.medium) device disk
     → HasBegun (Rests m) (Runs disk)
-begun_with m disk identity h = record {
+begun_with m disk device h = record {
   started = tt;
   stood = λ other e on.
       let same : m ≡ other = cc e in

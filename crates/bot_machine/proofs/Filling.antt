@@ -25,11 +25,11 @@ front_filled front packet rest filled size more l h e =
     ∙ sym (take-append-add front packet (size - filled))
     ∙ ap (λ k. take k (front ++ packet)) whole
 
-module _ {A : Type 0} (size due : ℕ) (a b : A) where
+module _ {A : Type 0} (most size due : ℕ) (a b : A) where
   -- the last packet of the data
-  pub last_packet : size ≡ due → due ≤ 512 → a ≡ (if (size == due) && nat_le due 512 then a else b)
+  pub last_packet : size ≡ due → due ≤ most → a ≡ (if (size == due) && nat_le due most then a else b)
   last_packet same few = grind (arith, nat_tests)
 
   -- any other packet
-  pub other_packet : (size ≡ due → 512 < due) → b ≡ (if (size == due) && nat_le due 512 then a else b)
+  pub other_packet : (size ≡ due → most < due) → b ≡ (if (size == due) && nat_le due most then a else b)
   other_packet other = grind (arith, nat_tests)

@@ -11,7 +11,7 @@ use Rattle.medium.specs.SimLaws.{is_sound}
 use Rattle.medium.specs.declared.power.Power.{Power}
 use Rattle.medium.proofs.Moments.{at_exit, only_image}
 use Rattle.medium.proofs.Keeping.{none_flushed}
-use Rattle.scsi_unit.specs.Identification.{Identification}
+use Rattle.bot_machine.specs.Device.{Device}
 use Rattle.scsi_unit.specs.Starting.{IsOursForSome, StandsForOpening}
 use Rattle.scsi_unit.specs.Books.{Book}
 use Rattle.scsi_unit.specs.Books.{MayFind, FoundWith}
@@ -32,9 +32,9 @@ use Rattle.bot_machine.proofs.Moved.{one_move, none_refused, some_refused}
 use Rattle.bot_machine.specs.LivesValue.{LivesValue, medium_in, state_in, IsAtRest, OpensOn, HasLimit, IsAt, LimitAt, LeavesLimit, book_at, FoundAt, FitsLives, LivesGoTo, LivesGoOn}
 
 -- one action is a run
-pub one_run : (identity : Identification) (refused : Bool) (old new : Standing) (action : Action) (answers : List Answer)
-    → LivesStep identity refused old action answers new → LivesRun identity old (action ∷ []) answers (refused ∷ []) new
-one_run identity refused old new action answers step = (new, answers, [], sym (append-nil answers), step, (refl, refl))
+pub one_run : (device : Device) (refused : Bool) (old new : Standing) (action : Action) (answers : List Answer)
+    → LivesStep device refused old action answers new → LivesRun device old (action ∷ []) answers (refused ∷ []) new
+one_run device refused old new action answers step = (new, answers, [], sym (append-nil answers), step, (refl, refl))
 
 -- one action with a refused call is counted
 pub one_counted : (refused : Bool) (before after : ℕ) → (refused ≡ true → before < after) → before ≤ after → refused_events (refused ∷ []) + before ≤ after
@@ -62,28 +62,28 @@ armed_then here before after follows unfused on is_off =
     by_cases true unfused = refl
     by_cases false unfused = absurd ((follows.goes_off on is_off).0 (unfused refl))
 
-module _ (identity : Identification) where
+module _ (device : Device) where
   -- lives of this disk
   abbrev pub lives_at : Stage → LivesValue
-  lives_at stage = record { identity = identity; stage = stage }
+  lives_at stage = record { device = device; stage = stage }
 
   -- nothing happens to a disk, or to a medium without one
-  pub stays : (stage : Stage) (action : Action) (answers : List Answer) → Does identity stage action answers stage
-      → ((here : Standing) → FitsLives (lives_at stage) here → LivesStep identity false here action answers here)
+  pub stays : (stage : Stage) (action : Action) (answers : List Answer) → Does device stage action answers stage
+      → ((here : Standing) → FitsLives (lives_at stage) here → LivesStep device false here action answers here)
       → LivesGoOn (lives_at stage) (action ∷ []) answers (lives_at stage)
   stays stage action answers does step = record {
     refusals = false ∷ [];
-    moves = one_move identity false stage stage action answers does (none_refused (state_in stage) (state_in stage) refl);
+    moves = one_move device false stage stage action answers does (none_refused (state_in stage) (state_in stage) refl);
     refused = omega arith;
     goes = λ here fits. record {
       there = here;
-      run = one_run identity false here here action answers (step here fits);
+      run = one_run device false here here action answers (step here fits);
       fits = fits;
       ours = refl;
       limit_stays = λ ours. refl;
     };
     size_stays = refl;
-    identity_stays = refl;
+    device_stays = refl;
   }
 
   -- ---- a fuse
@@ -120,11 +120,11 @@ module _ (identity : Identification) where
       → LivesGoOn (lives_at stage) (arms writes ∷ []) [] (lives_at new)
   arms_fuse writes stage new same fuse keeps = record {
     refusals = false ∷ [];
-    moves = one_move identity false stage new (arms writes) [] (refl, fuse) (none_refused (state_in stage) (state_in new) (ap (λ (m : State). m.failures) same));
+    moves = one_move device false stage new (arms writes) [] (refl, fuse) (none_refused (state_in stage) (state_in new) (ap (λ (m : State). m.failures) same));
     refused = let e = ap (λ (m : State). m.failures) same in omega (arith, e);
     goes = λ here fits. record {
       there = record here { armed = true };
-      run = one_run identity false here (record here { armed = true }) (arms writes) [] (refl, refl);
+      run = one_run device false here (record here { armed = true }) (arms writes) [] (refl, refl);
       fits = record {
         is_at = keeps here.place fits.is_at;
         limit_at = limit_still here.place here.limit stage new same fits.limit_at;
@@ -136,7 +136,7 @@ module _ (identity : Identification) where
       limit_stays = λ ours. refl;
     };
     size_stays = ap (λ (m : State). m.size) same;
-    identity_stays = refl;
+    device_stays = refl;
   }
 
   pub arms_medium : (writes : ℕ) (m new : Sim) → new ≡ fused writes m → LivesGoOn (lives_at (Rests m)) (arms writes ∷ []) [] (lives_at (Rests new))
@@ -216,12 +216,12 @@ module _ (identity : Identification) where
     pub is_cut : (stage : Stage) → medium_in stage ≡ old → LivesGoOn (lives_at stage) (cuts keep ∷ []) [] (lives_at (Rests new))
     is_cut stage e = record {
       refusals = false ∷ [];
-      moves = one_move identity false stage (Rests new) (cuts keep) [] (refl, subst (λ (x : Sim). IsCut keep x new) (sym e) cut)
+      moves = one_move device false stage (Rests new) (cuts keep) [] (refl, subst (λ (x : Sim). IsCut keep x new) (sym e) cut)
           (none_refused (state_in stage) (state_of new) (ap of_all cut.refused_stay ∙ sym (ap (λ (x : Sim). of_all x.refused) e)));
       refused = let f = ap (λ (x : Sim). of_all x.refused) e in let g = ap of_all cut.refused_stay in omega (arith, f, g);
       goes = λ here fits. record {
         there = record here { place = after_cut here.place; armed = false };
-        run = one_run identity false here (record here { place = after_cut here.place; armed = false }) (cuts keep) [] (refl, refl);
+        run = one_run device false here (record here { place = after_cut here.place; armed = false }) (cuts keep) [] (refl, refl);
         fits = record {
           is_at = cut_place stage here.place e fits.is_at;
           limit_at = cut_limit_at stage here.place here.limit e fits.is_at fits.limit_at;
@@ -233,7 +233,7 @@ module _ (identity : Identification) where
         limit_stays = λ ours. refl;
       };
       size_stays = size ∙ sym (ap (λ (x : Sim). (state_of x).size) e);
-      identity_stays = refl;
+      device_stays = refl;
     }
 
   -- ---- an event
@@ -279,7 +279,7 @@ module _ (identity : Identification) where
           subst (λ (x : Conversation UnitState). UnitStep grew x event answer (over new p.later)) (sym fits.is_at.says) p.moves in
           record {
             there = there;
-            run = one_run identity grew (record { place = runs conversation; armed = armed; limit = limit }) there (plays event) (answer ∷ [])
+            run = one_run device grew (record { place = runs conversation; armed = armed; limit = limit }) there (plays event) (answer ∷ [])
                 (answer, refl, inl (record { later = over new p.later; step = moves; after = refl }));
             fits = record {
               is_at = record { on = still; says = refl; fits = p.fits };
@@ -297,11 +297,11 @@ module _ (identity : Identification) where
       pub event_ends : LivesGoOn (lives_at (Runs old)) (plays event ∷ []) (answer ∷ []) (lives_at (Runs new))
       event_ends = record {
         refusals = grew ∷ [];
-        moves = one_move identity grew (Runs old) (Runs new) (plays event) (answer ∷ []) (answer, refl, played answer (ap (λ (b : Bool). if b then Off else answer) (sym still))) refl;
+        moves = one_move device grew (Runs old) (Runs new) (plays event) (answer ∷ []) (answer, refl, played answer (ap (λ (b : Bool). if b then Off else answer) (sym still))) refl;
         refused = one_counted grew before.failures after.failures (ltb-true before.failures after.failures) step.elapses.failures_stay;
         goes = λ here fits. ends_at here.place here.armed here.limit fits;
         size_stays = step.elapses.size_stays;
-        identity_stays = refl;
+        device_stays = refl;
       }
 
     module _ (is_off : new.unit.store.medium.power.off ≡ true) where
@@ -317,7 +317,7 @@ module _ (identity : Identification) where
           let there : Standing = record { place = off remains; armed = armed; limit = limit } in
           record {
             there = there;
-            run = one_run identity grew here there (plays event) (Off ∷ []) (
+            run = one_run device grew here there (plays event) (Off ∷ []) (
               Off,
               refl,
               inr (record {
@@ -347,17 +347,17 @@ module _ (identity : Identification) where
       pub event_is_cut : LivesGoOn (lives_at (Runs old)) (plays event ∷ []) (Off ∷ []) (lives_at (Runs new))
       event_is_cut = record {
         refusals = grew ∷ [];
-        moves = one_move identity grew (Runs old) (Runs new) (plays event) (Off ∷ []) (Off, refl, played Off (ap (λ (b : Bool). if b then Off else answer) (sym is_off))) refl;
+        moves = one_move device grew (Runs old) (Runs new) (plays event) (Off ∷ []) (Off, refl, played Off (ap (λ (b : Bool). if b then Off else answer) (sym is_off))) refl;
         refused = one_counted grew before.failures after.failures (ltb-true before.failures after.failures) step.elapses.failures_stay;
         goes = λ here fits. cut_at here.place here.armed here.limit fits;
         size_stays = step.elapses.size_stays;
-        identity_stays = refl;
+        device_stays = refl;
       }
 
   -- power is off already
   off_at_rest : (m : Sim) (event : Event) → m.power.off ≡ true → (place : Place) (armed : Bool) (limit : ℕ)
       → FitsLives (lives_at (Rests m)) (record { place = place; armed = armed; limit = limit })
-      → LivesStep identity false (record { place = place; armed = armed; limit = limit }) (plays event) (Off ∷ []) (record { place = place; armed = armed; limit = limit })
+      → LivesStep device false (record { place = place; armed = armed; limit = limit }) (plays event) (Off ∷ []) (record { place = place; armed = armed; limit = limit })
   off_at_rest m event is_off (before_first book) armed limit fits = on_or_off m.power.off fits.is_at.0.on is_off
   off_at_rest m event is_off (between remains) armed limit fits = on_or_off m.power.off fits.is_at.on is_off
   off_at_rest m event is_off (runs conversation) armed limit fits = absurd fits.is_at
@@ -365,7 +365,7 @@ module _ (identity : Identification) where
 
   off_running : (disk : DiskValue Sim) (event : Event) → disk.unit.store.medium.power.off ≡ true → (place : Place) (armed : Bool) (limit : ℕ)
       → FitsLives (lives_at (Runs disk)) (record { place = place; armed = armed; limit = limit })
-      → LivesStep identity false (record { place = place; armed = armed; limit = limit }) (plays event) (Off ∷ []) (record { place = place; armed = armed; limit = limit })
+      → LivesStep device false (record { place = place; armed = armed; limit = limit }) (plays event) (Off ∷ []) (record { place = place; armed = armed; limit = limit })
   off_running disk event is_off (before_first book) armed limit fits = absurd fits.is_at
   off_running disk event is_off (between remains) armed limit fits = absurd fits.is_at
   off_running disk event is_off (runs conversation) armed limit fits = on_or_off disk.unit.store.medium.power.off fits.is_at.on is_off

@@ -6,7 +6,7 @@ use Rattle.std.specs.Prelude.{Option, Some, MatchOption}
 use Rattle.medium.specs.Medium.{State}
 use Rattle.medium.specs.Sim.{Sim, state_of, IsFused}
 use Rattle.scsi_unit.specs.StartFaults.{StartFault}
-use Rattle.scsi_unit.specs.Identification.{Identification}
+use Rattle.bot_machine.specs.Device.{Device}
 use Rattle.scsi_unit.specs.Books.{Book}
 use Rattle.bot_machine.specs.declared.event.Answer.{Answer}
 use Rattle.bot_machine.specs.declared.life.Life.{Life}
@@ -69,10 +69,10 @@ not_for_a_fuse None old armed after fault same h = subst (λ (x : LivesValue). I
 not_for_a_fuse (Some writes) old armed after fault fused h = subst (λ (m : Sim). IsNotOpened (state_of m) after fault) fused h
 
 -- the first lives, over a medium that opens with this book
-first_fits : (m : Sim) (identity : Identification) → IsAtRest m → m.power.fuse ≡ None → (limit : ℕ) (book : Book) → OpensOn (state_of m) book
+first_fits : (m : Sim) (device : Device) → IsAtRest m → m.power.fuse ≡ None → (limit : ℕ) (book : Book) → OpensOn (state_of m) book
     → HasLimit (state_of m).size limit (state_of m).content
-    → FitsLives (record { identity = identity; stage = Rests m }) (first_standing limit book)
-first_fits m identity rest unfused limit book opens has = record {
+    → FitsLives (record { device = device; stage = Rests m }) (first_standing limit book)
+first_fits m device rest unfused limit book opens has = record {
   is_at = (rest, opens);
   limit_at = has;
   limited = λ ours. first_limited m limit rest.flushed has;
@@ -80,17 +80,17 @@ first_fits m identity rest unfused limit book opens has = record {
   unfused = λ unarmed. unfused;
 }
 
-module _ (m : Sim) (identity : Identification) (rest : IsAtRest m) (unfused : m.power.fuse ≡ None) (after : LivesValue) (told : List Answer) where
+module _ (m : Sim) (device : Device) (rest : IsAtRest m) (unfused : m.power.fuse ≡ None) (after : LivesValue) (told : List Answer) where
   abbrev first : LivesValue
-  first = record { identity = identity; stage = Rests m }
+  first = record { device = device; stage = Rests m }
 
   pub all_lived : (lives : List Life) → LivesGoOn first (actions_of_all lives) told after → length told ≡ events_in lives
       → IsAtRest (medium_in after.stage) → (medium_in after.stage).power.fuse ≡ None → after.stage ≡ Rests (medium_in after.stage)
-      → AreLived m identity lives told (medium_in after.stage)
+      → AreLived m device lives told (medium_in after.stage)
   all_lived lives on one_each rest_after unfused_after alone = record {
     one_each = one_each;
     refusals = on.refusals;
-    moves = subst (λ (x : Stage). MovesBy identity (Rests m) (actions_of_all lives) told on.refusals x) alone on.moves;
+    moves = subst (λ (x : Stage). MovesBy device (Rests m) (actions_of_all lives) told on.refusals x) alone on.moves;
     refused = on.refused;
     ends = ends;
     rests = rest_after;
@@ -98,13 +98,13 @@ module _ (m : Sim) (identity : Identification) (rest : IsAtRest m) (unfused : m.
   }
     where
       ends : (limit : ℕ) (book : Book) → OpensOn (state_of m) book → HasLimit (state_of m).size limit (state_of m).content
-          → EndsIn identity limit book (actions_of_all lives) told on.refusals (medium_in after.stage)
+          → EndsIn device limit book (actions_of_all lives) told on.refusals (medium_in after.stage)
       ends limit book opens has =
           let here : Standing = first_standing limit book in
-          let g = on.goes here (first_fits m identity rest unfused limit book opens has) in
+          let g = on.goes here (first_fits m device rest unfused limit book opens has) in
           record {
             last = g.there;
-            run = subst (λ (x : Identification). LivesRun x here (actions_of_all lives) told on.refusals g.there) on.identity_stays g.run;
+            run = subst (λ (x : Device). LivesRun x here (actions_of_all lives) told on.refusals g.there) on.device_stays g.run;
             limited = λ ours. subst (λ (n : ℕ). LeavesLimit n after.stage) (g.limit_stays ours) (g.fits.limited (g.ours ∙ ours));
             found = λ ours. g.fits.found (g.ours ∙ ours);
           }
@@ -122,7 +122,7 @@ told_same : (before after : LivesValue) (actions : List Action) (told other : Li
 told_same before after actions told other fault e s = record {
   refusals = s.refusals;
   at = s.at;
-  moves = subst (λ (l : List Answer). MovesBy before.identity before.stage actions l s.refusals (Rests s.at)) e s.moves;
+  moves = subst (λ (l : List Answer). MovesBy before.device before.stage actions l s.refusals (Rests s.at)) e s.moves;
   start = s.start;
   refused = s.refused;
   goes = λ here fits. subst (λ (l : List Answer). LivesStopAt after here actions l s.refusals (refused_events s.refusals + (state_in before.stage).failures) fault)
@@ -130,7 +130,7 @@ told_same before after actions told other fault e s = record {
   rests = s.rests;
   on = s.on;
   size_stays = s.size_stays;
-  identity_stays = s.identity_stays;
+  device_stays = s.device_stays;
 }
 
 told_same-refusals : (before after : LivesValue) (actions : List Action) (told other : List Answer) (fault : StartFault) (e : told ≡ other)
@@ -138,17 +138,17 @@ told_same-refusals : (before after : LivesValue) (actions : List Action) (told o
 unfolding told_same
 told_same-refusals before after actions told other fault e s = refl
 
-module _ (m : Sim) (identity : Identification) (rest : IsAtRest m) (unfused : m.power.fuse ≡ None) (mid after : LivesValue) (told : List Answer)
+module _ (m : Sim) (device : Device) (rest : IsAtRest m) (unfused : m.power.fuse ≡ None) (mid after : LivesValue) (told : List Answer)
     (lives lived others : List Life) (life : Life) (fault : StartFault) (lives_are : lives ≡ lived ++ life ∷ others)
-    (on : LivesGoOn (record { identity = identity; stage = Rests m }) (actions_of_all lived) told mid) (one_each : length told ≡ events_in lived)
+    (on : LivesGoOn (record { device = device; stage = Rests m }) (actions_of_all lived) told mid) (one_each : length told ≡ events_in lived)
     (rest_mid : IsAtRest (medium_in mid.stage)) (unfused_mid : (medium_in mid.stage).power.fuse ≡ None)
     (alone : mid.stage ≡ Rests (medium_in mid.stage)) (cause : IsNotOpened (state_in mid.stage) (state_in after.stage) fault)
     (last : LivesStop mid (armed_by life.fuse) [] fault after) where
   abbrev begun : LivesValue
-  begun = record { identity = identity; stage = Rests m }
+  begun = record { device = device; stage = Rests m }
 
-  were_lived : AreLived m identity lived told (medium_in mid.stage)
-  were_lived = all_lived m identity rest unfused mid told lived on one_each rest_mid unfused_mid alone
+  were_lived : AreLived m device lived told (medium_in mid.stage)
+  were_lived = all_lived m device rest unfused mid told lived on one_each rest_mid unfused_mid alone
 
   stop : LivesStop begun (actions_of_all lived ++ armed_by life.fuse) told fault after
   stop = told_same begun after (actions_of_all lived ++ armed_by life.fuse) (told ++ []) told fault (append-nil told)
@@ -161,13 +161,13 @@ module _ (m : Sim) (identity : Identification) (rest : IsAtRest m) (unfused : m.
       (lives_stop begun mid after (actions_of_all lived) (armed_by life.fuse) told [] on fault last)
       ∙ lives_stop-refusals begun mid after (actions_of_all lived) (armed_by life.fuse) told [] on fault last
       ∙ ap (λ (l : List Bool). l ++ last.refusals)
-      (sym (all_lived-refusals m identity rest unfused mid told lived on one_each rest_mid unfused_mid alone))
+      (sym (all_lived-refusals m device rest unfused mid told lived on one_each rest_mid unfused_mid alone))
 
-  arms : MovesBy identity (Rests (medium_in mid.stage)) (armed_by life.fuse) [] last.refusals (Rests last.at)
-  arms = subst (λ (i : Identification). MovesBy i (Rests (medium_in mid.stage)) (armed_by life.fuse) [] last.refusals (Rests last.at)) on.identity_stays
-      (subst (λ (x : Stage). MovesBy mid.identity x (armed_by life.fuse) [] last.refusals (Rests last.at)) alone last.moves)
+  arms : MovesBy device (Rests (medium_in mid.stage)) (armed_by life.fuse) [] last.refusals (Rests last.at)
+  arms = subst (λ (i : Device). MovesBy i (Rests (medium_in mid.stage)) (armed_by life.fuse) [] last.refusals (Rests last.at)) on.device_stays
+      (subst (λ (x : Stage). MovesBy mid.device x (armed_by life.fuse) [] last.refusals (Rests last.at)) alone last.moves)
 
-  pub lived_up_to : AreLivedUpTo m identity lives told fault (medium_in after.stage)
+  pub lived_up_to : AreLivedUpTo m device lives told fault (medium_in after.stage)
   lived_up_to = record {
     lived = lived;
     life = life;
@@ -188,14 +188,14 @@ module _ (m : Sim) (identity : Identification) (rest : IsAtRest m) (unfused : m.
   }
     where
       stops : (limit : ℕ) (book : Book) → OpensOn (state_of m) book → HasLimit (state_of m).size limit (state_of m).content
-          → StopsIn identity limit book (actions_of_all lived ++ armed_by life.fuse) told stop.refusals
+          → StopsIn device limit book (actions_of_all lived ++ armed_by life.fuse) told stop.refusals
           (refused_events stop.refusals + (state_of m).failures) fault (medium_in after.stage)
       stops limit book opens has =
           let here : Standing = first_standing limit book in
-          let g = stop.goes here (first_fits m identity rest unfused limit book opens has) in
+          let g = stop.goes here (first_fits m device rest unfused limit book opens has) in
           record {
             last = g.there;
-            run = subst (λ (x : Identification). LivesRun x here (actions_of_all lived ++ armed_by life.fuse) told stop.refusals g.there) stop.identity_stays g.run;
+            run = subst (λ (x : Device). LivesRun x here (actions_of_all lived ++ armed_by life.fuse) told stop.refusals g.there) stop.device_stays g.run;
             limited = λ ours. g.limited (g.ours ∙ ours);
             next = g.book;
             opens = g.opens;

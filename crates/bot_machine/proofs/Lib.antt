@@ -1,3 +1,4 @@
+pub mod Sizes
 pub mod Packets
 pub mod Sending
 pub mod Filling
@@ -12,6 +13,7 @@ pub mod Runs
 pub mod OneStep
 pub mod StruckTicks
 pub mod Moved
+pub mod Fitting
 pub mod Playing
 pub mod Happening
 pub mod Beginning

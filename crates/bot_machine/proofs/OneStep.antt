@@ -83,7 +83,7 @@ opens_once packet old one other stamps a b =
 
 takes_once : (case : Case) (command : Cbw) (intended : Way) (bytes : List ℕ) (due : ℕ) (packet : List ℕ)
     (old one other : Conversation UnitState)
-    → ¬ StampsOut (with_progress old.unit.book (write_of_packet false (taking case command intended bytes due) packet old.unit))
+    → ¬ StampsOut (with_progress old.unit.book (write_of_packet old.line.packet_size false (taking case command intended bytes due) packet old.unit))
     → Takes Intends CarriesOut Ticks false case command intended bytes due packet old one
     → Takes Intends CarriesOut Ticks false case command intended bytes due packet old other → one ≡ other
 takes_once case command intended bytes due packet old one other stamps (inl a) (inl b) =
@@ -97,7 +97,7 @@ takes_once case command intended bytes due packet old one other stamps (inr (inl
 takes_once case command intended bytes due packet old one other stamps (inr (inl a)) (inr (inl b)) =
     carried_out_once case command intended (take (size_of_way intended) (bytes ++ packet)) old one other
     (subst (λ w. ¬ StampsOut (with_progress old.unit.book w))
-    (sym (last_packet (length packet) due
+    (sym (last_packet old.line.packet_size (length packet) due
     (write_in_progress old.unit command.block.items (take (size_of_way intended) (bytes ++ packet))) None a.size a.last)) stamps)
     a.carried_out b.carried_out
 takes_once case command intended bytes due packet old one other stamps (inr (inl a)) (inr (inr b)) =
@@ -112,7 +112,7 @@ takes_once case command intended bytes due packet old one other stamps (inr (inr
 -- ---- a packet to Bulk-Out
 
 out_once : (halted : Bool) (left : Script) (packet : List ℕ) (old one other : Conversation UnitState) (answer again : Answer)
-    → ¬ StampsOut (with_progress old.unit.book (write_of_packet halted left packet old.unit))
+    → ¬ StampsOut (with_progress old.unit.book (write_of_packet old.line.packet_size halted left packet old.unit))
     → OutStep Intends CarriesOut Ticks false halted left packet old answer one
     → OutStep Intends CarriesOut Ticks false halted left packet old again other → (answer ≡ again) × (one ≡ other)
 out_once true left packet old one other answer again stamps a b = (a.0 ∙ sym b.0, a.1 ∙ sym b.1)

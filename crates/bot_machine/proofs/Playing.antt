@@ -1,7 +1,7 @@
 -- Lives go on: one run of actions after another.
 use Rattle.std.proofs.Common.{◌≡◌, ℕ, ◌+◌, ◌≤◌, Bool, true, false, List, [], ◌∷◌, ◌++◌, length-append, refl, sym, subst, ◌∙◌, ap, arith, append_assoc}
 use Rattle.std.proofs.lemmas.List.{append-nil}
-use Rattle.scsi_unit.specs.Identification.{Identification}
+use Rattle.bot_machine.specs.Device.{Device}
 use Rattle.scsi_unit.specs.StartFaults.{StartFault}
 use Rattle.scsi_unit.specs.StartFaults.{NoMemory, Read, Write, Flush, BadSuper, BadVersion, BadSize, BadHead, StampsUsedUp, LogTooSmall}
 use Rattle.scsi_unit.specs.Books.{Book}
@@ -23,23 +23,23 @@ refused_events-append (true ∷ xs) ys = omega (arith, refused_events-append xs 
 refused_events-append (false ∷ xs) ys = refused_events-append xs ys
 
 -- one run after another
-pub LivesRun-append : (identity : Identification) (xs ys : List Action) (told more : List Answer)
-    (refusals others : List Bool) (a b c : Standing) → LivesRun identity a xs told refusals b
-    → LivesRun identity b ys more others c
-    → LivesRun identity a (xs ++ ys) (told ++ more) (refusals ++ others) c
-LivesRun-append identity [] ys told more [] others a b c r s =
-    let moved : LivesRun identity a ys more others c = subst (λ (x : Standing). LivesRun identity x ys more others c) r.1 s in
-    subst (λ (l : List Answer). LivesRun identity a ys (l ++ more) others c) (sym r.0) moved
-LivesRun-append identity (x ∷ xs) ys told more (refused ∷ refusals) others a b c r s = (
+pub LivesRun-append : (device : Device) (xs ys : List Action) (told more : List Answer)
+    (refusals others : List Bool) (a b c : Standing) → LivesRun device a xs told refusals b
+    → LivesRun device b ys more others c
+    → LivesRun device a (xs ++ ys) (told ++ more) (refusals ++ others) c
+LivesRun-append device [] ys told more [] others a b c r s =
+    let moved : LivesRun device a ys more others c = subst (λ (x : Standing). LivesRun device x ys more others c) r.1 s in
+    subst (λ (l : List Answer). LivesRun device a ys (l ++ more) others c) (sym r.0) moved
+LivesRun-append device (x ∷ xs) ys told more (refused ∷ refusals) others a b c r s = (
   r.0,
   r.1,
   r.2 ++ more,
   ap (λ (l : List Answer). l ++ more) r.3 ∙ append_assoc r.1 r.2 more,
   r.4,
-  LivesRun-append identity xs ys r.2 more refusals others r.0 b c r.5 s,
+  LivesRun-append device xs ys r.2 more refusals others r.0 b c r.5 s,
 )
-LivesRun-append identity [] ys told more (refused ∷ refusals) others a b c r s = absurd r
-LivesRun-append identity (x ∷ xs) ys told more [] others a b c r s = absurd r
+LivesRun-append device [] ys told more (refused ∷ refusals) others a b c r s = absurd r
+LivesRun-append device (x ∷ xs) ys told more [] others a b c r s = absurd r
 
 -- the refusals of one part and of the next
 counted : (xs ys : List Bool) (a b c : ℕ) → refused_events xs + a ≤ b → refused_events ys + b ≤ c → refused_events (xs ++ ys) + a ≤ c
@@ -53,27 +53,27 @@ rests lives = record {
   refused = omega arith;
   goes = λ here fits. record { there = here; run = (refl, refl); fits = fits; ours = refl; limit_stays = λ ours. refl };
   size_stays = refl;
-  identity_stays = refl;
+  device_stays = refl;
 }
 
 module _ (a b c : LivesValue) (xs ys : List Action) (told more : List Answer) (first : LivesGoOn a xs told b) where
-  -- the first part, by the identity at the end
-  first_run : c.identity ≡ b.identity → (here : Standing) (fits : FitsLives a here) → LivesRun c.identity here xs told first.refusals (first.goes here fits).there
-  first_run same here fits = subst (λ (i : Identification). LivesRun i here xs told first.refusals (first.goes here fits).there) (sym same) (first.goes here fits).run
+  -- the first part, by the device at the end
+  first_run : c.device ≡ b.device → (here : Standing) (fits : FitsLives a here) → LivesRun c.device here xs told first.refusals (first.goes here fits).there
+  first_run same here fits = subst (λ (i : Device). LivesRun i here xs told first.refusals (first.goes here fits).there) (sym same) (first.goes here fits).run
 
-  -- the second part, by the identity at the beginning
-  next_moves : (others : List Bool) (stage : Stage) → MovesBy b.identity b.stage ys more others stage → MovesBy a.identity b.stage ys more others stage
-  next_moves others stage moves = subst (λ (i : Identification). MovesBy i b.stage ys more others stage) first.identity_stays moves
+  -- the second part, by the device at the beginning
+  next_moves : (others : List Bool) (stage : Stage) → MovesBy b.device b.stage ys more others stage → MovesBy a.device b.stage ys more others stage
+  next_moves others stage moves = subst (λ (i : Device). MovesBy i b.stage ys more others stage) first.device_stays moves
 
   -- lives go on, and go on
   pub lives_go_on : LivesGoOn b ys more c → LivesGoOn a (xs ++ ys) (told ++ more) c
   lives_go_on next = record {
     refusals = first.refusals ++ next.refusals;
-    moves = MovesBy-append a.identity xs ys told more first.refusals next.refusals a.stage b.stage c.stage first.moves (next_moves next.refusals c.stage next.moves);
+    moves = MovesBy-append a.device xs ys told more first.refusals next.refusals a.stage b.stage c.stage first.moves (next_moves next.refusals c.stage next.moves);
     refused = counted first.refusals next.refusals (state_in a.stage).failures (state_in b.stage).failures (state_in c.stage).failures first.refused next.refused;
     goes = goes;
     size_stays = next.size_stays ∙ first.size_stays;
-    identity_stays = next.identity_stays ∙ first.identity_stays;
+    device_stays = next.device_stays ∙ first.device_stays;
   }
     where
       goes : (here : Standing) → FitsLives a here → LivesGoTo c here (xs ++ ys) (told ++ more) (first.refusals ++ next.refusals)
@@ -82,7 +82,7 @@ module _ (a b c : LivesValue) (xs ys : List Action) (told more : List Answer) (f
           let last = next.goes mid.there mid.fits in
           record {
             there = last.there;
-            run = LivesRun-append c.identity xs ys told more first.refusals next.refusals here mid.there last.there (first_run next.identity_stays here fits) last.run;
+            run = LivesRun-append c.device xs ys told more first.refusals next.refusals here mid.there last.there (first_run next.device_stays here fits) last.run;
             fits = last.fits;
             ours = last.ours ∙ mid.ours;
             limit_stays = λ ours. last.limit_stays (mid.ours ∙ ours) ∙ mid.limit_stays ours;
@@ -93,14 +93,14 @@ module _ (a b c : LivesValue) (xs ys : List Action) (told more : List Answer) (f
   lives_stop fault next = record {
     refusals = first.refusals ++ next.refusals;
     at = next.at;
-    moves = MovesBy-append a.identity xs ys told more first.refusals next.refusals a.stage b.stage (Rests next.at) first.moves (next_moves next.refusals (Rests next.at) next.moves);
+    moves = MovesBy-append a.device xs ys told more first.refusals next.refusals a.stage b.stage (Rests next.at) first.moves (next_moves next.refusals (Rests next.at) next.moves);
     start = next.start;
     refused = counted first.refusals next.refusals (state_in a.stage).failures (state_in b.stage).failures (state_in c.stage).failures first.refused next.refused;
     goes = goes;
     rests = next.rests;
     on = next.on;
     size_stays = next.size_stays ∙ first.size_stays;
-    identity_stays = next.identity_stays ∙ first.identity_stays;
+    device_stays = next.device_stays ∙ first.device_stays;
   }
     where
       less : refused_events (first.refusals ++ next.refusals) + (state_in a.stage).failures ≤ refused_events next.refusals + (state_in b.stage).failures
@@ -126,7 +126,7 @@ module _ (a b c : LivesValue) (xs ys : List Action) (told more : List Answer) (f
           let last = next.goes mid.there mid.fits in
           record {
             there = last.there;
-            run = LivesRun-append c.identity xs ys told more first.refusals next.refusals here mid.there last.there (first_run next.identity_stays here fits) last.run;
+            run = LivesRun-append c.device xs ys told more first.refusals next.refusals here mid.there last.there (first_run next.device_stays here fits) last.run;
             book = last.book;
             opens = last.opens;
             ours = last.ours ∙ mid.ours;

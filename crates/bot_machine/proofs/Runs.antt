@@ -118,6 +118,7 @@ no_run state disk sound =
         at_exit = λ ours. between_calls m disk.unit book fits ours;
       };
       elapses = record { failures_stay = omega arith; size_stays = refl };
+      packets_stay = refl;
     }
 
 -- events of a disk and then one event, over one book
@@ -169,4 +170,5 @@ IsRun-more state old mid new events answers event answer r s =
         failures_stay = omega (arith, r.elapses.failures_stay, s.elapses.failures_stay);
         size_stays = s.elapses.size_stays ∙ r.elapses.size_stays;
       };
+      packets_stay = s.packets_stay ∙ r.packets_stay;
     }

@@ -10,65 +10,66 @@ use Rattle.bot_machine.specs.Refinement.{halt_of, sent_size}
 use Rattle.bot_machine.specs.Exchange.{Line, Script, sending, in_answer, after_in, laid_out, sent_in}
 use Rattle.bot_machine.proofs.Packets.{packets_of-range, packets_of-some, packets_of-end, packets_of-none}
 
--- packets that are left are sent one after another
-pub laid_out-some : (xs : List ℕ) (from to : ℕ) (halt : Option Endpoint) (status : List ℕ) (s : Line) → from < to → to ≤ length xs
-    → laid_out (packets_of (slice_range xs from to)) halt status s ≡ record s { left = sending (packets_of (slice_range xs from to)) halt status }
-laid_out-some xs from to halt status s h k =
-    let e = packets_of-some xs from to h k in
-    ap (λ p. laid_out p halt status s) e ∙ sym (ap (λ p. record s { left = sending p halt status }) e)
+module _ (size : ℕ) (some : 0 < size) where
+  -- packets that are left are sent one after another
+  pub laid_out-some : (xs : List ℕ) (from to : ℕ) (halt : Option Endpoint) (status : List ℕ) (s : Line) → from < to → to ≤ length xs
+      → laid_out (packets_of size (slice_range xs from to)) halt status s ≡ record s { left = sending (packets_of size (slice_range xs from to)) halt status }
+  laid_out-some xs from to halt status s h k =
+      let e = packets_of-some size some xs from to h k in
+      ap (λ p. laid_out p halt status s) e ∙ sym (ap (λ p. record s { left = sending p halt status }) e)
 
--- what is laid out from the front of a buffer
-pub laid_out-front : (xs : List ℕ) (size : ℕ) (halt : Option Endpoint) (is_in : Bool) (status : List ℕ) (s : Line) → 0 < size → size ≤ length xs → halt ≡ halt_of is_in
-    → record s { left = sending (packets_of (slice_range xs 0 size)) (halt_of is_in) status } ≡ laid_out (packets_of (take size xs)) halt status s
-laid_out-front xs size halt is_in status s h k e =
-    let same : size - 0 ≡ size = omega arith in
-    sym (laid_out-some xs 0 size (halt_of is_in) status s h k) ∙ ap (λ n. laid_out (packets_of (take n xs)) (halt_of is_in) status s) same
-    ∙ ap (λ p. laid_out (packets_of (take size xs)) p status s) (sym e)
+  -- what is laid out from the front of a buffer
+  pub laid_out-front : (xs : List ℕ) (bytes : ℕ) (halt : Option Endpoint) (is_in : Bool) (status : List ℕ) (s : Line) → 0 < bytes → bytes ≤ length xs → halt ≡ halt_of is_in
+      → record s { left = sending (packets_of size (slice_range xs 0 bytes)) (halt_of is_in) status } ≡ laid_out (packets_of size (take bytes xs)) halt status s
+  laid_out-front xs bytes halt is_in status s h k e =
+      let same : bytes - 0 ≡ bytes = omega arith in
+      sym (laid_out-some xs 0 bytes (halt_of is_in) status s h k) ∙ ap (λ n. laid_out (packets_of size (take n xs)) (halt_of is_in) status s) same
+      ∙ ap (λ p. laid_out (packets_of size (take bytes xs)) p status s) (sym e)
 
-pub laid_out-none : (xs : List ℕ) (size : ℕ) (halt : Option Endpoint) (status : List ℕ) (s : Line) → size ≤ 0
-    → laid_out (packets_of (take size xs)) halt status s ≡ laid_out [] halt status s
-laid_out-none xs size halt status s h =
-    let none : size ≡ 0 = omega arith in
-    ap (λ n. laid_out (packets_of (take n xs)) halt status s) none ∙ ap (λ p. laid_out p halt status s) packets_of-none
+  pub laid_out-none : (xs : List ℕ) (bytes : ℕ) (halt : Option Endpoint) (status : List ℕ) (s : Line) → bytes ≤ 0
+      → laid_out (packets_of size (take bytes xs)) halt status s ≡ laid_out [] halt status s
+  laid_out-none xs bytes halt status s h =
+      let none : bytes ≡ 0 = omega arith in
+      ap (λ n. laid_out (packets_of size (take n xs)) halt status s) none ∙ ap (λ p. laid_out p halt status s) (packets_of-none size some)
 
--- what a case sends is the front of what the unit gave
-pub sent_in-size : (case : Case) (size : ℕ) (bytes : List ℕ) → sent_in case (take size bytes) ≡ packets_of (take (sent_size case size) bytes)
-sent_in-size C1 size bytes = sym packets_of-none
-sent_in-size C2 size bytes = sym packets_of-none
-sent_in-size C3 size bytes = sym packets_of-none
-sent_in-size C4 size bytes = sym packets_of-none
-sent_in-size C5 size bytes = refl
-sent_in-size C6 size bytes = refl
-sent_in-size C7 size bytes = sym packets_of-none
-sent_in-size C8 size bytes = sym packets_of-none
-sent_in-size C9 size bytes = sym packets_of-none
-sent_in-size C10 size bytes = sym packets_of-none
-sent_in-size C11 size bytes = sym packets_of-none
-sent_in-size C12 size bytes = sym packets_of-none
-sent_in-size C13 size bytes = sym packets_of-none
+  -- what a case sends is the front of what the unit gave
+  pub sent_in-size : (case : Case) (most : ℕ) (bytes : List ℕ) → sent_in size case (take most bytes) ≡ packets_of size (take (sent_size case most) bytes)
+  sent_in-size C1 most bytes = sym (packets_of-none size some)
+  sent_in-size C2 most bytes = sym (packets_of-none size some)
+  sent_in-size C3 most bytes = sym (packets_of-none size some)
+  sent_in-size C4 most bytes = sym (packets_of-none size some)
+  sent_in-size C5 most bytes = refl
+  sent_in-size C6 most bytes = refl
+  sent_in-size C7 most bytes = sym (packets_of-none size some)
+  sent_in-size C8 most bytes = sym (packets_of-none size some)
+  sent_in-size C9 most bytes = sym (packets_of-none size some)
+  sent_in-size C10 most bytes = sym (packets_of-none size some)
+  sent_in-size C11 most bytes = sym (packets_of-none size some)
+  sent_in-size C12 most bytes = sym (packets_of-none size some)
+  sent_in-size C13 most bytes = sym (packets_of-none size some)
 
-module _ (locked out_halted : Bool) (status : List ℕ) where
+module _ (size : ℕ) (some : 0 < size) (locked out_halted : Bool) (status : List ℕ) where
   abbrev pub open_to : Bool → Script → Line
-  open_to in_halted left = record { in_halted = in_halted; out_halted = out_halted; locked = locked; left = left }
+  open_to in_halted left = record { packet_size = size; in_halted = in_halted; out_halted = out_halted; locked = locked; left = left }
 
   halt_last : (halt : Bool) (left : Script) → laid_out [] (halt_of halt) status (open_to false left) ≡ open_to halt (sending [] None status)
   halt_last true left = refl
   halt_last false left = refl
 
-  pub sent_more : (xs : List ℕ) (from to end : ℕ) (halt : Bool) → from < to → to ≤ length xs → end ≡ min to (from + 512) → end < to
-      → after_in (open_to false (sending (packets_of (slice_range xs from to)) (halt_of halt) status)) ≡ open_to false (sending (packets_of (slice_range xs end to)) (halt_of halt) status)
+  pub sent_more : (xs : List ℕ) (from to end : ℕ) (halt : Bool) → from < to → to ≤ length xs → end ≡ min to (from + size) → end < to
+      → after_in (open_to false (sending (packets_of size (slice_range xs from to)) (halt_of halt) status)) ≡ open_to false (sending (packets_of size (slice_range xs end to)) (halt_of halt) status)
   sent_more xs from to end halt h k e more =
-      ap (λ p. after_in (open_to false (sending p (halt_of halt) status))) (packets_of-range xs from to end h k e)
-      ∙ laid_out-some xs end to (halt_of halt) status _ more k
+      ap (λ p. after_in (open_to false (sending p (halt_of halt) status))) (packets_of-range size some xs from to end h k e)
+      ∙ laid_out-some size some xs end to (halt_of halt) status _ more k
 
-  pub sent_last : (xs : List ℕ) (from to end : ℕ) (halt : Bool) → from < to → to ≤ length xs → end ≡ min to (from + 512) → to ≤ end
-      → after_in (open_to false (sending (packets_of (slice_range xs from to)) (halt_of halt) status)) ≡ open_to halt (sending [] None status)
+  pub sent_last : (xs : List ℕ) (from to end : ℕ) (halt : Bool) → from < to → to ≤ length xs → end ≡ min to (from + size) → to ≤ end
+      → after_in (open_to false (sending (packets_of size (slice_range xs from to)) (halt_of halt) status)) ≡ open_to halt (sending [] None status)
   sent_last xs from to end halt h k e last =
-      ap (λ p. after_in (open_to false (sending p (halt_of halt) status))) (packets_of-range xs from to end h k e)
-      ∙ ap (λ p. laid_out p (halt_of halt) status (open_to false (sending (slice_range xs from end ∷ packets_of (slice_range xs end to)) (halt_of halt) status))) (packets_of-end xs end to last)
+      ap (λ p. after_in (open_to false (sending p (halt_of halt) status))) (packets_of-range size some xs from to end h k e)
+      ∙ ap (λ p. laid_out p (halt_of halt) status (open_to false (sending (slice_range xs from end ∷ packets_of size (slice_range xs end to)) (halt_of halt) status))) (packets_of-end size some xs end to last)
       ∙ halt_last halt _
 
-  pub answer_sent : (xs : List ℕ) (from to end : ℕ) (halt : Bool) → from < to → to ≤ length xs → end ≡ min to (from + 512)
-      → Data (record { items = slice_range xs from end }) ≡ in_answer (open_to false (sending (packets_of (slice_range xs from to)) (halt_of halt) status))
+  pub answer_sent : (xs : List ℕ) (from to end : ℕ) (halt : Bool) → from < to → to ≤ length xs → end ≡ min to (from + size)
+      → Data (record { items = slice_range xs from end }) ≡ in_answer (open_to false (sending (packets_of size (slice_range xs from to)) (halt_of halt) status))
   answer_sent xs from to end halt h k e =
-      sym (ap (λ p. in_answer (open_to false (sending p (halt_of halt) status))) (packets_of-range xs from to end h k e))
+      sym (ap (λ p. in_answer (open_to false (sending p (halt_of halt) status))) (packets_of-range size some xs from to end h k e))

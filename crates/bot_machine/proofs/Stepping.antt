@@ -1,7 +1,8 @@
 -- What a packet to Bulk-Out does, by whether it is halted and by what is left of the exchange.
-use Rattle.std.proofs.Common.{◌≡◌, ℕ, Bool, true, false, List, [], slice_range, refl, sym, subst, arith}
-use Rattle.std.specs.Prelude.{None, Option, Result}
+use Rattle.std.proofs.Common.{◌≡◌, ℕ, Bool, true, false, if◌then◌else◌, inl, inr, List, [], ◌∷◌, slice_range, refl, sym, subst, ap, ◌∙◌, arith}
+use Rattle.std.specs.Prelude.{None, Some, Option, Result}
 use Rattle.wrappers.specs.declared.case.Endpoint.{Endpoint}
+use Rattle.wrappers.specs.declared.case.Endpoint.TheVariants as endpoint
 use Rattle.medium.specs.Medium.{State, IsSound}
 use Rattle.scsi_unit.specs.Rules.{Sense}
 use Rattle.scsi_unit.specs.Books.{Book}
@@ -15,7 +16,8 @@ use Rattle.bot_machine.specs.declared.event.Answer.TheVariants as answer
 use Rattle.bot_machine.specs.declared.wire.Taking.{Taking}
 use Rattle.bot_machine.specs.declared.wire.Phase.{Phase}
 use Rattle.bot_machine.specs.declared.wire.Phase.TheVariants.{Command, DataOut, DataIn, Status}
-use Rattle.bot_machine.specs.Exchange.{Script, finished, sending, Line, in_answer, after_in}
+use Rattle.bot_machine.specs.Requests.{Request, mass_storage_reset, get_max_lun, clear_halt, get_status}
+use Rattle.bot_machine.specs.Exchange.{Script, finished, taking, sending, Line, laid_out, set_halt, in_answer, after_packet, after_in, after_request}
 use Rattle.bot_machine.specs.Conversation.{OutStep, SetupStep}
 use Rattle.bot_machine.specs.Intentions.{Intends}
 use Rattle.bot_machine.specs.Acts.{PacketCarriesOut, write_of_packet}
@@ -37,16 +39,17 @@ module _ {M : Type 0} (before after : State) (old new : DiskValue M) (packet : L
     pub proceeds : (book : Book) → FitsDisk before old book → Proceeds before after old.unit new.unit
         (λ unit later. OutStep Intends CarriesOut Ticks (has_refused before after) halted left packet
         (on_line old.line unit) told (on_line new.line later))
-        (write_of_packet halted left packet (state_of old.unit book)) book
+        (write_of_packet old.line.packet_size halted left packet (state_of old.unit book)) book
     pub rests : (book : Book) → FitsDisk before old book
-        → ((block taken : List ℕ) → PacketCarriesOut halted left packet (state_of old.unit book) block taken → ⊥)
+        → ((block taken : List ℕ) → PacketCarriesOut old.line.packet_size halted left packet (state_of old.unit book) block taken → ⊥)
         → new.unit ≡ old.unit
     pub spares : (book : Book) → FitsDisk before old book → (block taken : List ℕ)
-        → PacketCarriesOut halted left packet (state_of old.unit book) block taken
+        → PacketCarriesOut old.line.packet_size halted left packet (state_of old.unit book) block taken
         → (answer : Result (List ℕ) Sense) × IsSparing block taken old.unit answer new.unit
         × IsBounded before after block taken old.unit × Tells answer new.line
     pub elapses : Elapses before after
     pub limit_stays : unit_limit new.unit ≡ unit_limit old.unit
+    pub packets_stay : new.line.packet_size ≡ old.line.packet_size
 
   does : DoesFor old.line.out_halted old.line.left
       → IsStep before after old (event.Out (record { items = packet })) told new
@@ -57,6 +60,7 @@ module _ {M : Type 0} (before after : State) (old new : DiskValue M) (packet : L
     spares = d.spares;
     elapses = d.elapses;
     limit_stays = d.limit_stays;
+    packets_stay = d.packets_stay;
   }
 
   does_for : (halted : Bool) (left : Script) → halted ≡ old.line.out_halted → left ≡ old.line.left → DoesFor halted left
@@ -74,6 +78,7 @@ stalled m disk packet sound halted =
       spares = λ book fits block taken carries. absurd carries;
       elapses = no_time m;
       limit_stays = refl;
+      packets_stay = refl;
     })
 
 -- a packet while something is sent
@@ -87,15 +92,17 @@ not_ready m disk packet packets halt status sound halted left =
       spares = λ book fits block taken carries. absurd carries;
       elapses = no_time m;
       limit_stays = refl;
+      packets_stay = refl;
     })
 
 -- a packet where a command wrapper is expected
 pub begins : {M : Type 0} (before after : State) (old new : DiskValue M) (packet : List ℕ)
     → false ≡ old.line.out_halted → finished ≡ old.line.left
     → OpensOn before after old.unit new.unit old.line new.line packet
-    → RestsOn before old.unit new.unit finished packet → SparesOn before after old.unit new.unit new.line finished packet
-    → Elapses before after → unit_limit new.unit ≡ unit_limit old.unit → IsStep before after old (event.Out (record { items = packet })) answer.Ack new
-begins before after old new packet halted left opens rests spares elapses limit =
+    → RestsOn old.line.packet_size before old.unit new.unit finished packet → SparesOn old.line.packet_size before after old.unit new.unit new.line finished packet
+    → Elapses before after → unit_limit new.unit ≡ unit_limit old.unit → new.line.packet_size ≡ old.line.packet_size
+    → IsStep before after old (event.Out (record { items = packet })) answer.Ack new
+begins before after old new packet halted left opens rests spares elapses limit size =
     does_for before after old new packet answer.Ack false finished halted left (record {
       proceeds = λ book fits. proceeding_so before after old.unit new.unit _ _ None None book (opens book fits) refl
           (λ later moves. (refl, moves));
@@ -103,16 +110,18 @@ begins before after old new packet halted left opens rests spares elapses limit 
       spares = spares;
       elapses = elapses;
       limit_stays = limit;
+      packets_stay = size;
     })
 
 -- a packet where data is expected
 pub goes_on : {M : Type 0} (before after : State) (old new : DiskValue M) (packet : List ℕ) (t : Taking) (taken : List ℕ)
     → false ≡ old.line.out_halted → taking_of t taken ≡ old.line.left
     → TakesOn before after old.unit new.unit old.line new.line t taken packet
-    → RestsOn before old.unit new.unit (taking_of t taken) packet
-    → SparesOn before after old.unit new.unit new.line (taking_of t taken) packet
-    → Elapses before after → unit_limit new.unit ≡ unit_limit old.unit → IsStep before after old (event.Out (record { items = packet })) answer.Ack new
-goes_on before after old new packet t taken halted left takes rests spares elapses limit =
+    → RestsOn old.line.packet_size before old.unit new.unit (taking_of t taken) packet
+    → SparesOn old.line.packet_size before after old.unit new.unit new.line (taking_of t taken) packet
+    → Elapses before after → unit_limit new.unit ≡ unit_limit old.unit → new.line.packet_size ≡ old.line.packet_size
+    → IsStep before after old (event.Out (record { items = packet })) answer.Ack new
+goes_on before after old new packet t taken halted left takes rests spares elapses limit size =
     does_for before after old new packet answer.Ack false (taking_of t taken) halted left (record {
       proceeds = λ book fits. proceeding_so before after old.unit new.unit _ _ _ _ book (takes book fits) refl
           (λ later moves. (refl, moves));
@@ -120,6 +129,7 @@ goes_on before after old new packet t taken halted left takes rests spares elaps
       spares = spares;
       elapses = elapses;
       limit_stays = limit;
+      packets_stay = size;
     })
 
 -- a step in the background
@@ -138,7 +148,43 @@ ticked before after old new ticks line = record {
     size_stays = ticks.size_stays;
   };
   limit_stays = ticks.limit_stays;
+  packets_stay = ap (λ (l : Line). l.packet_size) line;
 }
+
+-- a token to Bulk-In, or a setup packet, leaves the size of a packet
+laid_out-size : (packets : List (List ℕ)) (halt : Option Endpoint) (status : List ℕ) (s : Line) → (laid_out packets halt status s).packet_size ≡ s.packet_size
+laid_out-size [] None status s = refl
+laid_out-size [] (Some endpoint.In) status s = refl
+laid_out-size [] (Some endpoint.Out) status s = refl
+laid_out-size (packet ∷ packets) halt status s = refl
+
+after_packet-size : (left : Script) (s : Line) → (after_packet left s).packet_size ≡ s.packet_size
+after_packet-size finished s = refl
+after_packet-size (taking case command intended bytes due) s = refl
+after_packet-size (sending [] halt status) s = refl
+after_packet-size (sending (packet ∷ packets) halt status) s = laid_out-size packets halt status s
+
+after_in_size : (s : Line) → (after_in s).packet_size ≡ s.packet_size
+after_in_size s = by_halt s.in_halted
+  where
+    by_halt : (halted : Bool) → (if halted then s else after_packet s.left s).packet_size ≡ s.packet_size
+    by_halt true = refl
+    by_halt false = after_packet-size s.left s
+
+cleared_size : (locked : Bool) (endpoint : Endpoint) (s : Line) → (if locked then s else set_halt endpoint false s).packet_size ≡ s.packet_size
+cleared_size true endpoint s = refl
+cleared_size false endpoint.In s = refl
+cleared_size false endpoint.Out s = refl
+
+request_size : (request : Request) (s : Line) → (after_request request s).packet_size ≡ s.packet_size
+request_size mass_storage_reset s = refl
+request_size get_max_lun s = refl
+request_size (clear_halt endpoint) s = cleared_size s.locked endpoint s
+request_size (get_status endpoint) s = refl
+
+setup_size : (packet : List ℕ) (old : Line) (told : Answer) (new : Line) → SetupStep packet old told new → new.packet_size ≡ old.packet_size
+setup_size packet old told new (inl (request, asked)) = ap (λ (s : Line). s.packet_size) asked.after ∙ request_size request old
+setup_size packet old told new (inr refused) = ap (λ (s : Line). s.packet_size) refused.after
 
 -- a token to Bulk-In
 pub token : {M : Type 0} (m : State) (disk : DiskValue M) → IsSound m
@@ -150,6 +196,7 @@ token m disk sound = record {
   spares = λ book fits block taken carries. absurd carries;
   elapses = no_time m;
   limit_stays = refl;
+  packets_stay = after_in_size disk.line;
 }
 
 -- a setup packet
@@ -162,16 +209,17 @@ asked m disk packet told line sound step = record {
   spares = λ book fits block taken carries. absurd carries;
   elapses = no_time m;
   limit_stays = refl;
+  packets_stay = setup_size packet disk.line told line step;
 }
 
 -- in the phases that take nothing something is sent
-pub sends : (phase : Phase) → (phase ≡ Command → ⊥) → ((t : Taking) → phase ≡ DataOut t → ⊥) → (taken staging status : List ℕ)
-    → (packets : List (List ℕ)) × (halt : Option Endpoint) × (sending packets halt status ≡ left_of phase taken staging status)
-sends Command command out taken staging status = absurd (command refl)
-sends (DataOut t) command out taken staging status = absurd (out t refl)
-sends (DataIn from to halt) command out taken staging status =
-    (packets_of (slice_range staging from to), halt_of halt, refl)
-sends Status command out taken staging status = ([], None, refl)
+pub sends : (phase : Phase) → (phase ≡ Command → ⊥) → ((t : Taking) → phase ≡ DataOut t → ⊥) → (size : ℕ) (taken staging status : List ℕ)
+    → (packets : List (List ℕ)) × (halt : Option Endpoint) × (sending packets halt status ≡ left_of size phase taken staging status)
+sends Command command out size taken staging status = absurd (command refl)
+sends (DataOut t) command out size taken staging status = absurd (out t refl)
+sends (DataIn from to halt) command out size taken staging status =
+    (packets_of size (slice_range staging from to), halt_of halt, refl)
+sends Status command out size taken staging status = ([], None, refl)
 
 -- a unit that comes to take no other data goes on with the phase
 pub still_in_phase : (limit : ℕ) (old new : List ℕ → Intent) → ((block : List ℕ) (n : ℕ) → new block ≡ intent.Out n → old block ≡ intent.Out n)

@@ -28,27 +28,30 @@ pub record CarriesOutAtOnce (packet : List ℕ) (unit : UnitState) (block taken 
   pub block_is : block ≡ command.block.items
   pub none_taken : taken ≡ []
 
--- the packet ends the data of a command, which is carried out over the intended bytes
-pub record CarriesOutLast (command : Cbw) (intended : Way) (bytes : List ℕ) (due : ℕ)
-    (packet : List ℕ)
-    (block taken : List ℕ) : Type 0 where
+-- the packet, of at most so many bytes, ends the data of a command, which is carried out over the
+-- intended bytes
+pub record CarriesOutLast (most : ℕ) (command : Cbw) (intended : Way) (bytes : List ℕ) (due : ℕ)
+    (packet : List ℕ) (block taken : List ℕ) : Type 0 where
   pub size : length packet ≡ due
-  pub last : due ≤ 512
+  pub last : due ≤ most
   pub block_is : block ≡ command.block.items
   pub taken_is : taken ≡ take (size_of_way intended) (bytes ++ packet)
 
--- a packet to Bulk-Out, which is halted or not, has this command block carried out over these bytes
-abbrev pub PacketCarriesOut : Bool → Script → List ℕ → UnitState → List ℕ → List ℕ → Type 0
-PacketCarriesOut true left packet unit block taken = ⊥
-PacketCarriesOut false finished packet unit block taken = CarriesOutAtOnce packet unit block taken
-PacketCarriesOut false (taking case command intended bytes due) packet unit block taken =
-    CarriesOutLast command intended bytes due packet block taken
-PacketCarriesOut false (sending packets halt status) packet unit block taken = ⊥
+-- a packet of at most so many bytes to Bulk-Out, which is halted or not, has this command block
+-- carried out over these bytes
+abbrev pub PacketCarriesOut : ℕ → Bool → Script → List ℕ → UnitState → List ℕ → List ℕ → Type 0
+PacketCarriesOut most true left packet unit block taken = ⊥
+PacketCarriesOut most false finished packet unit block taken =
+    CarriesOutAtOnce packet unit block taken
+PacketCarriesOut most false (taking case command intended bytes due) packet unit block taken =
+    CarriesOutLast most command intended bytes due packet block taken
+PacketCarriesOut most false (sending packets halt status) packet unit block taken = ⊥
 
 -- an event has this command block carried out over these bytes
 abbrev pub EventCarriesOut : Conversation UnitState → Event → List ℕ → List ℕ → Type 0
 EventCarriesOut s (event.Out packet) block taken =
-    PacketCarriesOut s.line.out_halted s.line.left packet.items s.unit block taken
+    PacketCarriesOut s.line.packet_size s.line.out_halted s.line.left packet.items s.unit
+    block taken
 EventCarriesOut s event.In block taken = ⊥
 EventCarriesOut s (event.Setup packet) block taken = ⊥
 EventCarriesOut s event.Tick block taken = ⊥
@@ -61,21 +64,22 @@ Acts s event.In = ⊥
 Acts s (event.Setup packet) = ⊥
 Acts s event.Tick = ⊤
 
--- The write that is in progress in a packet to Bulk-Out: that of the command whose last bytes it
--- has. A command that is carried out in the event of its wrapper takes no bytes, and writes none.
-abbrev pub write_of_packet : Bool → Script → List ℕ → UnitState → Option Write
-write_of_packet true left packet unit = None
-write_of_packet false finished packet unit = None
-write_of_packet false (taking case command intended bytes due) packet unit =
-    if (length packet == due) && nat_le due 512
+-- The write that is in progress in a packet to Bulk-Out, of at most so many bytes: that of the
+-- command whose last bytes it has. A command that is carried out in the event of its wrapper takes
+-- no bytes, and writes none.
+abbrev pub write_of_packet : ℕ → Bool → Script → List ℕ → UnitState → Option Write
+write_of_packet most true left packet unit = None
+write_of_packet most false finished packet unit = None
+write_of_packet most false (taking case command intended bytes due) packet unit =
+    if (length packet == due) && nat_le due most
     then write_in_progress unit command.block.items (take (size_of_way intended) (bytes ++ packet))
     else None
-write_of_packet false (sending packets halt status) packet unit = None
+write_of_packet most false (sending packets halt status) packet unit = None
 
 -- the write that is in progress in an event, if there is one
 abbrev pub write_of_event : Conversation UnitState → Event → Option Write
 write_of_event s (event.Out packet) =
-    write_of_packet s.line.out_halted s.line.left packet.items s.unit
+    write_of_packet s.line.packet_size s.line.out_halted s.line.left packet.items s.unit
 write_of_event s event.In = None
 write_of_event s (event.Setup packet) = None
 write_of_event s event.Tick = None

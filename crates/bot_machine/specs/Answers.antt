@@ -25,11 +25,11 @@ answer_to_setup (setup.Byte byte) = answer.Byte byte
 answer_to_setup (setup.Two bytes) = answer.Two bytes
 answer_to_setup setup.Stall = answer.Stall
 
--- data comes in packets of at most 512 bytes
-abbrev pub IsPacket : InAnswer → Type 0
-IsPacket (in_token.Data bytes) = length bytes.now ≤ 512
-IsPacket in_token.Nak = Unit {0}
-IsPacket in_token.Stall = Unit {0}
+-- data comes in packets of at most so many bytes
+abbrev pub IsPacket : ℕ → InAnswer → Type 0
+IsPacket most (in_token.Data bytes) = length bytes.now ≤ most
+IsPacket most in_token.Nak = Unit {0}
+IsPacket most in_token.Stall = Unit {0}
 
 -- a list of answers, and room for so many
 pub record Room : Type 0 where

@@ -87,26 +87,26 @@ module _ {S F : Type 0} (Intends : S → List ℕ → Way → Type 0)
   -- a packet of the data that is not the last one
   pub record TakesMore (case : Case) (command : Cbw) (intended : Way) (bytes : List ℕ) (due : ℕ)
       (packet : List ℕ) (old new : Conversation S) : Type 0 where
-    pub size : length packet ≡ 512
-    pub more : 512 < due
+    pub size : length packet ≡ old.line.packet_size
+    pub more : old.line.packet_size < due
     pub unit : new.unit ≡ old.unit
     pub after : new.line ≡ record old.line {
       left = taking case command intended (take (size_of_way intended) (bytes ++ packet))
-          (due - 512);
+          (due - old.line.packet_size);
     }
 
   -- the last packet of the data
   pub record TakesLast (case : Case) (command : Cbw) (intended : Way) (bytes : List ℕ) (due : ℕ)
       (packet : List ℕ) (old new : Conversation S) : Type 0 where
     pub size : length packet ≡ due
-    pub last : due ≤ 512
+    pub last : due ≤ old.line.packet_size
     pub carried_out :
         IsCarriedOut case command intended (take (size_of_way intended) (bytes ++ packet)) old new
 
   -- a packet of another length than is due
   pub record BreaksOff (command : Cbw) (due : ℕ) (packet : List ℕ) (old new : Conversation S)
       : Type 0 where
-    pub size : length packet ≢ min 512 due
+    pub size : length packet ≢ min old.line.packet_size due
     pub unit : new.unit ≡ old.unit
     pub after : new.line ≡ laid_out [] None (status_wrapper command.tag due PhaseError) old.line
 

@@ -104,6 +104,7 @@ pub record IsStep {M : Type 0} (before after : State) (old : DiskValue M) (event
       × IsBounded before after block taken old.unit × Tells told new.line
   pub elapses : Elapses before after
   pub limit_stays : unit_limit new.unit ≡ unit_limit old.unit
+  pub packets_stay : new.line.packet_size ≡ old.line.packet_size
 
 -- an image that a cut in one of the events of a run may leave: accepted writes of the book at the
 -- beginning of that event, perhaps with the one in progress in it
@@ -158,6 +159,7 @@ pub record IsRun {M : Type 0} (state : M → State) (old : DiskValue M) (events 
       → RunsOn (state old.unit.store.medium) (state new.unit.store.medium) old events answers
       refusals new book
   pub elapses : Elapses (state old.unit.store.medium) (state new.unit.store.medium)
+  pub packets_stay : new.line.packet_size ≡ old.line.packet_size
 
 -- something was armed in the medium, and nothing else of the disk has changed
 abbrev pub IsRearmed : {M : Type 0} → DiskValue M → DiskValue M → Type 0

@@ -32,16 +32,23 @@ pub data Script : Type 0 where
   -- packets to send, the endpoint that is halted with the last of them, and the status wrapper
   sending : List (List ℕ) → Option Endpoint → List ℕ → Script
 
--- two halts, a lock, and what is left of the exchange
+-- how many bytes a packet has at most, two halts, a lock, and what is left of the exchange
 pub record Line : Type 0 where
+  pub packet_size : ℕ
   pub in_halted : Bool
   pub out_halted : Bool
   pub locked : Bool
   pub left : Script
 
--- nothing is halted, and a command wrapper is expected
-abbrev pub at_rest : Line
-at_rest = record { in_halted = false; out_halted = false; locked = false; left = finished }
+-- a line for packets of this size: nothing is halted, and a command wrapper is expected
+abbrev pub at_rest : ℕ → Line
+at_rest size = record {
+  packet_size = size;
+  in_halted = false;
+  out_halted = false;
+  locked = false;
+  left = finished;
+}
 
 abbrev pub halted : Endpoint → Line → Bool
 halted endpoint.In s = s.in_halted
@@ -127,11 +134,11 @@ case_if_failed C5 = C4
 case_if_failed C6 = C4
 case_if_failed case = case
 
--- data goes to the host in cases 5 and 6 alone
-abbrev pub sent_in : Case → List ℕ → List (List ℕ)
-sent_in C5 bytes = packets_of bytes
-sent_in C6 bytes = packets_of bytes
-sent_in case bytes = []
+-- data goes to the host in cases 5 and 6 alone, in packets of this size
+abbrev pub sent_in : ℕ → Case → List ℕ → List (List ℕ)
+sent_in size C5 bytes = packets_of size bytes
+sent_in size C6 bytes = packets_of size bytes
+sent_in size case bytes = []
 
 -- the outcome of a case for a command and what it intends, and the status wrapper that tells it
 abbrev pub outcome_for : Case → Cbw → Way → Outcome
@@ -150,7 +157,7 @@ told_at_once case command intended status s =
 -- a command that was carried out: its packets, the halt of its case, and its status
 abbrev pub told : {F : Type 0} → Case → Cbw → Way → Result (List ℕ) F → Line → Line
 told case command intended (Ok bytes) s =
-    laid_out (sent_in case bytes) (outcome_for case command intended).halt
+    laid_out (sent_in s.packet_size case bytes) (outcome_for case command intended).halt
     (status_for case command intended Passed) s
 told case command intended (Err fault) s =
     told_at_once (case_if_failed case) command intended Failed s

@@ -9,6 +9,7 @@ pub use Rattle.scsi_unit.specs.Rules
 pub use Rattle.scsi_unit.specs.UnitValue
 pub mod PacketBytes
 pub mod Packets
+pub mod Device
 pub mod Requests
 pub mod Exchange
 pub mod Conversation
@@ -16,6 +17,7 @@ pub mod Turns
 pub mod Intentions
 pub mod Acts
 pub mod Answers
+pub mod Fitting
 pub mod Disk
 pub mod Opening
 pub mod Refinement

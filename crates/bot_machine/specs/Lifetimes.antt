@@ -5,12 +5,12 @@ use Rattle.medium.specs.Moments.{EachCut}
 use Rattle.medium.specs.Sim.{Sim, state_of}
 use Rattle.medium.specs.Writes.{keeps}
 use Rattle.scsi_unit.specs.StartFaults.{StartFault}
-use Rattle.scsi_unit.specs.Identification.{Identification}
 use Rattle.scsi_unit.specs.Books.{Book}
 use Rattle.scsi_unit.specs.Books.{MayFind}
 use Rattle.bot_machine.specs.declared.event.Answer.{Answer}
 use Rattle.bot_machine.specs.declared.life.Life.{Life}
 use Rattle.bot_machine.specs.Answers.{Room}
+use Rattle.bot_machine.specs.Device.{Device}
 use Rattle.bot_machine.specs.Conversation.{refused_events}
 use Rattle.bot_machine.specs.Opening.{IsNotOpened}
 use Rattle.bot_machine.specs.Lives.{Action, arms, starts, plays, cuts, before_first, Standing}
@@ -49,10 +49,10 @@ first_standing limit book = record { place = before_first book; armed = false; l
 
 -- Lives whose first opens with this book and has this limit, and what a cut of the medium may leave
 -- after them.
-pub record EndsIn (identity : Identification) (limit : ℕ) (book : Book) (actions : List Action)
+pub record EndsIn (device : Device) (limit : ℕ) (book : Book) (actions : List Action)
     (told : List Answer) (refusals : List Bool) (after : Sim) : Type 0 where
   pub last : Standing
-  pub run : LivesRun identity (first_standing limit book) actions told refusals last
+  pub run : LivesRun device (first_standing limit book) actions told refusals last
   pub limited : book.ours ≡ true → LeavesLimit limit (Rests after)
   pub found : book.ours ≡ true → EachCut (FoundAt (state_of after).size last.place) (state_of after)
 
@@ -71,25 +71,25 @@ pub record AppendsFor (before after : LivesValue) (old new : Room) (actions : Li
 -- background is one step. The actions in which the medium refused a call are at most as many as the
 -- calls that it refused. The power of the medium that comes back is on, nothing is unflushed, and
 -- no fuse is armed.
-pub record AreLived (before : Sim) (identity : Identification) (lives : List Life)
+pub record AreLived (before : Sim) (device : Device) (lives : List Life)
     (told : List Answer) (after : Sim) : Type 0 where
   pub one_each : length told ≡ events_in lives
   pub refusals : List Bool
-  pub moves : MovesBy identity (Rests before) (actions_of_all lives) told refusals (Rests after)
+  pub moves : MovesBy device (Rests before) (actions_of_all lives) told refusals (Rests after)
   pub refused : refused_events refusals + (state_of before).failures ≤ (state_of after).failures
   pub ends : (limit : ℕ) (book : Book) → OpensOn (state_of before) book
       → HasLimit (state_of before).size limit (state_of before).content
-      → EndsIn identity limit book (actions_of_all lives) told refusals after
+      → EndsIn device limit book (actions_of_all lives) told refusals after
   pub rests : IsAtRest after
   pub unfused : after.power.fuse ≡ None
 
 -- Lives whose first opens with this book and has this limit, and the book with which the next would
 -- have opened, whose start was refused.
-pub record StopsIn (identity : Identification) (limit : ℕ) (book : Book) (actions : List Action)
+pub record StopsIn (device : Device) (limit : ℕ) (book : Book) (actions : List Action)
     (told : List Answer) (refusals : List Bool) (counted : ℕ) (fault : StartFault) (after : Sim)
     : Type 0 where
   pub last : Standing
-  pub run : LivesRun identity (first_standing limit book) actions told refusals last
+  pub run : LivesRun device (first_standing limit book) actions told refusals last
   pub limited : book.ours ≡ true → LeavesLimit limit (Rests after)
   pub next : Book
   pub opens : Opens last.place next
@@ -99,26 +99,26 @@ pub record StopsIn (identity : Identification) (limit : ℕ) (book : Book) (acti
 -- The first of these lives were lived, and left a medium in this state. The start of the one after
 -- them was refused with this fault, though power did not go in it: why, whatever the medium held at
 -- first.
-pub record AreLivedUpTo (before : Sim) (identity : Identification) (lives : List Life)
+pub record AreLivedUpTo (before : Sim) (device : Device) (lives : List Life)
     (told : List Answer) (fault : StartFault) (after : Sim) : Type 0 where
   pub lived : List Life
   pub life : Life
   pub rest : List Life
   pub lives_are : lives ≡ lived ++ life ∷ rest
   pub at : Sim
-  pub were_lived : AreLived before identity lived told at
+  pub were_lived : AreLived before device lived told at
   pub cause : IsNotOpened (state_of at) (state_of after) fault
   -- the medium with the fuse of that life, if it has one, on which the start was made
   pub armed : Sim
   pub arming : List Bool
-  pub arms : MovesBy identity (Rests at) (armed_by life.fuse) [] arming (Rests armed)
+  pub arms : MovesBy device (Rests at) (armed_by life.fuse) [] arming (Rests armed)
   pub start : IsRefusedStart armed fault after
   pub refusals : List Bool
   pub refusals_are : refusals ≡ were_lived.refusals ++ arming
   pub refused : refused_events refusals + (state_of before).failures ≤ (state_of after).failures
   pub stops : (limit : ℕ) (book : Book) → OpensOn (state_of before) book
       → HasLimit (state_of before).size limit (state_of before).content
-      → StopsIn identity limit book
+      → StopsIn device limit book
       (actions_of_all lived ++ armed_by life.fuse) told refusals
       (refused_events refusals + (state_of before).failures) fault after
   pub on : after.power.off ≡ false

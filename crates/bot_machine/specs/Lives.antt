@@ -4,12 +4,12 @@
 use Rattle.std.specs.Prelude.{◌≡◌, ◌⊎◌, ℕ, ◌+◌, ◌≤◌, Bool, true, false, List, [], ◌∷◌, ◌++◌, length}
 use Rattle.std.specs.Prelude.{Option, None}
 use Rattle.medium.specs.Blocks.{Write}
-use Rattle.scsi_unit.specs.Identification.{Identification}
 use Rattle.scsi_unit.specs.Books.{Book, after_first, opened}
 use Rattle.scsi_unit.specs.Rules.{UnitState, opened_unit, with_progress}
 use Rattle.bot_machine.specs.declared.event.Event.{Event}
 use Rattle.bot_machine.specs.declared.event.Answer.{Answer}
 use Rattle.bot_machine.specs.declared.event.Answer.TheVariants.{Off}
+use Rattle.bot_machine.specs.Device.{Device}
 use Rattle.bot_machine.specs.Exchange.{at_rest}
 use Rattle.bot_machine.specs.Conversation.{Conversation}
 use Rattle.bot_machine.specs.Acts.{write_of_event}
@@ -84,8 +84,9 @@ KeepsLimit (runs conversation) old limit = ⊥
 KeepsLimit (off remains) old limit = ⊥
 
 -- a disk that has just started with this book
-abbrev pub started : ℕ → Identification → Book → Conversation UnitState
-started limit identity book = on_line at_rest (opened_unit limit identity book)
+abbrev pub started : ℕ → Device → Book → Conversation UnitState
+started limit device book =
+    on_line (at_rest device.packet_size) (opened_unit limit device.identity book)
 
 -- Power goes: only where a fuse was armed in this life, and in a call that the medium refused.
 pub record PowerGoes (refused : Bool) (remains : Remains) (old new : Standing) : Type 0 where
@@ -94,21 +95,21 @@ pub record PowerGoes (refused : Bool) (remains : Remains) (old new : Standing) :
   pub after : new ≡ record old { place = off remains }
 
 -- a life begins: its disk runs, or power goes in the start
-pub record LifeBegins (identity : Identification) (refused : Bool) (old new : Standing)
+pub record LifeBegins (device : Device) (refused : Bool) (old new : Standing)
     : Type 0 where
   pub book : Book
   pub opens : Opens old.place book
   pub limit : ℕ
   pub keeps_limit : KeepsLimit old.place old.limit limit
-  pub begins : (new ≡ record old { place = runs (started limit identity book); limit = limit })
+  pub begins : (new ≡ record old { place = runs (started limit device book); limit = limit })
       ⊎ PowerGoes refused (record { book = book; in_progress = None }) old new
 
 -- a start changes nothing where a disk runs, or where power is off
-abbrev pub StartsAt : Place → Identification → Bool → Standing → Standing → Type 0
-StartsAt (before_first book) identity refused old new = LifeBegins identity refused old new
-StartsAt (between remains) identity refused old new = LifeBegins identity refused old new
-StartsAt (runs conversation) identity refused old new = new ≡ old
-StartsAt (off remains) identity refused old new = new ≡ old
+abbrev pub StartsAt : Place → Device → Bool → Standing → Standing → Type 0
+StartsAt (before_first book) device refused old new = LifeBegins device refused old new
+StartsAt (between remains) device refused old new = LifeBegins device refused old new
+StartsAt (runs conversation) device refused old new = new ≡ old
+StartsAt (off remains) device refused old new = new ≡ old
 
 -- an event that is whole
 pub record EventEnds (conversation : Conversation UnitState) (refused : Bool) (event : Event)
@@ -144,22 +145,22 @@ after_cut (runs conversation) =
 after_cut (off remains) = between remains
 
 -- One action and its answers, none or one; did the medium refuse a call in it?
-abbrev pub LivesStep : Identification → Bool → Standing → Action → List Answer → Standing → Type 0
-LivesStep identity refused old (arms writes) answers new =
+abbrev pub LivesStep : Device → Bool → Standing → Action → List Answer → Standing → Type 0
+LivesStep device refused old (arms writes) answers new =
     (answers ≡ []) × (new ≡ record old { armed = true })
-LivesStep identity refused old starts answers new =
-    (answers ≡ []) × StartsAt old.place identity refused old new
-LivesStep identity refused old (plays event) answers new =
+LivesStep device refused old starts answers new =
+    (answers ≡ []) × StartsAt old.place device refused old new
+LivesStep device refused old (plays event) answers new =
     (answer : Answer) × (answers ≡ answer ∷ []) × PlaysAt old.place refused event answer old new
-LivesStep identity refused old (cuts keeps) answers new =
+LivesStep device refused old (cuts keeps) answers new =
     (answers ≡ []) × (new ≡ record old { place = after_cut old.place; armed = false })
 
 -- Actions and their answers, in order. The truth values say in which the medium refused a call.
-abbrev pub LivesRun : Identification → Standing → List Action → List Answer → List Bool → Standing
+abbrev pub LivesRun : Device → Standing → List Action → List Answer → List Bool → Standing
     → Type 0
-LivesRun identity old [] answers [] new = (answers ≡ []) × (new ≡ old)
-LivesRun identity old (action ∷ actions) answers (refused ∷ refusals) new =
+LivesRun device old [] answers [] new = (answers ≡ []) × (new ≡ old)
+LivesRun device old (action ∷ actions) answers (refused ∷ refusals) new =
     (mid : Standing) × (here : List Answer) × (later : List Answer) × (answers ≡ here ++ later)
-    × LivesStep identity refused old action here mid
-    × LivesRun identity mid actions later refusals new
-LivesRun identity old actions answers refusals new = ⊥
+    × LivesStep device refused old action here mid
+    × LivesRun device mid actions later refusals new
+LivesRun device old actions answers refusals new = ⊥

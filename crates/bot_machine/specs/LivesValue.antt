@@ -13,28 +13,40 @@ pub use Rattle.bot_machine.specs.Moving.{medium_in, state_in}
 use Rattle.bot_machine.specs.Moving.{MovesBy, IsRefusedStart}
 -- a first life over a medium opens with a book as its unit does
 pub use Rattle.scsi_unit.specs.Starting.{OpensOn}
-use Rattle.scsi_unit.specs.Identification.{Identification}
 use Rattle.scsi_unit.specs.Books.{Book, StandsAs, MayFind, FoundWith}
 use Rattle.scsi_unit.specs.Rules.{UnitState}
+use Rattle.bot_machine.specs.declared.event.Event.{Event}
 use Rattle.bot_machine.specs.declared.event.Answer.{Answer}
 use Rattle.bot_machine.specs.declared.stage.Stage.{Stage}
 use Rattle.bot_machine.specs.declared.stage.Stage.TheVariants.{Rests, Runs}
 use Rattle.bot_machine.specs.Conversation.{Conversation, refused_events}
+use Rattle.bot_machine.specs.Device.{Device}
+use Rattle.bot_machine.specs.Fitting.{IsWithin}
 use Rattle.bot_machine.specs.Disk.{DiskValue, over, FitsDisk}
 use Rattle.bot_machine.specs.Opening.{IsNotOpened}
 use Rattle.bot_machine.specs.Lives.{Action, Place, before_first, between, runs, off, Standing}
 use Rattle.bot_machine.specs.Lives.{Opens}
 use Rattle.bot_machine.specs.Lives.{LivesRun}
 
--- what is seen of lives: who the disk is, and its medium, with the disk where one runs
+-- what is seen of lives: what disk it is, and its medium, with the disk where one runs
 pub record LivesValue : Type 0 where
-  pub identity : Identification
+  pub device : Device
   pub stage : Stage
 
 -- a disk was started, or power went in its start
 abbrev pub HasStarted : Stage → Type 0
 HasStarted (Rests medium) = medium.power.off ≡ true
 HasStarted (Runs disk) = ⊤
+
+-- a disk that runs has packets of this size
+abbrev pub HasPackets : ℕ → Stage → Type 0
+HasPackets size (Rests medium) = ⊤
+HasPackets size (Runs disk) = disk.line.packet_size ≡ size
+
+-- where a disk runs, the event's packet is no longer than those of the disk
+abbrev pub TakesEvent : Stage → Event → Type 0
+TakesEvent (Rests medium) event = ⊤
+TakesEvent (Runs disk) event = IsWithin disk.line.packet_size event
 
 -- A life has begun: a disk was started, or power went in its start. Where none ran before, and the
 -- power is on, the contents of the medium stood for something.
@@ -105,7 +117,7 @@ pub record FitsLives (lives : LivesValue) (here : Standing) : Type 0 where
 pub record LivesGoTo (after : LivesValue) (here : Standing) (actions : List Action)
     (answers : List Answer) (refusals : List Bool) : Type 0 where
   pub there : Standing
-  pub run : LivesRun after.identity here actions answers refusals there
+  pub run : LivesRun after.device here actions answers refusals there
   pub fits : FitsLives after there
   pub ours : (book_at there.place).ours ≡ (book_at here.place).ours
   -- the format of an image never changes
@@ -117,13 +129,13 @@ pub record LivesGoTo (after : LivesValue) (here : Standing) (actions : List Acti
 pub record LivesGoOn (before : LivesValue) (actions : List Action) (answers : List Answer)
     (after : LivesValue) : Type 0 where
   pub refusals : List Bool
-  pub moves : MovesBy before.identity before.stage actions answers refusals after.stage
+  pub moves : MovesBy before.device before.stage actions answers refusals after.stage
   pub refused : refused_events refusals + (state_in before.stage).failures
       ≤ (state_in after.stage).failures
   pub goes : (here : Standing) → FitsLives before here
       → LivesGoTo after here actions answers refusals
   pub size_stays : (state_in after.stage).size ≡ (state_in before.stage).size
-  pub identity_stays : after.identity ≡ before.identity
+  pub device_stays : after.device ≡ before.device
 
 -- Why a life that would open with this book is refused: for want of memory, by the medium, whose
 -- refusals are more than were counted before, or since no stamp is left.
@@ -144,7 +156,7 @@ pub record LivesStopAt (after : LivesValue) (here : Standing) (actions : List Ac
     (answers : List Answer) (refusals : List Bool) (counted : ℕ) (fault : StartFault)
     : Type 0 where
   pub there : Standing
-  pub run : LivesRun after.identity here actions answers refusals there
+  pub run : LivesRun after.device here actions answers refusals there
   -- the book with which the life would have opened
   pub book : Book
   pub opens : Opens there.place book
@@ -161,7 +173,7 @@ pub record LivesStop (before : LivesValue) (actions : List Action) (answers : Li
   pub refusals : List Bool
   -- the medium on which the start was made that is refused
   pub at : Sim
-  pub moves : MovesBy before.identity before.stage actions answers refusals (Rests at)
+  pub moves : MovesBy before.device before.stage actions answers refusals (Rests at)
   pub start : IsRefusedStart at fault (medium_in after.stage)
   pub refused : refused_events refusals + (state_in before.stage).failures
       ≤ (state_in after.stage).failures
@@ -170,7 +182,7 @@ pub record LivesStop (before : LivesValue) (actions : List Action) (answers : Li
   pub rests : after.stage ≡ Rests (medium_in after.stage)
   pub on : (medium_in after.stage).power.off ≡ false
   pub size_stays : (state_in after.stage).size ≡ (state_in before.stage).size
-  pub identity_stays : after.identity ≡ before.identity
+  pub device_stays : after.device ≡ before.device
 
 -- a start is refused with this fault, though power did not go in it: why, and where lives stand
 -- then

@@ -3,13 +3,13 @@ use Rattle.std.specs.Prelude.{◌≡◌, ℕ, Bool, true, false, List, [], ◌�
 use Rattle.medium.specs.Medium.{State}
 use Rattle.medium.specs.Sim.{Sim, state_of, IsCut, IsFused, ComesAfter}
 use Rattle.scsi_unit.specs.StartFaults.{StartFault}
-use Rattle.scsi_unit.specs.Identification.{Identification}
 use Rattle.scsi_unit.specs.Serving.{has_refused}
 use Rattle.bot_machine.specs.declared.event.Event.{Event}
 use Rattle.bot_machine.specs.declared.event.Answer.{Answer}
 use Rattle.bot_machine.specs.declared.event.Answer.TheVariants.{Off}
 use Rattle.bot_machine.specs.declared.stage.Stage.{Stage}
 use Rattle.bot_machine.specs.declared.stage.Stage.TheVariants.{Rests, Runs}
+use Rattle.bot_machine.specs.Device.{Device}
 use Rattle.bot_machine.specs.Disk.{DiskValue, IsStep, IsRearmed}
 use Rattle.bot_machine.specs.Lives.{Action, arms, starts, plays, cuts}
 use Rattle.bot_machine.specs.Opening.{IsOpened, IsNotOpened, StartLeaves}
@@ -34,20 +34,20 @@ pub record IsRefusedStart (old : Sim) (fault : StartFault) (new : Sim) : Type 0 
   pub on : new.power.off ≡ false
 
 -- a disk starts on a medium whose contents stood for something, or power goes in the start
-abbrev pub StartsOn : Identification → Sim → Stage → Type 0
-StartsOn identity old (Runs disk) =
-    IsOpened (state_of old) (state_of disk.unit.store.medium) identity disk
+abbrev pub StartsOn : Device → Sim → Stage → Type 0
+StartsOn device old (Runs disk) =
+    IsOpened (state_of old) (state_of disk.unit.store.medium) device disk
     × HasCalled old disk.unit.store.medium
-StartsOn identity old (Rests new) = HasCalled old new × (new.power.off ≡ true)
+StartsOn device old (Rests new) = HasCalled old new × (new.power.off ≡ true)
 
 -- a start does nothing while the power is off, or where a disk runs
-abbrev pub StartsIn : Bool → Identification → Sim → Stage → Type 0
-StartsIn true identity old new = new ≡ Rests old
-StartsIn false identity old new = StartsOn identity old new
+abbrev pub StartsIn : Bool → Device → Sim → Stage → Type 0
+StartsIn true device old new = new ≡ Rests old
+StartsIn false device old new = StartsOn device old new
 
-abbrev pub StartMoves : Identification → Stage → Stage → Type 0
-StartMoves identity (Rests medium) new = StartsIn medium.power.off identity medium new
-StartMoves identity (Runs disk) new = new ≡ Runs disk
+abbrev pub StartMoves : Device → Stage → Stage → Type 0
+StartMoves device (Rests medium) new = StartsIn medium.power.off device medium new
+StartMoves device (Runs disk) new = new ≡ Runs disk
 
 -- An event came to a disk whose power was on: one step of the disk. Its own answer is given where
 -- the power is still on.
@@ -82,25 +82,25 @@ abbrev pub CutMoves : (ℕ → Bool) → Stage → Stage → Type 0
 CutMoves keeps old (Rests new) = IsCut keeps (medium_in old) new
 CutMoves keeps old (Runs new) = ⊥
 
-abbrev pub Does : Identification → Stage → Action → List Answer → Stage → Type 0
-Does identity old (arms writes) answers new = (answers ≡ []) × FuseMoves writes old new
-Does identity old starts answers new = (answers ≡ []) × StartMoves identity old new
-Does identity old (plays event) answers new =
+abbrev pub Does : Device → Stage → Action → List Answer → Stage → Type 0
+Does device old (arms writes) answers new = (answers ≡ []) × FuseMoves writes old new
+Does device old starts answers new = (answers ≡ []) × StartMoves device old new
+Does device old (plays event) answers new =
     (answer : Answer) × (answers ≡ answer ∷ []) × EventMoves old event answer new
-Does identity old (cuts keeps) answers new = (answers ≡ []) × CutMoves keeps old new
+Does device old (cuts keeps) answers new = (answers ≡ []) × CutMoves keeps old new
 
 -- one action, its answers, and whether the medium refused a call in it
-pub record Moves (identity : Identification) (refused : Bool) (old : Stage) (action : Action)
+pub record Moves (device : Device) (refused : Bool) (old : Stage) (action : Action)
     (answers : List Answer) (new : Stage) : Type 0 where
-  pub does : Does identity old action answers new
+  pub does : Does device old action answers new
   pub counted : refused ≡ has_refused (state_in old) (state_in new)
 
 -- actions and their answers, one after another
-abbrev pub MovesBy : Identification → Stage → List Action → List Answer → List Bool → Stage
+abbrev pub MovesBy : Device → Stage → List Action → List Answer → List Bool → Stage
     → Type 0
-MovesBy identity old [] answers [] new = (answers ≡ []) × (new ≡ old)
-MovesBy identity old (action ∷ actions) answers (refused ∷ refusals) new =
+MovesBy device old [] answers [] new = (answers ≡ []) × (new ≡ old)
+MovesBy device old (action ∷ actions) answers (refused ∷ refusals) new =
     (mid : Stage) × (here : List Answer) × (later : List Answer) × (answers ≡ here ++ later)
-    × Moves identity refused old action here mid
-    × MovesBy identity mid actions later refusals new
-MovesBy identity old actions answers refusals new = ⊥
+    × Moves device refused old action here mid
+    × MovesBy device mid actions later refusals new
+MovesBy device old actions answers refusals new = ⊥

@@ -2,12 +2,12 @@
 use Rattle.std.specs.Prelude.{◌≡◌, ◌⊎◌}
 use Rattle.medium.specs.Medium.{State}
 use Rattle.scsi_unit.specs.Books.{Book}
-use Rattle.scsi_unit.specs.Identification.{Identification}
 use Rattle.scsi_unit.specs.StartFaults.{StartFault, NoMemory}
 use Rattle.scsi_unit.specs.Starting.{IsStarted, IsStartCause, HasStore, HasLimit}
 use Rattle.scsi_unit.specs.Starting.{OpensOn, IsCauseFor}
 use Rattle.scsi_unit.specs.Rules.{opened_unit}
 use Rattle.scsi_unit.specs.UnitValue.{unit_limit, state_of}
+use Rattle.bot_machine.specs.Device.{Device}
 use Rattle.bot_machine.specs.Exchange.{at_rest}
 use Rattle.bot_machine.specs.Disk.{DiskValue}
 -- what a start leaves is what the start of its unit does
@@ -15,12 +15,12 @@ pub use Rattle.scsi_unit.specs.Starting.{StartLeaves}
 
 -- A disk that has started: its store has, a command wrapper is expected, and the unit is one that
 -- was just opened.
-pub record IsOpened {M : Type 0} (before after : State) (identity : Identification)
+pub record IsOpened {M : Type 0} (before after : State) (device : Device)
     (disk : DiskValue M) : Type 0 where
   pub store : IsStarted before after disk.unit.store.cached
-  pub line : disk.line ≡ at_rest
+  pub line : disk.line ≡ at_rest device.packet_size
   pub unit : (book : Book)
-      → state_of disk.unit book ≡ opened_unit (unit_limit disk.unit) identity book
+      → state_of disk.unit book ≡ opened_unit (unit_limit disk.unit) device.identity book
   -- its limit is that of the image
   pub limit : HasLimit before.size (unit_limit disk.unit) before.content
 

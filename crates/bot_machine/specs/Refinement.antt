@@ -18,6 +18,7 @@ use Rattle.bot_machine.specs.declared.wire.Taking.{Taking}
 use Rattle.bot_machine.specs.declared.wire.Phase.{Phase}
 use Rattle.bot_machine.specs.declared.wire.Phase.TheVariants.{Command, DataOut, DataIn, Status}
 use Rattle.bot_machine.specs.declared.wire.Wire.{Wire}
+use Rattle.bot_machine.specs.PacketBytes.{bytes_of}
 use Rattle.bot_machine.specs.Packets.{packets_of}
 use Rattle.bot_machine.specs.Requests.{Request, mass_storage_reset, get_max_lun, clear_halt}
 use Rattle.bot_machine.specs.Requests.{get_status}
@@ -34,18 +35,19 @@ abbrev pub taking_of : Taking → List ℕ → Script
 taking_of t taken =
     taking t.exchange.case t.exchange.command t.exchange.intended (take t.filled taken) t.due
 
--- what is left of the exchange, by the phase, the bytes taken, the bytes to send and the status
--- wrapper
-abbrev pub left_of : Phase → List ℕ → List ℕ → List ℕ → Script
-left_of Command taken staging status = finished
-left_of (DataOut t) taken staging status = taking_of t taken
-left_of (DataIn from to halt) taken staging status =
-    sending (packets_of (slice_range staging from to)) (halt_of halt) status
-left_of Status taken staging status = sending [] None status
+-- what is left of the exchange, by the size of a packet, the phase, the bytes taken, the bytes to
+-- send and the status wrapper
+abbrev pub left_of : ℕ → Phase → List ℕ → List ℕ → List ℕ → Script
+left_of size Command taken staging status = finished
+left_of size (DataOut t) taken staging status = taking_of t taken
+left_of size (DataIn from to halt) taken staging status =
+    sending (packets_of size (slice_range staging from to)) (halt_of halt) status
+left_of size Status taken staging status = sending [] None status
 
 -- the line, but for what is left of the exchange
 abbrev pub line_with : Wire → Script → Line
 line_with wire left = record {
+  packet_size = bytes_of wire.size;
   in_halted = wire.in_halted;
   out_halted = wire.out_halted;
   locked = wire.locked;
@@ -53,7 +55,8 @@ line_with wire left = record {
 }
 
 abbrev pub line_of : Wire → List ℕ → List ℕ → Line
-line_of wire taken staging = line_with wire (left_of wire.phase taken staging wire.status)
+line_of wire taken staging =
+    line_with wire (left_of (bytes_of wire.size) wire.phase taken staging wire.status)
 
 -- Data is taken: the case takes data, and the bytes taken are the intended ones of those that came,
 -- of as many blocks as a transfer has at most. What the unit intends to take now, if it still does,

@@ -57,20 +57,23 @@ module _ {M : Type 0} (before after : State) (old new : UnitValue M) (from to : 
       (λ unit later. Takes Intends CarriesOut Ticks (has_refused before after)
       t.exchange.case t.exchange.command t.exchange.intended (take t.filled taken) t.due
       packet (on_line from unit) (on_line to later))
-      (write_of_packet false (taking_of t taken) packet (state_of old book)) book
+      (write_of_packet from.packet_size false (taking_of t taken) packet (state_of old book)) book
 
--- where a packet has no command carried out, the unit stays as it is
-abbrev pub RestsOn : {M : Type 0} → State → UnitValue M → UnitValue M → Script → List ℕ → Type 0
-RestsOn before old new left packet = (book : Book) → FitsUnit before old book
-    → ((block taken : List ℕ) → PacketCarriesOut false left packet (state_of old book) block taken
-        → ⊥)
+-- where a packet, of at most so many bytes, has no command carried out, the unit stays as it is
+abbrev pub RestsOn : {M : Type 0} → ℕ → State → UnitValue M → UnitValue M → Script → List ℕ
+    → Type 0
+RestsOn most before old new left packet = (book : Book) → FitsUnit before old book
+    → ((block taken : List ℕ)
+    → PacketCarriesOut most false left packet (state_of old book) block taken → ⊥)
     → new ≡ old
 
--- Where a packet has a command carried out, the unit makes no call of the medium that it does not
--- need, no more than its calls of the store add up to, and the line is to tell its answer.
-abbrev pub SparesOn : {M : Type 0} → State → State → UnitValue M → UnitValue M → Line → Script
+-- Where a packet, of at most so many bytes, has a command carried out, the unit makes no call of the
+-- medium that it does not need, no more than its calls of the store add up to, and the line is to
+-- tell its answer.
+abbrev pub SparesOn : {M : Type 0} → ℕ → State → State → UnitValue M → UnitValue M → Line → Script
     → List ℕ → Type 0
-SparesOn before after old new to left packet = (book : Book) → FitsUnit before old book
-    → (block taken : List ℕ) → PacketCarriesOut false left packet (state_of old book) block taken
+SparesOn most before after old new to left packet = (book : Book) → FitsUnit before old book
+    → (block taken : List ℕ)
+    → PacketCarriesOut most false left packet (state_of old book) block taken
     → (answer : Result (List ℕ) Sense) × IsSparing block taken old answer new
     × IsBounded before after block taken old × Tells answer to

@@ -50,5 +50,5 @@ TicksAreStruck = (old new other : Conversation UnitState) (events fewer : List E
     (run : UnitRun old events answers refusals new) (again : UnitRun old fewer told refused other)
     → without_ticks events ≡ without_ticks fewer
     → IsUntroubled old events answers refusals new run
-        → IsUntroubled old fewer told refused other again
+    → IsUntroubled old fewer told refused other again
     → (answers_without_ticks events answers ≡ answers_without_ticks fewer told) × (new ≡ other)

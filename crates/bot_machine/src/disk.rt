@@ -1,5 +1,5 @@
 // A disk: the transport over a logical unit.
-ghost use Rattle.std.specs.Prelude.{⊤, ◌↔◌, ◌≡◌, ◌≤◌, ◌<◌, ℕ, false, true, length};
+ghost use Rattle.std.specs.Prelude.{⊤, ◌↔◌, ◌≡◌, ◌⊎◌, ◌≤◌, ◌<◌, ℕ, false, true, length};
 ghost use Rattle.std.specs.Prelude.{IsTrue, IfOk, IfErr, MatchResult};
 ghost use Rattle.std.specs.Borrow.{sem, follows_so};
 ghost use mathlib.Core.Option.{none};
@@ -10,16 +10,19 @@ ghost use Rattle.scsi_unit.specs.Background.{IsSettled, HasLimits, is_dead, step
 ghost use Rattle.scsi_unit.specs.Serving.{TicksOver};
 ghost use Rattle.scsi_unit.specs.Starting.{HasLimit, IsOursForSome};
 ghost use Rattle.scsi_unit.specs.UnitValue.{unit_limit};
-ghost use Rattle.bot_machine.specs.Exchange.{at_rest, in_answer, after_in};
+ghost use Rattle.bot_machine.specs.Device.{device_of};
+ghost use Rattle.bot_machine.specs.Exchange.{in_answer, after_in};
 ghost use Rattle.bot_machine.specs.Answers.{answer_to_out, answer_to_in, answer_to_setup, IsPacket};
 ghost use Rattle.bot_machine.specs.Conversation.{SetupStep};
 ghost use Rattle.bot_machine.specs.Disk.{FitsDisk, IsStep, IsRearmed};
 ghost use Rattle.bot_machine.specs.Opening.{IsOpened, IsNotOpened, StartLeaves};
 ghost use Rattle.bot_machine.specs.declared.event.Event.TheVariants as event;
 ghost use Rattle.bot_machine.specs.declared.event.Answer.TheVariants as answer;
+ghost use Rattle.bot_machine.specs.declared.packet_size.PacketSize.TheVariants.{High512};
 ghost use Rattle.bot_machine.specs.contracts.disk.Disk.{the_row};
 
 use crate::event::{InAnswer, OutAnswer, SetupAnswer};
+use crate::packet_size::PacketSize;
 use crate::request::{ControlRequest, read_request};
 use crate::serve::{open, take_data};
 use crate::wire::{Phase, Wire};
@@ -59,8 +62,35 @@ impl<M: Medium> Model for Disk<M> {
 }
 
 impl<M: Medium> Disk<M> {
-    /// Starts a disk on a medium: recovers the medium, and makes the room for all that is kept in
-    /// memory. A command block wrapper is expected, the unit attention of a power on is pending,
+    /// Starts a disk on a medium, for packets of at most 512 bytes (high speed): see `start_with`.
+    ///
+    /// # Errors
+    ///
+    /// Those of `start_with`.
+    pub fn start(alloc: Global, medium: M, identity: Identity) -> Result<Disk<M>, StartError<M>>
+        ensures ok { IfOk result (λ disk. IsOpened
+            (M.state medium) (M.state disk.unit.store.medium) (device_of identity High512) disk) }
+        ensures err { IfErr result (λ error.
+            IsNotOpened (M.state medium) (M.state error.medium) error.fault) }
+        ensures leaves { MatchResult result
+            (λ disk. StartLeaves (M.state medium) (M.state disk.unit.store.medium))
+            (λ error. StartLeaves (M.state medium) (M.state error.medium)) }
+        ensures limit { (limit : ℕ) → EachCut (IsOursForSome (M.state medium).size) (M.state medium)
+            → EachCut (HasLimit (M.state medium).size limit) (M.state medium)
+            → MatchResult result
+            (λ disk. LeavesOnly (HasLimit (M.state medium).size limit)
+            (M.state medium) (M.state disk.unit.store.medium))
+            (λ error. LeavesOnly (HasLimit (M.state medium).size limit)
+            (M.state medium) (M.state error.medium)) }
+        ensures follows { MatchResult result
+            (λ disk. M.follows medium disk.unit.store.medium)
+            (λ error. M.follows medium error.medium) }
+    {
+        Disk::start_with(alloc, medium, identity, PacketSize::High512)
+    }
+
+    /// Starts a disk on a medium, for packets of this size: recovers the medium, and makes the room
+    /// for all that is kept in memory. A command block wrapper is expected, the unit attention of a power on is pending,
     /// and the write cache is enabled. The blocks are those for which the contents of the medium
     /// stood, and the room is that for a transfer over them. Where every image was ours and had one
     /// limit, every image that a cut may leave has it.
@@ -69,9 +99,14 @@ impl<M: Medium> Disk<M> {
     ///
     /// The fault of the recovery; once the medium is recovered `NoMemory` alone. The medium comes
     /// back.
-    pub fn start(alloc: Global, medium: M, identity: Identity) -> Result<Disk<M>, StartError<M>>
+    pub fn start_with(
+        alloc: Global,
+        medium: M,
+        identity: Identity,
+        size: PacketSize,
+    ) -> Result<Disk<M>, StartError<M>>
         ensures ok { IfOk result (λ disk. IsOpened
-            (M.state medium) (M.state disk.unit.store.medium) identity disk) }
+            (M.state medium) (M.state disk.unit.store.medium) (device_of identity size) disk) }
         ensures err { IfErr result (λ error.
             IsNotOpened (M.state medium) (M.state error.medium) error.fault) }
         ensures leaves { MatchResult result
@@ -104,7 +139,7 @@ impl<M: Medium> Disk<M> {
         };
         Ok(Disk {
             unit,
-            wire: Wire::at_rest(),
+            wire: Wire::at_rest(size),
             taken,
             staging,
         })
@@ -117,6 +152,14 @@ impl<M: Medium> Disk<M> {
         ensures most { result ≤ 240 }
     {
         self.unit.limit()
+    }
+
+    /// How many bytes a bulk packet has at most. No call changes it.
+    pub fn packet_size(&self) -> u32
+        ensures is { result ≡ self.now.line.packet_size }
+        ensures sizes { (result ≡ 64) ⊎ (result ≡ 512) }
+    {
+        self.wire.size.bytes()
     }
 
     /// Whether no step in the background is left: each accepted write is durable and at home then,
@@ -161,9 +204,10 @@ impl<M: Medium> Disk<M> {
         self.unit.into_medium()
     }
 
-    /// Takes a packet to Bulk-Out, of at most 512 bytes (Bulk-Only Transport 1.0, 5.1).
+    /// Takes a packet to Bulk-Out, of at most as many bytes as a packet of this disk has (Bulk-Only
+    /// Transport 1.0, 5.1).
     pub fn bulk_out(&mut self, packet: &[u8]) -> OutAnswer
-        requires { length packet.now ≤ 512 }
+        requires { length packet.now ≤ self.old.line.packet_size }
         ensures step { IsStep (M.state self.old.unit.store.medium)
             (M.state self.new.unit.store.medium) self.old
             (event.Out (record { items = packet.now })) (answer_to_out result) self.new }
@@ -202,7 +246,8 @@ impl<M: Medium> Disk<M> {
             self.entry.ghost_name none (λ _ _. ⊤)
             (λ new. new ≡ record self.old { line = after_in self.old.line })) }
         ensures answer { answer_to_in result ≡ in_answer self.old.line }
-        ensures fits { IsPacket result }
+        ensures fits { IsPacket self.old.line.packet_size result }
+        ensures most { self.old.line.packet_size ≤ 512 }
     {
         if self.wire.in_halted {
             return InAnswer::Stall;
@@ -210,7 +255,7 @@ impl<M: Medium> Disk<M> {
         match self.wire.phase {
             Phase::Command | Phase::DataOut(_) => InAnswer::Nak,
             Phase::DataIn { from, to, halt } => {
-                let end = to.min(from + 512);
+                let end = to.min(from + self.wire.size.bytes() as usize);
                 if end < to {
                     self.wire.phase = Phase::DataIn {
                         from: end,

@@ -22,7 +22,7 @@ pub use disk::Disk;
 pub use event::{Answer, Event, InAnswer, OutAnswer, SetupAnswer};
 pub use laws::conversation_laws;
 pub use life::Life;
-pub use lifetimes::run_lives;
+pub use lifetimes::{run_lives, run_lives_with};
 pub use lives::Lives;
 pub use packet_size::PacketSize;
 pub use run::{answer_to, run_events};

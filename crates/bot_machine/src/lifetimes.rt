@@ -5,6 +5,10 @@ ghost use Rattle.medium.specs.Sim.{IsFused};
 ghost use Rattle.medium.specs.Writes.{keeps};
 ghost use Rattle.bot_machine.specs.declared.event.Answer.{Answer};
 ghost use Rattle.bot_machine.specs.Lives.{plays};
+ghost use Rattle.bot_machine.specs.Device.{device_of};
+ghost use Rattle.bot_machine.specs.Fitting.{AreWithin, LivesAreWithin};
+ghost use Rattle.bot_machine.specs.PacketBytes.{bytes_of};
+ghost use Rattle.bot_machine.specs.declared.packet_size.PacketSize.TheVariants.{High512};
 ghost use Rattle.bot_machine.specs.Opening.{IsNotOpened};
 ghost use Rattle.bot_machine.specs.declared.stage.Stage.TheVariants.{Rests};
 ghost use Rattle.bot_machine.specs.LivesValue.{
@@ -29,19 +33,16 @@ use crate::answers::Answers;
 use crate::event::Event;
 use crate::life::Life;
 use crate::lives::Lives;
+use crate::packet_size::PacketSize;
 use crate::{Identity, StartError, StartFault};
 use medium::SimMedium;
 use std::alloc::Global;
 
-/// Lives a disk's lives, and appends an answer to each event. In each life a disk is started on the
-/// medium that the one before has left, its events come, and the power is cut. Where a fuse lets the
-/// power go, in the start or in an event, every answer from there on is `Off`. Memory is taken by the
-/// starts alone.
+/// Lives a disk's lives with packets of at most 512 bytes (high speed): see `run_lives_with`.
 ///
 /// # Errors
 ///
-/// The first start that is refused though the power is on ends the lives. The answers of the lives
-/// before it are appended, and the medium comes back.
+/// Those of `run_lives_with`.
 pub fn run_lives(
     alloc: Global,
     medium: SimMedium,
@@ -53,12 +54,43 @@ pub fn run_lives(
     requires unfused { medium.power.fuse ≡ None }
     requires room { length answers.old.list + events_in lives.now ≤ answers.old.room }
     ensures ok { IfOk result (λ after. (told : List Answer) × Appends told answers.old answers.new
-        × AreLived medium identity lives.now told after) }
+        × AreLived medium (device_of identity High512) lives.now told after) }
     ensures err { IfErr result (λ error. (told : List Answer)
         × Appends told answers.old answers.new
-        × AreLivedUpTo medium identity lives.now told error.fault error.medium) }
+        × AreLivedUpTo medium (device_of identity High512) lives.now told error.fault error.medium) }
 {
-    let mut run = Lives::new(medium, identity);
+    run_lives_with(alloc, medium, identity, PacketSize::High512, lives, answers)
+}
+
+/// Lives a disk's lives with packets of this size, which no packet of the events exceeds, and appends
+/// an answer to each event. In each life a disk is started on the
+/// medium that the one before has left, its events come, and the power is cut. Where a fuse lets the
+/// power go, in the start or in an event, every answer from there on is `Off`. Memory is taken by the
+/// starts alone.
+///
+/// # Errors
+///
+/// The first start that is refused though the power is on ends the lives. The answers of the lives
+/// before it are appended, and the medium comes back.
+pub fn run_lives_with(
+    alloc: Global,
+    medium: SimMedium,
+    identity: Identity,
+    size: PacketSize,
+    lives: &[Life],
+    answers: &mut Answers,
+) -> Result<SimMedium, StartError<SimMedium>>
+    requires rests { IsAtRest medium }
+    requires unfused { medium.power.fuse ≡ None }
+    requires within { LivesAreWithin (bytes_of size) lives.now }
+    requires room { length answers.old.list + events_in lives.now ≤ answers.old.room }
+    ensures ok { IfOk result (λ after. (told : List Answer) × Appends told answers.old answers.new
+        × AreLived medium (device_of identity size) lives.now told after) }
+    ensures err { IfErr result (λ error. (told : List Answer)
+        × Appends told answers.old answers.new
+        × AreLivedUpTo medium (device_of identity size) lives.now told error.fault error.medium) }
+{
+    let mut run = Lives::new_with(medium, identity, size);
     for life in lives {
         if let Err(fault) = live(alloc, &mut run, life, answers) {
             return Err(StartError {
@@ -77,7 +109,8 @@ fn live(
     life: &Life,
     answers: &mut Answers,
 ) -> Result<(), StartFault>
-    requires { length answers.old.list + length life.now.events.items ≤ answers.old.room }
+    requires within { AreWithin run.old.device.packet_size life.now.events.items }
+    requires room { length answers.old.list + length life.now.events.items ≤ answers.old.room }
     ensures ok { OnOk result (AppendsFor run.old run.new answers.old answers.new
         (actions_of life.now) (length life.now.events.items)) }
     ensures rests { OnOk result (IsAtRest (medium_in run.new.stage)) }
@@ -109,6 +142,7 @@ fn arm(run: &mut Lives, fuse: Option<u64>)
 // The events of a life that was started.
 fn play_all(run: &mut Lives, events: &[Event], answers: &mut Answers)
     requires started { HasStarted run.old.stage }
+    requires within { AreWithin run.old.device.packet_size events.now }
     requires room { length answers.old.list + length events.now ≤ answers.old.room }
     ensures { AppendsFor run.old run.new answers.old answers.new
         (map plays events.now) (length events.now) }

@@ -5,8 +5,12 @@ ghost use Rattle.medium.specs.Writes.{keeps};
 ghost use Rattle.scsi_unit.specs.Books.{Book};
 ghost use Rattle.bot_machine.specs.Lives.{starts, plays, cuts, arms};
 ghost use Rattle.bot_machine.specs.Lifetimes.{first_standing};
+ghost use Rattle.bot_machine.specs.Device.{device_of};
+ghost use Rattle.bot_machine.specs.Fitting.{IsWithin};
+ghost use Rattle.bot_machine.specs.declared.packet_size.PacketSize.TheVariants.{High512};
 
 use crate::event::{Answer, Event};
+use crate::packet_size::PacketSize;
 use crate::stage::{self, Stage};
 use crate::{Identity, StartError, StartFault};
 use medium::{Kept, SimMedium};
@@ -19,6 +23,7 @@ use std::marker::Model;
 #[derive(Drop)]
 pub struct Lives {
     identity: Identity,
+    size: PacketSize,
     // There is one, but within a call.
     stage: Option<Stage>,
 }
@@ -29,11 +34,16 @@ impl Model for Lives {
 
     ghost Value = { LivesValue };
 
+    ghost use Rattle.bot_machine.specs.Device.{device_of};
     ghost use Rattle.bot_machine.specs.LivesView.{stage_in};
 
-    ghost view = { λ l. record { identity = l.identity; stage = stage_in l.stage } };
+    ghost view = { λ l. record { device = device_of l.identity l.size; stage = stage_in l.stage } };
 
-    ghost invariant = { λ l. l.stage ≢ None };
+    ghost use Rattle.bot_machine.specs.PacketBytes.{bytes_of};
+    ghost use Rattle.bot_machine.specs.LivesValue.{HasPackets};
+
+    ghost invariant = { λ l.
+        (l.stage ≢ None) × HasPackets (bytes_of l.size) (stage_in l.stage) };
 }
 
 impl Lives {
@@ -50,12 +60,29 @@ impl Lives {
     };
     ghost use Rattle.bot_machine.specs.declared.stage.Stage.TheVariants.{Rests};
 
-    /// No life has been yet.
+    /// No life has been yet, and packets have at most 512 bytes (high speed): see `new_with`.
+    pub fn new(medium: SimMedium, identity: Identity) -> Lives
+        ensures value { result ≡ record {
+          device = device_of identity High512;
+          stage = Rests medium;
+        } }
+        ensures first { (limit : ℕ) (book : Book) → IsAtRest medium → medium.power.fuse ≡ None
+            → OpensOn (state_of medium) book
+            → HasLimit (state_of medium).size limit (state_of medium).content
+            → FitsLives result (first_standing limit book) }
+    {
+        Lives::new_with(medium, identity, PacketSize::High512)
+    }
+
+    /// No life has been yet. Packets are of this size.
     ///
     /// Where the power of the medium is on, nothing is unflushed and no fuse is armed, the first life
     /// opens with the blocks for which the contents stand, and has their limit.
-    pub fn new(medium: SimMedium, identity: Identity) -> Lives
-        ensures value { result ≡ record { identity = identity; stage = Rests medium } }
+    pub fn new_with(medium: SimMedium, identity: Identity, size: PacketSize) -> Lives
+        ensures value { result ≡ record {
+          device = device_of identity size;
+          stage = Rests medium;
+        } }
         ensures first { (limit : ℕ) (book : Book) → IsAtRest medium → medium.power.fuse ≡ None
             → OpensOn (state_of medium) book
             → HasLimit (state_of medium).size limit (state_of medium).content
@@ -63,6 +90,7 @@ impl Lives {
     {
         Lives {
             identity,
+            size,
             stage: Some(Stage::Rests(medium)),
         }
     }
@@ -81,7 +109,7 @@ impl Lives {
     pub fn into_medium(self) -> SimMedium
         ensures { result ≡ medium_in self.stage }
     {
-        let Lives { identity: _, stage } = self;
+        let Lives { stage, .. } = self;
         stage::into_medium(stage.unwrap())
     }
 
@@ -107,7 +135,7 @@ impl Lives {
         ensures err { IfErr result (λ fault. IsRefused self.old fault self.new) }
         ensures follows { ComesAfter (medium_in self.old.stage) (medium_in self.new.stage) }
     {
-        match stage::start(alloc, self.stage.take().unwrap(), self.identity) {
+        match stage::start(alloc, self.stage.take().unwrap(), self.identity, self.size) {
             Ok(stage) => {
                 self.stage = Some(stage);
                 Ok(())
@@ -119,12 +147,14 @@ impl Lives {
         }
     }
 
-    /// Plays an event, and gives the answer. A disk is started first where none runs.
+    /// Plays an event, and gives the answer. A disk is started first where none runs. The event's
+    /// packet, if it is one, is no longer than those of the disk.
     ///
     /// # Errors
     ///
     /// The fault with which the start was refused, where the power is still on. No disk runs then.
     pub fn event(&mut self, alloc: Global, event: &Event) -> Result<Answer, StartFault>
+        requires { IsWithin self.old.device.packet_size event.now }
         ensures ok { IfOk result (λ answer. LivesGoOn self.old (starts ∷ plays event.now ∷ [])
             (answer ∷ []) self.new) }
         ensures begun { OnOk result (HasBegun self.old.stage self.new.stage) }
@@ -139,7 +169,8 @@ impl Lives {
 
     // Plays an event on a disk that was started.
     pub(crate) fn play(&mut self, event: &Event) -> Answer
-        requires { HasStarted self.old.stage }
+        requires started { HasStarted self.old.stage }
+        requires within { IsWithin self.old.device.packet_size event.now }
         ensures goes_on { LivesGoOn self.old (plays event.now ∷ []) (result ∷ []) self.new }
         ensures started { HasStarted self.new.stage }
         ensures off { (result ≡ Answer.Off) ↔ ((medium_in self.new.stage).power.off ≡ true) }

@@ -1,6 +1,7 @@
 // Events played on a disk.
 ghost use Rattle.std.specs.Prelude.{◌≡◌, ◌≢◌, ◌≤◌, ◌+◌, ◌++◌, List, length};
 ghost use Rattle.bot_machine.specs.Disk.{IsStep, IsRun};
+ghost use Rattle.bot_machine.specs.Fitting.{IsWithin, AreWithin};
 ghost use Rattle.bot_machine.specs.declared.event.Answer.{Answer};
 ghost use Rattle.bot_machine.specs.declared.event.Answer.TheVariants as answer;
 
@@ -10,8 +11,10 @@ use crate::event::{Answer, Event, InAnswer};
 use arrayvec::ArrayVec;
 use medium::Medium;
 
-/// Plays one event, and gives the answer.
+/// Plays one event, and gives the answer. Its packet, if it is one, is no longer than those of the
+/// disk.
 pub fn answer_to<M: Medium>(disk: &mut Disk<M>, event: &Event) -> Answer
+    requires { IsWithin disk.old.line.packet_size event.now }
     ensures step { IsStep (M.state disk.old.unit.store.medium)
         (M.state disk.new.unit.store.medium) disk.old event.now result disk.new }
     ensures follows { M.follows disk.old.unit.store.medium disk.new.unit.store.medium }
@@ -32,9 +35,11 @@ pub fn answer_to<M: Medium>(disk: &mut Disk<M>, event: &Event) -> Answer
     }
 }
 
-/// Plays events in order, and appends an answer to each.
+/// Plays events in order, and appends an answer to each. Their packets are no longer than those of
+/// the disk.
 pub fn run_events<M: Medium>(disk: &mut Disk<M>, events: &[Event], answers: &mut Answers)
-    requires { length answers.old.list + length events.now ≤ answers.old.room }
+    requires within { AreWithin disk.old.line.packet_size events.now }
+    requires room { length answers.old.list + length events.now ≤ answers.old.room }
     ensures run { (told : List Answer)
         × (answers.new ≡ record answers.old { list = answers.old.list ++ told })
         × IsRun M.state disk.old events.now told disk.new }

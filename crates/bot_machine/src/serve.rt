@@ -17,6 +17,7 @@ ghost use Rattle.bot_machine.specs.Refinement.{
   line_with,
   taking_of,
 };
+ghost use Rattle.bot_machine.specs.PacketBytes.{bytes_of};
 ghost use Rattle.bot_machine.specs.Serving.{IsBegun, CarriesOutOn, OpensOn, TakesOn};
 ghost use Rattle.bot_machine.specs.Serving.{RestsOn, SparesOn};
 
@@ -51,6 +52,7 @@ fn carry_out<M: Medium>(
         × ((taken : List ℕ) → Tells answer (line_of wire.new taken staging.new)) }
     ensures phase { IsInPhase (unit_limit unit.new) (intention_of unit.new) wire.new.phase }
     ensures limit { unit_limit unit.new ≡ unit_limit unit.old }
+    ensures size { wire.new.size ≡ wire.old.size }
     ensures elapses { Elapses (M.state unit.old.store.medium) (M.state unit.new.store.medium) }
     ensures follows { M.follows unit.old.store.medium unit.new.store.medium }
 {
@@ -88,12 +90,14 @@ pub(crate) fn open<M: Medium>(
     ensures opens { (taken : List ℕ) → OpensOn
         (M.state unit.old.store.medium) (M.state unit.new.store.medium) unit.old unit.new
         (line_of wire.old taken staging.old) (line_of wire.new taken staging.new) packet.now }
-    ensures rests { RestsOn (M.state unit.old.store.medium) unit.old unit.new finished packet.now }
-    ensures spares { (taken : List ℕ) → SparesOn
+    ensures rests { RestsOn (bytes_of wire.old.size) (M.state unit.old.store.medium) unit.old unit.new
+        finished packet.now }
+    ensures spares { (taken : List ℕ) → SparesOn (bytes_of wire.old.size)
         (M.state unit.old.store.medium) (M.state unit.new.store.medium) unit.old unit.new
         (line_of wire.new taken staging.new) finished packet.now }
     ensures phase { IsInPhase (unit_limit unit.new) (intention_of unit.new) wire.new.phase }
     ensures limit { unit_limit unit.new ≡ unit_limit unit.old }
+    ensures size { wire.new.size ≡ wire.old.size }
     ensures elapses { Elapses (M.state unit.old.store.medium) (M.state unit.new.store.medium) }
     ensures follows { M.follows unit.old.store.medium unit.new.store.medium }
 {
@@ -132,13 +136,14 @@ pub(crate) fn take_data<M: Medium>(
         (M.state unit.old.store.medium) (M.state unit.new.store.medium) unit.old unit.new
         (line_with wire.old left) (line_of wire.new taken.new staging.new)
         pending taken.old packet.now }
-    ensures rests { RestsOn (M.state unit.old.store.medium) unit.old unit.new
+    ensures rests { RestsOn (bytes_of wire.old.size) (M.state unit.old.store.medium) unit.old unit.new
         (taking_of pending taken.old) packet.now }
-    ensures spares { SparesOn
+    ensures spares { SparesOn (bytes_of wire.old.size)
         (M.state unit.old.store.medium) (M.state unit.new.store.medium) unit.old unit.new
         (line_of wire.new taken.new staging.new) (taking_of pending taken.old) packet.now }
     ensures phase { IsInPhase (unit_limit unit.new) (intention_of unit.new) wire.new.phase }
     ensures limit { unit_limit unit.new ≡ unit_limit unit.old }
+    ensures size { wire.new.size ≡ wire.old.size }
     ensures elapses { Elapses (M.state unit.old.store.medium) (M.state unit.new.store.medium) }
     ensures follows { M.follows unit.old.store.medium unit.new.store.medium }
 {
@@ -147,17 +152,18 @@ pub(crate) fn take_data<M: Medium>(
         filled,
         due,
     } = pending;
-    if packet.len() != due.min(512) as usize {
+    let most = wire.size.bytes();
+    if packet.len() != due.min(most) as usize {
         let status = write_csw(exchange.command.tag, due, Status::PhaseError);
         wire.lay_out(0, None, status);
         return;
     }
     let filled = fill(taken, filled, packet, exchange.intended.size() as usize);
-    if due > 512 {
+    if due > most {
         wire.phase = Phase::DataOut(Taking {
             exchange,
             filled,
-            due: due - 512,
+            due: due - most,
         });
     } else {
         carry_out(unit, wire, staging, &exchange, &taken[..filled]);

@@ -2,11 +2,13 @@
 ghost use Rattle.std.specs.Prelude.{◌≡◌, ◌↔◌, [], ◌∷◌, true, IfOk, IfErr, MatchResult};
 ghost use Rattle.medium.specs.Sim.{IsCut, IsFused, ComesAfter};
 ghost use Rattle.medium.specs.Writes.{keeps};
-ghost use Rattle.scsi_unit.specs.Identification.{Identification};
+ghost use Rattle.bot_machine.specs.Device.{Device, device_of};
+ghost use Rattle.bot_machine.specs.Fitting.{IsWithin};
 ghost use Rattle.bot_machine.specs.Lives.{starts, plays, cuts, arms};
 ghost use Rattle.bot_machine.specs.LivesValue.{
   medium_in,
   HasStarted,
+  TakesEvent,
   HasBegun,
   LivesGoOn,
   IsRefused,
@@ -15,6 +17,7 @@ ghost use Rattle.bot_machine.specs.declared.stage.Stage.TheVariants.{Rests, Runs
 
 use crate::disk::Disk;
 use crate::event::{Answer, Event};
+use crate::packet_size::PacketSize;
 use crate::run::answer_to;
 use crate::{Identity, StartError};
 use medium::{Kept, SimMedium, Switch};
@@ -51,9 +54,9 @@ pub(crate) fn into_medium(stage: Stage) -> SimMedium
 
 // Arms a fuse.
 pub(crate) fn fuse(stage: &mut Stage, writes: u64)
-    ensures goes_on { (identity : Identification) → LivesGoOn
-        (record { identity = identity; stage = stage.old }) (arms writes ∷ []) []
-        (record { identity = identity; stage = stage.new }) }
+    ensures goes_on { (device : Device) → LivesGoOn
+        (record { device = device; stage = stage.old }) (arms writes ∷ []) []
+        (record { device = device; stage = stage.new }) }
     ensures fused { IsFused writes (medium_in stage.old) (medium_in stage.new) }
 {
     match stage {
@@ -67,14 +70,15 @@ pub(crate) fn start(
     alloc: Global,
     stage: Stage,
     identity: Identity,
+    size: PacketSize,
 ) -> Result<Stage, StartError<SimMedium>>
     ensures ok { IfOk result (λ new. LivesGoOn
-        (record { identity = identity; stage = stage }) (starts ∷ []) []
-        (record { identity = identity; stage = new })) }
+        (record { device = device_of identity size; stage = stage }) (starts ∷ []) []
+        (record { device = device_of identity size; stage = new })) }
     ensures begun { IfOk result (HasBegun stage) }
     ensures err { IfErr result (λ error. IsRefused
-        (record { identity = identity; stage = stage }) error.fault
-        (record { identity = identity; stage = Rests error.medium })) }
+        (record { device = device_of identity size; stage = stage }) error.fault
+        (record { device = device_of identity size; stage = Rests error.medium })) }
     ensures follows { MatchResult result (λ new. ComesAfter (medium_in stage) (medium_in new))
         (λ error. ComesAfter (medium_in stage) error.medium) }
 {
@@ -85,7 +89,7 @@ pub(crate) fn start(
     if medium.is_off() {
         return Ok(Stage::Rests(medium));
     }
-    match Disk::start(alloc, medium, identity) {
+    match Disk::start_with(alloc, medium, identity, size) {
         Ok(disk) => Ok(Stage::Runs(disk)),
         Err(error) => {
             if error.medium.is_off() {
@@ -98,10 +102,11 @@ pub(crate) fn start(
 
 // Plays an event on a disk that was started.
 pub(crate) fn play(stage: &mut Stage, event: &Event) -> Answer
-    requires { HasStarted stage.old }
-    ensures goes_on { (identity : Identification) → LivesGoOn
-        (record { identity = identity; stage = stage.old }) (plays event.now ∷ []) (result ∷ [])
-        (record { identity = identity; stage = stage.new }) }
+    requires started { HasStarted stage.old }
+    requires within { TakesEvent stage.old event.now }
+    ensures goes_on { (device : Device) → LivesGoOn
+        (record { device = device; stage = stage.old }) (plays event.now ∷ []) (result ∷ [])
+        (record { device = device; stage = stage.new }) }
     ensures started { HasStarted stage.new }
     ensures off { (result ≡ Answer.Off) ↔ ((medium_in stage.new).power.off ≡ true) }
     ensures follows { ComesAfter (medium_in stage.old) (medium_in stage.new) }
@@ -114,9 +119,10 @@ pub(crate) fn play(stage: &mut Stage, event: &Event) -> Answer
 
 // Plays an event on a disk. The answer is the disk's where the power is on afterwards.
 fn play_on(disk: &mut Disk<SimMedium>, event: &Event) -> Answer
-    ensures goes_on { (identity : Identification) → LivesGoOn
-        (record { identity = identity; stage = Runs disk.old }) (plays event.now ∷ []) (result ∷ [])
-        (record { identity = identity; stage = Runs disk.new }) }
+    requires { IsWithin disk.old.line.packet_size event.now }
+    ensures goes_on { (device : Device) → LivesGoOn
+        (record { device = device; stage = Runs disk.old }) (plays event.now ∷ []) (result ∷ [])
+        (record { device = device; stage = Runs disk.new }) }
     ensures off { (result ≡ Answer.Off) ↔ (disk.new.unit.store.medium.power.off ≡ true) }
     ensures follows { ComesAfter disk.old.unit.store.medium disk.new.unit.store.medium }
 {
@@ -132,9 +138,9 @@ fn play_on(disk: &mut Disk<SimMedium>, event: &Event) -> Answer
 
 // Cuts the power. No disk runs then.
 pub(crate) fn cut(stage: Stage, kept: &Kept) -> SimMedium
-    ensures goes_on { (identity : Identification) → LivesGoOn
-        (record { identity = identity; stage = stage }) (cuts (keeps kept.now) ∷ []) []
-        (record { identity = identity; stage = Rests result }) }
+    ensures goes_on { (device : Device) → LivesGoOn
+        (record { device = device; stage = stage }) (cuts (keeps kept.now) ∷ []) []
+        (record { device = device; stage = Rests result }) }
     ensures exact { IsCut (keeps kept.now) (medium_in stage) result }
 {
     let mut medium = into_medium(stage);

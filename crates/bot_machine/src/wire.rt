@@ -12,11 +12,13 @@ ghost use Rattle.bot_machine.specs.Exchange.{
   outcome_for,
   status_for,
 };
+ghost use Rattle.bot_machine.specs.PacketBytes.{bytes_of};
 ghost use Rattle.bot_machine.specs.Packets.{packets_of};
 ghost use Rattle.bot_machine.specs.Requests.{clear_halt};
 ghost use Rattle.bot_machine.specs.Refinement.{halt_of, line_of, line_with, IsInPhase};
 
 use crate::exchange::Exchange;
+use crate::packet_size::PacketSize;
 use wrappers::{Case, Endpoint, Status, outcome, write_csw};
 
 // The data of a command that is being taken: the intended bytes that came already are so many, and
@@ -44,6 +46,7 @@ pub(crate) enum Phase {
 // The state of the line to the host.
 #[derive(Drop)]
 pub(crate) struct Wire {
+    pub(crate) size: PacketSize,
     pub(crate) in_halted: bool,
     pub(crate) out_halted: bool,
     pub(crate) locked: bool,
@@ -61,12 +64,14 @@ fn is_some_halt(halt: Option<Endpoint>) -> bool
 
 impl Wire {
     // Nothing is halted, and a command wrapper is expected.
-    pub(crate) fn at_rest() -> Wire
-        ensures line { (taken staging : List ℕ) → line_of result taken staging ≡ at_rest }
+    pub(crate) fn at_rest(size: PacketSize) -> Wire
+        ensures line { (taken staging : List ℕ)
+            → line_of result taken staging ≡ at_rest (bytes_of size) }
         ensures phase { (limit : ℕ) (intention : List ℕ → Intent)
             → IsInPhase limit intention result.phase }
     {
         Wire {
+            size,
             in_halted: false,
             out_halted: false,
             locked: false,
@@ -93,6 +98,7 @@ impl Wire {
         ensures line { (taken staging : List ℕ) → line_of self.new taken staging
             ≡ set_halt endpoint true (line_of self.old taken staging) }
         ensures phase { self.new.phase ≡ self.old.phase }
+        ensures size { self.new.size ≡ self.old.size }
     {
         match endpoint {
             Endpoint::In => self.in_halted = true,
@@ -132,7 +138,9 @@ impl Wire {
         requires halts_in { 0 < size → halt ≢ Some Endpoint.Out }
         ensures line { (taken staging : List ℕ) (left : Script) → size ≤ length staging
             → line_of self.new taken staging
-            ≡ laid_out (packets_of (take size staging)) halt status (line_with self.old left) }
+            ≡ laid_out (packets_of (bytes_of self.old.size) (take size staging)) halt status
+            (line_with self.old left) }
+        ensures size { self.new.size ≡ self.old.size }
         ensures phase { (limit : ℕ) (intention : List ℕ → Intent) → size ≤ 512 * limit
             → IsInPhase limit intention self.new.phase }
     {
@@ -160,10 +168,11 @@ impl Wire {
             ≢ Some Endpoint.Out }
         ensures line { (taken staging : List ℕ) (left : Script) → size ≤ length staging
             → line_of self.new taken staging
-            ≡ laid_out (packets_of (take size staging))
+            ≡ laid_out (packets_of (bytes_of self.old.size) (take size staging))
             (outcome_for case exchange.now.command exchange.now.intended).halt
             (status_for case exchange.now.command exchange.now.intended status)
             (line_with self.old left) }
+        ensures size { self.new.size ≡ self.old.size }
         ensures phase { (limit : ℕ) (intention : List ℕ → Intent) → size ≤ 512 * limit
             → IsInPhase limit intention self.new.phase }
     {

@@ -6,6 +6,7 @@ use Rattle.bot_machine.specs.Refinement.{line_with}
 use Rattle.bot_machine.proofs.Sending.{sent_in-size}
 use Rattle.bot_machine.proofs.Telling.{tells}
 use Rattle.bot_machine.proofs.Packets.{packets_of-none}
+use Rattle.bot_machine.proofs.Sizes.{some_bytes}
 use Rattle.bot_machine.proofs.Proceeding.{proceeding}
 use Rattle.bot_machine.proofs.serve.carry_out.Goals as goal
 
@@ -20,7 +21,7 @@ returns-in-Ok-clause-carried_out g c = λ taken left book fits.
       moved = λ n intended.
           let size = rw c.as_slice.ensures.value at c.in-Ok.ensures.sent in
           omega (arith, size n (c.requires.sends n intended), c.in-Ok.ensures.most, length-take c.in-Ok.size out);
-      after = rw (c.size_sent-size.ensures.is, ← sent_in-size c.args.exchange.now.case c.in-Ok.size out)
+      after = rw (c.size_sent-size.ensures.is, ← sent_in-size _ (some_bytes c.args.wire.now.size) c.args.exchange.now.case c.in-Ok.size out)
           at (c.tell.ensures.line taken out left (omega (arith, c.in-Ok.ensures.most)));
     })
     line.2 (ours_stay _ _ _ _ _ _ line.1)
@@ -49,7 +50,7 @@ returns-in-Err-clause-carried_out g c = λ taken left book fits.
       answer = Err c.in-Err.field-0;
       effect = line.1;
       moved = λ n intended. tt;
-      after = rw (c.after_failure.ensures, packets_of-none) at (c.tell-in-Err.ensures.line taken out left (omega arith));
+      after = rw (c.after_failure.ensures, packets_of-none _ (some_bytes c.args.wire.now.size)) at (c.tell-in-Err.ensures.line taken out left (omega arith));
     })
     line.2 (ours_stay _ _ _ _ _ _ line.1)
     (rw c.as_slice.ensures.value at (c.in-Err.ensures.serves.cuts book fits))

@@ -1,5 +1,7 @@
 use Rattle.std.proofs.Common.{◌≡◌, ◌∙◌, inl, inr, [], refl, arith}
+use Rattle.bot_machine.specs.PacketBytes.{bytes_of}
 use Rattle.bot_machine.proofs.Packets.{packets_of-none}
+use Rattle.bot_machine.proofs.Sizes.{some_bytes}
 use Rattle.bot_machine.proofs.Proceeding.{staying, proceeding_so}
 use Rattle.bot_machine.proofs.Opening.{opens, no_write, carries_out, carried_at_once}
 use Rattle.bot_machine.specs.Exchange.{finished, at_once, after_data, never}
@@ -53,8 +55,8 @@ returns-in-Never-clause-opens g c = λ taken book fits.
     staying _ unit _ book (g.met.M.Medium.sound unit.store.medium) fits
     (inl (opens _ _ book fits _ c.in-Some.exchange c.in-Some.ensures _ _ _ (rw (← c.in-Never.ensures) (
       refl,
-      rw packets_of-none at (c.tell.ensures.line taken c.args.staging.now
-          (left_of wire.phase taken c.args.staging.now wire.status) (omega arith)),
+      rw (packets_of-none _ (some_bytes wire.size)) at (c.tell.ensures.line taken c.args.staging.now
+          (left_of (bytes_of wire.size) wire.phase taken c.args.staging.now wire.status) (omega arith)),
     ))))
 
 pub returns-in-Never-clause-spares : goal.returns-in-Never-clause-spares

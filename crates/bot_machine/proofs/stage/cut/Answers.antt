@@ -4,6 +4,6 @@ use Rattle.bot_machine.proofs.Happening.{is_cut}
 use Rattle.bot_machine.proofs.stage.cut.Goals as goal
 
 pub returns-clause-goes_on : goal.returns-clause-goes_on
-returns-clause-goes_on c = λ identity.
-    is_cut identity (keeps c.args.kept.now) c.into_medium-medium.result c.cut.new.self c.cut.ensures.cut c.cut.ensures.allowed
+returns-clause-goes_on c = λ device.
+    is_cut device (keeps c.args.kept.now) c.into_medium-medium.result c.cut.new.self c.cut.ensures.cut c.cut.ensures.allowed
     c.cut.ensures.flushed c.cut.ensures.size c.args.stage (sym c.into_medium-medium.ensures)

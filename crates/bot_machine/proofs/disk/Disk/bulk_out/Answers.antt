@@ -1,5 +1,6 @@
 use Rattle.std.proofs.Common.{rules, ◌∙◌, sym, ap}
 use Rattle.std.proofs.lemmas.List.{with_items_is, places}
+use Rattle.bot_machine.specs.PacketBytes.{bytes_of}
 use Rattle.bot_machine.specs.Refinement.{left_of, taking_of}
 use Rattle.bot_machine.proofs.Stepping.{stalled, not_ready, begins, goes_on, sends}
 use Rattle.bot_machine.proofs.disk.Disk.bulk_out.Goals as goal
@@ -11,16 +12,17 @@ returns-then-self-clause-step g c =
 pub returns-in-Command-clause-step : goal.returns-in-Command-clause-step
 returns-in-Command-clause-step g c =
     let d = c.self.inside in
-    let left = ap (λ p. left_of p d.taken.items d.staging.items d.wire.status) c.in-Command.ensures.value in
+    let left = ap (λ p. left_of (bytes_of d.wire.size) p d.taken.items d.staging.items d.wire.status) c.in-Command.ensures.value in
     let opens = rw (c.in-Command.ensures.after ∙ c.in-Command.ensures.value, c.deref_mut.ensures.value)
     at (c.open.ensures.opens d.taken.items) in
     rw (← c.self.view_is, with_items_is d.staging c.open.new.staging (search (rules, places)))
-    (begins _ _ _ _ c.args.packet.now (sym c.if-self.false) left opens c.open.ensures.rests (c.open.ensures.spares d.taken.items) c.open.ensures.elapses c.open.ensures.limit)
+    (begins _ _ _ _ c.args.packet.now (sym c.if-self.false) left opens c.open.ensures.rests (c.open.ensures.spares d.taken.items) c.open.ensures.elapses c.open.ensures.limit
+    (ap bytes_of c.open.ensures.size))
 
 pub returns-in-DataOut-clause-step : goal.returns-in-DataOut-clause-step
 returns-in-DataOut-clause-step g c =
     let d = c.self.inside in
-    let left = ap (λ p. left_of p d.taken.items d.staging.items d.wire.status) c.in-DataOut.ensures.value in
+    let left = ap (λ p. left_of (bytes_of d.wire.size) p d.taken.items d.staging.items d.wire.status) c.in-DataOut.ensures.value in
     let taken = c.deref_mut-in-DataOut.ensures.value in
     rw (
       ← c.self.view_is,
@@ -29,14 +31,15 @@ returns-in-DataOut-clause-step g c =
     )
     (goes_on _ _ _ _ c.args.packet.now c.in-DataOut.data c.deref_mut-in-DataOut.result.now (sym c.if-self.false)
     (ap (λ came. taking_of c.in-DataOut.data came) taken ∙ left)
-    (c.take_data.ensures.takes (left_of d.wire.phase d.taken.items d.staging.items d.wire.status))
-    c.take_data.ensures.rests c.take_data.ensures.spares c.take_data.ensures.elapses c.take_data.ensures.limit)
+    (c.take_data.ensures.takes (left_of (bytes_of d.wire.size) d.wire.phase d.taken.items d.staging.items d.wire.status))
+    c.take_data.ensures.rests c.take_data.ensures.spares c.take_data.ensures.elapses c.take_data.ensures.limit
+    (ap bytes_of c.take_data.ensures.size))
 
 pub returns-in_default-clause-step : goal.returns-in_default-clause-step
 returns-in_default-clause-step g c =
     let d = c.self.inside in
     let same = c.replace.ensures.value in
     let sent = sends d.wire.phase (λ e. c.in_default.not-Command (same ∙ e)) (λ t e. c.in_default.not-DataOut t (same ∙ e))
-    d.taken.items d.staging.items d.wire.status in
+    (bytes_of d.wire.size) d.taken.items d.staging.items d.wire.status in
     rw (← c.self.view_is, same)
     (not_ready _ _ c.args.packet.now sent.0 sent.1 d.wire.status (g.met.M.Medium.sound d.unit.store.medium) (sym c.if-self.false) sent.2)

@@ -1,7 +1,7 @@
 use Rattle.std.proofs.Common.{rules, inl, inr, refl}
 use Rattle.std.proofs.lemmas.List.{places}
 use Rattle.std.proofs.lemmas.Result.{err_from_is_err_and}
-use Rattle.bot_machine.proofs.disk.Disk.start.Goals as goal
+use Rattle.bot_machine.proofs.disk.Disk.start_with.Goals as goal
 
 pub returns-in_err-unit-clause-err : goal.returns-in_err-unit-clause-err
 returns-in_err-unit-clause-err g c =

@@ -3,25 +3,37 @@ use Rattle.std.proofs.lemmas.List.{take_all}
 use Rattle.bot_machine.specs.declared.stage.Stage.TheVariants.{Rests}
 use Rattle.bot_machine.specs.Answers.{Room}
 use Rattle.bot_machine.specs.Lives.{Action}
+use Rattle.bot_machine.specs.Device.{Device, device_of}
+use Rattle.bot_machine.specs.declared.life.Life.{Life}
+use Rattle.bot_machine.specs.PacketBytes.{bytes_of}
+use Rattle.bot_machine.specs.Fitting.{AreWithin}
 use Rattle.bot_machine.specs.LivesValue.{LivesValue}
 use Rattle.bot_machine.specs.Lifetimes.{actions_of, actions_of_all, events_in, AppendsFor}
 use Rattle.bot_machine.proofs.Playing.{appends_on}
 use Rattle.bot_machine.proofs.Lasting.{none_yet, actions_more, events_more, room_left, apart, all_lived, lived_up_to}
-use Rattle.bot_machine.proofs.lifetimes.run_lives.Goals as goal
+use Rattle.bot_machine.proofs.lifetimes.run_lives_with.Goals as goal
 
 pub loop-life-init : goal.loop-life-init
 loop-life-init c =
-    let first : LivesValue = record { identity = c.args.identity; stage = Rests c.args.medium } in
+    let first : LivesValue = record { device = device_of c.args.identity c.args.size; stage = Rests c.args.medium } in
     let answers = c.args.answers.now in
     record {
-      run = subst (λ (x : LivesValue). AppendsFor first x answers answers [] 0) (sym c.new-run.ensures.value) (none_yet first answers);
-      rests = rw c.new-run.ensures.value c.requires.rests;
-      unfused = rw c.new-run.ensures.value c.requires.unfused;
-      alone = rw c.new-run.ensures.value refl;
+      run = subst (λ (x : LivesValue). AppendsFor first x answers answers [] 0) (sym c.new_with-run.ensures.value) (none_yet first answers);
+      rests = rw c.new_with-run.ensures.value c.requires.rests;
+      unfused = rw c.new_with-run.ensures.value c.requires.unfused;
+      alone = rw c.new_with-run.ensures.value refl;
     }
 
-pub live-requires : goal.live-requires
-live-requires c =
+pub live-requires-clause-within : goal.live-requires-clause-within
+live-requires-clause-within c =
+    let most : ℕ = bytes_of c.args.size in
+    let life = c.life-item.result in
+    let each : AreWithin most life.events.items =
+    subst (λ (x : Life). AreWithin most x.events.items) (sym c.life-item.is) (c.requires.within c.loop-life.life-index life c.loop-life-test.true) in
+    subst (λ (x : Device). AreWithin x.packet_size life.events.items) (sym c.loop-life.invariant.run.goes_on.device_stays) each
+
+pub live-requires-clause-room : goal.live-requires-clause-room
+live-requires-clause-room c =
     let appends = c.loop-life.invariant.run in
     let lists = ap (λ (x : Room). length x.list) appends.appends in
     let rooms = ap (λ (x : Room). x.room) appends.appends in
@@ -32,14 +44,14 @@ live-requires c =
 
 pub returns-in-Err-clause-err : goal.returns-in-Err-clause-err
 returns-in-Err-clause-err c =
-    let first : LivesValue = record { identity = c.args.identity; stage = Rests c.args.medium } in
+    let first : LivesValue = record { device = device_of c.args.identity c.args.size; stage = Rests c.args.medium } in
     let lives = c.args.lives.now in
     let i = c.loop-life.life-index in
     let life = c.life-item.result in
     let lived = c.loop-life.invariant.run in (
       lived.told,
       c.in-Err.ensures.unanswered ∙ lived.appends,
-      rw c.into_medium.ensures (lived_up_to c.args.medium c.args.identity c.requires.rests c.requires.unfused c.loop-life.run c.live.new.run lived.told
+      rw c.into_medium.ensures (lived_up_to c.args.medium (device_of c.args.identity c.args.size) c.requires.rests c.requires.unfused c.loop-life.run c.live.new.run lived.told
           lives (take i lives) (drop (suc i) lives) life c.in-Err.fault (apart lives i life c.loop-life-test.true c.life-item.is)
           lived.goes_on lived.one_each c.loop-life.invariant.rests c.loop-life.invariant.unfused c.loop-life.invariant.alone
           c.in-Err.ensures.cause c.in-Err.ensures.err),
@@ -47,7 +59,7 @@ returns-in-Err-clause-err c =
 
 pub loop-life-preserved : goal.loop-life-preserved
 loop-life-preserved c =
-    let first : LivesValue = record { identity = c.args.identity; stage = Rests c.args.medium } in
+    let first : LivesValue = record { device = device_of c.args.identity c.args.size; stage = Rests c.args.medium } in
     let lives = c.args.lives.now in
     let i = c.loop-life.life-index in
     let life = c.life-item.result in
@@ -66,13 +78,13 @@ loop-life-preserved c =
 
 pub returns-clause-ok : goal.returns-clause-ok
 returns-clause-ok c =
-    let first : LivesValue = record { identity = c.args.identity; stage = Rests c.args.medium } in
+    let first : LivesValue = record { device = device_of c.args.identity c.args.size; stage = Rests c.args.medium } in
     let lives = c.args.lives.now in
     let i = c.loop-life.life-index in
     let all : take i lives ≡ lives = take_all i lives c.loop-life-test.false in
     let run = rw all at c.loop-life.invariant.run in (
       run.told,
       run.appends,
-      rw c.into_medium-2.ensures (all_lived c.args.medium c.args.identity c.requires.rests c.requires.unfused c.loop-life.run run.told
+      rw c.into_medium-2.ensures (all_lived c.args.medium (device_of c.args.identity c.args.size) c.requires.rests c.requires.unfused c.loop-life.run run.told
           lives run.goes_on run.one_each c.loop-life.invariant.rests c.loop-life.invariant.unfused c.loop-life.invariant.alone),
     )
