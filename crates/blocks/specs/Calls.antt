@@ -25,7 +25,7 @@ most_reads s = copy_reads_of (layout_of s).format
 abbrev pub block_reads : Cached → ℕ → ℕ
 block_reads s b =
     if is_listed s.active.numbers b then 0 else
-        (if is_listed s.frozen.numbers b then 0 else durable_reads s.log b)
+    (if is_listed s.frozen.numbers b then 0 else durable_reads s.log b)
 
 -- how many it takes to read so many blocks from this address on
 abbrev pub reads_of : Cached → ℕ → ℕ → ℕ

@@ -4,7 +4,7 @@ ghost use Rattle.blocks.specs.StoreValue.{blocks_of};
 
 use super::*;
 use medium::{Kept, SimMedium, Switch};
-use recovery::format;
+use recovery::{format, format2};
 use std::alloc::AllocError;
 use std::test::Fail;
 
@@ -302,5 +302,34 @@ fn ticks_retire_every_record(rt: HostRuntime) -> Result<(), Fail> {
     assert_eq!(rt; empty.checked_sub(full), Some(16));
     assert_eq!(rt; write_through(&mut store, 8, 9), Ok(()));
     assert_eq!(rt; store.medium().flushes().checked_sub(empty), Some(2));
+    Ok(())
+}
+
+// A store of 16 blocks and one log slot of format 2.
+fn started_in_format_2(rt: HostRuntime) -> Result<Store<SimMedium>, Fail>
+    ensures { IfOk result (λ store. blocks_of store.cached ≡ 16) }
+{
+    let image = vec![in rt.alloc(); 0u8; 267 * 512]?;
+    let mut m = SimMedium::new(rt.alloc(), image, 267).map_err(|_| AllocError)?;
+    format2(&mut m, 16, 1).map_err(|_| "no image")?;
+    let store = Store::start(rt.alloc(), m).map_err(|_| "no store")?;
+    if store.blocks() != 16 {
+        return Err(Fail::from("another size"));
+    }
+    Ok(store)
+}
+
+// Its first 8 bytes stand in a descriptor, and the others in a data place.
+#[test]
+#[tactic(auto, using(crate::proofs::Limits::limit_least))]
+fn two_calls_read_a_logged_block_of_format_2(rt: HostRuntime) -> Result<(), Fail> {
+    let mut store = started_in_format_2(rt)?;
+    store.write(15, &[0x5a; 512])?;
+    store.sync()?;
+    let mut bytes = [0; 512];
+    store.fail(2);
+    assert_eq!(rt; store.read(15, &mut bytes), Err(StoreFault::ReadFault));
+    assert_eq!(rt; store.read(15, &mut bytes), Ok(()));
+    assert_eq!(rt; (bytes[7], bytes[8]), (0x5a, 0x5a));
     Ok(())
 }
