@@ -25,4 +25,6 @@ pub use recovery::recover;
 pub use start_fault::StartFault;
 
 #[cfg(test)]
+mod migration_tests;
+#[cfg(test)]
 mod tests;

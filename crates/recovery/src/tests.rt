@@ -334,7 +334,8 @@ fn each_fault_has_its_number(rt: HostRuntime) -> Result<(), Fail> {
         StartFault::BadSize as u8,
         StartFault::BadHead as u8,
         StartFault::StampsUsedUp as u8,
+        StartFault::LogTooSmall as u8,
     ];
-    assert_eq!(rt; starts, [1, 2, 3, 4, 5, 6, 7, 8, 9]);
+    assert_eq!(rt; starts, [1, 2, 3, 4, 5, 6, 7, 8, 9, 10]);
     Ok(())
 }
