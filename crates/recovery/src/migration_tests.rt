@@ -21,7 +21,7 @@ fn formatted(rt: HostRuntime, format: LogFormat, slots: u64) -> Result<SimMedium
 fn refusal(rt: HostRuntime, place: usize, bytes: &[u8]) -> Result<Option<StartFault>, Fail> {
     let m = formatted(rt, LogFormat::One, 4)?;
     let mut image = m.image().to_vec(rt.alloc())?;
-    for (to, from) in image.iter_mut().skip(512 + place).zip(bytes.iter()) {
+    for (to, from) in image.iter_mut().skip(512).skip(place).zip(bytes.iter()) {
         *to = *from;
     }
     let mut m = SimMedium::new(rt.alloc(), image, 300).map_err(|_| AllocError)?;
