@@ -25,7 +25,7 @@ module _ (j : ℕ) (numbers more : List ℕ) (long : length numbers ≡ 30 * j) 
         let here : take 30 (drop (30 * k) (numbers ++ more)) ≡ more = ap (λ (i : ℕ). take 30 (drop (30 * i) (numbers ++ more))) same ∙ last (omega (arith, is.entries.many)) in (
           firsts,
           subst (λ (ns : List ℕ). IsDescriptorTwo stamp count k ns firsts (image (at + k))) (sym here)
-          (subst (λ (i : ℕ). IsDescriptorTwo stamp count i more firsts (image (at + i))) (sym same) is),
+              (subst (λ (i : ℕ). IsDescriptorTwo stamp count i more firsts (image (at + i))) (sym same) is),
         )
     | inr other ↦
         let less : k < j = omega arith in

@@ -47,8 +47,8 @@ pub two_whole : (shape : Shape) (image : Image) (stamp slot : ℕ) (numbers : Li
 two_whole shape image stamp slot numbers is where_is sized says rising inside = (
   record_in image (2 + 249 * slot),
   of_two shape image stamp (record_in image (2 + 249 * slot)) is
-  (whole_two image (2 + 249 * slot) stamp numbers says.committed says.described says.placed (λ i below. sized (8 + i) (omega (arith, below, says.committed.few)))
-  shape (ap (λ (k : ℕ). 2 + 249 * k) where_is) rising inside),
+      (whole_two image (2 + 249 * slot) stamp numbers says.committed says.described says.placed (λ i below. sized (8 + i) (omega (arith, below, says.committed.few)))
+      shape (ap (λ (k : ℕ). 2 + 249 * k) where_is) rising inside),
 )
 
 -- a slot with a whole record says so
@@ -64,8 +64,8 @@ two_says shape image stamp slot es is where_is w =
       described = λ j below. (
         firsts_of (chunk_of es j),
         subst (λ (n : ℕ). IsDescriptorTwo stamp n j (take 30 (drop (30 * j) (numbers_of es))) (firsts_of (chunk_of es j)) (image (at + j))) long
-        (subst (λ (ns : List ℕ). IsDescriptorTwo stamp (length es) j ns (firsts_of (chunk_of es j)) (image (at + j))) (numbers_of_chunk es j)
-        (descriptor_whole shape image stamp es v j (omega (arith, below, long)))),
+            (subst (λ (ns : List ℕ). IsDescriptorTwo stamp (length es) j ns (firsts_of (chunk_of es j)) (image (at + j))) (numbers_of_chunk es j)
+            (descriptor_whole shape image stamp es v j (omega (arith, below, long)))),
       );
       placed = λ i below. place_whole shape image stamp es v i (omega (arith, below, long));
     })

@@ -1,4 +1,4 @@
-use Rattle.std.proofs.Common.{◌≡◌, inl, inr, ◌∙◌, ◌+◌, ◌*◌, ◌++◌, ◌<◌, ℕ, List, [], length, drop, get_or, sym, ap, subst, arith}
+use Rattle.std.proofs.Common.{◌≡◌, inl, inr, ◌∙◌, ◌+◌, ◌*◌, ◌++◌, ◌<◌, ℕ, List, [], length, drop, get_or, sym, ap, arith}
 use Rattle.std.proofs.lemmas.Bool.{cases_eq}
 use Rattle.log_layout.specs.Places.{first_home}
 use Rattle.log_layout.specs.Values.{shape_of}
@@ -11,9 +11,9 @@ returns-in_err-copy_sector-clause-within g c =
     let P : ℕ → Type 0 = IsHomeOf (shape_of c.args.sizes.now) c.args.descriptor.now.numbers.items in
     copies_joined P (λ x. x ≡ c.home_of.result) P (g.M.Medium.state c.args.m.now) (g.M.Medium.state c.loop-e.m) (g.M.Medium.state c.copy_sector.new.m) (g.met.M.Medium.sound c.loop-e.m)
     (λ x h. h) (λ x is. (
-    c.loop-e.e,
-    omega (arith, c.loop-e-test.true, c.len-e-end.ensures.value),
-    is ∙ c.home_of.ensures ∙ ap (λ (l : List ℕ). c.args.sizes.now.home + get_or l c.loop-e.e 0) c.deref.ensures.0,
+      c.loop-e.e,
+      omega (arith, c.loop-e-test.true, c.len-e-end.ensures.value),
+      is ∙ c.home_of.ensures ∙ ap (λ (l : List ℕ). c.args.sizes.now.home + get_or l c.loop-e.e 0) c.deref.ensures.0,
     )) c.loop-e.invariant.within c.copy_sector.ensures.within
 
 pub loop-e-preserved : goal.loop-e-preserved

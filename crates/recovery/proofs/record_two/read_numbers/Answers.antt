@@ -1,11 +1,9 @@
 use Rattle.std.proofs.Common.{◌≡◌, ◌∙◌, ◌+◌, ◌*◌, ◌<◌, ℕ, List, ◌++◌, length, take, drop, sym, ap, subst, arith}
 use Rattle.std.specs.Prelude.{IfSome, IsSomeAnd}
 use Rattle.std.proofs.Math.Seq.{take-add}
-use Rattle.std.proofs.lemmas.List.{length-append, take_all}
-use Rattle.medium.specs.Medium.{Image}
+use Rattle.std.proofs.lemmas.List.{length-append}
 use Rattle.medium.proofs.Moments.{quiet_joined}
 use Rattle.log_layout.specs.SectorsTwo.{descriptors_of, IsDescriptorTwo}
-use Rattle.log_image.specs.SlotTwo.{HasDescriptors}
 use Rattle.recovery.proofs.Naming.{described_more}
 use Rattle.recovery.proofs.record_two.read_numbers.Goals as goal
 
