@@ -128,7 +128,7 @@ fn read_numbers<M: Medium>(
     Ok(Some(numbers))
 }
 
-// Whether a record below so many blocks may have these block numbers.
+// Whether these block numbers rise, and each is below the number of blocks.
 fn are_blocks(numbers: &[u64], blocks: u64) -> bool
     ensures { IsTrue result ↔ IsRising numbers.now × All (λ b. b < blocks) numbers.now }
 {
