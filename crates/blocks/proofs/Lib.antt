@@ -10,4 +10,5 @@ pub mod Settling
 pub mod Room
 pub mod Counting
 pub mod Limits
+pub mod ImageLimit
 pub mod Retired

@@ -2,7 +2,7 @@
 use Rattle.std.specs.Prelude.{◌≡◌, ℕ, ◌+◌, zero, suc, Bool, true, false, List, [], ◌∷◌}
 use Rattle.std.specs.Prelude.{if◌then◌else◌}
 use Rattle.cache.specs.Blocks.{is_listed}
-use Rattle.log_image.specs.Copies.{copy_reads_of}
+pub use Rattle.log_image.specs.Copies.{copy_reads_of}
 use Rattle.redo_log.specs.Value.{LogValue}
 use Rattle.blocks.specs.Retiring.{finished}
 use Rattle.blocks.specs.StoreValue.{Cached, layout_of, FitsBeside, transfer_limit}

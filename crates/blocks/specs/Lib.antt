@@ -2,6 +2,7 @@ pub mod Book
 pub mod Finding
 pub mod StoreValue
 pub mod Opening
+pub mod Limit
 pub mod Turns
 pub mod Started
 pub mod Kept

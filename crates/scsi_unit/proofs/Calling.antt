@@ -1,12 +1,11 @@
 -- The calls that the parts of a command make, added up.
-use Rattle.std.proofs.Common.{◌≡◌, ◌≤◌, ◌+◌, ◌*◌, ℕ, zero, suc, Bool, true, false, arith, ap, refl, sym, subst}
+use Rattle.std.proofs.Common.{◌≡◌, ◌≤◌, ◌+◌, ◌*◌, ℕ, Bool, true, false, arith, ap, refl, sym, subst}
 use Rattle.std.specs.Prelude.{◌&&◌, ◌||◌, not, if◌then◌else◌, OnOk, Result, Ok, List}
 use Rattle.std.proofs.lemmas.Bool.{false≢true}
 use Rattle.std.proofs.lemmas.Result.{IfOk-at_ok}
-use Rattle.log_layout.specs.Places.{Shape}
-use Rattle.log_image.specs.Copies.{copy_reads_of}
+use Rattle.blocks.specs.Limit.{Shape}
 use Rattle.blocks.specs.StoreValue.{Cached, layout_of, batch_steps}
-use Rattle.blocks.specs.Calls.{reads_of, most_reads}
+use Rattle.blocks.specs.Calls.{copy_reads_of, reads_of, most_reads}
 use Rattle.blocks.proofs.Counting.{reads_few}
 use Rattle.sense.specs.declared.codes.Sense.{Sense}
 use Rattle.cdb.specs.declared.command.Command.TheVariants as command

@@ -2,7 +2,7 @@
 use Rattle.std.proofs.Common.{◌≡◌, ◌⊎◌, ◌<◌, ◌≤◌, ◌+◌, [], inl, inr, ⊎_elim, ℕ, Bool, true, false, arith, refl, ap, subst, ◌∙◌}
 use Rattle.std.proofs.lemmas.Bool.Decides.{nat_tests}
 use Rattle.medium.specs.Medium.{State}
-use Rattle.log_layout.specs.Places.{Shape, limit_of}
+use Rattle.blocks.specs.Limit.{Shape, limit_of}
 use Rattle.blocks.specs.Background.{IsBackgroundStep}
 use Rattle.blocks.specs.Book.{Book}
 use Rattle.blocks.specs.StoreValue.{Cached, StoreValue, FitsBook, layout_of, blocks_of, transfer_limit, is_dead, active_of, steps_left}

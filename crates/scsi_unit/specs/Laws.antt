@@ -15,7 +15,7 @@ use Rattle.scsi_unit.specs.declared.intent.Intent.TheVariants as intent
 use Rattle.scsi_unit.specs.Rules.{UnitState, checked, intention, write_in_progress, with_progress}
 use Rattle.scsi_unit.specs.Rules.{forces_reading, moves_blocks, clears, selected_by}
 use Rattle.scsi_unit.specs.Rules.{CarriesOut, Ticks}
-use Rattle.scsi_unit.specs.Limit.{HasLimit}
+use Rattle.blocks.specs.Limit.{HasLimit}
 
 -- no stamp is wanting for a command, with its write counted
 abbrev pub HasStamps : List ℕ → List ℕ → UnitState → Type 0

@@ -5,7 +5,6 @@ pub mod StartFaults
 pub mod Capacity
 pub mod Rules
 pub mod UnitValue
-pub mod Limit
 pub mod Starting
 pub mod Laws
 pub mod Serving

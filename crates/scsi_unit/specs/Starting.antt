@@ -9,7 +9,7 @@ use Rattle.scsi_unit.specs.Rules.{opened_unit}
 use Rattle.scsi_unit.specs.UnitValue.{UnitValue, unit_limit, state_of}
 use Rattle.blocks.specs.Opening.{StartFault}
 -- the limit of a unit is that of the image that it starts on
-pub use Rattle.scsi_unit.specs.Limit.{HasLimit}
+pub use Rattle.blocks.specs.Limit.{HasLimit}
 pub use Rattle.blocks.specs.Opening.{IsOursForSome, Stands, StandsForOpening, OpensOn, IsCauseFor}
 pub use Rattle.blocks.specs.Started.{IsStarted, IsStartCause, StartLeaves}
 -- for the number of blocks with which a life opened

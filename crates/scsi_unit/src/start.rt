@@ -2,7 +2,7 @@
 ghost use Rattle.std.specs.Prelude.{ℕ, IfOk, IfErr, MatchResult};
 ghost use Rattle.medium.specs.Moments.{EachCut, LeavesOnly};
 ghost use Rattle.blocks.specs.Started.{StartLeaves};
-ghost use Rattle.scsi_unit.specs.Limit.{HasLimit};
+ghost use Rattle.blocks.specs.Limit.{HasLimit};
 ghost use Rattle.scsi_unit.specs.Starting.{IsOursForSome, IsUnitStarted, IsNotStarted};
 
 use crate::Unit;

@@ -9,7 +9,7 @@ ghost use Rattle.blocks.specs.StoreValue.{is_dead, steps_left, HasLimits, FitsBo
 ghost use Rattle.scsi_unit.specs.Rules.{opened_unit, intention};
 ghost use Rattle.scsi_unit.specs.UnitValue.{unit_limit, state_of, intention_of, answer_of};
 ghost use Rattle.scsi_unit.specs.UnitValue.{FitsUnit};
-ghost use Rattle.scsi_unit.specs.Limit.{HasLimit};
+ghost use Rattle.blocks.specs.Limit.{HasLimit};
 ghost use Rattle.scsi_unit.specs.Serving.{Serves, IsSparing, TicksOver};
 ghost use Rattle.scsi_unit.specs.Calls.{IsBounded};
 ghost use Rattle.scsi_unit.specs.Performing.{settled_kept};

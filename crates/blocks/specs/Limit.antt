@@ -2,7 +2,7 @@
 use Rattle.std.specs.Prelude.{◌≡◌, ℕ}
 use Rattle.medium.specs.Medium.{Image}
 use Rattle.medium.specs.Blocks.{Array}
-use Rattle.log_layout.specs.Places.{Shape, limit_of}
+pub use Rattle.log_layout.specs.Places.{Shape, limit_of}
 use Rattle.log_image.specs.Standing.{StandsFor}
 
 -- the image stands for something, in a shape of whose format a transfer has so many blocks at most

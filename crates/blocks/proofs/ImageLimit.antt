@@ -1,0 +1,53 @@
+-- The limit that the image of a medium tells: it has one, and a start and a store leave it.
+use Rattle.std.proofs.Common.{◌≡◌, ◌+◌, ⊎_elim, ℕ, true, refl, sym, ◌∙◌, ap}
+use Rattle.medium.specs.Medium.{State, Image}
+use Rattle.medium.specs.Moments.{EachCut, LeavesOnly}
+use Rattle.medium.proofs.Moments.{weaker}
+use Rattle.log_image.specs.Standing.{Stands}
+use Rattle.log_image.proofs.StandingLaws.{StandsFor-one}
+use Rattle.redo_log.proofs.Handing.{may_leave_ours}
+use Rattle.recovery.specs.Recovered.{IsOursForSome, StandsForOneOf}
+use Rattle.blocks.specs.Book.{Book}
+use Rattle.blocks.specs.StoreValue.{Cached, transfer_limit, FitsBook}
+use Rattle.blocks.specs.Started.{StartLeaves}
+use Rattle.blocks.specs.Limit.{Shape, limit_of, HasLimit}
+
+pub some_limit : (size : ℕ) (image : Image) → Stands size image → (limit : ℕ) × HasLimit size limit image
+some_limit size image there = (
+  limit_of there.0.format,
+  record { shape = there.0; array = there.1; next = there.2; stands = there.3; limit_is = refl },
+)
+
+pub one_limit : (size limit other : ℕ) (image : Image) → HasLimit size limit image → HasLimit size other image → limit ≡ other
+one_limit size limit other image has is =
+    let one = StandsFor-one size size has.shape is.shape image has.array is.array has.next is.next has.stands is.stands in
+    has.limit_is ∙ ap (λ (s : Shape). limit_of s.format) one.0 ∙ sym is.limit_is
+
+-- an image for which an image before stood has the limit of that one
+limit_of_one : (before : State) (limit : ℕ) → EachCut (HasLimit before.size limit) before → (image : Image) → StandsForOneOf before image
+    → HasLimit before.size limit image
+limit_of_one before limit has image is =
+    let was = has is.before is.allowed in
+    let one = StandsFor-one before.size before.size was.shape is.shape is.before was.array is.array was.next is.next was.stands is.was.stands in
+    let limit_is : limit ≡ limit_of is.shape.format = was.limit_is ∙ ap (λ (s : Shape). limit_of s.format) one.0 in
+    ⊎_elim
+    (λ here. record { shape = is.shape; array = is.array; next = is.next; stands = here.stands; limit_is = limit_is })
+    (λ behind. record { shape = is.shape; array = is.array; next = is.next + 1; stands = behind.stands; limit_is = limit_is })
+    is.is
+
+-- a start, good or refused, leaves images of the limit that they had
+pub start_keeps_limit : (before after : State) (limit : ℕ) → StartLeaves before after → EachCut (IsOursForSome before.size) before
+    → EachCut (HasLimit before.size limit) before → LeavesOnly (HasLimit before.size limit) before after
+start_keeps_limit before after limit leaves ours has =
+    weaker (StandsForOneOf before) (HasLimit before.size limit) before after (limit_of_one before limit has) (leaves.cuts ours)
+
+-- between two calls a cut leaves what has the limit of the store
+pub cut_keeps_limit : (m : State) (cached : Cached) (book : Book) → FitsBook m cached book
+    → book.ours ≡ true → EachCut (HasLimit m.size (transfer_limit cached)) m
+cut_keeps_limit m cached book fits ours image cut =
+    let log = cached.log in
+    let view = fits.view in
+    ⊎_elim
+    (λ rest. record { shape = log.shape; array = _; next = _; stands = rest.stands; limit_is = refl })
+    (λ more. record { shape = log.shape; array = _; next = _; stands = more.1.stands; limit_is = refl })
+    (may_leave_ours m.size log view image (fits.holds.leaves (fits.ours ∙ ours) image cut))
