@@ -1,12 +1,11 @@
 -- Whether a record is whole, and how many are: each is so or not.
-use Rattle.std.proofs.Common.{◌≡◌, ◌⊎◌, inl, inr, ⊎_elim, ℕ, zero, suc, ◌+◌, ◌-◌, ◌^◌, ◌<◌, ◌≤◌, List, length, get_or, refl, sym, ◌∙◌, ap, subst, arith}
-use Rattle.std.specs.Prelude.{All}
+use Rattle.std.proofs.Common.{◌≡◌, inl, inr, ℕ, zero, suc, ◌+◌, ◌-◌, ◌^◌, ◌<◌, ◌≤◌, List, length, sym, subst, arith}
 use Rattle.std.proofs.lemmas.Bool.{cases_eq}
 use Rattle.medium.specs.Medium.{Image}
 use Rattle.log_layout.specs.Places.{Shape}
 use Rattle.log_layout.proofs.Deciding.{Decided, both, along, all_or_not, below_or_not, at_most_or_not, same_or_not, rising_or_not}
 use Rattle.log_image.specs.Record.{Entry, numbers_of}
-use Rattle.log_image.specs.Layout.{Layout, AreEntries, IsWholeIn, HasWholeIn, HasParts, slot_at, part_at}
+use Rattle.log_image.specs.Layout.{Layout, AreEntries, IsWholeIn, HasWholeIn, slot_at, part_at}
 use Rattle.log_image.specs.LayoutLaws.{Laws}
 use Rattle.log_image.specs.Formats.{layout_of, HasWhole}
 use Rattle.log_image.specs.Standing.{IsCount}

@@ -3,13 +3,13 @@ use Rattle.std.proofs.Common.{◌≡◌, ◌⊎◌, inl, inr, ⊎_elim, ℕ, ◌
 use Rattle.std.specs.Prelude.{true, false, nat_lt}
 use Rattle.std.proofs.lemmas.Bool.{cases_lt}
 use Rattle.std.proofs.lemmas.Bool.Decides.{nat_tests}
-use Rattle.std.proofs.lemmas.List.{ext_get_or, length-map}
+use Rattle.std.proofs.lemmas.List.{length-map}
 use Rattle.std.proofs.Math.ListN.{get_or-map}
 use Rattle.log_layout.specs.Spelling.{spelling, commit_mark}
 use Rattle.log_layout.specs.Sectors.{IsDescriptor, IsCommit}
 use Rattle.log_image.specs.Record.{Entry, numbers_of}
 use Rattle.log_layout.proofs.Spelling.{IsDescriptor-stamp, IsDescriptor-numbers, IsCommit-stamp}
-use Rattle.log_image.specs.LayoutLaws.{Laws, IsRecordOf}
+use Rattle.log_image.specs.LayoutLaws.{IsRecordOf}
 use Rattle.log_image.specs.Record.{block_of}
 use Rattle.log_image.specs.Format1.{format1, offset1, part1, Carries1, commit1, descriptor1}
 use Rattle.log_layout.proofs.BytesTwo.{first_number, behind}

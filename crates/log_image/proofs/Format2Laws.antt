@@ -3,14 +3,14 @@ use Rattle.std.proofs.Common.{◌≡◌, inl, inr, ℕ, ◌+◌, ◌*◌, ◌-�
 use Rattle.std.specs.Prelude.{true, false, nat_lt}
 use Rattle.std.proofs.lemmas.Bool.{cases_lt}
 use Rattle.std.proofs.lemmas.Bool.Decides.{nat_tests}
-use Rattle.std.proofs.lemmas.List.{ext_get_or, length-map}
+use Rattle.std.proofs.lemmas.List.{length-map}
 use Rattle.std.proofs.Math.ListN.{get_or-map}
 use Rattle.log_image.specs.Record.{Entry}
-use Rattle.log_image.specs.LayoutLaws.{Laws, IsRecordOf}
+use Rattle.log_image.specs.LayoutLaws.{IsRecordOf}
 use Rattle.log_layout.specs.SectorsTwo.{descriptor_bytes, place_bytes, commit_bytes, entry_bytes}
 use Rattle.log_image.specs.Record.{block_of}
 use Rattle.log_image.specs.Format2.{format2, offset2, part2, Carries2}
-use Rattle.log_layout.proofs.BytesTwo.{descriptor_stamp, place_stamp, commit_stamp, commit_count, place_rest, entry_stands, entry_number, entry_begins, two_parts}
+use Rattle.log_layout.proofs.BytesTwo.{descriptor_stamp, place_stamp, commit_stamp, place_rest, entry_stands, entry_number, entry_begins, two_parts}
 
 below_is : (a b : ℕ) → a < b → nat_lt a b ≡ true
 below_is a b lt = grind (arith, nat_tests, lt)

@@ -1,5 +1,5 @@
 -- The record that stands in a slot of format 1, read back, and what zeros carry.
-use Rattle.std.proofs.Common.{◌≡◌, ◌⊎◌, inl, inr, ℕ, zero, suc, ◌+◌, ◌-◌, ◌*◌, ◌%◌, ◌<◌, ◌≤◌, List, [], ◌∷◌, length, get_or, refl, sym, ◌∙◌, ap, subst, arith}
+use Rattle.std.proofs.Common.{◌≡◌, inl, inr, ℕ, zero, suc, ◌+◌, ◌-◌, ◌*◌, ◌%◌, ◌<◌, List, [], ◌∷◌, length, get_or, refl, sym, ◌∙◌, ap, subst, arith}
 use Rattle.std.specs.Prelude.{replicate}
 use Rattle.std.proofs.lemmas.Bool.{cases_lt}
 use Rattle.std.proofs.lemmas.List.{length-map}
@@ -7,10 +7,10 @@ use Rattle.std.proofs.lemmas.List.FromFn.{fill_by_all}
 use Rattle.medium.specs.Medium.{Image}
 use Rattle.log_layout.specs.Places.{Shape}
 use Rattle.log_layout.specs.Spelling.{number_in}
-use Rattle.log_layout.specs.Sectors.{IsDescriptor, IsCommit}
+use Rattle.log_layout.specs.Sectors.{IsDescriptor}
 use Rattle.log_layout.proofs.Decoding.{descriptor_stamp, descriptor_count, descriptor_number, commit_stamp}
 use Rattle.log_image.specs.Record.{Entry, numbers_of, block_of, entries_in}
-use Rattle.log_image.specs.Layout.{IsWholeIn, slot_at}
+use Rattle.log_image.specs.Layout.{IsWholeIn}
 use Rattle.log_image.specs.LayoutLaws.{IsRecordOf}
 use Rattle.log_image.specs.Format1.{format1, offset1, numbers_in, record_in, Carries1}
 use Rattle.log_image.proofs.Format1Laws.{offset_early, part_descriptor, part_place, descriptor_of}

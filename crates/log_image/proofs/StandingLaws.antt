@@ -1,7 +1,6 @@
 -- An image stands for one array and one next stamp.
 use Rattle.std.proofs.Common.{◌≡◌, ⊎_elim, ℕ, zero, suc, ◌+◌, ◌*◌, ◌<◌, ◌≤◌, List, [], ◌∷◌, length, get_or, refl, sym, ◌∙◌, ap, subst, arith}
 use Rattle.std.proofs.lemmas.Bool.{cases_lt}
-use Rattle.std.proofs.lemmas.Nat.{mod_below}
 use Rattle.std.proofs.lemmas.List.{ext_get_or}
 use Rattle.medium.specs.Medium.{Image}
 use Rattle.medium.specs.Blocks.{Array}
