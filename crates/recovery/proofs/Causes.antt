@@ -91,24 +91,6 @@ served_slots least old new StampsUsedUp h shape array next s left some =
     let past = w.4 in
     absurd (omega (arith, same, past, left))
 
--- contents that stand for something, with a stamp left, are no cause
-pub served : (old new : State) (fault : StartFault) → IsCause old new fault → (shape : Shape) (array : Array) (next : ℕ) → StandsFor old.size shape old.content array next → next < 2 ^ 63 → IsDeviceFault fault
-served old new NoMemory h shape array next s left = absurd h
-served old new Read h shape array next s left = (medium.Read, refl)
-served old new Write h shape array next s left = (medium.Write, refl)
-served old new Flush h shape array next s left = (medium.Flush, refl)
-served old new BadSuper h shape array next s left = absurd (HasFault-stands old.size old.content image.BadSuper h.0 (shape, array, next, s))
-served old new BadVersion h shape array next s left = absurd (HasFault-stands old.size old.content image.BadVersion h.0 (shape, array, next, s))
-served old new BadSize h shape array next s left = absurd (HasFault-stands old.size old.content image.BadSize h.0 (shape, array, next, s))
-served old new BadHead h shape array next s left = absurd (HasFault-stands old.size old.content image.BadHead h.0 (shape, array, next, s))
-served old new LogTooSmall h shape array next s left = absurd h
-served old new StampsUsedUp h shape array next s left =
-    let w = h.0 in
-    let one = StandsFor-one old.size old.size w.0 shape old.content w.1 array w.2 next w.3 s in
-    let same = one.1 in
-    let past = w.4 in
-    absurd (omega (arith, same, past, left))
-
 -- contents with a fault are never recovered
 pub faulty : (old new : State) (answer : Recovered) (fault : image.ImageFault) → image.HasFault old.size old.content fault → ¬ IsRecoveredFrom old new answer
 faulty old new answer fault h r = HasFault-stands old.size old.content fault h (shape_of answer.sizes, r.array, answer.next, r.stood)

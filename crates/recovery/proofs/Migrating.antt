@@ -5,8 +5,6 @@ use Rattle.std.proofs.lemmas.Bool.{cases_lt}
 use Rattle.medium.specs.Medium.{State, Image, CutLeaves, Holds, IsSound}
 use Rattle.medium.specs.Moments.{EachCut, IsFlushed, LeavesOnly, StaysWithin, SparesFrom}
 use Rattle.medium.specs.Blocks.{Array}
-use Rattle.medium.specs.declared.fault.MediumFault.{MediumFault}
-use Rattle.medium.specs.declared.fault.MediumFault.TheVariants.{Read, Write, Flush}
 use Rattle.medium.proofs.Moments.{weaker, joined_same, at_exit, only_image}
 use Rattle.medium.proofs.Sparing.{spared_behind, spared_joined}
 use Rattle.log_layout.specs.declared.log_format.LogFormat.{LogFormat}
@@ -20,10 +18,10 @@ use Rattle.log_image.specs.Standing.{IsOurs}
 use Rattle.log_image.specs.ImageFaults.{HasShape}
 use Rattle.log_image.proofs.Formats.{laws_of}
 use Rattle.log_image.proofs.StandingLaws.{StandsFor-one, StandsFor-shape}
-use Rattle.recovery.specs.Causes.{start_fault_of, IsRefusedCall, HasFewSlots}
+use Rattle.recovery.specs.Causes.{HasFewSlots}
 use Rattle.recovery.specs.Copies.{cleared_at, WithOrWithout, IsBetween, HasNewHead, AreTries, copy_calls, most_start_of}
 use Rattle.recovery.specs.Recovered.{IsRecoveredFrom, IsFresh, IsOursForSome, IsOursWithNext, StandsForOneOf, SparesTheRest}
-use Rattle.recovery.specs.Migrated.{CanMigrate, HasSmallLog, IsMadeTwo, IsMigratedFrom, IsMigrationCause, IsFreshInEither, IsOursInEither, StandsInEither, MigrationLeaves}
+use Rattle.recovery.specs.Migrated.{CanMigrate, HasSmallLog, IsMadeTwo, IsMigratedFrom, IsFreshInEither, IsOursInEither, StandsInEither, MigrationLeaves}
 use Rattle.recovery.specs.declared.recovered.Recovered.{Recovered}
 use Rattle.recovery.proofs.Carrying.{zeros_carry}
 use Rattle.recovery.proofs.Copying.{log_ends}
@@ -111,12 +109,6 @@ module _ (shape : Shape) (array : Array) (next : ℕ) (old cleared : State) (lea
             (subst (IsHead next) (sym (holds.elsewhere 1 (λ e. omega arith))) f.head)
             (λ x low high. holds.elsewhere x (λ e. omega (arith, low, e)) ∙ done x (before x) (cut x) ∙ zeros x low high)
             (λ b below. holds.elsewhere (first_home shape + b) (λ e. omega (arith, e, log_ends shape f.super.home_is)) ∙ f.home b below)
-
--- a device's refusal is one of both
-pub refused_later : (old mid new : State) (kind : MediumFault) → LeavesOnly (λ _. Unit {0}) old mid → IsRefusedCall mid new kind → IsMigrationCause old new (start_fault_of kind)
-refused_later old mid new Read moments h = let stays = moments.refused_stay Read in record { grew = omega (arith, moments.failures_stay, h.grew); kind_grew = omega (arith, stays, h.kind_grew) }
-refused_later old mid new Write moments h = let stays = moments.refused_stay Write in record { grew = omega (arith, moments.failures_stay, h.grew); kind_grew = omega (arith, stays, h.kind_grew) }
-refused_later old mid new Flush moments h = let stays = moments.refused_stay Flush in record { grew = omega (arith, moments.failures_stay, h.grew); kind_grew = omega (arith, stays, h.kind_grew) }
 
 -- what stands for one of the arrays does so in either format
 recovery_cuts : (old new : State) → LeavesOnly (StandsForOneOf old) old new → LeavesOnly (StandsInEither old) old new

@@ -1,5 +1,6 @@
 -- What a migration to format 2 answers, and what it leaves.
-use Rattle.std.specs.Prelude.{◌≡◌, ◌⊎◌, ℕ, ◌+◌, ◌*◌, ◌^◌, ◌<◌, ◌≤◌, length, min, replicate, Bool, true, false}
+use Rattle.std.specs.Prelude.{◌≡◌, ◌⊎◌, ℕ, ◌+◌, ◌*◌, ◌^◌, ◌<◌, ◌≤◌, length, min, replicate}
+use Rattle.std.specs.Prelude.{Bool, true, false}
 use Rattle.medium.specs.Medium.{State, Image, CutLeaves}
 use Rattle.medium.specs.Moments.{EachCut, IsFlushed, LeavesOnly, SparesFrom}
 use Rattle.medium.specs.Blocks.{Array}
@@ -10,7 +11,8 @@ use Rattle.log_layout.specs.Values.{shape_of}
 use Rattle.log_image.specs.Standing.{StandsFor, IsOurs}
 use Rattle.recovery.specs.Causes.{HasFewSlots, WritesNothing, IsRefusalBy}
 use Rattle.recovery.specs.Copies.{copy_calls, AreTries}
-use Rattle.recovery.specs.Recovered.{IsRecoveredFrom, IsFresh, IsOursForSome, IsOursWithNext, SparesTheRest}
+use Rattle.recovery.specs.Recovered.{IsRecoveredFrom, IsFresh, SparesTheRest}
+use Rattle.recovery.specs.Recovered.{IsOursForSome, IsOursWithNext}
 use Rattle.recovery.specs.declared.recovered.Recovered.{Recovered}
 use Rattle.recovery.specs.declared.start_fault.StartFault.{StartFault}
 

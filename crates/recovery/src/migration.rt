@@ -52,8 +52,8 @@ pub fn migrate<M: Medium>(m: &mut M) -> Result<(Recovered, bool), StartFault>
     }
 }
 
-// Makes what was recovered of format 1 an image of format 2. The log is wiped and flushed before the
-// super is of format 2, so that no old bytes are ever read as a record of it.
+// Makes what was recovered of format 1 an image of format 2. The log is wiped and flushed before
+// the super is of format 2, so that no old bytes are ever read as a record of it.
 fn make_two<M: Medium>(m: &mut M, found: &Recovered) -> Result<Recovered, MediumFault>
     requires can { CanMigrate (shape_of found.now.sizes) }
     requires fits { sectors_of (shape_of found.now.sizes) ≤ (M.state m.old).size }

@@ -1,5 +1,5 @@
-//! Images of 16 blocks and 5 slots of format 1 have 268 sectors, of which the first block is at home
-//! in sector 252.
+//! Images of 16 blocks and 5 slots of format 1 have 268 sectors, of which the first block is at
+//! home in sector 252.
 use super::*;
 use log_layout::{LogFormat, Super};
 use medium::{Kept, Medium, SimMedium, Switch};
