@@ -13,8 +13,12 @@ pub mod Numbered
 pub mod Readings
 pub mod Uniform
 pub mod InTurn
+pub mod WordWalks
 pub mod FormatWords
+pub mod PlayWords
 pub mod Acting
 pub mod ActingLines
 pub mod SeveralLives
 pub mod Readiness
+pub mod Within
+pub mod Refusals

@@ -18,15 +18,15 @@ use Rattle.runner.specs.declared.fault.ScriptError.{ScriptError as ErrorOf}
 use Rattle.runner.specs.declared.fault.ScriptFault.TheVariants.{Writer}
 use Rattle.runner.specs.Lines.{lines_of}
 use Rattle.runner.specs.Outcome.{IsRead, IsPlayed, IsRefused}
-use Rattle.runner.specs.Script.{Plays, IsLife, IsLeftBy, identification, started}
+use Rattle.runner.specs.Script.{Plays, IsLife, IsLeftBy, identification, device, started}
 use Rattle.runner.specs.Played.{Answers, Leaves, BreaksOffAt}
 use Rattle.runner.proofs.Runs.{answers_of}
 
 -- a disk that has started, and then played events, lived a life
-abbrev pub life : {M : Type 0} (before mid after : State) (old new : DiskValue M) (events : List Event) (answers : List Answer)
-    (refusals : List Bool) → IsOpened before mid identification old → StartLeaves before mid → Answers mid after old events answers refusals new
-    → IsLife before after events answers
-life before mid after old new events answers refusals opening leaves so = record {
+abbrev pub life : {M : Type 0} (most : ℕ) (before mid after : State) (old new : DiskValue M) (events : List Event) (answers : List Answer)
+    (refusals : List Bool) → IsOpened before mid (device most) old → StartLeaves before mid → Answers mid after old events answers refusals new
+    → IsLife most before after events answers
+life most before mid after old new events answers refusals opening leaves so = record {
   shape = layout_of old.unit.store.cached;
   array = opening.store.array;
   next = opening.store.next;
@@ -37,27 +37,27 @@ life before mid after old new events answers refusals opening leaves so = record
       let book = opened (blocks_of old.unit.store.cached) opening.store.array opening.store.next ours in
       let fits = opening.store.fits ours each in
       let ran = so.runs book fits in
-      let start : over old book ≡ started (unit_limit old.unit) book = ap₂ on_line opening.line (opening.unit book) in (
+      let start : over old book ≡ started most (unit_limit old.unit) book = ap₂ on_line opening.line (opening.unit book) in (
         over new ran.0,
         subst (λ (c : Conversation UnitState). UnitRun c events answers refusals (over new ran.0)) start ran.1,
         λ is_ours. between_calls after new.unit ran.0 ran.2 (ran.3 ∙ is_ours),
       );
 }
 
-module _ {M : Type 0} (state : M → State) (remaining was now : Option (List ℕ)) (medium : M) (script : List ℕ) (read : IsRead remaining script)
+module _ {M : Type 0} (state : M → State) (most : ℕ) (remaining was now : Option (List ℕ)) (medium : M) (script : List ℕ) (read : IsRead remaining script)
     (identity : Identification) (same : identity ≡ identification) (disk : DiskValue M)
-    (opening : IsOpened (state medium) (state disk.unit.store.medium) identity disk)
+    (opening : IsOpened (state medium) (state disk.unit.store.medium) (record { identity = identity; packet_size = most }) disk)
     (leaves : StartLeaves (state medium) (state disk.unit.store.medium)) where
   -- the disk played events
   abbrev lived : (events : List Event) (answers : List Answer) (refusals : List Bool) (new : DiskValue M) (after : M)
-      → StepsThrough state disk events answers refusals new → new.unit.store.medium ≡ after → IsLife (state medium) (state after) events answers
+      → StepsThrough state disk events answers refusals new → new.unit.store.medium ≡ after → IsLife most (state medium) (state after) events answers
   lived events answers refusals new after steps is =
       let at_end = subst (λ (m : M). Answers (state disk.unit.store.medium) (state m) disk events answers refusals new) is
       (answers_of state events answers refusals disk new steps) in
-      life (state medium) (state disk.unit.store.medium) (state after) disk new events answers refusals (rw same at opening) leaves at_end
+      life most (state medium) (state disk.unit.store.medium) (state after) disk new events answers refusals (rw same at opening) leaves at_end
 
   left : (events : List Event) (answers : List Answer) (refusals : List Bool) (new : DiskValue M) (after : M)
-      → StepsThrough state disk events answers refusals new → new.unit.store.medium ≡ after → IsLeftBy state medium events answers refusals after
+      → StepsThrough state disk events answers refusals new → new.unit.store.medium ≡ after → IsLeftBy state most medium events answers refusals after
   left events answers refusals new after steps is = record {
     first = disk;
     opens = rw same at opening;
@@ -69,8 +69,8 @@ module _ {M : Type 0} (state : M → State) (remaining was now : Option (List �
 
   -- a script that was played whole
   pub is_played : (after : M)
-      → (events : List Event) × (text : List ℕ) × Plays (lines_of script) events × Leaves state disk events text after × Appends was now text
-      → IsPlayed state remaining was now medium after
+      → (events : List Event) × (text : List ℕ) × Plays most (lines_of script) events × Leaves state disk events text after × Appends was now text
+      → IsPlayed state most remaining was now medium after
   is_played after so = record {
     script = script;
     read = read;
@@ -83,8 +83,8 @@ module _ {M : Type 0} (state : M → State) (remaining was now : Option (List �
   }
 
   -- a script whose writer failed
-  pub is_cut_short : (error : ErrorOf M) → (error.fault ≡ Writer) × BreaksOffAt state was now disk (lines_of script) error.medium
-      → IsRefused state remaining was now medium error.fault error.medium
+  pub is_cut_short : (error : ErrorOf M) → (error.fault ≡ Writer) × BreaksOffAt state was now disk most (lines_of script) error.medium
+      → IsRefused state most remaining was now medium error.fault error.medium
   is_cut_short error (fault, so) =
       let breaks = so.breaks in
       let events = (so.first ++ so.part) ++ so.event ∷ [] in

@@ -5,8 +5,8 @@ use Rattle.hex.proofs.HexLemmas.{decode_of-ok, decode_sized-twice}
 use Rattle.runner.specs.Line.{SpellsPacket}
 
 -- the digits that spell a packet are two for each byte
-pub length-digits : {digits packet : List ℕ} → SpellsPacket digits packet → length digits ≡ 2 * length packet
-length-digits {digits} {packet} spelled = (decode_of-ok digits packet spelled.decoded).2
+pub length-digits : {most : ℕ} {digits packet : List ℕ} → SpellsPacket most digits packet → length digits ≡ 2 * length packet
+length-digits {most} {digits} {packet} spelled = (decode_of-ok digits packet spelled.decoded).2
 
 -- digits for so many bytes are decoded into as many
 pub sized : (digits bytes : List ℕ) (count : ℕ) → decode_of digits ≡ Ok bytes → length bytes ≡ count → decode_sized digits count ≡ Ok bytes

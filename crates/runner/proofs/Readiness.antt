@@ -13,7 +13,7 @@ use Rattle.medium.proofs.Moments.{only_image, content_has}
 use Rattle.log_layout.specs.Places.{limit_of}
 use Rattle.recovery.specs.Formatted.{Shape, IsFormatted}
 use Rattle.bot_machine.specs.Books.{Book, opened, StandsAs}
-use Rattle.bot_machine.specs.Identification.{Identification}
+use Rattle.bot_machine.specs.Device.{Device}
 use Rattle.bot_machine.specs.Rules.{UnitState, CarriesOut, Ticks, Sense}
 use Rattle.bot_machine.specs.Starting.{IsOursForSome}
 use Rattle.bot_machine.specs.declared.event.Event.{Event}
@@ -154,18 +154,18 @@ record IsFrom (book : Book) (place : Place) : Type 0 where
   first : IsFirst book place
   ours : (book_at place).ours ≡ book.ours
 
-module _ (identity : Identification) (book : Book) where
+module _ (device : Device) (book : Book) where
   -- power goes
   from_off : (refused : Bool) (old new : Standing) (remains : Remains) → PowerGoes refused remains old new → remains.book.ours ≡ book.ours → IsFrom book new.place
   from_off refused old new remains goes ours = subst (λ (s : Standing). IsFrom book s.place) (sym goes.after) (record { first = tt; ours = ours })
 
-  from_begun : (refused : Bool) (old new : Standing) (begins : LifeBegins identity refused old new) → begins.book.ours ≡ book.ours → IsFrom book new.place
+  from_begun : (refused : Bool) (old new : Standing) (begins : LifeBegins device refused old new) → begins.book.ours ≡ book.ours → IsFrom book new.place
   from_begun refused old new begins ours = ⊎_elim
       (λ is. subst (λ (s : Standing). IsFrom book s.place) (sym is) (record { first = tt; ours = ours }))
       (λ goes. from_off refused old new _ goes ours) begins.begins
 
   from_start : (refused : Bool) (place : Place) (armed : Bool) (limit : ℕ) (new : Standing) (told : List Answer) → IsFrom book place
-      → LivesStep identity refused (record { place = place; armed = armed; limit = limit }) starts told new → IsFrom book new.place
+      → LivesStep device refused (record { place = place; armed = armed; limit = limit }) starts told new → IsFrom book new.place
   from_start refused (before_first other) armed limit new told from h =
       from_begun refused _ new h.1 (ap (λ (b : Book). b.ours) h.1.opens ∙ from.ours)
   from_start refused (between remains) armed limit new told from h =
@@ -174,7 +174,7 @@ module _ (identity : Identification) (book : Book) where
   from_start refused (off remains) armed limit new told from h = subst (λ (s : Standing). IsFrom book s.place) (sym h.1) from
 
   from_event : (refused : Bool) (place : Place) (armed : Bool) (limit : ℕ) (new : Standing) (happens : Event) (told : List Answer) → IsFrom book place
-      → LivesStep identity refused (record { place = place; armed = armed; limit = limit }) (plays happens) told new → IsFrom book new.place
+      → LivesStep device refused (record { place = place; armed = armed; limit = limit }) (plays happens) told new → IsFrom book new.place
   from_event refused (before_first other) armed limit new happens told from h = absurd h.2
   from_event refused (between remains) armed limit new happens told from h = absurd h.2
   from_event refused (runs conversation) armed limit new happens told from h = ⊎_elim
@@ -190,14 +190,14 @@ module _ (identity : Identification) (book : Book) where
   from_cut (off remains) from = record { first = tt; ours = from.ours }
 
   from_step : (refused : Bool) (old new : Standing) (action : Action) (told : List Answer) → IsFrom book old.place
-      → LivesStep identity refused old action told new → IsFrom book new.place
+      → LivesStep device refused old action told new → IsFrom book new.place
   from_step refused old new (arms writes) told from h = subst (λ (s : Standing). IsFrom book s.place) (sym h.1) from
   from_step refused old new starts told from h = from_start refused old.place old.armed old.limit new told from h
   from_step refused old new (plays happens) told from h = from_event refused old.place old.armed old.limit new happens told from h
   from_step refused old new (cuts keep) told from h = subst (λ (s : Standing). IsFrom book s.place) (sym h.1) (from_cut old.place from)
 
   from_run : (actions : List Action) (old new : Standing) (told : List Answer) (refusals : List Bool) → IsFrom book old.place
-      → LivesRun identity old actions told refusals new → IsFrom book new.place
+      → LivesRun device old actions told refusals new → IsFrom book new.place
   from_run [] old new told [] from run = subst (λ (s : Standing). IsFrom book s.place) (sym run.1) from
   from_run (action ∷ actions) old new told (refused ∷ refusals) from run =
       from_run actions run.0 new run.2 refusals (from_step refused old run.0 action run.1 from run.4) run.5
@@ -218,38 +218,38 @@ cut_between (runs conversation) = tt
 cut_between (off remains) = tt
 
 -- the second part of a run
-record RunsOn (identity : Identification) (actions : List Action) (new : Standing) : Type 0 where
+record RunsOn (device : Device) (actions : List Action) (new : Standing) : Type 0 where
   mid : Standing
   told : List Answer
   refusals : List Bool
-  run : LivesRun identity mid actions told refusals new
+  run : LivesRun device mid actions told refusals new
 
-runs_on : (identity : Identification) (first rest : List Action) (old new : Standing) (told : List Answer) (refusals : List Bool)
-    → LivesRun identity old (first ++ rest) told refusals new → RunsOn identity rest new
-runs_on identity [] rest old new told refusals run = record { mid = old; told = told; refusals = refusals; run = run }
-runs_on identity (action ∷ first) rest old new told (refused ∷ refusals) run = runs_on identity first rest run.0 new run.2 refusals run.5
-runs_on identity (action ∷ first) rest old new told [] run = absurd run
+runs_on : (device : Device) (first rest : List Action) (old new : Standing) (told : List Answer) (refusals : List Bool)
+    → LivesRun device old (first ++ rest) told refusals new → RunsOn device rest new
+runs_on device [] rest old new told refusals run = record { mid = old; told = told; refusals = refusals; run = run }
+runs_on device (action ∷ first) rest old new told (refused ∷ refusals) run = runs_on device first rest run.0 new run.2 refusals run.5
+runs_on device (action ∷ first) rest old new told [] run = absurd run
 
 -- behind a cut no disk runs
-behind_cut : (identity : Identification) (keep : ℕ → Bool) (rest : List Action) (old new : Standing) (told : List Answer) (refusals : List Bool)
-    → LivesRun identity old (cuts keep ∷ rest) told refusals new
-    → (mid : Standing) × (more : List Answer) × (others : List Bool) × IsBetween mid.place × LivesRun identity mid rest more others new
-behind_cut identity keep rest old new told (refused ∷ refusals) run =
+behind_cut : (device : Device) (keep : ℕ → Bool) (rest : List Action) (old new : Standing) (told : List Answer) (refusals : List Bool)
+    → LivesRun device old (cuts keep ∷ rest) told refusals new
+    → (mid : Standing) × (more : List Answer) × (others : List Bool) × IsBetween mid.place × LivesRun device mid rest more others new
+behind_cut device keep rest old new told (refused ∷ refusals) run =
     (run.0, run.2, refusals, subst (λ (s : Standing). IsBetween s.place) (sym run.4.1) (cut_between old.place), run.5)
-behind_cut identity keep rest old new told [] run = absurd run
+behind_cut device keep rest old new told [] run = absurd run
 
-all_between : (identity : Identification) (lives : List Life) (old new : Standing) (told : List Answer) (refusals : List Bool) → IsBetween old.place
-    → LivesRun identity old (actions_of_all lives) told refusals new → IsBetween new.place
-all_between identity [] old new told [] rests run = subst (λ (s : Standing). IsBetween s.place) (sym run.1) rests
-all_between identity [] old new told (refused ∷ refusals) rests run = absurd run
-all_between identity (life ∷ lives) old new told refusals rests run =
+all_between : (device : Device) (lives : List Life) (old new : Standing) (told : List Answer) (refusals : List Bool) → IsBetween old.place
+    → LivesRun device old (actions_of_all lives) told refusals new → IsBetween new.place
+all_between device [] old new told [] rests run = subst (λ (s : Standing). IsBetween s.place) (sym run.1) rests
+all_between device [] old new told (refused ∷ refusals) rests run = absurd run
+all_between device (life ∷ lives) old new told refusals rests run =
     let before : List Action = armed_by life.fuse ++ starts ∷ map plays life.events.items in
     let cut : Action = cuts (keeps life.kept) in
-    let whole : LivesRun identity old (before ++ (cut ∷ actions_of_all lives)) told refusals new =
-    subst (λ (l : List Action). LivesRun identity old l told refusals new) (append_assoc before (cut ∷ []) (actions_of_all lives)) run in
-    let last = runs_on identity before (cut ∷ actions_of_all lives) old new told refusals whole in
-    let b = behind_cut identity (keeps life.kept) (actions_of_all lives) last.mid new last.told last.refusals last.run in
-    all_between identity lives b.0 new b.1 b.2 b.3 b.4
+    let whole : LivesRun device old (before ++ (cut ∷ actions_of_all lives)) told refusals new =
+    subst (λ (l : List Action). LivesRun device old l told refusals new) (append_assoc before (cut ∷ []) (actions_of_all lives)) run in
+    let last = runs_on device before (cut ∷ actions_of_all lives) old new told refusals whole in
+    let b = behind_cut device (keeps life.kept) (actions_of_all lives) last.mid new last.told last.refusals last.run in
+    all_between device lives b.0 new b.1 b.2 b.3 b.4
 
 -- a life opens where no disk runs
 opens_next : (m : Sim) (book : Book) (place : Place) → m.unflushed ≡ [] → book ≡ opened book.blocks book.opening book.stamp book.ours → book.ours ≡ true
@@ -273,11 +273,11 @@ opens_next m book (runs conversation) none is ours from rests found = absurd res
 opens_next m book (off remains) none is ours from rests found = absurd rests
 
 pub lives_are_ready : LivesAreReady
-lives_are_ready = λ before after identity lives told lived limit book opens has ours.
+lives_are_ready = λ before after device lives told lived limit book opens has ours.
     let ends = lived.ends limit book opens has in
     let first : Standing = first_standing limit book in
-    let from = from_run identity book (actions_of_all lives) first ends.last told lived.refusals (record { first = refl; ours = refl }) ends.run in
-    let rests = all_between identity lives first ends.last told lived.refusals tt ends.run in
+    let from = from_run device book (actions_of_all lives) first ends.last told lived.refusals (record { first = refl; ours = refl }) ends.run in
+    let rests = all_between device lives first ends.last told lived.refusals tt ends.run in
     let next = opens_next after book ends.last.place lived.rests.flushed opens.opens ours from rests (ends.found ours) in (
       next.0,
       record {

@@ -118,6 +118,19 @@ module _ {M : Type 0} where
     answers_of (event ∷ events) [] (refused ∷ refusals) old new steps = absurd steps
     answers_of (event ∷ events) (answer ∷ answers) [] old new steps = absurd steps
 
+    -- the size of packets stays
+    pub packets_stay : (events : List Event) (answers : List Answer) (refusals : List Bool) (old new : DiskValue M)
+        → StepsThrough state old events answers refusals new → new.line.packet_size ≡ old.line.packet_size
+    packets_stay [] [] [] old new steps = ap (λ (d : DiskValue M). d.line.packet_size) steps
+    packets_stay (event ∷ events) (answer ∷ answers) (refused ∷ refusals) old new steps =
+        packets_stay events answers refusals steps.0 new steps.2 ∙ steps.1.0.packets_stay
+    packets_stay [] [] (refused ∷ refusals) old new steps = absurd steps
+    packets_stay [] (answer ∷ answers) [] old new steps = absurd steps
+    packets_stay [] (answer ∷ answers) (refused ∷ refusals) old new steps = absurd steps
+    packets_stay (event ∷ events) [] [] old new steps = absurd steps
+    packets_stay (event ∷ events) [] (refused ∷ refusals) old new steps = absurd steps
+    packets_stay (event ∷ events) (answer ∷ answers) [] old new steps = absurd steps
+
     one_each : (events : List Event) (answers : List Answer) (refusals : List Bool) (old new : DiskValue M)
         → StepsThrough state old events answers refusals new → length answers ≡ length events
     one_each events answers refusals old new steps = (answers_of events answers refusals old new steps).one_each

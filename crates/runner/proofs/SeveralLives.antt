@@ -3,6 +3,7 @@ use Rattle.std.proofs.Common.{◌≡◌, ℕ, ◌+◌, ◌≤◌, Bool, false, L
 use Rattle.medium.specs.Sim.{Sim, state_of}
 use Rattle.bot_machine.specs.StartFaults.{StartFault}
 use Rattle.bot_machine.specs.StartFaults as start
+use Rattle.bot_machine.specs.Device.{Device}
 use Rattle.bot_machine.specs.Identification.{Identification}
 use Rattle.bot_machine.specs.Books.{Book}
 use Rattle.bot_machine.specs.declared.event.Answer.{Answer}
@@ -22,20 +23,20 @@ use Rattle.std.specs.Io.KnownBytes.{IsAtEnd}
 use Rattle.runner.specs.Outcome.{IsRead, HasTaken}
 use Rattle.runner.specs.OutcomeOfLives.{ArePlayed, AreRefused}
 use Rattle.runner.specs.PlayedLives.{Acted, EndsBy, PlaysAll, PlaysUpTo}
-use Rattle.runner.specs.Script.{StopsAt, identification}
+use Rattle.runner.specs.Script.{StopsAt, identification, device}
 
 -- no life has been yet
-abbrev first_over : Sim → LivesValue
-first_over medium = record { identity = identification; stage = Rests medium }
+abbrev first_over : ℕ → Sim → LivesValue
+first_over most medium = record { device = device most; stage = Rests medium }
 
 -- where nothing is done, nothing moves, and lives stand where they stood
-not_moved : (identity : Identification) (refusals : List Bool) (old new : Stage) → MovesBy identity old [] [] refusals new → new ≡ old
-not_moved identity [] old new moves = moves.1
-not_moved identity (refused ∷ refusals) old new moves = absurd moves
+not_moved : (disk : Device) (refusals : List Bool) (old new : Stage) → MovesBy disk old [] [] refusals new → new ≡ old
+not_moved disk [] old new moves = moves.1
+not_moved disk (refused ∷ refusals) old new moves = absurd moves
 
-stays : (identity : Identification) (refusals : List Bool) (old new : Standing) → LivesRun identity old [] [] refusals new → new ≡ old
-stays identity [] old new run = run.1
-stays identity (refused ∷ refusals) old new run = absurd run
+stays : (disk : Device) (refusals : List Bool) (old new : Standing) → LivesRun disk old [] [] refusals new → new ≡ old
+stays disk [] old new run = run.1
+stays disk (refused ∷ refusals) old new run = absurd run
 
 -- what is a cause where more refusals are counted before is one where fewer are
 may_refuse : (book : Book) (fewer counted failures : ℕ) (fault : StartFault) → fewer ≤ counted
@@ -51,11 +52,11 @@ may_refuse book fewer counted failures start.BadHead le h = h
 may_refuse book fewer counted failures start.StampsUsedUp le h = h
 may_refuse book fewer counted failures start.LogTooSmall le h = h
 
-module _ (medium : Sim) (rest : IsAtRest medium) (unfused : medium.power.fuse ≡ None)
+module _ (most : ℕ) (medium : Sim) (rest : IsAtRest medium) (unfused : medium.power.fuse ≡ None)
     (fits : (limit : ℕ) (book : Book) → OpensOn (state_of medium) book → HasLimit (state_of medium).size limit (state_of medium).content
-    → FitsLives (first_over medium) (first_standing limit book)) where
-  are_lives : (actions : List Action) (answers : List Answer) (new : LivesValue) → Acted (first_over medium) actions answers new
-      → AreLives medium (medium_in new.stage) actions answers
+    → FitsLives (first_over most medium) (first_standing limit book)) where
+  are_lives : (actions : List Action) (answers : List Answer) (new : LivesValue) → Acted (first_over most medium) actions answers new
+      → AreLives most medium (medium_in new.stage) actions answers
   are_lives actions answers new acted = record {
     fits = acted.fits false (λ _. (unfused, rest.on));
     stage = new.stage;
@@ -67,20 +68,20 @@ module _ (medium : Sim) (rest : IsAtRest medium) (unfused : medium.power.fuse �
   }
     where
       ends : (limit : ℕ) (book : Book) → OpensOn (state_of medium) book → HasLimit (state_of medium).size limit (state_of medium).content
-          → EndsIn identification limit book actions answers acted.goes_on.refusals (medium_in new.stage)
+          → EndsIn (device most) limit book actions answers acted.goes_on.refusals (medium_in new.stage)
       ends limit book opens has =
           let g = acted.goes_on.goes (first_standing limit book) (fits limit book opens has) in
           record {
             last = g.there;
-            run = subst (λ (i : Identification). LivesRun i (first_standing limit book) actions answers acted.goes_on.refusals g.there) acted.goes_on.identity_stays g.run;
+            run = subst (λ (i : Device). LivesRun i (first_standing limit book) actions answers acted.goes_on.refusals g.there) acted.goes_on.device_stays g.run;
             limited = λ ours. subst (λ (n : ℕ). LeavesLimit n new.stage) (g.limit_stays ours) (g.fits.limited (g.ours ∙ ours));
             found = λ ours. g.fits.found (g.ours ∙ ours);
           }
 
-  stops : (actions : List Action) (answers : List Answer) (mid new : LivesValue) (fault : StartFault) (acted : Acted (first_over medium) actions answers mid)
+  stops : (actions : List Action) (answers : List Answer) (mid new : LivesValue) (fault : StartFault) (acted : Acted (first_over most medium) actions answers mid)
       (refused : IsRefused mid fault new) (limit : ℕ) (book : Book) → OpensOn (state_of medium) book
       → HasLimit (state_of medium).size limit (state_of medium).content
-      → StopsIn identification limit book actions answers acted.goes_on.refusals
+      → StopsIn (device most) limit book actions answers acted.goes_on.refusals
       (refused_events acted.goes_on.refusals + (state_of medium).failures) fault (medium_in new.stage)
   stops actions answers mid new fault acted refused limit book opens has =
       let on = acted.goes_on in
@@ -89,22 +90,22 @@ module _ (medium : Sim) (rest : IsAtRest medium) (unfused : medium.power.fuse �
       let fewer = on.refused in
       record {
         last = g.there;
-        run = subst (λ (i : Identification). LivesRun i (first_standing limit book) actions answers on.refusals g.there) on.identity_stays g.run;
+        run = subst (λ (i : Device). LivesRun i (first_standing limit book) actions answers on.refusals g.there) on.device_stays g.run;
         limited = λ ours. subst (λ (n : ℕ). LeavesLimit n new.stage) (g.limit_stays ours) (l.limited (l.ours ∙ g.ours ∙ ours));
         next = l.book;
-        opens = subst (λ (s : Standing). Opens s.place l.book) (stays new.identity refused.stops.refusals g.there l.there l.run) l.opens;
+        opens = subst (λ (s : Standing). Opens s.place l.book) (stays new.device refused.stops.refusals g.there l.there l.run) l.opens;
         cause = λ ours. may_refuse l.book (refused_events on.refusals + (state_of medium).failures)
             (refused_events refused.stops.refusals + (state_of (medium_in mid.stage)).failures) (state_of (medium_in new.stage)).failures fault
             (omega (arith, fewer)) (l.cause (l.ours ∙ g.ours ∙ ours));
         found = λ ours. l.found (l.ours ∙ g.ours ∙ ours);
       }
 
-  are_stopped : (actions : List Action) (answers : List Answer) (mid new : LivesValue) (fault : StartFault) → Acted (first_over medium) actions answers mid
-      → IsRefused mid fault new → AreStopped medium (medium_in new.stage) actions answers fault
+  are_stopped : (actions : List Action) (answers : List Answer) (mid new : LivesValue) (fault : StartFault) → Acted (first_over most medium) actions answers mid
+      → IsRefused mid fault new → AreStopped most medium (medium_in new.stage) actions answers fault
   unfolding are_lives
   are_stopped actions answers mid new fault acted refused =
       let stop = refused.stops in
-      let same = not_moved mid.identity stop.refusals mid.stage (Rests stop.at) stop.moves in
+      let same = not_moved mid.device stop.refusals mid.stage (Rests stop.at) stop.moves in
       let first = acted.goes_on.refused in
       let then = stop.refused in
       record {
@@ -117,27 +118,27 @@ module _ (medium : Sim) (rest : IsAtRest medium) (unfused : medium.power.fuse �
       }
 
   module _ (left was now : Option (List ℕ)) (script : List ℕ) (read : IsRead left script) where
-    are_played : (after : Sim) → PlaysAll was now (first_over medium) (lines_of script) after → ArePlayed left was now medium after
+    are_played : (after : Sim) → PlaysAll was now (first_over most medium) most (lines_of script) after → ArePlayed most left was now medium after
     are_played after all = record {
       script = script;
       read = read;
       actions = all.actions;
       acts = all.acts;
       answers = all.tells.answers;
-      lives = subst (λ (m : Sim). AreLives medium m all.actions all.tells.answers) all.left
+      lives = subst (λ (m : Sim). AreLives most medium m all.actions all.tells.answers) all.left
           (are_lives all.actions all.tells.answers all.new all.tells.acted);
       written = all.tells.written;
     }
 
     ended : (first part : List Action) (last : Action) (answers : List Answer) (new : LivesValue) (fault : ScriptFault)
-        → StopsAt LineActs (lines_of script) first part last
-        → EndsBy was now (first_over medium) (first ++ part) answers last new fault → AreRefused left was now medium fault (medium_in new.stage)
+        → StopsAt (LineActs most) (lines_of script) first part last
+        → EndsBy was now (first_over most medium) (first ++ part) answers last new fault → AreRefused most left was now medium fault (medium_in new.stage)
     ended first part last answers new (Start fault) stops ends = record {
       script = script;
       read = read;
       first = first;
       part = part;
-      stops = subst (λ (a : Action). StopsAt LineActs (lines_of script) first part a) ends.is stops;
+      stops = subst (λ (a : Action). StopsAt (LineActs most) (lines_of script) first part a) ends.is stops;
       answers = answers;
       stopped = are_stopped (first ++ part) answers ends.mid new fault ends.acted ends.refused;
       written = ends.written;
@@ -148,7 +149,7 @@ module _ (medium : Sim) (rest : IsAtRest medium) (unfused : medium.power.fuse �
       first = first;
       part = part;
       event = ends.event;
-      stops = subst (λ (a : Action). StopsAt LineActs (lines_of script) first part a) ends.is stops;
+      stops = subst (λ (a : Action). StopsAt (LineActs most) (lines_of script) first part a) ends.is stops;
       answers = answers;
       answer = ends.answer;
       lives = are_lives ((first ++ part) ++ plays ends.event ∷ []) (answers ++ ends.answer ∷ []) new ends.acted;
@@ -159,39 +160,39 @@ module _ (medium : Sim) (rest : IsAtRest medium) (unfused : medium.power.fuse �
     ended first part last answers new NoMemory stops ends = absurd ends
     ended first part last answers new Reader stops ends = absurd ends
 
-    are_refused : (fault : ScriptFault) (back : Sim) → PlaysUpTo was now (first_over medium) (lines_of script) fault back
-        → AreRefused left was now medium fault back
+    are_refused : (fault : ScriptFault) (back : Sim) → PlaysUpTo was now (first_over most medium) most (lines_of script) fault back
+        → AreRefused most left was now medium fault back
     are_refused fault back up_to =
-        subst (λ (m : Sim). AreRefused left was now medium fault m) up_to.left
+        subst (λ (m : Sim). AreRefused most left was now medium fault m) up_to.left
         (ended up_to.first up_to.part up_to.last up_to.answers up_to.new fault up_to.stops up_to.ends)
 
-module _ (medium : Sim) (rest : IsAtRest medium) (unfused : medium.power.fuse ≡ None) (identity : Identification) (is : identity ≡ identification)
-    (lives : LivesValue) (value : lives ≡ record { identity = identity; stage = Rests medium })
+module _ (most : ℕ) (medium : Sim) (rest : IsAtRest medium) (unfused : medium.power.fuse ≡ None) (identity : Identification) (is : identity ≡ identification)
+    (lives : LivesValue) (value : lives ≡ record { device = record { identity = identity; packet_size = most }; stage = Rests medium })
     (opens : (limit : ℕ) (book : Book) → IsAtRest medium → medium.power.fuse ≡ None → OpensOn (state_of medium) book
     → HasLimit (state_of medium).size limit (state_of medium).content → FitsLives lives (first_standing limit book))
     (left was now : Option (List ℕ)) (script : List ℕ) (read : IsRead left script) where
-  same : lives ≡ first_over medium
+  same : lives ≡ first_over most medium
   same = rw is at value
 
   fits : (limit : ℕ) (book : Book) → OpensOn (state_of medium) book → HasLimit (state_of medium).size limit (state_of medium).content
-      → FitsLives (first_over medium) (first_standing limit book)
+      → FitsLives (first_over most medium) (first_standing limit book)
   fits limit book on has = subst (λ (l : LivesValue). FitsLives l (first_standing limit book)) same (opens limit book rest unfused on has)
 
   -- a script that was played whole
-  pub is_played : (after : Sim) → PlaysAll was now lives (lines_of script) after → ArePlayed left was now medium after
-  is_played after all = are_played medium rest unfused fits left was now script read after
-      (subst (λ (l : LivesValue). PlaysAll was now l (lines_of script) after) same all)
+  pub is_played : (after : Sim) → PlaysAll was now lives most (lines_of script) after → ArePlayed most left was now medium after
+  is_played after all = are_played most medium rest unfused fits left was now script read after
+      (subst (λ (l : LivesValue). PlaysAll was now l most (lines_of script) after) same all)
 
   -- a script that was played up to a fault
-  pub is_refused : (error : ErrorOf Sim) → PlaysUpTo was now lives (lines_of script) error.fault error.medium
-      → AreRefused left was now medium error.fault error.medium
-  is_refused error up_to = are_refused medium rest unfused fits left was now script read error.fault error.medium
-      (subst (λ (l : LivesValue). PlaysUpTo was now l (lines_of script) error.fault error.medium) same up_to)
+  pub is_refused : (error : ErrorOf Sim) → PlaysUpTo was now lives most (lines_of script) error.fault error.medium
+      → AreRefused most left was now medium error.fault error.medium
+  is_refused error up_to = are_refused most medium rest unfused fits left was now script read error.fault error.medium
+      (subst (λ (l : LivesValue). PlaysUpTo was now l most (lines_of script) error.fault error.medium) same up_to)
 
 -- a script that was played up to a fault was read to its end
-pub taken_up_to : (was now : Option (List ℕ)) (lives : LivesValue) (lines : List (List ℕ)) (error : ErrorOf Sim) (all rest : Option (List ℕ))
-    → PlaysUpTo was now lives lines error.fault error.medium → IsAtEnd rest → HasTaken error.fault all rest
-taken_up_to was now lives lines error all rest up_to ended =
+pub taken_up_to : (most : ℕ) (was now : Option (List ℕ)) (lives : LivesValue) (lines : List (List ℕ)) (error : ErrorOf Sim) (all rest : Option (List ℕ))
+    → PlaysUpTo was now lives most lines error.fault error.medium → IsAtEnd rest → HasTaken error.fault all rest
+taken_up_to most was now lives lines error all rest up_to ended =
     by_fault error.fault (up_to.first ++ up_to.part) up_to.answers up_to.last up_to.new up_to.ends
   where
     by_fault : (fault : ScriptFault) (actions : List Action) (answers : List Answer) (last : Action) (new : LivesValue)

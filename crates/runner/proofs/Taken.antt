@@ -1,5 +1,7 @@
 -- The parser takes the words of the command line.
-use Rattle.runner.proofs.FormatWords.{IsPlain, sizes_pass, format_passes}
+use Rattle.runner.proofs.WordWalks.{IsPlain}
+use Rattle.runner.proofs.FormatWords.{sizes_pass, format_passes}
+use Rattle.runner.proofs.PlayWords.{files_pass, packet_passes}
 use Rattle.std.proofs.Common.{inl, inr, ap, ◌≡◌, ◌<◌, ℕ, List, [], ◌∷◌, true, false, None, ◌^◌, ◌∙◌, codes, slice_index, sym, refl, arith}
 use Rattle.std.specs.Prelude.{◌⊎◌, ◌&&◌, Bool, is_some, Result, Ok, Err, IsErrAnd, IfErr}
 use Rattle.std.specs.Str.{bytes_eq}
@@ -18,8 +20,10 @@ use Rattle.runner.specs.declared.refusal.Refusal.TheVariants as refused
 use Rattle.runner.specs.Status.{refusal_of_kind}
 use Rattle.log_layout.specs.declared.log_format.LogFormat.{LogFormat}
 use Rattle.log_layout.specs.declared.log_format.LogFormat.TheVariants.{One, Two}
-use Rattle.runner.specs.Task.{IsFileWord, IsSizeWord, IsEnding, IsCommandLine, format_word}
-use Rattle.runner.specs.Parser.{usbdisk_app, format_app}
+use Rattle.bot_machine.specs.declared.packet_size.PacketSize.{PacketSize}
+use Rattle.bot_machine.specs.declared.packet_size.PacketSize.TheVariants.{Full64, High512}
+use Rattle.runner.specs.Task.{IsFileWord, IsSizeWord, IsFormatEnding, IsPacketEnding, IsCommandLine, format_word, packet_word}
+use Rattle.runner.specs.Parser.{usbdisk_app, format_app, script_app}
 use Rattle.runner.proofs.Numerals.{decimal-no_hyphen}
 
 -- a word for a file has no first hyphen to strip
@@ -40,12 +44,10 @@ not_hyphens (byte ∷ rest) is_file =
       | inr other ↦ grind (arith, nat_tests, other)
     ]
 
-takes_script : (verb image script : List ℕ) → (verb ≡ codes "run") ⊎ (verb ≡ codes "sim") → strip_byte 45 image ≡ None → strip_byte 45 script ≡ None
-    → bytes_eq image (codes "--") ≡ false → bytes_eq script (codes "--") ≡ false
-    → takes usbdisk_app (verb ∷ image ∷ script ∷ []) ≡ true
+takes_migrate : (image : List ℕ) → strip_byte 45 image ≡ None → bytes_eq image (codes "--") ≡ false
+    → takes usbdisk_app (codes "migrate" ∷ image ∷ []) ≡ true
 unfolding clap_on_literals
-takes_script verb image script (inl is) a b c d = rw is (simp (a, b, c, d))
-takes_script verb image script (inr is) a b c d = rw is (simp (a, b, c, d))
+takes_migrate image a b = simp (a, b)
 
 both : (x y z : Bool) → x ≡ true → y ≡ true → z ≡ true → (x && (y && z)) ≡ true
 both x y z a b c = simp (a, b, c)
@@ -69,13 +71,67 @@ to_format a b c d e f g passes =
     let stop = (walk app.top.rules (names_of app) nothing_held words).stopped in
     both (is_simple usbdisk_app) (entered_passes app stop) (level_passes app.top (names_of app) nothing_held words (is_some (entered app stop))) refl passes refl
 
+-- the words behind `run` and `sim` go to a parser of their own, without a packet's size and with one
+to_run : (a b : List ℕ) → level_passes (built_leaf (script_app (codes "run")).top) [] nothing_held (a ∷ b ∷ []) false ≡ true
+    → takes usbdisk_app (codes "run" ∷ a ∷ b ∷ []) ≡ true
+unfolding clap_on_literals
+to_run a b passes =
+    let words = codes "run" ∷ a ∷ b ∷ [] in
+    let app = built usbdisk_app in
+    let stop = (walk app.top.rules (names_of app) nothing_held words).stopped in
+    both (is_simple usbdisk_app) (entered_passes app stop) (level_passes app.top (names_of app) nothing_held words (is_some (entered app stop))) refl passes refl
+
+to_sized_run : (a b c d : List ℕ) → level_passes (built_leaf (script_app (codes "run")).top) [] nothing_held (a ∷ b ∷ c ∷ d ∷ []) false ≡ true
+    → takes usbdisk_app (codes "run" ∷ a ∷ b ∷ c ∷ d ∷ []) ≡ true
+unfolding clap_on_literals
+to_sized_run a b c d passes =
+    let words = codes "run" ∷ a ∷ b ∷ c ∷ d ∷ [] in
+    let app = built usbdisk_app in
+    let stop = (walk app.top.rules (names_of app) nothing_held words).stopped in
+    both (is_simple usbdisk_app) (entered_passes app stop) (level_passes app.top (names_of app) nothing_held words (is_some (entered app stop))) refl passes refl
+
+to_sim : (a b : List ℕ) → level_passes (built_leaf (script_app (codes "sim")).top) [] nothing_held (a ∷ b ∷ []) false ≡ true
+    → takes usbdisk_app (codes "sim" ∷ a ∷ b ∷ []) ≡ true
+unfolding clap_on_literals
+to_sim a b passes =
+    let words = codes "sim" ∷ a ∷ b ∷ [] in
+    let app = built usbdisk_app in
+    let stop = (walk app.top.rules (names_of app) nothing_held words).stopped in
+    both (is_simple usbdisk_app) (entered_passes app stop) (level_passes app.top (names_of app) nothing_held words (is_some (entered app stop))) refl passes refl
+
+to_sized_sim : (a b c d : List ℕ) → level_passes (built_leaf (script_app (codes "sim")).top) [] nothing_held (a ∷ b ∷ c ∷ d ∷ []) false ≡ true
+    → takes usbdisk_app (codes "sim" ∷ a ∷ b ∷ c ∷ d ∷ []) ≡ true
+unfolding clap_on_literals
+to_sized_sim a b c d passes =
+    let words = codes "sim" ∷ a ∷ b ∷ c ∷ d ∷ [] in
+    let app = built usbdisk_app in
+    let stop = (walk app.top.rules (names_of app) nothing_held words).stopped in
+    both (is_simple usbdisk_app) (entered_passes app stop) (level_passes app.top (names_of app) nothing_held words (is_some (entered app stop))) refl passes refl
+
+-- the bytes of a packet begin with no hyphen
+plain_bytes : (size : PacketSize) → IsPlain (packet_word size)
+plain_bytes Full64 = record { stripped = refl; other = refl }
+plain_bytes High512 = record { stripped = refl; other = refl }
+
+takes_run : (image script : List ℕ) (ending : List (List ℕ)) (size : PacketSize) → IsPlain image → IsPlain script → IsPacketEnding ending size
+    → takes usbdisk_app (codes "run" ∷ image ∷ script ∷ ending) ≡ true
+takes_run image script ending size a b (inl is) =
+    rw is (to_sized_run image script (codes "--packet") (packet_word size) (packet_passes (codes "run") image script (packet_word size) a b (plain_bytes size)))
+takes_run image script ending size a b (inr is) = rw is.0 (to_run image script (files_pass (codes "run") image script a b))
+
+takes_sim : (image script : List ℕ) (ending : List (List ℕ)) (size : PacketSize) → IsPlain image → IsPlain script → IsPacketEnding ending size
+    → takes usbdisk_app (codes "sim" ∷ image ∷ script ∷ ending) ≡ true
+takes_sim image script ending size a b (inl is) =
+    rw is (to_sized_sim image script (codes "--packet") (packet_word size) (packet_passes (codes "sim") image script (packet_word size) a b (plain_bytes size)))
+takes_sim image script ending size a b (inr is) = rw is.0 (to_sim image script (files_pass (codes "sim") image script a b))
+
 -- the number of a format begins with no hyphen
 plain_number : (format : LogFormat) → IsPlain (format_word format)
 plain_number One = record { stripped = refl; other = refl }
 plain_number Two = record { stripped = refl; other = refl }
 
 takes_format : (image blocks slots : List ℕ) (ending : List (List ℕ)) (format : LogFormat) → IsPlain image → IsPlain blocks → IsPlain slots
-    → IsEnding ending format
+    → IsFormatEnding ending format
     → takes usbdisk_app (codes "format" ∷ image ∷ codes "--blocks" ∷ blocks ∷ codes "--slots" ∷ slots ∷ ending) ≡ true
 takes_format image blocks slots ending format a b c (inl is) =
     rw is (to_format image (codes "--blocks") blocks (codes "--slots") slots (codes "--format") (format_word format)
@@ -98,12 +154,12 @@ takes_line words (inl (image, format, blocks, slots, are)) =
     let s = digits_word are.slots_word slots are.slots_are in
     rw are.words_are (takes_format image are.blocks_word are.slots_word are.ending format (plain image are.image_word) (plain are.blocks_word b)
     (plain are.slots_word s) are.format_is)
-takes_line words (inr (inl (image, script, are))) =
-    rw are.words_are (takes_script (codes "run") image script (inl refl) (no_hyphen image are.image_word) (no_hyphen script are.script_word)
-    (not_hyphens image are.image_word) (not_hyphens script are.script_word))
-takes_line words (inr (inr (image, script, are))) =
-    rw are.words_are (takes_script (codes "sim") image script (inr refl) (no_hyphen image are.image_word) (no_hyphen script are.script_word)
-    (not_hyphens image are.image_word) (not_hyphens script are.script_word))
+takes_line words (inr (inl (image, are))) =
+    rw are.words_are (takes_migrate image (no_hyphen image are.image_word) (not_hyphens image are.image_word))
+takes_line words (inr (inr (inl (size, (image, script, are))))) =
+    rw are.words_are (takes_run image script are.ending size (plain image are.image_word) (plain script are.script_word) are.size_is)
+takes_line words (inr (inr (inr (size, (image, script, are))))) =
+    rw are.words_are (takes_sim image script are.ending size (plain image are.image_word) (plain script are.script_word) are.size_is)
 
 -- what a parser refuses is none of a command's words, or it had no memory
 pub refused-by : (words : List (List ℕ)) (kind : ErrorKind) (refusal : Refusal) → refusal ≡ refusal_of_kind kind

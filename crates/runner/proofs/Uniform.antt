@@ -3,33 +3,44 @@ use Rattle.std.proofs.Common.{◌≡◌, ◌∙◌, ◌<◌, ◌+◌, ◌-◌, �
 use Rattle.std.specs.Prelude.{replicate}
 use Rattle.std.proofs.lemmas.Bool.{cases_lt}
 use Rattle.std.proofs.lemmas.List.{length-replicate, take-replicate, drop-replicate, take_all}
+use Rattle.bot_machine.specs.PacketBytes.{bytes_of}
 use Rattle.bot_machine.specs.Packets.{packets_of, cut_into}
+use Rattle.bot_machine.specs.declared.packet_size.PacketSize.{PacketSize}
+use Rattle.bot_machine.specs.declared.packet_size.PacketSize.TheVariants.{Full64, High512}
 
-packets_by : (count byte : ℕ) → packets_of (replicate count byte) ≡ cut_into ((count + 511) / 512) (replicate count byte)
+packets_by : (most count byte : ℕ) → packets_of most (replicate count byte) ≡ cut_into most ((count + (most - 1)) / most) (replicate count byte)
 unfolding packets_of
-packets_by count byte = ap (λ n. cut_into ((n + 511) / 512) (replicate count byte)) (length-replicate count byte)
+packets_by most count byte = ap (λ n. cut_into most ((n + (most - 1)) / most) (replicate count byte)) (length-replicate count byte)
 
-pub packets-none : (byte : ℕ) → packets_of (replicate 0 byte) ≡ []
-packets-none byte = packets_by 0 byte
+pub packets-none : (size : PacketSize) (byte : ℕ) → packets_of (bytes_of size) (replicate 0 byte) ≡ []
+packets-none Full64 byte = packets_by 64 0 byte
+packets-none High512 byte = packets_by 512 0 byte
 
-first_packet : (count byte size : ℕ) → size ≡ min count 512 → take 512 (replicate count byte) ≡ replicate size byte
-first_packet count byte size is =
-    elim (cases_lt count 512) [
+first_packet : (most count byte taken : ℕ) → taken ≡ min count most → take most (replicate count byte) ≡ replicate taken byte
+first_packet most count byte taken is =
+    elim (cases_lt count most) [
       | inr long ↦
-          let same : 512 ≡ size = omega (arith, is) in
-          take-replicate 512 count byte long ∙ ap (λ n. replicate n byte) same
+          let same : most ≡ taken = omega (arith, is, long) in
+          take-replicate most count byte long ∙ ap (λ n. replicate n byte) same
       | inl short ↦
-          let same : count ≡ size = omega (arith, is) in
-          take_all 512 (replicate count byte) (omega (arith, length-replicate count byte)) ∙ ap (λ n. replicate n byte) same
+          let same : count ≡ taken = omega (arith, is, short) in
+          take_all most (replicate count byte) (omega (arith, short, length-replicate count byte)) ∙ ap (λ n. replicate n byte) same
     ]
 
+-- one packet is due more than for the bytes behind the first
+one_more : (size : PacketSize) (count taken : ℕ) → 0 < count → taken ≡ min count (bytes_of size)
+    → (count + (bytes_of size - 1)) / bytes_of size ≡ suc ((count - taken + (bytes_of size - 1)) / bytes_of size)
+one_more Full64 count taken some is = omega (arith, some, is)
+one_more High512 count taken some is = omega (arith, some, is)
+
 -- the first packet, and those of the bytes that are left
-pub packets-more : (count byte size : ℕ) → 0 < count → size ≡ min count 512
-    → packets_of (replicate count byte) ≡ replicate size byte ∷ packets_of (replicate (count - size) byte)
-packets-more count byte size some is =
-    let turns : (count + 511) / 512 ≡ suc ((count - size + 511) / 512) = omega (arith, is) in
-    let left : count - 512 ≡ count - size = omega (arith, is) in
-    packets_by count byte
-    ∙ ap (λ n. cut_into n (replicate count byte)) turns
-    ∙ ap₂ (λ (first : List ℕ) (rest : List (List ℕ)). first ∷ rest) (first_packet count byte size is)
-    (ap (λ xs. cut_into ((count - size + 511) / 512) xs) (drop-replicate 512 count byte ∙ ap (λ n. replicate n byte) left) ∙ sym (packets_by (count - size) byte))
+pub packets-more : (size : PacketSize) (count byte taken : ℕ) → 0 < count → taken ≡ min count (bytes_of size)
+    → packets_of (bytes_of size) (replicate count byte) ≡ replicate taken byte ∷ packets_of (bytes_of size) (replicate (count - taken) byte)
+packets-more size count byte taken some is =
+    let most = bytes_of size in
+    let left : count - most ≡ count - taken = omega (arith, is) in
+    packets_by most count byte
+    ∙ ap (λ n. cut_into most n (replicate count byte)) (one_more size count taken some is)
+    ∙ ap₂ (λ (first : List ℕ) (rest : List (List ℕ)). first ∷ rest) (first_packet most count byte taken is)
+    (ap (λ xs. cut_into most ((count - taken + (most - 1)) / most) xs) (drop-replicate most count byte ∙ ap (λ n. replicate n byte) left)
+    ∙ sym (packets_by most (count - taken) byte))

@@ -2,6 +2,7 @@
 use Rattle.std.specs.Prelude.{ℕ, List, [], ◌∷◌, map, replicate}
 use Rattle.bot_machine.specs.declared.event.Event.{Event}
 use Rattle.bot_machine.specs.declared.event.Event.TheVariants as event
+use Rattle.bot_machine.specs.PacketBytes.{bytes_of}
 use Rattle.bot_machine.specs.Packets.{packets_of}
 use Rattle.runner.specs.declared.line.ScriptLine.{ScriptLine}
 use Rattle.runner.specs.declared.line.ScriptLine.TheVariants.{Skipped, Out, Fill, In, Setup, Tick}
@@ -15,7 +16,8 @@ packet_out packet = event.Out (record { items = packet })
 abbrev pub events_of : ScriptLine → List Event
 events_of Skipped = []
 events_of (Out packet) = event.Out packet ∷ []
-events_of (Fill byte count) = map packet_out (packets_of (replicate count byte))
+events_of (Fill byte count size) =
+    map packet_out (packets_of (bytes_of size) (replicate count byte))
 events_of In = event.In ∷ []
 events_of (Setup packet) = event.Setup packet ∷ []
 events_of (Tick count) = replicate count event.Tick

@@ -5,7 +5,7 @@ use Rattle.medium.specs.Sim.{Sim, state_of, IsCut}
 use Rattle.log_layout.specs.Places.{limit_of}
 use Rattle.recovery.specs.Formatted.{Shape, IsFormatted}
 use Rattle.bot_machine.specs.Books.{Book, opened}
-use Rattle.bot_machine.specs.Identification.{Identification}
+use Rattle.bot_machine.specs.Device.{Device}
 use Rattle.bot_machine.specs.declared.event.Answer.{Answer}
 use Rattle.bot_machine.specs.declared.life.Life.{Life}
 use Rattle.bot_machine.specs.Lives.{Opens}
@@ -33,8 +33,8 @@ FormatIsReady = (shape : Shape) (made cut : Sim) (keeps : ℕ → Bool)
 -- Lives that began over a medium where every image was ours leave one over which a life opens
 -- again: with the same limit, and a book with which a life may open where they have left off.
 abbrev pub LivesAreReady : Type 0
-LivesAreReady = (before after : Sim) (identity : Identification) (lives : List Life)
-    (told : List Answer) (lived : AreLived before identity lives told after)
+LivesAreReady = (before after : Sim) (device : Device) (lives : List Life)
+    (told : List Answer) (lived : AreLived before device lives told after)
     (limit : ℕ) (book : Book) (opens : OpensOn (state_of before) book)
     (has : HasLimit (state_of before).size limit (state_of before).content) → book.ours ≡ true
     → (next : Book) × IsReadyFor after limit next

@@ -22,7 +22,7 @@ use Rattle.runner.specs.declared.line.ScriptLine.TheVariants.{Skipped, Out, Fill
 use Rattle.runner.specs.declared.line.ScriptLine.TheVariants.{Fuse, Cut}
 use Rattle.runner.specs.Line.{Spells}
 use Rattle.runner.specs.Events.{events_of}
-use Rattle.runner.specs.Script.{InTurn, identification}
+use Rattle.runner.specs.Script.{InTurn, device}
 use Rattle.runner.specs.Text.{line_for}
 
 -- whether the write of this number is kept
@@ -41,20 +41,20 @@ actions_of (Fuse writes) = arms writes ∷ []
 actions_of (Cut kept) = cuts (is_kept kept) ∷ []
 actions_of Skipped = []
 actions_of (Out packet) = flat_map comes (events_of (Out packet))
-actions_of (Fill byte count) = flat_map comes (events_of (Fill byte count))
+actions_of (Fill byte count size) = flat_map comes (events_of (Fill byte count size))
 actions_of In = flat_map comes (events_of In)
 actions_of (Setup packet) = flat_map comes (events_of (Setup packet))
 actions_of (Tick count) = flat_map comes (events_of (Tick count))
 
--- the line does this, in a script of several lives
-pub record LineActs (line : List ℕ) (actions : List Action) : Type 0 where
+-- the line does this, in a script of several lives, where packets have at most so many bytes
+pub record LineActs (most : ℕ) (line : List ℕ) (actions : List Action) : Type 0 where
   pub asked : ScriptLine
-  pub spelled : Spells line asked
+  pub spelled : Spells most line asked
   pub actions_are : actions ≡ actions_of asked
 
 -- the lines of a script of several lives do this
-abbrev pub Acts : List (List ℕ) → List Action → Type 0
-Acts lines actions = InTurn LineActs lines actions
+abbrev pub Acts : ℕ → List (List ℕ) → List Action → Type 0
+Acts most lines actions = InTurn (LineActs most) lines actions
 
 -- the lines of the events among these actions and of their answers, one after another
 abbrev pub text_of_lives : List Action → List Answer → List ℕ
@@ -85,35 +85,36 @@ fused_after fused (starts ∷ actions) = fused_after fused actions
 fused_after fused (cuts keeps ∷ actions) = fused_after false actions
 fused_after fused (plays event ∷ actions) = fused_after fused actions
 
--- Lives of a disk over a medium in memory, and the answers. The actions move the disk and its
--- medium one after another, and leave this medium: a fuse and a cut do exactly what they say, an
--- event is one step of the disk, and each step in the background is one. The truth values say in
--- which of them the medium refused a call. For each book with which a first life opens over the
--- contents they are a run of lives; a cut afterwards leaves what may be found.
-pub record AreLives (before after : Sim) (actions : List Action) (answers : List Answer)
-    : Type 0 where
+-- Lives of a disk with packets of at most so many bytes, over a medium in memory, and the answers.
+-- The actions move the disk and its medium one after another, and leave this medium: a fuse and a
+-- cut do exactly what they say, an event is one step of the disk, and each step in the background
+-- is one. The truth values say in which of them the medium refused a call. For each book with which
+-- a first life opens over the contents they are a run of lives; a cut afterwards leaves what may be
+-- found.
+pub record AreLives (most : ℕ) (before after : Sim) (actions : List Action)
+    (answers : List Answer) : Type 0 where
   pub fits : AnswersFit false actions answers
   pub stage : Stage
   pub refusals : List Bool
-  pub moves : MovesBy identification (Rests before) actions answers refusals stage
+  pub moves : MovesBy (device most) (Rests before) actions answers refusals stage
   pub left : medium_in stage ≡ after
   pub refused : refused_events refusals + (state_of before).failures ≤ (state_of after).failures
   pub ends : (limit : ℕ) (book : Book) → OpensOn (state_of before) book
       → HasLimit (state_of before).size limit (state_of before).content
-      → EndsIn identification limit book actions answers refusals after
+      → EndsIn (device most) limit book actions answers refusals after
 
 -- Lives of a disk, and then, where no disk ran, a start that was refused with this fault, though
 -- power did not go in it. For each book with which a first life opens it was refused for a cause,
 -- and a cut afterwards leaves what may be found.
-pub record AreStopped (before after : Sim) (actions : List Action) (answers : List Answer)
-    (fault : StartFault) : Type 0 where
+pub record AreStopped (most : ℕ) (before after : Sim) (actions : List Action)
+    (answers : List Answer) (fault : StartFault) : Type 0 where
   pub mid : Sim
-  pub lives : AreLives before mid actions answers
+  pub lives : AreLives most before mid actions answers
   pub rests : lives.stage ≡ Rests mid
   pub start : IsRefusedStart mid fault after
   pub counted : refused_events lives.refusals + (state_of before).failures
       ≤ (state_of after).failures
   pub stops : (limit : ℕ) (book : Book) → OpensOn (state_of before) book
       → HasLimit (state_of before).size limit (state_of before).content
-      → StopsIn identification limit book actions answers lives.refusals
+      → StopsIn (device most) limit book actions answers lives.refusals
       (refused_events lives.refusals + (state_of before).failures) fault after

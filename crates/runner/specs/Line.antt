@@ -1,7 +1,8 @@
--- What one line of a script asks for.
+-- What one line of a script asks for. `most` is the most bytes of a packet.
 use Rattle.std.specs.Prelude.{◌≡◌, ◌⊎◌, ◌<◌, ◌≤◌, ℕ, List, [], ◌∷◌, ◌++◌, All, length, map, codes}
 use Rattle.std.specs.Prelude.{decimal, Ok}
 use Rattle.hex.specs.Hex.{decode_of}
+use Rattle.bot_machine.specs.PacketBytes.{bytes_of}
 use Rattle.runner.specs.declared.line.ScriptLine.{ScriptLine}
 use Rattle.runner.specs.declared.line.ScriptLine.TheVariants.{Skipped, Out, Fill, In, Setup, Tick}
 use Rattle.runner.specs.declared.line.ScriptLine.TheVariants.{Fuse, Cut}
@@ -16,16 +17,16 @@ use Rattle.runner.specs.Numbers.{SpellsNumber}
 abbrev pub IsSkipped : List ℕ → Type 0
 IsSkipped line = (line ≡ []) ⊎ ((comment : List ℕ) × (line ≡ codes "#" ++ comment))
 
--- hex digits of either case for a packet of 1 to 512 bytes
-pub record SpellsPacket (digits packet : List ℕ) : Type 0 where
+-- hex digits of either case for a packet of 1 to so many bytes
+pub record SpellsPacket (most : ℕ) (digits packet : List ℕ) : Type 0 where
   pub decoded : decode_of digits ≡ Ok packet
   pub some : 0 < length packet
-  pub fits : length packet ≤ 512
+  pub fits : length packet ≤ most
 
 -- a packet to Bulk-Out: `out` alone is an empty one
-abbrev pub SpellsOut : List ℕ → List ℕ → Type 0
-SpellsOut line packet = ((line ≡ codes "out") × (packet ≡ []))
-    ⊎ ((digits : List ℕ) × (line ≡ codes "out " ++ digits) × SpellsPacket digits packet)
+abbrev pub SpellsOut : ℕ → List ℕ → List ℕ → Type 0
+SpellsOut most line packet = ((line ≡ codes "out") × (packet ≡ []))
+    ⊎ ((digits : List ℕ) × (line ≡ codes "out " ++ digits) × SpellsPacket most digits packet)
 
 -- one byte in hex digits, and how many of it, 1 to 131,072
 pub record SpellsFill (line : List ℕ) (byte count : ℕ) : Type 0 where
@@ -61,16 +62,16 @@ SpellsCut line kept.All = line ≡ codes "cut all"
 SpellsCut line (kept.These numbers) = (text : List ℕ) × (line ≡ codes "cut " ++ text)
     × SpellsNumbers text numbers.items
 
--- the line spells what it asks for
-abbrev pub Spells : List ℕ → ScriptLine → Type 0
-Spells line Skipped = IsSkipped line
-Spells line (Out packet) = SpellsOut line packet.items
-Spells line (Fill byte count) = SpellsFill line byte count
-Spells line In = line ≡ codes "in"
-Spells line (Setup packet) = SpellsSetup line packet
-Spells line (Tick count) = SpellsCount (codes "tick ") 1 1000000 line count
-Spells line (Fuse writes) = SpellsCount (codes "fuse ") 0 1000000000 line writes
-Spells line (Cut kept) = SpellsCut line kept
+-- the line spells what it asks for, where packets have at most so many bytes
+abbrev pub Spells : ℕ → List ℕ → ScriptLine → Type 0
+Spells most line Skipped = IsSkipped line
+Spells most line (Out packet) = SpellsOut most line packet.items
+Spells most line (Fill byte count size) = SpellsFill line byte count × (bytes_of size ≡ most)
+Spells most line In = line ≡ codes "in"
+Spells most line (Setup packet) = SpellsSetup line packet
+Spells most line (Tick count) = SpellsCount (codes "tick ") 1 1000000 line count
+Spells most line (Fuse writes) = SpellsCount (codes "fuse ") 0 1000000000 line writes
+Spells most line (Cut kept) = SpellsCut line kept
 
 -- a script of one life has no line that moves the power
 abbrev pub Allows : ScriptKind → ScriptLine → Type 0
@@ -80,5 +81,5 @@ Allows OneLife asked = Unit {0}
 Allows Lives asked = Unit {0}
 
 -- the line is one of such a script
-abbrev pub IsScriptLine : ScriptKind → List ℕ → Type 0
-IsScriptLine kind line = (asked : ScriptLine) × Spells line asked × Allows kind asked
+abbrev pub IsScriptLine : ScriptKind → ℕ → List ℕ → Type 0
+IsScriptLine kind most line = (asked : ScriptLine) × Spells most line asked × Allows kind asked

@@ -34,10 +34,11 @@ pub record IsUntouched {M : Type 0} (medium back : M) (was now : Option (List �
   pub kept : Keeps was now
 
 -- the script has a line that is none of its kind, and this is the number of the first
-pub record HasBadLine (kind : ScriptKind) (left : Option (List ℕ)) (number : ℕ) : Type 0 where
+pub record HasBadLine (kind : ScriptKind) (most : ℕ) (left : Option (List ℕ)) (number : ℕ)
+    : Type 0 where
   pub script : List ℕ
   pub read : IsRead left script
-  pub bad : IsFirstBadLine kind number (lines_of script)
+  pub bad : IsFirstBadLine kind most number (lines_of script)
 
 -- How much of the script was taken from its reader, where it was refused: a first part where it was
 -- not read to its end, and else all of it.
@@ -49,25 +50,25 @@ HasTaken NoMemory was now = IsReadSoFar read.NoMemory script_limit was now
 HasTaken Reader was now = IsReadSoFar read.Reader script_limit was now
 HasTaken Writer was now = IsAtEnd now
 
-module _ {M : Type 0} (state : M → State) (left : Option (List ℕ)) (was now : Option (List ℕ))
-    (medium : M) where
+module _ {M : Type 0} (state : M → State) (most : ℕ) (left : Option (List ℕ))
+    (was now : Option (List ℕ)) (medium : M) where
   -- the script was played whole: exactly the text of the answers in a life of its events was
   -- appended
   pub record IsPlayed (after : M) : Type 0 where
     pub script : List ℕ
     pub read : IsRead left script
     pub events : List Event
-    pub plays : Plays (lines_of script) events
+    pub plays : Plays most (lines_of script) events
     pub answers : List Answer
-    pub life : IsLife (state medium) (state after) events answers
-    pub left_by : IsLeftBy state medium events answers life.refusals after
+    pub life : IsLife most (state medium) (state after) events answers
+    pub left_by : IsLeftBy state most medium events answers life.refusals after
     pub written : Appends was now (text_of events answers)
 
   -- each line is one of a script, and no disk has started on the medium
   pub record IsNotStarted (fault : StartFault) (back : M) : Type 0 where
     pub script : List ℕ
     pub read : IsRead left script
-    pub good : All (IsScriptLine OneLife) (lines_of script)
+    pub good : All (IsScriptLine OneLife most) (lines_of script)
     pub refused : IsNotOpened (state medium) (state back) fault
     pub leaves : StartLeaves (state medium) (state back)
     pub kept : Keeps was now
@@ -81,18 +82,19 @@ module _ {M : Type 0} (state : M → State) (left : Option (List ℕ)) (was now 
     pub first : List Event
     pub part : List Event
     pub event : Event
-    pub stops : StopsAt LinePlays (lines_of script) first part event
+    pub stops : StopsAt (LinePlays most) (lines_of script) first part event
     pub answers : List Answer
     pub answer : Answer
-    pub life : IsLife (state medium) (state back) (first ++ part ++ event ∷ [])
+    pub life : IsLife most (state medium) (state back) (first ++ part ++ event ∷ [])
         (answers ++ answer ∷ [])
-    pub left_by : IsLeftBy state medium (first ++ part ++ event ∷ [])
+    pub left_by : IsLeftBy state most medium (first ++ part ++ event ∷ [])
         (answers ++ answer ∷ []) life.refusals back
     pub written : AppendsUpTo was now (text_of (first ++ part) answers) (line_for event answer)
 
   -- why a script was refused, and what was written then
   abbrev pub IsRefused : ScriptFault → M → Type 0
-  IsRefused (Line number) back = IsUntouched medium back was now × HasBadLine OneLife left number
+  IsRefused (Line number) back = IsUntouched medium back was now
+      × HasBadLine OneLife most left number
   IsRefused TooLong back = IsUntouched medium back was now
       × IfSome left (λ all. script_limit < length all)
   IsRefused (Start fault) back = IsNotStarted fault back

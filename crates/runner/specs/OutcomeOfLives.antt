@@ -17,16 +17,16 @@ use Rattle.runner.specs.Script.{StopsAt}
 use Rattle.runner.specs.Streams.{AppendsUpTo}
 use Rattle.runner.specs.Text.{line_for}
 
-module _ (left was now : Option (List ℕ)) (medium : Sim) where
+module _ (most : ℕ) (left was now : Option (List ℕ)) (medium : Sim) where
   -- the script was played whole: exactly the text of the answers in lives of its actions was
   -- appended
   pub record ArePlayed (after : Sim) : Type 0 where
     pub script : List ℕ
     pub read : IsRead left script
     pub actions : List Action
-    pub acts : Acts (lines_of script) actions
+    pub acts : Acts most (lines_of script) actions
     pub answers : List Answer
-    pub lives : AreLives medium after actions answers
+    pub lives : AreLives most medium after actions answers
     pub written : Appends was now (text_of_lives actions answers)
 
   -- a start that a line of the script came to was refused: the text of the lives before it was
@@ -36,9 +36,9 @@ module _ (left was now : Option (List ℕ)) (medium : Sim) where
     pub read : IsRead left script
     pub first : List Action
     pub part : List Action
-    pub stops : StopsAt LineActs (lines_of script) first part starts
+    pub stops : StopsAt (LineActs most) (lines_of script) first part starts
     pub answers : List Answer
-    pub stopped : AreStopped medium back (first ++ part) answers fault
+    pub stopped : AreStopped most medium back (first ++ part) answers fault
     pub written : Appends was now (text_of_lives (first ++ part) answers)
 
   -- The writer failed at one line of the script: the lines before it acted and their answers were
@@ -50,16 +50,18 @@ module _ (left was now : Option (List ℕ)) (medium : Sim) where
     pub first : List Action
     pub part : List Action
     pub event : Event
-    pub stops : StopsAt LineActs (lines_of script) first part (plays event)
+    pub stops : StopsAt (LineActs most) (lines_of script) first part (plays event)
     pub answers : List Answer
     pub answer : Answer
-    pub lives : AreLives medium back (first ++ part ++ plays event ∷ []) (answers ++ answer ∷ [])
+    pub lives : AreLives most medium back (first ++ part ++ plays event ∷ [])
+        (answers ++ answer ∷ [])
     pub written : AppendsUpTo was now (text_of_lives (first ++ part) answers)
         (line_for event answer)
 
   -- why a script was refused, and what was written then
   abbrev pub AreRefused : ScriptFault → Sim → Type 0
-  AreRefused (Line number) back = IsUntouched medium back was now × HasBadLine Lives left number
+  AreRefused (Line number) back = IsUntouched medium back was now
+      × HasBadLine Lives most left number
   AreRefused TooLong back = IsUntouched medium back was now
       × IfSome left (λ all. script_limit < length all)
   AreRefused (Start fault) back = AreRefusedAStart fault back

@@ -20,10 +20,14 @@ format_app =
     (word_rule (codes "IMAGE"))) (option_rule (codes "blocks"))) (option_rule (codes "slots")))
     (free_option_rule (codes "format"))
 
+abbrev pub migrate_app : App
+migrate_app = with_rule (new_app (codes "migrate")) (word_rule (codes "IMAGE"))
+
 -- `run` or `sim`
 abbrev pub script_app : List ℕ → App
 script_app verb =
-    with_rule (with_rule (new_app verb) (word_rule (codes "IMAGE"))) (word_rule (codes "SCRIPT"))
+    with_rule (with_rule (with_rule (new_app verb) (word_rule (codes "IMAGE")))
+    (word_rule (codes "SCRIPT"))) (free_option_rule (codes "packet"))
 
 -- the program with no subcommand yet
 abbrev pub bare_app : App
@@ -34,5 +38,5 @@ bare_app = record (new_app (codes "usbdisk")) {
 
 abbrev pub usbdisk_app : App
 usbdisk_app =
-    with_subcommand (with_subcommand (with_subcommand bare_app format_app.top)
-    (script_app (codes "run")).top) (script_app (codes "sim")).top
+    with_subcommand (with_subcommand (with_subcommand (with_subcommand bare_app format_app.top)
+    migrate_app.top) (script_app (codes "run")).top) (script_app (codes "sim")).top

@@ -20,7 +20,7 @@ pub record Answers {M : Type 0} (before after : State) (old : DiskValue M) (even
   pub size_stays : after.size ≡ before.size
   pub runs : (book : Book) → FitsDisk before old book
       → (later : Book) × UnitRun (over old book) events answers refusals (over new later)
-          × FitsDisk after new later
+      × FitsDisk after new later
       × (later.ours ≡ book.ours)
 
 -- it played them step by step, with answers of this text
@@ -52,11 +52,11 @@ pub record BreaksOff {M : Type 0} (state : M → State) (was now : Option (List 
 
 -- it did at one of these lines, and left this medium
 pub record BreaksOffAt {M : Type 0} (state : M → State) (was now : Option (List ℕ))
-    (old : DiskValue M) (lines : List (List ℕ)) (after : M) : Type 0 where
+    (old : DiskValue M) (most : ℕ) (lines : List (List ℕ)) (after : M) : Type 0 where
   pub first : List Event
   pub part : List Event
   pub event : Event
-  pub stops : StopsAt LinePlays lines first part event
+  pub stops : StopsAt (LinePlays most) lines first part event
   pub new : DiskValue M
   pub breaks : BreaksOff state was now old (first ++ part) event new
   pub medium : new.unit.store.medium ≡ after

@@ -73,19 +73,20 @@ module _ (was now : Option (List ℕ)) (old : LivesValue) where
     pub ends : EndsBy first answers last new fault
 
   -- the lines of a script were played whole, and left this medium
-  pub record PlaysAll (lines : List (List ℕ)) (after : Sim) : Type 0 where
+  pub record PlaysAll (most : ℕ) (lines : List (List ℕ)) (after : Sim) : Type 0 where
     pub actions : List Action
-    pub acts : Acts lines actions
+    pub acts : Acts most lines actions
     pub new : LivesValue
     pub tells : TellsLives actions new
     pub left : medium_in new.stage ≡ after
 
   -- they were played until a fault, at one of them, which left this medium
-  pub record PlaysUpTo (lines : List (List ℕ)) (fault : ScriptFault) (back : Sim) : Type 0 where
+  pub record PlaysUpTo (most : ℕ) (lines : List (List ℕ)) (fault : ScriptFault) (back : Sim)
+      : Type 0 where
     pub first : List Action
     pub part : List Action
     pub last : Action
-    pub stops : StopsAt LineActs lines first part last
+    pub stops : StopsAt (LineActs most) lines first part last
     pub new : LivesValue
     pub answers : List Answer
     pub ends : EndsBy (first ++ part) answers last new fault

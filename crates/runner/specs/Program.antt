@@ -1,5 +1,5 @@
 -- What the program's commands do.
-use Rattle.std.specs.Prelude.{◌≡◌, ◌⊎◌, ◌*◌, ℕ, List, [], length, codes, Option}
+use Rattle.std.specs.Prelude.{◌≡◌, ◌⊎◌, ◌*◌, ℕ, Bool, true, false, List, [], length, codes, Option}
 use Rattle.std.specs.Io.KnownBytes.{Appends, Keeps}
 use Rattle.medium.specs.ImageFile as file
 use Rattle.medium.specs.ImageFile.{Copied, IsImage, fresh}
@@ -9,14 +9,19 @@ use Rattle.medium.specs.Tally.{none}
 use Rattle.log_layout.specs.declared.log_format.LogFormat.{LogFormat}
 use Rattle.log_layout.specs.Places.{new_shape, sectors_of}
 use Rattle.recovery.specs.Formatted.{AreSizes, IsFormatted}
+use Rattle.recovery.specs.Migrated.{IsMigrationBy, IsMigrationCause}
+use Rattle.recovery.specs.declared.recovered.Recovered.{Recovered}
+use Rattle.bot_machine.specs.PacketBytes.{bytes_of}
+use Rattle.bot_machine.specs.StartFaults.{StartFault}
+use Rattle.bot_machine.specs.declared.packet_size.PacketSize.{PacketSize}
 use Rattle.runner.specs.declared.fault.ScriptFault.{ScriptFault}
 use Rattle.runner.specs.declared.refusal.Refusal.{Refusal}
 use Rattle.runner.specs.declared.refusal.Refusal.TheVariants as refused
 use Rattle.runner.specs.Outcome.{IsPlayed, IsRefused}
 use Rattle.runner.specs.OutcomeOfLives.{ArePlayed, AreRefused}
-use Rattle.runner.specs.Status.{refusal_of_fault}
+use Rattle.runner.specs.Status.{refusal_of_fault, refusal_of_start}
 use Rattle.runner.specs.Streams.{AppendsSome}
-use Rattle.runner.specs.Task.{AreFormatWords, IsScriptCommand, IsCommandLine}
+use Rattle.runner.specs.Task.{AreFormatWords, IsMigrateLine, IsScriptCommand, IsCommandLine}
 use Rattle.runner.specs.Text.{ended}
 
 -- so many blocks and log slots of this format make an image of at most 65,536 sectors
@@ -48,6 +53,21 @@ abbrev pub IsUnread : Refusal → Type 0
 IsUnread refusal = (refusal ≡ refused.ImageLength)
     ⊎ ((refusal ≡ refused.File) ⊎ (refusal ≡ refused.NoMemory))
 
+-- what is told of an image file that is of format 2 now: whether it was of format 1
+abbrev pub migration_text : Bool → List ℕ
+migration_text true = ended (codes "migrated")
+migration_text false = ended (codes "already format 2")
+
+-- An image file was opened and brought to format 2. The truth value says that it was of format 1;
+-- else it was recovered.
+pub record IsBroughtToTwo (was_one : Bool) : Type 0 where
+  pub opened : Copied
+  pub is_fresh : opened ≡ fresh opened.bytes
+  pub is_image : IsImage opened.bytes
+  pub after : Copied
+  pub answer : Recovered
+  pub migrated : IsMigrationBy was_one (file.state_of opened) (file.state_of after) answer
+
 module _ (was now : Option (List ℕ)) where
   -- an image file of this format and these sizes was made, and exactly this was appended
   pub record IsFormat (format : LogFormat) (blocks slots : ℕ) : Type 0 where
@@ -55,30 +75,39 @@ module _ (was now : Option (List ℕ)) where
     pub is_made : IsMade format blocks slots made
     pub written : Appends was now (ended (codes "formatted"))
 
-  -- exactly the text of a life of some script's events on some image file was appended
-  pub record IsRun : Type 0 where
+  -- some image file is of format 2 now, and exactly what is told of it was appended
+  pub record IsMigration : Type 0 where
+    pub was_one : Bool
+    pub brought : IsBroughtToTwo was_one
+    pub written : Appends was now (migration_text was_one)
+
+  -- exactly the text of a life of some script's events on some image file was appended, with
+  -- packets of at most so many bytes
+  pub record IsRun (most : ℕ) : Type 0 where
     pub opened : Copied
     pub is_fresh : opened ≡ fresh opened.bytes
     pub is_image : IsImage opened.bytes
     pub left : Option (List ℕ)
     pub after : Copied
-    pub played : IsPlayed file.state_of left was now opened after
+    pub played : IsPlayed file.state_of most left was now opened after
 
-  -- exactly the text of lives by some script's lines over a copy of some image was appended
-  pub record IsSim : Type 0 where
+  -- exactly the text of lives by some script's lines over a copy of some image was appended, with
+  -- packets of at most so many bytes
+  pub record IsSim (most : ℕ) : Type 0 where
     pub image : List ℕ
     pub is_image : IsImage image
     pub left : Option (List ℕ)
     pub after : Sim
-    pub played : ArePlayed left was now (simulated image) after
+    pub played : ArePlayed most left was now (simulated image) after
 
   -- what the words ask for was done
   abbrev pub HasDone : List (List ℕ) → Type 0
   HasDone words = (
       (image : List ℕ) × (format : LogFormat) × (blocks : ℕ) × (slots : ℕ)
       × AreFormatWords words image format blocks slots × IsFormat format blocks slots)
-      ⊎ ((IsScriptCommand (codes "run") words × IsRun)
-          ⊎ (IsScriptCommand (codes "sim") words × IsSim))
+      ⊎ ((IsMigrateLine words × IsMigration)
+      ⊎ (((size : PacketSize) × IsScriptCommand (codes "run") words size × IsRun (bytes_of size))
+      ⊎ ((size : PacketSize) × IsScriptCommand (codes "sim") words size × IsSim (bytes_of size))))
 
   -- No image file was made: the sizes are out of their limits. Or they are not, and there was no
   -- memory, or a file failed, the output perhaps.
@@ -87,34 +116,57 @@ module _ (was now : Option (List ℕ)) where
       ((refusal ≡ refused.ImageSize) × (¬ AreImageSizes format blocks slots) × Keeps was now)
       ⊎ ((¬ (¬ AreImageSizes format blocks slots))
       × (((refusal ≡ refused.NoMemory) × Keeps was now)
-          ⊎ ((refusal ≡ refused.File) × AppendsSome was now (ended (codes "formatted")))))
+      ⊎ ((refusal ≡ refused.File) × AppendsSome was now (ended (codes "formatted")))))
+
+  -- An image file was not brought to format 2: the device refused a call, or the image has a fault,
+  -- and then nothing was written to it.
+  pub record IsMigrationStopped (refusal : Refusal) : Type 0 where
+    pub opened : Copied
+    pub is_fresh : opened ≡ fresh opened.bytes
+    pub is_image : IsImage opened.bytes
+    pub fault : StartFault
+    pub back : Copied
+    pub cause : IsMigrationCause (file.state_of opened) (file.state_of back) fault
+    pub told : refusal ≡ refusal_of_start fault
+    pub kept : Keeps was now
+
+  -- some image file is of format 2 now, but not all of what is told of it was written
+  pub record IsMigrationUntold (refusal : Refusal) : Type 0 where
+    pub was_one : Bool
+    pub brought : IsBroughtToTwo was_one
+    pub failed : refusal ≡ refused.File
+    pub written : AppendsSome was now (migration_text was_one)
+
+  abbrev pub IsMigrationRefused : Refusal → Type 0
+  IsMigrationRefused refusal = (IsUnread refusal × Keeps was now)
+      ⊎ (IsMigrationStopped refusal ⊎ IsMigrationUntold refusal)
 
   -- a script on an image file was refused, and this is why
-  pub record IsPlayRefused (refusal : Refusal) : Type 0 where
+  pub record IsPlayRefused (most : ℕ) (refusal : Refusal) : Type 0 where
     pub opened : Copied
     pub is_fresh : opened ≡ fresh opened.bytes
     pub is_image : IsImage opened.bytes
     pub left : Option (List ℕ)
     pub fault : ScriptFault
     pub back : Copied
-    pub refused : IsRefused file.state_of left was now opened fault back
+    pub refused : IsRefused file.state_of most left was now opened fault back
     pub told : refusal ≡ refusal_of_fault fault
 
   -- a script over a copy of an image was refused, and this is why
-  pub record ArePlaysRefused (refusal : Refusal) : Type 0 where
+  pub record ArePlaysRefused (most : ℕ) (refusal : Refusal) : Type 0 where
     pub image : List ℕ
     pub is_image : IsImage image
     pub left : Option (List ℕ)
     pub fault : ScriptFault
     pub back : Sim
-    pub refused : AreRefused left was now (simulated image) fault back
+    pub refused : AreRefused most left was now (simulated image) fault back
     pub told : refusal ≡ refusal_of_fault fault
 
-  abbrev pub IsRunRefused : Refusal → Type 0
-  IsRunRefused refusal = (IsUnread refusal × Keeps was now) ⊎ IsPlayRefused refusal
+  abbrev pub IsRunRefused : ℕ → Refusal → Type 0
+  IsRunRefused most refusal = (IsUnread refusal × Keeps was now) ⊎ IsPlayRefused most refusal
 
-  abbrev pub IsSimRefused : Refusal → Type 0
-  IsSimRefused refusal = (IsUnread refusal × Keeps was now) ⊎ ArePlaysRefused refusal
+  abbrev pub IsSimRefused : ℕ → Refusal → Type 0
+  IsSimRefused most refusal = (IsUnread refusal × Keeps was now) ⊎ ArePlaysRefused most refusal
 
   -- what the words ask for was not done
   abbrev pub HasNotDone : List (List ℕ) → Refusal → Type 0
@@ -122,12 +174,15 @@ module _ (was now : Option (List ℕ)) where
       ((image : List ℕ) × (format : LogFormat) × (blocks : ℕ) × (slots : ℕ)
       × AreFormatWords words image format blocks slots
       × IsFormatRefused format blocks slots refusal)
-      ⊎ ((IsScriptCommand (codes "run") words × IsRunRefused refusal)
-          ⊎ (IsScriptCommand (codes "sim") words × IsSimRefused refusal))
+      ⊎ ((IsMigrateLine words × IsMigrationRefused refusal)
+      ⊎ (((size : PacketSize) × IsScriptCommand (codes "run") words size
+      × IsRunRefused (bytes_of size) refusal)
+      ⊎ ((size : PacketSize) × IsScriptCommand (codes "sim") words size
+      × IsSimRefused (bytes_of size) refusal)))
 
   -- why words were refused: there was no memory to read them; or they are no command line; or what
   -- they ask for was not done
   abbrev pub IsRefusedFor : List (List ℕ) → Refusal → Type 0
   IsRefusedFor words refusal = ((refusal ≡ refused.NoMemory) × Keeps was now)
       ⊎ (((refusal ≡ refused.Words) × (¬ IsCommandLine words) × Keeps was now)
-          ⊎ HasNotDone words refusal)
+      ⊎ HasNotDone words refusal)

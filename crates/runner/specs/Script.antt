@@ -7,6 +7,7 @@ use Rattle.log_layout.specs.Places.{limit_of}
 use Rattle.bot_machine.specs.Starting.{Shape}
 use Rattle.bot_machine.specs.Starting.{StandsFor}
 use Rattle.bot_machine.specs.Starting.{IsOursForSome}
+use Rattle.bot_machine.specs.Device.{Device}
 use Rattle.bot_machine.specs.Identification.{Identification}
 use Rattle.bot_machine.specs.Books.{Book, opened}
 use Rattle.bot_machine.specs.Books.{MayFind}
@@ -23,10 +24,10 @@ use Rattle.runner.specs.declared.line.ScriptKind.TheVariants.{OneLife}
 use Rattle.runner.specs.Line.{Spells, Allows, IsScriptLine}
 use Rattle.runner.specs.Events.{events_of}
 
--- the line plays these events, in a script of one life
-pub record LinePlays (line : List ℕ) (events : List Event) : Type 0 where
+-- the line plays these events, in a script of one life, where packets have at most so many bytes
+pub record LinePlays (most : ℕ) (line : List ℕ) (events : List Event) : Type 0 where
   pub asked : ScriptLine
-  pub spelled : Spells line asked
+  pub spelled : Spells most line asked
   pub allowed : Allows OneLife asked
   pub events_are : events ≡ events_of asked
 
@@ -35,7 +36,7 @@ abbrev pub InTurn : {A : Type 0} → (List ℕ → List A → Type 0) → List (
 InTurn LineGives [] all = all ≡ []
 InTurn {A} LineGives (line ∷ lines) all =
     (first : List A) × (rest : List A) × LineGives line first × InTurn LineGives lines rest
-        × (all ≡ first ++ rest)
+    × (all ≡ first ++ rest)
 
 -- Lines give in turn up to one thing, at one line: the lines before that line give the first of
 -- all, the line gives this part of its own and then the last thing; what the line gives behind that
@@ -53,17 +54,18 @@ pub record StopsAt {A : Type 0} (LineGives : List ℕ → List A → Type 0) (li
   pub others : InTurn LineGives after later
 
 -- the lines of a script of one life play these events
-abbrev pub Plays : List (List ℕ) → List Event → Type 0
-Plays lines events = InTurn LinePlays lines events
+abbrev pub Plays : ℕ → List (List ℕ) → List Event → Type 0
+Plays most lines events = InTurn (LinePlays most) lines events
 
 -- the first line that is none of such a script has this number, counted from 1
-pub record IsFirstBadLine (kind : ScriptKind) (number : ℕ) (lines : List (List ℕ)) : Type 0 where
+pub record IsFirstBadLine (kind : ScriptKind) (most number : ℕ) (lines : List (List ℕ))
+    : Type 0 where
   pub before : List (List ℕ)
   pub line : List ℕ
   pub after : List (List ℕ)
   pub parts : lines ≡ before ++ line ∷ after
-  pub good : All (IsScriptLine kind) before
-  pub bad : ¬ IsScriptLine kind line
+  pub good : All (IsScriptLine kind most) before
+  pub bad : ¬ IsScriptLine kind most line
   pub counted : number ≡ length before + 1
 
 -- the texts by which the disk of a script is known
@@ -75,27 +77,34 @@ identification = record {
   serial = codes "000000000001";
 }
 
--- a disk that has just started on this book, and moves so many blocks at most
-abbrev pub started : ℕ → Book → Conversation UnitState
-started limit book = on_line at_rest (opened_unit limit identification book)
+-- the disk of a script, with packets of at most so many bytes
+abbrev pub device : ℕ → Device
+device most = record { identity = identification; packet_size = most }
 
--- A disk starts on the medium and plays the events, each one step of it, and the medium that comes
--- back is the one that the last of them left: nothing is done to it afterwards.
-pub record IsLeftBy {M : Type 0} (state : M → State) (medium : M) (events : List Event)
+-- a disk that has just started on this book, with packets of at most so many bytes, and moves so
+-- many blocks at most
+abbrev pub started : ℕ → ℕ → Book → Conversation UnitState
+started most limit book = on_line (at_rest most) (opened_unit limit identification book)
+
+-- A disk with packets of at most so many bytes starts on the medium and plays the events, each one
+-- step of it, and the medium that comes back is the one that the last of them left: nothing is done
+-- to it afterwards.
+pub record IsLeftBy {M : Type 0} (state : M → State) (most : ℕ) (medium : M) (events : List Event)
     (answers : List Answer) (refusals : List Bool) (back : M) : Type 0 where
   pub first : DiskValue M
-  pub opens : IsOpened (state medium) (state first.unit.store.medium) identification first
+  pub opens : IsOpened (state medium) (state first.unit.store.medium) (device most) first
   pub leaves : StartLeaves (state medium) (state first.unit.store.medium)
   pub last : DiskValue M
   pub steps : StepsThrough state first events answers refusals last
   pub left : back ≡ last.unit.store.medium
 
--- A life of a disk: its events and their answers, from a start on a medium in one state until the
--- medium is in another. The disk opens with the array and the next stamp for which the contents
--- stood, and the answers are by the rules of the unit; in some events the medium refused a call,
--- whatever the premise. Where every image that a cut could leave was ours, each one that a cut may
--- leave afterwards stands for accepted writes, all promised ones among them.
-pub record IsLife (before after : State) (events : List Event) (answers : List Answer)
+-- A life of a disk with packets of at most so many bytes: its events and their answers, from a
+-- start on a medium in one state until the medium is in another. The disk opens with the array and
+-- the next stamp for which the contents stood, and the answers are by the rules of the unit; in
+-- some events the medium refused a call, whatever the premise. Where every image that a cut could
+-- leave was ours, each one that a cut may leave afterwards stands for accepted writes, all promised
+-- ones among them.
+pub record IsLife (most : ℕ) (before after : State) (events : List Event) (answers : List Answer)
     : Type 0 where
   pub shape : Shape
   pub array : Array
@@ -105,6 +114,6 @@ pub record IsLife (before after : State) (events : List Event) (answers : List A
   pub refused : refused_events refusals + before.failures ≤ after.failures
   pub runs : (ours : Bool) → (ours ≡ true → EachCut (IsOursForSome before.size) before)
       → (last : Conversation UnitState)
-      × UnitRun (started (limit_of shape.format) (opened shape.blocks array next ours))
+      × UnitRun (started most (limit_of shape.format) (opened shape.blocks array next ours))
       events answers refusals last
       × (ours ≡ true → EachCut (MayFind after.size last.unit.book) after)

@@ -2,8 +2,10 @@
 use Rattle.std.specs.Prelude.{◌≡◌, ◌≢◌, ◌⊎◌, ℕ, List, [], ◌∷◌, ◌++◌, codes}
 use Rattle.log_layout.specs.declared.log_format.LogFormat.{LogFormat}
 use Rattle.log_layout.specs.declared.log_format.LogFormat.TheVariants.{One, Two}
+use Rattle.bot_machine.specs.declared.packet_size.PacketSize.{PacketSize}
+use Rattle.bot_machine.specs.declared.packet_size.PacketSize.TheVariants.{Full64, High512}
 use Rattle.runner.specs.declared.task.Task.{Task}
-use Rattle.runner.specs.declared.task.Task.TheVariants.{Format, Run, Sim}
+use Rattle.runner.specs.declared.task.Task.TheVariants.{Format, Migrate, Run, Sim}
 use Rattle.runner.specs.Numbers.{SpellsNumber}
 
 -- a word for a file does not begin with a hyphen
@@ -20,8 +22,8 @@ format_word One = codes "1"
 format_word Two = codes "2"
 
 -- what may stand behind the sizes: a format's number behind its name, or nothing for format 1
-abbrev pub IsEnding : List (List ℕ) → LogFormat → Type 0
-IsEnding ending format =
+abbrev pub IsFormatEnding : List (List ℕ) → LogFormat → Type 0
+IsFormatEnding ending format =
     (ending ≡ codes "--format" ∷ format_word format ∷ []) ⊎ ((ending ≡ []) × (format ≡ One))
 
 -- `format`, a word for the image, its sizes behind their names, and the ending
@@ -36,21 +38,41 @@ pub record AreFormatWords (words : List (List ℕ)) (image : List ℕ) (format :
   pub image_word : IsFileWord image
   pub blocks_are : IsSizeWord blocks_word blocks
   pub slots_are : IsSizeWord slots_word slots
-  pub format_is : IsEnding ending format
+  pub format_is : IsFormatEnding ending format
 
--- `run` or `sim`, a word for the image and one for the script
+-- `migrate` and a word for the image
+pub record AreMigrateWords (words : List (List ℕ)) (image : List ℕ) : Type 0 where
+  pub words_are : words ≡ codes "migrate" ∷ image ∷ []
+  pub image_word : IsFileWord image
+
+-- the bytes of a packet
+abbrev pub packet_word : PacketSize → List ℕ
+packet_word Full64 = codes "64"
+packet_word High512 = codes "512"
+
+-- what may stand behind the files: the bytes of a packet behind their name, or nothing for 512
+abbrev pub IsPacketEnding : List (List ℕ) → PacketSize → Type 0
+IsPacketEnding ending size =
+    (ending ≡ codes "--packet" ∷ packet_word size ∷ []) ⊎ ((ending ≡ []) × (size ≡ High512))
+
+-- `run` or `sim`, a word for the image and one for the script, and the ending
 pub record AreScriptWords (verb : List ℕ) (words : List (List ℕ)) (image script : List ℕ)
-    : Type 0 where
-  pub words_are : words ≡ verb ∷ image ∷ script ∷ []
+    (size : PacketSize) : Type 0 where
+  pub ending : List (List ℕ)
+  pub words_are : words ≡ verb ∷ image ∷ script ∷ ending
   pub image_word : IsFileWord image
   pub script_word : IsFileWord script
+  pub size_is : IsPacketEnding ending size
 
 -- the words of a command line, exactly as shown
 abbrev pub SpellsTask : List (List ℕ) → Task → Type 0
 SpellsTask words (Format image format blocks slots) =
     AreFormatWords words image.now format blocks slots
-SpellsTask words (Run image script) = AreScriptWords (codes "run") words image.now script.now
-SpellsTask words (Sim image script) = AreScriptWords (codes "sim") words image.now script.now
+SpellsTask words (Migrate image) = AreMigrateWords words image.now
+SpellsTask words (Run image script size) =
+    AreScriptWords (codes "run") words image.now script.now size
+SpellsTask words (Sim image script size) =
+    AreScriptWords (codes "sim") words image.now script.now size
 
 -- the words ask for something
 abbrev pub IsFormatLine : List (List ℕ) → Type 0
@@ -58,10 +80,16 @@ IsFormatLine words =
     (image : List ℕ) × (format : LogFormat) × (blocks : ℕ) × (slots : ℕ)
     × AreFormatWords words image format blocks slots
 
-abbrev pub IsScriptCommand : List ℕ → List (List ℕ) → Type 0
-IsScriptCommand verb words = (image : List ℕ) × (script : List ℕ)
-    × AreScriptWords verb words image script
+abbrev pub IsMigrateLine : List (List ℕ) → Type 0
+IsMigrateLine words = (image : List ℕ) × AreMigrateWords words image
+
+abbrev pub IsScriptCommand : List ℕ → List (List ℕ) → PacketSize → Type 0
+IsScriptCommand verb words size = (image : List ℕ) × (script : List ℕ)
+    × AreScriptWords verb words image script size
+
+abbrev pub IsPlayLine : List ℕ → List (List ℕ) → Type 0
+IsPlayLine verb words = (size : PacketSize) × IsScriptCommand verb words size
 
 abbrev pub IsCommandLine : List (List ℕ) → Type 0
-IsCommandLine words = IsFormatLine words
-    ⊎ (IsScriptCommand (codes "run") words ⊎ IsScriptCommand (codes "sim") words)
+IsCommandLine words = IsFormatLine words ⊎ (IsMigrateLine words
+    ⊎ (IsPlayLine (codes "run") words ⊎ IsPlayLine (codes "sim") words))

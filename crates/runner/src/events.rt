@@ -5,11 +5,8 @@ ghost use Rattle.runner.specs.Events.{events_of};
 
 use crate::line::ScriptLine;
 use arrayvec::ArrayVec;
-use bot_machine::Event;
+use bot_machine::{Event, PacketSize};
 use std::mem;
-
-// The bytes of a packet that is not the last.
-const PACKET: u64 = 512;
 
 /// Gives the events that a line plays. What is left of them is again what a line asks for.
 impl Iterator for ScriptLine {
@@ -24,7 +21,7 @@ impl Iterator for ScriptLine {
             ScriptLine::Out(packet) => Some(Event::Out(packet)),
             ScriptLine::In => Some(Event::In),
             ScriptLine::Setup(packet) => Some(Event::Setup(packet)),
-            ScriptLine::Fill { byte, count } => self.next_fill(byte, count),
+            ScriptLine::Fill { byte, count, size } => self.next_fill(byte, count, size),
             ScriptLine::Tick { count } => self.next_tick(count),
             ScriptLine::Skipped => None,
             ScriptLine::Fuse { .. } => None,
@@ -35,19 +32,20 @@ impl Iterator for ScriptLine {
 
 impl ScriptLine {
     // The first packet of so many of one byte.
-    fn next_fill(&mut self, byte: u8, count: u64) -> Option<Event>
+    fn next_fill(&mut self, byte: u8, count: u64, size: PacketSize) -> Option<Event>
         requires { self.old ≡ ScriptLine.Skipped }
-        ensures { YieldsFirst events_of (ScriptLine.Fill byte count) result self.new }
+        ensures { YieldsFirst events_of (ScriptLine.Fill byte count size) result self.new }
     {
         if count == 0 {
             return None;
         }
-        let size = count.min(PACKET);
+        let taken = count.min(size.bytes() as u64);
         *self = ScriptLine::Fill {
             byte,
-            count: count - size,
+            count: count - taken,
+            size,
         };
-        Some(Event::Out(packet_of(byte, size as usize)))
+        Some(Event::Out(packet_of(byte, taken as usize)))
     }
 
     // The first of so many steps.
@@ -64,11 +62,11 @@ impl ScriptLine {
 }
 
 // So many of one byte.
-fn packet_of(byte: u8, size: usize) -> ArrayVec<u8, 512>
-    requires { size ≤ 512 }
-    ensures { result.items ≡ replicate size byte }
+fn packet_of(byte: u8, count: usize) -> ArrayVec<u8, 512>
+    requires { count ≤ 512 }
+    ensures { result.items ≡ replicate count byte }
 {
     let mut packet = ArrayVec::from([byte; 512]);
-    packet.truncate(size);
+    packet.truncate(count);
     packet
 }

@@ -1,6 +1,8 @@
 // A checked script of several lives, played on a simulated medium.
 ghost use Rattle.std.specs.Prelude.{◌≡◌, ◌≤◌, ◌∷◌, [], All, OnOk, IfOk, IfErr, flat_map, length, vec_capacity};
+ghost use Rattle.bot_machine.specs.Fitting.{AreWithin};
 ghost use Rattle.bot_machine.specs.Lives.{cuts};
+ghost use Rattle.bot_machine.specs.PacketBytes.{bytes_of};
 ghost use Rattle.runner.specs.Line.{IsScriptLine};
 ghost use Rattle.runner.specs.Lines.{lines_of};
 ghost use Rattle.runner.specs.Events.{events_of};
@@ -13,7 +15,7 @@ use crate::line::{ScriptKind, ScriptLine, read_line};
 use crate::output::write_out;
 use crate::parts::Parts;
 use crate::text::event_line;
-use bot_machine::Lives;
+use bot_machine::{Lives, PacketSize};
 use medium::{Kept, SimMedium};
 use std::alloc::Global;
 use std::io::Write;
@@ -24,18 +26,21 @@ pub(crate) fn play_lives<W: Write>(
     alloc: Global,
     mut lives: Lives,
     mut numbers: Vec<u32>,
+    size: PacketSize,
     script: &[u8],
     out: &mut W,
 ) -> Result<SimMedium, ScriptError<SimMedium>>
-    requires good { All (IsScriptLine ScriptKind.Lives) (lines_of script.now) }
+    requires good { All (IsScriptLine ScriptKind.Lives (bytes_of size)) (lines_of script.now) }
     requires room { 64 ≤ vec_capacity numbers }
+    requires packets { lives.device.packet_size ≡ bytes_of size }
     ensures played { IfOk result
-        (PlaysAll (W.contents out.old) (W.contents out.new) lives (lines_of script.now)) }
+        (PlaysAll (W.contents out.old) (W.contents out.new) lives (bytes_of size)
+        (lines_of script.now)) }
     ensures broken { IfErr result (λ error. PlaysUpTo (W.contents out.old) (W.contents out.new) lives
-        (lines_of script.now) error.fault error.medium) }
+        (bytes_of size) (lines_of script.now) error.fault error.medium) }
 {
     for line in Parts::lines(script) {
-        match read_line(ScriptKind::Lives, line).unwrap() {
+        match read_line(ScriptKind::Lives, size, line).unwrap() {
             ScriptLine::Fuse { writes } => lives.fuse(writes),
             ScriptLine::Cut(kept) => numbers = cut(&mut lives, &kept, numbers),
             asked => {
@@ -58,6 +63,7 @@ fn play_events<W: Write>(
     asked: ScriptLine,
     out: &mut W,
 ) -> Result<(), ScriptFault>
+    requires { AreWithin lives.old.device.packet_size (events_of asked) }
     ensures played { OnOk result (TellsLives (W.contents out.old) (W.contents out.new) lives.old
         (flat_map comes (events_of asked)) lives.new) }
     ensures broken { IfErr result (BreaksOff (W.contents out.old) (W.contents out.new) lives.old

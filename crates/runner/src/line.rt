@@ -1,12 +1,14 @@
 // One line of a script.
-ghost use Rattle.std.specs.Prelude.{◌≡◌, ◌⊎◌, ℕ, IfSome, IfNone};
-ghost use Rattle.runner.specs.Line.{Spells, Allows};
+ghost use Rattle.std.specs.Prelude.{◌≡◌, ◌⊎◌, ℕ, IfSome, IfNone, codes};
+ghost use Rattle.bot_machine.specs.PacketBytes.{bytes_of};
+ghost use Rattle.runner.specs.Line.{Spells, Allows, SpellsCount, SpellsCut};
 ghost use Rattle.runner.specs.declared.line.ScriptLine.{ScriptLine};
 ghost use Rattle.runner.specs.declared.kept.KeptWrites.{KeptWrites};
 
 use crate::kept::{KeptWrites, read_cut};
 use crate::words::{read_count, read_fill, read_out, read_setup};
 use arrayvec::ArrayVec;
+use bot_machine::PacketSize;
 
 /// Which lines a script may have.
 #[derive(Clone, Copy, Debug, PartialEq, Eq)]
@@ -24,27 +26,37 @@ pub enum ScriptLine {
     Skipped,
     /// A packet to Bulk-Out.
     Out(ArrayVec<u8, 512>),
-    /// So many of one byte to Bulk-Out, in packets of 512 bytes, the last one shorter.
-    Fill { byte: u8, count: u64 },
+    /// So many of one byte to Bulk-Out, in packets of a size, the last one shorter.
+    Fill {
+        byte: u8,
+        count: u64,
+        size: PacketSize,
+    },
     /// A token to Bulk-In.
     In,
     /// A setup packet.
     Setup([u8; 8]),
     /// So many steps in the background.
-    Tick { count: u64 },
+    Tick {
+        count: u64,
+    },
     /// A fuse of so many writes and flushes.
-    Fuse { writes: u64 },
+    Fuse {
+        writes: u64,
+    },
     /// A cut of the power.
     Cut(KeptWrites),
 }
 
-/// Reads a line, which has no line feed; `None` where it is no line of such a script.
-pub(crate) fn read_line(kind: ScriptKind, line: &[u8]) -> Option<ScriptLine>
-    ensures spelled { IfSome result (λ asked. Spells line.now asked × Allows kind asked) }
+/// Reads a line, which has no line feed, for packets of a size; `None` where it is no line of such a
+/// script.
+pub(crate) fn read_line(kind: ScriptKind, size: PacketSize, line: &[u8]) -> Option<ScriptLine>
+    ensures spelled { IfSome result (λ asked.
+        Spells (bytes_of size) line.now asked × Allows kind asked) }
     ensures refused { IfNone result ((asked : ScriptLine)
-        → Spells line.now asked → Allows kind asked → ⊥) }
+        → Spells (bytes_of size) line.now asked → Allows kind asked → ⊥) }
 {
-    match (kind, read_events(line)) {
+    match (kind, read_events(size, line)) {
         (_, Some(asked)) => Some(asked),
         (ScriptKind::OneLife, None) => None,
         (ScriptKind::Lives, None) => read_switch(line),
@@ -52,31 +64,33 @@ pub(crate) fn read_line(kind: ScriptKind, line: &[u8]) -> Option<ScriptLine>
 }
 
 // Reads a line of events.
-fn read_events(line: &[u8]) -> Option<ScriptLine>
-    ensures spelled { IfSome result (λ asked. Spells line.now asked × Allows ScriptKind.OneLife asked) }
+fn read_events(size: PacketSize, line: &[u8]) -> Option<ScriptLine>
+    ensures spelled { IfSome result (λ asked.
+        Spells (bytes_of size) line.now asked × Allows ScriptKind.OneLife asked) }
     ensures refused { IfNone result ((asked : ScriptLine)
-        → Spells line.now asked → Allows ScriptKind.OneLife asked → ⊥) }
+        → Spells (bytes_of size) line.now asked → Allows ScriptKind.OneLife asked → ⊥) }
 {
     match line {
         [] => Some(ScriptLine::Skipped),
         [b'#', ..] => Some(ScriptLine::Skipped),
         b"in" => Some(ScriptLine::In),
-        _ => read_sent(line),
+        _ => read_sent(size, line),
     }
 }
 
 // Reads a line of events with more than one word.
-fn read_sent(line: &[u8]) -> Option<ScriptLine>
-    ensures spelled { IfSome result (λ asked. Spells line.now asked × Allows ScriptKind.OneLife asked) }
+fn read_sent(size: PacketSize, line: &[u8]) -> Option<ScriptLine>
+    ensures spelled { IfSome result (λ asked.
+        Spells (bytes_of size) line.now asked × Allows ScriptKind.OneLife asked) }
     ensures refused { IfNone result ((asked : ScriptLine)
-        → Spells line.now asked → Allows ScriptKind.OneLife asked
+        → Spells (bytes_of size) line.now asked → Allows ScriptKind.OneLife asked
         → (asked ≡ ScriptLine.Skipped) ⊎ (asked ≡ ScriptLine.In)) }
 {
-    if let Some(packet) = read_out(line) {
+    if let Some(packet) = read_out(line, size) {
         return Some(ScriptLine::Out(packet));
     }
     if let Some((byte, count)) = read_fill(line) {
-        return Some(ScriptLine::Fill { byte, count });
+        return Some(ScriptLine::Fill { byte, count, size });
     }
     if let Some(packet) = read_setup(line) {
         return Some(ScriptLine::Setup(packet));
@@ -87,9 +101,10 @@ fn read_sent(line: &[u8]) -> Option<ScriptLine>
 
 // Reads a line that moves the power.
 fn read_switch(line: &[u8]) -> Option<ScriptLine>
-    ensures spelled { IfSome result (Spells line.now) }
-    ensures no_fuse { IfNone result ((writes : ℕ) → Spells line.now (ScriptLine.Fuse writes) → ⊥) }
-    ensures no_cut { IfNone result ((kept : KeptWrites) → Spells line.now (ScriptLine.Cut kept) → ⊥) }
+    ensures spelled { IfSome result (λ asked. (most : ℕ) → Spells most line.now asked) }
+    ensures no_fuse { IfNone result ((writes : ℕ)
+        → SpellsCount (codes "fuse ") 0 1000000000 line.now writes → ⊥) }
+    ensures no_cut { IfNone result ((kept : KeptWrites) → SpellsCut line.now kept → ⊥) }
 {
     if let Some(writes) = read_count(line, b"fuse ", 0, 1_000_000_000) {
         return Some(ScriptLine::Fuse { writes });

@@ -1,6 +1,7 @@
 // A checked script of one life, played on a disk.
 ghost use Rattle.std.specs.Prelude.{◌≡◌, ◌∷◌, ◌++◌, ℕ, List, All, OnOk, OnErr, IfOk, IfErr};
 ghost use Rattle.std.specs.Io.KnownBytes.{Appends};
+ghost use Rattle.bot_machine.specs.PacketBytes.{bytes_of};
 ghost use Rattle.bot_machine.specs.declared.event.Event.{Event};
 ghost use Rattle.runner.specs.Line.{IsScriptLine};
 ghost use Rattle.runner.specs.Lines.{lines_of};
@@ -12,7 +13,7 @@ use crate::line::{ScriptKind, read_line};
 use crate::output::write_out;
 use crate::parts::Parts;
 use crate::text::event_line;
-use bot_machine::{Disk, answer_to};
+use bot_machine::{Disk, PacketSize, answer_to};
 use medium::Medium;
 use std::io;
 use std::io::Write;
@@ -20,19 +21,21 @@ use std::io::Write;
 /// Plays every line of a script, and writes the line of each answer at once.
 pub(crate) fn play<M: Medium, W: Write>(
     mut disk: Disk<M>,
+    size: PacketSize,
     script: &[u8],
     out: &mut W,
 ) -> Result<M, ScriptError<M>>
-    requires { All (IsScriptLine ScriptKind.OneLife) (lines_of script.now) }
+    requires good { All (IsScriptLine ScriptKind.OneLife (bytes_of size)) (lines_of script.now) }
+    requires packets { disk.line.packet_size ≡ bytes_of size }
     ensures played { IfOk result (λ after. (events : List Event) × (text : List ℕ)
-        × Plays (lines_of script.now) events × Leaves M.state disk events text after
+        × Plays (bytes_of size) (lines_of script.now) events × Leaves M.state disk events text after
         × Appends (W.contents out.old) (W.contents out.new) text) }
     ensures cut_short { IfErr result (λ error. (error.fault ≡ ScriptFault.Writer)
-        × BreaksOffAt M.state (W.contents out.old) (W.contents out.new) disk (lines_of script.now)
-        error.medium) }
+        × BreaksOffAt M.state (W.contents out.old) (W.contents out.new) disk (bytes_of size)
+        (lines_of script.now) error.medium) }
 {
     for line in Parts::lines(script) {
-        if play_line(&mut disk, line, out).is_err() {
+        if play_line(&mut disk, size, line, out).is_err() {
             return Err(ScriptError {
                 fault: ScriptFault::Writer,
                 medium: disk.into_medium(),
@@ -43,16 +46,22 @@ pub(crate) fn play<M: Medium, W: Write>(
 }
 
 // Plays one line.
-fn play_line<M: Medium, W: Write>(disk: &mut Disk<M>, line: &[u8], out: &mut W) -> io::Result<()>
-    requires { IsScriptLine ScriptKind.OneLife line.now }
-    ensures played { OnOk result ((events : List Event) × (text : List ℕ) × LinePlays line.now events
+fn play_line<M: Medium, W: Write>(
+    disk: &mut Disk<M>,
+    size: PacketSize,
+    line: &[u8],
+    out: &mut W,
+) -> io::Result<()>
+    requires good { IsScriptLine ScriptKind.OneLife (bytes_of size) line.now }
+    requires packets { disk.old.line.packet_size ≡ bytes_of size }
+    ensures played { OnOk result ((events : List Event) × (text : List ℕ) × LinePlays (bytes_of size) line.now events
         × Tells M.state disk.old events text disk.new
         × Appends (W.contents out.old) (W.contents out.new) text) }
     ensures cut_short { OnErr result ((events : List Event) × (event : Event) × (rest : List Event)
-        × LinePlays line.now (events ++ event ∷ rest)
+        × LinePlays (bytes_of size) line.now (events ++ event ∷ rest)
         × BreaksOff M.state (W.contents out.old) (W.contents out.new) disk.old events event disk.new) }
 {
-    for event in read_line(ScriptKind::OneLife, line).unwrap() {
+    for event in read_line(ScriptKind::OneLife, size, line).unwrap() {
         let answer = answer_to(disk, &event);
         write_out(out, event_line(&event, &answer).as_slice())?;
     }

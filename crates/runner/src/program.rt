@@ -1,5 +1,6 @@
 // The work of the program.
 ghost use Rattle.std.specs.Prelude.{◌≡◌, ◌≢◌, ◌⊎◌, ◌≤◌, List, ℕ, IfOk, IfErr, OnOk, map, drop, string_bytes};
+ghost use Rattle.bot_machine.specs.PacketBytes.{bytes_of};
 ghost use Rattle.runner.specs.declared.refusal.Refusal.{Refusal};
 ghost use Rattle.runner.specs.Status.{status_of};
 ghost use Rattle.runner.specs.Task.{IsCommandLine};
@@ -7,11 +8,14 @@ ghost use Rattle.runner.specs.Program.{
   HasDone,
   IsFormat,
   IsFormatRefused,
+  IsMigration,
+  IsMigrationRefused,
   IsRefusedFor,
   IsRun,
   IsRunRefused,
   IsSim,
   IsSimRefused,
+  migration_text,
 };
 
 use crate::fault::ScriptError;
@@ -21,6 +25,7 @@ use crate::refusal::Refusal;
 use crate::script::run_script;
 use crate::sim::sim_script;
 use crate::task::{Task, read_words};
+use bot_machine::PacketSize;
 use log_layout::LogFormat;
 use std::alloc::{AllocError, Global};
 use std::env::Env;
@@ -34,9 +39,11 @@ mod tests;
 /// Does what the words after the program's name ask for, and gives the exit status.
 ///
 /// `format IMAGE --blocks N --slots K` makes an image file and prints `formatted`: of format 1, or
-/// of that which `--format 1` or `--format 2` behind it tells. `run IMAGE SCRIPT` plays a script on
-/// a disk over an image file; `sim IMAGE SCRIPT` reads an image file into memory, which it leaves
-/// alone, and plays a script on a disk over it, which may lose its power.
+/// of that which `--format 1` or `--format 2` behind it tells. `migrate IMAGE` brings an image file
+/// to format 2 and prints `migrated`, or `already format 2`. `run IMAGE SCRIPT` plays a script on a
+/// disk over an image file; `sim IMAGE SCRIPT` reads an image file into memory, which it leaves
+/// alone, and plays a script on a disk over it, which may lose its power. Packets have at most 512
+/// bytes in both, or as many as `--packet 64` or `--packet 512` behind it tells.
 pub fn command<R: Files + AllocGlobal, O: Write, E: Write>(
     rt: &R,
     words: &[&str],
@@ -134,8 +141,17 @@ fn carry_out<R: Files + AllocGlobal, O: Write>(
             blocks,
             slots,
         } => make(rt, image, format, blocks, slots, out),
-        Task::Run { image, script } => run(rt, image, script, out),
-        Task::Sim { image, script } => sim(rt, image, script, out),
+        Task::Migrate { image } => migrate(rt, image, out),
+        Task::Run {
+            image,
+            script,
+            size,
+        } => run(rt, image, script, size, out),
+        Task::Sim {
+            image,
+            script,
+            size,
+        } => sim(rt, image, script, size, out),
     }
 }
 
@@ -160,41 +176,75 @@ fn make<R: Files + AllocGlobal, O: Write>(
     }
 }
 
-// Plays a script file on a disk over an image file.
+// Brings an image file to format 2, and says whether it was of format 1.
+fn migrate<R: Files + AllocGlobal, O: Write>(
+    rt: &R,
+    image: &str,
+    out: &mut O,
+) -> Result<(), Refusal>
+    ensures done { OnOk result (IsMigration (O.contents out.old) (O.contents out.new)) }
+    ensures refused { IfErr result (IsMigrationRefused (O.contents out.old) (O.contents out.new)) }
+{
+    let mut medium = open_image(rt, image)?;
+    let (_, was_one) = recovery::migrate(&mut medium)?;
+    match write_out(out, migration_line(was_one)) {
+        Ok(()) => Ok(()),
+        Err(_) => Err(Refusal::File),
+    }
+}
+
+// What is told of an image file that is of format 2 now.
+fn migration_line(was_one: bool) -> &'static [u8]
+    ensures { result.now ≡ migration_text was_one }
+{
+    if was_one {
+        b"migrated\n"
+    } else {
+        b"already format 2\n"
+    }
+}
+
+// Plays a script file on a disk over an image file, with packets of a size.
 fn run<R: Files + AllocGlobal, O: Write>(
     rt: &R,
     image: &str,
     script: &str,
+    size: PacketSize,
     out: &mut O,
 ) -> Result<(), Refusal>
-    ensures done { OnOk result (IsRun (O.contents out.old) (O.contents out.new)) }
-    ensures refused { IfErr result (IsRunRefused (O.contents out.old) (O.contents out.new)) }
+    ensures done { OnOk result
+        (IsRun (O.contents out.old) (O.contents out.new) (bytes_of size)) }
+    ensures refused { IfErr result
+        (IsRunRefused (O.contents out.old) (O.contents out.new) (bytes_of size)) }
 {
     let medium = open_image(rt, image)?;
     let Ok(mut script) = fs::open(rt, script) else {
         return Err(Refusal::File);
     };
-    match run_script(rt.alloc(), medium, &mut script, out) {
+    match run_script(rt.alloc(), medium, &mut script, out, size) {
         Ok(_) => Ok(()),
         Err(ScriptError { fault, medium: _ }) => Err(Refusal::from(fault)),
     }
 }
 
-// Plays a script file on a disk over a copy of an image file.
+// Plays a script file on a disk over a copy of an image file, with packets of a size.
 fn sim<R: Files + AllocGlobal, O: Write>(
     rt: &R,
     image: &str,
     script: &str,
+    size: PacketSize,
     out: &mut O,
 ) -> Result<(), Refusal>
-    ensures done { OnOk result (IsSim (O.contents out.old) (O.contents out.new)) }
-    ensures refused { IfErr result (IsSimRefused (O.contents out.old) (O.contents out.new)) }
+    ensures done { OnOk result
+        (IsSim (O.contents out.old) (O.contents out.new) (bytes_of size)) }
+    ensures refused { IfErr result
+        (IsSimRefused (O.contents out.old) (O.contents out.new) (bytes_of size)) }
 {
     let medium = sim_medium(rt, image)?;
     let Ok(mut script) = fs::open(rt, script) else {
         return Err(Refusal::File);
     };
-    match sim_script(rt.alloc(), medium, &mut script, out) {
+    match sim_script(rt.alloc(), medium, &mut script, out, size) {
         Ok(_) => Ok(()),
         Err(ScriptError { fault, medium: _ }) => Err(Refusal::from(fault)),
     }

@@ -1,6 +1,7 @@
 // Scripts of packets and tokens, and the text of a disk's answers.
 ghost use Rattle.std.specs.Prelude.{IfOk, IfErr, MatchResult};
 ghost use Rattle.std.specs.Io.KnownBytes.{IsAtEnd};
+ghost use Rattle.bot_machine.specs.PacketBytes.{bytes_of};
 ghost use Rattle.runner.specs.Outcome.{IsPlayed, IsRefused, HasTaken};
 
 use crate::check::check_script;
@@ -9,7 +10,7 @@ use crate::identity::disk_identity;
 use crate::line::ScriptKind;
 use crate::play::play;
 use crate::read::read_to_limit;
-use bot_machine::Disk;
+use bot_machine::{Disk, PacketSize};
 use medium::Medium;
 use std::alloc::Global;
 use std::io::{Read, Write};
@@ -17,17 +18,20 @@ use std::io::{Read, Write};
 /// The most bytes of a script.
 pub const SCRIPT_LIMIT: usize = 1_048_576;
 
-/// Plays a script on a disk over a medium, and writes the line of each answer at once.
+/// Plays a script on a disk over a medium, with packets of a size, and writes the line of each
+/// answer at once.
 pub fn run_script<M: Medium, R: Read, W: Write>(
     alloc: Global,
     medium: M,
     script: &mut R,
     out: &mut W,
+    size: PacketSize,
 ) -> Result<M, ScriptError<M>>
-    ensures played { IfOk result (IsPlayed M.state (R.remaining script.old)
+    ensures played { IfOk result (IsPlayed M.state (bytes_of size) (R.remaining script.old)
         (W.contents out.old) (W.contents out.new) medium) }
-    ensures refused { IfErr result (λ error. IsRefused M.state (R.remaining script.old)
-        (W.contents out.old) (W.contents out.new) medium error.fault error.medium) }
+    ensures refused { IfErr result (λ error. IsRefused M.state (bytes_of size)
+        (R.remaining script.old) (W.contents out.old) (W.contents out.new) medium error.fault
+        error.medium) }
     ensures taken { MatchResult result (λ _. IsAtEnd (R.remaining script.new)) (λ error.
         HasTaken error.fault (R.remaining script.old) (R.remaining script.new)) }
 {
@@ -40,13 +44,13 @@ pub fn run_script<M: Medium, R: Read, W: Write>(
             });
         }
     };
-    match check_script(ScriptKind::OneLife, script.as_slice()) {
+    match check_script(ScriptKind::OneLife, size, script.as_slice()) {
         Err(number) => Err(ScriptError {
             fault: ScriptFault::Line(number),
             medium,
         }),
-        Ok(()) => match Disk::start(alloc, medium, disk_identity()) {
-            Ok(disk) => play(disk, script.as_slice(), out),
+        Ok(()) => match Disk::start_with(alloc, medium, disk_identity(), size) {
+            Ok(disk) => play(disk, size, script.as_slice(), out),
             Err(error) => Err(ScriptError {
                 fault: ScriptFault::Start(error.fault),
                 medium: error.medium,

@@ -2,6 +2,7 @@
 ghost use Rattle.std.specs.Prelude.{◌≡◌, ◌⊎◌, None, IfOk, IfErr, MatchResult};
 ghost use Rattle.std.specs.Io.KnownBytes.{IsAtEnd};
 ghost use Rattle.bot_machine.specs.LivesValue.{IsAtRest};
+ghost use Rattle.bot_machine.specs.PacketBytes.{bytes_of};
 ghost use Rattle.runner.specs.Outcome.{HasTaken};
 ghost use Rattle.runner.specs.OutcomeOfLives.{ArePlayed, AreRefused};
 
@@ -12,25 +13,27 @@ use crate::lifetimes::play_lives;
 use crate::line::ScriptKind;
 use crate::read::read_to_limit;
 use crate::script::SCRIPT_LIMIT;
-use bot_machine::Lives;
+use bot_machine::{Lives, PacketSize};
 use medium::SimMedium;
 use std::alloc::Global;
 use std::io::{Read, Write};
 
-/// Plays a script on a disk over a simulated medium, whose power is on, with nothing unflushed and no
-/// fuse armed. Lines `fuse` and `cut` are its as well.
+/// Plays a script on a disk over a simulated medium, with packets of a size. The power of the medium
+/// is on, with nothing unflushed and no fuse armed. Lines `fuse` and `cut` are its as well.
 pub fn sim_script<R: Read, W: Write>(
     alloc: Global,
     medium: SimMedium,
     script: &mut R,
     out: &mut W,
+    size: PacketSize,
 ) -> Result<SimMedium, ScriptError<SimMedium>>
     requires rests { IsAtRest medium }
     requires unfused { medium.power.fuse ≡ None }
-    ensures played { IfOk result (ArePlayed (R.remaining script.old)
+    ensures played { IfOk result (ArePlayed (bytes_of size) (R.remaining script.old)
         (W.contents out.old) (W.contents out.new) medium) }
-    ensures refused { IfErr result (λ error. AreRefused (R.remaining script.old)
-        (W.contents out.old) (W.contents out.new) medium error.fault error.medium) }
+    ensures refused { IfErr result (λ error. AreRefused (bytes_of size)
+        (R.remaining script.old) (W.contents out.old) (W.contents out.new) medium error.fault
+        error.medium) }
     // There may be no memory for the numbers of writes, after all was read.
     ensures taken { MatchResult result (λ _. IsAtEnd (R.remaining script.new)) (λ error.
         HasTaken error.fault (R.remaining script.old) (R.remaining script.new)
@@ -45,7 +48,7 @@ pub fn sim_script<R: Read, W: Write>(
             });
         }
     };
-    if let Err(number) = check_script(ScriptKind::Lives, script.as_slice()) {
+    if let Err(number) = check_script(ScriptKind::Lives, size, script.as_slice()) {
         return Err(ScriptError {
             fault: ScriptFault::Line(number),
             medium,
@@ -59,8 +62,9 @@ pub fn sim_script<R: Read, W: Write>(
     };
     play_lives(
         alloc,
-        Lives::new(medium, disk_identity()),
+        Lives::new_with(medium, disk_identity(), size),
         numbers,
+        size,
         script.as_slice(),
         out,
     )

@@ -1,12 +1,19 @@
 // The words of a command line.
-ghost use Rattle.std.specs.Prelude.{◌≡◌, ◌⊎◌, ◌↔◌, [], ◌∷◌, IfOk, IfErr, IfSome, IfNone, IsTrue, false, map};
+ghost use Rattle.std.specs.Prelude.{◌≡◌, ◌≤◌, ◌⊎◌, ◌↔◌, [], ◌∷◌, IfOk, IfErr, IfSome, IfNone, IsTrue, false, map, length};
 ghost use Rattle.clap.specs.Words.{app_of};
 ghost use Rattle.clap.specs.declared.builder.command.Command.TheViews.{out-Command};
-ghost use Rattle.runner.specs.Parser.{usbdisk_app, format_app, script_app};
-ghost use Rattle.runner.specs.Task.{SpellsTask, IsCommandLine, IsFileWord, IsEnding};
+ghost use Rattle.runner.specs.Parser.{usbdisk_app, format_app, migrate_app, script_app};
+ghost use Rattle.runner.specs.Task.{
+  SpellsTask,
+  IsCommandLine,
+  IsFileWord,
+  IsFormatEnding,
+  IsPacketEnding,
+};
 
 use crate::number::read_number;
 use crate::refusal::Refusal;
+use bot_machine::PacketSize;
 use clap::{Arg, Command};
 use log_layout::LogFormat;
 use std::alloc::{AllocError, Global};
@@ -24,21 +31,28 @@ pub(crate) enum Task<'a> {
         blocks: u64,
         slots: u64,
     },
-    /// To play a script on an image file.
+    /// To bring an image file to format 2.
+    Migrate {
+        image: &'a str,
+    },
+    /// To play a script on an image file, with packets of a size.
     Run {
         image: &'a str,
         script: &'a str,
+        size: PacketSize,
     },
-    /// To play a script on a simulated medium that holds an image.
+    /// To play a script on a simulated medium that holds an image, with packets of a size.
     Sim {
         image: &'a str,
         script: &'a str,
+        size: PacketSize,
     },
 }
 
 /// Reads the words after the program's name: `format IMAGE --blocks N --slots K`, behind which
-/// `--format 1` or `--format 2` may stand, `run IMAGE SCRIPT` or `sim IMAGE SCRIPT`. No file word
-/// begins with a hyphen.
+/// `--format 1` or `--format 2` may stand, `migrate IMAGE`, `run IMAGE SCRIPT` or
+/// `sim IMAGE SCRIPT`, behind which `--packet 64` or `--packet 512` may stand. No file word begins
+/// with a hyphen.
 pub(crate) fn read_words<'a>(alloc: Global, words: &'a [&'a str]) -> Result<Task<'a>, Refusal>
     ensures spelled { IfOk result (SpellsTask (map (λ word. word.now) words.entry.now)) }
     ensures refused { IfErr result (λ refusal. (refusal ≡ Refusal.NoMemory)
@@ -57,6 +71,7 @@ fn parser<'a>(alloc: Global) -> Result<Command<'a>, AllocError>
         .no_binary_name(true)
         .subcommand_required(true)
         .subcommand(format_parser(alloc)?)?
+        .subcommand(migrate_parser(alloc)?)?
         .subcommand(script_parser(alloc, "run")?)?
         .subcommand(script_parser(alloc, "sim")?)
 }
@@ -73,14 +88,23 @@ fn format_parser<'a>(alloc: Global) -> Result<Command<'a>, AllocError>
         .arg(Arg::new(alloc, "format").long("format"))
 }
 
-// `run IMAGE SCRIPT` or `sim IMAGE SCRIPT`.
+// `migrate IMAGE`.
+fn migrate_parser<'a>(alloc: Global) -> Result<Command<'a>, AllocError>
+    ensures shape { IfOk result (λ command. app_of command ≡ migrate_app) }
+    ensures local { IfOk result (λ command. (out-Command command).has_globals ≡ false) }
+{
+    Command::new(alloc, "migrate").arg(Arg::new(alloc, "IMAGE").required(true))
+}
+
+// `run IMAGE SCRIPT [--packet P]` or `sim IMAGE SCRIPT [--packet P]`.
 fn script_parser<'a>(alloc: Global, verb: &'a str) -> Result<Command<'a>, AllocError>
     ensures shape { IfOk result (λ command. app_of command ≡ script_app verb.entry.now) }
     ensures local { IfOk result (λ command. (out-Command command).has_globals ≡ false) }
 {
     Command::new(alloc, verb)
         .arg(Arg::new(alloc, "IMAGE").required(true))?
-        .arg(Arg::new(alloc, "SCRIPT").required(true))
+        .arg(Arg::new(alloc, "SCRIPT").required(true))?
+        .arg(Arg::new(alloc, "packet").long("packet"))
 }
 
 // What the words ask for, if they are exactly as shown.
@@ -89,31 +113,82 @@ fn exactly<'a>(words: &'a [&'a str]) -> Option<Task<'a>>
     ensures none { IfNone result (IsCommandLine (map (λ word. word.now) words.entry.now) → ⊥) }
 {
     match words {
-        [verb, image, script] => script_task(verb, image, script),
+        [verb, image] => migrate_task(verb, image),
         [verb, image, first, blocks, second, slots, ending @ ..] => {
             format_task(verb, image, first, blocks, second, slots, ending)
         }
+        [verb, image, script, ending @ ..] => script_task(verb, image, script, ending),
         _ => None,
     }
 }
 
-// What three words ask for.
-fn script_task<'a>(verb: &str, image: &'a str, script: &'a str) -> Option<Task<'a>>
-    ensures task { IfSome result
-        (SpellsTask (verb.now ∷ image.entry.now ∷ script.entry.now ∷ [])) }
-    ensures none { IfNone result
-        (IsCommandLine (verb.now ∷ image.entry.now ∷ script.entry.now ∷ []) → ⊥) }
+// What two words ask for.
+fn migrate_task<'a>(verb: &str, image: &'a str) -> Option<Task<'a>>
+    ensures task { IfSome result (SpellsTask (verb.now ∷ image.entry.now ∷ [])) }
+    ensures none { IfNone result (IsCommandLine (verb.now ∷ image.entry.now ∷ []) → ⊥) }
+{
+    if verb != "migrate" || !is_file_word(image) {
+        return None;
+    }
+    Some(Task::Migrate { image })
+}
+
+// What three words ask for, and the few behind them.
+fn script_task<'a>(verb: &str, image: &'a str, script: &'a str, ending: &[&str]) -> Option<Task<'a>>
+    requires { length ending.now ≤ 2 }
+    ensures task { IfSome result (SpellsTask (verb.now ∷ image.entry.now ∷ script.entry.now
+        ∷ map (λ word. word.now) ending.now)) }
+    ensures none { IfNone result (IsCommandLine (verb.now ∷ image.entry.now ∷ script.entry.now
+        ∷ map (λ word. word.now) ending.now) → ⊥) }
 {
     if !is_file_word(image) || !is_file_word(script) {
         return None;
     }
+    let size = read_packet_ending(ending)?;
     if verb == "run" {
-        return Some(Task::Run { image, script });
+        return Some(Task::Run {
+            image,
+            script,
+            size,
+        });
     }
     if verb == "sim" {
-        return Some(Task::Sim { image, script });
+        return Some(Task::Sim {
+            image,
+            script,
+            size,
+        });
     }
     None
+}
+
+// The size of a packet that the words behind the files tell: 512 bytes, where there are none.
+fn read_packet_ending(ending: &[&str]) -> Option<PacketSize>
+    ensures size { IfSome result (IsPacketEnding (map (λ word. word.now) ending.now)) }
+    ensures none { IfNone result ((size : PacketSize)
+        → IsPacketEnding (map (λ word. word.now) ending.now) size → ⊥) }
+{
+    match ending {
+        [] => Some(PacketSize::High512),
+        [name, bytes] => named_size(name, bytes),
+        _ => None,
+    }
+}
+
+// The size of so many bytes, behind this name.
+fn named_size(name: &str, bytes: &str) -> Option<PacketSize>
+    ensures size { IfSome result (IsPacketEnding (name.now ∷ bytes.now ∷ [])) }
+    ensures none { IfNone result ((size : PacketSize)
+        → IsPacketEnding (name.now ∷ bytes.now ∷ []) size → ⊥) }
+{
+    if name != "--packet" {
+        return None;
+    }
+    match bytes {
+        "64" => Some(PacketSize::Full64),
+        "512" => Some(PacketSize::High512),
+        _ => None,
+    }
 }
 
 // What six words ask for, and those behind them.
@@ -136,7 +211,7 @@ fn format_task<'a>(
     }
     let blocks = read_number(blocks.as_bytes(), 0, MOST)?;
     let slots = read_number(slots.as_bytes(), 0, MOST)?;
-    let format = read_ending(ending)?;
+    let format = read_format_ending(ending)?;
     Some(Task::Format {
         image,
         format,
@@ -146,10 +221,10 @@ fn format_task<'a>(
 }
 
 // The format that the words behind the sizes tell: format 1, where there are none.
-fn read_ending(ending: &[&str]) -> Option<LogFormat>
-    ensures format { IfSome result (IsEnding (map (λ word. word.now) ending.now)) }
+fn read_format_ending(ending: &[&str]) -> Option<LogFormat>
+    ensures format { IfSome result (IsFormatEnding (map (λ word. word.now) ending.now)) }
     ensures none { IfNone result ((format : LogFormat)
-        → IsEnding (map (λ word. word.now) ending.now) format → ⊥) }
+        → IsFormatEnding (map (λ word. word.now) ending.now) format → ⊥) }
 {
     match ending {
         [] => Some(LogFormat::One),
@@ -160,9 +235,9 @@ fn read_ending(ending: &[&str]) -> Option<LogFormat>
 
 // The format with this number, behind this name.
 fn named_format(name: &str, number: &str) -> Option<LogFormat>
-    ensures format { IfSome result (IsEnding (name.now ∷ number.now ∷ [])) }
+    ensures format { IfSome result (IsFormatEnding (name.now ∷ number.now ∷ [])) }
     ensures none { IfNone result ((format : LogFormat)
-        → IsEnding (name.now ∷ number.now ∷ []) format → ⊥) }
+        → IsFormatEnding (name.now ∷ number.now ∷ []) format → ⊥) }
 {
     if name != "--format" {
         return None;

@@ -2,6 +2,7 @@ ghost use Rattle.std.specs.Prelude.{◌≡◌, None, IfOk};
 ghost use Rattle.bot_machine.specs.LivesValue.{IsAtRest};
 
 use crate::{ScriptFault, run_script, sim_script};
+use bot_machine::PacketSize;
 use medium::{Kept, SimMedium};
 use recovery::format;
 use std::alloc::Global;
@@ -48,7 +49,13 @@ pub(crate) fn block_of(alloc: Global, digits: &str) -> Result<String, Fail> {
 
 fn simulate(alloc: Global, script: &str) -> Result<Vec<u8>, Fail> {
     let mut out = Vec::new(alloc);
-    match sim_script(alloc, formatted(alloc)?, &mut script.as_bytes(), &mut out) {
+    match sim_script(
+        alloc,
+        formatted(alloc)?,
+        &mut script.as_bytes(),
+        &mut out,
+        PacketSize::High512,
+    ) {
         Ok(_) => Ok(out),
         Err(_) => Err(Fail::from("the script was not played")),
     }
@@ -144,7 +151,13 @@ fn refuses_a_script_by_its_first_bad_line(rt: HostRuntime) -> Result<(), Fail> {
     ];
     for (script, number) in scripts {
         let mut out = Vec::new(alloc);
-        let refused = sim_script(alloc, formatted(alloc)?, &mut script.as_bytes(), &mut out);
+        let refused = sim_script(
+            alloc,
+            formatted(alloc)?,
+            &mut script.as_bytes(),
+            &mut out,
+            PacketSize::High512,
+        );
         let Err(error) = refused else {
             return Err(Fail::from("a bad line was taken"));
         };
@@ -153,7 +166,13 @@ fn refuses_a_script_by_its_first_bad_line(rt: HostRuntime) -> Result<(), Fail> {
     }
     for script in ["fuse 1", "cut none", "cut 0"] {
         let mut out = Vec::new(alloc);
-        let refused = run_script(alloc, formatted(alloc)?, &mut script.as_bytes(), &mut out);
+        let refused = run_script(
+            alloc,
+            formatted(alloc)?,
+            &mut script.as_bytes(),
+            &mut out,
+            PacketSize::High512,
+        );
         let Err(error) = refused else {
             return Err(Fail::from("a line that moves the power was taken"));
         };
@@ -185,10 +204,22 @@ fn takes_a_script_at_the_limit_and_none_over_it(rt: HostRuntime) -> Result<(), F
     let alloc = rt.alloc();
     let mut script = vec![in alloc; b'\n'; 1_048_576]?;
     let mut out = Vec::new(alloc);
-    let played = sim_script(alloc, formatted(alloc)?, &mut script.as_slice(), &mut out);
+    let played = sim_script(
+        alloc,
+        formatted(alloc)?,
+        &mut script.as_slice(),
+        &mut out,
+        PacketSize::High512,
+    );
     assert!(rt; played.is_ok());
     script.push(b'x')?;
-    let refused = sim_script(alloc, formatted(alloc)?, &mut script.as_slice(), &mut out);
+    let refused = sim_script(
+        alloc,
+        formatted(alloc)?,
+        &mut script.as_slice(),
+        &mut out,
+        PacketSize::High512,
+    );
     let Err(error) = refused else {
         return Err(Fail::from("a longer script was taken"));
     };
@@ -228,7 +259,13 @@ fn ends_where_the_writer_fails(rt: HostRuntime) -> Result<(), Fail> {
         bytes: Vec::new(alloc),
     };
     let script = b"in\nin\nin\nin\n";
-    let refused = run_script(alloc, formatted(alloc)?, &mut script.as_slice(), &mut out);
+    let refused = run_script(
+        alloc,
+        formatted(alloc)?,
+        &mut script.as_slice(),
+        &mut out,
+        PacketSize::High512,
+    );
     let Err(error) = refused else {
         return Err(Fail::from("a failed write was missed"));
     };
@@ -259,7 +296,13 @@ fn plays_nothing_where_the_reader_fails(rt: HostRuntime) -> Result<(), Fail> {
     let alloc = rt.alloc();
     let mut out = Vec::new(alloc);
     let mut script = FailingReader { left: 2 };
-    let refused = sim_script(alloc, formatted(alloc)?, &mut script, &mut out);
+    let refused = sim_script(
+        alloc,
+        formatted(alloc)?,
+        &mut script,
+        &mut out,
+        PacketSize::High512,
+    );
     let Err(error) = refused else {
         return Err(Fail::from("a failed read was missed"));
     };

@@ -1,35 +1,39 @@
 // A line's first word, and what stands behind it.
-ghost use Rattle.std.specs.Prelude.{◌≡◌, ◌≢◌, ◌++◌, ◌∷◌, [], ℕ, List, IfSome, IfNone, MatchOption};
+ghost use Rattle.std.specs.Prelude.{◌≡◌, ◌≢◌, ◌≤◌, ◌++◌, ◌∷◌, [], ℕ, List, IfSome, IfNone, MatchOption};
 ghost use Rattle.hex.specs.Hex.{decode_of};
+ghost use Rattle.bot_machine.specs.PacketBytes.{bytes_of};
 ghost use Rattle.runner.specs.Line.{SpellsOut, SpellsPacket, SpellsFill, SpellsSetup, SpellsCount};
 
 use crate::number::read_number;
 use arrayvec::ArrayVec;
+use bot_machine::PacketSize;
 
-/// Reads `out` and the packet behind it.
-pub(crate) fn read_out(line: &[u8]) -> Option<ArrayVec<u8, 512>>
-    ensures spelled { IfSome result (λ packet. SpellsOut line.now packet.items) }
-    ensures refused { IfNone result ((packet : List ℕ) → SpellsOut line.now packet → ⊥) }
+/// Reads `out` and the packet behind it, which has at most the bytes of a size.
+pub(crate) fn read_out(line: &[u8], size: PacketSize) -> Option<ArrayVec<u8, 512>>
+    ensures spelled { IfSome result (λ packet. SpellsOut (bytes_of size) line.now packet.items) }
+    ensures refused { IfNone result ((packet : List ℕ)
+        → SpellsOut (bytes_of size) line.now packet → ⊥) }
 {
     if line == b"out".as_slice() {
         return Some(ArrayVec::new());
     }
-    read_packet(behind(line, b"out ")?)
+    read_packet(behind(line, b"out ")?, size.bytes() as usize)
 }
 
-// The bytes of a packet that is not empty, from their hex digits.
-fn read_packet(digits: &[u8]) -> Option<ArrayVec<u8, 512>>
-    ensures spelled { IfSome result (λ packet. SpellsPacket digits.now packet.items) }
-    ensures refused { IfNone result ((packet : List ℕ) → SpellsPacket digits.now packet → ⊥) }
+// The bytes of a packet that is not empty, at most so many, from their hex digits.
+fn read_packet(digits: &[u8], most: usize) -> Option<ArrayVec<u8, 512>>
+    requires { most ≤ 512 }
+    ensures spelled { IfSome result (λ packet. SpellsPacket most digits.now packet.items) }
+    ensures refused { IfNone result ((packet : List ℕ) → SpellsPacket most digits.now packet → ⊥) }
 {
-    let size = digits.len() / 2;
-    if size == 0 || size > 512 {
+    let count = digits.len() / 2;
+    if count == 0 || count > most {
         return None;
     }
     let mut bytes = [0; 512];
-    hex::decode_to_slice(digits, &mut bytes[..size]).ok()?;
+    hex::decode_to_slice(digits, &mut bytes[..count]).ok()?;
     let mut packet = ArrayVec::new();
-    packet.try_extend_from_slice(&bytes[..size]).ok()?;
+    packet.try_extend_from_slice(&bytes[..count]).ok()?;
     Some(packet)
 }
 

@@ -21,7 +21,7 @@ fn path_of(rt: &HostRuntime, name: &str) -> Result<String, Fail> {
 
 #[test]
 fn refuses_other_words(rt: HostRuntime) -> Result<(), Fail> {
-    let lines: [&[&str]; 18] = [
+    let lines: [&[&str]; 22] = [
         &[],
         &["sim"],
         &["sim", "a"],
@@ -29,6 +29,10 @@ fn refuses_other_words(rt: HostRuntime) -> Result<(), Fail> {
         &["run", "-a", "b"],
         &["sim", "--", "a", "b"],
         &["--help"],
+        &["migrate"],
+        &["migrate", "a", "b"],
+        &["run", "a", "b", "--packet", "63"],
+        &["sim", "a", "--packet", "64", "b"],
         &["format", "a", "--slots", "8", "--blocks", "10"],
         &["format", "a", "--blocks", "010", "--slots", "8"],
         &["format", "a", "--blocks", "4294967296", "--slots", "8"],

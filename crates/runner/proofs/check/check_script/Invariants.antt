@@ -1,7 +1,8 @@
+use Rattle.bot_machine.specs.PacketBytes.{bytes_of}
 use Rattle.runner.specs.Left.{parts_left}
 use Rattle.runner.specs.Lines.{lines_of}
 use Rattle.runner.proofs.Checking.{IsReadTo}
 use Rattle.runner.proofs.check.check_script.Given as goal
 
 abbrev pub invariant-loop-line : goal.invariant-loop-line
-invariant-loop-line l = IsReadTo l.kind (lines_of l.script) (parts_left l.line-iterator) l.number
+invariant-loop-line l = IsReadTo l.kind (bytes_of l.size) (lines_of l.script) (parts_left l.line-iterator) l.number

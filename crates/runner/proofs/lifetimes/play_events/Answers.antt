@@ -2,6 +2,8 @@ use Rattle.std.proofs.Common.{◌≡◌, ◌∷◌, [], ◌++◌, ◌∙◌, ap,
 use Rattle.std.specs.Prelude.{flat_map}
 use Rattle.std.proofs.lemmas.List.Concat.{flat_map-cons}
 use Rattle.std.proofs.lemmas.Result.{err_from_is_err_and}
+use Rattle.bot_machine.specs.Device.{Device}
+use Rattle.bot_machine.specs.Fitting.{IsWithin, AreWithin}
 use Rattle.bot_machine.specs.LivesValue.{LivesValue}
 use Rattle.bot_machine.specs.declared.event.Event.{Event}
 use Rattle.bot_machine.specs.Lives.{Action}
@@ -12,6 +14,7 @@ use Rattle.runner.specs.declared.fault.ScriptFault.{ScriptFault}
 use Rattle.runner.specs.declared.fault.ScriptFault.TheVariants.{Start, Writer}
 use Rattle.runner.proofs.Acting.{acted-event, tells-none, tells-more, tells-event, breaks-more, breaks-before, breaks-start, breaks-writer}
 use Rattle.runner.proofs.Options.{on_ok, on_err}
+use Rattle.runner.proofs.Within.{first_within, rest_within}
 use Rattle.runner.proofs.lifetimes.play_events.Goals as goal
 
 -- what all events do, where these have come, this one comes, and these are left
@@ -36,7 +39,15 @@ loop-event-init g c = record {
     ap (λ asked. flat_map comes (events_of asked)) (sym c.into_iter-event-iterator.ensures.into_iter_gives),
     tells-none (g.W.Write.contents c.args.out.now) c.args.lives.now,
   );
+  within = subst (λ asked. AreWithin c.args.lives.now.device.packet_size (events_of asked)) (sym c.into_iter-event-iterator.ensures.into_iter_gives) c.requires;
 }
+
+pub event-requires : goal.event-requires
+event-requires g c =
+    let stays = ap (λ (d : Device). d.packet_size) c.loop-event.invariant.so_far.2.acted.goes_on.device_stays in
+    subst (λ (most : ℕ). IsWithin most c.in-Some.event) (sym stays)
+    (first_within c.args.lives.now.device.packet_size c.in-Some.event (events_of c.next.new.self) (events_of c.loop-event.event-iterator) c.in-Some.ensures.steps
+    c.loop-event.invariant.within)
 
 pub loop-event-preserved : goal.loop-event-preserved
 loop-event-preserved g c =
@@ -56,6 +67,8 @@ loop-event-preserved g c =
             (comes event) (tells-event (contents c.loop-event.out) (contents c.write_out.new.out) c.loop-event.lives c.event.new.self event answer acted
             (rw (c.as_slice.ensures.value ∙ c.event_line.ensures) at written)),
       );
+      within = rest_within c.args.lives.now.device.packet_size event left (events_of c.loop-event.event-iterator) c.in-Some.ensures.steps
+          c.loop-event.invariant.within;
     }
 
 pub returns-in_err-answer-clause-broken : goal.returns-in_err-answer-clause-broken

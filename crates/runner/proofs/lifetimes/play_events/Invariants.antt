@@ -1,5 +1,6 @@
 use Rattle.std.proofs.Common.{◌≡◌, ◌++◌, List}
 use Rattle.std.specs.Prelude.{flat_map}
+use Rattle.bot_machine.specs.Fitting.{AreWithin}
 use Rattle.bot_machine.specs.Lives.{Action}
 use Rattle.runner.specs.Events.{events_of}
 use Rattle.runner.specs.Lifetimes.{comes}
@@ -10,4 +11,5 @@ abbrev pub invariant-loop-event : goal.invariant-loop-event
 invariant-loop-event g l = record {
   so_far : (actions : List Action) × (flat_map comes (events_of l.fn.asked) ≡ actions ++ flat_map comes (events_of l.event-iterator))
       × TellsLives (g.W.Write.contents l.fn.out) (g.W.Write.contents l.out) l.fn.lives actions l.lives;
+  within : AreWithin l.fn.lives.device.packet_size (events_of l.event-iterator);
 }

@@ -1,5 +1,6 @@
 use Rattle.std.proofs.Common.{◌≤◌}
 use Rattle.std.specs.Prelude.{All, vec_capacity}
+use Rattle.bot_machine.specs.PacketBytes.{bytes_of}
 use Rattle.runner.specs.declared.line.ScriptKind.TheVariants.{Lives}
 use Rattle.runner.specs.Left.{parts_left}
 use Rattle.runner.specs.Line.{IsScriptLine}
@@ -9,7 +10,7 @@ use Rattle.runner.proofs.lifetimes.play_lives.Given as goal
 
 abbrev pub invariant-loop-line : goal.invariant-loop-line
 invariant-loop-line g l = record {
-  left : All (IsScriptLine Lives) (parts_left l.line-iterator);
+  left : All (IsScriptLine Lives (bytes_of l.size)) (parts_left l.line-iterator);
   room : 64 ≤ vec_capacity l.numbers;
-  so_far : ArePlayedTo (g.W.Write.contents l.fn.out) (g.W.Write.contents l.out) l.fn.lives (lines_of l.script) (parts_left l.line-iterator) l.lives;
+  so_far : ArePlayedTo (bytes_of l.size) (g.W.Write.contents l.fn.out) (g.W.Write.contents l.out) l.fn.lives (lines_of l.script) (parts_left l.line-iterator) l.lives;
 }

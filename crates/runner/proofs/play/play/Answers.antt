@@ -1,4 +1,5 @@
 use Rattle.std.proofs.Common.{[], ◌++◌, ◌∙◌, suc, ap, sym, refl, arith}
+use Rattle.bot_machine.specs.PacketBytes.{bytes_of}
 use Rattle.runner.specs.Left.{parts_left}
 use Rattle.runner.specs.Lines.{lines_of}
 use Rattle.runner.specs.declared.line.ScriptKind.TheVariants.{OneLife}
@@ -8,7 +9,7 @@ use Rattle.runner.specs.Script.{LinePlays}
 use Rattle.runner.proofs.InTurn.{given-start, given-more, given-all, given-part}
 use Rattle.runner.proofs.Known.{Appends-none, Appends-more}
 use Rattle.runner.proofs.Options.{on_ok, on_err}
-use Rattle.runner.proofs.Runs.{tells-none, tells-more, breaks-more}
+use Rattle.runner.proofs.Runs.{packets_stay, tells-none, tells-more, breaks-more}
 use Rattle.runner.proofs.play.play.Goals as goal
 
 pub loop-line-init : goal.loop-line-init
@@ -16,14 +17,19 @@ loop-line-init g c =
     let same = ap parts_left c.into_iter-line-iterator.ensures.into_iter_gives ∙ c.lines-line-items.ensures in
     let left = parts_left c.into_iter-line-iterator.result in
     record {
-      left = rw same c.requires;
-      so_far = ([], [], tells-none g.M.Medium.state c.args.disk, given-start LinePlays (lines_of c.args.script.now) left same, Appends-none (g.W.Write.contents c.args.out.now));
+      left = rw same c.requires.good;
+      so_far = ([], [], tells-none g.M.Medium.state c.args.disk, given-start (LinePlays (bytes_of c.args.size)) (lines_of c.args.script.now) left same, Appends-none (g.W.Write.contents c.args.out.now));
     }
 
 pub play_line-requires : goal.play_line-requires
 play_line-requires g c =
     let left = rw c.in-Some.ensures.steps at c.loop-line.invariant.left in
-    left 0 [] (omega arith)
+    let told = c.loop-line.invariant.so_far.2 in
+    record {
+      good = left 0 [] (omega arith);
+      packets = packets_stay g.M.Medium.state c.loop-line.invariant.so_far.0 told.answers told.refusals c.args.disk c.loop-line.disk told.steps
+          ∙ c.requires.packets;
+    }
 
 pub loop-line-preserved : goal.loop-line-preserved
 loop-line-preserved g c =
@@ -38,7 +44,7 @@ loop-line-preserved g c =
         so.0 ++ here.0,
         so.1 ++ here.1,
         tells-more state c.args.disk c.loop-line.disk c.play_line.new.disk so.0 here.0 so.1 here.1 so.2 here.3,
-        given-more LinePlays (lines_of c.args.script.now) (parts_left c.loop-line.line-iterator) (parts_left c.next.new.self) c.in-Some.line.now
+        given-more (LinePlays (bytes_of c.args.size)) (lines_of c.args.script.now) (parts_left c.loop-line.line-iterator) (parts_left c.next.new.self) c.in-Some.line.now
             c.in-Some.ensures.steps so.0 here.0 so.3 here.2,
         Appends-more (contents c.args.out.now) (contents c.loop-line.out) (contents c.play_line.new.out) so.1 here.1 so.4 here.4,
       );
@@ -49,7 +55,7 @@ returns-clause-played g c =
     let so = c.loop-line.invariant.so_far in (
       so.0,
       so.1,
-      given-all LinePlays (lines_of c.args.script.now) (parts_left c.loop-line.line-iterator) so.0 c.in-None.ensures.steps.0 so.3,
+      given-all (LinePlays (bytes_of c.args.size)) (lines_of c.args.script.now) (parts_left c.loop-line.line-iterator) so.0 c.in-None.ensures.steps.0 so.3,
       record { new = c.loop-line.disk; tells = so.2; medium = sym c.into_medium-2.ensures },
       so.4,
     )
@@ -66,7 +72,7 @@ returns-then-is_err-clause-cut_short g c =
         first = so.0;
         part = here.0;
         event = here.1;
-        stops = given-part LinePlays (IsScriptLine OneLife)
+        stops = given-part (LinePlays (bytes_of c.args.size)) (IsScriptLine OneLife (bytes_of c.args.size))
             (λ line is. (events_of is.0, record { asked = is.0; spelled = is.1; allowed = is.2; events_are = refl }))
             (lines_of c.args.script.now) (parts_left c.loop-line.line-iterator) (parts_left c.next.new.self) c.in-Some.line.now c.in-Some.ensures.steps
             so.0 here.0 here.1 here.2 so.3 here.3 (λ k d lt. left (suc k) d (omega (arith, lt)));

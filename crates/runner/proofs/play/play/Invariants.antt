@@ -1,6 +1,7 @@
 use Rattle.std.proofs.Common.{ℕ, List}
 use Rattle.std.specs.Prelude.{All}
 use Rattle.std.specs.Io.KnownBytes.{Appends}
+use Rattle.bot_machine.specs.PacketBytes.{bytes_of}
 use Rattle.bot_machine.specs.declared.event.Event.{Event}
 use Rattle.runner.specs.declared.line.ScriptKind.TheVariants.{OneLife}
 use Rattle.runner.specs.Left.{parts_left}
@@ -15,8 +16,8 @@ abbrev pub invariant-loop-line : goal.invariant-loop-line
 invariant-loop-line g l =
     let contents = g.W.Write.contents in
     record {
-      left : All (IsScriptLine OneLife) (parts_left l.line-iterator);
+      left : All (IsScriptLine OneLife (bytes_of l.size)) (parts_left l.line-iterator);
       so_far : (events : List Event) × (text : List ℕ) × Tells g.M.Medium.state l.fn.disk events text l.disk
-          × IsGivenTo LinePlays (lines_of l.script) (parts_left l.line-iterator) events
+          × IsGivenTo (LinePlays (bytes_of l.size)) (lines_of l.script) (parts_left l.line-iterator) events
           × Appends (contents l.fn.out) (contents l.out) text;
     }

@@ -1,9 +1,12 @@
-use Rattle.std.proofs.Common.{◌∷◌, [], ◌++◌, ◌∙◌, ap, sym, append_assoc}
+use Rattle.std.proofs.Common.{◌∷◌, [], ◌++◌, ◌∙◌, ℕ, ap, sym, subst, append_assoc}
+use Rattle.bot_machine.specs.Fitting.{IsWithin}
+use Rattle.bot_machine.specs.PacketBytes.{bytes_of}
 use Rattle.runner.specs.Events.{events_of}
 use Rattle.runner.specs.Text.{line_for}
 use Rattle.runner.proofs.Known.{Appends-none, Appends-more}
 use Rattle.runner.proofs.Options.{on_err_too}
-use Rattle.runner.proofs.Runs.{tells-none, tells-one, tells-more, breaks-here}
+use Rattle.runner.proofs.Runs.{packets_stay, tells-none, tells-one, tells-more, breaks-here}
+use Rattle.runner.proofs.Within.{events_within, next_within}
 use Rattle.runner.proofs.play.play_line.Goals as goal
 
 pub loop-event-init : goal.loop-event-init
@@ -23,6 +26,16 @@ loop-event-init g c =
         ),
       );
     }
+
+pub answer_to-answer-requires : goal.answer_to-answer-requires
+answer_to-answer-requires g c =
+    let asked = c.loop-event.invariant.asked in
+    let so = asked.3 in
+    let told = so.3 in
+    let stays = packets_stay g.M.Medium.state so.0 told.answers told.refusals c.args.disk.now c.loop-event.disk told.steps in
+    subst (λ (most : ℕ). IsWithin most c.in-Some.event) (sym (stays ∙ c.requires.packets))
+    (next_within (bytes_of c.args.size) so.0 (events_of c.loop-event.event-iterator) (events_of asked.0) (events_of c.next.new.self) c.in-Some.event so.2
+    c.in-Some.ensures.steps (events_within (bytes_of c.args.size) c.args.line.now asked.0 asked.1))
 
 pub loop-event-preserved : goal.loop-event-preserved
 loop-event-preserved g c =

@@ -9,8 +9,9 @@ use Rattle.runner.proofs.program.run_program.Goals as goal
 -- no words are no command line
 no_words : IsCommandLine [] → ⊥
 no_words (inl line) = absurd (omega (arith, ap length line.4.words_are))
-no_words (inr (inl line)) = absurd (omega (arith, ap length line.2.words_are))
-no_words (inr (inr line)) = absurd (omega (arith, ap length line.2.words_are))
+no_words (inr (inl line)) = absurd (omega (arith, ap length line.1.words_are))
+no_words (inr (inr (inl line))) = absurd (omega (arith, ap length line.1.2.words_are))
+no_words (inr (inr (inr line))) = absurd (omega (arith, ap length line.1.2.words_are))
 
 pub returns-in-Err-clause-refused : goal.returns-in-Err-clause-refused
 returns-in-Err-clause-refused g c not =

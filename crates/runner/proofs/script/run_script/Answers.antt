@@ -1,30 +1,35 @@
-use Rattle.std.proofs.Common.{◌∙◌, sym}
+use Rattle.std.proofs.Common.{◌∙◌, ap, sym}
 use Rattle.std.proofs.KnownBytes.{Keeps-refl}
+use Rattle.bot_machine.specs.Exchange.{Line}
+use Rattle.bot_machine.specs.PacketBytes.{bytes_of}
 use Rattle.runner.proofs.OneLife.{is_played, is_cut_short}
 use Rattle.runner.proofs.Options.{if_ok, if_err}
 use Rattle.runner.proofs.script.run_script.Goals as goal
 
 pub play-requires : goal.play-requires
-play-requires g c = rw (c.as_slice.ensures.value ∙ sym c.as_slice-in-Ok-start.ensures.value) at c.in-Ok-check_script.ensures.good
+play-requires g c = record {
+  good = rw (c.as_slice.ensures.value ∙ sym c.as_slice-in-Ok-start_with.ensures.value) at c.in-Ok-check_script.ensures.good;
+  packets = ap (λ (l : Line). l.packet_size) c.in-Ok-start_with.ensures.ok.line;
+}
 
-pub returns-in-Ok-start-clause-played : goal.returns-in-Ok-start-clause-played
-returns-in-Ok-start-clause-played g c =
+pub returns-in-Ok-start_with-clause-played : goal.returns-in-Ok-start_with-clause-played
+returns-in-Ok-start_with-clause-played g c =
     let contents = g.W.Write.contents in
-    let same = sym c.as_slice-in-Ok-start.ensures.value in
+    let same = sym c.as_slice-in-Ok-start_with.ensures.value in
     if_ok c.play.result
-    (is_played g.M.Medium.state (g.R.Read.remaining c.args.script.now) (contents c.args.out.now) (contents c.play.new.out) c.args.medium
-    c.as_slice-in-Ok-start.result.now (record { all = rw same at c.in-Ok.ensures.all; fits = rw same at c.in-Ok.ensures.fits })
-    c.disk_identity.result c.disk_identity.ensures c.in-Ok-start.disk c.in-Ok-start.ensures.ok c.in-Ok-start.ensures.leaves)
+    (is_played g.M.Medium.state (bytes_of c.args.size) (g.R.Read.remaining c.args.script.now) (contents c.args.out.now) (contents c.play.new.out) c.args.medium
+    c.as_slice-in-Ok-start_with.result.now (record { all = rw same at c.in-Ok.ensures.all; fits = rw same at c.in-Ok.ensures.fits })
+    c.disk_identity.result c.disk_identity.ensures c.in-Ok-start_with.disk c.in-Ok-start_with.ensures.ok c.in-Ok-start_with.ensures.leaves)
     c.play.ensures.played
 
-pub returns-in-Ok-start-clause-refused : goal.returns-in-Ok-start-clause-refused
-returns-in-Ok-start-clause-refused g c =
+pub returns-in-Ok-start_with-clause-refused : goal.returns-in-Ok-start_with-clause-refused
+returns-in-Ok-start_with-clause-refused g c =
     let contents = g.W.Write.contents in
-    let same = sym c.as_slice-in-Ok-start.ensures.value in
+    let same = sym c.as_slice-in-Ok-start_with.ensures.value in
     if_err c.play.result
-    (is_cut_short g.M.Medium.state (g.R.Read.remaining c.args.script.now) (contents c.args.out.now) (contents c.play.new.out) c.args.medium
-    c.as_slice-in-Ok-start.result.now (record { all = rw same at c.in-Ok.ensures.all; fits = rw same at c.in-Ok.ensures.fits })
-    c.disk_identity.result c.disk_identity.ensures c.in-Ok-start.disk c.in-Ok-start.ensures.ok c.in-Ok-start.ensures.leaves)
+    (is_cut_short g.M.Medium.state (bytes_of c.args.size) (g.R.Read.remaining c.args.script.now) (contents c.args.out.now) (contents c.play.new.out) c.args.medium
+    c.as_slice-in-Ok-start_with.result.now (record { all = rw same at c.in-Ok.ensures.all; fits = rw same at c.in-Ok.ensures.fits })
+    c.disk_identity.result c.disk_identity.ensures c.in-Ok-start_with.disk c.in-Ok-start_with.ensures.ok c.in-Ok-start_with.ensures.leaves)
     c.play.ensures.cut_short
 
 pub returns-clause-refused : goal.returns-clause-refused
@@ -34,7 +39,7 @@ returns-clause-refused g c =
       script = c.as_slice.result.now;
       read = record { all = rw same at c.in-Ok.ensures.all; fits = rw same at c.in-Ok.ensures.fits };
       good = c.in-Ok-check_script.ensures.good;
-      refused = c.in-Err-start.ensures.err;
-      leaves = c.in-Err-start.ensures.leaves;
+      refused = c.in-Err-start_with.ensures.err;
+      leaves = c.in-Err-start_with.ensures.leaves;
       kept = Keeps-refl (g.W.Write.contents c.args.out.now);
     }

@@ -1,4 +1,6 @@
-use Rattle.std.proofs.Common.{◌∙◌, sym, inl}
+use Rattle.std.proofs.Common.{◌∙◌, ap, sym, inl}
+use Rattle.bot_machine.specs.LivesValue.{LivesValue}
+use Rattle.bot_machine.specs.PacketBytes.{bytes_of}
 use Rattle.runner.specs.Lines.{lines_of}
 use Rattle.runner.proofs.Options.{if_ok, if_err, match_result}
 use Rattle.runner.proofs.SeveralLives.{is_played, is_refused, taken_up_to}
@@ -7,13 +9,16 @@ use Rattle.runner.proofs.sim.sim_script.Goals as goal
 pub play_lives-requires-clause-good : goal.play_lives-requires-clause-good
 play_lives-requires-clause-good g c = rw (c.as_slice.ensures.value ∙ sym c.as_slice-2.ensures.value) at c.in_default.ensures.good
 
+pub play_lives-requires-clause-packets : goal.play_lives-requires-clause-packets
+play_lives-requires-clause-packets g c = ap (λ (l : LivesValue). l.device.packet_size) c.new_with.ensures.value
+
 pub returns-clause-played : goal.returns-clause-played
 returns-clause-played g c =
     let contents = g.W.Write.contents in
     let same = sym c.as_slice-2.ensures.value in
     if_ok c.play_lives.result
-    (is_played c.args.medium c.requires.rests c.requires.unfused c.disk_identity.result c.disk_identity.ensures c.new.result c.new.ensures.value
-    c.new.ensures.first (g.R.Read.remaining c.args.script.now) (contents c.args.out.now) (contents c.play_lives.new.out) c.as_slice-2.result.now
+    (is_played (bytes_of c.args.size) c.args.medium c.requires.rests c.requires.unfused c.disk_identity.result c.disk_identity.ensures c.new_with.result c.new_with.ensures.value
+    c.new_with.ensures.first (g.R.Read.remaining c.args.script.now) (contents c.args.out.now) (contents c.play_lives.new.out) c.as_slice-2.result.now
     (record { all = rw same at c.in-Ok.ensures.all; fits = rw same at c.in-Ok.ensures.fits }))
     c.play_lives.ensures.played
 
@@ -22,8 +27,8 @@ returns-clause-refused g c =
     let contents = g.W.Write.contents in
     let same = sym c.as_slice-2.ensures.value in
     if_err c.play_lives.result
-    (is_refused c.args.medium c.requires.rests c.requires.unfused c.disk_identity.result c.disk_identity.ensures c.new.result c.new.ensures.value
-    c.new.ensures.first (g.R.Read.remaining c.args.script.now) (contents c.args.out.now) (contents c.play_lives.new.out) c.as_slice-2.result.now
+    (is_refused (bytes_of c.args.size) c.args.medium c.requires.rests c.requires.unfused c.disk_identity.result c.disk_identity.ensures c.new_with.result c.new_with.ensures.value
+    c.new_with.ensures.first (g.R.Read.remaining c.args.script.now) (contents c.args.out.now) (contents c.play_lives.new.out) c.as_slice-2.result.now
     (record { all = rw same at c.in-Ok.ensures.all; fits = rw same at c.in-Ok.ensures.fits }))
     c.play_lives.ensures.broken
 
@@ -32,6 +37,6 @@ returns-clause-taken g c =
     let contents = g.W.Write.contents in
     let remaining = g.R.Read.remaining in
     match_result c.play_lives.result (λ medium. c.in-Ok.ensures.taken)
-    (λ error broken. inl (taken_up_to (contents c.args.out.now) (contents c.play_lives.new.out) c.new.result (lines_of c.as_slice-2.result.now) error
+    (λ error broken. inl (taken_up_to (bytes_of c.args.size) (contents c.args.out.now) (contents c.play_lives.new.out) c.new_with.result (lines_of c.as_slice-2.result.now) error
     (remaining c.args.script.now) (remaining c.read_to_limit.new.reader) broken c.in-Ok.ensures.taken))
     c.play_lives.ensures.broken

@@ -22,6 +22,19 @@ six (a ∷ b ∷ c ∷ d ∷ e ∷ f ∷ rest) other many =
     ap (λ behind. a.now ∷ b.now ∷ c.now ∷ d.now ∷ e.now ∷ f.now ∷ texts behind) (sym all)
 six _ other few = absurd (omega (arith, few))
 
+-- three words, and those behind them
+three : (words : List Word) (other : Word) → 3 ≤ length words
+    → texts words
+    ≡ (get_or words 0 other).now ∷ (get_or words 1 other).now ∷ (get_or words 2 other).now ∷ texts (take (length words - 3) (drop 3 words))
+three (a ∷ b ∷ c ∷ rest) other many =
+    let all : take (length (a ∷ b ∷ c ∷ rest) - 3) rest ≡ rest = take_all _ rest (omega arith) in
+    ap (λ behind. a.now ∷ b.now ∷ c.now ∷ texts behind) (sym all)
+three _ other few = absurd (omega (arith, few))
+
+pub returns-in-len3-up-clause-none : goal.returns-in-len3-up-clause-none
+returns-in-len3-up-clause-none c =
+    none_weaker c.script_task.result (λ never line. never (subst IsCommandLine (three c.args.words.now _ c.in-len3-up.len_at_least) line)) c.script_task.ensures.none
+
 pub returns-in-len6-up-clause-none : goal.returns-in-len6-up-clause-none
 returns-in-len6-up-clause-none c =
     none_weaker c.format_task.result (λ never line. never (subst IsCommandLine (six c.args.words.now _ c.in-len6-up.len_at_least) line)) c.format_task.ensures.none

@@ -1,12 +1,12 @@
 use Rattle.std.proofs.Common.{arith}
 use Rattle.runner.proofs.Packets.{length-digits}
 use Rattle.runner.proofs.words.read_packet.Goals as goal
-use Rattle.runner.proofs.words.read_packet.Goals.{then-size-eq0-via-then-size-eq0, then-size-eq0-via-else-size-eq0+then-size-gt512}
+use Rattle.runner.proofs.words.read_packet.Goals.{then-count-eq0-via-then-count-eq0, then-count-eq0-via-else-count-eq0+then-count-most}
 
-pub returns-then-size-eq0-clause-refused : goal.returns-then-size-eq0-clause-refused
-returns-then-size-eq0-clause-refused c packet spelled =
+pub returns-then-count-eq0-clause-refused : goal.returns-then-count-eq0-clause-refused
+returns-then-count-eq0-clause-refused c packet spelled =
     let twice = length-digits spelled in
-    elim c.then-size-eq0.branch [
-      | then-size-eq0-via-then-size-eq0 w ↦ omega (arith, spelled.some)
-      | then-size-eq0-via-else-size-eq0+then-size-gt512 w ↦ omega (arith, spelled.fits)
+    elim c.then-count-eq0.branch [
+      | then-count-eq0-via-then-count-eq0 w ↦ omega (arith, spelled.some)
+      | then-count-eq0-via-else-count-eq0+then-count-most w ↦ omega (arith, spelled.fits)
     ]
