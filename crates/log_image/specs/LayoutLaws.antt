@@ -23,7 +23,7 @@ pub record Laws (L : Layout) : Type 0 where
   pub carries : (blocks stamp : ℕ) (entries : List Entry) (p : ℕ)
       → IsRecordOf L blocks stamp entries → p < L.parts (length entries)
       → (p < L.early (length entries))
-          ⊎ L.carries (L.offset (length entries) p) stamp (L.part stamp entries p)
+      ⊎ L.carries (L.offset (length entries) p) stamp (L.part stamp entries p)
   pub last_is_late : (n : ℕ) → L.early n < L.parts n
   -- and no other
   pub one_stamp : (blocks stamp other : ℕ) (entries : List Entry) (p : ℕ)

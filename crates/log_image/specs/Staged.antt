@@ -31,8 +31,11 @@ with_less v = record v { head = v.head + 1; records = drop 1 v.records }
 -- the record under way is durable
 abbrev pub with_record : View → View
 with_record v =
-    record v { records = v.records ++ v.under_way ∷ []; under_way = [];
-    array = with_blocks v.under_way v.array }
+    record v {
+      records = v.records ++ v.under_way ∷ [];
+      under_way = [];
+      array = with_blocks v.under_way v.array;
+    }
 
 -- the image has the super, the head and the durable records of this view, and home makes its array
 -- with them
@@ -64,10 +67,10 @@ pub record WrittenSoFar (L : Layout) (shape : Shape) (stamp : ℕ) (entries : Li
   pub either : (p : ℕ) → p < so_far → p < L.parts (length entries)
       → (image (part_at L shape stamp (length entries) p) ≡ L.part stamp entries p)
       ⊎ IsFree L stamp (L.offset (length entries) p)
-          (image (part_at L shape stamp (length entries) p))
+      (image (part_at L shape stamp (length entries) p))
   pub free : (p : ℕ) → so_far ≤ p → p < L.parts (length entries)
       → IsFree L stamp (L.offset (length entries) p)
-          (image (part_at L shape stamp (length entries) p))
+      (image (part_at L shape stamp (length entries) p))
 
 -- the durable records are there, and the record under way so far
 pub record Guarded (L : Layout) (v : View) (so_far durable : ℕ) (image : Image) : Type 0 where

@@ -94,8 +94,11 @@ abbrev pub IsStepped : Progress → LogValue → LogValue → Type 0
 IsStepped More old new = (1 < old.steps_left)
     × (new ≡ record old { steps_left = old.steps_left - 1 })
 IsStepped Durable old new = (old.steps_left ≡ 1)
-    × (new ≡ record old { under_way = []; waiting = old.waiting ++ old.under_way ∷ [];
-        steps_left = 0 })
+    × (new ≡ record old {
+      under_way = [];
+      waiting = old.waiting ++ old.under_way ∷ [];
+      steps_left = 0;
+    })
 
 -- how many retire steps are left when the oldest durable record is retired
 abbrev pub behind_oldest : LogValue → ℕ

@@ -18,8 +18,10 @@ reports_reset sense =
 -- a command failed with a sense: it is kept, and 6/29/00 ends the unit attention
 abbrev pub after_failure : Sense → Waiting → Waiting
 after_failure sense waiting =
-    record { sense = Some sense;
-        attention = (if reports_reset sense then false else waiting.attention) }
+    record {
+      sense = Some sense;
+      attention = (if reports_reset sense then false else waiting.attention);
+    }
 
 -- what REQUEST SENSE reports: the kept sense, else the pending unit attention, else no sense
 abbrev pub reported_of : Option Sense → Bool → Sense
