@@ -12,8 +12,8 @@ use Rattle.bot_machine.specs.Device.{Device}
 use Rattle.bot_machine.specs.Exchange.{Line}
 use Rattle.bot_machine.specs.Disk.{DiskValue}
 use Rattle.bot_machine.specs.Fitting.{IsWithin, AreWithin, LivesAreWithin}
-use Rattle.bot_machine.specs.Lives.{Action, arms, starts, plays, cuts}
-use Rattle.bot_machine.specs.Moving.{FuseMoves, StartsIn, StartMoves, EventMovesIn, EventMoves, CutMoves, Does, MovesBy}
+use Rattle.bot_machine.specs.Lives.{Action, arms, fails, starts, plays, cuts}
+use Rattle.bot_machine.specs.Moving.{FuseMoves, FailureMoves, StartsIn, StartMoves, EventMovesIn, EventMoves, CutMoves, Does, MovesBy}
 use Rattle.bot_machine.specs.LivesValue.{HasPackets}
 
 -- ---- at 512 bytes nothing is asked
@@ -37,6 +37,12 @@ fuse_keeps size writes (Rests old) (Rests new) moves has = tt
 fuse_keeps size writes (Runs old) (Runs new) moves has = ap (λ (d : DiskValue Sim). d.line.packet_size) moves.1 ∙ has
 fuse_keeps size writes (Rests old) (Runs new) moves has = absurd moves
 fuse_keeps size writes (Runs old) (Rests new) moves has = absurd moves
+
+failure_keeps : (size call : ℕ) (old new : Stage) → FailureMoves call old new → HasPackets size old → HasPackets size new
+failure_keeps size call (Rests old) (Rests new) moves has = tt
+failure_keeps size call (Runs old) (Runs new) moves has = ap (λ (d : DiskValue Sim). d.line.packet_size) moves.1 ∙ has
+failure_keeps size call (Rests old) (Runs new) moves has = absurd moves
+failure_keeps size call (Runs old) (Rests new) moves has = absurd moves
 
 start_in : (device : Device) (off : Bool) (old : Sim) (new : Stage) → StartsIn off device old new → HasPackets device.packet_size new
 start_in device true old new moves = subst (HasPackets device.packet_size) (sym moves) tt
@@ -64,6 +70,7 @@ cut_keeps size keeps old (Runs new) moves = absurd moves
 does_keep : (device : Device) (old : Stage) (action : Action) (answers : List Answer) (new : Stage) → Does device old action answers new
     → HasPackets device.packet_size old → HasPackets device.packet_size new
 does_keep device old (arms writes) answers new does has = fuse_keeps device.packet_size writes old new does.1 has
+does_keep device old (fails call) answers new does has = failure_keeps device.packet_size call old new does.1 has
 does_keep device old starts answers new does has = start_keeps device old new does.1 has
 does_keep device old (plays happens) answers new does has = event_keeps device.packet_size old happens does.0 new does.2 has
 does_keep device old (cuts keeps) answers new does has = cut_keeps device.packet_size keeps old new does.1

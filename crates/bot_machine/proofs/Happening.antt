@@ -26,8 +26,8 @@ use Rattle.bot_machine.specs.Disk.{DiskValue, over, FitsDisk, UnitStep, IsStep}
 use Rattle.scsi_unit.specs.Rules.{UnitState}
 use Rattle.scsi_unit.specs.UnitValue.{unit_limit}
 use Rattle.bot_machine.proofs.UnitLaws.{limit_between_calls}
-use Rattle.bot_machine.specs.Lives.{Action, arms, plays, cuts, Remains, Place, before_first, between, runs, off, Standing, after_cut, LivesStep, LivesRun}
-use Rattle.bot_machine.specs.Moving.{Does, FuseMoves, EventMovesIn, EventMoves}
+use Rattle.bot_machine.specs.Lives.{Action, arms, fails, plays, cuts, Remains, Place, before_first, between, runs, off, Standing, after_cut, LivesStep, LivesRun}
+use Rattle.bot_machine.specs.Moving.{Does, FuseMoves, FailureMoves, EventMovesIn, EventMoves}
 use Rattle.bot_machine.proofs.Moved.{one_move, none_refused, some_refused}
 use Rattle.bot_machine.specs.LivesValue.{LivesValue, medium_in, state_in, IsAtRest, OpensOn, HasLimit, IsAt, LimitAt, LeavesLimit, book_at, FoundAt, FitsLives, LivesGoTo, LivesGoOn}
 
@@ -150,6 +150,61 @@ module _ (device : Device) where
       subst (λ (x : DiskValue Sim). LivesGoOn (lives_at (Runs disk)) (arms writes ∷ []) [] (lives_at (Runs x)))
       (sym (others ∙ ap (λ (m : Sim). on_medium m disk) e))
       (arms_fuse writes (Runs disk) (Runs (on_medium (fused writes disk.unit.store.medium) disk)) refl (refl, refl) (fused_running writes disk))
+
+  -- ---- a failure
+
+  -- the medium with a failure armed
+  abbrev pub failing : ℕ → Sim → Sim
+  failing call m = record m { power = record m.power { fail = Some call } }
+
+  failing_at_rest : (call : ℕ) (m : Sim) (place : Place) → IsAt place (Rests m) → IsAt place (Rests (failing call m))
+  failing_at_rest call m (before_first book) h = (record { on = h.0.on; flushed = h.0.flushed }, h.1)
+  failing_at_rest call m (between remains) h = record { on = h.on; flushed = h.flushed }
+  failing_at_rest call m (runs conversation) h = h
+  failing_at_rest call m (off remains) h = h
+
+  failing_running : (call : ℕ) (disk : DiskValue Sim) (place : Place) → IsAt place (Runs disk)
+      → IsAt place (Runs (on_medium (failing call disk.unit.store.medium) disk))
+  failing_running call disk (before_first book) h = h
+  failing_running call disk (between remains) h = h
+  failing_running call disk (runs conversation) h = record { on = h.on; says = h.says; fits = h.fits }
+  failing_running call disk (off remains) h = h
+
+  arms_failure : (call : ℕ) (stage new : Stage) → state_in new ≡ state_in stage → (medium_in new).power.fuse ≡ (medium_in stage).power.fuse
+      → FailureMoves call stage new → ((place : Place) → IsAt place stage → IsAt place new)
+      → LivesGoOn (lives_at stage) (fails call ∷ []) [] (lives_at new)
+  arms_failure call stage new same fuse failure keeps = record {
+    refusals = false ∷ [];
+    moves = one_move device false stage new (fails call) [] (refl, failure) (none_refused (state_in stage) (state_in new) (ap (λ (m : State). m.failures) same));
+    refused = let e = ap (λ (m : State). m.failures) same in omega (arith, e);
+    goes = λ here fits. record {
+      there = here;
+      run = one_run device false here here (fails call) [] (refl, refl);
+      fits = record {
+        is_at = keeps here.place fits.is_at;
+        limit_at = limit_still here.place here.limit stage new same fits.limit_at;
+        limited = λ ours. subst (λ (m : State). EachCut (HasLimit m.size here.limit) m) (sym same) (fits.limited ours);
+        found = λ ours. subst (λ (m : State). EachCut (FoundAt m.size here.place) m) (sym same) (fits.found ours);
+        unfused = λ e. fuse ∙ fits.unfused e;
+      };
+      ours = refl;
+      limit_stays = λ ours. refl;
+    };
+    size_stays = ap (λ (m : State). m.size) same;
+    device_stays = refl;
+  }
+
+  pub fails_medium : (call : ℕ) (m new : Sim) → new ≡ failing call m → LivesGoOn (lives_at (Rests m)) (fails call ∷ []) [] (lives_at (Rests new))
+  fails_medium call m new e =
+      subst (λ (x : Sim). LivesGoOn (lives_at (Rests m)) (fails call ∷ []) [] (lives_at (Rests x))) (sym e)
+      (arms_failure call (Rests m) (Rests (failing call m)) refl refl refl (failing_at_rest call m))
+
+  pub fails_disk : (call : ℕ) (disk new : DiskValue Sim) → new.unit.store.medium ≡ failing call disk.unit.store.medium
+      → new ≡ on_medium new.unit.store.medium disk → LivesGoOn (lives_at (Runs disk)) (fails call ∷ []) [] (lives_at (Runs new))
+  fails_disk call disk new e others =
+      subst (λ (x : DiskValue Sim). LivesGoOn (lives_at (Runs disk)) (fails call ∷ []) [] (lives_at (Runs x)))
+      (sym (others ∙ ap (λ (m : Sim). on_medium m disk) e))
+      (arms_failure call (Runs disk) (Runs (on_medium (failing call disk.unit.store.medium) disk)) refl refl (refl, refl) (failing_running call disk))
 
   -- ---- a cut
 

@@ -19,6 +19,8 @@ use Rattle.bot_machine.specs.Disk.{on_line, UnitStep}
 pub data Action : Type 0 where
   -- a fuse is armed: so many more writes and flushes of the medium happen
   arms : ℕ → Action
+  -- a failure is armed: the medium refuses its call with this number from now on, once
+  fails : ℕ → Action
   -- a disk starts, where none runs
   starts : Action
   -- an event comes to a disk that was started
@@ -148,6 +150,7 @@ after_cut (off remains) = between remains
 abbrev pub LivesStep : Device → Bool → Standing → Action → List Answer → Standing → Type 0
 LivesStep device refused old (arms writes) answers new =
     (answers ≡ []) × (new ≡ record old { armed = true })
+LivesStep device refused old (fails call) answers new = (answers ≡ []) × (new ≡ old)
 LivesStep device refused old starts answers new =
     (answers ≡ []) × StartsAt old.place device refused old new
 LivesStep device refused old (plays event) answers new =

@@ -1,7 +1,7 @@
 -- What is done over lives to the disk itself and to its medium, action by action.
 use Rattle.std.specs.Prelude.{◌≡◌, ℕ, Bool, true, false, List, [], ◌∷◌, ◌++◌, if◌then◌else◌}
 use Rattle.medium.specs.Medium.{State}
-use Rattle.medium.specs.Sim.{Sim, state_of, IsCut, IsFused, ComesAfter}
+use Rattle.medium.specs.Sim.{Sim, state_of, IsCut, IsFused, IsFailing, ComesAfter}
 use Rattle.scsi_unit.specs.StartFaults.{StartFault}
 use Rattle.scsi_unit.specs.Serving.{has_refused}
 use Rattle.bot_machine.specs.declared.event.Event.{Event}
@@ -11,7 +11,7 @@ use Rattle.bot_machine.specs.declared.stage.Stage.{Stage}
 use Rattle.bot_machine.specs.declared.stage.Stage.TheVariants.{Rests, Runs}
 use Rattle.bot_machine.specs.Device.{Device}
 use Rattle.bot_machine.specs.Disk.{DiskValue, IsStep, IsRearmed}
-use Rattle.bot_machine.specs.Lives.{Action, arms, starts, plays, cuts}
+use Rattle.bot_machine.specs.Lives.{Action, arms, fails, starts, plays, cuts}
 use Rattle.bot_machine.specs.Opening.{IsOpened, IsNotOpened, StartLeaves}
 
 -- the medium of a disk, or the medium alone
@@ -77,6 +77,13 @@ FuseMoves writes (Runs old) (Runs new) =
     IsFused writes old.unit.store.medium new.unit.store.medium × IsRearmed old new
 FuseMoves writes old new = ⊥
 
+-- a failure is armed, and nothing else changes
+abbrev pub FailureMoves : ℕ → Stage → Stage → Type 0
+FailureMoves call (Rests old) (Rests new) = IsFailing call old new
+FailureMoves call (Runs old) (Runs new) =
+    IsFailing call old.unit.store.medium new.unit.store.medium × IsRearmed old new
+FailureMoves call old new = ⊥
+
 -- a cut keeps these of the unflushed writes, and no disk runs
 abbrev pub CutMoves : (ℕ → Bool) → Stage → Stage → Type 0
 CutMoves keeps old (Rests new) = IsCut keeps (medium_in old) new
@@ -84,6 +91,7 @@ CutMoves keeps old (Runs new) = ⊥
 
 abbrev pub Does : Device → Stage → Action → List Answer → Stage → Type 0
 Does device old (arms writes) answers new = (answers ≡ []) × FuseMoves writes old new
+Does device old (fails call) answers new = (answers ≡ []) × FailureMoves call old new
 Does device old starts answers new = (answers ≡ []) × StartMoves device old new
 Does device old (plays event) answers new =
     (answer : Answer) × (answers ≡ answer ∷ []) × EventMoves old event answer new

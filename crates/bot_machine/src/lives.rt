@@ -1,9 +1,9 @@
 // Lives of a disk over a medium in memory.
-ghost use Rattle.std.specs.Prelude.{◌≡◌, ◌↔◌, ℕ, [], ◌∷◌, None, true, false, OnOk, IfOk, IfErr};
-ghost use Rattle.medium.specs.Sim.{state_of, IsCut, IsFused, ComesAfter};
+ghost use Rattle.std.specs.Prelude.{◌≡◌, ◌<◌, ◌↔◌, ℕ, [], ◌∷◌, None, true, false, OnOk, IfOk, IfErr};
+ghost use Rattle.medium.specs.Sim.{state_of, IsCut, IsFused, IsFailing, ComesAfter};
 ghost use Rattle.medium.specs.Writes.{keeps};
 ghost use Rattle.scsi_unit.specs.Books.{Book};
-ghost use Rattle.bot_machine.specs.Lives.{starts, plays, cuts, arms};
+ghost use Rattle.bot_machine.specs.Lives.{starts, plays, cuts, arms, fails};
 ghost use Rattle.bot_machine.specs.Lifetimes.{first_standing};
 ghost use Rattle.bot_machine.specs.Device.{device_of};
 ghost use Rattle.bot_machine.specs.Fitting.{IsWithin};
@@ -121,6 +121,18 @@ impl Lives {
     {
         if let Some(stage) = &mut self.stage {
             stage::fuse(stage, writes);
+        }
+    }
+
+    /// Arms a failure of one call of the medium: the one with this number from now on, counted from 1,
+    /// is refused once, unless a cut comes first. No disk is started.
+    pub fn fail(&mut self, call: u64)
+        requires { 0 < call }
+        ensures goes_on { LivesGoOn self.old (fails call ∷ []) [] self.new }
+        ensures failing { IsFailing call (medium_in self.old.stage) (medium_in self.new.stage) }
+    {
+        if let Some(stage) = &mut self.stage {
+            stage::fail(stage, call);
         }
     }
 

@@ -1,10 +1,10 @@
 // A disk over a medium in memory, or the medium alone.
-ghost use Rattle.std.specs.Prelude.{◌≡◌, ◌↔◌, [], ◌∷◌, true, IfOk, IfErr, MatchResult};
-ghost use Rattle.medium.specs.Sim.{IsCut, IsFused, ComesAfter};
+ghost use Rattle.std.specs.Prelude.{◌≡◌, ◌<◌, ◌↔◌, [], ◌∷◌, true, IfOk, IfErr, MatchResult};
+ghost use Rattle.medium.specs.Sim.{IsCut, IsFused, IsFailing, ComesAfter};
 ghost use Rattle.medium.specs.Writes.{keeps};
 ghost use Rattle.bot_machine.specs.Device.{Device, device_of};
 ghost use Rattle.bot_machine.specs.Fitting.{IsWithin};
-ghost use Rattle.bot_machine.specs.Lives.{starts, plays, cuts, arms};
+ghost use Rattle.bot_machine.specs.Lives.{starts, plays, cuts, arms, fails};
 ghost use Rattle.bot_machine.specs.LivesValue.{
   medium_in,
   HasStarted,
@@ -62,6 +62,20 @@ pub(crate) fn fuse(stage: &mut Stage, writes: u64)
     match stage {
         Stage::Rests(medium) => medium.fuse(writes),
         Stage::Runs(disk) => disk.fuse(writes),
+    }
+}
+
+// Arms a failure of one call.
+pub(crate) fn fail(stage: &mut Stage, call: u64)
+    requires { 0 < call }
+    ensures goes_on { (device : Device) → LivesGoOn
+        (record { device = device; stage = stage.old }) (fails call ∷ []) []
+        (record { device = device; stage = stage.new }) }
+    ensures failing { IsFailing call (medium_in stage.old) (medium_in stage.new) }
+{
+    match stage {
+        Stage::Rests(medium) => medium.fail(call),
+        Stage::Runs(disk) => disk.fail(call),
     }
 }
 

@@ -1,0 +1,20 @@
+use Rattle.std.proofs.Common.{[], ◌∷◌}
+use Rattle.bot_machine.specs.Device.{Device, device_of}
+use Rattle.bot_machine.specs.Lives.{fails}
+use Rattle.bot_machine.specs.PacketBytes.{bytes_of}
+use Rattle.bot_machine.specs.LivesValue.{HasPackets}
+use Rattle.bot_machine.proofs.Fitting.{packets_stay}
+use Rattle.bot_machine.proofs.lives.Lives.fail.Goals as goal
+use Rattle.bot_machine.proofs.lives.Lives.fail.Goals.{in-Some, in_default}
+
+pub invariant_of-self : goal.invariant_of-self
+invariant_of-self c =
+    let d = c.self.inside in
+    let device : Device = device_of d.identity d.size in
+    elim c.match-self.branch [
+      | in-Some w ↦
+          let has : HasPackets (bytes_of d.size) w.in-Some.stage = rw w.in-Some.is at c.self.invariant.1 in
+          let goes = w.fail.ensures.goes_on device in
+          rw w.self-inside-is (λ e. cc, packets_stay device w.in-Some.stage w.fail.new.stage (fails c.args.call ∷ []) [] goes.refusals goes.moves has)
+      | in_default w ↦ rw w.self-inside-is c.self.invariant
+    ]
