@@ -60,7 +60,7 @@ retires_more old mid new full under_way idle stepped one so_far = ⊎_elim
     so_far
 
 -- a log in which a slot is free, or none is
-free_or_full : (log : LogValue) (b : Bool) → nat_lt (log.next - log.head) log.shape.slots ≡ b
+pub free_or_full : (log : LogValue) (b : Bool) → nat_lt (log.next - log.head) log.shape.slots ≡ b
     → (if b then log else oldest_retired log) ≡ with_room log
 free_or_full log b e = ap (λ (x : Bool). if x then log else oldest_retired log) (sym e)
 

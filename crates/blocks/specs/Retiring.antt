@@ -3,7 +3,9 @@
 use Rattle.std.specs.Prelude.{◌≡◌, ◌+◌, ◌-◌, ◌≤◌, ℕ, zero, suc, List, [], ◌∷◌, ◌++◌, drop}
 use Rattle.std.specs.Prelude.{replicate, nat_lt}
 use Rattle.std.specs.Prelude.{if◌then◌else◌}
-use Rattle.redo_log.specs.Value.{LogValue, HasRoom, begun, behind_oldest}
+use Rattle.log_layout.specs.declared.log_format.LogFormat.{LogFormat}
+use Rattle.redo_log.specs.Value.{LogValue, HasRoom, begun, steps_of, behind_oldest}
+use Rattle.blocks.specs.StoreValue.{wants, waiting}
 
 -- Room is made for one record: none is retired where the log has room, and else one at most.
 pub record RetiresForRoom (old new : LogValue) : Type 0 where
@@ -42,3 +44,22 @@ finished_from zero (n ∷ numbers) log = written_out (begun (n ∷ numbers) (wit
 -- goes on. An empty batch has none.
 abbrev pub finished : List ℕ → LogValue → LogValue
 finished numbers log = finished_from log.steps_left numbers log
+
+-- how many calls write the record of a batch, of whose record so many are left
+abbrev pub calls_from : ℕ → LogFormat → List ℕ → ℕ
+calls_from (suc steps) format numbers = suc steps
+calls_from zero format [] = 0
+calls_from zero format (n ∷ numbers) = steps_of format (n ∷ numbers)
+
+-- How many calls it takes to make the batch of these blocks durable, where the log has a slot free:
+-- those that are left of the record under way, or those of its own record, and no other.
+abbrev pub record_calls : List ℕ → LogValue → ℕ
+record_calls numbers log = calls_from log.steps_left log.shape.format numbers
+
+-- how many records are to be begun of a batch: none where that is under way, or empty
+abbrev pub to_begin : List ℕ → LogValue → ℕ
+to_begin numbers log = waiting log.steps_left (wants numbers)
+
+-- so many slots are free
+abbrev pub HasSlots : ℕ → LogValue → Type 0
+HasSlots count log = (log.next - log.head) + count ≤ log.shape.slots

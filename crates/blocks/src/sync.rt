@@ -3,9 +3,11 @@ ghost use Rattle.std.specs.Prelude.{◌≡◌, ◌⊎◌, ◌≤◌, ◌<◌, �
 ghost use Rattle.std.specs.Prelude.{OnOk, MatchResult};
 ghost use Rattle.redo_log.specs.Value.{HasRoom};
 ghost use Rattle.blocks.specs.Book.{Book, promised};
-ghost use Rattle.blocks.specs.StoreValue.{is_dead, active_of, unwritten, steps_left, FitsBook};
+ghost use Rattle.blocks.specs.StoreValue.{is_dead, active_of, unwritten, wants, steps_left};
+ghost use Rattle.blocks.specs.StoreValue.{FitsBook};
 ghost use Rattle.blocks.specs.Turns.{IsTurn, IsPaid};
 ghost use Rattle.blocks.specs.Retiring.{RetiresForRoom, finished, with_room, written_out};
+ghost use Rattle.blocks.specs.Retiring.{calls_from, record_calls, to_begin, HasSlots};
 
 use crate::{Store, StoreFault};
 use medium::Medium;
@@ -43,6 +45,13 @@ impl<M: Medium> Store<M> {
             ≤ (M.state self.old.medium).calls + 2 * steps_left self.old.cached }
         ensures paid { IsPaid (M.state self.old.medium) (M.state self.new.medium)
             self.old.cached self.new.cached }
+        // Where a slot is free for each record that is to be begun, it makes the calls that write
+        // the records, and no other.
+        ensures exactly { HasSlots (to_begin self.old.cached.frozen.numbers self.old.cached.log
+            + wants self.old.cached.active.numbers) self.old.cached.log
+            → OnOk result ((M.state self.new.medium).calls ≡ (M.state self.old.medium).calls
+            + record_calls self.old.cached.frozen.numbers self.old.cached.log
+            + calls_from 0 self.old.cached.log.shape.format self.old.cached.active.numbers) }
         ensures follows { M.follows self.old.medium self.new.medium }
     {
         self.finish()?;
@@ -67,6 +76,10 @@ impl<M: Medium> Store<M> {
         ensures finishes { OnOk result (self.new.cached.log
             ≡ finished self.old.cached.frozen.numbers self.old.cached.log) }
         ensures retires { RetiresForRoom self.old.cached.log self.new.cached.log }
+        ensures exactly { HasSlots (to_begin self.old.cached.frozen.numbers self.old.cached.log)
+            self.old.cached.log
+            → OnOk result ((M.state self.new.medium).calls ≡ (M.state self.old.medium).calls
+            + record_calls self.old.cached.frozen.numbers self.old.cached.log) }
         ensures active { self.new.cached.active ≡ self.old.cached.active }
         ensures follows { M.follows self.old.medium self.new.medium }
     {
@@ -98,6 +111,8 @@ impl<M: Medium> Store<M> {
             × (self.new.cached.frozen.numbers ≡ [])) }
         ensures waits { 0 < self.new.cached.log.retire_steps_left }
         ensures written { OnOk result (self.new.cached.log ≡ written_out self.old.cached.log) }
+        ensures exactly { OnOk result ((M.state self.new.medium).calls
+            ≡ (M.state self.old.medium).calls + self.old.cached.log.steps_left) }
         ensures head { self.new.cached.log.head ≡ self.old.cached.log.head }
         ensures active { self.new.cached.active ≡ self.old.cached.active }
         ensures follows { M.follows self.old.medium self.new.medium }
@@ -119,6 +134,7 @@ impl<M: Medium> Store<M> {
         ensures retires { RetiresForRoom self.old.cached.log self.new.cached.log }
         ensures room { OnOk result (HasRoom self.new.cached.log) }
         ensures made { OnOk result (self.new.cached.log ≡ with_room self.old.cached.log) }
+        ensures quiet { HasRoom self.old.cached.log → self.new.medium ≡ self.old.medium }
         ensures active { self.new.cached.active ≡ self.old.cached.active }
         ensures frozen { self.new.cached.frozen ≡ self.old.cached.frozen }
         ensures follows { M.follows self.old.medium self.new.medium }

@@ -1,11 +1,13 @@
-use Rattle.std.proofs.Common.{◌≡◌, ◌<◌, ◌∙◌, ℕ, List, length, ap, sym, subst, arith, false}
+use Rattle.std.proofs.Common.{◌≡◌, ◌<◌, ◌+◌, ◌∙◌, ℕ, [], List, length, ap, sym, subst, arith, false}
 use Rattle.std.proofs.lemmas.Bool.{false≢true}
 use Rattle.std.proofs.lemmas.Result.{on_ok_weaker}
 use Rattle.cache.specs.Entries.{Entries}
-use Rattle.redo_log.specs.Value.{LogValue, begun}
+use Rattle.redo_log.specs.Value.{LogValue, HasRoom, begun}
 use Rattle.blocks.specs.Retiring.{written_out}
 use Rattle.blocks.proofs.Room.{some_listed, finishes_under_way, finishes_none, finishes_begun}
 use Rattle.blocks.specs.StoreValue.{is_dead}
+use Rattle.blocks.specs.Retiring.{record_calls, to_begin, HasSlots}
+use Rattle.blocks.proofs.Writing.{calls_under_way, calls_none, calls_begun, slot_free, with_room_is}
 use Rattle.blocks.proofs.Turning.{turns, stays}
 use Rattle.blocks.proofs.store.Store.finish.Goals as goal
 
@@ -59,3 +61,43 @@ returns-clause-finishes g c =
 
 pub returns-in_err-begin-clause-turn : goal.returns-in_err-begin-clause-turn
 returns-in_err-begin-clause-turn g c = turns _ _ _ _ _ _ c.make_room.ensures.turn c.begin.ensures.turn
+
+pub returns-then-self-clause-exactly : goal.returns-then-self-clause-exactly
+returns-then-self-clause-exactly g c slots =
+    let old = c.args.self.now.cached in
+    let live : is_dead old ≡ false = sym c.is_dead.ensures ∙ c.if-is_dead.false in
+    let log_is : c.self.inside.log ≡ old.log = ap (λ v. v.cached.log) c.self.view_is in
+    let some = subst (λ (log : LogValue). 0 < log.steps_left) log_is (c.self.invariant.writes (rw (← c.self.view_is) at live) c.if-self.true) in
+    let calls = calls_under_way old.log.steps_left old.log.shape.format old.frozen.numbers some in
+    on_ok_weaker c.write_out.result (λ all. omega (arith, all, calls)) c.write_out.ensures.exactly
+
+pub returns-then-is_empty-clause-exactly : goal.returns-then-is_empty-clause-exactly
+returns-then-is_empty-clause-exactly g c slots =
+    let live : is_dead c.args.self.now.cached ≡ false = sym c.is_dead.ensures ∙ c.if-is_dead.false in
+    let log = c.self.inside.log in
+    let none = calls_none log.steps_left log.shape.format c.self.inside.frozen.numbers
+    (c.self.invariant.rests (rw (← c.self.view_is) at live) c.if-self.false) (c.is_empty.ensures.0 c.if-is_empty.true) in
+    rw (← c.self.view_is) (omega (arith, none))
+
+pub returns-clause-exactly : goal.returns-clause-exactly
+returns-clause-exactly g c slots =
+    let old = c.args.self.now.cached in
+    let mid = c.make_room.new.self.cached in
+    let live : is_dead old ≡ false = sym c.is_dead.ensures ∙ c.if-is_dead.false in
+    let log_is : c.self.inside.log ≡ old.log = ap (λ v. v.cached.log) c.self.view_is in
+    let frozen_is : c.self.inside.frozen ≡ old.frozen = ap (λ v. v.cached.frozen) c.self.view_is in
+    let idle : old.log.steps_left ≡ 0 = subst (λ (log : LogValue). log.steps_left ≡ 0) log_is
+    (c.self.invariant.rests (rw (← c.self.view_is) at live) c.if-self.false) in
+    let none_under_way : old.log.under_way ≡ [] = subst (λ (log : LogValue). log.under_way ≡ []) log_is
+    (c.self.invariant.none_under_way (rw (← c.self.view_is) at live) (c.self.invariant.rests (rw (← c.self.view_is) at live) c.if-self.false)) in
+    let some : 0 < length old.frozen.numbers = subst (λ (batch : Entries). 0 < length batch.numbers) frozen_is
+    (some_listed c.self.inside.frozen.numbers (λ none. false≢true (sym c.if-is_empty.false ∙ c.is_empty.ensures.1 none))) in
+    let free = slot_free old.frozen.numbers old.log idle some slots in
+    let room : HasRoom old.log = record { none_under_way = none_under_way; no_steps = idle; free = free } in
+    let begun_is = (c.begin.ensures.live c.in_ok-begin.ensures.answer).1
+    ∙ ap (λ (batch : Entries). begun batch.numbers mid.log) c.make_room.ensures.frozen
+    ∙ ap (λ (log : LogValue). begun old.frozen.numbers log) (c.in_ok-make_room.ensures.made ∙ with_room_is old.log free) in
+    let steps = ap (λ (log : LogValue). log.steps_left) begun_is in
+    let calls = calls_begun old.log.steps_left old.log.shape.format old.frozen.numbers idle some in
+    let quiet = ap (λ m. (g.M.Medium.state m).calls) (c.begin.ensures.medium ∙ c.make_room.ensures.quiet room) in
+    on_ok_weaker c.write_out-2.result (λ all. omega (arith, all, steps, calls, quiet)) c.write_out-2.ensures.exactly

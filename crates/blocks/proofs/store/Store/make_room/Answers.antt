@@ -13,6 +13,7 @@ loop-self-init g c = record {
   paid = pays _ _;
   live = c.requires.live;
   stays = λ room. refl;
+  quiet = λ room. refl;
   one = inl refl;
   retires = inl refl;
   idle = c.requires.idle;
@@ -43,6 +44,7 @@ loop-self-preserved g c =
     let log_is = ap (λ v. v.cached.log) c.self.view_is in
     record {
       stays = λ room. absurd (full (subst (λ (log : LogValue). HasRoom log) (sym (c.loop-self.invariant.stays room) ∙ sym log_is) room));
+      quiet = λ room. absurd (full (subst (λ (log : LogValue). HasRoom log) (sym (c.loop-self.invariant.stays room) ∙ sym log_is) room));
       one = one_at_most c.args.self.now.cached.log c.self.inside.log c.retire.new.self.cached.log full under_way idle kept.ring slots
           (rw (← c.self.view_is) at stepped) (rw (← c.self.view_is) at c.loop-self.invariant.one);
       retires = retires_more c.args.self.now.cached.log c.self.inside.log c.retire.new.self.cached.log full under_way idle

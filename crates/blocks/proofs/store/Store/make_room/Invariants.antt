@@ -11,6 +11,7 @@ invariant-loop-self g l = record {
   paid : IsPaid (g.M.Medium.state l.fn.self.medium) (g.M.Medium.state l.self.medium) l.fn.self.cached l.self.cached;
   live : is_dead l.self.cached ≡ false;
   stays : HasRoom l.fn.self.cached.log → l.self.cached.log ≡ l.fn.self.cached.log;
+  quiet : HasRoom l.fn.self.cached.log → l.self.medium ≡ l.fn.self.medium;
   one : OneAtMost l.fn.self.cached.log l.self.cached.log;
   retires : RetiresOldest l.fn.self.cached.log l.self.cached.log;
   idle : l.self.cached.log.steps_left ≡ 0;

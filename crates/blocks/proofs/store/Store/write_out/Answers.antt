@@ -1,6 +1,7 @@
 use Rattle.std.proofs.Common.{refl, ◌∙◌, arith, ap}
 use Rattle.std.specs.Prelude.{Ok}
 use Rattle.blocks.proofs.Room.{writes_more, writes_last}
+use Rattle.blocks.proofs.Writing.{one_less}
 use Rattle.blocks.proofs.Turning.{turns, stays}
 use Rattle.blocks.proofs.Paying.{pays, pays_both, pays_step}
 use Rattle.blocks.proofs.store.Store.write_out.Goals as goal
@@ -12,6 +13,7 @@ loop-init g c = record {
   live = c.requires.live;
   under_way = c.requires.under_way;
   so_far = refl;
+  exactly = refl;
   head = refl;
   active = refl;
   follows = g.met.M.Medium.follows_itself c.args.self.now.medium;
@@ -32,6 +34,10 @@ loop-preserved g c = record {
       let gone = c.step.ensures.record_step.live c.in_ok-step.ensures.answer in
       writes_more c.args.self.now.cached.log c.loop.self.cached.log c.step.new.self.cached.log gone.1 gone.2.log
       (c.step.ensures.more (c.in_ok-step.was ∙ ap Ok c.in-More.is)) c.loop.invariant.so_far;
+  exactly =
+      let gone = c.step.ensures.record_step.live c.in_ok-step.ensures.answer in
+      let less = one_less gone.1 c.loop.self.cached.log c.step.new.self.cached.log gone.2.log in
+      omega (arith, less, c.step.ensures.record_step.one_call, c.loop.invariant.exactly);
   head = c.step.ensures.head ∙ c.loop.invariant.head;
   active = c.step.ensures.active ∙ c.loop.invariant.active;
   follows = g.met.M.Medium.follows_through _ _ _ c.loop.invariant.follows c.step.ensures.follows;
@@ -45,3 +51,10 @@ returns-clause-written g c =
     let gone = c.step.ensures.record_step.live c.in_ok-step.ensures.answer in
     writes_last c.args.self.now.cached.log c.loop.self.cached.log c.step.new.self.cached.log gone.1 gone.2.log
     (c.step.ensures.durable (c.in_ok-step.was ∙ ap Ok c.in_default.is)).0 c.loop.invariant.so_far
+
+pub returns-clause-exactly : goal.returns-clause-exactly
+returns-clause-exactly g c =
+    let gone = c.step.ensures.record_step.live c.in_ok-step.ensures.answer in
+    let less = one_less gone.1 c.loop.self.cached.log c.step.new.self.cached.log gone.2.log in
+    let none = (c.step.ensures.durable (c.in_ok-step.was ∙ ap Ok c.in_default.is)).0 in
+    omega (arith, less, none, c.step.ensures.record_step.one_call, c.loop.invariant.exactly)

@@ -1,4 +1,4 @@
-use Rattle.std.proofs.Common.{◌≡◌, ◌<◌, false}
+use Rattle.std.proofs.Common.{◌≡◌, ◌<◌, ◌+◌, false}
 use Rattle.blocks.specs.StoreValue.{is_dead, steps_left}
 use Rattle.blocks.specs.Turns.{IsTurn, IsPaid}
 use Rattle.blocks.proofs.store.Store.write_out.Given as goal
@@ -10,6 +10,8 @@ invariant-loop g l = record {
   live : is_dead l.self.cached ≡ false;
   under_way : 0 < l.self.cached.log.steps_left;
   so_far : l.self.cached.log ≡ record l.fn.self.cached.log { steps_left = l.self.cached.log.steps_left };
+  exactly : (g.M.Medium.state l.self.medium).calls + l.self.cached.log.steps_left
+      ≡ (g.M.Medium.state l.fn.self.medium).calls + l.fn.self.cached.log.steps_left;
   head : l.self.cached.log.head ≡ l.fn.self.cached.log.head;
   active : l.self.cached.active ≡ l.fn.self.cached.active;
   follows : g.M.Medium.follows l.fn.self.medium l.self.medium;
