@@ -1,4 +1,4 @@
-use Rattle.std.proofs.Common.{◌≡◌, ◌<◌, ◌+◌, ◌∙◌, ℕ, [], List, length, ap, sym, subst, arith, false}
+use Rattle.std.proofs.Common.{◌≡◌, ◌<◌, ◌∙◌, ℕ, [], List, length, ap, sym, subst, arith, false}
 use Rattle.std.proofs.lemmas.Bool.{false≢true}
 use Rattle.std.proofs.lemmas.Result.{on_ok_weaker}
 use Rattle.cache.specs.Entries.{Entries}
@@ -6,7 +6,6 @@ use Rattle.redo_log.specs.Value.{LogValue, HasRoom, begun}
 use Rattle.blocks.specs.Retiring.{written_out}
 use Rattle.blocks.proofs.Room.{some_listed, finishes_under_way, finishes_none, finishes_begun}
 use Rattle.blocks.specs.StoreValue.{is_dead}
-use Rattle.blocks.specs.Retiring.{record_calls, to_begin, HasSlots}
 use Rattle.blocks.proofs.Writing.{calls_under_way, calls_none, calls_begun, slot_free, with_room_is}
 use Rattle.blocks.proofs.Turning.{turns, stays}
 use Rattle.blocks.proofs.store.Store.finish.Goals as goal

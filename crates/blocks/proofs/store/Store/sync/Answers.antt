@@ -1,4 +1,4 @@
-use Rattle.std.proofs.Common.{◌≡◌, ◌+◌, ◌∙◌, ℕ, ap, sym, subst, arith, []}
+use Rattle.std.proofs.Common.{◌≡◌, ◌∙◌, ℕ, ap, sym, subst, arith, []}
 use Rattle.std.proofs.lemmas.Result.{on_ok_weaker}
 use Rattle.cache.specs.Entries.{Entries}
 use Rattle.redo_log.specs.Value.{LogValue}
