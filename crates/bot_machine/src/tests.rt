@@ -2,7 +2,9 @@
 ghost use Rattle.std.specs.Prelude.{◌≡◌, ◌≤◌, None, length, IfOk};
 ghost use Rattle.bot_machine.specs.LivesValue.{IsAtRest};
 
-use crate::{Answer, Answers, Disk, Event, Identity, StartFault, answer_to, run_events};
+use crate::{
+    Answer, Answers, Disk, Event, Identity, PacketSize, StartFault, answer_to, run_events,
+};
 use arrayvec::ArrayVec;
 use medium::{Kept, Medium, SimMedium, Switch};
 use std::test::Fail;
@@ -63,19 +65,52 @@ pub(crate) fn formatted(rt: HostRuntime) -> Result<SimMedium, Fail>
     Ok(SimMedium::new(rt.alloc(), image, 128)?)
 }
 
-// A disk whose unit attention of the power on has ended with a REQUEST SENSE.
-fn started(rt: HostRuntime, medium: SimMedium) -> Result<Disk<SimMedium>, Fail> {
+// What the disk answers to an event, whose packet has to be short enough for it.
+fn answer(disk: &mut Disk<SimMedium>, event: &Event) -> Result<Answer, Fail>
+    ensures { disk.new.line.packet_size ≡ disk.old.line.packet_size }
+{
+    if let Event::Out(packet) = event {
+        if packet.len() > disk.packet_size() as usize {
+            return Err(Fail::from("too long"));
+        }
+    }
+    Ok(answer_to(disk, event))
+}
+
+// Ends the unit attention of the power on with a REQUEST SENSE.
+fn sense(disk: &mut Disk<SimMedium>) -> Result<(), Fail>
+    ensures { disk.new.line.packet_size ≡ disk.old.line.packet_size }
+{
+    let _ = answer(disk, &packet(&wrapper(IN, 18, &REQUEST_SENSE)))?;
+    let _ = answer(disk, &Event::In)?;
+    let _ = answer(disk, &Event::In)?;
+    Ok(())
+}
+
+// A disk with packets of 512 bytes, whose unit attention has ended.
+fn started(rt: HostRuntime, medium: SimMedium) -> Result<Disk<SimMedium>, Fail>
+    ensures { IfOk result (λ disk. disk.line.packet_size ≡ 512) }
+{
     let mut disk = Disk::start(rt.alloc(), medium, identity()?)
         .ok()
         .ok_or("no start")?;
-    let _ = answer_to(&mut disk, &packet(&wrapper(IN, 18, &REQUEST_SENSE)));
-    let _ = answer_to(&mut disk, &Event::In);
-    let _ = answer_to(&mut disk, &Event::In);
+    sense(&mut disk)?;
     Ok(disk)
 }
 
-// What the disk answers to events.
-fn played(rt: HostRuntime, disk: &mut Disk<SimMedium>, events: &[Event]) -> Result<Answers, Fail> {
+// A disk with packets of 64 bytes, whose unit attention has ended.
+fn started_at_full_speed(rt: HostRuntime) -> Result<Disk<SimMedium>, Fail> {
+    let mut disk = Disk::start_with(rt.alloc(), formatted(rt)?, identity()?, PacketSize::Full64)
+        .ok()
+        .ok_or("no start")?;
+    sense(&mut disk)?;
+    Ok(disk)
+}
+
+// What a disk with packets of 512 bytes answers to events.
+fn played(rt: HostRuntime, disk: &mut Disk<SimMedium>, events: &[Event]) -> Result<Answers, Fail>
+    requires { disk.old.line.packet_size ≡ 512 }
+{
     let mut answers = Answers::with_room(rt.alloc(), events.len()).ok_or("no memory")?;
     run_events(disk, events, &mut answers);
     Ok(answers)
@@ -165,6 +200,32 @@ fn a_short_packet_breaks_the_data_off(rt: HostRuntime) -> Result<(), Fail> {
         data(&[0; 512])?,
     ];
     assert_eq!(rt; answers.list(), wanted.as_slice());
+    Ok(())
+}
+
+#[test]
+fn at_full_speed_a_block_is_sent_in_eight_packets(rt: HostRuntime) -> Result<(), Fail> {
+    let mut disk = started_at_full_speed(rt)?;
+    let command = packet(&wrapper(IN, 512, &read_of(15)));
+    assert_eq!(rt; answer(&mut disk, &command)?, Answer::Ack);
+    for _ in 0..8 {
+        assert_eq!(rt; answer(&mut disk, &Event::In)?, data(&[0; 64])?);
+    }
+    assert_eq!(rt; answer(&mut disk, &Event::In)?, status(0, 0)?);
+    Ok(())
+}
+
+#[test]
+fn at_full_speed_a_packet_of_63_bytes_breaks_the_data_off(rt: HostRuntime) -> Result<(), Fail> {
+    let mut disk = started_at_full_speed(rt)?;
+    let command = packet(&wrapper(OUT, 1024, &write_of(3, 2)));
+    assert_eq!(rt; answer(&mut disk, &command)?, Answer::Ack);
+    assert_eq!(rt; answer(&mut disk, &packet(&[0xa5; 64]))?, Answer::Ack);
+    assert_eq!(rt; answer(&mut disk, &packet(&[0xa5; 63]))?, Answer::Ack);
+    assert_eq!(rt; answer(&mut disk, &Event::In)?, status(960, 2)?);
+    let command = packet(&wrapper(IN, 512, &read_of(3)));
+    assert_eq!(rt; answer(&mut disk, &command)?, Answer::Ack);
+    assert_eq!(rt; answer(&mut disk, &Event::In)?, data(&[0; 64])?);
     Ok(())
 }
 
