@@ -12,6 +12,7 @@ pub mod Alternation
 pub mod Runs
 pub mod OneStep
 pub mod StruckTicks
+pub mod Transfers
 pub mod Moved
 pub mod Fitting
 pub mod Playing

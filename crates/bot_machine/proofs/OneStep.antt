@@ -26,7 +26,7 @@ use Rattle.bot_machine.proofs.Filling.{last_packet}
 use Rattle.bot_machine.proofs.UnitLaws.{writes_none, one_answer, no_tick}
 
 -- conversations are the same where line and unit are
-same_conversation : (one other : Conversation UnitState) → one.line ≡ other.line → one.unit ≡ other.unit → one ≡ other
+pub same_conversation : (one other : Conversation UnitState) → one.line ≡ other.line → one.unit ≡ other.unit → one ≡ other
 same_conversation one other line unit = λ i. record { line = line i; unit = unit i }
 
 -- ---- a command that is carried out
@@ -54,7 +54,7 @@ begins_once never case command intended old one other stamps a b =
     same_conversation one other (a.1 ∙ sym b.1) (a.0 ∙ sym b.0)
 
 -- the same command, the same intention and the same case
-opens_as : (packet : List ℕ) (old other : Conversation UnitState) (command : Cbw) (intended : Way) (case : Case)
+pub opens_as : (packet : List ℕ) (old other : Conversation UnitState) (command : Cbw) (intended : Way) (case : Case)
     → SpellsCommand packet command → Intends old.unit command.block.items intended → IsCase case command.host intended
     → Opens Intends CarriesOut Ticks false packet old other
     → Begins Intends CarriesOut Ticks false (moment_of case) case command intended old other
@@ -130,7 +130,7 @@ out_once false (sending packets halt status) packet old one other answer again s
 
 -- ---- a setup packet
 
-one_request : (a b : Request) → setup_packet a ≡ setup_packet b → a ≡ b
+pub one_request : (a b : Request) → setup_packet a ≡ setup_packet b → a ≡ b
 one_request mass_storage_reset mass_storage_reset e = refl
 one_request mass_storage_reset get_max_lun e = cc
 one_request mass_storage_reset (clear_halt endpoint) e = cc

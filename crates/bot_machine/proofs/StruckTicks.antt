@@ -10,14 +10,14 @@ use Rattle.bot_machine.specs.Striking.{without_ticks, answers_without_ticks, Has
 use Rattle.bot_machine.proofs.OneStep.{still, one_step}
 
 -- a run that nothing troubles
-abbrev Untroubled : Conversation UnitState → List Event → List Answer → Conversation UnitState → Type 0
+abbrev pub Untroubled : Conversation UnitState → List Event → List Answer → Conversation UnitState → Type 0
 Untroubled old [] [] new = new ≡ old
 Untroubled old (happens ∷ events) (answer ∷ answers) new =
     (mid : Conversation UnitState) × UnitStep false old happens answer mid × HasStamps old happens
     × Untroubled mid events answers new
 Untroubled old events answers new = ⊥
 
-untroubled : (old : Conversation UnitState) (events : List Event) (answers : List Answer) (refusals : List Bool)
+pub untroubled : (old : Conversation UnitState) (events : List Event) (answers : List Answer) (refusals : List Bool)
     (new : Conversation UnitState) (run : UnitRun old events answers refusals new)
     → IsUntroubled old events answers refusals new run → Untroubled old events answers new
 untroubled old [] [] [] new run u = run

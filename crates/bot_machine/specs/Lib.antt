@@ -23,6 +23,7 @@ pub mod Opening
 pub mod Refinement
 pub mod Serving
 pub mod Striking
+pub mod Transfers
 pub mod Lives
 pub mod LivesValue
 pub mod LivesView

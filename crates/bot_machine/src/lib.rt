@@ -20,7 +20,7 @@ mod wire;
 pub use answers::Answers;
 pub use disk::Disk;
 pub use event::{Answer, Event, InAnswer, OutAnswer, SetupAnswer};
-pub use laws::conversation_laws;
+pub use laws::{conversation_laws, packet_laws};
 pub use life::Life;
 pub use lifetimes::{run_lives, run_lives_with};
 pub use lives::Lives;
