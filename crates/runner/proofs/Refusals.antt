@@ -1,5 +1,5 @@
 -- Which refusals a command may have.
-use Rattle.std.proofs.Common.{◌≡◌, ◌⊎◌, ℕ, List, Option, refl, sym, ◌∙◌, ap, subst, inl, inr, arith}
+use Rattle.std.proofs.Common.{◌≡◌, ◌⊎◌, ℕ, List, Option, refl, sym, ◌∙◌, ap, inl, inr, arith}
 use Rattle.bot_machine.specs.StartFaults.{StartFault}
 use Rattle.bot_machine.specs.StartFaults as start
 use Rattle.runner.specs.declared.fault.ScriptFault.{ScriptFault}

@@ -1,6 +1,6 @@
 -- The packets of lines are not too long.
 use Rattle.std.proofs.Common.{◌≡◌, ◌≤◌, ℕ, suc, List, [], ◌∷◌, ◌++◌, length, map, ap, subst, inl, inr, refl, ◌∙◌, arith}
-use Rattle.std.specs.Prelude.{All, replicate, zero, take, drop}
+use Rattle.std.specs.Prelude.{replicate, zero, take, drop}
 use Rattle.std.proofs.lemmas.List.{length-take}
 use Rattle.std.proofs.lemmas.List.Elements.{All-cons, All-nil}
 use Rattle.bot_machine.specs.PacketBytes.{bytes_of}
