@@ -2,12 +2,12 @@
 use Rattle.std.proofs.Common.{◌≡◌, ◌↔◌, ℕ, Bool, true, false, List, [], ◌∷◌, ◌++◌, None, Option, refl, sym, ap, subst, ◌∙◌, inl, inr, append_assoc, append-nil}
 use Rattle.std.proofs.lemmas.Bool.{cases_Bool, true≢false}
 use Rattle.std.specs.Io.KnownBytes.{Appends}
-use Rattle.medium.specs.Sim.{Sim, IsCut, ComesAfter}
+use Rattle.medium.specs.Sim.{Sim, IsCut, IsFailing, ComesAfter}
 use Rattle.bot_machine.specs.StartFaults.{StartFault}
 use Rattle.bot_machine.specs.declared.event.Event.{Event}
 use Rattle.bot_machine.specs.declared.event.Answer.{Answer}
 use Rattle.bot_machine.specs.declared.event.Answer.TheVariants.{Off}
-use Rattle.bot_machine.specs.Lives.{Action, arms, starts, plays, cuts}
+use Rattle.bot_machine.specs.Lives.{Action, arms, fails, starts, plays, cuts}
 use Rattle.bot_machine.specs.LivesValue.{LivesValue, LivesGoOn, IsRefused, medium_in}
 use Rattle.bot_machine.proofs.Playing.{rests, lives_go_on}
 use Rattle.runner.specs.declared.fault.ScriptFault.{ScriptFault}
@@ -22,6 +22,7 @@ AnswersFit-append : (fused : Bool) (first rest : List Action) (told more : List 
     → AnswersFit (fused_after fused first) rest more → AnswersFit fused (first ++ rest) (told ++ more)
 AnswersFit-append fused [] rest told more done next = subst (λ (l : List Answer). AnswersFit fused rest (l ++ more)) (sym done) next
 AnswersFit-append fused (arms writes ∷ first) rest told more done next = AnswersFit-append true first rest told more done next
+AnswersFit-append fused (fails call ∷ first) rest told more done next = AnswersFit-append fused first rest told more done next
 AnswersFit-append fused (starts ∷ first) rest told more done next = AnswersFit-append fused first rest told more done next
 AnswersFit-append fused (cuts keeps ∷ first) rest told more done next = AnswersFit-append false first rest told more done next
 AnswersFit-append fused (plays event ∷ first) rest [] more done next = absurd done
@@ -30,6 +31,7 @@ AnswersFit-append fused (plays event ∷ first) rest (answer ∷ told) more done
 fused_after-append : (fused : Bool) (first rest : List Action) → fused_after fused (first ++ rest) ≡ fused_after (fused_after fused first) rest
 fused_after-append fused [] rest = refl
 fused_after-append fused (arms writes ∷ first) rest = fused_after-append true first rest
+fused_after-append fused (fails call ∷ first) rest = fused_after-append fused first rest
 fused_after-append fused (starts ∷ first) rest = fused_after-append fused first rest
 fused_after-append fused (cuts keeps ∷ first) rest = fused_after-append false first rest
 fused_after-append fused (plays event ∷ first) rest = fused_after-append fused first rest
@@ -38,6 +40,7 @@ text_of_lives-append : (fused : Bool) (first rest : List Action) (told more : Li
     → text_of_lives (first ++ rest) (told ++ more) ≡ text_of_lives first told ++ text_of_lives rest more
 text_of_lives-append fused [] rest told more done = ap (λ (l : List Answer). text_of_lives rest (l ++ more)) done
 text_of_lives-append fused (arms writes ∷ first) rest told more done = text_of_lives-append true first rest told more done
+text_of_lives-append fused (fails call ∷ first) rest told more done = text_of_lives-append fused first rest told more done
 text_of_lives-append fused (starts ∷ first) rest told more done = text_of_lives-append fused first rest told more done
 text_of_lives-append fused (cuts keeps ∷ first) rest told more done = text_of_lives-append false first rest told more done
 text_of_lives-append fused (plays event ∷ first) rest [] more done = absurd done
@@ -62,6 +65,16 @@ acted-fuse old new writes on = record {
   goes_on = on;
   fits = λ fused is. refl;
   fuse = λ fused is never. absurd (true≢false never);
+}
+
+-- a failure of a call is armed: fuse and power are as they were
+pub acted-fail : (old new : LivesValue) (call : ℕ) → LivesGoOn old (fails call ∷ []) [] new
+    → IsFailing call (medium_in old.stage) (medium_in new.stage) → Acted old (fails call ∷ []) [] new
+acted-fail old new call on failing = record {
+  goes_on = on;
+  fits = λ fused is. refl;
+  fuse = λ fused is unfused. let so = is unfused in
+      (ap (λ (m : Sim). m.power.fuse) failing ∙ so.0, ap (λ (m : Sim). m.power.off) failing ∙ so.1);
 }
 
 -- the power is cut

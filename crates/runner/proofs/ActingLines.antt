@@ -8,7 +8,7 @@ use Rattle.runner.specs.declared.fault.ScriptFault.{ScriptFault}
 use Rattle.runner.specs.declared.kept.KeptWrites.{KeptWrites}
 use Rattle.runner.specs.declared.line.ScriptKind.TheVariants.{Lives}
 use Rattle.runner.specs.declared.line.ScriptLine.{ScriptLine}
-use Rattle.runner.specs.declared.line.ScriptLine.TheVariants.{Skipped, Out, Fill, In, Setup, Tick, Fuse, Cut}
+use Rattle.runner.specs.declared.line.ScriptLine.TheVariants.{Skipped, Out, Fill, In, Setup, Tick, Fuse, Fail, Cut}
 use Rattle.runner.specs.Events.{events_of}
 use Rattle.runner.specs.Line.{Spells, IsScriptLine}
 use Rattle.runner.specs.Lifetimes.{comes, actions_of, LineActs}
@@ -16,21 +16,22 @@ use Rattle.runner.specs.PlayedLives.{TellsLives, BreaksOff, PlaysAll, PlaysUpTo}
 use Rattle.runner.proofs.Acting.{tells-none, tells-more, ends-behind}
 use Rattle.runner.proofs.InTurn.{IsGivenTo, given-start, given-more, given-all, given-part}
 
-acts_by_events : (asked : ScriptLine) → ((writes : ℕ) → asked ≡ Fuse writes → ⊥) → ((kept : KeptWrites) → asked ≡ Cut kept → ⊥)
+acts_by_events : (asked : ScriptLine) → ((writes : ℕ) → asked ≡ Fuse writes → ⊥) → ((call : ℕ) → asked ≡ Fail call → ⊥) → ((kept : KeptWrites) → asked ≡ Cut kept → ⊥)
     → flat_map comes (events_of asked) ≡ actions_of asked
-acts_by_events Skipped no_fuse no_cut = refl
-acts_by_events (Out packet) no_fuse no_cut = refl
-acts_by_events (Fill byte count size) no_fuse no_cut = refl
-acts_by_events In no_fuse no_cut = refl
-acts_by_events (Setup packet) no_fuse no_cut = refl
-acts_by_events (Tick count) no_fuse no_cut = refl
-acts_by_events (Fuse writes) no_fuse no_cut = absurd (no_fuse writes refl)
-acts_by_events (Cut kept) no_fuse no_cut = absurd (no_cut kept refl)
+acts_by_events Skipped no_fuse no_fail no_cut = refl
+acts_by_events (Out packet) no_fuse no_fail no_cut = refl
+acts_by_events (Fill byte count size) no_fuse no_fail no_cut = refl
+acts_by_events In no_fuse no_fail no_cut = refl
+acts_by_events (Setup packet) no_fuse no_fail no_cut = refl
+acts_by_events (Tick count) no_fuse no_fail no_cut = refl
+acts_by_events (Fuse writes) no_fuse no_fail no_cut = absurd (no_fuse writes refl)
+acts_by_events (Fail call) no_fuse no_fail no_cut = absurd (no_fail call refl)
+acts_by_events (Cut kept) no_fuse no_fail no_cut = absurd (no_cut kept refl)
 
--- a line that is neither a fuse nor a cut acts by its events
-pub event_line_acts : (most : ℕ) (line : List ℕ) (asked : ScriptLine) → ((writes : ℕ) → asked ≡ Fuse writes → ⊥) → ((kept : KeptWrites) → asked ≡ Cut kept → ⊥)
+-- a line that is no fuse, no failure and no cut acts by its events
+pub event_line_acts : (most : ℕ) (line : List ℕ) (asked : ScriptLine) → ((writes : ℕ) → asked ≡ Fuse writes → ⊥) → ((call : ℕ) → asked ≡ Fail call → ⊥) → ((kept : KeptWrites) → asked ≡ Cut kept → ⊥)
     → Spells most line asked → LineActs most line (flat_map comes (events_of asked))
-event_line_acts most line asked no_fuse no_cut spelled = record { asked = asked; spelled = spelled; actions_are = acts_by_events asked no_fuse no_cut }
+event_line_acts most line asked no_fuse no_fail no_cut spelled = record { asked = asked; spelled = spelled; actions_are = acts_by_events asked no_fuse no_fail no_cut }
 
 pub line_acts : (most : ℕ) (line : List ℕ) (asked : ScriptLine) → Spells most line asked → LineActs most line (actions_of asked)
 line_acts most line asked spelled = record { asked = asked; spelled = spelled; actions_are = refl }

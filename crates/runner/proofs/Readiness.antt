@@ -24,7 +24,7 @@ use Rattle.bot_machine.specs.Conversation.{Conversation, Begins, Opens as OpensE
 use Rattle.bot_machine.specs.Disk.{UnitStep}
 use Rattle.bot_machine.specs.Exchange.{Script, finished, taking, sending, Moment, at_once, after_data, never, moment_of}
 use Rattle.bot_machine.specs.Intentions.{Intends}
-use Rattle.bot_machine.specs.Lives.{Action, arms, starts, plays, cuts, Remains, Place, before_first, between, runs, off, Standing, Opens, LifeBegins, PowerGoes, LivesStep, LivesRun, after_cut}
+use Rattle.bot_machine.specs.Lives.{Action, arms, fails, starts, plays, cuts, Remains, Place, before_first, between, runs, off, Standing, Opens, LifeBegins, PowerGoes, LivesStep, LivesRun, after_cut}
 use Rattle.bot_machine.specs.LivesValue.{OpensOn, HasLimit, book_at, FoundAt}
 use Rattle.bot_machine.specs.Lifetimes.{first_standing, actions_of_all, armed_by}
 use Rattle.bot_machine.proofs.Beginning.{next_opens}
@@ -192,6 +192,7 @@ module _ (device : Device) (book : Book) where
   from_step : (refused : Bool) (old new : Standing) (action : Action) (told : List Answer) → IsFrom book old.place
       → LivesStep device refused old action told new → IsFrom book new.place
   from_step refused old new (arms writes) told from h = subst (λ (s : Standing). IsFrom book s.place) (sym h.1) from
+  from_step refused old new (fails call) told from h = subst (λ (s : Standing). IsFrom book s.place) (sym h.1) from
   from_step refused old new starts told from h = from_start refused old.place old.armed old.limit new told from h
   from_step refused old new (plays happens) told from h = from_event refused old.place old.armed old.limit new happens told from h
   from_step refused old new (cuts keep) told from h = subst (λ (s : Standing). IsFrom book s.place) (sym h.1) (from_cut old.place from)

@@ -2,7 +2,7 @@
 use Rattle.std.proofs.Common.{◌≡◌, ◌⊎◌, inl, inr, refl, ℕ, List, codes}
 use Rattle.runner.specs.declared.line.ScriptKind.TheVariants.{OneLife}
 use Rattle.runner.specs.declared.line.ScriptLine.{ScriptLine}
-use Rattle.runner.specs.declared.line.ScriptLine.TheVariants.{Skipped, Out, Fill, In, Setup, Tick, Fuse, Cut}
+use Rattle.runner.specs.declared.line.ScriptLine.TheVariants.{Skipped, Out, Fill, In, Setup, Tick, Fuse, Fail, Cut}
 use Rattle.runner.specs.Line.{Spells, Allows, SpellsOut, SpellsFill, SpellsSetup, SpellsCount}
 
 pub is_plain : (most : ℕ) (line : List ℕ) → ((packet : List ℕ) → SpellsOut most line packet → ⊥) → ((byte count : ℕ) → SpellsFill line byte count → ⊥)
@@ -15,4 +15,5 @@ is_plain most line no_out no_fill no_setup no_tick In spelled allowed = inr refl
 is_plain most line no_out no_fill no_setup no_tick (Setup packet) spelled allowed = absurd (no_setup packet spelled)
 is_plain most line no_out no_fill no_setup no_tick (Tick count) spelled allowed = absurd (no_tick count spelled)
 is_plain most line no_out no_fill no_setup no_tick (Fuse writes) spelled allowed = absurd allowed
+is_plain most line no_out no_fill no_setup no_tick (Fail call) spelled allowed = absurd allowed
 is_plain most line no_out no_fill no_setup no_tick (Cut kept) spelled allowed = absurd allowed

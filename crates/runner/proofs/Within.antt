@@ -9,7 +9,7 @@ use Rattle.bot_machine.specs.Fitting.{IsWithin, AreWithin}
 use Rattle.bot_machine.specs.declared.event.Event.{Event}
 use Rattle.bot_machine.specs.declared.event.Event.TheVariants as event
 use Rattle.runner.specs.declared.line.ScriptLine.{ScriptLine}
-use Rattle.runner.specs.declared.line.ScriptLine.TheVariants.{Skipped, Out, Fill, In, Setup, Tick, Fuse, Cut}
+use Rattle.runner.specs.declared.line.ScriptLine.TheVariants.{Skipped, Out, Fill, In, Setup, Tick, Fuse, Fail, Cut}
 use Rattle.runner.specs.Events.{packet_out, events_of}
 use Rattle.runner.specs.Line.{Spells, SpellsOut}
 
@@ -48,6 +48,7 @@ events_within most line In spelled = one_within most event.In tt
 events_within most line (Setup packet) spelled = one_within most (event.Setup packet) tt
 events_within most line (Tick count) spelled = ticks_within most count
 events_within most line (Fuse writes) spelled = none_within most
+events_within most line (Fail call) spelled = none_within most
 events_within most line (Cut kept) spelled = none_within most
 
 -- the first of events, and the rest of them

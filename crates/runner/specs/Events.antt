@@ -6,7 +6,7 @@ use Rattle.bot_machine.specs.PacketBytes.{bytes_of}
 use Rattle.bot_machine.specs.Packets.{packets_of}
 use Rattle.runner.specs.declared.line.ScriptLine.{ScriptLine}
 use Rattle.runner.specs.declared.line.ScriptLine.TheVariants.{Skipped, Out, Fill, In, Setup, Tick}
-use Rattle.runner.specs.declared.line.ScriptLine.TheVariants.{Fuse, Cut}
+use Rattle.runner.specs.declared.line.ScriptLine.TheVariants.{Fuse, Fail, Cut}
 
 -- a packet to Bulk-Out
 abbrev pub packet_out : List ℕ → Event
@@ -22,4 +22,5 @@ events_of In = event.In ∷ []
 events_of (Setup packet) = event.Setup packet ∷ []
 events_of (Tick count) = replicate count event.Tick
 events_of (Fuse writes) = []
+events_of (Fail call) = []
 events_of (Cut kept) = []

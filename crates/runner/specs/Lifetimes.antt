@@ -10,7 +10,7 @@ use Rattle.bot_machine.specs.declared.event.Answer.{Answer}
 use Rattle.bot_machine.specs.declared.event.Answer.TheVariants.{Off}
 use Rattle.bot_machine.specs.Conversation.{refused_events}
 use Rattle.bot_machine.specs.Lifetimes.{EndsIn, StopsIn}
-use Rattle.bot_machine.specs.Lives.{Action, arms, starts, plays, cuts}
+use Rattle.bot_machine.specs.Lives.{Action, arms, fails, starts, plays, cuts}
 use Rattle.bot_machine.specs.LivesValue.{OpensOn, HasLimit}
 use Rattle.bot_machine.specs.Moving.{medium_in, MovesBy, IsRefusedStart}
 use Rattle.bot_machine.specs.declared.stage.Stage.{Stage}
@@ -19,7 +19,7 @@ use Rattle.runner.specs.declared.kept.KeptWrites.{KeptWrites}
 use Rattle.runner.specs.declared.kept.KeptWrites.TheVariants as kept
 use Rattle.runner.specs.declared.line.ScriptLine.{ScriptLine}
 use Rattle.runner.specs.declared.line.ScriptLine.TheVariants.{Skipped, Out, Fill, In, Setup, Tick}
-use Rattle.runner.specs.declared.line.ScriptLine.TheVariants.{Fuse, Cut}
+use Rattle.runner.specs.declared.line.ScriptLine.TheVariants.{Fuse, Fail, Cut}
 use Rattle.runner.specs.Line.{Spells}
 use Rattle.runner.specs.Events.{events_of}
 use Rattle.runner.specs.Script.{InTurn, device}
@@ -38,6 +38,7 @@ comes event = starts ∷ plays event ∷ []
 -- what a line does
 abbrev pub actions_of : ScriptLine → List Action
 actions_of (Fuse writes) = arms writes ∷ []
+actions_of (Fail call) = fails call ∷ []
 actions_of (Cut kept) = cuts (is_kept kept) ∷ []
 actions_of Skipped = []
 actions_of (Out packet) = flat_map comes (events_of (Out packet))
@@ -60,6 +61,7 @@ Acts most lines actions = InTurn (LineActs most) lines actions
 abbrev pub text_of_lives : List Action → List Answer → List ℕ
 text_of_lives [] answers = []
 text_of_lives (arms writes ∷ actions) answers = text_of_lives actions answers
+text_of_lives (fails call ∷ actions) answers = text_of_lives actions answers
 text_of_lives (starts ∷ actions) answers = text_of_lives actions answers
 text_of_lives (cuts keeps ∷ actions) answers = text_of_lives actions answers
 text_of_lives (plays event ∷ actions) [] = []
@@ -67,10 +69,11 @@ text_of_lives (plays event ∷ actions) (answer ∷ answers) =
     line_for event answer ++ text_of_lives actions answers
 
 -- Each event has one answer, which is Off only behind a fuse of the same life. The truth value says
--- that one is armed before.
+-- that one is armed before; a failure of a call lets no power go.
 abbrev pub AnswersFit : Bool → List Action → List Answer → Type 0
 AnswersFit fused [] answers = answers ≡ []
 AnswersFit fused (arms writes ∷ actions) answers = AnswersFit true actions answers
+AnswersFit fused (fails call ∷ actions) answers = AnswersFit fused actions answers
 AnswersFit fused (starts ∷ actions) answers = AnswersFit fused actions answers
 AnswersFit fused (cuts keeps ∷ actions) answers = AnswersFit false actions answers
 AnswersFit fused (plays event ∷ actions) [] = ⊥
@@ -81,16 +84,17 @@ AnswersFit fused (plays event ∷ actions) (answer ∷ answers) = (answer ≡ Of
 abbrev pub fused_after : Bool → List Action → Bool
 fused_after fused [] = fused
 fused_after fused (arms writes ∷ actions) = fused_after true actions
+fused_after fused (fails call ∷ actions) = fused_after fused actions
 fused_after fused (starts ∷ actions) = fused_after fused actions
 fused_after fused (cuts keeps ∷ actions) = fused_after false actions
 fused_after fused (plays event ∷ actions) = fused_after fused actions
 
 -- Lives of a disk with packets of at most so many bytes, over a medium in memory, and the answers.
--- The actions move the disk and its medium one after another, and leave this medium: a fuse and a
--- cut do exactly what they say, an event is one step of the disk, and each step in the background
--- is one. The truth values say in which of them the medium refused a call. For each book with which
--- a first life opens over the contents they are a run of lives; a cut afterwards leaves what may be
--- found.
+-- The actions move the disk and its medium one after another, and leave this medium: a fuse, a
+-- failure and a cut do exactly what they say, an event is one step of the disk, and each step in
+-- the background is one. The truth values say in which of them the medium refused a call. For each
+-- book with which a first life opens over the contents they are a run of lives; a cut afterwards
+-- leaves what may be found.
 pub record AreLives (most : ℕ) (before after : Sim) (actions : List Action)
     (answers : List Answer) : Type 0 where
   pub fits : AnswersFit false actions answers

@@ -5,7 +5,7 @@ use Rattle.hex.specs.Hex.{decode_of}
 use Rattle.bot_machine.specs.PacketBytes.{bytes_of}
 use Rattle.runner.specs.declared.line.ScriptLine.{ScriptLine}
 use Rattle.runner.specs.declared.line.ScriptLine.TheVariants.{Skipped, Out, Fill, In, Setup, Tick}
-use Rattle.runner.specs.declared.line.ScriptLine.TheVariants.{Fuse, Cut}
+use Rattle.runner.specs.declared.line.ScriptLine.TheVariants.{Fuse, Fail, Cut}
 use Rattle.runner.specs.declared.line.ScriptKind.{ScriptKind}
 use Rattle.runner.specs.declared.line.ScriptKind.TheVariants.{OneLife, Lives}
 use Rattle.runner.specs.declared.kept.KeptWrites.{KeptWrites}
@@ -71,11 +71,13 @@ Spells most line In = line ≡ codes "in"
 Spells most line (Setup packet) = SpellsSetup line packet
 Spells most line (Tick count) = SpellsCount (codes "tick ") 1 1000000 line count
 Spells most line (Fuse writes) = SpellsCount (codes "fuse ") 0 1000000000 line writes
+Spells most line (Fail call) = SpellsCount (codes "fail ") 1 1000000000 line call
 Spells most line (Cut kept) = SpellsCut line kept
 
--- a script of one life has no line that moves the power
+-- a script of one life has no line that moves the power, or lets a call of the medium fail
 abbrev pub Allows : ScriptKind → ScriptLine → Type 0
 Allows OneLife (Fuse writes) = ⊥
+Allows OneLife (Fail call) = ⊥
 Allows OneLife (Cut kept) = ⊥
 Allows OneLife asked = Unit {0}
 Allows Lives asked = Unit {0}

@@ -25,6 +25,7 @@ impl Iterator for ScriptLine {
             ScriptLine::Tick { count } => self.next_tick(count),
             ScriptLine::Skipped => None,
             ScriptLine::Fuse { .. } => None,
+            ScriptLine::Fail { .. } => None,
             ScriptLine::Cut(_) => None,
         }
     }

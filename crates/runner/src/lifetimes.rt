@@ -42,6 +42,7 @@ pub(crate) fn play_lives<W: Write>(
     for line in Parts::lines(script) {
         match read_line(ScriptKind::Lives, size, line).unwrap() {
             ScriptLine::Fuse { writes } => lives.fuse(writes),
+            ScriptLine::Fail { call } => lives.fail(call),
             ScriptLine::Cut(kept) => numbers = cut(&mut lives, &kept, numbers),
             asked => {
                 if let Err(fault) = play_events(alloc, &mut lives, asked, out) {

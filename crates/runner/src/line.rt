@@ -13,7 +13,8 @@ use bot_machine::PacketSize;
 /// Which lines a script may have.
 #[derive(Clone, Copy, Debug, PartialEq, Eq)]
 pub enum ScriptKind {
-    /// Those of one life: the power stays on, so that `fuse` and `cut` are none of its lines.
+    /// Those of one life: the power stays on, so that `fuse`, `fail` and `cut` are none of its
+    /// lines.
     OneLife,
     /// Those of several lives, which end by cuts.
     Lives,
@@ -43,6 +44,10 @@ pub enum ScriptLine {
     /// A fuse of so many writes and flushes.
     Fuse {
         writes: u64,
+    },
+    /// A failure of one call of the medium: the one with this number from now, counted from 1.
+    Fail {
+        call: u64,
     },
     /// A cut of the power.
     Cut(KeptWrites),
@@ -99,15 +104,20 @@ fn read_sent(size: PacketSize, line: &[u8]) -> Option<ScriptLine>
     Some(ScriptLine::Tick { count })
 }
 
-// Reads a line that moves the power.
+// Reads a line that moves the power, or lets a call of the medium fail.
 fn read_switch(line: &[u8]) -> Option<ScriptLine>
     ensures spelled { IfSome result (λ asked. (most : ℕ) → Spells most line.now asked) }
     ensures no_fuse { IfNone result ((writes : ℕ)
         → SpellsCount (codes "fuse ") 0 1000000000 line.now writes → ⊥) }
+    ensures no_fail { IfNone result ((call : ℕ)
+        → SpellsCount (codes "fail ") 1 1000000000 line.now call → ⊥) }
     ensures no_cut { IfNone result ((kept : KeptWrites) → SpellsCut line.now kept → ⊥) }
 {
     if let Some(writes) = read_count(line, b"fuse ", 0, 1_000_000_000) {
         return Some(ScriptLine::Fuse { writes });
+    }
+    if let Some(call) = read_count(line, b"fail ", 1, 1_000_000_000) {
+        return Some(ScriptLine::Fail { call });
     }
     Some(ScriptLine::Cut(read_cut(line)?))
 }

@@ -19,7 +19,7 @@ use std::alloc::Global;
 use std::io::{Read, Write};
 
 /// Plays a script on a disk over a simulated medium, with packets of a size. The power of the medium
-/// is on, with nothing unflushed and no fuse armed. Lines `fuse` and `cut` are its as well.
+/// is on, with nothing unflushed and no fuse armed. Lines `fuse`, `fail` and `cut` are its as well.
 pub fn sim_script<R: Read, W: Write>(
     alloc: Global,
     medium: SimMedium,

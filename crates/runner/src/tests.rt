@@ -144,6 +144,8 @@ fn refuses_a_script_by_its_first_bad_line(rt: HostRuntime) -> Result<(), Fail> {
         ("tick +1", 1),
         ("tick 1000001", 1),
         ("fuse 1000000001", 1),
+        ("fail 0", 1),
+        ("fail 1000000001", 1),
         ("cut", 1),
         ("cut none all", 1),
         ("cut 0  1", 1),
@@ -164,7 +166,7 @@ fn refuses_a_script_by_its_first_bad_line(rt: HostRuntime) -> Result<(), Fail> {
         assert_eq!(rt; error.fault, ScriptFault::Line(number));
         assert!(rt; out.is_empty());
     }
-    for script in ["fuse 1", "cut none", "cut 0"] {
+    for script in ["fuse 1", "fail 1", "cut none", "cut 0"] {
         let mut out = Vec::new(alloc);
         let refused = run_script(
             alloc,
@@ -184,7 +186,7 @@ fn refuses_a_script_by_its_first_bad_line(rt: HostRuntime) -> Result<(), Fail> {
 #[test]
 fn takes_the_limits_of_a_line(rt: HostRuntime) -> Result<(), Fail> {
     let alloc = rt.alloc();
-    let mut script = String::from_str(alloc, "fuse 1000000000\ncut 16383")?;
+    let mut script = String::from_str(alloc, "fail 1000000000\nfuse 1000000000\ncut 16383")?;
     for _ in 1..64 {
         script.push_str(" 0")?;
     }
