@@ -67,9 +67,9 @@ RestsOn most before old new left packet = (book : Book) → FitsUnit before old 
     → PacketCarriesOut most false left packet (state_of old book) block taken → ⊥)
     → new ≡ old
 
--- Where a packet, of at most so many bytes, has a command carried out, the unit makes no call of the
--- medium that it does not need, no more than its calls of the store add up to, and the line is to
--- tell its answer.
+-- Where a packet, of at most so many bytes, has a command carried out, the unit makes no call of
+-- the medium that it does not need, no more than its calls of the store add up to, and the line is
+-- to tell its answer.
 abbrev pub SparesOn : {M : Type 0} → ℕ → State → State → UnitValue M → UnitValue M → Line
     → Script → List ℕ → Type 0
 SparesOn most before after old new to left packet = (book : Book) → FitsUnit before old book
