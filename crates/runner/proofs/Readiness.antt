@@ -1,17 +1,16 @@
--- Media over which a life opens: one that was formatted and cut, and one that lives have left.
-use Rattle.std.proofs.Common.{◌≡◌, ℕ, ◌/◌, Bool, true, false, List, [], ◌∷◌, ◌++◌, replicate, refl, sym, ap, subst, ◌∙◌, ⊎_elim, inl, inr, arith, append_assoc}
+-- Media over which a life opens: one that was formatted or migrated and cut, and one that lives have left.
+use Rattle.std.proofs.Common.{◌≡◌, ℕ, ◌+◌, ◌/◌, Bool, true, false, List, [], ◌∷◌, ◌++◌, replicate, refl, sym, ap, subst, ◌∙◌, ⊎_elim, inl, inr, arith, append_assoc}
 use Rattle.std.proofs.lemmas.Bool.{cases_Bool}
 use Rattle.std.specs.Prelude.{map, Result}
 use Rattle.medium.specs.Blocks.{Array}
 use Rattle.medium.specs.Medium.{Image}
-use Rattle.medium.specs.Moments.{EachCut}
+use Rattle.medium.specs.Moments.{EachCut, IsFlushed}
 use Rattle.medium.specs.Sim.{Sim, state_of, size_of, content_of, IsCut}
 use Rattle.medium.specs.SimLaws.{is_sound, size_whole}
 use Rattle.medium.specs.Writes.{sector_of, are_whole, keeps}
 use Rattle.medium.proofs.Keeping.{kept_allowed, none_size, none_content, none_flushed}
 use Rattle.medium.proofs.Moments.{only_image, content_has}
-use Rattle.log_layout.specs.Places.{limit_of}
-use Rattle.recovery.specs.Formatted.{Shape, IsFormatted}
+use Rattle.log_layout.specs.Places.{limit_of, migrated}
 use Rattle.bot_machine.specs.Books.{Book, opened, StandsAs}
 use Rattle.bot_machine.specs.Device.{Device}
 use Rattle.bot_machine.specs.Rules.{UnitState, CarriesOut, Ticks, Sense}
@@ -29,7 +28,7 @@ use Rattle.bot_machine.specs.LivesValue.{OpensOn, HasLimit, book_at, FoundAt}
 use Rattle.bot_machine.specs.Lifetimes.{first_standing, actions_of_all, armed_by}
 use Rattle.bot_machine.proofs.Beginning.{next_opens}
 use Rattle.bot_machine.proofs.UnitLaws.{knows_images, ours_stay}
-use Rattle.runner.specs.Laws.{IsReadyFor, FormatIsReady, LivesAreReady}
+use Rattle.runner.specs.Laws.{IsReadyFor, FormatIsReady, MigrationIsReady, LivesAreReady}
 
 -- an image that is ours for a book is ours for something
 ours_for_some : (size blocks : ℕ) (image : Image) (array : Array) (next : ℕ) → StandsAs size blocks image array next → IsOursForSome size image
@@ -46,12 +45,10 @@ opens_at_rest m blocks array next none stands = record {
       subst (IsOursForSome (state_of m).size) (sym same) (ours_for_some (state_of m).size blocks (state_of m).content array next stands);
 }
 
--- ---- a medium that was formatted and cut
+-- ---- a medium that was formatted or migrated, and cut
 
-module _ (shape : Shape) (made cut : Sim) (keep : ℕ → Bool) (f : IsFormatted shape (state_of made)) (c : IsCut keep made cut) where
-  abbrev zeros : Array
-  zeros = λ block. replicate 512 0
-
+module _ (blocks next : ℕ) (array : Array) (made cut : Sim) (keep : ℕ → Bool) (flushed : IsFlushed (state_of made))
+    (s : StandsAs (state_of made).size blocks (state_of made).content array next) (c : IsCut keep made cut) where
   none_of_no_sectors : are_whole made.unflushed ≡ false → size_of made ≡ 0
   none_of_no_sectors not = rw not refl
 
@@ -59,44 +56,50 @@ module _ (shape : Shape) (made cut : Sim) (keep : ℕ → Bool) (f : IsFormatted
   are_sectors : are_whole made.unflushed ≡ true
   are_sectors = elim (cases_Bool (are_whole made.unflushed)) [
     | inl whole ↦ whole
-    | inr not ↦ let fits = f.ours.stands.fits in absurd (omega (arith, fits, none_of_no_sectors not))
+    | inr not ↦
+        let fits = s.2.stands.fits in
+        let some = s.2.stands.keeps.super.some_blocks in
+        absurd (omega (arith, fits, some, none_of_no_sectors not))
   ]
 
   size_same : (state_of cut).size ≡ (state_of made).size
   size_same = none_size cut c.none ∙ ap (λ (n : ℕ). n / 512) c.size_stays ∙ sym (size_whole made are_sectors)
 
-  content_at : (s : ℕ) → content_of cut s ≡ content_of made s
-  content_at s = none_content cut c.none s ∙ c.image s ∙ f.flushed s _ (kept_allowed keep made.unflushed (sector_of made.flushed) s)
+  content_at : (x : ℕ) → content_of cut x ≡ content_of made x
+  content_at x = none_content cut c.none x ∙ c.image x ∙ flushed x _ (kept_allowed keep made.unflushed (sector_of made.flushed) x)
 
   content_same : (state_of cut).content ≡ (state_of made).content
-  content_same = λ i s. content_at s i
+  content_same = λ i x. content_at x i
 
-  stands_made : StandsAs (state_of made).size shape.blocks (state_of made).content zeros 2
-  stands_made = (shape, refl, f.ours)
-
-  stands_cut : StandsAs (state_of cut).size shape.blocks (state_of cut).content zeros 2
+  stands_cut : StandsAs (state_of cut).size blocks (state_of cut).content array next
   stands_cut =
-      subst (λ (n : ℕ). StandsAs n shape.blocks (state_of cut).content zeros 2) (sym size_same)
-      (subst (λ (image : Image). StandsAs (state_of made).size shape.blocks image zeros 2) (sym content_same) stands_made)
+      subst (λ (n : ℕ). StandsAs n blocks (state_of cut).content array next) (sym size_same)
+      (subst (λ (image : Image). StandsAs (state_of made).size blocks image array next) (sym content_same) s)
 
   -- the contents have the limit of the format
-  limited_cut : HasLimit (state_of cut).size (limit_of shape.format) (state_of cut).content
+  limited_cut : HasLimit (state_of cut).size (limit_of s.0.format) (state_of cut).content
   limited_cut =
-      subst (λ (n : ℕ). HasLimit n (limit_of shape.format) (state_of cut).content) (sym size_same)
-      (subst (HasLimit (state_of made).size (limit_of shape.format)) (sym content_same)
-      (record { shape = shape; array = zeros; next = 2; stands = f.ours.stands; limit_is = refl }))
+      subst (λ (n : ℕ). HasLimit n (limit_of s.0.format) (state_of cut).content) (sym size_same)
+      (subst (HasLimit (state_of made).size (limit_of s.0.format)) (sym content_same)
+      (record { shape = s.0; array = array; next = next; stands = s.2.stands; limit_is = refl }))
 
-  is_ready : IsReadyFor cut (limit_of shape.format) (opened shape.blocks zeros 2 true)
+  is_ready : IsReadyFor cut (limit_of s.0.format) (opened blocks array next true)
   is_ready = record {
     rests = record { on = ap (λ p. p.off) c.power_on; flushed = c.none };
     unfused = ap (λ p. p.fuse) c.power_on;
-    opens = opens_at_rest cut shape.blocks zeros 2 c.none stands_cut;
+    opens = opens_at_rest cut blocks array next c.none stands_cut;
     limited = limited_cut;
     ours = refl;
   }
 
 pub format_is_ready : FormatIsReady
-format_is_ready = λ shape made cut keep f c. is_ready shape made cut keep f c
+format_is_ready = λ shape made cut keep f c.
+    is_ready shape.blocks 2 (λ block. replicate 512 0) made cut keep f.flushed (shape, refl, f.ours) c
+
+pub migration_is_ready : MigrationIsReady
+migration_is_ready = λ old made cut answer keep size m c.
+    is_ready m.shape.blocks (answer.next + 1) m.array made cut keep m.made.flushed
+    (subst (λ (n : ℕ). StandsAs n m.shape.blocks (state_of made).content m.array (answer.next + 1)) (sym size) (migrated m.shape, refl, m.ours)) c
 
 -- ---- whether every image was ours when lives began does not change
 

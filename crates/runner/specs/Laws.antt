@@ -1,9 +1,12 @@
 -- What users of a disk rely on from one run to the next: of an image that was made, and of a medium
 -- that lives have left.
-use Rattle.std.specs.Prelude.{◌≡◌, ℕ, Bool, true, List, None, replicate}
+use Rattle.std.specs.Prelude.{◌≡◌, ℕ, ◌+◌, Bool, true, List, None, replicate}
 use Rattle.medium.specs.Sim.{Sim, state_of, IsCut}
+use Rattle.log_layout.specs.declared.log_format.LogFormat.TheVariants.{Two}
 use Rattle.log_layout.specs.Places.{limit_of}
 use Rattle.recovery.specs.Formatted.{Shape, IsFormatted}
+use Rattle.recovery.specs.Migrated.{IsMigratedFrom}
+use Rattle.recovery.specs.declared.recovered.Recovered.{Recovered}
 use Rattle.bot_machine.specs.Books.{Book, opened}
 use Rattle.bot_machine.specs.Device.{Device}
 use Rattle.bot_machine.specs.declared.event.Answer.{Answer}
@@ -29,6 +32,14 @@ FormatIsReady = (shape : Shape) (made cut : Sim) (keeps : ℕ → Bool)
     → IsFormatted shape (state_of made) → IsCut keeps made cut
     → IsReadyFor cut (limit_of shape.format)
     (opened shape.blocks (λ block. replicate 512 0) 2 true)
+
+-- After a good migration of format 1 a cut, whatever it keeps, leaves a medium over which a life
+-- opens, in format 2: with the blocks for which the image stood before, and nothing written.
+abbrev pub MigrationIsReady : Type 0
+MigrationIsReady = (old made cut : Sim) (answer : Recovered) (keeps : ℕ → Bool)
+    → (state_of made).size ≡ (state_of old).size
+    → (done : IsMigratedFrom (state_of old) (state_of made) answer) → IsCut keeps made cut
+    → IsReadyFor cut (limit_of Two) (opened done.shape.blocks done.array (answer.next + 1) true)
 
 -- Lives that began over a medium where every image was ours leave one over which a life opens
 -- again: with the same limit, and a book with which a life may open where they have left off.
