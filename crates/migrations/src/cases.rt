@@ -62,39 +62,13 @@ impl Case {
     /// The image after its lives, each of which ends in a cut that keeps nothing.
     pub(crate) fn past(self, alloc: Global, counts: &mut Counts) -> Result<Past, Finding> {
         let past = Past::new(alloc, self.size())?;
-        let (first, second) = match self {
+        let [first, second] = match self {
+            Case::Small => few_blocks(),
+            Case::Large => many_blocks(),
             Case::LogLike => {
                 let plan = log_like(alloc, &past.array)?;
                 return past.live(alloc, &plan, counts);
             }
-            Case::Small => (
-                [
-                    plain(0, 2, 0),
-                    forced(1, 3, 0),
-                    plain(5, 1, 3),
-                    forced(4, 1, 0),
-                ],
-                [
-                    forced(8, 4, 2),
-                    plain(9, 1, 3),
-                    forced(0, 16, 0),
-                    plain(2, 2, 0),
-                ],
-            ),
-            Case::Large => (
-                [
-                    plain(0, 48, 9),
-                    forced(100, 48, 0),
-                    plain(500, 1, 0),
-                    forced(952, 48, 0),
-                ],
-                [
-                    forced(0, 48, 0),
-                    plain(90, 20, 30),
-                    forced(999, 1, 0),
-                    plain(301, 1, 0),
-                ],
-            ),
         };
         let mut plan = plan_of(alloc, &past.array, &first, 1)?;
         plan.synchronize()?;
@@ -102,6 +76,40 @@ impl Case {
         let plan = plan_of(alloc, &past.array, &second, 17)?;
         past.live(alloc, &plan, counts)
     }
+}
+
+// The writes of two lives on a disk of 16 blocks.
+fn few_blocks() -> [[Stroke; 4]; 2] {
+    let first = [
+        plain(0, 2, 0),
+        forced(1, 3, 0),
+        plain(5, 1, 3),
+        forced(4, 1, 0),
+    ];
+    let second = [
+        forced(8, 4, 2),
+        plain(9, 1, 3),
+        forced(0, 16, 0),
+        plain(2, 2, 0),
+    ];
+    [first, second]
+}
+
+// The writes of two lives on a disk of 1000 blocks.
+fn many_blocks() -> [[Stroke; 4]; 2] {
+    let first = [
+        plain(0, 48, 9),
+        forced(100, 48, 0),
+        plain(500, 1, 0),
+        forced(952, 48, 0),
+    ];
+    let second = [
+        forced(0, 48, 0),
+        plain(90, 20, 30),
+        forced(999, 1, 0),
+        plain(301, 1, 0),
+    ];
+    [first, second]
 }
 
 fn plain(address: u32, count: u32, ticks: u32) -> Stroke {
