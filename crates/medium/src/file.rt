@@ -9,12 +9,12 @@ ghost use Rattle.medium.specs.Writes.{sector_of};
 use crate::count::Count;
 use crate::fault::MediumFault;
 use crate::medium::Medium;
+use crate::sector_file::SectorFile;
 use crate::sectors::{SECTOR, load, store};
 use crate::tally::Calls;
-use std::fs::{Files, OpenFile, OpenOptions};
-use std::io::{Read, Seek, SeekFrom, Write};
+use std::fs::{Files, OpenOptions};
+use std::io;
 use std::marker::Model;
-use std::{fs, io};
 use thiserror::Error;
 
 #[cfg(test)]
@@ -25,7 +25,7 @@ const SECTOR_LIMIT: u64 = 65_536;
 /// Why no medium was made of an image file.
 #[derive(Error, Clone, Copy, Debug, PartialEq, Eq)]
 pub enum FileError {
-    #[error("the image file could not be opened, made, read or written")]
+    #[error("the image file could not be opened, locked, made, read or written")]
     File = 1,
     #[error("the length is not that of one or more sectors")]
     BadLength = 2,
@@ -40,6 +40,9 @@ pub enum FileError {
 /// Reads are answered from the copy, and none is refused. A write goes to the file and then to the
 /// copy, which a refused one leaves as it was. A flush asks the system to write the file out.
 /// After `open` or `create` no call takes memory.
+///
+/// The file is locked before anything of it is read or changed, until the medium is dropped. So no
+/// two media are over one file. The lock keeps out those alone who ask for it.
 ///
 /// What a cut may leave is said of the copy. That the file then holds what the copy held at the
 /// last good flush, and of each sector written since it either the old bytes or the new, is a
@@ -63,13 +66,13 @@ impl<F> Model for FileMedium<F> {
     ghost view = { view_of };
 }
 
-impl<F: Read + Write + Seek + OpenFile + Drop> FileMedium<F> {
+impl<F: SectorFile + Drop> FileMedium<F> {
     /// The medium of the image file at this path.
     ///
     /// # Errors
-    /// `File` where the file cannot be opened, for reading and writing, or read; `BadLength` where
-    /// its length is 0 or no multiple of 512; then `TooLong` where it has more than 65,536 sectors;
-    /// then `NoMemory`.
+    /// `File` where the file cannot be opened, for reading and writing, or another handle has it
+    /// locked, or it cannot be read; `BadLength` where its length is 0 or no multiple of 512; then
+    /// `TooLong` where it has more than 65,536 sectors; then `NoMemory`.
     pub fn open<R: Files<File = F> + AllocGlobal>(
         rt: &R,
         path: &str,
@@ -79,6 +82,9 @@ impl<F: Read + Write + Seek + OpenFile + Drop> FileMedium<F> {
         ensures flushed { IfOk result (λ m. IsFlushed (state_of m)) }
     {
         let Ok(mut file) = OpenOptions::new().read(true).write(true).open(rt, path) else {
+            return Err(FileError::File);
+        };
+        let Ok(()) = file.try_lock() else {
             return Err(FileError::File);
         };
         let Ok(metadata) = file.metadata() else {
@@ -98,7 +104,9 @@ impl<F: Read + Write + Seek + OpenFile + Drop> FileMedium<F> {
     ///
     /// # Errors
     /// `BadLength` where there are 0 sectors, `TooLong` where there are more than 65,536 and then
-    /// `NoMemory` are found before the file is touched. At `File` it may hold anything.
+    /// `NoMemory` are found before the file is touched. `File` also where another handle has the
+    /// file locked, or what is there is no plain file: that stays as it is. At any other `File` it
+    /// may hold anything.
     pub fn create<R: Files<File = F> + AllocGlobal>(
         rt: &R,
         path: &str,
@@ -113,10 +121,10 @@ impl<F: Read + Write + Seek + OpenFile + Drop> FileMedium<F> {
         let Ok(bytes) = vec![in rt.alloc(); 0u8; length] else {
             return Err(FileError::NoMemory);
         };
-        let Ok(mut file) = fs::create(rt, path) else {
+        let Ok(file) = emptied_file(rt, path) else {
             return Err(FileError::File);
         };
-        let Ok(()) = file.write_all(&bytes) else {
+        let Ok(()) = file.write_all_at(&bytes, 0) else {
             return Err(FileError::File);
         };
         Ok(FileMedium::over(file, bytes))
@@ -136,6 +144,22 @@ impl<F> FileMedium<F> {
             refused: Calls::new(),
         }
     }
+}
+
+// The file at this path, made where there is none, locked and only then emptied. To open a pipe for
+// reading and writing does not wait for another end, and what is no plain file is not touched.
+fn emptied_file<F: SectorFile + Drop, R: Files<File = F>>(rt: &R, path: &str) -> io::Result<F> {
+    let file = OpenOptions::new()
+        .read(true)
+        .write(true)
+        .create(true)
+        .open(rt, path)?;
+    if !file.metadata()?.is_file() {
+        return Err(io::Error::from(io::ErrorKind::InvalidInput));
+    }
+    file.try_lock()?;
+    file.set_len(0)?;
+    Ok(file)
 }
 
 // The length of a file that is an image, as a number of bytes in memory.
@@ -167,8 +191,8 @@ fn length_of(sectors: u64) -> Result<usize, FileError>
 }
 
 // Writes a block to a sector's place in a file, and then in the copy of its bytes.
-fn write_through<F: Write + Seek>(
-    file: &mut F,
+fn write_through<F: SectorFile>(
+    file: &F,
     copy: &mut Vec<u8>,
     sector: u64,
     block: &[u8; 512],
@@ -179,13 +203,12 @@ fn write_through<F: Write + Seek>(
     ensures err { OnErr result (copy.new.items ≡ copy.old.items) }
     ensures length { length copy.new.items ≡ length copy.old.items }
 {
-    file.seek(SeekFrom::Start(sector * SECTOR as u64))?;
-    file.write_all(block)?;
+    file.write_all_at(block, sector * SECTOR as u64)?;
     store(copy, sector, block);
     Ok(())
 }
 
-impl<F: Write + Seek + OpenFile> Medium for FileMedium<F> {
+impl<F: SectorFile> Medium for FileMedium<F> {
     ghost use Rattle.std.specs.Prelude.{◌≡◌, ◌⊎◌, ◌<◌, IsOk, OnOk, OnErr};
     ghost use Rattle.medium.specs.Medium.{Stays, Holds, Within, Gains, Only, Passes};
     ghost use Rattle.medium.specs.ImageFile.{state_of, called, refused, IsWritten, ComesAfter};
@@ -237,7 +260,7 @@ impl<F: Write + Seek + OpenFile> Medium for FileMedium<F> {
     {
         self.calls = self.calls.next();
         self.made.add(MediumFault::Write);
-        let Ok(()) = write_through(&mut self.file, &mut self.bytes, sector, from) else {
+        let Ok(()) = write_through(&self.file, &mut self.bytes, sector, from) else {
             self.refused.add(MediumFault::Write);
             return Err(MediumFault::Write);
         };

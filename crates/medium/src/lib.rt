@@ -6,7 +6,9 @@ mod fault;
 mod file;
 mod kept;
 mod medium;
+mod outlet;
 mod power;
+mod sector_file;
 mod sectors;
 mod sim;
 mod switch;
@@ -17,6 +19,8 @@ pub use fault::MediumFault;
 pub use file::{FileError, FileMedium};
 pub use kept::Kept;
 pub use medium::Medium;
+pub use outlet::Outlet;
+pub use sector_file::SectorFile;
 pub use sim::{SimError, SimMedium};
 pub use switch::Switch;
 

@@ -2,9 +2,11 @@
 use super::*;
 use crate::medium::Medium;
 use std::alloc::Allocator;
-use std::fs::{File, Metadata};
+use std::fs::{File, Metadata, OpenFile};
+use std::io::{Read, Seek, SeekFrom, Write};
+use std::os::unix::fs::FileExt;
 use std::test::Fail;
-use std::{env, process};
+use std::{env, fs, process};
 
 // A file of two sectors that refuses what it is told to. It has so many bytes to give, each a 7,
 // and gives no more than 100 at a time.
@@ -32,9 +34,8 @@ impl Read for Stubborn {
 }
 
 impl Write for Stubborn {
-    fn write(&mut self, buf: &[u8]) -> io::Result<usize> {
-        answer(self.writes)?;
-        Ok(buf.len())
+    fn write(&mut self, _buf: &[u8]) -> io::Result<usize> {
+        Err(io::Error::from(io::ErrorKind::Unsupported))
     }
 
     fn flush(&mut self) -> io::Result<()> {
@@ -45,6 +46,23 @@ impl Write for Stubborn {
 impl Seek for Stubborn {
     fn seek(&mut self, _to: SeekFrom) -> io::Result<u64> {
         Ok(0)
+    }
+}
+
+impl FileExt for Stubborn {
+    fn read_at(&self, _buf: &mut [u8], _offset: u64) -> io::Result<usize> {
+        Ok(0)
+    }
+
+    fn write_at(&self, buf: &[u8], _offset: u64) -> io::Result<usize> {
+        answer(self.writes)?;
+        Ok(buf.len())
+    }
+}
+
+impl SectorFile for Stubborn {
+    fn try_lock(&self) -> io::Result<()> {
+        Ok(())
     }
 }
 
@@ -160,6 +178,11 @@ fn a_file_keeps_what_was_written(rt: HostRuntime) -> Result<(), Fail> {
     assert_eq!(rt; m.read(1, &mut block), Ok(()));
     assert_eq!(rt; block, [7; 512]);
     assert_eq!(rt; m.flush(), Ok(()));
+    assert_eq!(rt; FileMedium::open(&rt, path).err(), Some(FileError::File));
+    assert_eq!(rt;
+        FileMedium::create(&rt, path, 1).err(),
+        Some(FileError::File)
+    );
     drop(m);
     let mut m = open(rt, path)?;
     assert_eq!(rt; m.sectors(), 3);
