@@ -1,8 +1,10 @@
 pub mod Arrays
+pub mod Cycles
+pub mod Edits
 pub mod Halving
 pub mod Kept
 pub mod Maps
 pub mod Neighbours
 pub mod Pairs
 pub mod Ranges
-pub mod Rows
+pub mod Swaps

@@ -1,5 +1,6 @@
 pub mod Blocks
 pub mod Digits
 pub mod Entries
+pub mod Order
 pub mod Places
 pub mod View

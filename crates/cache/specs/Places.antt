@@ -1,5 +1,5 @@
 -- Numbers that rise beside blocks in the same order, and the place of a number among them.
-use Rattle.std.specs.Prelude.{◌≡◌, ◌<◌, ◌≤◌, ℕ, ◌+◌, List, length, take, slice_index}
+use Rattle.std.specs.Prelude.{◌≡◌, ◌<◌, ◌≤◌, ℕ, ◌+◌, List, length, slice_index}
 use Rattle.std.specs.List.{All, flat_map}
 use Rattle.cache.specs.Blocks.{blocks_of, with_block, IsRising, absent}
 
@@ -12,10 +12,6 @@ pub record ArePaired (numbers : List ℕ) (blocks : List (List ℕ)) : Type 0 wh
   pub alike : length blocks ≡ length numbers
   pub sized : All (λ (block : List ℕ). length block ≡ 512) blocks
   pub rising : IsRising numbers
-
--- the blocks of a row beside which the numbers stand: as many of the first as there are numbers
-abbrev pub held : List ℕ → List (List ℕ) → List (List ℕ)
-held numbers row = take (length numbers) row
 
 -- the number stands at this place
 pub record StandsAt (numbers : List ℕ) (number place : ℕ) : Type 0 where

@@ -1,30 +1,25 @@
 // A bounded map from block numbers to blocks.
-ghost use Rattle.std.specs.Prelude.{◌≡◌, ◌⊎◌, ◌↔◌, ◌+◌, ◌*◌, ◌/◌, ◌%◌, ◌^◌, ◌<◌, ◌≤◌, ℕ, [], length, Some, None, IsTrue, IfOk, IfSome, IsNone};
-ghost use Rattle.cache.specs.Blocks.{with_range, InRange, Listed, absent, unlisted};
+ghost use Rattle.std.specs.Prelude.{◌≡◌, ◌⊎◌, ◌↔◌, ◌+◌, ◌*◌, ◌/◌, ◌%◌, ◌^◌, ◌<◌, ◌≤◌, ℕ, [], length, slice_index};
+ghost use Rattle.std.specs.Prelude.{Some, None, IsTrue, IfOk, IfErr, IfSome, IsNone};
+ghost use Rattle.cache.specs.Blocks.{IsRising, with_range, InRange, Listed, absent, unlisted};
+ghost use Rattle.cache.specs.Digits.{GrowsWithinDigits};
 ghost use Rattle.cache.specs.Entries.{IsWellFormed, Fits, PutsBlock, map_of};
-ghost use Rattle.cache.specs.Places.{HasPlace};
+ghost use Rattle.cache.specs.Places.{HasPlace, StandsAt, WouldStandAt};
 
 use crate::counter::Steps;
-use crate::entry::{BLOCK, put_entry};
+use crate::entry::BLOCK;
+use crate::parts::Parts;
+use crate::place::{place_of, read_number, search_among};
+use crate::{BatchError, Frozen};
 use std::alloc::Global;
 use std::marker::Model;
-use thiserror::Error;
 
-/// Why no batch was made.
-#[derive(Error, Clone, Copy, Debug, PartialEq, Eq)]
-pub enum BatchError {
-    #[error("out of memory")]
-    NoMemory = 1,
-}
-
-/// Blocks of 512 bytes by their numbers, at most as many as there is room for.
+/// Blocks of 512 bytes by their numbers, at most as many as there is room for. No block moves where
+/// another one is put, whatever the order of the numbers.
 /// After `new` no call takes memory.
 #[derive(Drop)]
 pub struct Batch {
-    numbers: Vec<u64>,
-    // As long as the room: the first blocks are those of the numbers, the others are free.
-    row: Vec<[u8; BLOCK]>,
-    room: usize,
+    parts: Parts,
 }
 
 impl Model for Batch {
@@ -34,37 +29,37 @@ impl Model for Batch {
 
     ghost use Rattle.cache.specs.View.{view_of, IsKept};
 
-    ghost view = { view_of };
+    ghost view = { λ batch. view_of batch.parts };
 
-    ghost invariant = { IsKept };
+    ghost invariant = { λ batch. IsKept batch.parts };
 }
 
 impl Batch {
     /// An empty batch with room for so many blocks.
     ///
     /// # Errors
-    /// `NoMemory` where the room could not be had.
+    /// `NoMemory` where the room could not be had, or is for more than 65,536 blocks.
     pub fn new(alloc: Global, room: usize) -> Result<Batch, BatchError>
         ensures { IfOk result
             (λ batch. batch ≡ record { room = room; numbers = []; bytes = [] }) }
     {
-        let numbers = Vec::with_capacity(alloc, room).map_err(|_| BatchError::NoMemory)?;
-        let row = vec![in alloc; [0; BLOCK]; room].map_err(|_| BatchError::NoMemory)?;
-        Ok(Batch { numbers, row, room })
+        Ok(Batch {
+            parts: Parts::new(alloc, room)?,
+        })
     }
 
     /// How many blocks there are.
     pub fn len(&self) -> usize
         ensures { result ≡ length self.now.numbers }
     {
-        self.numbers.len()
+        self.parts.numbers.len()
     }
 
     /// Whether there is no block.
     pub fn is_empty(&self) -> bool
         ensures { IsTrue result ↔ (self.now.numbers ≡ []) }
     {
-        self.numbers.is_empty()
+        self.parts.numbers.is_empty()
     }
 
     /// The numbers of the blocks, which rise.
@@ -72,15 +67,31 @@ impl Batch {
         ensures value { result.now ≡ self.now.numbers }
         ensures well_formed { IsWellFormed self.now }
     {
-        &self.numbers
+        &self.parts.numbers
     }
 
-    /// The blocks in the order of their numbers, 512 bytes each.
-    pub fn bytes(&self) -> &[u8]
-        ensures value { result.now ≡ self.now.bytes }
-        ensures well_formed { IsWellFormed self.now }
+    /// The number of the entry at a place, which is one step to read.
+    pub fn number_at(&self, place: usize, steps: &mut Steps) -> u64
+        requires { place < length self.now.numbers }
+        ensures value { result ≡ slice_index self.now.numbers place }
+        ensures rising { IsRising self.now.numbers }
+        ensures step { steps.new.count ≡ steps.old.count + 1 }
     {
-        self.row[..self.numbers.len()].as_flattened()
+        read_number(&self.parts.numbers, place, steps)
+    }
+
+    /// The place of a block's entry. It takes at most as many steps as the number of entries has
+    /// binary digits: none where there is no entry, and 6 for 48.
+    ///
+    /// # Errors
+    /// Where the block is not there, the place where its entry would stand: behind those of the
+    /// smaller numbers.
+    pub fn search(&self, block: u64, steps: &mut Steps) -> Result<usize, usize>
+        ensures found { IfOk result (StandsAt self.now.numbers block) }
+        ensures missing { IfErr result (WouldStandAt self.now.numbers block) }
+        ensures few { GrowsWithinDigits (length self.now.numbers) steps.old.count steps.new.count }
+    {
+        search_among(&self.parts.numbers, block, steps)
     }
 
     /// The 512 bytes of a block, where it is there.
@@ -89,14 +100,7 @@ impl Batch {
         ensures size { IfSome result (λ bytes. length bytes.now ≡ 512) }
         ensures none { IsNone result ↔ (map_of self.now block ≡ None) }
     {
-        let count = self.numbers.len();
-        if 0 < count && self.numbers[count - 1] < block {
-            return None;
-        }
-        match self.search(block, &mut Steps::new()) {
-            Ok(place) => Some(&self.row[place]),
-            Err(_) => None,
-        }
+        self.parts.get(block)
     }
 
     /// Whether there is room for so many blocks from the address on, of which those that are there
@@ -105,11 +109,12 @@ impl Batch {
         requires { address + count ≤ 2 ^ 31 }
         ensures { IsTrue result ↔ Fits self.now address count }
     {
-        let free = self.room - self.numbers.len();
+        let numbers = &self.parts.numbers;
+        let free = self.parts.room - numbers.len();
         if count <= free {
             return true;
         }
-        let present = self.place_of(address + count as u64) - self.place_of(address);
+        let present = place_of(numbers, address + count as u64) - place_of(numbers, address);
         count - present <= free
     }
 
@@ -129,7 +134,7 @@ impl Batch {
         ensures room_stays { self.new.room ≡ self.old.room }
         ensures well_formed { IsWellFormed self.new }
     {
-        let mut place = self.place_of(address);
+        let mut place = place_of(&self.parts.numbers, address);
         for i in 0..bytes.len() / BLOCK {
             let at = i * BLOCK;
             place = self.put_block(place, address + i as u64, &bytes[at..at + BLOCK]);
@@ -140,7 +145,17 @@ impl Batch {
     pub fn clear(&mut self)
         ensures { self.new ≡ record self.old { numbers = []; bytes = [] } }
     {
-        self.numbers.clear();
+        self.parts.clear();
+    }
+
+    /// The batch and a frozen one change their blocks and their room. Those of the batch are put
+    /// into the order of their numbers first, where each block moves at most once.
+    pub fn freeze(&mut self, frozen: &mut Frozen)
+        ensures froze { frozen.new ≡ self.old }
+        ensures thawed { self.new ≡ frozen.old }
+    {
+        self.parts.arrange();
+        frozen.trade(&mut self.parts);
     }
 
     // Puts one block where the place of its number is known, and gives the place of the next number.
@@ -151,7 +166,7 @@ impl Batch {
         ensures put { PutsBlock number block.now self.old self.new }
         ensures next { HasPlace self.new.numbers (number + 1) result }
     {
-        put_entry(&mut self.numbers, &mut self.row, place, number, block);
+        self.parts.put(place, number, block);
         place + 1
     }
 }

@@ -1,14 +1,21 @@
-//! One batch of a write cache: a bounded map from logical block addresses to blocks of 512 bytes.
-//! Its room is made once; no later call takes memory.
+//! The batches of a write cache: bounded maps from logical block addresses to blocks of 512 bytes.
+//! A batch takes blocks as they come; a frozen one has them in the order of their numbers. Their
+//! room is made once; no later call takes memory.
 #![tactic(auto)]
 
+mod arrange;
 mod batch;
+mod batch_error;
 mod counter;
 mod entry;
+mod frozen;
+mod parts;
 mod place;
 
-pub use batch::{Batch, BatchError};
+pub use batch::Batch;
+pub use batch_error::BatchError;
 pub use counter::Steps;
+pub use frozen::Frozen;
 
 #[cfg(test)]
 mod tests;

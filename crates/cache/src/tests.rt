@@ -2,6 +2,7 @@
 ghost use Rattle.std.specs.Prelude.{◌≡◌, ◌+◌, ◌/◌, ◌%◌, ◌^◌, ◌≤◌, [], length};
 
 use super::*;
+use std::alloc::Global;
 use std::process::Abort;
 use std::test::Fail;
 
@@ -28,7 +29,6 @@ fn even_numbers_stand_in_order(rt: HostRuntime) -> Result<(), Fail> {
         put(&rt, &mut batch, 94 - 2 * u64::from(i), &[i; 512]);
     }
     assert_eq!(rt; batch.len(), 48);
-    assert_eq!(rt; batch.bytes().len(), 48 * 512);
     for (place, number) in batch.numbers().iter().enumerate() {
         assert_eq!(rt; *number / 2, place as u64);
     }
@@ -36,11 +36,71 @@ fn even_numbers_stand_in_order(rt: HostRuntime) -> Result<(), Fail> {
     assert_eq!(rt; first_byte(&batch, 94), Some(0));
     assert_eq!(rt; first_byte(&batch, 1), None);
     assert_eq!(rt; first_byte(&batch, 95), None);
-    assert_eq!(rt; batch.bytes().first(), Some(&47));
-    assert_eq!(rt; batch.bytes().last(), Some(&0));
     assert!(rt; batch.fits(94, 1));
     assert!(rt; !batch.fits(94, 2));
     assert!(rt; !batch.fits(1, 1));
+    Ok(())
+}
+
+// A frozen batch of these blocks, which are put in this order, each full of its number.
+fn frozen_of(rt: &impl Abort, alloc: Global, numbers: &[u8]) -> Result<Frozen, Fail> {
+    let mut batch = Batch::new(alloc, numbers.len())?;
+    let mut frozen = Frozen::new(alloc, numbers.len())?;
+    for number in numbers {
+        put(rt, &mut batch, u64::from(*number), &[*number; 512]);
+    }
+    batch.freeze(&mut frozen);
+    assert!(rt; batch.is_empty());
+    Ok(frozen)
+}
+
+// Whether the blocks of a frozen batch are 0, 1, 2 and so on, each full of its number.
+fn are_in_order(frozen: &Frozen) -> bool {
+    let mut place = 0;
+    for block in frozen.bytes().chunks_exact(512) {
+        if block.iter().any(|byte| *byte != place) {
+            return false;
+        }
+        place = place.wrapping_add(1);
+    }
+    usize::from(place) == frozen.numbers().len()
+}
+
+#[test]
+fn blocks_are_frozen_in_order(rt: HostRuntime) -> Result<(), Fail> {
+    for order in [
+        [0, 1, 2, 3, 4, 5, 6, 7],
+        [7, 6, 5, 4, 3, 2, 1, 0],
+        [5, 2, 7, 0, 6, 1, 4, 3],
+        [1, 2, 3, 4, 5, 6, 7, 0],
+        [1, 0, 2, 4, 3, 5, 7, 6],
+    ] {
+        let frozen = frozen_of(&rt, rt.alloc(), &order)?;
+        assert!(rt; are_in_order(&frozen));
+        assert_eq!(rt; frozen.get(7).map(|block| block[0]), Some(7));
+        assert!(rt; frozen.get(8).is_none());
+    }
+    Ok(())
+}
+
+#[test]
+fn a_batch_goes_on_after_it_was_frozen(rt: HostRuntime) -> Result<(), Fail> {
+    let mut batch = Batch::new(rt.alloc(), 2)?;
+    let mut frozen = Frozen::new(rt.alloc(), 3)?;
+    put(&rt, &mut batch, 9, &[9; 512]);
+    put(&rt, &mut batch, 4, &[4; 512]);
+    batch.freeze(&mut frozen);
+    assert_eq!(rt; frozen.numbers(), [4, 9].as_slice());
+    assert!(rt; batch.fits(0, 3));
+    put(&rt, &mut batch, 4, &[5; 512]);
+    batch.freeze(&mut frozen);
+    assert_eq!(rt; first_byte(&batch, 4), Some(4));
+    assert_eq!(rt; first_byte(&batch, 9), Some(9));
+    assert!(rt; !batch.fits(0, 1));
+    assert_eq!(rt; frozen.bytes().first(), Some(&5));
+    frozen.clear();
+    assert!(rt; frozen.is_empty());
+    assert!(rt; frozen.bytes().is_empty());
     Ok(())
 }
 

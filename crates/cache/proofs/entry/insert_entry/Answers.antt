@@ -1,28 +1,25 @@
-use Rattle.std.proofs.Common.{◌≡◌, ℕ, ◌+◌, ◌-◌, ◌<◌, ◌++◌, List, length, take, drop, set, ap, ◌∙◌, arith}
+use Rattle.std.proofs.Common.{◌≡◌, ℕ, List, length, set, sym, ◌∙◌, arith}
 use Rattle.std.specs.List.{insert}
-use Rattle.std.proofs.lemmas.List.Edits.{length-insert}
-use Rattle.cache.specs.Places.{held}
+use Rattle.cache.specs.Order.{gathered}
+use Rattle.cache.proofs.Edits.{gathered_insert, ArePlaces-insert}
 use Rattle.cache.proofs.Pairs.{inserted}
-use Rattle.cache.proofs.Rows.{put_among}
+use Rattle.cache.proofs.Swaps.{length-gathered}
 use Rattle.cache.proofs.entry.insert_entry.Goals as goal
+
+pub returns-clause-placed : goal.returns-clause-placed
+returns-clause-placed c =
+    let places : List ℕ = c.args.places.now.items in
+    let alike : length places ≡ length c.args.numbers.now.items = sym (length-gathered places c.args.row.now.items) ∙ c.requires.paired.alike in
+    let last : c.len-last.result ≡ length places = omega (arith, alike, c.len-last.ensures) in
+    rw c.insert_place.ensures.items (ArePlaces-insert places c.args.place c.len-last.result c.requires.placed last (omega (arith, alike, c.requires.place.inside)))
 
 pub returns-clause-put : goal.returns-clause-put
 returns-clause-put c =
-    let old : List ℕ = c.args.numbers.now.items in
+    let places : List ℕ = c.args.places.now.items in
     let row : List (List ℕ) = c.args.row.now.items in
-    let lent : List (List ℕ) = c.deref_mut.result.now in
-    let same : lent ≡ row = c.deref_mut.ensures.value in
-    let some : ℕ = c.len.result + 1 - c.args.place in
-    let after : List (List ℕ) = drop some (drop c.args.place lent) in
-    let turned : List (List ℕ) = c.rotate_right.new.self in
-    let moved : List (List ℕ) = take c.args.place lent ++ (turned ++ after) in
-    let count : c.len.result ≡ length old = omega (arith, c.len.ensures) in
-    let numbers = c.insert_number.ensures.items in
-    let longer = length-insert old c.args.place c.args.number c.requires.place.inside in
-    let room : length old < length lent = omega (arith, c.requires.room, ap (λ (l : List (List ℕ)). length l) same) in
-    let within : length old < c.args.row.now.len = omega (arith, room, c.deref_mut.ensures.len) in
-    let placed : take (length old + 1) (set (take c.args.row.now.len (moved ++ drop (length moved) row)) c.args.place c.args.block.now) ≡ insert (take (length old) row) c.args.place c.args.block.now =
-    put_among lent turned after (drop (length moved) row) c.args.place (length old) some c.args.row.now.len c.args.block.now c.requires.place.inside room within (omega (arith, count)) c.rotate_right.ensures.after
-    ∙ ap (λ (l : List (List ℕ)). insert (take (length old) l) c.args.place c.args.block.now) same in
-    let put = inserted old (held old row) c.args.number c.args.place c.args.block.now c.requires.paired c.requires.place c.requires.size in
-    rw (numbers, longer, c.copy_from_slice.ensures.after, placed) put
+    let alike : length places ≡ length c.args.numbers.now.items = sym (length-gathered places row) ∙ c.requires.paired.alike in
+    let last : c.len-last.result ≡ length places = omega (arith, alike, c.len-last.ensures) in
+    let placed : gathered (insert places c.args.place c.len-last.result) (set row c.len-last.result c.args.block.now) ≡ insert (gathered places row) c.args.place c.args.block.now =
+    gathered_insert places row c.args.place c.len-last.result c.args.block.now c.requires.placed last (omega (arith, c.requires.room, c.len-last.ensures)) in
+    let put = inserted c.args.numbers.now.items (gathered places row) c.args.number c.args.place c.args.block.now c.requires.paired c.requires.place c.requires.size in
+    rw (c.insert_number.ensures.items, c.insert_place.ensures.items, c.copy_from_slice.ensures.after, placed) put

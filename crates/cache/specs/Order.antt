@@ -1,0 +1,26 @@
+-- Blocks in the order of their arrival, and the place of each number's block in the row.
+use Rattle.std.specs.Prelude.{◌≡◌, ◌<◌, ℕ, suc, ◌+◌, List, [], ◌∷◌, length, map}
+use Rattle.std.specs.Prelude.{slice_index, slice_index_or, if◌then◌else◌, ◌==◌}
+
+-- the blocks at these places of the row, in the order of the places
+abbrev pub gathered : List ℕ → List (List ℕ) → List (List ℕ)
+gathered places row = map (λ (p : ℕ). slice_index_or row p []) places
+
+-- the places are those from 0 on, each of them once, in any order
+pub record ArePlaces (places : List ℕ) : Type 0 where
+  pub inside : (i : ℕ) → i < length places → slice_index places i < length places
+  pub distinct : (i j : ℕ) → i < length places → j < length places
+      → slice_index places i ≡ slice_index places j → i ≡ j
+
+-- each place is its own: the places are 0, 1, 2 and so on
+abbrev pub AreInOrder : List ℕ → Type 0
+AreInOrder places = (i : ℕ) → i < length places → slice_index places i ≡ i
+
+-- 1 where a place is not the i-th
+abbrev pub away : ℕ → ℕ → ℕ
+away i place = if place == i then 0 else 1
+
+-- how many of the places, the first of which is to be the i-th, are not their own
+abbrev pub astray : ℕ → List ℕ → ℕ
+astray i [] = 0
+astray i (place ∷ places) = away i place + astray (suc i) places

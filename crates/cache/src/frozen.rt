@@ -1,0 +1,96 @@
+// A batch whose blocks lie in the order of their numbers.
+ghost use Rattle.std.specs.Prelude.{◌≡◌, ◌↔◌, [], length, Some, None};
+ghost use Rattle.std.specs.Prelude.{IsTrue, IfOk, IfSome, IsNone};
+ghost use Rattle.cache.specs.Entries.{IsWellFormed, map_of};
+ghost use Rattle.cache.specs.Order.{AreInOrder};
+ghost use Rattle.cache.specs.View.{view_of, IsKept};
+
+use crate::BatchError;
+use crate::parts::Parts;
+use std::alloc::Global;
+use std::marker::Model;
+use std::mem;
+
+/// A batch that takes no more blocks, and has them one after the other. It gets its blocks from a
+/// `Batch` by `freeze`. After `new` no call takes memory.
+#[derive(Drop)]
+pub struct Frozen {
+    parts: Parts,
+}
+
+impl Model for Frozen {
+    ghost use Rattle.cache.specs.Entries.{Entries};
+
+    ghost Value = { Entries };
+
+    ghost use Rattle.cache.specs.View.{view_of, IsArranged};
+
+    ghost view = { λ batch. view_of batch.parts };
+
+    ghost invariant = { λ batch. IsArranged batch.parts };
+}
+
+impl Frozen {
+    /// An empty batch with room for so many blocks.
+    ///
+    /// # Errors
+    /// `NoMemory` where the room could not be had, or is for more than 65,536 blocks.
+    pub fn new(alloc: Global, room: usize) -> Result<Frozen, BatchError>
+        ensures { IfOk result
+            (λ batch. batch ≡ record { room = room; numbers = []; bytes = [] }) }
+    {
+        Ok(Frozen {
+            parts: Parts::new(alloc, room)?,
+        })
+    }
+
+    /// Whether there is no block.
+    pub fn is_empty(&self) -> bool
+        ensures { IsTrue result ↔ (self.now.numbers ≡ []) }
+    {
+        self.parts.numbers.is_empty()
+    }
+
+    /// The numbers of the blocks, which rise.
+    pub fn numbers(&self) -> &[u64]
+        ensures value { result.now ≡ self.now.numbers }
+        ensures well_formed { IsWellFormed self.now }
+    {
+        &self.parts.numbers
+    }
+
+    /// The blocks in the order of their numbers, 512 bytes each.
+    pub fn bytes(&self) -> &[u8]
+        ensures value { result.now ≡ self.now.bytes }
+        ensures well_formed { IsWellFormed self.now }
+    {
+        self.parts.row[..self.parts.numbers.len()].as_flattened()
+    }
+
+    /// The 512 bytes of a block, where it is there.
+    pub fn get(&self, block: u64) -> Option<&[u8]>
+        ensures some { IfSome result (λ bytes. map_of self.now block ≡ Some bytes.now) }
+        ensures size { IfSome result (λ bytes. length bytes.now ≡ 512) }
+        ensures none { IsNone result ↔ (map_of self.now block ≡ None) }
+    {
+        self.parts.get(block)
+    }
+
+    /// Forgets all blocks. The room stays.
+    pub fn clear(&mut self)
+        ensures { self.new ≡ record self.old { numbers = []; bytes = [] } }
+    {
+        self.parts.clear();
+    }
+
+    // Takes parts whose blocks are in order, and leaves its own in their stead.
+    pub(crate) fn trade(&mut self, parts: &mut Parts)
+        requires kept { IsKept parts.old }
+        requires in_order { AreInOrder parts.old.places.items }
+        ensures took { self.new ≡ view_of parts.old }
+        ensures gave { view_of parts.new ≡ self.old }
+        ensures kept { IsKept parts.new }
+    {
+        mem::swap(&mut self.parts, parts);
+    }
+}
