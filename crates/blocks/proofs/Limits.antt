@@ -4,7 +4,7 @@ use Rattle.log_layout.specs.Places.{Shape, limit_of}
 use Rattle.log_layout.specs.declared.log_format.LogFormat.{LogFormat}
 use Rattle.log_layout.specs.declared.log_format.LogFormat.TheVariants.{One, Two}
 use Rattle.log_layout.specs.declared.super_sector.Super.{Super}
-use Rattle.blocks.specs.StoreValue.{Cached, layout_of, blocks_of, slots_of, batch_steps, steps_for, waiting, HasLimits}
+use Rattle.blocks.specs.StoreValue.{Cached, layout_of, blocks_of, slots_of, transfer_limit, batch_steps, steps_for, waiting, HasLimits}
 use Rattle.redo_log.specs.Value.{most_steps, most_retire_steps}
 use Rattle.blocks.specs.Kept.{IsKept}
 use Rattle.blocks.proofs.Fitting.{steps_for_most}
@@ -47,3 +47,11 @@ has_limits size sizes s writing kept =
           (omega (arith, waiting_most s.log.steps_left (steps_for (batch_steps s) s.frozen.numbers), steps_for_most (batch_steps s) s.frozen.numbers))
           (steps_for_most (batch_steps s) s.active.numbers);
     }
+
+few_batch : (format : LogFormat) → most_steps format + most_retire_steps format + 10 ≤ 3 * limit_of format + 16
+few_batch One = omega arith
+few_batch Two = omega arith
+
+-- how many steps a batch takes, for the layers above, which know no format
+pub few_batch_steps : (s : Cached) → batch_steps s ≤ 3 * transfer_limit s + 16
+few_batch_steps s = few_batch (layout_of s).format

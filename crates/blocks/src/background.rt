@@ -68,7 +68,7 @@ impl<M: Medium> Store<M> {
         self.begin()
     }
 
-    // The active batch becomes the frozen one.
+    // The active batch becomes the frozen one, and its blocks are put into order.
     pub(crate) fn freeze(&mut self)
         requires live { is_dead self.old.cached ≡ false }
         requires idle { self.old.cached.log.steps_left ≡ 0 }
@@ -81,7 +81,7 @@ impl<M: Medium> Store<M> {
           frozen = self.old.cached.active;
         } }
     {
-        std::mem::swap(&mut self.active, &mut self.frozen);
+        self.active.freeze(&mut self.frozen);
     }
 
     // Begins the record of the frozen batch.

@@ -13,7 +13,7 @@ ghost use Rattle.recovery.specs.Recovered.{SparesTheRest};
 ghost use Rattle.blocks.specs.Started.{IsStarted, IsStartCause, IsOursSince, IsBounded};
 
 use crate::{StartError, Store};
-use cache::Batch;
+use cache::{Batch, Frozen};
 use medium::Medium;
 use recovery::{Recovered, StartFault, recover};
 use redo_log::Log;
@@ -27,7 +27,7 @@ mod tests;
 struct Parts {
     log: Log,
     active: Batch,
-    frozen: Batch,
+    frozen: Frozen,
 }
 
 impl Parts {
@@ -47,7 +47,7 @@ impl Parts {
         };
         let limit = recovered.sizes.format.limit() as usize;
         let active = Batch::new(alloc, limit).map_err(|_| StartFault::NoMemory)?;
-        let frozen = Batch::new(alloc, limit).map_err(|_| StartFault::NoMemory)?;
+        let frozen = Frozen::new(alloc, limit).map_err(|_| StartFault::NoMemory)?;
         Ok(Parts {
             log,
             active,

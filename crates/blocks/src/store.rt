@@ -8,9 +8,9 @@ ghost use Rattle.blocks.specs.StoreValue.{HasLimits, FitsBook};
 ghost use Rattle.blocks.specs.Settled.{IsSettled};
 ghost use Rattle.blocks.specs.Turns.{IsTurn};
 
-use cache::Batch;
+use cache::{Batch, Frozen};
 use log_layout::Super;
-use medium::{Medium, Switch};
+use medium::{Medium, Outlet, Switch};
 use redo_log::Log;
 use std::marker::Model;
 
@@ -25,7 +25,7 @@ pub struct Store<M: Medium> {
     pub(crate) sizes: Super,
     pub(crate) log: Log,
     pub(crate) active: Batch,
-    pub(crate) frozen: Batch,
+    pub(crate) frozen: Frozen,
     // Whether the record of the frozen batch is under way.
     pub(crate) writing: bool,
 }
@@ -135,5 +135,18 @@ impl<M: Switch> Store<M> {
             self.old.cached self.new.cached }
     {
         self.medium.fail(call);
+    }
+}
+
+impl<M: Outlet> Store<M> {
+    /// Lets go of the call that the medium's device is to carry out next, if there is one.
+    pub fn give(&mut self)
+        ensures given { M.given self.old.medium self.new.medium }
+        ensures unchanged { IsUnchanged (M.state self.old.medium) (M.state self.new.medium) }
+        ensures cached { self.new.cached ≡ self.old.cached }
+        ensures turn { IsTurn (M.state self.old.medium) (M.state self.new.medium)
+            self.old.cached self.new.cached }
+    {
+        self.medium.give();
     }
 }

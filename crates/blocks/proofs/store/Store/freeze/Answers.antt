@@ -4,5 +4,5 @@ use Rattle.blocks.proofs.store.Store.freeze.Goals as goal
 pub returns-clause-turn : goal.returns-clause-turn
 returns-clause-turn g c =
     let m = c.self.inside.medium in
-    rw (← c.self.view_is, c.swap.ensures.x_after, c.swap.ensures.y_after)
+    rw (← c.self.view_is, c.freeze.ensures.thawed, c.freeze.ensures.froze)
     (freezes_active (g.M.Medium.state m) (g.met.M.Medium.sound m) _ (rw (← c.self.view_is) at c.requires.idle) (rw (← c.self.view_is) at c.requires.empty))
