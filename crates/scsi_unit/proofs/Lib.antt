@@ -4,6 +4,7 @@ pub mod Performing
 pub mod Writing
 pub mod Serving
 pub mod Calling
+pub mod Bounds
 pub mod Effects
 pub mod Outcomes
 pub mod Intentions

@@ -10,7 +10,7 @@ use Rattle.medium.specs.Moments.{LeavesOnly}
 use Rattle.medium.specs.Blocks.{Write}
 use Rattle.blocks.specs.Book.{Book, array_of, blocks_at, promised}
 use Rattle.blocks.specs.Finding.{FoundWith}
-use Rattle.blocks.specs.StoreValue.{StoreValue, FitsBook, blocks_of, transfer_limit, is_dead}
+use Rattle.blocks.specs.StoreValue.{StoreValue, FitsBook, layout_of, blocks_of, transfer_limit, is_dead}
 use Rattle.blocks.specs.Turns.{IsTurn}
 use Rattle.blocks.proofs.Turning.{stays, turns}
 use Rattle.sense.specs.declared.codes.Sense.{Sense}
@@ -99,6 +99,7 @@ module _ {M : Type 0} (before after : State) (old : UnitValue M) (last : StoreVa
         cuts = λ book fits ours. subst (λ (w : Option Write). LeavesOnly (FoundWith before.size book w) before after) (sym none) (turn.cuts book fits ours);
         failures_stay = turn.goes_on.failures_stay;
         size_stays = turn.goes_on.size_stays;
+        layout_stays = ap (λ (s : StoreValue M). layout_of s.cached) is ∙ turn.goes_on.layout_stays;
         blocks_stay = ap (λ (s : StoreValue M). blocks_of s.cached) is ∙ turn.goes_on.blocks_stay;
         limit_stays = limit;
         identity_stays = identity;
@@ -220,6 +221,7 @@ reads_16 before after transfer taken old answer new done = record {
   cuts = done.cuts;
   failures_stay = done.failures_stay;
   size_stays = done.size_stays;
+  layout_stays = done.layout_stays;
   blocks_stay = done.blocks_stay;
   limit_stays = done.limit_stays;
   identity_stays = done.identity_stays;
@@ -233,6 +235,7 @@ writes_16 before after transfer taken old answer new done = record {
   cuts = done.cuts;
   failures_stay = done.failures_stay;
   size_stays = done.size_stays;
+  layout_stays = done.layout_stays;
   blocks_stay = done.blocks_stay;
   limit_stays = done.limit_stays;
   identity_stays = done.identity_stays;
@@ -246,6 +249,7 @@ synchronizes_16 before after range taken old answer new done = record {
   cuts = done.cuts;
   failures_stay = done.failures_stay;
   size_stays = done.size_stays;
+  layout_stays = done.layout_stays;
   blocks_stay = done.blocks_stay;
   limit_stays = done.limit_stays;
   identity_stays = done.identity_stays;

@@ -24,6 +24,7 @@ module _ {M : Type 0} (before after : State) (block taken : List ℕ) (old mid :
         fits.blocks (done.cuts book fits ours);
     failures_stay = done.failures_stay;
     size_stays = done.size_stays;
+    layout_stays = done.layout_stays;
     blocks_stay = done.blocks_stay;
     limit_stays = done.limit_stays;
     identity_stays = done.identity_stays;

@@ -69,6 +69,7 @@ ticks_over before after old store turn step few left active = record {
   cuts = turn.cuts;
   failures_stay = turn.goes_on.failures_stay;
   size_stays = turn.goes_on.size_stays;
+  layout_stays = turn.goes_on.layout_stays;
   blocks_stay = turn.goes_on.blocks_stay;
   limit_stays = limit_stays old.store.cached store.cached turn.goes_on.layout_stays;
   others_stay = refl;

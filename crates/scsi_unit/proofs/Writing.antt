@@ -85,6 +85,7 @@ write_refused before after old last transfer taken moves live done sense was tur
       cuts = λ book fits ours. subst (λ (v : Option Write). LeavesOnly (FoundWith before.size book v) before after) (sym (some_write_is transfer taken moves)) (turn.cuts book fits ours);
       failures_stay = turn.goes_on.failures_stay;
       size_stays = turn.goes_on.size_stays;
+      layout_stays = turn.goes_on.layout_stays;
       blocks_stay = turn.goes_on.blocks_stay;
       limit_stays = limit;
       identity_stays = refl;
@@ -118,6 +119,7 @@ module _ {M : Type 0} (before mid after : State) (old : UnitValue M) (half last 
             (more.cuts (with_write book (write_by transfer taken)) (turn.fits book fits) ours)));
         failures_stay = omega (arith, turn.goes_on.failures_stay, more.goes_on.failures_stay);
         size_stays = more.goes_on.size_stays ∙ turn.goes_on.size_stays;
+        layout_stays = more.goes_on.layout_stays ∙ turn.goes_on.layout_stays;
         blocks_stay = more.goes_on.blocks_stay ∙ turn.goes_on.blocks_stay;
         limit_stays = limit;
         identity_stays = refl;

@@ -2,7 +2,7 @@
 use Rattle.std.specs.Prelude.{ℕ, ◌+◌, ◌*◌, ◌≤◌, ◌||◌, not, Bool, List, Result, Ok, Err}
 use Rattle.std.specs.Prelude.{if◌then◌else◌}
 use Rattle.medium.specs.Medium.{State}
-use Rattle.blocks.specs.StoreValue.{Cached, batch_steps, steps_left}
+use Rattle.blocks.specs.StoreValue.{Cached, slots_of, batch_steps, steps_left}
 -- handed on to the layers above: for each block that no batch has, one call from home, and from
 -- the log one in format 1 and two in format 2
 pub use Rattle.blocks.specs.Calls.{reads_of, most_reads}
@@ -11,7 +11,7 @@ use Rattle.cdb.specs.declared.command.Command.{Command}
 use Rattle.cdb.specs.declared.command.Command.TheVariants as command
 use Rattle.cdb.specs.declared.command.Transfer.{Transfer}
 use Rattle.scsi_unit.specs.Rules.{moves_blocks, forces_reading, clears, selected_by}
-use Rattle.scsi_unit.specs.UnitValue.{UnitValue}
+use Rattle.scsi_unit.specs.UnitValue.{UnitValue, unit_limit}
 use Rattle.scsi_unit.specs.Serving.{command_for}
 
 -- making all accepted writes durable: two for each step that is left
@@ -57,3 +57,13 @@ pub record IsBounded {M : Type 0} (before after : State) (block taken : List ℕ
     : Type 0 where
   pub most : after.calls
       ≤ before.calls + calls_after (command_for old block) taken old.write_cache old.store.cached
+
+-- The most that any command makes over so many slots, with so many blocks in a transfer at most:
+-- two for each step that may be left and for each of one more batch, and two for each block of one
+-- transfer.
+abbrev pub most_calls_of : ℕ → ℕ → ℕ
+most_calls_of slots limit = 2 * (slots + 5) * (2 * limit + 16) + 2 * limit
+
+-- the most that any command of a unit makes, whatever the unit holds
+abbrev pub most_calls : {M : Type 0} → UnitValue M → ℕ
+most_calls unit = most_calls_of (slots_of unit.store.cached) (unit_limit unit)

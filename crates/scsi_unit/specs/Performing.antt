@@ -5,7 +5,7 @@ use Rattle.medium.specs.Medium.{State}
 use Rattle.medium.specs.Moments.{LeavesOnly}
 use Rattle.blocks.specs.Book.{Book}
 use Rattle.blocks.specs.Finding.{FoundWith}
-use Rattle.blocks.specs.StoreValue.{blocks_of, is_dead, active_of, FitsBeside}
+use Rattle.blocks.specs.StoreValue.{layout_of, blocks_of, is_dead, active_of, FitsBeside}
 use Rattle.sense.specs.declared.codes.Sense.{Sense}
 use Rattle.sense.specs.Waiting.{Waiting, after_failure}
 use Rattle.cdb.specs.declared.command.Command.{Command}
@@ -36,6 +36,7 @@ pub record Performs {M : Type 0} (before after : State) (told : Result Command S
       → LeavesOnly (FoundWith before.size book (write_after told taken)) before after
   pub failures_stay : before.failures ≤ after.failures
   pub size_stays : after.size ≡ before.size
+  pub layout_stays : layout_of new.store.cached ≡ layout_of old.store.cached
   pub blocks_stay : blocks_of new.store.cached ≡ blocks_of old.store.cached
   pub limit_stays : unit_limit new ≡ unit_limit old
   pub identity_stays : new.identity ≡ old.identity

@@ -9,7 +9,7 @@ use Rattle.blocks.specs.Book.{Book}
 use Rattle.blocks.specs.Finding.{MayFind, FoundWith}
 use Rattle.blocks.specs.Calls.{TurnsBatches}
 use Rattle.blocks.specs.Retiring.{finished}
-use Rattle.blocks.specs.StoreValue.{Cached, blocks_of, is_dead, active_of, steps_left}
+use Rattle.blocks.specs.StoreValue.{Cached, layout_of, blocks_of, is_dead, active_of, steps_left}
 use Rattle.blocks.specs.StoreValue.{transfer_limit, FitsBeside, TakesRange}
 use Rattle.sense.specs.declared.codes.Sense.{Sense}
 use Rattle.cdb.specs.declared.command.Command.{Command}
@@ -43,6 +43,7 @@ pub record Serves {M : Type 0} (before after : State) (block taken : List ℕ) (
       before after
   pub failures_stay : before.failures ≤ after.failures
   pub size_stays : after.size ≡ before.size
+  pub layout_stays : layout_of new.store.cached ≡ layout_of old.store.cached
   pub blocks_stay : blocks_of new.store.cached ≡ blocks_of old.store.cached
   pub limit_stays : unit_limit new ≡ unit_limit old
   pub identity_stays : new.identity ≡ old.identity
@@ -158,6 +159,7 @@ pub record TicksOver {M : Type 0} (before after : State) (old new : UnitValue M)
       → LeavesOnly (MayFind before.size book) before after
   pub failures_stay : before.failures ≤ after.failures
   pub size_stays : after.size ≡ before.size
+  pub layout_stays : layout_of new.store.cached ≡ layout_of old.store.cached
   pub blocks_stay : blocks_of new.store.cached ≡ blocks_of old.store.cached
   pub limit_stays : unit_limit new ≡ unit_limit old
   pub others_stay : new ≡ record old { store = new.store }

@@ -1,10 +1,11 @@
 // The checks of a command, and what it is about to move.
-ghost use Rattle.std.specs.Prelude.{◌≡◌, ◌<◌, ◌≤◌, ◌*◌, ℕ, length, unwrap_or, IfOk};
+ghost use Rattle.std.specs.Prelude.{◌≡◌, ◌<◌, ◌≤◌, ◌*◌, ℕ, List, length, unwrap_or, IfOk};
 ghost use Rattle.blocks.specs.StoreValue.{blocks_of, is_dead};
 ghost use Rattle.cdb.specs.Supported.{IsSupported};
 ghost use Rattle.pages.specs.Inquiry.{inquiry_size};
 ghost use Rattle.scsi_unit.specs.Rules.{passes_attention, needs_medium, sends, takes, moves};
 ghost use Rattle.scsi_unit.specs.UnitValue.{unit_limit};
+ghost use Rattle.scsi_unit.specs.Calls.{calls_after, most_calls};
 ghost use Rattle.scsi_unit.specs.Serving.{command_for};
 
 use crate::{Intent, Unit};
@@ -59,7 +60,11 @@ impl<M: Medium> Unit<M> {
         ensures value { result ≡ command_for self.now block.now }
         ensures supported { IfOk result
             (IsSupported (blocks_of self.now.store.cached) (unit_limit self.now)) }
+        ensures few { (taken : List ℕ) → calls_after result taken self.now.write_cache
+            self.now.store.cached ≤ most_calls self.now }
     {
+        // The store says here how many steps it has left at most.
+        let _ = self.store.medium();
         if self.kept.attention() && !passes_attention(block[0]) {
             return Err(Sense::POWER_ON_OR_RESET_OCCURRED);
         }

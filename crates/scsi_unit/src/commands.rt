@@ -12,7 +12,7 @@ ghost use Rattle.scsi_unit.specs.Capacity.{capacity_10, capacity_16};
 ghost use Rattle.scsi_unit.specs.Rules.{needs_medium, moves};
 ghost use Rattle.scsi_unit.specs.UnitValue.{unit_limit, intention_of, answer_of};
 ghost use Rattle.scsi_unit.specs.Serving.{command_for};
-ghost use Rattle.scsi_unit.specs.Calls.{calls_of, calls_after};
+ghost use Rattle.scsi_unit.specs.Calls.{calls_of, calls_after, most_calls};
 ghost use Rattle.scsi_unit.specs.Performing.{Performs, Spares};
 
 use crate::Unit;
@@ -78,6 +78,8 @@ impl<M: Medium> Unit<M> {
             ≤ (M.state self.old.store.medium).calls
             + calls_after (command_for self.old block.now) taken.now self.old.write_cache
             self.old.store.cached }
+        ensures few { (M.state self.new.store.medium).calls
+            ≤ (M.state self.old.store.medium).calls + most_calls self.old }
         ensures sent { (n : ℕ) → intention_of self.old block.now ≡ intent.In n
             → IfOk result (λ sent. sent ≡ n) }
         ensures most { IfOk result (λ sent. sent ≤ 512 * unit_limit self.old) }

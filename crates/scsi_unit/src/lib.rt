@@ -20,6 +20,3 @@ pub use laws::unit_laws;
 pub use pages::Identity;
 pub use sense::Sense;
 pub use unit::Unit;
-
-#[cfg(test)]
-mod tests;

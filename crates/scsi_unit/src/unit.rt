@@ -1,5 +1,5 @@
 // A unit over its store.
-ghost use Rattle.std.specs.Prelude.{◌≡◌, ◌<◌, ◌≤◌, ◌*◌, ℕ, List, None, false, true, length};
+ghost use Rattle.std.specs.Prelude.{◌≡◌, ◌<◌, ◌≤◌, ◌+◌, ◌*◌, ℕ, List, None, false, true, length};
 ghost use Rattle.std.specs.Prelude.{◌↔◌, IfOk, IsTrue};
 ghost use Rattle.medium.specs.Moments.{EachCut, IsUnchanged};
 ghost use Rattle.blocks.specs.Book.{Book};
@@ -11,14 +11,14 @@ ghost use Rattle.scsi_unit.specs.UnitValue.{unit_limit, state_of, intention_of, 
 ghost use Rattle.scsi_unit.specs.UnitValue.{FitsUnit};
 ghost use Rattle.blocks.specs.Limit.{HasLimit};
 ghost use Rattle.scsi_unit.specs.Serving.{Serves, IsSparing, TicksOver};
-ghost use Rattle.scsi_unit.specs.Calls.{IsBounded};
+ghost use Rattle.scsi_unit.specs.Calls.{IsBounded, most_calls};
 ghost use Rattle.scsi_unit.specs.Performing.{settled_kept};
 
 use crate::Intent;
 use crate::checks::moves;
 use crate::store_calls::step;
 use blocks::Store;
-use medium::{Medium, Switch};
+use medium::{Medium, Outlet, Switch};
 use pages::Identity;
 use sense::{Kept, Sense};
 use std::marker::Model;
@@ -110,6 +110,8 @@ impl<M: Medium> Unit<M> {
             (answer_of result out.new) self.new }
         ensures bounded { IsBounded (M.state self.old.store.medium)
             (M.state self.new.store.medium) block.now taken.now self.old }
+        ensures few { (M.state self.new.store.medium).calls
+            ≤ (M.state self.old.store.medium).calls + most_calls self.old }
         ensures sent { (n : ℕ) → intention_of self.old block.now ≡ Intent.In n
             → IfOk result (λ sent. sent ≡ n) }
         ensures most { IfOk result (λ sent. sent ≤ 512 * unit_limit self.old) }
@@ -203,6 +205,22 @@ impl<M: Switch> Unit<M> {
             → FitsUnit (M.state self.new.store.medium) self.new book }
     {
         self.store.fail(call);
+    }
+}
+
+impl<M: Outlet> Unit<M> {
+    /// Lets go of the call that the medium's device is to carry out next, if there is one.
+    pub fn give(&mut self)
+        ensures given { M.given self.old.store.medium self.new.store.medium }
+        ensures unchanged { IsUnchanged (M.state self.old.store.medium)
+            (M.state self.new.store.medium) }
+        ensures others { self.new ≡ record self.old {
+          store = record self.old.store { medium = self.new.store.medium };
+        } }
+        ensures fits { (book : Book) → FitsUnit (M.state self.old.store.medium) self.old book
+            → FitsUnit (M.state self.new.store.medium) self.new book }
+    {
+        self.store.give();
     }
 }
 

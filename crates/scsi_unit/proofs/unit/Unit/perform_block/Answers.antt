@@ -2,6 +2,8 @@ use Rattle.std.proofs.Common.{sym, ◌∙◌}
 use Rattle.std.proofs.lemmas.Result.{err_from_is_err_and}
 use Rattle.blocks.specs.StoreValue.{blocks_of, is_dead}
 use Rattle.scsi_unit.specs.UnitValue.{unit_limit}
+use Rattle.scsi_unit.specs.Calls.{most_calls}
+use Rattle.scsi_unit.proofs.Bounds.{told_few}
 use Rattle.scsi_unit.proofs.Checking.{intention_of_command, passed_by}
 use Rattle.scsi_unit.proofs.Performing.{refuses}
 use Rattle.scsi_unit.proofs.unit.Unit.perform_block.Goals as goal
@@ -30,3 +32,9 @@ returns-clause-sent g c n is_in =
     let unit = c.args.self.now in
     c.perform.ensures.sent n (sym (intention_of_command (blocks_of unit.store.cached) (unit_limit unit) unit.kept.attention (is_dead unit.store.cached) c.args.block.now c.in_ok-command.command
     (sym c.command.ensures.value ∙ c.in_ok-command.was)) ∙ is_in)
+
+pub returns-clause-few : goal.returns-clause-few
+returns-clause-few g c =
+    let unit = c.args.self.now in
+    told_few c.command.result c.in_ok-command.command c.args.taken.now unit.write_cache unit.store.cached _ _ (most_calls unit)
+    c.in_ok-command.was (c.command.ensures.few c.args.taken.now) c.perform.ensures.bounded
