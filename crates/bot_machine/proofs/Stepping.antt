@@ -9,7 +9,7 @@ use Rattle.scsi_unit.specs.Books.{Book}
 use Rattle.scsi_unit.specs.Rules.{CarriesOut, Ticks}
 use Rattle.scsi_unit.specs.Calls.{IsBounded}
 use Rattle.scsi_unit.specs.Serving.{has_refused, IsSparing, TicksOver}
-use Rattle.scsi_unit.specs.UnitValue.{unit_limit, state_of}
+use Rattle.scsi_unit.specs.UnitValue.{UnitValue, unit_limit, state_of}
 use Rattle.bot_machine.specs.declared.event.Event.TheVariants as event
 use Rattle.bot_machine.specs.declared.event.Answer.{Answer}
 use Rattle.bot_machine.specs.declared.event.Answer.TheVariants as answer
@@ -21,17 +21,21 @@ use Rattle.bot_machine.specs.Exchange.{Script, finished, taking, sending, Line, 
 use Rattle.bot_machine.specs.Conversation.{OutStep, SetupStep}
 use Rattle.bot_machine.specs.Intentions.{Intends}
 use Rattle.bot_machine.specs.Acts.{PacketCarriesOut, write_of_packet}
-use Rattle.bot_machine.specs.Disk.{DiskValue, on_line, FitsDisk, Proceeds, Tells, IsStep, Elapses}
+use Rattle.bot_machine.specs.Disk.{DiskValue, on_line, FitsDisk, Proceeds, Tells, IsStep, Elapses, TakesFew}
 use Rattle.scsi_unit.specs.declared.intent.Intent.{Intent}
 use Rattle.scsi_unit.specs.declared.intent.Intent.TheVariants as intent
 use Rattle.bot_machine.specs.Refinement.{taking_of, left_of, halt_of, IsInPhase, IsKept}
 use Rattle.bot_machine.specs.Packets.{packets_of}
 use Rattle.bot_machine.specs.Serving.{OpensOn, TakesOn, RestsOn, SparesOn}
+use Rattle.bot_machine.proofs.UnitLaws.{few_ticks}
 use Rattle.bot_machine.proofs.Proceeding.{staying, proceeding, proceeding_so}
 
 -- no call, no time
 pub no_time : (m : State) → Elapses m m
 no_time m = record { failures_stay = omega arith; size_stays = refl }
+
+pub no_calls : {M : Type 0} (m : State) (unit : UnitValue M) → TakesFew m m unit unit
+no_calls m unit = record { calls = omega arith; layout_stays = refl }
 
 module _ {M : Type 0} (before after : State) (old new : DiskValue M) (packet : List ℕ) (told : Answer) where
   -- what a packet does where Bulk-Out is halted or not, and so much is left of the exchange
@@ -47,6 +51,7 @@ module _ {M : Type 0} (before after : State) (old new : DiskValue M) (packet : L
         → PacketCarriesOut old.line.packet_size halted left packet (state_of old.unit book) block taken
         → (answer : Result (List ℕ) Sense) × IsSparing block taken old.unit answer new.unit
         × IsBounded before after block taken old.unit × Tells answer new.line
+    pub few : TakesFew before after old.unit new.unit
     pub elapses : Elapses before after
     pub limit_stays : unit_limit new.unit ≡ unit_limit old.unit
     pub packets_stay : new.line.packet_size ≡ old.line.packet_size
@@ -58,6 +63,7 @@ module _ {M : Type 0} (before after : State) (old new : DiskValue M) (packet : L
     rests = λ book fits none. d.rests book fits (λ block taken carries. none (block, taken, carries));
     ticks = tt;
     spares = d.spares;
+    few = d.few;
     elapses = d.elapses;
     limit_stays = d.limit_stays;
     packets_stay = d.packets_stay;
@@ -76,6 +82,7 @@ stalled m disk packet sound halted =
       proceeds = λ book fits. staying m disk.unit _ book sound fits (refl, refl);
       rests = λ book fits none. refl;
       spares = λ book fits block taken carries. absurd carries;
+      few = no_calls m disk.unit;
       elapses = no_time m;
       limit_stays = refl;
       packets_stay = refl;
@@ -90,6 +97,7 @@ not_ready m disk packet packets halt status sound halted left =
       proceeds = λ book fits. staying m disk.unit _ book sound fits (refl, refl);
       rests = λ book fits none. refl;
       spares = λ book fits block taken carries. absurd carries;
+      few = no_calls m disk.unit;
       elapses = no_time m;
       limit_stays = refl;
       packets_stay = refl;
@@ -100,14 +108,16 @@ pub begins : {M : Type 0} (before after : State) (old new : DiskValue M) (packet
     → false ≡ old.line.out_halted → finished ≡ old.line.left
     → OpensOn before after old.unit new.unit old.line new.line packet
     → RestsOn old.line.packet_size before old.unit new.unit finished packet → SparesOn old.line.packet_size before after old.unit new.unit new.line finished packet
-    → Elapses before after → unit_limit new.unit ≡ unit_limit old.unit → new.line.packet_size ≡ old.line.packet_size
+    → TakesFew before after old.unit new.unit → Elapses before after → unit_limit new.unit ≡ unit_limit old.unit
+    → new.line.packet_size ≡ old.line.packet_size
     → IsStep before after old (event.Out (record { items = packet })) answer.Ack new
-begins before after old new packet halted left opens rests spares elapses limit size =
+begins before after old new packet halted left opens rests spares few elapses limit size =
     does_for before after old new packet answer.Ack false finished halted left (record {
       proceeds = λ book fits. proceeding_so before after old.unit new.unit _ _ None None book (opens book fits) refl
           (λ later moves. (refl, moves));
       rests = rests;
       spares = spares;
+      few = few;
       elapses = elapses;
       limit_stays = limit;
       packets_stay = size;
@@ -119,14 +129,16 @@ pub goes_on : {M : Type 0} (before after : State) (old new : DiskValue M) (packe
     → TakesOn before after old.unit new.unit old.line new.line t taken packet
     → RestsOn old.line.packet_size before old.unit new.unit (taking_of t taken) packet
     → SparesOn old.line.packet_size before after old.unit new.unit new.line (taking_of t taken) packet
-    → Elapses before after → unit_limit new.unit ≡ unit_limit old.unit → new.line.packet_size ≡ old.line.packet_size
+    → TakesFew before after old.unit new.unit → Elapses before after → unit_limit new.unit ≡ unit_limit old.unit
+    → new.line.packet_size ≡ old.line.packet_size
     → IsStep before after old (event.Out (record { items = packet })) answer.Ack new
-goes_on before after old new packet t taken halted left takes rests spares elapses limit size =
+goes_on before after old new packet t taken halted left takes rests spares few elapses limit size =
     does_for before after old new packet answer.Ack false (taking_of t taken) halted left (record {
       proceeds = λ book fits. proceeding_so before after old.unit new.unit _ _ _ _ book (takes book fits) refl
           (λ later moves. (refl, moves));
       rests = rests;
       spares = spares;
+      few = few;
       elapses = elapses;
       limit_stays = limit;
       packets_stay = size;
@@ -143,6 +155,10 @@ ticked before after old new ticks line = record {
   rests = λ book fits none. absurd (none tt);
   ticks = (ticks, line);
   spares = λ book fits block taken carries. absurd carries;
+  few = record {
+    calls = few_ticks before.calls after.calls old.unit ticks.few;
+    layout_stays = ticks.layout_stays;
+  };
   elapses = record {
     failures_stay = ticks.failures_stay;
     size_stays = ticks.size_stays;
@@ -194,6 +210,7 @@ token m disk sound = record {
   rests = λ book fits none. refl;
   ticks = tt;
   spares = λ book fits block taken carries. absurd carries;
+  few = no_calls m disk.unit;
   elapses = no_time m;
   limit_stays = refl;
   packets_stay = after_in_size disk.line;
@@ -207,6 +224,7 @@ asked m disk packet told line sound step = record {
   rests = λ book fits none. refl;
   ticks = tt;
   spares = λ book fits block taken carries. absurd carries;
+  few = no_calls m disk.unit;
   elapses = no_time m;
   limit_stays = refl;
   packets_stay = setup_size packet disk.line told line step;

@@ -5,7 +5,7 @@ use Rattle.scsi_unit.specs.Books.{StampsOut}
 use Rattle.scsi_unit.specs.declared.intent.Intent.TheVariants as intent
 use Rattle.scsi_unit.specs.Rules.{Sense, UnitState, intention, CarriesOut, Ticks, write_in_progress, with_progress}
 use Rattle.scsi_unit.proofs.UnitLaws.{is_function, keeps_writes, keeps_intentions, ticks_only}
-pub use Rattle.scsi_unit.proofs.UnitLaws.{between_calls, limit_between_calls, start_keeps_limit, intends_by_book, knows_images}
+pub use Rattle.scsi_unit.proofs.UnitLaws.{between_calls, limit_between_calls, start_keeps_limit, intends_by_book, knows_images, few_ticks}
 
 -- a command leaves it as it was whether every image was ours when the life began
 pub ours_stay : (refused : Bool) (block taken : List ℕ) (old new : UnitState)

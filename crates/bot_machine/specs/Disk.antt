@@ -12,8 +12,9 @@ use Rattle.scsi_unit.specs.Rules.{Sense}
 use Rattle.scsi_unit.specs.Books.{Book}
 use Rattle.scsi_unit.specs.Books.{MayFind, FoundWith}
 use Rattle.scsi_unit.specs.Rules.{UnitState, CarriesOut, Ticks}
-use Rattle.scsi_unit.specs.Calls.{IsBounded}
+use Rattle.scsi_unit.specs.Calls.{IsBounded, most_calls}
 use Rattle.scsi_unit.specs.Serving.{has_refused, IsSparing, TicksOver}
+use Rattle.scsi_unit.specs.Starting.{layout_of}
 use Rattle.scsi_unit.specs.UnitValue.{UnitValue, unit_limit, state_of, FitsUnit}
 use Rattle.bot_machine.specs.declared.event.Event.{Event}
 use Rattle.bot_machine.specs.declared.event.Event.TheVariants as happens
@@ -56,6 +57,12 @@ UnitRun old events answers refusals new =
 pub record Elapses (before after : State) : Type 0 where
   pub failures_stay : before.failures ≤ after.failures
   pub size_stays : after.size ≡ before.size
+
+-- No more calls of the medium were made than the most of a command. The layout, which tells that
+-- number, stays.
+pub record TakesFew {M : Type 0} (before after : State) (old new : UnitValue M) : Type 0 where
+  pub calls : after.calls ≤ before.calls + most_calls old
+  pub layout_stays : layout_of new.store.cached ≡ layout_of old.store.cached
 
 -- A unit proceeds from one moment to another: from a book that it fits, as Moves says, to one that
 -- it fits then. A cut at any moment between finds accepted writes, perhaps with the one in
@@ -102,6 +109,8 @@ pub record IsStep {M : Type 0} (before after : State) (old : DiskValue M) (event
       → EventCarriesOut (over old book) event block taken
       → (told : Result (List ℕ) Sense) × IsSparing block taken old.unit told new.unit
       × IsBounded before after block taken old.unit × Tells told new.line
+  -- whatever the book
+  pub few : TakesFew before after old.unit new.unit
   pub elapses : Elapses before after
   pub limit_stays : unit_limit new.unit ≡ unit_limit old.unit
   pub packets_stay : new.line.packet_size ≡ old.line.packet_size

@@ -26,7 +26,7 @@ use crate::packet_size::PacketSize;
 use crate::request::{ControlRequest, read_request};
 use crate::serve::{open, take_data};
 use crate::wire::{Phase, Wire};
-use medium::{Medium, Switch};
+use medium::{Medium, Outlet, Switch};
 use scsi_unit::{Identity, StartError, StartFault, Unit};
 use std::alloc::Global;
 use std::marker::Model;
@@ -348,5 +348,19 @@ impl<M: Switch> Disk<M> {
             → FitsDisk (M.state self.new.unit.store.medium) self.new book }
     {
         self.unit.fail(call);
+    }
+}
+
+impl<M: Outlet> Disk<M> {
+    /// Lets go of the call that the medium's device is to carry out next, if there is one.
+    pub fn give(&mut self)
+        ensures given { M.given self.old.unit.store.medium self.new.unit.store.medium }
+        ensures unchanged { IsUnchanged (M.state self.old.unit.store.medium)
+            (M.state self.new.unit.store.medium) }
+        ensures others { IsRearmed self.old self.new }
+        ensures fits { (book : Book) → FitsDisk (M.state self.old.unit.store.medium) self.old book
+            → FitsDisk (M.state self.new.unit.store.medium) self.new book }
+    {
+        self.unit.give();
     }
 }

@@ -27,6 +27,3 @@ pub use lives::Lives;
 pub use packet_size::PacketSize;
 pub use run::{answer_to, run_events};
 pub use scsi_unit::{Identity, StartError, StartFault};
-
-#[cfg(test)]
-mod tests;

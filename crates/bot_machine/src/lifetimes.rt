@@ -151,6 +151,3 @@ fn play_all(run: &mut Lives, events: &[Event], answers: &mut Answers)
         answers.push(run.play(event));
     }
 }
-
-#[cfg(test)]
-mod tests;

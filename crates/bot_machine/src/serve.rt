@@ -8,7 +8,7 @@ ghost use Rattle.scsi_unit.specs.Rules.{Sense};
 ghost use Rattle.scsi_unit.specs.Calls.{IsBounded};
 ghost use Rattle.scsi_unit.specs.Serving.{IsSparing};
 ghost use Rattle.scsi_unit.specs.UnitValue.{unit_limit, intention_of};
-ghost use Rattle.bot_machine.specs.Disk.{Elapses, Tells};
+ghost use Rattle.bot_machine.specs.Disk.{Elapses, TakesFew, Tells};
 ghost use Rattle.bot_machine.specs.Exchange.{Script, finished};
 ghost use Rattle.bot_machine.specs.Refinement.{
   IsInPhase,
@@ -53,6 +53,8 @@ fn carry_out<M: Medium>(
     ensures phase { IsInPhase (unit_limit unit.new) (intention_of unit.new) wire.new.phase }
     ensures limit { unit_limit unit.new ≡ unit_limit unit.old }
     ensures size { wire.new.size ≡ wire.old.size }
+    ensures few { TakesFew (M.state unit.old.store.medium) (M.state unit.new.store.medium)
+        unit.old unit.new }
     ensures elapses { Elapses (M.state unit.old.store.medium) (M.state unit.new.store.medium) }
     ensures follows { M.follows unit.old.store.medium unit.new.store.medium }
 {
@@ -98,6 +100,8 @@ pub(crate) fn open<M: Medium>(
     ensures phase { IsInPhase (unit_limit unit.new) (intention_of unit.new) wire.new.phase }
     ensures limit { unit_limit unit.new ≡ unit_limit unit.old }
     ensures size { wire.new.size ≡ wire.old.size }
+    ensures few { TakesFew (M.state unit.old.store.medium) (M.state unit.new.store.medium)
+        unit.old unit.new }
     ensures elapses { Elapses (M.state unit.old.store.medium) (M.state unit.new.store.medium) }
     ensures follows { M.follows unit.old.store.medium unit.new.store.medium }
 {
@@ -144,6 +148,8 @@ pub(crate) fn take_data<M: Medium>(
     ensures phase { IsInPhase (unit_limit unit.new) (intention_of unit.new) wire.new.phase }
     ensures limit { unit_limit unit.new ≡ unit_limit unit.old }
     ensures size { wire.new.size ≡ wire.old.size }
+    ensures few { TakesFew (M.state unit.old.store.medium) (M.state unit.new.store.medium)
+        unit.old unit.new }
     ensures elapses { Elapses (M.state unit.old.store.medium) (M.state unit.new.store.medium) }
     ensures follows { M.follows unit.old.store.medium unit.new.store.medium }
 {

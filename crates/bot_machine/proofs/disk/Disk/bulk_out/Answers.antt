@@ -16,7 +16,8 @@ returns-in-Command-clause-step g c =
     let opens = rw (c.in-Command.ensures.after ∙ c.in-Command.ensures.value, c.deref_mut.ensures.value)
     at (c.open.ensures.opens d.taken.items) in
     rw (← c.self.view_is, with_items_is d.staging c.open.new.staging (search (rules, places)))
-    (begins _ _ _ _ c.args.packet.now (sym c.if-self.false) left opens c.open.ensures.rests (c.open.ensures.spares d.taken.items) c.open.ensures.elapses c.open.ensures.limit
+    (begins _ _ _ _ c.args.packet.now (sym c.if-self.false) left opens c.open.ensures.rests (c.open.ensures.spares d.taken.items)
+    c.open.ensures.few c.open.ensures.elapses c.open.ensures.limit
     (ap bytes_of c.open.ensures.size))
 
 pub returns-in-DataOut-clause-step : goal.returns-in-DataOut-clause-step
@@ -32,7 +33,7 @@ returns-in-DataOut-clause-step g c =
     (goes_on _ _ _ _ c.args.packet.now c.in-DataOut.data c.deref_mut-in-DataOut.result.now (sym c.if-self.false)
     (ap (λ came. taking_of c.in-DataOut.data came) taken ∙ left)
     (c.take_data.ensures.takes (left_of (bytes_of d.wire.size) d.wire.phase d.taken.items d.staging.items d.wire.status))
-    c.take_data.ensures.rests c.take_data.ensures.spares c.take_data.ensures.elapses c.take_data.ensures.limit
+    c.take_data.ensures.rests c.take_data.ensures.spares c.take_data.ensures.few c.take_data.ensures.elapses c.take_data.ensures.limit
     (ap bytes_of c.take_data.ensures.size))
 
 pub returns-in_default-clause-step : goal.returns-in_default-clause-step
