@@ -11,7 +11,7 @@ pub record IsGivenTo {A : Type 0} (LineGives : List ℕ → List A → Type 0) (
 
 module _ {A : Type 0} (LineGives : List ℕ → List A → Type 0) where
   -- lines give what they give, and others what they do
-  InTurn-append : (lines more : List (List ℕ)) (first rest : List A) → InTurn LineGives lines first → InTurn LineGives more rest
+  pub InTurn-append : (lines more : List (List ℕ)) (first rest : List A) → InTurn LineGives lines first → InTurn LineGives more rest
       → InTurn LineGives (lines ++ more) (first ++ rest)
   InTurn-append [] more first rest gives others =
       subst (λ (l : List A). InTurn LineGives more (l ++ rest)) (sym gives) others

@@ -22,3 +22,6 @@ pub mod SeveralLives
 pub mod Readiness
 pub mod Within
 pub mod Refusals
+pub mod LineEnds
+pub mod Serving
+pub mod LiveRefusals

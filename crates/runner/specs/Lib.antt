@@ -8,6 +8,7 @@ pub mod Played
 pub mod Lifetimes
 pub mod PlayedLives
 pub mod Streams
+pub mod Served
 pub mod Refused
 pub mod Outcome
 pub mod OutcomeOfLives
@@ -15,5 +16,6 @@ pub mod Left
 pub mod Task
 pub mod Status
 pub mod Program
+pub mod Live
 pub mod Parser
 pub mod Laws

@@ -7,11 +7,12 @@ ghost use Rattle.runner.specs.Program.{AreImageSizes, IsMade, simulated};
 
 use crate::read::{ReadFault, read_to_limit};
 use crate::refusal::Refusal;
+use crate::streams::hold_streams;
 use log_layout::LogFormat;
 use medium::{FileMedium, Medium, SimError, SimMedium};
 use recovery::FormatFault;
 use std::fs;
-use std::fs::Files;
+use std::fs::{File, Files};
 
 /// The most bytes of an image: 65,536 sectors.
 const IMAGE_LIMIT: usize = 65_536 * 512;
@@ -21,19 +22,20 @@ const ROOM: usize = 16_384;
 
 /// Makes an image file of this format and so many blocks of zeros, with so many log slots, in place
 /// of one that is there. The sizes are tested before the file is touched.
-pub(crate) fn make_image<R: Files + AllocGlobal>(
+pub(crate) fn make_image<R: Files<File = File> + AllocGlobal>(
     rt: &R,
     path: &str,
     format: LogFormat,
     blocks: u64,
     slots: u64,
-) -> Result<FileMedium<R::File>, Refusal>
+) -> Result<FileMedium<File>, Refusal>
     ensures made { IfOk result (IsMade format blocks slots) }
     ensures size { (result ≡ Err Refusal.ImageSize) ↔ ¬ AreImageSizes format blocks slots }
     ensures refused { IfErr result (λ refusal. (refusal ≡ Refusal.ImageSize)
         ⊎ ((refusal ≡ Refusal.File) ⊎ (refusal ≡ Refusal.NoMemory))) }
 {
     let sectors = image_sectors(format, blocks, slots).ok_or(Refusal::ImageSize)?;
+    let _streams = hold_streams(rt)?;
     let mut medium = FileMedium::create(rt, path, sectors)?;
     match format_medium(&mut medium, format, blocks, slots) {
         Ok(()) => Ok(medium),
@@ -77,10 +79,10 @@ fn image_sectors(format: LogFormat, blocks: u64, slots: u64) -> Option<u64>
 }
 
 /// The medium of an image file.
-pub(crate) fn open_image<R: Files + AllocGlobal>(
+pub(crate) fn open_image<R: Files<File = File> + AllocGlobal>(
     rt: &R,
     path: &str,
-) -> Result<FileMedium<R::File>, Refusal>
+) -> Result<FileMedium<File>, Refusal>
     ensures opened { IfOk result (λ medium.
         (medium ≡ fresh medium.bytes) × IsImage medium.bytes) }
     ensures refused { IfErr result (λ refusal. (refusal ≡ Refusal.ImageLength)

@@ -4,12 +4,14 @@
 mod check;
 mod events;
 mod fault;
+mod held;
 mod identity;
 mod image;
 mod kept;
 mod laws;
 mod lifetimes;
 mod line;
+mod live;
 mod number;
 mod output;
 mod parts;
@@ -18,15 +20,19 @@ mod program;
 mod read;
 mod refusal;
 mod script;
+mod serve;
 mod sim;
+mod streams;
 mod task;
 mod text;
 mod words;
 
 pub use fault::{ScriptError, ScriptFault};
 pub use laws::lives_laws;
+pub use live::{live_command, run_live};
 pub use program::{command, run_program};
 pub use script::{SCRIPT_LIMIT, run_script};
+pub use serve::{LineFault, serve_lines};
 pub use sim::sim_script;
 
 #[cfg(test)]

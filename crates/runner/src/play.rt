@@ -2,14 +2,16 @@
 ghost use Rattle.std.specs.Prelude.{◌≡◌, ◌∷◌, ◌++◌, ℕ, List, All, OnOk, OnErr, IfOk, IfErr};
 ghost use Rattle.std.specs.Io.KnownBytes.{Appends};
 ghost use Rattle.bot_machine.specs.PacketBytes.{bytes_of};
+ghost use Rattle.bot_machine.specs.Fitting.{AreWithin};
 ghost use Rattle.bot_machine.specs.declared.event.Event.{Event};
+ghost use Rattle.runner.specs.Events.{events_of};
 ghost use Rattle.runner.specs.Line.{IsScriptLine};
 ghost use Rattle.runner.specs.Lines.{lines_of};
 ghost use Rattle.runner.specs.Script.{LinePlays, Plays};
 ghost use Rattle.runner.specs.Played.{Tells, Leaves, BreaksOff, BreaksOffAt};
 
 use crate::fault::{ScriptError, ScriptFault};
-use crate::line::{ScriptKind, read_line};
+use crate::line::{ScriptKind, ScriptLine, read_line};
 use crate::output::write_out;
 use crate::parts::Parts;
 use crate::text::event_line;
@@ -61,7 +63,25 @@ fn play_line<M: Medium, W: Write>(
         × LinePlays (bytes_of size) line.now (events ++ event ∷ rest)
         × BreaksOff M.state (W.contents out.old) (W.contents out.new) disk.old events event disk.new) }
 {
-    for event in read_line(ScriptKind::OneLife, size, line).unwrap() {
+    let asked = read_line(ScriptKind::OneLife, size, line).unwrap();
+    play_asked(disk, asked, out)
+}
+
+/// Plays the events of a line, and writes the line of each answer at once.
+pub(crate) fn play_asked<M: Medium, W: Write>(
+    disk: &mut Disk<M>,
+    asked: ScriptLine,
+    out: &mut W,
+) -> io::Result<()>
+    requires within { AreWithin disk.old.line.packet_size (events_of asked) }
+    ensures played { OnOk result ((text : List ℕ)
+        × Tells M.state disk.old (events_of asked) text disk.new
+        × Appends (W.contents out.old) (W.contents out.new) text) }
+    ensures cut_short { OnErr result ((events : List Event) × (event : Event) × (rest : List Event)
+        × (events_of asked ≡ events ++ event ∷ rest)
+        × BreaksOff M.state (W.contents out.old) (W.contents out.new) disk.old events event disk.new) }
+{
+    for event in asked {
         let answer = answer_to(disk, &event);
         write_out(out, event_line(&event, &answer).as_slice())?;
     }

@@ -24,12 +24,13 @@ use crate::output::write_out;
 use crate::refusal::Refusal;
 use crate::script::run_script;
 use crate::sim::sim_script;
+use crate::streams::hold_streams;
 use crate::task::{Task, read_words};
 use bot_machine::PacketSize;
 use log_layout::LogFormat;
 use std::alloc::{AllocError, Global};
 use std::env::Env;
-use std::fs::Files;
+use std::fs::{File, Files};
 use std::io::{ErrorKind, Write};
 use std::{env, fs};
 
@@ -44,7 +45,7 @@ mod tests;
 /// disk over an image file; `sim IMAGE SCRIPT` reads an image file into memory, which it leaves
 /// alone, and plays a script on a disk over it, which may lose its power. Packets have at most 512
 /// bytes in both, or as many as `--packet 64` or `--packet 512` behind it tells.
-pub fn command<R: Files + AllocGlobal, O: Write, E: Write>(
+pub fn command<R: Files<File = File> + AllocGlobal, O: Write, E: Write>(
     rt: &R,
     words: &[&str],
     out: &mut O,
@@ -67,7 +68,7 @@ pub fn command<R: Files + AllocGlobal, O: Write, E: Write>(
 }
 
 /// Does what the program's arguments ask for, and gives the exit status.
-pub fn run_program<R: Env + Files + AllocGlobal, O: Write, E: Write>(
+pub fn run_program<R: Env + Files<File = File> + AllocGlobal, O: Write, E: Write>(
     rt: &R,
     out: &mut O,
     err: &mut E,
@@ -89,8 +90,8 @@ pub fn run_program<R: Env + Files + AllocGlobal, O: Write, E: Write>(
     }
 }
 
-// The words after the program's name.
-fn words_of<'a>(alloc: Global, args: &'a [String]) -> Result<Vec<&'a str>, AllocError>
+/// The words after the program's name.
+pub(crate) fn words_of<'a>(alloc: Global, args: &'a [String]) -> Result<Vec<&'a str>, AllocError>
     ensures { IfOk result (λ words. map (λ word. word.now) words.items
         ≡ drop 1 (map string_bytes args.entry.now)) }
 {
@@ -104,8 +105,8 @@ fn words_of<'a>(alloc: Global, args: &'a [String]) -> Result<Vec<&'a str>, Alloc
     Ok(words)
 }
 
-// The program's arguments, its name first; one that is no text is no word of a command.
-fn arguments<R: Env + AllocGlobal>(rt: &R) -> Result<Vec<String>, Refusal>
+/// The program's arguments, its name first; one that is no text is no word of a command.
+pub(crate) fn arguments<R: Env + AllocGlobal>(rt: &R) -> Result<Vec<String>, Refusal>
     ensures { IfErr result (λ refusal. (refusal ≡ Refusal.NoMemory) ⊎ (refusal ≡ Refusal.Words)) }
 {
     match env::args(rt) {
@@ -115,8 +116,8 @@ fn arguments<R: Env + AllocGlobal>(rt: &R) -> Result<Vec<String>, Refusal>
     }
 }
 
-// Writes why a command was refused, and gives the exit status, also where that cannot be written.
-fn tell<E: Write>(refusal: Refusal, err: &mut E) -> u8
+/// Writes why a command was refused, and gives the exit status, also where that cannot be written.
+pub(crate) fn tell<E: Write>(refusal: Refusal, err: &mut E) -> u8
     ensures { result ≡ status_of refusal }
 {
     let _ = writeln!(err, "{refusal}");
@@ -124,7 +125,7 @@ fn tell<E: Write>(refusal: Refusal, err: &mut E) -> u8
 }
 
 // Does what the words ask for.
-fn carry_out<R: Files + AllocGlobal, O: Write>(
+fn carry_out<R: Files<File = File> + AllocGlobal, O: Write>(
     rt: &R,
     words: &[&str],
     out: &mut O,
@@ -156,7 +157,7 @@ fn carry_out<R: Files + AllocGlobal, O: Write>(
 }
 
 // Makes an image file, and says so.
-fn make<R: Files + AllocGlobal, O: Write>(
+fn make<R: Files<File = File> + AllocGlobal, O: Write>(
     rt: &R,
     image: &str,
     format: LogFormat,
@@ -177,7 +178,7 @@ fn make<R: Files + AllocGlobal, O: Write>(
 }
 
 // Brings an image file to format 2, and says whether it was of format 1.
-fn migrate<R: Files + AllocGlobal, O: Write>(
+fn migrate<R: Files<File = File> + AllocGlobal, O: Write>(
     rt: &R,
     image: &str,
     out: &mut O,
@@ -185,6 +186,7 @@ fn migrate<R: Files + AllocGlobal, O: Write>(
     ensures done { OnOk result (IsMigration (O.contents out.old) (O.contents out.new)) }
     ensures refused { IfErr result (IsMigrationRefused (O.contents out.old) (O.contents out.new)) }
 {
+    let _streams = hold_streams(rt)?;
     let mut medium = open_image(rt, image)?;
     let (_, was_one) = recovery::migrate(&mut medium)?;
     match write_out(out, migration_line(was_one)) {
@@ -205,7 +207,7 @@ fn migration_line(was_one: bool) -> &'static [u8]
 }
 
 // Plays a script file on a disk over an image file, with packets of a size.
-fn run<R: Files + AllocGlobal, O: Write>(
+fn run<R: Files<File = File> + AllocGlobal, O: Write>(
     rt: &R,
     image: &str,
     script: &str,
@@ -217,6 +219,7 @@ fn run<R: Files + AllocGlobal, O: Write>(
     ensures refused { IfErr result
         (IsRunRefused (O.contents out.old) (O.contents out.new) (bytes_of size)) }
 {
+    let _streams = hold_streams(rt)?;
     let medium = open_image(rt, image)?;
     let Ok(mut script) = fs::open(rt, script) else {
         return Err(Refusal::File);
@@ -228,7 +231,7 @@ fn run<R: Files + AllocGlobal, O: Write>(
 }
 
 // Plays a script file on a disk over a copy of an image file, with packets of a size.
-fn sim<R: Files + AllocGlobal, O: Write>(
+fn sim<R: Files<File = File> + AllocGlobal, O: Write>(
     rt: &R,
     image: &str,
     script: &str,
@@ -240,6 +243,7 @@ fn sim<R: Files + AllocGlobal, O: Write>(
     ensures refused { IfErr result
         (IsSimRefused (O.contents out.old) (O.contents out.new) (bytes_of size)) }
 {
+    let _streams = hold_streams(rt)?;
     let medium = sim_medium(rt, image)?;
     let Ok(mut script) = fs::open(rt, script) else {
         return Err(Refusal::File);

@@ -4,6 +4,7 @@ ghost use Rattle.clap.specs.Words.{kind_of};
 ghost use Rattle.runner.specs.declared.refusal.Refusal.TheVariants as refused;
 
 use crate::fault::ScriptFault;
+use crate::serve::LineFault;
 use bot_machine::StartFault;
 use clap::error::ErrorKind;
 use medium::FileError;
@@ -124,6 +125,20 @@ impl From<ScriptFault> for Refusal {
             ScriptFault::NoMemory => Refusal::NoMemory,
             ScriptFault::Reader => Refusal::File,
             ScriptFault::Writer => Refusal::File,
+        }
+    }
+}
+
+impl From<LineFault> for Refusal {
+    ghost use Rattle.runner.specs.Status.{refusal_of_line};
+
+    ghost from_gives = { λ fault e. e ≡ refusal_of_line fault };
+
+    fn from(fault: LineFault) -> Refusal {
+        match fault {
+            LineFault::Line(number) => Refusal::Line(number),
+            LineFault::Reader => Refusal::File,
+            LineFault::Writer => Refusal::File,
         }
     }
 }

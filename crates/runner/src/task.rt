@@ -162,8 +162,8 @@ fn script_task<'a>(verb: &str, image: &'a str, script: &'a str, ending: &[&str])
     None
 }
 
-// The size of a packet that the words behind the files tell: 512 bytes, where there are none.
-fn read_packet_ending(ending: &[&str]) -> Option<PacketSize>
+/// The size of a packet that the words behind the files tell: 512 bytes, where there are none.
+pub(crate) fn read_packet_ending(ending: &[&str]) -> Option<PacketSize>
     ensures size { IfSome result (IsPacketEnding (map (λ word. word.now) ending.now)) }
     ensures none { IfNone result ((size : PacketSize)
         → IsPacketEnding (map (λ word. word.now) ending.now) size → ⊥) }
@@ -249,8 +249,8 @@ fn named_format(name: &str, number: &str) -> Option<LogFormat>
     }
 }
 
-// Whether a word may be that of a file.
-fn is_file_word(word: &str) -> bool
+/// Whether a word may be that of a file.
+pub(crate) fn is_file_word(word: &str) -> bool
     ensures { IsTrue result ↔ IsFileWord word.now }
 {
     match word.as_bytes() {

@@ -1,0 +1,131 @@
+-- Lines that come byte by byte: where they end, and which are none.
+use Rattle.std.proofs.Common.{◌≡◌, ◌==◌, ◌<◌, ◌≤◌, ℕ, ◌+◌, false, List, [], ◌∷◌, ◌++◌, length, codes, slice_index, inl, inr, refl, sym, ap, subst, ◌∙◌, arith, length-append}
+use Rattle.std.proofs.lemmas.Bool.{cases_Bool}
+use Rattle.std.specs.Prelude.{◌⊎◌}
+use Rattle.std.specs.List.{onto_first}
+use Rattle.std.proofs.lemmas.List.Elements.{All-cons, All-nil, All-head, All-tail, All-append}
+use Rattle.std.proofs.lemmas.List.Splits.{slice_split_at, slice_split_none, slice_split-cons_no, slice_split-cons_yes}
+use Rattle.std.proofs.lemmas.Fmt.{length-decimal-le}
+use Rattle.hex.proofs.HexLemmas.{decode_of-ok}
+use Rattle.runner.specs.declared.line.ScriptKind.TheVariants.{OneLife}
+use Rattle.runner.specs.declared.line.ScriptLine.{ScriptLine}
+use Rattle.runner.specs.declared.line.ScriptLine.TheVariants.{Skipped, Out, Fill, In, Setup, Tick, Fuse, Fail, Cut}
+use Rattle.bot_machine.specs.declared.event.Event.{Event}
+use Rattle.runner.specs.Events.{events_of}
+use Rattle.runner.specs.Line.{Spells, Allows, IsScriptLine}
+use Rattle.runner.specs.Lines.{lines_of}
+use Rattle.runner.specs.Script.{LinePlays}
+use Rattle.runner.specs.Served.{StandsFor, IsUnended}
+use Rattle.runner.proofs.Packets.{length-digits}
+
+-- one more byte that is no line feed
+pub unended-more : (line : List ℕ) (byte : ℕ) → IsUnended line → (byte == 10) ≡ false → IsUnended (line ++ byte ∷ [])
+unended-more line byte is other =
+    let P : ℕ → Type 0 = λ b. (b == 10) ≡ false in
+    All-append P line (byte ∷ []) is (All-cons P byte [] other (All-nil P))
+
+-- a line feed ends a line
+pub ended_line : (line after : List ℕ) → IsUnended line → lines_of (line ++ 10 ∷ after) ≡ line ∷ lines_of after
+ended_line line after is = slice_split_at (λ byte. byte == 10) line 10 after is refl
+
+-- at the end of all stands one line more
+pub last_line : (line : List ℕ) → IsUnended line → lines_of line ≡ line ∷ []
+last_line line is = slice_split_none (λ byte. byte == 10) line is
+
+-- there is a first line
+first_line : (bytes : List ℕ) → (line : List ℕ) × (after : List (List ℕ)) × (lines_of bytes ≡ line ∷ after)
+first_line [] = ([], [], refl)
+first_line (byte ∷ bytes) =
+    let next = first_line bytes in
+    elim (cases_Bool (byte == 10)) [
+      | inl ends ↦ ([], lines_of bytes, slice_split-cons_yes (λ b. b == 10) byte bytes ends)
+      | inr goes_on ↦ (byte ∷ next.0, next.1, slice_split-cons_no (λ b. b == 10) byte bytes goes_on ∙ ap (onto_first byte) next.2)
+    ]
+
+-- it begins with what stands before any line feed
+pub begins : (line more : List ℕ) → IsUnended line → (rest : List ℕ) × (after : List (List ℕ)) × (lines_of (line ++ more) ≡ (line ++ rest) ∷ after)
+begins [] more is = first_line more
+begins (byte ∷ line) more is =
+    let P : ℕ → Type 0 = λ b. (b == 10) ≡ false in
+    let next = begins line more (All-tail P byte line is) in
+    (next.0, next.1, slice_split-cons_no (λ b. b == 10) byte (line ++ more) (All-head P byte line is) ∙ ap (onto_first byte) next.2)
+
+-- lists that begin with different bytes
+differ : (a b : ℕ) (xs ys : List ℕ) → a ∷ xs ≡ b ∷ ys → a ≡ b
+differ a b xs ys is = ap (λ (l : List ℕ). slice_index l 0) is
+
+-- a comment plays nothing
+pub comment_skips : (most : ℕ) (comment : List ℕ) (asked : ScriptLine) → Spells most (codes "#" ++ comment) asked → Allows OneLife asked → events_of asked ≡ []
+comment_skips most comment Skipped spelled allowed = refl
+comment_skips most comment (Out packet) (inl (is, none)) allowed = let e : 35 ≡ 111 = ap (λ (l : List ℕ). slice_index l 0) is in absurd (omega (arith, e))
+comment_skips most comment (Out packet) (inr (digits, is, spelled)) allowed = let e : 35 ≡ 111 = ap (λ (l : List ℕ). slice_index l 0) is in absurd (omega (arith, e))
+comment_skips most comment (Fill byte count size) spelled allowed = let e : 35 ≡ 102 = ap (λ (l : List ℕ). slice_index l 0) spelled.0.parts in absurd (omega (arith, e))
+comment_skips most comment In spelled allowed = let e : 35 ≡ 105 = ap (λ (l : List ℕ). slice_index l 0) spelled in absurd (omega (arith, e))
+comment_skips most comment (Setup packet) spelled allowed = let e : 35 ≡ 115 = ap (λ (l : List ℕ). slice_index l 0) spelled.parts in absurd (omega (arith, e))
+comment_skips most comment (Tick count) spelled allowed = let e : 35 ≡ 116 = ap (λ (l : List ℕ). slice_index l 0) spelled.parts in absurd (omega (arith, e))
+comment_skips most comment (Fuse writes) spelled allowed = absurd allowed
+comment_skips most comment (Fail call) spelled allowed = absurd allowed
+comment_skips most comment (Cut kept) spelled allowed = absurd allowed
+
+-- what is held of a line plays what the line does
+pub plays_line : (most : ℕ) (held line : List ℕ) (events : List Event) → StandsFor held line → LinePlays most held events → LinePlays most line events
+plays_line most held line events (inl same) plays = subst (λ (l : List ℕ). LinePlays most l events) same plays
+plays_line most held line events (inr (kept, comment, is_held, is_line)) plays = record {
+  asked = Skipped;
+  spelled = inr (comment, is_line);
+  allowed = tt;
+  events_are = plays.events_are
+      ∙ comment_skips most kept plays.asked (subst (λ (l : List ℕ). Spells most l plays.asked) is_held plays.spelled) plays.allowed;
+}
+
+-- it is a line of a script where the line is one
+pub holds_line : (most : ℕ) (held line : List ℕ) → StandsFor held line → IsScriptLine OneLife most line → IsScriptLine OneLife most held
+holds_line most held line (inl same) is = subst (λ (l : List ℕ). IsScriptLine OneLife most l) (sym same) is
+holds_line most held line (inr (kept, comment, is_held, is_line)) is = (Skipped, inr (kept, is_held), tt)
+
+-- one more byte came: it is held, or what is held is a comment
+pub stands-more : (held new line : List ℕ) (byte : ℕ) → StandsFor held line
+    → (new ≡ held ++ byte ∷ []) ⊎ ((new ≡ held) × ((comment : List ℕ) × (held ≡ codes "#" ++ comment)))
+    → StandsFor new (line ++ byte ∷ [])
+stands-more held new line byte (inl same) (inl is) = inl (is ∙ ap (λ (l : List ℕ). l ++ byte ∷ []) same)
+stands-more held new line byte (inr (kept, comment, is_held, is_line)) (inl is) =
+    inr (kept ++ byte ∷ [], comment ++ byte ∷ [], is ∙ ap (λ (l : List ℕ). l ++ byte ∷ []) is_held, ap (λ (l : List ℕ). l ++ byte ∷ []) is_line)
+stands-more held new line byte (inl same) (inr (is, so)) =
+    inr (so.0, so.0 ++ byte ∷ [], is ∙ so.1, ap (λ (l : List ℕ). l ++ byte ∷ []) (sym same ∙ so.1))
+stands-more held new line byte (inr (kept, comment, is_held, is_line)) (inr (is, so)) =
+    inr (kept, comment ++ byte ∷ [], is ∙ is_held, ap (λ (l : List ℕ). l ++ byte ∷ []) is_line)
+
+-- what begins a comment, and is not empty, is one
+pub first_is : (line rest comment : List ℕ) → 0 < length line → line ++ rest ≡ codes "#" ++ comment → (tail : List ℕ) × (line ≡ codes "#" ++ tail)
+first_is [] rest comment some is = absurd (omega (arith, some))
+first_is (byte ∷ line) rest comment some is = (line, ap (λ b. b ∷ line) (differ byte 35 (line ++ rest) comment is))
+
+fill_length : (digits number : List ℕ) → length (codes "fill " ++ digits ++ codes " " ++ number) ≡ 6 + length digits + length number
+fill_length digits number =
+    omega (arith, length-append (codes "fill " ++ digits ++ codes " ") number, length-append (codes "fill " ++ digits) (codes " "))
+
+-- a line with more bytes, which is no comment, is none of a script
+pub too_long : (most : ℕ) (line : List ℕ) → most ≤ 512 → 1100 < length line → ((comment : List ℕ) → line ≡ codes "#" ++ comment → ⊥)
+    → (asked : ScriptLine) → Spells most line asked → Allows OneLife asked → ⊥
+too_long most line small long none Skipped (inl is) allowed = omega (arith, long, ap length is)
+too_long most line small long none Skipped (inr (comment, is)) allowed = none comment is
+too_long most line small long none (Out packet) (inl (is, alone)) allowed = omega (arith, long, ap length is)
+too_long most line small long none (Out packet) (inr (digits, is, spelled)) allowed =
+    omega (arith, long, ap length is, length-append (codes "out ") digits, length-digits spelled, spelled.fits, small)
+too_long most line small long none (Fill byte count size) spelled allowed =
+    let so = spelled.0 in
+    let number = ap length so.counted.digits in
+    let few = length-decimal-le 6 count (omega arith) (omega (arith, so.counted.not_more)) (omega (arith, so.counted.not_more)) in
+    let two = (decode_of-ok so.digits (byte ∷ []) so.decoded).2 in
+    omega (arith, long, ap length so.parts, fill_length so.digits so.number, number, few, two)
+too_long most line small long none In is allowed = omega (arith, long, ap length is)
+too_long most line small long none (Setup packet) spelled allowed =
+    let twice = (decode_of-ok spelled.digits packet spelled.decoded).2 in
+    omega (arith, long, ap length spelled.parts, length-append (codes "setup ") spelled.digits, twice, spelled.whole)
+too_long most line small long none (Tick count) spelled allowed =
+    let number = ap length spelled.counted.digits in
+    let few = length-decimal-le 7 count (omega arith) (omega (arith, spelled.counted.not_more)) (omega (arith, spelled.counted.not_more)) in
+    omega (arith, long, ap length spelled.parts, length-append (codes "tick ") spelled.number, number, few)
+too_long most line small long none (Fuse writes) spelled allowed = allowed
+too_long most line small long none (Fail call) spelled allowed = allowed
+too_long most line small long none (Cut kept) spelled allowed = allowed

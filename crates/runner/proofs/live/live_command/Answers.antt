@@ -1,0 +1,28 @@
+use Rattle.std.proofs.Common.{◌∙◌, map, sym}
+use Rattle.runner.proofs.LiveRefusals.{most_status, no_line_at_two, two_without_line}
+use Rattle.runner.proofs.Refusals.{some_status}
+use Rattle.runner.proofs.live.live_command.Goals as goal
+
+pub returns-in-Ok-clause-other_words : goal.returns-in-Ok-clause-other_words
+returns-in-Ok-clause-other_words g c never = let done = c.in-Ok.ensures.done in absurd (never (done.0, done.1, done.2))
+
+pub returns-in-Err-clause-statuses : goal.returns-in-Err-clause-statuses
+returns-in-Err-clause-statuses g c = rw c.tell.ensures (most_status c.in-Err.refusal)
+
+pub returns-in-Err-clause-done : goal.returns-in-Err-clause-done
+returns-in-Err-clause-done g c zero = absurd (some_status c.in-Err.refusal (sym c.tell.ensures ∙ zero))
+
+pub returns-in-Err-clause-words : goal.returns-in-Err-clause-words
+returns-in-Err-clause-words g c two =
+    let contents = g.O.Write.contents in
+    let remaining = g.I.Read.remaining in
+    no_line_at_two (contents c.args.out.now) (contents c.serve_image.new.out) (remaining c.args.input.now) (remaining c.serve_image.new.input)
+    (map (λ word. word.now) c.args.words.now) c.in-Err.refusal c.in-Err.ensures.refused (sym c.tell.ensures ∙ two)
+
+pub returns-in-Err-clause-other_words : goal.returns-in-Err-clause-other_words
+returns-in-Err-clause-other_words g c never =
+    let contents = g.O.Write.contents in
+    let remaining = g.I.Read.remaining in
+    c.tell.ensures
+    ∙ two_without_line (contents c.args.out.now) (contents c.serve_image.new.out) (remaining c.args.input.now) (remaining c.serve_image.new.input)
+    (map (λ word. word.now) c.args.words.now) c.in-Err.refusal c.in-Err.ensures.refused never

@@ -1,0 +1,129 @@
+-- What serving a disk line by line leaves: the disk, and what was written.
+use Rattle.std.specs.Prelude.{◌≡◌, ◌⊎◌, ◌==◌, ℕ, ◌+◌, min, false, List, [], ◌∷◌, ◌++◌, All}
+use Rattle.std.specs.Prelude.{codes, length, Option}
+use Rattle.std.specs.Io.KnownBytes.{Appends, Keeps, Consumes, IsAtEnd}
+use Rattle.medium.specs.Medium.{State}
+use Rattle.bot_machine.specs.Disk.{DiskValue}
+use Rattle.bot_machine.specs.declared.event.Event.{Event}
+use Rattle.runner.specs.declared.line.ScriptKind.TheVariants.{OneLife}
+use Rattle.runner.specs.declared.serve.LineFault.{LineFault}
+use Rattle.runner.specs.declared.serve.LineFault.TheVariants.{Line, Reader, Writer}
+use Rattle.runner.specs.Line.{IsScriptLine}
+use Rattle.runner.specs.Lines.{lines_of}
+use Rattle.runner.specs.Script.{LinePlays, Plays}
+use Rattle.runner.specs.Played.{Tells, BreaksOff}
+use Rattle.runner.specs.Streams.{IsAll}
+
+-- lines are counted from 1, up to 2^64 - 1
+abbrev pub line_number : ℕ → ℕ
+line_number before = min (before + 1) 18446744073709551615
+
+-- The bytes that are held of a line stand for those that were read of it: they are these, or both
+-- are a comment.
+abbrev pub StandsFor : List ℕ → List ℕ → Type 0
+StandsFor held line = (held ≡ line)
+    ⊎ ((kept : List ℕ) × (comment : List ℕ) × (held ≡ codes "#" ++ kept)
+    × (line ≡ codes "#" ++ comment))
+
+-- no byte of it is a line feed
+abbrev pub IsUnended : List ℕ → Type 0
+IsUnended line = All (λ byte. (byte == 10) ≡ false) line
+
+-- Packets have at most so many bytes; the disk and what was written then, and now.
+module _ {M : Type 0} (state : M → State) (most : ℕ) (was now : Option (List ℕ))
+    (old new : DiskValue M) where
+  -- these lines were played step by step, and exactly the text of their answers was appended
+  pub record AreAnswered (lines : List (List ℕ)) : Type 0 where
+    pub events : List Event
+    pub plays : Plays most lines events
+    pub text : List ℕ
+    pub tells : Tells state old events text new
+    pub written : Appends was now text
+
+  -- One line was played, and exactly the text of its answers was appended.
+  pub record IsAnswered (line : List ℕ) : Type 0 where
+    pub events : List Event
+    pub plays : LinePlays most line events
+    pub text : List ℕ
+    pub tells : Tells state old events text new
+    pub written : Appends was now text
+
+  -- Of one line events were played, all of whose answers were written but the last one's: a first
+  -- part of that was, and at least one byte of it is missing.
+  pub record IsBrokenOff (line : List ℕ) : Type 0 where
+    pub part : List Event
+    pub event : Event
+    pub rest : List Event
+    pub plays : LinePlays most line (part ++ event ∷ rest)
+    pub breaks : BreaksOff state was now old part event new
+
+  -- how one line, which has this number, stops the serving
+  abbrev pub IsLineStopped : List ℕ → ℕ → LineFault → Type 0
+  IsLineStopped line number (Line told) = (told ≡ number) × (¬ IsScriptLine OneLife most line)
+      × (new ≡ old) × Keeps was now
+  IsLineStopped line number Reader = ⊥
+  IsLineStopped line number Writer = IsBrokenOff line
+
+  -- the lines before one that is none of a script were answered, and this is its number
+  pub record StopsAtBadLine (script : List ℕ) (number : ℕ) : Type 0 where
+    pub before : List (List ℕ)
+    pub line : List ℕ
+    pub after : List (List ℕ)
+    pub parts : lines_of script ≡ before ++ line ∷ after
+    pub answered : AreAnswered before
+    pub bad : ¬ IsScriptLine OneLife most line
+    pub counted : number ≡ line_number (length before)
+
+  -- the lines before one were answered, and that one in part
+  pub record StopsUnwritten (script : List ℕ) : Type 0 where
+    pub before : List (List ℕ)
+    pub line : List ℕ
+    pub after : List (List ℕ)
+    pub parts : lines_of script ≡ before ++ line ∷ after
+    pub first : List Event
+    pub whole : Plays most before first
+    pub part : List Event
+    pub event : Event
+    pub rest : List Event
+    pub here : LinePlays most line (part ++ event ∷ rest)
+    pub breaks : BreaksOff state was now old (first ++ part) event new
+
+  -- All lines of which the line feed was read were answered; behind them stands at most a part of
+  -- another.
+  pub record StopsUnread (read : List ℕ) : Type 0 where
+    pub before : List (List ℕ)
+    pub line : List ℕ
+    pub parts : lines_of read ≡ before ++ line ∷ []
+    pub answered : AreAnswered before
+
+  -- how serving these lines of a script stops early
+  abbrev pub StopsIn : List ℕ → LineFault → Type 0
+  StopsIn script (Line number) = StopsAtBadLine script number
+  StopsIn script Reader = ⊥
+  StopsIn script Writer = StopsUnwritten script
+
+  -- the input was read to its end, and each of its lines was answered
+  pub record IsServed (left after : Option (List ℕ)) : Type 0 where
+    pub script : List ℕ
+    pub all : IsAll left script
+    pub at_end : IsAtEnd after
+    pub answered : AreAnswered (lines_of script)
+
+  -- How serving stops early. At any moment at which more is read, all lines of which the line feed
+  -- is there were answered: it shows where the reader fails then.
+  abbrev pub IsStopped : Option (List ℕ) → Option (List ℕ) → LineFault → Type 0
+  IsStopped left after (Line number) =
+      (script : List ℕ) × IsAll left script × StopsAtBadLine script number
+  IsStopped left after Reader = (read : List ℕ) × Consumes left after read × StopsUnread read
+  IsStopped left after Writer = (script : List ℕ) × IsAll left script × StopsUnwritten script
+
+  -- These bytes were read, and all whole lines of them were answered. So much is held of the line
+  -- behind them, which has this number.
+  pub record HasServed (held : List ℕ) (number : ℕ) (read : List ℕ) : Type 0 where
+    pub before : List (List ℕ)
+    pub line : List ℕ
+    pub parts : (more : List ℕ) → lines_of (read ++ more) ≡ before ++ lines_of (line ++ more)
+    pub unended : IsUnended line
+    pub stands : StandsFor held line
+    pub counted : number ≡ line_number (length before)
+    pub answered : AreAnswered before

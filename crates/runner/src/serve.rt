@@ -1,0 +1,118 @@
+// A disk served line by line: each line is answered as soon as it is there.
+ghost use Rattle.std.specs.Prelude.{◌≡◌, ◌⊎◌, ◌++◌, ◌<◌, ℕ, List, Option, OnOk, OnErr, IfOk, IfErr};
+ghost use Rattle.bot_machine.specs.PacketBytes.{bytes_of};
+ghost use Rattle.bot_machine.specs.Disk.{DiskValue};
+ghost use Rattle.runner.specs.Served.{HasServed, IsAnswered, IsLineStopped, IsServed, IsStopped, StopsIn};
+ghost use Rattle.runner.specs.Line.{IsScriptLine};
+
+use crate::held::HeldLine;
+use crate::line::{ScriptKind, read_line};
+use crate::play::play_asked;
+use bot_machine::{Disk, PacketSize};
+use medium::Medium;
+use std::io::{ErrorKind, Read, Write};
+use thiserror::Error;
+
+/// Why lines were not served to their end.
+#[derive(Clone, Copy, Debug, PartialEq, Eq, Error)]
+pub enum LineFault {
+    /// The first line that is none of a script, counted from 1. The lines before it were answered.
+    #[error("line {0}: not a script line")]
+    Line(u64),
+    /// The reader failed. All whole lines that it gave were answered.
+    #[error("the lines were not read")]
+    Reader,
+    /// The writer failed. Nothing was played behind the event whose answer was not written.
+    #[error("an answer was not written")]
+    Writer,
+}
+
+/// Plays the lines of a script on a disk, and writes the line of each answer by one write, before
+/// more is read.
+pub fn serve_lines<M: Medium, R: Read, W: Write>(
+    disk: &mut Disk<M>,
+    reader: &mut R,
+    out: &mut W,
+) -> Result<(), LineFault>
+    ensures served { OnOk result (IsServed M.state disk.old.line.packet_size (W.contents out.old)
+        (W.contents out.new) disk.old disk.new (R.remaining reader.old) (R.remaining reader.new)) }
+    ensures stopped { IfErr result (IsStopped M.state disk.old.line.packet_size (W.contents out.old)
+        (W.contents out.new) disk.old disk.new (R.remaining reader.old) (R.remaining reader.new)) }
+{
+    let size = packet_size(disk);
+    let mut line = HeldLine::new();
+    let mut chunk = [0; 4096];
+    'reads: for _ in 0..u64::MAX {
+        match reader.read(&mut chunk) {
+            Ok(0) => return answer_line(disk, size, &line, out),
+            Ok(count) => serve_bytes(disk, size, &chunk[..count], &mut line, out)?,
+            Err(error) if error.kind() == ErrorKind::Interrupted => {}
+            Err(_) => return Err(LineFault::Reader),
+        }
+    }
+    Err(LineFault::Reader)
+}
+
+// How many bytes the packets of a disk have at most.
+fn packet_size<M: Medium>(disk: &Disk<M>) -> PacketSize
+    ensures { bytes_of result ≡ disk.now.line.packet_size }
+{
+    match disk.packet_size() {
+        64 => PacketSize::Full64,
+        _ => PacketSize::High512,
+    }
+}
+
+// Answers each line that these bytes end, and holds what stands behind the last of them.
+fn serve_bytes<M: Medium, W: Write>(
+    disk: &mut Disk<M>,
+    size: PacketSize,
+    bytes: &[u8],
+    line: &mut HeldLine,
+    out: &mut W,
+) -> Result<(), LineFault>
+    requires packets { disk.old.line.packet_size ≡ bytes_of size }
+    ensures goes_on { OnOk result ((was : Option (List ℕ)) (first : DiskValue M) (read : List ℕ)
+        → HasServed M.state (bytes_of size) was (W.contents out.old) first disk.old
+        line.old.bytes.items line.old.number read
+        → HasServed M.state (bytes_of size) was (W.contents out.new) first disk.new
+        line.new.bytes.items line.new.number (read ++ bytes.now)) }
+    ensures stops { IfErr result (λ fault.
+        (was : Option (List ℕ)) (first : DiskValue M) (read more : List ℕ)
+        → HasServed M.state (bytes_of size) was (W.contents out.old) first disk.old
+        line.old.bytes.items line.old.number read
+        → StopsIn M.state (bytes_of size) was (W.contents out.new) first disk.new
+        (read ++ bytes.now ++ more) fault) }
+{
+    for byte in bytes {
+        if *byte == b'\n' {
+            answer_line(disk, size, line, out)?;
+            line.begin_next();
+        } else {
+            line.hold(*byte)?;
+        }
+    }
+    Ok(())
+}
+
+// Plays the line that is held, and writes the line of each answer.
+fn answer_line<M: Medium, W: Write>(
+    disk: &mut Disk<M>,
+    size: PacketSize,
+    line: &HeldLine,
+    out: &mut W,
+) -> Result<(), LineFault>
+    requires packets { disk.old.line.packet_size ≡ bytes_of size }
+    ensures answered { OnOk result (IsAnswered M.state (bytes_of size) (W.contents out.old)
+        (W.contents out.new) disk.old disk.new line.now.bytes.items) }
+    ensures stopped { IfErr result (IsLineStopped M.state (bytes_of size) (W.contents out.old)
+        (W.contents out.new) disk.old disk.new line.now.bytes.items line.now.number) }
+{
+    let Some(asked) = read_line(ScriptKind::OneLife, size, line.as_slice()) else {
+        return Err(LineFault::Line(line.number()));
+    };
+    match play_asked(disk, asked, out) {
+        Ok(()) => Ok(()),
+        Err(_) => Err(LineFault::Writer),
+    }
+}
