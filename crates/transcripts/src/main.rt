@@ -37,7 +37,7 @@ mod transcript;
 use fault::Fault;
 use play::play_exchange;
 use std::env::Env;
-use std::fs::Files;
+use std::fs::{File, Files};
 use std::io::Write;
 use std::process::ExitCode;
 use std::{env, fs, io};
@@ -51,7 +51,10 @@ fn main(rt: HostRuntime) -> ExitCode {
 }
 
 // Plays every transcript that the words name, and says whether all went as written.
-fn play_files<R: Env + Files + AllocGlobal, W: Write>(rt: &R, out: &mut W) -> io::Result<bool> {
+fn play_files<R: Env + Files<File = File> + AllocGlobal, W: Write>(
+    rt: &R,
+    out: &mut W,
+) -> io::Result<bool> {
     let mut all = true;
     for path in env::args(rt)?.skip(1) {
         let path = path.as_str();
@@ -73,7 +76,7 @@ fn read_transcript<R: Files + AllocGlobal>(rt: &R, path: &str) -> Result<Transcr
 }
 
 // Plays every exchange of a transcript, tells those that went otherwise, and counts the others.
-fn play_transcript<R: Files + AllocGlobal, W: Write>(
+fn play_transcript<R: Files<File = File> + AllocGlobal, W: Write>(
     rt: &R,
     path: &str,
     transcript: &Transcript,

@@ -6,7 +6,7 @@ use crate::exchange::{Exchange, Image, Patch, Step};
 use crate::fault::Fault;
 use runner::command;
 use std::fs;
-use std::fs::Files;
+use std::fs::{File, Files};
 
 // The files in the current folder, as the words of a command name them.
 const IMAGE: &str = "image";
@@ -15,7 +15,7 @@ const SCRIPT: &str = "script";
 
 /// Plays the commands of an exchange on an image file of its own, up to the first that differs from
 /// what is written.
-pub(crate) fn play_exchange<R: Files + AllocGlobal>(
+pub(crate) fn play_exchange<R: Files<File = File> + AllocGlobal>(
     rt: &R,
     exchange: &Exchange,
 ) -> Result<(), Fault> {
@@ -30,7 +30,7 @@ pub(crate) fn play_exchange<R: Files + AllocGlobal>(
 }
 
 // Makes the image file.
-fn make_image<R: Files + AllocGlobal>(rt: &R, image: &Image) -> Result<(), Fault> {
+fn make_image<R: Files<File = File> + AllocGlobal>(rt: &R, image: &Image) -> Result<(), Fault> {
     match image {
         Image::Bytes(bytes) => fs::write(rt, IMAGE, bytes.as_slice())?,
         Image::Formatted(size) => {
@@ -53,7 +53,10 @@ fn make_image<R: Files + AllocGlobal>(rt: &R, image: &Image) -> Result<(), Fault
 }
 
 // Changes bytes of the image file.
-fn patch_image<R: Files + AllocGlobal>(rt: &R, patches: &[Patch]) -> Result<(), Fault> {
+fn patch_image<R: Files<File = File> + AllocGlobal>(
+    rt: &R,
+    patches: &[Patch],
+) -> Result<(), Fault> {
     if patches.is_empty() {
         return Ok(());
     }
@@ -81,7 +84,11 @@ fn put(image: &mut [u8], offset: usize, bytes: &[u8]) -> Option<()>
 }
 
 // Plays a command and compares what came of it.
-fn play_step<R: Files + AllocGlobal>(rt: &R, number: u64, step: &Step) -> Result<(), Fault> {
+fn play_step<R: Files<File = File> + AllocGlobal>(
+    rt: &R,
+    number: u64,
+    step: &Step,
+) -> Result<(), Fault> {
     fs::write(rt, SCRIPT, step.script.as_slice())?;
     let words: Vec<&str> = step.words.split_whitespace().collect(rt.alloc())?;
     let mut out = Vec::new(rt.alloc());
