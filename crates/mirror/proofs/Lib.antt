@@ -1,0 +1,4 @@
+pub mod Asked
+pub mod Devices
+pub mod Kept
+pub mod Rows

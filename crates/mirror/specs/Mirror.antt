@@ -1,0 +1,130 @@
+-- A medium in memory with an outbox, and the device that carries out what comes out of it.
+use Rattle.std.specs.Prelude.{◌+◌, ◌≡◌, ℕ, ◌/◌, ◌%◌, ◌<◌, ◌≤◌, Bool, true, List, [], ◌∷◌, ◌++◌}
+use Rattle.std.specs.Prelude.{length}
+use Rattle.std.specs.Prelude.{take}
+use Rattle.std.specs.Prelude.{Option, Some, None, if◌then◌else◌, nat_lt}
+use Rattle.medium.specs.Medium.{State, Image, CutLeaves}
+use Rattle.medium.specs.Tally.{of_kind, of_all}
+use Rattle.mirror.specs.Device.{Device, durable, after}
+use Rattle.mirror.specs.Story as story
+use Rattle.mirror.specs.Story.{Told, given, are_whole}
+use Rattle.mirror.specs.declared.call.DeviceCall.{DeviceCall}
+
+pub record Mirror : Type 0 where
+  -- what it was asked since the beginning
+  pub story : Told
+  -- what the device is still to carry out, in order
+  pub outbox : List DeviceCall
+  -- how much of that there is room for
+  pub room : ℕ
+
+-- the device as it is when it has carried out what the first of the medium's calls gave to it
+abbrev pub device_at : Told → ℕ → Device
+device_at t moment = after (durable t.opening) (given (take moment t.asked))
+
+-- the device as it is when it has carried out all
+abbrev pub device_of : Told → Device
+device_of t = after (durable t.opening) (given t.asked)
+
+-- a cut of the device at this moment or a later one could have left this image
+pub record LeftSince (t : Told) (moment : ℕ) (image : Image) : Type 0 where
+  pub at : ℕ
+  pub later : moment ≤ at
+  pub past : at ≤ length t.asked
+  pub cut : CutLeaves (device_at t at).may_leave image
+
+-- A model with a write of another length is given no sectors, so that the law on lengths holds of
+-- every model; no real medium is such.
+abbrev pub size_of : Told → ℕ
+size_of t = if are_whole (given t.asked) then length t.opening / 512 else 0
+
+-- its content and sets are those of the device that has carried out all, and its moments those of
+-- the device on its way there
+abbrev pub state_of : Mirror → State
+state_of m = record {
+  size = size_of m.story;
+  content = (device_of m.story).content;
+  may_leave = (device_of m.story).may_leave;
+  left_since = LeftSince m.story;
+  calls = length m.story.asked;
+  made = of_kind m.story.made;
+  failures = of_all m.story.refused;
+  refused = of_kind m.story.refused;
+}
+
+-- a medium of these bytes, which was asked nothing yet
+abbrev pub fresh : List ℕ → ℕ → Mirror
+fresh bytes room = record { story = story.begun bytes; outbox = []; room = room }
+
+-- there is room for one more call
+abbrev pub fits : Mirror → Bool
+fits m = nat_lt (length m.outbox) m.room
+
+-- a read: nothing is appended
+abbrev pub reads : Mirror → Mirror
+reads m = record m { story = story.read m.story }
+
+-- a call that the device is to carry out: it alone is appended
+abbrev pub gives : Mirror → DeviceCall → Mirror
+gives m call = record m { story = story.gave m.story call; outbox = m.outbox ++ call ∷ [] }
+
+-- a call that was refused: nothing is appended
+abbrev pub refuses : Mirror → DeviceCall → Mirror
+refuses m call = record m { story = story.refused m.story call }
+
+-- every call that was given to the device since the beginning, taken out or not
+abbrev pub sent : Mirror → List DeviceCall
+sent m = m.story.taken ++ m.outbox
+
+abbrev pub first_of : List DeviceCall → Option DeviceCall
+first_of [] = None
+first_of (call ∷ calls) = Some call
+
+-- the first call is taken out of what waits, if there is one
+abbrev pub take_first : List DeviceCall → Mirror → Mirror
+take_first [] m = m
+take_first (call ∷ calls) m = record m { story = story.took m.story call; outbox = calls }
+
+abbrev pub without_first : Mirror → Mirror
+without_first m = take_first m.outbox m
+
+-- The second comes after the first, by calls of a medium alone: all that they gave to the device is
+-- appended to the outbox, in order.
+pub record ComesAfter (old new : Mirror) : Type 0 where
+  pub since : List (Option DeviceCall)
+  pub asked : new.story.asked ≡ old.story.asked ++ since
+  pub outbox : new.outbox ≡ old.outbox ++ given since
+  pub opening_stays : new.story.opening ≡ old.story.opening
+  pub taken_stays : new.story.taken ≡ old.story.taken
+  pub room_stays : new.room ≡ old.room
+  -- no call is refused as long as what waited and these calls have room together
+  pub refuses : of_all old.story.refused < of_all new.story.refused
+      → new.room < length old.outbox + length since
+  pub failures_stay : of_all old.story.refused ≤ of_all new.story.refused
+
+-- What a loss of power may leave of a device that has carried out this many of the calls sent.
+abbrev pub DeviceLeaves : Mirror → ℕ → Image → Type 0
+DeviceLeaves m count image =
+    CutLeaves (after (durable m.story.opening) (take count (sent m))).may_leave image
+
+-- A device that has carried out what was sent until the first moment, and any first part of what
+-- was sent from then on: what a cut leaves of it, a cut of the medium since then could have left.
+abbrev pub CoversDevice : Mirror → Mirror → Type 0
+CoversDevice old new =
+    (count : ℕ) (image : Image) → length (sent old) ≤ count → DeviceLeaves new count image
+    → (state_of new).left_since (state_of old).calls image
+
+-- Where what waits at the first moment and all calls since then have room together, none of these
+-- is refused.
+abbrev pub HasRoomFor : Mirror → Mirror → Type 0
+HasRoomFor old new =
+    length old.outbox + (state_of new).calls ≤ (state_of old).calls + old.room
+    → (state_of new).failures ≡ (state_of old).failures
+
+-- what holds of every medium in memory
+pub record IsWellFormed (m : Mirror) : Type 0 where
+  pub some : 0 < length m.story.opening
+  pub whole : length m.story.opening % 512 ≡ 0
+  pub whole_writes : are_whole (given m.story.asked) ≡ true
+  pub all_sent : given m.story.asked ≡ sent m
+  pub held : length m.outbox ≤ m.room

@@ -1,0 +1,6 @@
+pub mod Codes
+pub mod DiskRow
+pub mod Exports
+pub mod Held
+pub mod Plays
+pub mod Room

@@ -1,0 +1,47 @@
+// The numbers that C sees. include/usbdisk.h has the same.
+ghost use Rattle.std.specs.Prelude.{◌≡◌};
+ghost use Rattle.usbdisk_c.specs.Codes.{number_of};
+
+use bot_machine::StartFault;
+
+pub(crate) const ACK: u32 = 0;
+
+pub(crate) const NAK: u32 = 1;
+
+pub(crate) const STALL: u32 = 2;
+
+pub(crate) const NO_MEMORY: u32 = 1;
+
+pub(crate) const WRITE_REFUSED: u32 = 3;
+
+pub(crate) const EMPTY: u32 = 16;
+
+pub(crate) const STARTED: u32 = 17;
+
+pub(crate) const TOO_LONG: u32 = 18;
+
+pub(crate) const BAD_IDENTITY: u32 = 19;
+
+pub(crate) const BAD_PACKET_SIZE: u32 = 20;
+
+pub(crate) const BAD_LENGTH: u32 = 21;
+
+pub(crate) const BAD_SIZES: u32 = 22;
+
+// The number of the fault for which a start is refused.
+pub(crate) fn number_of(fault: StartFault) -> u32
+    ensures { result ≡ number_of fault }
+{
+    match fault {
+        StartFault::NoMemory => 1,
+        StartFault::Read => 2,
+        StartFault::Write => 3,
+        StartFault::Flush => 4,
+        StartFault::BadSuper => 5,
+        StartFault::BadVersion => 6,
+        StartFault::BadSize => 7,
+        StartFault::BadHead => 8,
+        StartFault::StampsUsedUp => 9,
+        StartFault::LogTooSmall => 10,
+    }
+}

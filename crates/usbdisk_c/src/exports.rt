@@ -1,0 +1,157 @@
+// One export for each call of include/usbdisk.h, which tells what each does.
+ghost use Rattle.usbdisk_c.specs.Exports.{identity_of, Starts, Stops, TakesOut, SendsIn};
+ghost use Rattle.usbdisk_c.specs.Exports.{AnswersSetup, Ticks, HandsOut, Formats};
+ghost use Rattle.usbdisk_c.specs.Room.{room_of, memory_of};
+ghost use Rattle.std.specs.Prelude.{◌≡◌, ◌≤◌, ◌^◌};
+
+use crate::codes::{ACK, BAD_LENGTH, EMPTY, STARTED};
+use crate::format::{make_image, memory_for, room_for};
+use crate::handle::UsbDisk;
+use crate::moves::{adopt, reclaim};
+use crate::play::{answer_request, make_step, next_call, send_packet, take_packet};
+use crate::start::{UsbDiskIdentity, begin, give_bytes};
+use std::alloc::Global;
+
+#[unsafe(no_mangle)]
+pub extern "C" fn usbdisk_room(format: u32, slots: u64) -> u64
+    ensures { 1 ≤ format → format ≤ 2 → 1 ≤ slots → slots ≤ 64 → result ≡ room_of format slots }
+{
+    room_for(format, slots)
+}
+
+#[unsafe(no_mangle)]
+pub extern "C" fn usbdisk_memory(medium_size: u64, format: u32, slots: u64, room: u64) -> u64
+    ensures { medium_size ≤ 2 ^ 48 → room ≤ 2 ^ 32 → 1 ≤ format → format ≤ 2 → 1 ≤ slots
+        → slots ≤ 64 → result ≡ memory_of medium_size format slots room }
+{
+    memory_for(medium_size, format, slots, room)
+}
+
+#[unsafe(no_mangle)]
+pub extern "C" fn usbdisk_format(
+    alloc: Global,
+    image: &mut [u8],
+    format: u32,
+    blocks: u64,
+    slots: u64,
+) -> u32
+    ensures { Formats format blocks slots image.old image.new result }
+{
+    make_image(alloc, image, format, blocks, slots)
+}
+
+#[unsafe(no_mangle)]
+pub extern "C" fn usbdisk_start(
+    alloc: Global,
+    disk: &mut UsbDisk,
+    medium: &[u8],
+    identity: &UsbDiskIdentity,
+    packet: u32,
+    room: usize,
+) -> u32
+    ensures { Starts medium.now (identity_of identity.now) packet room
+        disk.old.disk disk.new.disk result }
+{
+    if let Some(there) = reclaim(disk, alloc) {
+        adopt(disk, alloc, there);
+        return STARTED;
+    }
+    match begin(alloc, medium, identity, packet, room) {
+        Ok(held) => {
+            adopt(disk, alloc, held);
+            0
+        }
+        Err(refusal) => refusal.code(),
+    }
+}
+
+#[unsafe(no_mangle)]
+pub extern "C" fn usbdisk_stop(alloc: Global, disk: &mut UsbDisk, medium: &mut [u8]) -> u32
+    ensures { Stops disk.old.disk medium.old disk.new.disk medium.new result }
+{
+    let Some(held) = reclaim(disk, alloc) else {
+        return EMPTY;
+    };
+    if give_bytes(&held, medium) {
+        return ACK;
+    }
+    adopt(disk, alloc, held);
+    BAD_LENGTH
+}
+
+#[unsafe(no_mangle)]
+pub extern "C" fn usbdisk_bulk_out(alloc: Global, disk: &mut UsbDisk, packet: &[u8]) -> u32
+    ensures { TakesOut disk.old.disk packet.now disk.new.disk result }
+{
+    let Some(mut held) = reclaim(disk, alloc) else {
+        return EMPTY;
+    };
+    let code = take_packet(&mut held, packet);
+    adopt(disk, alloc, held);
+    code
+}
+
+#[unsafe(no_mangle)]
+pub extern "C" fn usbdisk_bulk_in(
+    alloc: Global,
+    disk: &mut UsbDisk,
+    to: &mut [u8; 512],
+    size: &mut u32,
+) -> u32
+    ensures { SendsIn disk.old.disk to.old size.old disk.new.disk to.new size.new result }
+{
+    let Some(mut held) = reclaim(disk, alloc) else {
+        return EMPTY;
+    };
+    let code = send_packet(&mut held, to, size);
+    adopt(disk, alloc, held);
+    code
+}
+
+#[unsafe(no_mangle)]
+pub extern "C" fn usbdisk_setup(
+    alloc: Global,
+    disk: &mut UsbDisk,
+    packet: &[u8; 8],
+    to: &mut [u8; 2],
+    size: &mut u32,
+) -> u32
+    ensures { AnswersSetup disk.old.disk packet.now to.old size.old
+        disk.new.disk to.new size.new result }
+{
+    let Some(mut held) = reclaim(disk, alloc) else {
+        return EMPTY;
+    };
+    let code = answer_request(&mut held, packet, to, size);
+    adopt(disk, alloc, held);
+    code
+}
+
+#[unsafe(no_mangle)]
+pub extern "C" fn usbdisk_tick(alloc: Global, disk: &mut UsbDisk) -> u32
+    ensures { Ticks disk.old.disk disk.new.disk result }
+{
+    let Some(mut held) = reclaim(disk, alloc) else {
+        return EMPTY;
+    };
+    let code = make_step(&mut held);
+    adopt(disk, alloc, held);
+    code
+}
+
+#[unsafe(no_mangle)]
+pub extern "C" fn usbdisk_take(
+    alloc: Global,
+    disk: &mut UsbDisk,
+    sector: &mut u64,
+    to: &mut [u8; 512],
+) -> u32
+    ensures { HandsOut disk.old.disk sector.old to.old disk.new.disk sector.new to.new result }
+{
+    let Some(mut held) = reclaim(disk, alloc) else {
+        return EMPTY;
+    };
+    let code = next_call(&mut held, sector, to);
+    adopt(disk, alloc, held);
+    code
+}

@@ -1,0 +1,19 @@
+//! The disk for C: an opaque handle, and one export for each call. include/usbdisk.h tells them.
+#![tactic(auto)]
+
+mod codes;
+mod exports;
+mod format;
+mod handle;
+mod moves;
+mod parts;
+mod play;
+mod start;
+mod turns;
+
+pub use exports::{
+    usbdisk_bulk_in, usbdisk_bulk_out, usbdisk_format, usbdisk_memory, usbdisk_room, usbdisk_setup,
+    usbdisk_start, usbdisk_stop, usbdisk_take, usbdisk_tick,
+};
+pub use handle::{Opaque, UsbDisk};
+pub use start::UsbDiskIdentity;

@@ -1,0 +1,145 @@
+// What C asks of a disk, and what it is told.
+ghost use Rattle.usbdisk_c.specs.Plays.{TakesPacket, Tells, SendsPacket, AnswersRequest};
+ghost use Rattle.usbdisk_c.specs.Plays.{MakesStep, Shows, LetsGo, Plays, Foresees, medium_of};
+ghost use Rattle.bot_machine.specs.declared.event.Answer.TheVariants as answer;
+ghost use Rattle.bot_machine.specs.declared.event.Event.TheVariants as event;
+ghost use Rattle.mirror.specs.Mirror.{first_of};
+
+use crate::codes::{ACK, NAK, STALL, TOO_LONG};
+use bot_machine::{Answer, Disk, Event, OutAnswer, SetupAnswer, answer_to};
+use mirror::{DeviceCall, MirrorMedium};
+
+// Does nothing. The laws of the outbox say of all that may come what it is for the device, and that
+// none of it is refused for which there is room.
+fn foresee(disk: &Disk<MirrorMedium>)
+    ensures { Foresees (medium_of disk.now) }
+{
+    let _waiting = disk.medium().waiting();
+}
+
+// A packet to Bulk-Out. One that is longer than those of the disk changes nothing.
+pub(crate) fn take_packet(disk: &mut Disk<MirrorMedium>, packet: &[u8]) -> u32
+    ensures { TakesPacket disk.old packet.now disk.new result }
+{
+    if packet.len() > disk.packet_size() as usize {
+        return TOO_LONG;
+    }
+    foresee(disk);
+    match disk.bulk_out(packet) {
+        OutAnswer::Ack => ACK,
+        OutAnswer::Nak => NAK,
+        OutAnswer::Stall => STALL,
+    }
+}
+
+// A token to Bulk-In.
+pub(crate) fn send_packet(disk: &mut Disk<MirrorMedium>, to: &mut [u8; 512], size: &mut u32) -> u32
+    ensures { SendsPacket disk.old to.old disk.new to.new size.new result }
+{
+    let answer = take_token(disk);
+    tell(&answer, to, size)
+}
+
+fn take_token(disk: &mut Disk<MirrorMedium>) -> Answer
+    ensures { Plays disk.old event.In result disk.new }
+{
+    foresee(disk);
+    answer_to(disk, &Event::In)
+}
+
+// The number of an answer, its bytes at the front of the room, and how many they are.
+fn tell(answer: &Answer, to: &mut [u8; 512], size: &mut u32) -> u32
+    ensures { Tells answer.now to.old to.new size.new result }
+{
+    *size = 0;
+    match answer {
+        Answer::Data(packet) => {
+            let bytes = packet.as_slice();
+            to[..bytes.len()].copy_from_slice(bytes);
+            *size = bytes.len() as u32;
+            ACK
+        }
+        Answer::Byte(byte) => {
+            to[0] = *byte;
+            *size = 1;
+            ACK
+        }
+        Answer::Two(bytes) => {
+            to[..2].copy_from_slice(bytes);
+            *size = 2;
+            ACK
+        }
+        Answer::Ack | Answer::Ticked => ACK,
+        Answer::Nak => NAK,
+        Answer::Stall | Answer::Off => STALL,
+    }
+}
+
+// A control request.
+pub(crate) fn answer_request(
+    disk: &mut Disk<MirrorMedium>,
+    packet: &[u8; 8],
+    to: &mut [u8; 2],
+    size: &mut u32,
+) -> u32
+    ensures { AnswersRequest disk.old packet.now to.old disk.new to.new size.new result }
+{
+    *size = 0;
+    foresee(disk);
+    match disk.setup(*packet) {
+        SetupAnswer::Ack => ACK,
+        SetupAnswer::Byte(byte) => {
+            to[0] = byte;
+            *size = 1;
+            ACK
+        }
+        SetupAnswer::Two(bytes) => {
+            to[..2].copy_from_slice(&bytes);
+            *size = 2;
+            ACK
+        }
+        SetupAnswer::Stall => STALL,
+    }
+}
+
+// A step in the background: 1 while steps are left, 0 where all is at home.
+pub(crate) fn make_step(disk: &mut Disk<MirrorMedium>) -> u32
+    ensures { MakesStep disk.old disk.new result }
+{
+    tick(disk);
+    if disk.is_settled() { 0 } else { 1 }
+}
+
+fn tick(disk: &mut Disk<MirrorMedium>)
+    ensures { Plays disk.old event.Tick answer.Ticked disk.new }
+{
+    foresee(disk);
+    disk.tick();
+}
+
+// The next call for the device leaves the outbox.
+pub(crate) fn next_call(disk: &mut Disk<MirrorMedium>, sector: &mut u64, to: &mut [u8; 512]) -> u32
+    ensures shows { Shows (first_of (medium_of disk.old).outbox)
+        sector.old to.old sector.new to.new result }
+    ensures lets_go { LetsGo disk.old disk.new }
+{
+    let call = disk.medium().first();
+    disk.give();
+    show(call, sector, to)
+}
+
+// The number of a call's kind, and where it is a write its sector and bytes.
+fn show(call: Option<DeviceCall>, sector: &mut u64, to: &mut [u8; 512]) -> u32
+    ensures { Shows call sector.old to.old sector.new to.new result }
+{
+    match call {
+        None => 0,
+        Some(DeviceCall::Write(write)) => {
+            let block = write.block;
+            *sector = write.sector;
+            *to = block;
+            1
+        }
+        Some(DeviceCall::Flush) => 2,
+    }
+}

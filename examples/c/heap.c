@@ -1,0 +1,46 @@
+/* The memory of the library, by malloc. It counts, so that a leak is seen. */
+#include "gadget.h"
+#include "usbdisk.h"
+#include <stdlib.h>
+#include <string.h>
+
+size_t heap_now, heap_blocks, heap_most;
+int heap_fails;
+
+/* The size of a block lies in front of it. */
+enum { HEAD = 16 };
+
+struct rattle_tried rattle_alloc(size_t size, size_t alignment)
+{
+    static char nowhere;
+    int fails = heap_fails && --heap_fails == 0;
+    char *block = !fails && alignment <= HEAD ? malloc(size + HEAD) : NULL;
+    if (!block)
+        return (struct rattle_tried){ false, &nowhere };
+    memcpy(block, &size, sizeof size);
+    heap_now += size;
+    heap_blocks++;
+    if (heap_now > heap_most)
+        heap_most = heap_now;
+    return (struct rattle_tried){ true, block + HEAD };
+}
+
+struct rattle_tried rattle_realloc(void *at, size_t kept, size_t size, size_t alignment)
+{
+    struct rattle_tried fresh = rattle_alloc(size, alignment);
+    if (!fresh.ok)
+        return (struct rattle_tried){ false, at };
+    memcpy(fresh.at, at, kept < size ? kept : size);
+    rattle_dealloc(at);
+    return fresh;
+}
+
+void rattle_dealloc(void *at)
+{
+    char *block = (char *)at - HEAD;
+    size_t size;
+    memcpy(&size, block, sizeof size);
+    heap_now -= size;
+    heap_blocks--;
+    free(block);
+}

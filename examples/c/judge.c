@@ -1,0 +1,261 @@
+/* Judges a device (device.h): lives of a disk over it, each with random WRITEs, READs and SYNCHRONIZE
+ * CACHEs until the power is cut at a random call of the device. The next start must find the blocks
+ * after the first so many of the accepted writes, in order, none in part: all that were promised, and
+ * past the accepted ones at most the one in progress, whole.
+ *
+ * judge [LIVES [FIRST SEED]] */
+#include "device.h"
+#include "gadget.h"
+#include "usbdisk.h"
+#include <limits.h>
+#include <stdio.h>
+#include <stdlib.h>
+#include <string.h>
+
+enum { BLOCKS = 40, SLOTS = 2, MOST = 4, WRITES = 400, SECTORS = 2 + 249 * SLOTS + BLOCKS };
+
+static const struct usbdisk_identity who = { "EXAMPLE ", "JUDGE           ", "0001",
+                                             "000000000001" };
+
+/* The blocks are filled with numbers. A write puts one number into a few of them. */
+struct write {
+    unsigned address, count;
+    uint32_t number;
+};
+
+/* What the judge knows of a life: the blocks that it began with, the accepted writes behind them, how
+ * many of these were promised, and whether one more is in progress, the last of the list. */
+static struct {
+    uint32_t opening[BLOCKS];
+    struct write writes[WRITES + 1];
+    size_t accepted, promised;
+    bool in_progress;
+} book;
+
+static uint8_t image[SECTORS * 512];
+static uint64_t seed;
+static long left;
+static const char *wrong;
+
+static unsigned random_below(unsigned most)
+{
+    seed ^= seed << 13;
+    seed ^= seed >> 7;
+    seed ^= seed << 17;
+    return (unsigned)(seed >> 33) % most;
+}
+
+/* Says what is wrong. Answers false, as all do that end a life. */
+static bool fails(const char *what)
+{
+    wrong = what;
+    return false;
+}
+
+/* Carries out what waits in the outbox, until the power is to go. */
+static bool persist(struct usbdisk *disk)
+{
+    uint8_t bytes[512];
+    uint64_t sector;
+    for (;;) {
+        uint32_t kind = usbdisk_take(disk, &sector, bytes);
+        if (kind == USBDISK_NOTHING)
+            return true;
+        if (left-- == 0)
+            return false;
+        if (!(kind == USBDISK_WRITE ? device_write(sector, bytes) : device_flush()))
+            return fails("the device refuses a call");
+    }
+}
+
+/* A command block wrapper for a command of ten bytes. */
+static bool ask(struct usbdisk *disk, uint8_t code, uint8_t flags, unsigned address, unsigned count,
+                unsigned bytes)
+{
+    uint8_t wrapper[31] = { 'U', 'S', 'B', 'C', 7 };
+    wrapper[8] = bytes & 255;
+    wrapper[9] = (uint8_t)(bytes >> 8);
+    wrapper[12] = code == 0x28 ? 0x80 : 0;
+    wrapper[14] = 10;
+    wrapper[15] = code;
+    wrapper[16] = flags;
+    wrapper[20] = (uint8_t)address;
+    wrapper[23] = (uint8_t)count;
+    if (usbdisk_bulk_out(disk, wrapper, sizeof wrapper) != USBDISK_ACK)
+        return fails("a wrapper is not taken");
+    return persist(disk);
+}
+
+static bool status_is_good(struct usbdisk *disk)
+{
+    uint8_t packet[512];
+    uint32_t size;
+    if (usbdisk_bulk_in(disk, packet, &size) != USBDISK_ACK || size != 13 || packet[12])
+        return fails("a command is not good");
+    return true;
+}
+
+/* The first command after a start is told that the power was off. */
+static bool hear_attention(struct usbdisk *disk)
+{
+    uint8_t packet[512];
+    uint32_t size;
+    return ask(disk, 0x00, 0, 0, 0, 0) && usbdisk_bulk_in(disk, packet, &size) == USBDISK_ACK;
+}
+
+static bool write_some(struct usbdisk *disk, bool forced)
+{
+    static uint32_t numbers = 1;
+    unsigned count = 1 + random_below(MOST), address = random_below(BLOCKS - count + 1);
+    uint32_t block[128];
+    for (int i = 0; i < 128; i++)
+        block[i] = numbers;
+    book.writes[book.accepted] = (struct write){ address, count, numbers++ };
+    if (!ask(disk, 0x2A, forced ? 8 : 0, address, count, count * 512))
+        return false;
+    for (unsigned i = 0; i < count; i++) {
+        book.in_progress = i + 1 == count;
+        if (usbdisk_bulk_out(disk, (uint8_t *)block, 512) != USBDISK_ACK)
+            return fails("data is not taken");
+        if (!persist(disk))
+            return false;
+    }
+    book.in_progress = false;
+    book.accepted++;
+    if (forced)
+        book.promised = book.accepted;
+    return status_is_good(disk);
+}
+
+static bool synchronize(struct usbdisk *disk)
+{
+    if (!ask(disk, 0x35, 0, 0, 0, 0))
+        return false;
+    book.promised = book.accepted;
+    return status_is_good(disk);
+}
+
+/* The number in a block, or one that no write has where it is filled with several. */
+static bool read_block(struct usbdisk *disk, unsigned address, uint32_t *number)
+{
+    uint32_t packet[128], size;
+    if (!ask(disk, 0x28, 0, address, 1, 512))
+        return false;
+    if (usbdisk_bulk_in(disk, (uint8_t *)packet, &size) != USBDISK_ACK || size != 512)
+        return fails("a block is not sent");
+    *number = packet[0];
+    for (int i = 1; i < 128; i++)
+        if (packet[i] != packet[0])
+            *number = UINT32_MAX;
+    return status_is_good(disk);
+}
+
+/* The blocks after the first so many writes. */
+static void blocks_after(size_t count, uint32_t blocks[BLOCKS])
+{
+    memcpy(blocks, book.opening, sizeof book.opening);
+    for (size_t i = 0; i < count; i++)
+        for (unsigned j = 0; j < book.writes[i].count; j++)
+            blocks[book.writes[i].address + j] = book.writes[i].number;
+}
+
+static bool read_some(struct usbdisk *disk)
+{
+    uint32_t blocks[BLOCKS], number;
+    unsigned address = random_below(BLOCKS);
+    blocks_after(book.accepted, blocks);
+    if (!read_block(disk, address, &number))
+        return false;
+    return number == blocks[address] || fails("a READ sends other bytes than the last WRITE");
+}
+
+/* Starts a disk on what the device holds. */
+static bool start(struct usbdisk *disk, uint32_t format)
+{
+    for (uint64_t i = 0; i < SECTORS; i++)
+        if (!device_read(i, image + i * 512))
+            return fails("the device refuses a read");
+    if (usbdisk_start(disk, image, sizeof image, &who, 512, usbdisk_room(format, SLOTS)))
+        return fails("a start is refused");
+    return true;
+}
+
+/* Random commands until the power goes, or something is wrong. */
+static void live(struct usbdisk *disk)
+{
+    bool goes_on = persist(disk) && hear_attention(disk);
+    while (goes_on && book.accepted < WRITES) {
+        switch (random_below(8)) {
+        case 0:
+            goes_on = synchronize(disk);
+            break;
+        case 1:
+        case 2:
+            goes_on = read_some(disk);
+            break;
+        case 3:
+            goes_on = usbdisk_tick(disk) <= 1 && persist(disk);
+            break;
+        default:
+            goes_on = write_some(disk, random_below(4) == 0);
+        }
+    }
+}
+
+/* What a start on the device finds must be allowed by the book, and opens the next one. */
+static bool finds_what_it_may(uint32_t format)
+{
+    struct usbdisk disk = USBDISK_NONE;
+    uint32_t found[BLOCKS], blocks[BLOCKS];
+    size_t most = book.accepted + book.in_progress;
+    bool good = start(&disk, format) && hear_attention(&disk);
+    for (unsigned i = 0; good && i < BLOCKS; i++)
+        good = read_block(&disk, i, &found[i]);
+    usbdisk_stop(&disk, image, sizeof image);
+    bool allowed = false;
+    for (size_t k = book.promised; good && k <= most && !allowed; k++) {
+        blocks_after(k, blocks);
+        allowed = memcmp(blocks, found, sizeof found) == 0;
+    }
+    memcpy(book.opening, found, sizeof found);
+    book.accepted = book.promised = 0;
+    book.in_progress = false;
+    return good && (allowed || fails("a start finds what no cut may leave"));
+}
+
+static bool make_image(uint32_t format)
+{
+    memset(&book, 0, sizeof book);
+    if (!device_open(SECTORS) || usbdisk_format(image, sizeof image, format, BLOCKS, SLOTS))
+        return fails("no image is made");
+    for (uint64_t i = 0; i < SECTORS; i++)
+        if (!device_write(i, image + i * 512))
+            return fails("the device refuses a write");
+    return device_flush();
+}
+
+int main(int count, char **words)
+{
+    long lives = count > 1 ? atol(words[1]) : 1000;
+    seed = (count > 2 ? strtoull(words[2], NULL, 0) : 1) * 0x9E3779B97F4A7C15u;
+    for (uint32_t format = 1; format <= 2; format++) {
+        bool good = make_image(format);
+        for (long life = 0; good && life < lives; life++) {
+            struct usbdisk disk = USBDISK_NONE;
+            left = LONG_MAX;
+            good = start(&disk, format);
+            left = random_below(300);
+            if (good)
+                live(&disk);
+            usbdisk_stop(&disk, image, sizeof image);
+            left = -1;
+            good = !wrong && device_cut() && finds_what_it_may(format);
+            if (!good)
+                printf("format %u, life %ld: %s\n", format, life, wrong ? wrong : "no cut");
+        }
+        if (!good)
+            return EXIT_FAILURE;
+        printf("format %u: %ld lives, each start finds what it may\n", format, lives);
+    }
+    return EXIT_SUCCESS;
+}

@@ -1,0 +1,116 @@
+//! The program of examples/c over a device in memory: REQUEST SENSE, a WRITE with FUA, a READ, a class
+//! reset and a bus reset.
+use std::io;
+use usbdisk::{format, room, Answer, Device, Error, Identity, UsbDisk};
+
+const BLOCKS: u64 = 64;
+const SLOTS: u64 = 2;
+const WHO: Identity = Identity {
+    vendor: *b"EXAMPLE ",
+    product: *b"MEMORY          ",
+    revision: *b"0001",
+    serial: *b"000000000001",
+};
+
+struct Memory {
+    bytes: Vec<u8>,
+    writes: u32,
+    flushes: u32,
+}
+
+impl Device for Memory {
+    fn write(&mut self, sector: u64, bytes: &[u8; 512]) -> io::Result<()> {
+        let at = sector as usize * 512;
+        self.bytes[at..at + 512].copy_from_slice(bytes);
+        self.writes += 1;
+        Ok(())
+    }
+
+    fn flush(&mut self) -> io::Result<()> {
+        self.flushes += 1;
+        Ok(())
+    }
+}
+
+fn wrapper(tag: u8, length: u16, flags: u8, command: &[u8]) -> [u8; 31] {
+    let mut bytes = [0; 31];
+    bytes[..4].copy_from_slice(b"USBC");
+    bytes[4] = tag;
+    bytes[8..10].copy_from_slice(&length.to_le_bytes());
+    bytes[12] = flags;
+    bytes[14] = command.len() as u8;
+    bytes[15..15 + command.len()].copy_from_slice(command);
+    bytes
+}
+
+fn show(what: &str, answer: Answer<'_>) {
+    match answer {
+        Answer::Ack(bytes) if bytes.len() > 18 => println!("{what}: ack, {} bytes", bytes.len()),
+        Answer::Ack(bytes) if !bytes.is_empty() => println!("{what}: ack, {bytes:02X?}"),
+        answer => println!(
+            "{what}: {}",
+            if answer == Answer::Ack(&[]) {
+                "ack"
+            } else if answer == Answer::Nak {
+                "nak"
+            } else {
+                "stall"
+            }
+        ),
+    }
+}
+
+fn main() -> Result<(), Error> {
+    let mut bytes = vec![0; 512 * (2 + 50 * SLOTS + BLOCKS) as usize];
+    format(&mut bytes, 1, BLOCKS, SLOTS)?;
+    let mut device = Memory {
+        bytes: bytes.clone(),
+        writes: 0,
+        flushes: 0,
+    };
+    let mut disk = UsbDisk::start(&mut device, &bytes, &WHO, 512, room(1, SLOTS))?;
+    let read = [0x28, 0, 0, 0, 0, 5, 0, 0, 1, 0];
+    show(
+        "REQUEST SENSE",
+        disk.bulk_out(&mut device, &wrapper(1, 18, 0x80, &[3, 0, 0, 0, 18, 0]))?,
+    );
+    show("  data", disk.bulk_in()?);
+    show("  status", disk.bulk_in()?);
+    let write = [0x2A, 8, 0, 0, 0, 5, 0, 0, 1, 0];
+    show(
+        "WRITE(10) with FUA",
+        disk.bulk_out(&mut device, &wrapper(2, 512, 0, &write))?,
+    );
+    show("  data", disk.bulk_out(&mut device, &[0xA5; 512])?);
+    show("  status", disk.bulk_in()?);
+    show(
+        "READ(10)",
+        disk.bulk_out(&mut device, &wrapper(3, 512, 0x80, &read))?,
+    );
+    assert_eq!(disk.bulk_in()?, Answer::Ack(&[0xA5; 512]));
+    show("  status", disk.bulk_in()?);
+    show(
+        "a packet that is no wrapper",
+        disk.bulk_out(&mut device, &[0; 3])?,
+    );
+    show("  the in endpoint", disk.bulk_in()?);
+    show("class reset", disk.setup(&[0x21, 0xFF, 0, 0, 0, 0, 0, 0])?);
+    disk.bus_reset()?;
+    show(
+        "READ(10), and a bus reset before its data",
+        disk.bulk_out(&mut device, &wrapper(4, 512, 0x80, &read))?,
+    );
+    disk.bus_reset()?;
+    show("the in endpoint", disk.bulk_in()?);
+    while disk.tick(&mut device)? {}
+    println!(
+        "all at home: {} writes, {} flushes",
+        device.writes, device.flushes
+    );
+    let held = disk.stop()?;
+    println!(
+        "the device holds what the disk held: {}",
+        held == device.bytes
+    );
+    Ok(())
+}

@@ -1,0 +1,187 @@
+//! A safe wrapper over the static library, without dependencies. `include/usbdisk.h` tells each call.
+//!
+//! A call that may write takes the device along, and carries out all that waits in the outbox before
+//! it gives the answer: persist first, then send.
+mod heap;
+mod raw;
+
+use std::io;
+
+/// A device of sectors of 512 bytes.
+pub trait Device {
+    fn write(&mut self, sector: u64, bytes: &[u8; 512]) -> io::Result<()>;
+    /// All that was written before is durable when it is done.
+    fn flush(&mut self) -> io::Result<()>;
+}
+
+/// Who the disk is: printable ASCII, padded with spaces.
+#[repr(C)]
+#[derive(Clone, Copy)]
+pub struct Identity {
+    pub vendor: [u8; 8],
+    pub product: [u8; 16],
+    pub revision: [u8; 4],
+    pub serial: [u8; 12],
+}
+
+/// What an endpoint is to answer.
+#[derive(Debug, PartialEq, Eq)]
+pub enum Answer<'a> {
+    Ack(&'a [u8]),
+    Nak,
+    Stall,
+}
+
+/// Why a call did nothing.
+#[derive(Debug)]
+pub enum Error {
+    /// The number of usbdisk.h.
+    Refused(u32),
+    /// The device refused a call: treat it as a loss of power, and start again from the device.
+    Device(io::Error),
+}
+
+impl From<io::Error> for Error {
+    fn from(error: io::Error) -> Error {
+        Error::Device(error)
+    }
+}
+
+/// A disk. It holds a pointer, so it is neither `Send` nor `Sync`: it stays on its thread.
+pub struct UsbDisk {
+    raw: raw::UsbDisk,
+    size: usize,
+    packet: [u8; 512],
+}
+
+/// Makes an image of format 1 or 2 with so many blocks and log slots.
+pub fn format(image: &mut [u8], format: u32, blocks: u64, slots: u64) -> Result<(), Error> {
+    // SAFETY: pointer and length are of one slice, lent for the call.
+    check(unsafe { raw::usbdisk_format(image.as_mut_ptr(), image.len(), format, blocks, slots) })
+}
+
+/// How much room an outbox needs for an image of this format with so many slots.
+pub fn room(format: u32, slots: u64) -> usize {
+    // SAFETY: the call takes numbers alone.
+    unsafe { raw::usbdisk_room(format, slots) as usize }
+}
+
+fn check(code: u32) -> Result<(), Error> {
+    match code {
+        0 => Ok(()),
+        code => Err(Error::Refused(code)),
+    }
+}
+
+impl UsbDisk {
+    /// Starts a disk on the bytes that the device holds.
+    pub fn start(
+        device: &mut impl Device,
+        medium: &[u8],
+        who: &Identity,
+        packet: u32,
+        room: usize,
+    ) -> Result<UsbDisk, Error> {
+        let mut raw = raw::UsbDisk::none();
+        // SAFETY: all that is pointed to is lent for the call, and the handle is empty.
+        check(unsafe {
+            raw::usbdisk_start(&mut raw, medium.as_ptr(), medium.len(), who, packet, room)
+        })?;
+        let mut disk = UsbDisk {
+            raw,
+            size: medium.len(),
+            packet: [0; 512],
+        };
+        disk.persist(device)?;
+        Ok(disk)
+    }
+
+    /// A packet to Bulk-Out.
+    pub fn bulk_out(
+        &mut self,
+        device: &mut impl Device,
+        packet: &[u8],
+    ) -> Result<Answer<'static>, Error> {
+        // SAFETY: the handle is that of `start`, and `&mut self` lends it to this call alone.
+        let code = unsafe { raw::usbdisk_bulk_out(&mut self.raw, packet.as_ptr(), packet.len()) };
+        self.persist(device)?;
+        answer(code, &[])
+    }
+
+    /// A token to Bulk-In.
+    pub fn bulk_in(&mut self) -> Result<Answer<'_>, Error> {
+        let mut size = 0;
+        // SAFETY: as in `bulk_out`; 512 bytes are lent.
+        let code =
+            unsafe { raw::usbdisk_bulk_in(&mut self.raw, self.packet.as_mut_ptr(), &mut size) };
+        answer(code, &self.packet[..size as usize])
+    }
+
+    /// A control request.
+    pub fn setup(&mut self, request: &[u8; 8]) -> Result<Answer<'_>, Error> {
+        let mut size = 0;
+        // SAFETY: as in `bulk_out`; 8 bytes and 2 of 512 are lent.
+        let code = unsafe {
+            raw::usbdisk_setup(
+                &mut self.raw,
+                request.as_ptr(),
+                self.packet.as_mut_ptr(),
+                &mut size,
+            )
+        };
+        answer(code, &self.packet[..size as usize])
+    }
+
+    /// A bus reset does what a host's reset recovery does: class reset, both halts cleared.
+    pub fn bus_reset(&mut self) -> Result<(), Error> {
+        self.setup(&[0x21, 0xFF, 0, 0, 0, 0, 0, 0])?;
+        self.setup(&[0x02, 1, 0, 0, 0x81, 0, 0, 0])?;
+        self.setup(&[0x02, 1, 0, 0, 0x02, 0, 0, 0])?;
+        Ok(())
+    }
+
+    /// A step in the background. Whether steps are left.
+    pub fn tick(&mut self, device: &mut impl Device) -> Result<bool, Error> {
+        // SAFETY: as in `bulk_out`.
+        let code = unsafe { raw::usbdisk_tick(&mut self.raw) };
+        self.persist(device)?;
+        Ok(code == 1)
+    }
+
+    /// Stops the disk, and gives the bytes of the medium back.
+    pub fn stop(mut self) -> Result<Vec<u8>, Error> {
+        let mut medium = vec![0; self.size];
+        // SAFETY: as in `bulk_out`; as many bytes are lent as the medium has.
+        check(unsafe { raw::usbdisk_stop(&mut self.raw, medium.as_mut_ptr(), medium.len()) })?;
+        Ok(medium)
+    }
+
+    fn persist(&mut self, device: &mut impl Device) -> io::Result<()> {
+        let (mut sector, mut bytes) = (0, [0; 512]);
+        loop {
+            // SAFETY: as in `bulk_out`; a number and 512 bytes are lent.
+            match unsafe { raw::usbdisk_take(&mut self.raw, &mut sector, bytes.as_mut_ptr()) } {
+                1 => device.write(sector, &bytes)?,
+                2 => device.flush()?,
+                _ => return Ok(()),
+            }
+        }
+    }
+}
+
+impl Drop for UsbDisk {
+    fn drop(&mut self) {
+        let mut medium = vec![0; self.size];
+        // SAFETY: as in `stop`, after which the handle is empty and this call does nothing.
+        unsafe { raw::usbdisk_stop(&mut self.raw, medium.as_mut_ptr(), medium.len()) };
+    }
+}
+
+fn answer(code: u32, bytes: &[u8]) -> Result<Answer<'_>, Error> {
+    match code {
+        0 => Ok(Answer::Ack(bytes)),
+        1 => Ok(Answer::Nak),
+        2 => Ok(Answer::Stall),
+        code => Err(Error::Refused(code)),
+    }
+}

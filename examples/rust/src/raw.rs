@@ -1,0 +1,42 @@
+// The calls of usbdisk.h.
+use crate::Identity;
+use std::ffi::c_void;
+use std::ptr;
+
+#[repr(C)]
+pub struct UsbDisk {
+    at: *mut c_void,
+}
+
+impl UsbDisk {
+    pub fn none() -> UsbDisk {
+        UsbDisk {
+            at: ptr::null_mut(),
+        }
+    }
+}
+
+extern "C" {
+    pub fn usbdisk_room(format: u32, slots: u64) -> u64;
+    pub fn usbdisk_format(image: *mut u8, size: usize, format: u32, blocks: u64, slots: u64)
+        -> u32;
+    pub fn usbdisk_start(
+        disk: *mut UsbDisk,
+        medium: *const u8,
+        size: usize,
+        identity: *const Identity,
+        packet: u32,
+        room: usize,
+    ) -> u32;
+    pub fn usbdisk_stop(disk: *mut UsbDisk, medium: *mut u8, size: usize) -> u32;
+    pub fn usbdisk_bulk_out(disk: *mut UsbDisk, packet: *const u8, size: usize) -> u32;
+    pub fn usbdisk_bulk_in(disk: *mut UsbDisk, packet: *mut u8, size: *mut u32) -> u32;
+    pub fn usbdisk_setup(
+        disk: *mut UsbDisk,
+        setup: *const u8,
+        data: *mut u8,
+        size: *mut u32,
+    ) -> u32;
+    pub fn usbdisk_tick(disk: *mut UsbDisk) -> u32;
+    pub fn usbdisk_take(disk: *mut UsbDisk, sector: *mut u64, bytes: *mut u8) -> u32;
+}

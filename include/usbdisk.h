@@ -1,0 +1,157 @@
+/* A USB disk that keeps whole writes when power is lost: the device side of the bulk-only transport
+ * (USB Mass Storage Class Bulk-Only Transport 1.0), behind any USB controller, over any medium of
+ * sectors of 512 bytes.
+ *
+ * The disk owns a copy of the medium's bytes and reads from it. What it writes comes out of an
+ * outbox. After each call that may write (start, bulk_out, tick) take the calls out with
+ * usbdisk_take, one by one, carry each out on the device, in order, and only then let the answer of
+ * the call go to the host, or make the next one. docs/MAKERS.md tells what the device must promise.
+ *
+ * Link the program with libusbdisk_c.a, and define the three functions at the end of this file.
+ *
+ * Threads: a disk is used by one thread, the one that started it. No call may be made from a signal
+ * handler or from an interrupt that can interrupt another call. No call waits. Only usbdisk_format and
+ * usbdisk_start take memory.
+ *
+ * Errors: a call that answers one of the numbers from 16 on changed nothing, neither the disk nor
+ * what its pointers point to. No pointer may be null, also where the size beside it is 0, and no two
+ * may overlap. */
+#ifndef USBDISK_H
+#define USBDISK_H
+
+#include <stdbool.h>
+#include <stddef.h>
+#include <stdint.h>
+
+#ifdef __cplusplus
+extern "C" {
+#endif
+
+/* A handle. Set it to USBDISK_NONE before usbdisk_start; never write or copy it after. */
+struct usbdisk {
+    void *at;
+};
+
+#define USBDISK_NONE { 0 }
+
+/* Who the disk is, as INQUIRY tells it: printable ASCII, padded with spaces, with no final 0. */
+struct usbdisk_identity {
+    char vendor[8];
+    char product[16];
+    char revision[4];
+    char serial[12];
+};
+
+/* What an endpoint is to answer. */
+enum {
+    USBDISK_ACK = 0,   /* taken, or here is the packet */
+    USBDISK_NAK = 1,   /* nothing now: the host tries again */
+    USBDISK_STALL = 2  /* the endpoint is halted, or the request is refused */
+};
+
+/* Why usbdisk_start found no disk on the medium. */
+enum {
+    USBDISK_NO_MEMORY = 1,
+    USBDISK_READ_REFUSED = 2,    /* never of this medium */
+    USBDISK_WRITE_REFUSED = 3,   /* the outbox has too little room for the recovery */
+    USBDISK_FLUSH_REFUSED = 4,   /* the same */
+    USBDISK_BAD_SUPER = 5,       /* sector 0 is no super: no image, or a format was cut off */
+    USBDISK_BAD_VERSION = 6,
+    USBDISK_BAD_SIZE = 7,        /* bad sizes, or the medium is too short for them */
+    USBDISK_BAD_HEAD = 8,        /* sector 1 is no head */
+    USBDISK_STAMPS_USED_UP = 9,
+    USBDISK_LOG_TOO_SMALL = 10   /* never of a start */
+};
+
+/* What is wrong with the arguments of a call. */
+enum {
+    USBDISK_EMPTY = 16,           /* the handle has no disk */
+    USBDISK_STARTED = 17,         /* the handle has one already */
+    USBDISK_TOO_LONG = 18,        /* a packet has more bytes than those of the disk */
+    USBDISK_BAD_IDENTITY = 19,    /* a character is not printable ASCII (20h to 7Eh) */
+    USBDISK_BAD_PACKET_SIZE = 20, /* neither 64 nor 512 */
+    USBDISK_BAD_LENGTH = 21,      /* a medium of no sectors or a part of one, or other room than its bytes */
+    USBDISK_BAD_SIZES = 22        /* sizes out of their limits, or too few bytes for them */
+};
+
+/* What usbdisk_take took out. */
+enum {
+    USBDISK_NOTHING = 0,
+    USBDISK_WRITE = 1,
+    USBDISK_FLUSH = 2
+};
+
+/* How many calls the outbox must have room for, so that no start and no event is refused for want of
+ * it: for an image of this format (1 or 2) with so many log slots. 0 where these are no such. */
+uint64_t usbdisk_room(uint32_t format, uint64_t slots);
+
+/* How many bytes of memory a start takes for a medium of so many bytes, of this format, with so many
+ * log slots, and an outbox of so much room. 0 where these are no such. */
+uint64_t usbdisk_memory(uint64_t medium_size, uint32_t format, uint64_t slots, uint64_t room);
+
+/* Makes an image in memory, for a new device: so many blocks of zeros, 1 to 2^31, and so many log
+ * slots, 1 to 64. Format 1 takes 2 + 50 * slots + blocks sectors, format 2 takes 2 + 249 * slots +
+ * blocks. Takes memory of about twice the size, and gives it back.
+ *
+ * Answers 0, USBDISK_NO_MEMORY or USBDISK_BAD_SIZES. At an error the image stays as it was. */
+uint32_t usbdisk_format(uint8_t *image, size_t size, uint32_t format, uint64_t blocks, uint64_t slots);
+
+/* Starts a disk on the bytes that the device holds: copies them, and recovers the disk from whatever
+ * a loss of power left. The recovery's own writes are in the outbox then.
+ *
+ * packet: 64 at full speed, 512 at high speed. room: how many calls the outbox has room for.
+ *
+ * Answers 0, a number from 1 to 10, or STARTED, BAD_IDENTITY, BAD_PACKET_SIZE or BAD_LENGTH. At all
+ * but 0 the handle stays as it was, and no memory is kept. */
+uint32_t usbdisk_start(struct usbdisk *disk, const uint8_t *medium, size_t size,
+                       const struct usbdisk_identity *identity, uint32_t packet, size_t room);
+
+/* Stops the disk, gives the bytes of the medium back and frees all memory. It writes nothing: what
+ * was not synchronised is lost as by a cut. What still waits in the outbox is let go; the bytes have
+ * it. size: that of the medium.
+ *
+ * Answers 0, EMPTY or BAD_LENGTH. */
+uint32_t usbdisk_stop(struct usbdisk *disk, uint8_t *medium, size_t size);
+
+/* A packet came to the Bulk-Out endpoint. Answers ACK, NAK, STALL, EMPTY or TOO_LONG. */
+uint32_t usbdisk_bulk_out(struct usbdisk *disk, const uint8_t *packet, size_t size);
+
+/* The host asks the Bulk-In endpoint for a packet. At ACK the packet lies in `packet`, and has
+ * `*size` bytes; it is the disk's own no more. At NAK and STALL `*size` is 0. The bytes behind
+ * `*size` stay. It makes no call of the medium. Answers ACK, NAK, STALL or EMPTY. */
+uint32_t usbdisk_bulk_in(struct usbdisk *disk, uint8_t packet[512], uint32_t *size);
+
+/* A request for the mass storage interface or one of its endpoints came to the control endpoint: the
+ * class reset, GET MAX LUN, CLEAR_FEATURE(ENDPOINT_HALT) and GET_STATUS of an endpoint. `setup` is
+ * the setup packet. At ACK `*size` bytes, 0 to 2, go to the host. It makes no call of the medium.
+ * Answers ACK, STALL or EMPTY. */
+uint32_t usbdisk_setup(struct usbdisk *disk, const uint8_t setup[8], uint8_t data[2], uint32_t *size);
+
+/* Makes a step in the background, of at most two calls of the medium. Call it while the bus is idle.
+ * Answers 1 while steps are left, 0 where every accepted write is durable and at its home place, or
+ * EMPTY. After a call that the outbox had no room for it stays 1: stop, and start with more room. */
+uint32_t usbdisk_tick(struct usbdisk *disk);
+
+/* Takes the first call out of the outbox. At WRITE `bytes` are to be written to sector `*sector`; at
+ * FLUSH all that was written before is to be made durable. At NOTHING the outbox is empty. Where it
+ * is no WRITE, `*sector` and `bytes` stay. Answers NOTHING, WRITE, FLUSH or EMPTY. */
+uint32_t usbdisk_take(struct usbdisk *disk, uint64_t *sector, uint8_t bytes[512]);
+
+/* What the program gives to the library.
+ *
+ * rattle_alloc: so many bytes, aligned to `alignment`, a power of two up to 16; `ok` is false where
+ * there are none. rattle_realloc: the same block with `size` bytes, of which the first `kept` stay;
+ * where `ok` is false it stays as it was. rattle_dealloc: frees a block. */
+struct rattle_tried {
+    bool ok;
+    void *at;
+};
+
+struct rattle_tried rattle_alloc(size_t size, size_t alignment);
+struct rattle_tried rattle_realloc(void *at, size_t kept, size_t size, size_t alignment);
+void rattle_dealloc(void *at);
+
+#ifdef __cplusplus
+}
+#endif
+#endif
