@@ -1,0 +1,64 @@
+// A recording on a disk over an image in memory.
+use crate::fault::Fault;
+use crate::host::{Comparer, Pace, Sender};
+use crate::recording::Recording;
+use bot_machine::{Disk, Identity};
+use medium::SimMedium;
+use runner::{LineFault, serve_lines};
+use std::alloc::Global;
+
+/// The blocks and log slots of the image.
+const BLOCKS: u64 = 65_000;
+
+const SLOTS: u64 = 8;
+
+/// Its sectors: a superblock, a head, 50 a slot, and one a block.
+const SECTORS: usize = 65_402;
+
+/// A fresh image, on a medium with room for the zeros of its formatting.
+pub(crate) fn fresh_medium(alloc: Global) -> Result<SimMedium, Fault> {
+    let image = vec![in alloc; 0; 512 * SECTORS]?;
+    let mut medium = SimMedium::new(alloc, image, SECTORS)?;
+    recovery::format(&mut medium, BLOCKS, SLOTS)?;
+    Ok(medium)
+}
+
+/// Starts a disk on the medium, sends it the lines of a recording, and compares each answer. Gives
+/// the medium back, and the number of answers.
+pub(crate) fn play_part(
+    alloc: Global,
+    medium: SimMedium,
+    recording: &Recording,
+    pace: Pace,
+) -> Result<(SimMedium, u64), Fault> {
+    let mut disk = match Disk::start(alloc, medium, identity()?) {
+        Ok(disk) => disk,
+        Err(error) => return Err(Fault::Start(error.fault)),
+    };
+    let mut sender = Sender {
+        lines: recording.sent.as_slice(),
+        pace,
+    };
+    let mut comparer = Comparer {
+        recorded: recording.answered.as_slice(),
+        count: 0,
+    };
+    match serve_lines(&mut disk, &mut sender, &mut comparer) {
+        Ok(()) if comparer.recorded.is_empty() => Ok((disk.into_medium(), comparer.count)),
+        Ok(()) => Err(Fault::Missing(comparer.count)),
+        Err(LineFault::Line(number)) => Err(Fault::Line(number)),
+        Err(LineFault::Reader) => Err(Fault::Reader),
+        Err(LineFault::Writer) => Err(Fault::Answer(comparer.count.saturating_add(1))),
+    }
+}
+
+// The texts by which the recorded disk was known.
+fn identity() -> Result<Identity, Fault> {
+    let identity = Identity::new(
+        *b"USBDISK ",
+        *b"POWER SAFE DISK ",
+        *b"0001",
+        *b"000000000001",
+    );
+    identity.ok_or(Fault::Identity)
+}
