@@ -1,0 +1,250 @@
+// The script of an exchange, laid out at once: bytes to take, one effect, bytes to send, perhaps a
+// halt, and a status wrapper (USB Mass Storage Class Bulk-Only Transport 1.0, 5 and 6).
+use crate::array::{Array, Write};
+use crate::cases::{Endpoint, Status, Way, case_of};
+use crate::luck::{Luck, Stop};
+use crate::unit::{Done, Unit};
+use std::alloc::{AllocError, Global};
+
+/// A command block wrapper that is valid and meaningful.
+#[derive(Clone, Copy, Debug, PartialEq, Eq)]
+pub(crate) struct Wrapper {
+    tag: [u8; 4],
+    host: Way,
+    block: [u8; 16],
+    length: usize,
+}
+
+/// What is left of the script of an exchange.
+#[derive(Debug, Drop, PartialEq, Eq)]
+pub(crate) enum Left {
+    /// A command block wrapper is expected.
+    Nothing,
+    Take(Taking),
+    Send(Sending),
+}
+
+/// Bytes are to come. When the last one has come the command is carried out over the first ones.
+#[derive(Debug, Drop, PartialEq, Eq)]
+pub(crate) struct Taking {
+    wrapper: Wrapper,
+    intended: u32,
+    // How many bytes have come.
+    came: u32,
+    // Those of them that are intended.
+    data: Vec<u8>,
+}
+
+/// Bytes are to be sent in packets, then an endpoint may be halted, then the status is to be sent.
+#[derive(Debug, Drop, PartialEq, Eq)]
+pub(crate) struct Sending {
+    pub(crate) bytes: Vec<u8>,
+    // How many of them were sent.
+    pub(crate) sent: usize,
+    pub(crate) halt: Option<Endpoint>,
+    pub(crate) status: [u8; 13],
+}
+
+/// An exchange after an event, and the write that the event carried out.
+#[derive(Drop)]
+pub(crate) struct Laid {
+    pub(crate) left: Left,
+    pub(crate) write: Option<Write>,
+}
+
+impl Wrapper {
+    /// The wrapper that a packet spells.
+    pub(crate) fn read(packet: &[u8]) -> Option<Wrapper> {
+        let whole = <[u8; 31]>::try_from(packet).ok()?;
+        let [
+            b'U',
+            b'S',
+            b'B',
+            b'C',
+            a,
+            b,
+            c,
+            d,
+            e,
+            f,
+            g,
+            h,
+            flags,
+            0,
+            length,
+            ..
+        ] = whole
+        else {
+            return None;
+        };
+        if ![0x00, 0x80].contains(&flags) || length == 0 || length > 16 {
+            return None;
+        }
+        let announced = u32::from_le_bytes([e, f, g, h]);
+        let host = if flags == 0x80 {
+            Way::to_host(announced)
+        } else {
+            Way::to_device(announced)
+        };
+        Some(Wrapper {
+            tag: [a, b, c, d],
+            host,
+            block: <[u8; 16]>::try_from(packet.get(15..31)?).ok()?,
+            length: usize::from(length),
+        })
+    }
+
+    fn block(&self) -> &[u8] {
+        self.block.get(..self.length).unwrap_or(&self.block)
+    }
+
+    // The case of this wrapper for the unit as it is now, and the length that the device intends.
+    fn case(&self, unit: &Unit) -> (u8, u32) {
+        let intention = unit.intention(self.block());
+        (case_of(self.host, intention), intention.length())
+    }
+
+    // The end of an exchange: these bytes are sent, and the status.
+    fn ends(&self, bytes: Vec<u8>, halt: Option<Endpoint>, status: Status, residue: u32) -> Left {
+        let [a, b, c, d] = self.tag;
+        let [e, f, g, h] = residue.to_le_bytes();
+        Left::Send(Sending {
+            bytes,
+            sent: 0,
+            halt,
+            status: [b'U', b'S', b'B', b'S', a, b, c, d, e, f, g, h, status as u8],
+        })
+    }
+}
+
+/// The number of the case, and the exchange that a wrapper begins.
+pub(crate) fn lay_out(
+    alloc: Global,
+    now: &Array,
+    unit: &mut Unit,
+    wrapper: Wrapper,
+    luck: Luck,
+) -> Result<(u8, Laid), Stop> {
+    let (case, intended) = wrapper.case(unit);
+    if [1, 4, 5, 6].contains(&case) {
+        return Ok((case, carried_out(alloc, now, unit, wrapper, luck)?));
+    }
+    if luck != Luck::Good {
+        return Err(Stop::Impossible);
+    }
+    let none = Vec::new(alloc);
+    let announced = wrapper.host.length();
+    let left = match case {
+        2 | 3 => wrapper.ends(none, None, Status::PhaseError, 0),
+        7 | 8 => wrapper.ends(none, Some(Endpoint::In), Status::PhaseError, announced),
+        10 | 13 => wrapper.ends(none, Some(Endpoint::Out), Status::PhaseError, announced),
+        _ => Left::Take(Taking {
+            wrapper,
+            intended,
+            came: 0,
+            data: none,
+        }),
+    };
+    Ok((case, Laid { left, write: None }))
+}
+
+// A command that takes no data: what is announced and not sent is the residue, and halts Bulk-In.
+fn carried_out(
+    alloc: Global,
+    now: &Array,
+    unit: &mut Unit,
+    wrapper: Wrapper,
+    luck: Luck,
+) -> Result<Laid, Stop> {
+    let Done { sent, write } = unit.carry_out(alloc, now, wrapper.block(), &[], luck)?;
+    let (bytes, status) = match sent {
+        Ok(bytes) => (bytes, Status::Passed),
+        Err(_) => (Vec::new(alloc), Status::Failed),
+    };
+    let sent = u32::try_from(bytes.len()).map_err(|_| Stop::Impossible)?;
+    let residue = wrapper.host.length().saturating_sub(sent);
+    let halt = if residue > 0 {
+        Some(Endpoint::In)
+    } else {
+        None
+    };
+    Ok(Laid {
+        left: wrapper.ends(bytes, halt, status, residue),
+        write,
+    })
+}
+
+impl Taking {
+    /// After one more packet, where each packet but the last has so many bytes.
+    pub(crate) fn take(
+        self,
+        alloc: Global,
+        now: &Array,
+        unit: &mut Unit,
+        packet: &[u8],
+        size: u32,
+        luck: Luck,
+    ) -> Result<Laid, Stop> {
+        let Taking {
+            wrapper,
+            intended,
+            came,
+            mut data,
+        } = self;
+        let announced = wrapper.host.length();
+        let rest = announced.saturating_sub(came);
+        let whole = packet.len() == rest.min(size) as usize;
+        if !(whole && rest <= size) && luck != Luck::Good {
+            return Err(Stop::Impossible);
+        }
+        if !whole {
+            let left = wrapper.ends(Vec::new(alloc), None, Status::PhaseError, rest);
+            return Ok(Laid { left, write: None });
+        }
+        let wanted = (intended as usize).saturating_sub(data.len());
+        data.extend_from_slice(packet.get(..wanted).unwrap_or(packet))?;
+        if rest > size {
+            let taking = Taking {
+                wrapper,
+                intended,
+                came: came.saturating_add(size),
+                data,
+            };
+            return Ok(Laid {
+                left: Left::Take(taking),
+                write: None,
+            });
+        }
+        let Done { sent, write } = unit.carry_out(alloc, now, wrapper.block(), &data, luck)?;
+        let status = match sent {
+            Ok(_) => Status::Passed,
+            Err(_) => Status::Failed,
+        };
+        let residue = announced.saturating_sub(intended);
+        Ok(Laid {
+            left: wrapper.ends(Vec::new(alloc), None, status, residue),
+            write,
+        })
+    }
+}
+
+impl Left {
+    /// The same.
+    pub(crate) fn copy(&self, alloc: Global) -> Result<Left, AllocError> {
+        Ok(match self {
+            Left::Nothing => Left::Nothing,
+            Left::Take(taking) => Left::Take(Taking {
+                wrapper: taking.wrapper,
+                intended: taking.intended,
+                came: taking.came,
+                data: Vec::from_slice(alloc, &taking.data)?,
+            }),
+            Left::Send(sending) => Left::Send(Sending {
+                bytes: Vec::from_slice(alloc, &sending.bytes)?,
+                sent: sending.sent,
+                halt: sending.halt,
+                status: sending.status,
+            }),
+        })
+    }
+}

@@ -1,0 +1,67 @@
+// Lives that are played event by event.
+ghost use Rattle.std.specs.Prelude.{◌≡◌, ◌<◌};
+ghost use Rattle.bot_machine.specs.LivesValue.{medium_in};
+
+use crate::finding::Finding;
+use crate::playing::disk_identity;
+use bot_machine::{Answer, Event, Lives, StartFault};
+use medium::SimMedium;
+use std::alloc::{AllocError, Global};
+
+/// Plays lives at high speed on a medium in memory, event by event, so that the medium is seen while
+/// its power is off, and a refusal can be armed.
+#[derive(Drop)]
+pub struct Player {
+    lives: Lives,
+    ghost high_speed: { lives.device.packet_size ≡ 512 },
+}
+
+impl Player {
+    /// No life has been yet.
+    pub fn new(medium: SimMedium) -> Result<Player, Finding> {
+        Ok(Player {
+            lives: Lives::new(medium, disk_identity()?),
+        })
+    }
+
+    /// The medium.
+    pub fn medium(&self) -> &SimMedium {
+        self.lives.medium()
+    }
+
+    /// Arms a fuse: so many writes and flushes happen, and at the next the power goes.
+    pub fn fuse(&mut self, writes: u64) {
+        self.lives.fuse(writes);
+    }
+
+    /// Arms a failure: the call of the medium with this number from now on, counted from 1, is refused
+    /// once.
+    pub fn fail(&mut self, call: u64)
+        requires { 0 < call }
+    {
+        self.lives.fail(call);
+    }
+
+    /// Starts a disk where none runs.
+    ///
+    /// # Errors
+    ///
+    /// The fault with which the start was refused, where the power is still on.
+    pub fn start(&mut self, alloc: Global) -> Result<(), StartFault> {
+        self.lives.start(alloc)
+    }
+
+    /// Plays events, and gives their answers. A disk is started first where none runs.
+    ///
+    /// # Errors
+    ///
+    /// `Start` where the start was refused.
+    pub fn play(&mut self, alloc: Global, events: &[Event]) -> Result<Vec<Answer>, Finding> {
+        let mut answers = Vec::new(alloc);
+        for event in events {
+            let answer = self.lives.event(alloc, event).map_err(Finding::Start)?;
+            answers.push(answer).map_err(AllocError::from)?;
+        }
+        Ok(answers)
+    }
+}

@@ -1,0 +1,108 @@
+// The play of a life, and the judgement of its answers.
+ghost use Rattle.std.specs.Prelude.{◌≡◌, None, IfOk};
+ghost use Rattle.bot_machine.specs.LivesValue.{IsAtRest};
+
+use crate::finding::Finding;
+use abstract_disk::Hearing;
+use bot_machine::{Answer, Answers, Event, Identity, Life, run_lives};
+use medium::SimMedium;
+use std::alloc::{AllocError, Global};
+use std::slice;
+
+/// What is left of a life that was played.
+#[derive(Drop)]
+pub struct Played {
+    /// The medium after the life's cut, with its power on.
+    pub medium: SimMedium,
+    /// The place of the event in which the power went, counted from 0. It is 0 too where the power
+    /// went in the start.
+    pub cut_in: Option<usize>,
+}
+
+/// Plays a life at high speed on a medium with its power on, nothing unflushed and no fuse armed. The
+/// hearing hears each answer up to the event in which the power went.
+///
+/// # Errors
+///
+/// `Answer` where no abstract disk gives that answer, or where the power is on again before the cut;
+/// `Off` where the power went without a fuse; `Start` where the start was refused.
+pub fn play(
+    alloc: Global,
+    medium: SimMedium,
+    life: &Life,
+    hearing: &mut Hearing,
+) -> Result<Played, Finding>
+    requires rests { IsAtRest medium }
+    requires unfused { medium.power.fuse ≡ None }
+    ensures rests { IfOk result (λ played. IsAtRest played.medium) }
+    ensures unfused { IfOk result (λ played. played.medium.power.fuse ≡ None) }
+{
+    let (medium, answers) = live(alloc, medium, life)?;
+    let cut_in = hear(&life.events, answers.list(), hearing)?;
+    match cut_in {
+        Some(place) if life.fuse.is_none() => Err(Finding::Off(place)),
+        _ => Ok(Played { medium, cut_in }),
+    }
+}
+
+/// The identity of the disks that are judged.
+pub fn disk_identity() -> Result<Identity, Finding> {
+    Identity::new(
+        *b"USBDISK ",
+        *b"POWER SAFE DISK ",
+        *b"0001",
+        *b"000000000001",
+    )
+    .ok_or(Finding::Identity)
+}
+
+// Plays a life, and gives the answers.
+pub(crate) fn live(
+    alloc: Global,
+    medium: SimMedium,
+    life: &Life,
+) -> Result<(SimMedium, Answers), Finding>
+    requires rests { IsAtRest medium }
+    requires unfused { medium.power.fuse ≡ None }
+    ensures rests { IfOk result (λ lived. IsAtRest lived.0) }
+    ensures unfused { IfOk result (λ lived. lived.0.power.fuse ≡ None) }
+{
+    let room = life.events.len();
+    let mut answers = Answers::with_room(alloc, room).ok_or(AllocError)?;
+    let lives = slice::from_ref(life);
+    match run_lives(alloc, medium, disk_identity()?, lives, &mut answers) {
+        Ok(medium) => Ok((medium, answers)),
+        Err(error) => Err(Finding::Start(error.fault)),
+    }
+}
+
+/// Lets the hearing hear the answers to events, up to the event in which the power went. Gives the
+/// place of that event.
+///
+/// # Errors
+///
+/// `Answer` where no abstract disk gives that answer, or where the power is on again before the cut;
+/// `Count` where there are not as many answers as events.
+pub fn hear(
+    events: &[Event],
+    told: &[Answer],
+    hearing: &mut Hearing,
+) -> Result<Option<usize>, Finding> {
+    if told.len() != events.len() {
+        return Err(Finding::Count);
+    }
+    for (place, (event, answer)) in events.iter().zip(told.iter()).enumerate() {
+        if *answer == Answer::Off {
+            let stays = told.iter().skip(place).all(|answer| *answer == Answer::Off);
+            return if stays {
+                Ok(Some(place))
+            } else {
+                Err(Finding::Answer(place))
+            };
+        }
+        if !hearing.hear(event, answer)? {
+            return Err(Finding::Answer(place));
+        }
+    }
+    Ok(None)
+}

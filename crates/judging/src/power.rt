@@ -1,0 +1,25 @@
+// The power of a medium in memory.
+ghost use Rattle.std.specs.Prelude.{◌≡◌, None, IfOk};
+ghost use Rattle.bot_machine.specs.LivesValue.{IsAtRest};
+
+use medium::{Kept, SimMedium};
+use std::alloc::{AllocError, Global};
+
+/// Cuts the power of a medium, and turns it on again.
+pub fn cut(mut medium: SimMedium, kept: &Kept) -> SimMedium
+    ensures rests { IsAtRest result }
+    ensures unfused { result.power.fuse ≡ None }
+{
+    medium.cut(kept);
+    medium
+}
+
+/// A copy of a medium, with its power on. Where writes of the medium are unflushed, the copy has lost
+/// them.
+pub fn copied(alloc: Global, medium: &SimMedium) -> Result<SimMedium, AllocError>
+    ensures rests { IfOk result IsAtRest }
+    ensures unfused { IfOk result (λ m. m.power.fuse ≡ None) }
+{
+    let copy = medium.copy(alloc).ok_or(AllocError)?;
+    Ok(cut(copy, &Kept::None))
+}
