@@ -1,0 +1,99 @@
+//! The program `bad_input`: hands wrong command wrappers and wrong scripts to the product, and judges
+//! what comes.
+//!
+//! - Packets of every length, each bit of a wrapper flipped, each value of the command block's length:
+//!   read by `read_cbw`, and by a disk that was started. A refused one is acknowledged; both endpoints
+//!   are halted, and locked until the class reset; then the next wrapper is taken.
+//! - Scripts with every kind of line, each byte set to others; each number of a line at its limit, one
+//!   less and one more; scripts of the greatest length: played as several lives and as one. A small
+//!   grammar of the program's own tells how many answers there are, or which line is none.
+//! - Packets of every size where data is to be sent, and where a packet of 512 bytes is due.
+//! - The program itself, on files: its exit statuses, and images that are too short.
+//!
+//! It works in the files `image`, `script` and `short` of the current folder. It writes how much it
+//! judged, and, where something is not as the definitions have it, what, and ends with status 1.
+#![tactic(auto)]
+
+mod commands;
+mod counts;
+mod finding;
+mod grammar;
+mod limits;
+mod packets;
+mod phases;
+mod scripts;
+mod wrong_wrappers;
+
+use counts::Counts;
+use finding::Finding;
+use judging::{copied, cut};
+use medium::{Kept, SimMedium};
+use recovery::format;
+use scripts::{LIFE, LIVES, Play};
+use std::alloc::Global;
+use std::fs::{File, Files};
+use std::io;
+use std::io::Write;
+use std::process::ExitCode;
+
+fn main(rt: HostRuntime) -> ExitCode {
+    match tell(&rt, &mut rt.stdout()) {
+        Ok(true) => ExitCode::SUCCESS,
+        _ => ExitCode::FAILURE,
+    }
+}
+
+// Tries all, and says whether all was as the definitions have it.
+fn tell<R: Files<File = File> + AllocGlobal, W: Write>(rt: &R, out: &mut W) -> io::Result<bool> {
+    let mut counts = Counts::default();
+    let tried = try_all(rt, &mut counts);
+    let Counts {
+        taken,
+        refused,
+        bytes,
+        played,
+        no_scripts,
+    } = counts;
+    writeln!(out, "wrappers: {taken} taken, {refused} refused")?;
+    writeln!(
+        out,
+        "scripts: {bytes} bytes, {played} played, {no_scripts} refused"
+    )?;
+    match tried {
+        Ok(()) => {
+            writeln!(out, "0 outside")?;
+            Ok(true)
+        }
+        Err(finding) => {
+            writeln!(out, "{finding}")?;
+            Ok(false)
+        }
+    }
+}
+
+fn try_all<R: Files<File = File> + AllocGlobal>(
+    rt: &R,
+    counts: &mut Counts,
+) -> Result<(), Finding> {
+    let alloc = rt.alloc();
+    let medium = formatted(alloc)?;
+    wrong_wrappers::try_wrappers(alloc, copied(alloc, &medium)?, counts)?;
+    scripts::change_bytes(alloc, &medium, Play::Sim, LIVES, counts)?;
+    scripts::change_bytes(alloc, &medium, Play::Run, LIVES, counts)?;
+    scripts::change_bytes(alloc, &medium, Play::Run, LIFE, counts)?;
+    limits::try_lines(alloc, &medium, counts)?;
+    limits::try_others(alloc, &medium, counts)?;
+    limits::try_lengths(alloc, &medium, counts)?;
+    phases::try_sending(alloc, &medium, counts)?;
+    phases::try_taking(alloc, &medium, counts)?;
+    phases::try_endings(alloc, &medium, counts)?;
+    commands::try_commands(rt, counts)
+}
+
+// A fresh image of 16 blocks and one log slot.
+fn formatted(alloc: Global) -> Result<SimMedium, Finding> {
+    let image = vec![in alloc; 0u8; 68 * 512]?;
+    let mut medium = SimMedium::new(alloc, image, 128)?;
+    format(&mut medium, 16, 1)?;
+    Ok(cut(medium, &Kept::None))
+}

@@ -1,0 +1,78 @@
+// The wrappers that are tried.
+use crate::counts::Counts;
+use crate::finding::Finding;
+use crate::packets::{READY, try_packet};
+use bot_machine::Disk;
+use judging::disk_identity;
+use medium::SimMedium;
+use std::alloc::Global;
+
+// READ(10) of block 0 for 512 bytes.
+const READ: [u8; 31] = [
+    0x55, 0x53, 0x42, 0x43, 9, 0, 0, 0, 0, 2, 0, 0, 0x80, 0, 10, 0x28, 0, 0, 0, 0, 0, 0, 0, 1, 0,
+    0, 0, 0, 0, 0, 0,
+];
+
+/// Tries every length of packet, and wrappers with each single bit flipped and each value in the byte
+/// of the command block's length.
+pub(crate) fn try_wrappers(
+    alloc: Global,
+    medium: SimMedium,
+    counts: &mut Counts,
+) -> Result<(), Finding> {
+    let Ok(mut disk) = Disk::start(alloc, medium, disk_identity()?) else {
+        return Err(Finding::NoDisk);
+    };
+    for wrapper in [READY, READ] {
+        try_lengths(&mut disk, &wrapper, counts)?;
+        try_bits(&mut disk, &wrapper, counts)?;
+        try_sizes(&mut disk, &wrapper, counts)?;
+    }
+    Ok(())
+}
+
+// Every length, with the bytes of this wrapper first.
+fn try_lengths(
+    disk: &mut Disk<SimMedium>,
+    wrapper: &[u8; 31],
+    counts: &mut Counts,
+) -> Result<(), Finding> {
+    let mut bytes = [0; 512];
+    bytes[..31].copy_from_slice(wrapper);
+    for length in 0..=512 {
+        if let Some(packet) = bytes.get(..length) {
+            counts.wrapper(try_packet(disk, packet)?);
+        }
+    }
+    Ok(())
+}
+
+// Each single bit flipped.
+fn try_bits(
+    disk: &mut Disk<SimMedium>,
+    wrapper: &[u8; 31],
+    counts: &mut Counts,
+) -> Result<(), Finding> {
+    for bit in 0..248_usize {
+        let mut packet = *wrapper;
+        if let Some(byte) = packet.get_mut(bit / 8) {
+            *byte ^= 1 << (bit % 8);
+        }
+        counts.wrapper(try_packet(disk, &packet)?);
+    }
+    Ok(())
+}
+
+// Each value of the command block's length.
+fn try_sizes(
+    disk: &mut Disk<SimMedium>,
+    wrapper: &[u8; 31],
+    counts: &mut Counts,
+) -> Result<(), Finding> {
+    for size in 0..=255 {
+        let mut packet = *wrapper;
+        packet[14] = size;
+        counts.wrapper(try_packet(disk, &packet)?);
+    }
+    Ok(())
+}

@@ -1,0 +1,274 @@
+// The changes of an image.
+use crate::counts::count;
+use crate::judge::{Judge, Patch};
+use crate::numbers::number_at;
+use crate::places::{Shared, Stretch};
+use crate::shape::LAST_STAMP;
+use crate::standing::Standing;
+use std::alloc::{AllocError, Global};
+
+/// Each byte of these stretches is set to 0, to 255, to one more, and has one bit flipped.
+pub(crate) fn each_byte(judge: &mut Judge, stretches: &[Stretch]) -> Result<(), AllocError> {
+    for stretch in stretches {
+        for place in stretch.start..stretch.start.saturating_add(stretch.count) {
+            bytes_of_number(judge, place)?;
+        }
+    }
+    Ok(())
+}
+
+// Each byte of one number.
+fn bytes_of_number(judge: &mut Judge, place: usize) -> Result<(), AllocError> {
+    let old = number_at(&judge.image, place).unwrap_or(0);
+    for byte in 0..8_u32 {
+        count(&mut judge.counts.bytes);
+        let shift = byte * 8;
+        let was = (old >> shift) & 0xff;
+        let mut tried = [was; 4];
+        let values = [0, 0xff, (was + 1) & 0xff, was ^ (1 << byte)];
+        for (number, value) in values.iter().enumerate() {
+            if !tried.contains(value) {
+                let number_now = old & !(0xff << shift) | *value << shift;
+                judge.change(&[Patch {
+                    place,
+                    number: number_now,
+                }])?;
+            }
+            if let Some(to) = tried.get_mut(number) {
+                *to = *value;
+            }
+        }
+    }
+    Ok(())
+}
+
+/// Each number of these stretches that is not 0, and each of the first eight, is set to others that
+/// may spell something else: its neighbours, counts, stamps and sizes at their limits.
+pub(crate) fn each_number(
+    judge: &mut Judge,
+    stretches: &[Stretch],
+    standing: &Standing,
+) -> Result<(), AllocError> {
+    for stretch in stretches {
+        for place in 0..stretch.count {
+            let old = number_at(&judge.image, stretch.start.saturating_add(place)).unwrap_or(0);
+            if old != 0 || place < 8 {
+                others_of(judge, stretch.start.saturating_add(place), old, standing)?;
+            }
+        }
+    }
+    Ok(())
+}
+
+// The number at this place is set to others.
+fn others_of(
+    judge: &mut Judge,
+    place: usize,
+    old: u64,
+    standing: &Standing,
+) -> Result<(), AllocError> {
+    let blocks = standing.shape.blocks;
+    let near = [
+        0,
+        1,
+        2,
+        old.wrapping_sub(1),
+        old.wrapping_add(1),
+        old.wrapping_add(standing.shape.slots),
+        standing.next,
+        blocks.wrapping_sub(1),
+        blocks,
+        blocks.wrapping_add(1),
+    ];
+    let limits = [
+        48,
+        49,
+        64,
+        65,
+        240,
+        241,
+        (1 << 31) - 1,
+        1 << 31,
+        (1 << 31) + 1,
+        old | 1 << 32,
+        LAST_STAMP,
+        LAST_STAMP + 1,
+        LAST_STAMP + 2,
+        u64::MAX,
+    ];
+    for number in near.iter().chain(limits.iter()) {
+        if *number != old {
+            judge.change(&[Patch {
+                place,
+                number: *number,
+            }])?;
+        }
+    }
+    Ok(())
+}
+
+/// Every two of the faults of super and head at once, so that their order is seen.
+pub(crate) fn two_faults(judge: &mut Judge, standing: &Standing) -> Result<(), AllocError> {
+    let faults = faults_of(standing);
+    for first in faults {
+        for second in faults {
+            if first.place != second.place {
+                judge.change(&[first, second])?;
+            }
+        }
+    }
+    Ok(())
+}
+
+// One change for each rule of super and head.
+fn faults_of(standing: &Standing) -> [Patch; 12] {
+    let shape = standing.shape;
+    [
+        patch(0, 0),
+        patch(1, 3),
+        patch(6, 1),
+        patch(63, 1 << 56),
+        patch(2, 0),
+        patch(2, shape.blocks.wrapping_add(1)),
+        patch(3, 65),
+        patch(4, 3),
+        patch(5, shape.home.wrapping_add(1)),
+        patch(64, 0),
+        patch(65, LAST_STAMP + 1),
+        patch(66, 1),
+    ]
+}
+
+/// Other supers, of both versions.
+pub(crate) fn supers(judge: &mut Judge, standing: &Standing) -> Result<(), AllocError> {
+    for version in [1, 2] {
+        for slots in 1..7 {
+            supers_of(judge, standing, version, slots)?;
+        }
+    }
+    Ok(())
+}
+
+// Supers of a version with so many slots: homes at the limits, and numbers of blocks.
+fn supers_of(
+    judge: &mut Judge,
+    standing: &Standing,
+    version: u64,
+    slots: u64,
+) -> Result<(), AllocError> {
+    let blocks = standing.shape.blocks;
+    for home in homes(slots, standing.shape.home) {
+        for count in [
+            1,
+            blocks.saturating_sub(1),
+            blocks,
+            blocks.saturating_add(1),
+        ] {
+            judge.change(&[
+                patch(1, version),
+                patch(2, count),
+                patch(3, slots),
+                patch(5, home),
+            ])?;
+        }
+    }
+    Ok(())
+}
+
+// The first home sectors around the limits of both formats, and that of the image.
+fn homes(slots: u64, home: u64) -> [u64; 8] {
+    let one = slots.saturating_mul(50).saturating_add(2);
+    let two = slots.saturating_mul(249).saturating_add(2);
+    [
+        one.saturating_sub(1),
+        one,
+        one.saturating_add(1),
+        two.saturating_sub(1),
+        two,
+        two.saturating_add(248),
+        two.saturating_add(249),
+        home,
+    ]
+}
+
+/// The stamp of a waiting record is another one in all of its sectors, and the head's too.
+pub(crate) fn stamps(
+    judge: &mut Judge,
+    alloc: Global,
+    shared: &Shared,
+    stamp: u64,
+    slots: u64,
+) -> Result<(), AllocError> {
+    let others = [
+        0,
+        1,
+        stamp.wrapping_sub(1),
+        stamp.wrapping_add(1),
+        stamp.wrapping_sub(slots),
+        stamp.wrapping_add(slots),
+        stamp.wrapping_add(slots).wrapping_add(slots),
+        LAST_STAMP - 2,
+        LAST_STAMP - 1,
+        LAST_STAMP,
+        LAST_STAMP + 1,
+        u64::MAX,
+    ];
+    for other in others {
+        let mut patches = same(alloc, &shared.stamps, other)?;
+        judge.change(&patches)?;
+        for behind in 0..3 {
+            patches
+                .push(patch(65, other.wrapping_sub(behind)))
+                .map_err(AllocError::from)?;
+            judge.change(&patches)?;
+        }
+    }
+    Ok(())
+}
+
+/// The count of a waiting record is another one in all of its sectors, with the entries behind it as
+/// they were, and as zeros.
+pub(crate) fn counts(
+    judge: &mut Judge,
+    alloc: Global,
+    shared: &Shared,
+    count: u64,
+) -> Result<(), AllocError> {
+    for other in [
+        0,
+        1,
+        count.wrapping_sub(1),
+        count.wrapping_add(1),
+        48,
+        49,
+        240,
+        241,
+    ] {
+        let mut patches = same(alloc, &shared.counts, other)?;
+        judge.change(&patches)?;
+        for entry in shared.entries.iter().skip(other as usize) {
+            for number in 0..shared.width {
+                patches
+                    .push(patch(entry.saturating_add(number), 0))
+                    .map_err(AllocError::from)?;
+            }
+        }
+        judge.change(&patches)?;
+    }
+    Ok(())
+}
+
+// The same number at many places.
+fn same(alloc: Global, places: &[usize], number: u64) -> Result<Vec<Patch>, AllocError> {
+    let mut patches = Vec::new(alloc);
+    for place in places {
+        patches
+            .push(patch(*place, number))
+            .map_err(AllocError::from)?;
+    }
+    Ok(patches)
+}
+
+fn patch(place: usize, number: u64) -> Patch {
+    Patch { place, number }
+}

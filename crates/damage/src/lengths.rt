@@ -1,0 +1,44 @@
+// Images of other lengths.
+use crate::counts::count;
+use crate::finding::Finding;
+use crate::judge::Judge;
+use medium::{SimError, SimMedium};
+use std::alloc::{AllocError, Global};
+
+/// Judges the beginnings of the image of a few sectors, those of a few sectors less than all, and the
+/// image with a few sectors more; and that no medium is made of lengths that are none of sectors.
+pub(crate) fn try_lengths(alloc: Global, judge: &mut Judge) -> Result<(), Finding> {
+    for length in [0, 1, 511, 513, 1023, judge.image.len().saturating_sub(1)] {
+        try_no_sectors(alloc, length, judge)?;
+    }
+    let all = judge.image.len() / 512;
+    let whole = Vec::from_slice(alloc, &judge.image)?;
+    for sectors in [
+        1,
+        2,
+        3,
+        all / 2,
+        all.saturating_sub(2),
+        all.saturating_sub(1),
+        all + 1,
+        all + 2,
+    ] {
+        let bytes = sectors.saturating_mul(512);
+        judge.image.resize(bytes, 0xff).map_err(AllocError::from)?;
+        judge.whole()?;
+        judge.image.clear();
+        judge.image.extend_from_slice(&whole)?;
+    }
+    Ok(())
+}
+
+// No medium has so many bytes.
+fn try_no_sectors(alloc: Global, length: usize, judge: &mut Judge) -> Result<(), Finding> {
+    count(&mut judge.counts.images);
+    let bytes = vec![in alloc; 0u8; length]?;
+    match SimMedium::new(alloc, bytes, 1) {
+        Err(SimError::BadLength) => Ok(()),
+        Err(SimError::NoMemory) => Err(Finding::NoMemory(AllocError)),
+        Ok(_) => Err(Finding::Length(length)),
+    }
+}

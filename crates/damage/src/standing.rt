@@ -1,0 +1,116 @@
+// What an image stands for, by the definition alone.
+use crate::numbers::{mark, put, sector_of};
+use crate::record::{Record, whole_record};
+use crate::shape::{LAST_STAMP, Shape, head_of, shape_of};
+use abstract_disk::{Array, Block};
+use bot_machine::StartFault;
+use std::alloc::{AllocError, Global};
+
+/// What the definition says of an image.
+#[derive(Drop)]
+pub(crate) enum Verdict {
+    /// It has this fault.
+    Refused(StartFault),
+    /// It stands for blocks.
+    Stands(Standing),
+}
+
+/// What an image stands for.
+#[derive(Drop)]
+pub(crate) struct Standing {
+    pub(crate) shape: Shape,
+    /// The head's stamp.
+    pub(crate) head: u64,
+    /// The whole records from the head's stamp on, in order.
+    pub(crate) records: Vec<Record>,
+    /// The blocks at home with those of these records laid over them.
+    pub(crate) array: Array,
+    /// The stamp of the next record.
+    pub(crate) next: u64,
+}
+
+/// What the definition says of an image.
+pub(crate) fn examine(alloc: Global, image: &[u8]) -> Result<Verdict, AllocError> {
+    let (shape, head) = match sectors_of(image) {
+        Ok(sectors) => sectors,
+        Err(fault) => return Ok(Verdict::Refused(fault)),
+    };
+    let records = records_of(alloc, image, shape, head)?;
+    let next = head.saturating_add(records.len() as u64).saturating_add(1);
+    if next > LAST_STAMP + 1 {
+        return Ok(Verdict::Refused(StartFault::StampsUsedUp));
+    }
+    let mut array = home_of(alloc, image, shape)?;
+    for record in &records {
+        lay_over(&mut array, record);
+    }
+    Ok(Verdict::Stands(Standing {
+        shape,
+        head,
+        records,
+        array,
+        next,
+    }))
+}
+
+impl Standing {
+    /// The bytes of the image after a start: the blocks at home, the head at the next stamp, all
+    /// else as it was.
+    pub(crate) fn recovered(&self, alloc: Global, image: &[u8]) -> Result<Vec<u8>, AllocError> {
+        let mut bytes = Vec::from_slice(alloc, image)?;
+        put(&mut bytes, 64, mark(b"RDHEAD01"));
+        put(&mut bytes, 65, self.next);
+        let home = self.shape.home.saturating_mul(512) as usize;
+        if let Some(from) = bytes.as_mut_slice().get_mut(home..) {
+            for (to, block) in from.chunks_exact_mut(512).zip(self.array.blocks.iter()) {
+                to.copy_from_slice(block);
+            }
+        }
+        Ok(bytes)
+    }
+}
+
+// Super and head.
+fn sectors_of(image: &[u8]) -> Result<(Shape, u64), StartFault> {
+    let shape = shape_of(image)?;
+    Ok((shape, head_of(image)?))
+}
+
+// The whole records from a stamp on without a gap, at most as many as there are slots.
+fn records_of(
+    alloc: Global,
+    image: &[u8],
+    shape: Shape,
+    head: u64,
+) -> Result<Vec<Record>, AllocError> {
+    let mut records = Vec::new(alloc);
+    for behind in 0..shape.slots {
+        let stamp = head.saturating_add(behind);
+        match whole_record(alloc, image, shape, stamp)? {
+            Some(record) => records.push(record).map_err(AllocError::from)?,
+            None => break,
+        }
+    }
+    Ok(records)
+}
+
+// The blocks at home.
+fn home_of(alloc: Global, image: &[u8], shape: Shape) -> Result<Array, AllocError> {
+    let mut blocks = Vec::new(alloc);
+    for block in 0..shape.blocks {
+        let bytes = sector_of(image, shape.home.saturating_add(block)).unwrap_or(&[]);
+        blocks
+            .push(Block::try_from(bytes).unwrap_or([0; 512]))
+            .map_err(AllocError::from)?;
+    }
+    Ok(Array { blocks })
+}
+
+// Puts the blocks of a record in place of those that are there.
+fn lay_over(array: &mut Array, record: &Record) {
+    for (number, block) in &record.blocks {
+        if let Some(to) = array.blocks.get_mut(*number as usize) {
+            *to = *block;
+        }
+    }
+}

@@ -1,0 +1,70 @@
+// How much was judged.
+use std::fmt;
+
+/// How much was judged.
+#[derive(Debug, Default, Drop)]
+pub(crate) struct Counts {
+    pub(crate) seeds: u64,
+    pub(crate) lives: u64,
+    pub(crate) events: u64,
+    /// Lives in whose start the power went, in one of whose events it went, and after the last.
+    pub(crate) cut_in_start: u64,
+    pub(crate) cut_in_event: u64,
+    pub(crate) cut_after: u64,
+    /// Failures that were armed.
+    pub(crate) failures: u64,
+    /// Disks that were started after a cut to read every block.
+    pub(crate) restarts: u64,
+    /// Exchanges of each of the thirteen cases.
+    pub(crate) cases: [u64; 13],
+    /// Exchanges by command, the last number being those of unknown operation codes.
+    pub(crate) commands: [u64; 14],
+}
+
+const CODES: [u8; 13] = [
+    0x00, 0x03, 0x12, 0x15, 0x1a, 0x25, 0x28, 0x2a, 0x35, 0x88, 0x8a, 0x91, 0x9e,
+];
+
+impl Counts {
+    /// An exchange of this case began, with this operation code.
+    pub(crate) fn exchange(&mut self, case: u8, code: u8) {
+        let place = usize::from(case).saturating_sub(1);
+        if let Some(number) = self.cases.get_mut(place) {
+            count(number);
+        }
+        let place = CODES.iter().position(|known| *known == code);
+        if let Some(number) = self.commands.get_mut(place.unwrap_or(13)) {
+            count(number);
+        }
+    }
+}
+
+impl fmt::Display for Counts {
+    fn fmt<W: fmt::Write>(&self, f: &mut fmt::Formatter<W>) -> fmt::Result {
+        let (seeds, lives, events) = (self.seeds, self.lives, self.events);
+        writeln!(f, "{seeds} seeds, {lives} lives, {events} events")?;
+        let (start, event, after) = (self.cut_in_start, self.cut_in_event, self.cut_after);
+        writeln!(
+            f,
+            "cuts: {start} in a start, {event} in an event, {after} after the last"
+        )?;
+        let (failures, restarts) = (self.failures, self.restarts);
+        writeln!(f, "{failures} failures armed, {restarts} restarts")?;
+        write!(f, "commands:")?;
+        for (code, number) in CODES.iter().zip(self.commands.iter()) {
+            write!(f, " {code:02x}h {number},")?;
+        }
+        let [.., unknown] = self.commands;
+        writeln!(f, " unknown {unknown}")?;
+        write!(f, "cases:")?;
+        for number in &self.cases {
+            write!(f, " {number}")?;
+        }
+        Ok(())
+    }
+}
+
+/// One more.
+pub(crate) fn count(number: &mut u64) {
+    *number = number.saturating_add(1);
+}

@@ -1,0 +1,71 @@
+// Lives over a medium in memory, with packets of one size.
+ghost use Rattle.std.specs.Prelude.{◌≡◌, ◌<◌};
+ghost use Rattle.bot_machine.specs.PacketBytes.{bytes_of};
+
+use crate::finding::Finding;
+use bot_machine::{Answer, Event, Identity, Lives, PacketSize, StartFault};
+use medium::{Kept, SimMedium};
+use std::alloc::Global;
+
+/// Lives over a medium in memory, with packets of one size.
+#[derive(Drop)]
+pub(crate) struct Player {
+    size: PacketSize,
+    lives: Lives,
+    ghost sized: { lives.device.packet_size ≡ bytes_of size },
+}
+
+impl Player {
+    /// No life has been yet.
+    pub(crate) fn new(medium: SimMedium, size: PacketSize) -> Result<Player, Finding> {
+        Ok(Player {
+            size,
+            lives: Lives::new_with(medium, identity()?, size),
+        })
+    }
+
+    /// The medium.
+    pub(crate) fn medium(&self) -> &SimMedium {
+        self.lives.medium()
+    }
+
+    /// Starts a disk where none runs.
+    pub(crate) fn start(&mut self, alloc: Global) -> Result<(), StartFault> {
+        self.lives.start(alloc)
+    }
+
+    /// Plays an event.
+    pub(crate) fn event(&mut self, alloc: Global, event: &Event) -> Result<Answer, Finding> {
+        if let Event::Out(packet) = event {
+            if packet.len() > self.size.bytes() as usize {
+                return Err(Finding::Packet);
+            }
+        }
+        self.lives.event(alloc, event).map_err(Finding::Start)
+    }
+
+    pub(crate) fn fuse(&mut self, writes: u64) {
+        self.lives.fuse(writes);
+    }
+
+    pub(crate) fn fail(&mut self, call: u64) {
+        if call > 0 {
+            self.lives.fail(call);
+        }
+    }
+
+    pub(crate) fn cut(&mut self, kept: &Kept) {
+        self.lives.cut(kept);
+    }
+}
+
+/// The identity of the disks that are judged.
+pub(crate) fn identity() -> Result<Identity, Finding> {
+    Identity::new(
+        *b"USBDISK ",
+        *b"POWER SAFE DISK ",
+        *b"0001",
+        *b"000000000001",
+    )
+    .ok_or(Finding::Identity)
+}
