@@ -36,6 +36,8 @@ fn write_image<M: Medium>(m: &mut M, sizes: &Super) -> Result<(), MediumFault>
     ensures size { (M.state m.new).size ≡ (M.state m.old).size }
     ensures calls { OnOk result ((M.state m.new).calls
         ≡ (M.state m.old).calls + sectors_of (shape_of sizes.now) + 5) }
+    ensures most { (M.state m.new).calls
+        ≤ (M.state m.old).calls + sectors_of (shape_of sizes.now) + 5 }
     ensures cause { OnErr result ((M.state m.old).failures < (M.state m.new).failures) }
     ensures follows { M.follows m.old m.new }
 {
@@ -57,6 +59,8 @@ fn make<M: Medium>(m: &mut M, format: LogFormat, blocks: u64, slots: u64) -> Res
     ensures size { (M.state m.new).size ≡ (M.state m.old).size }
     ensures calls { let shape = new_shape format blocks slots in
         OnOk result ((M.state m.new).calls ≡ (M.state m.old).calls + sectors_of shape + 5) }
+    ensures most { let shape = new_shape format blocks slots in
+        (M.state m.new).calls ≤ (M.state m.old).calls + sectors_of shape + 5 }
     ensures follows { M.follows m.old m.new }
 {
     let sizes = sizes_of(format, m.sectors(), blocks, slots).ok_or(FormatFault::BadSize)?;
@@ -80,6 +84,7 @@ pub fn format<M: Medium>(m: &mut M, blocks: u64, slots: u64) -> Result<(), Forma
     ensures size { (M.state m.new).size ≡ (M.state m.old).size }
     ensures calls { OnOk result ((M.state m.new).calls
         ≡ (M.state m.old).calls + 7 + 50 * slots + blocks) }
+    ensures most { (M.state m.new).calls ≤ (M.state m.old).calls + 7 + 50 * slots + blocks }
     ensures follows { M.follows m.old m.new }
 {
     make(m, LogFormat::One, blocks, slots)
@@ -100,6 +105,7 @@ pub fn format2<M: Medium>(m: &mut M, blocks: u64, slots: u64) -> Result<(), Form
     ensures size { (M.state m.new).size ≡ (M.state m.old).size }
     ensures calls { OnOk result ((M.state m.new).calls
         ≡ (M.state m.old).calls + 7 + 249 * slots + blocks) }
+    ensures most { (M.state m.new).calls ≤ (M.state m.old).calls + 7 + 249 * slots + blocks }
     ensures follows { M.follows m.old m.new }
 {
     make(m, LogFormat::Two, blocks, slots)
