@@ -93,7 +93,7 @@ uint64_t usbdisk_memory(uint64_t medium_size, uint32_t format, uint64_t slots, u
  * slots, 1 to 64. Format 1 takes 2 + 50 * slots + blocks sectors, format 2 takes 2 + 249 * slots +
  * blocks. Takes memory of about twice the size, and gives it back.
  *
- * Answers 0, USBDISK_NO_MEMORY or USBDISK_BAD_SIZES. At an error the image stays as it was. */
+ * Answers 0, NO_MEMORY, BAD_LENGTH or BAD_SIZES. At an error the image stays as it was. */
 uint32_t usbdisk_format(uint8_t *image, size_t size, uint32_t format, uint64_t blocks, uint64_t slots);
 
 /* Starts a disk on the bytes that the device holds: copies them, and recovers the disk from whatever

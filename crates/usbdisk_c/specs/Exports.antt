@@ -1,18 +1,20 @@
 -- What each export answers, and what it leaves in the handle.
-use Rattle.std.specs.Prelude.{◌≡◌, ◌≢◌, ◌⊎◌, ◌↔◌, ℕ, ◌%◌, Bool, true, false, List, length, Option}
+use Rattle.std.specs.Prelude.{◌≡◌, ◌≢◌, ◌⊎◌, ◌↔◌, ℕ, ◌/◌, ◌%◌, Bool, true, false, List, length}
+use Rattle.std.specs.Prelude.{Option}
 use Rattle.std.specs.Prelude.{Some, None}
 use Rattle.medium.specs.Writes.{sector_of}
 use Rattle.mirror.specs.Mirror.{Mirror, state_of, first_of}
 use Rattle.log_layout.specs.Places.{new_shape}
 use Rattle.log_layout.specs.declared.log_format.LogFormat.{LogFormat}
 use Rattle.log_layout.specs.declared.log_format.LogFormat.TheVariants.{One, Two}
-use Rattle.recovery.specs.Formatted.{IsFormatted}
+use Rattle.recovery.specs.Formatted.{IsFormatted, AreSizes}
 use Rattle.scsi_unit.specs.Identification.{Identification, IsLegible}
+use Rattle.scsi_unit.specs.StartFaults.{NoMemory}
 use Rattle.bot_machine.specs.Device.{device_of}
 use Rattle.bot_machine.specs.PacketBytes.{bytes_of}
 use Rattle.bot_machine.specs.declared.packet_size.PacketSize.{PacketSize}
 use Rattle.usbdisk_c.specs.Codes.{number_of, EMPTY, STARTED, BAD_IDENTITY, BAD_PACKET_SIZE}
-use Rattle.usbdisk_c.specs.Codes.{BAD_LENGTH}
+use Rattle.usbdisk_c.specs.Codes.{BAD_LENGTH, BAD_SIZES}
 use Rattle.usbdisk_c.specs.Plays.{Disk, medium_of, Begins, BeginsNot, TakesPacket, SendsPacket}
 use Rattle.usbdisk_c.specs.Plays.{AnswersRequest, MakesStep, Shows, LetsGo}
 use Rattle.usbdisk_c.specs.declared.start.UsbDiskIdentity.{UsbDiskIdentity}
@@ -33,11 +35,15 @@ abbrev pub BeginsOn : List ℕ → Identification → ℕ → ℕ → Disk → T
 BeginsOn bytes who packet room new = (size : PacketSize) × (packet ≡ bytes_of size)
     × IsLegible who × Begins bytes room (device_of who size) new
 
+-- so many bytes are no whole sectors, or none
+abbrev pub IsNoLength : ℕ → Type 0
+IsNoLength size = (size ≡ 0) ⊎ (size % 512 ≢ 0)
+
 -- why none was
 abbrev pub IsRefusal : List ℕ → Identification → ℕ → ℕ → Refusal → Type 0
 IsRefusal bytes who packet room refusal.Identity = ¬ IsLegible who
 IsRefusal bytes who packet room refusal.PacketSize = (packet ≢ 64) × (packet ≢ 512)
-IsRefusal bytes who packet room refusal.Length = (length bytes ≡ 0) ⊎ (length bytes % 512 ≢ 0)
+IsRefusal bytes who packet room refusal.Length = IsNoLength (length bytes)
 IsRefusal bytes who packet room (refusal.Fault fault) = BeginsNot bytes room fault
 
 abbrev pub code_of_refusal : Refusal → ℕ
@@ -107,8 +113,21 @@ pub record AreFormatted (format : LogFormat) (blocks slots : ℕ) (bytes : List 
   pub formatted : IsFormatted (new_shape format blocks slots) (state_of medium)
   pub held : (s : ℕ) → sector_of bytes s ≡ (state_of medium).content s
 
--- a new image, or nothing has changed
+-- no image of a format of this number has these sizes in so many sectors
+abbrev pub AreNoSizes : ℕ → ℕ → ℕ → ℕ → Type 0
+AreNoSizes format blocks slots sectors = ((format ≢ 1) × (format ≢ 2))
+    ⊎ ((format ≡ 1) × ¬ AreSizes sectors (new_shape One blocks slots))
+    ⊎ ((format ≡ 2) × ¬ AreSizes sectors (new_shape Two blocks slots))
+
+-- why no image was made, by its number
+abbrev pub IsNotFormatted : ℕ → ℕ → ℕ → ℕ → ℕ → Type 0
+IsNotFormatted format blocks slots size code = (code ≡ number_of NoMemory)
+    ⊎ ((code ≡ BAD_LENGTH) × IsNoLength size)
+    ⊎ ((code ≡ BAD_SIZES) × AreNoSizes format blocks slots (size / 512))
+
+-- a new image, or nothing has changed, for one of these reasons
 abbrev pub Formats : ℕ → ℕ → ℕ → List ℕ → List ℕ → ℕ → Type 0
-Formats format blocks slots old new code = ((code ≢ 0) × (new ≡ old))
+Formats format blocks slots old new code =
+    (IsNotFormatted format blocks slots (length old) code × (new ≡ old))
     ⊎ ((code ≡ 0) × (format ≡ 1) × AreFormatted One blocks slots new)
     ⊎ ((code ≡ 0) × (format ≡ 2) × AreFormatted Two blocks slots new)

@@ -3,6 +3,7 @@ use Rattle.std.specs.Prelude.{◌≡◌, ◌⊎◌, ◌↔◌, ℕ, ◌+◌, ◌
 use Rattle.std.specs.Prelude.{Option, Some, None}
 use Rattle.log_layout.specs.Places.{Shape, sectors_of}
 use Rattle.log_layout.specs.Sectors.{IsSuper}
+use Rattle.log_layout.specs.declared.log_format.LogFormat.TheVariants.{Two}
 use Rattle.mirror.specs.Mirror.{Mirror, state_of, fresh, without_first, ComesAfter}
 use Rattle.mirror.specs.Mirror.{CoversDevice, HasRoomFor}
 use Rattle.medium.specs.Medium.{State}
@@ -103,7 +104,7 @@ pub record IsSpared (bytes : List ℕ) (room : ℕ) (after : Mirror) : Type 0 wh
   pub fits : let before : State = state_of (fresh bytes room) in
       (shape : Shape) → IsSuper shape (before.content 0) → sectors_of shape ≤ before.size
       → room_for shape ≤ room → (state_of after).failures ≡ 0
-  pub fits_any : (slots : ℕ) → room_of 2 slots ≤ room → (state_of after).failures ≡ 0
+  pub fits_any : (slots : ℕ) → room_of Two slots ≤ room → (state_of after).failures ≡ 0
 
 -- a disk was started on these bytes
 pub record Begins (bytes : List ℕ) (room : ℕ) (device : Device) (new : Disk) : Type 0 where

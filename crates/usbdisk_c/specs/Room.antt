@@ -1,26 +1,48 @@
 -- How many calls an outbox must have room for, and how much memory a disk takes.
-use Rattle.std.specs.Prelude.{ℕ, ◌+◌, ◌*◌, ◌==◌, max, if◌then◌else◌}
-use Rattle.log_layout.specs.Places.{Shape}
-use Rattle.log_layout.specs.Sectors.{version_of}
+use Rattle.std.specs.Prelude.{◌≡◌, ◌≢◌, ◌≤◌, ◌<◌, ◌⊎◌, ℕ, ◌+◌, ◌*◌, ◌^◌, max}
+use Rattle.log_layout.specs.Places.{Shape, limit_of}
+use Rattle.log_layout.specs.declared.log_format.LogFormat.{LogFormat}
+use Rattle.log_layout.specs.declared.log_format.LogFormat.TheVariants.{One, Two}
+use Rattle.recovery.specs.Copies.{most_start_of}
+use Rattle.scsi_unit.specs.Calls.{most_calls_of}
 
--- How many blocks a transfer has at most in an image of this format.
-abbrev pub limit_of : ℕ → ℕ
-limit_of format = if format == 2 then 240 else 48
+-- As many as an event makes at most, and as a start does: at most 6, and so many for each of 64
+-- slots.
+abbrev pub room_of : LogFormat → ℕ → ℕ
+room_of format slots = max (most_calls_of slots (limit_of format)) (6 + most_start_of format * 64)
 
--- Two calls for each step that may be left and for each of one more batch, and two for each block
--- of a transfer: no event makes more calls of a medium. Nor does a start, which makes at most 6 and
--- so many for each of 64 slots.
-abbrev pub room_of : ℕ → ℕ → ℕ
-room_of format slots = max (2 * (slots + 5) * (2 * limit_of format + 16) + 2 * limit_of format)
-    (6 + (if format == 2 then 738 else 100) * 64)
-
--- that of an image, by the format and the slots that its super tells
+-- that of an image
 abbrev pub room_for : Shape → ℕ
-room_for shape = room_of (version_of shape.format) shape.slots
+room_for shape = room_of shape.format shape.slots
+
+-- a log has so many slots
+abbrev pub AreSlots : ℕ → Type 0
+AreSlots slots = (1 ≤ slots) × (slots ≤ 64)
+
+-- no image has a format of this number, or no log so many slots
+abbrev pub AreNone : ℕ → ℕ → Type 0
+AreNone format slots = ((format ≢ 1) × (format ≢ 2)) ⊎ (slots ≡ 0) ⊎ (64 < slots)
+
+-- what is told: for each of the two formats this number, or 0 where there is no such image
+pub record Tells (of : LogFormat → ℕ) (format slots told : ℕ) : Type 0 where
+  pub one : format ≡ 1 → AreSlots slots → told ≡ of One
+  pub two : format ≡ 2 → AreSlots slots → told ≡ of Two
+  pub none : AreNone format slots → told ≡ 0
+
+abbrev pub TellsRoom : ℕ → ℕ → ℕ → Type 0
+TellsRoom format slots = Tells (λ (kind : LogFormat). room_of kind slots) format slots
+
+-- how many bytes each slot takes, by measure
+abbrev pub slot_memory : LogFormat → ℕ
+slot_memory One = 2312
+slot_memory Two = 3848
 
 -- How many bytes of memory a start takes, by measure: the medium, the outbox, two batches and two
 -- buffers of a transfer each, so many for each slot, and the disk.
-abbrev pub memory_of : ℕ → ℕ → ℕ → ℕ → ℕ
-memory_of size format slots room =
-    size + 528 * room + 2068 * limit_of format
-    + (if format == 2 then 3848 else 2312) * slots + 3048
+abbrev pub memory_of : ℕ → ℕ → ℕ → LogFormat → ℕ
+memory_of size slots room format =
+    size + 528 * room + 2068 * limit_of format + slot_memory format * slots + 3048
+
+abbrev pub TellsMemory : ℕ → ℕ → ℕ → ℕ → ℕ → Type 0
+TellsMemory size format slots room told =
+    size ≤ 2 ^ 48 → room ≤ 2 ^ 32 → Tells (memory_of size slots room) format slots told

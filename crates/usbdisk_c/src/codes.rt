@@ -10,10 +10,6 @@ pub(crate) const NAK: u32 = 1;
 
 pub(crate) const STALL: u32 = 2;
 
-pub(crate) const NO_MEMORY: u32 = 1;
-
-pub(crate) const WRITE_REFUSED: u32 = 3;
-
 pub(crate) const EMPTY: u32 = 16;
 
 pub(crate) const STARTED: u32 = 17;

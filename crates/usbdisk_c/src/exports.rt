@@ -1,8 +1,7 @@
 // One export for each call of include/usbdisk.h, which tells what each does.
 ghost use Rattle.usbdisk_c.specs.Exports.{identity_of, Starts, Stops, TakesOut, SendsIn};
 ghost use Rattle.usbdisk_c.specs.Exports.{AnswersSetup, Ticks, HandsOut, Formats};
-ghost use Rattle.usbdisk_c.specs.Room.{room_of, memory_of};
-ghost use Rattle.std.specs.Prelude.{◌≡◌, ◌≤◌, ◌^◌};
+ghost use Rattle.usbdisk_c.specs.Room.{TellsRoom, TellsMemory};
 
 use crate::codes::{ACK, BAD_LENGTH, EMPTY, STARTED};
 use crate::format::{make_image, memory_for, room_for};
@@ -14,15 +13,14 @@ use std::alloc::Global;
 
 #[unsafe(no_mangle)]
 pub extern "C" fn usbdisk_room(format: u32, slots: u64) -> u64
-    ensures { 1 ≤ format → format ≤ 2 → 1 ≤ slots → slots ≤ 64 → result ≡ room_of format slots }
+    ensures { TellsRoom format slots result }
 {
     room_for(format, slots)
 }
 
 #[unsafe(no_mangle)]
 pub extern "C" fn usbdisk_memory(medium_size: u64, format: u32, slots: u64, room: u64) -> u64
-    ensures { medium_size ≤ 2 ^ 48 → room ≤ 2 ^ 32 → 1 ≤ format → format ≤ 2 → 1 ≤ slots
-        → slots ≤ 64 → result ≡ memory_of medium_size format slots room }
+    ensures { TellsMemory medium_size format slots room result }
 {
     memory_for(medium_size, format, slots, room)
 }

@@ -1,24 +1,31 @@
 // A new image in memory, and how much memory and room a disk on one takes.
-ghost use Rattle.std.specs.Prelude.{◌≡◌, ◌≤◌, ◌^◌, ◌⊎◌, ◌≢◌, ◌<◌, if◌then◌else◌};
-ghost use Rattle.std.specs.Prelude.{OnOk};
+ghost use Rattle.std.specs.Prelude.{◌≡◌, ◌≤◌, ◌<◌, ◌+◌, ◌⊎◌};
+ghost use Rattle.std.specs.Prelude.{OnOk, OnErr};
 ghost use Rattle.log_layout.specs.Places.{new_shape};
 ghost use Rattle.log_layout.specs.declared.log_format.LogFormat.TheVariants.{One, Two};
-ghost use Rattle.mirror.specs.Mirror.{state_of};
+ghost use Rattle.mirror.specs.Mirror.{state_of, ComesAfter};
 ghost use Rattle.recovery.specs.Formatted.{IsFormatted};
-ghost use Rattle.usbdisk_c.specs.Exports.{Formats};
-ghost use Rattle.usbdisk_c.specs.Room.{room_of, memory_of};
+ghost use Rattle.usbdisk_c.specs.Exports.{Formats, AreNoSizes};
+ghost use Rattle.usbdisk_c.specs.Room.{TellsRoom, TellsMemory};
 
-use crate::codes::{ACK, BAD_LENGTH, BAD_SIZES, NO_MEMORY, WRITE_REFUSED};
+use crate::codes::{ACK, BAD_SIZES};
 use crate::start::{copy_out, mirror_of};
 use mirror::MirrorMedium;
 use recovery::{FormatFault, format, format2};
 use std::alloc::Global;
 
-// Makes an image of this format in the bytes of a medium.
+// Makes an image of this format in the bytes of a medium. Where its sizes are good, it makes a call
+// for each sector of the medium at most, and five more.
 fn make(medium: &mut MirrorMedium, version: u32, blocks: u64, slots: u64) -> Result<(), FormatFault>
-    ensures { OnOk result (
+    ensures ok { OnOk result (
         ((version ≡ 1) × IsFormatted (new_shape One blocks slots) (state_of medium.new))
         ⊎ ((version ≡ 2) × IsFormatted (new_shape Two blocks slots) (state_of medium.new))) }
+    ensures err { OnErr result (
+        AreNoSizes version blocks slots (state_of medium.old).size
+        ⊎ (((state_of medium.old).failures < (state_of medium.new).failures)
+        × ((state_of medium.new).calls
+        ≤ (state_of medium.old).calls + (state_of medium.old).size + 5))) }
+    ensures follows { ComesAfter medium.old medium.new }
 {
     match version {
         1 => format(medium, blocks, slots),
@@ -41,19 +48,18 @@ pub(crate) fn make_image(
         Ok(medium) => medium,
         Err(refusal) => return refusal.code(),
     };
-    match make(&mut medium, version, blocks, slots) {
-        Ok(()) if copy_out(&medium, image) => ACK,
-        Ok(()) => BAD_LENGTH,
-        Err(FormatFault::BadSize) => BAD_SIZES,
-        Err(FormatFault::Medium) => WRITE_REFUSED,
+    // The law of the outbox, from the first call on: there is room for all calls.
+    let _waiting = medium.waiting();
+    if make(&mut medium, version, blocks, slots).is_err() {
+        return BAD_SIZES;
     }
+    copy_out(&medium, image);
+    ACK
 }
 
 // How many calls an outbox must have room for, for an image of this format with so many slots.
 pub(crate) fn room_for(version: u32, slots: u64) -> u64
-    ensures of { 1 ≤ version → version ≤ 2 → 1 ≤ slots → slots ≤ 64
-        → result ≡ room_of version slots }
-    ensures none { (slots ≡ 0) ⊎ (64 < slots) → result ≡ 0 }
+    ensures { TellsRoom version slots result }
 {
     if slots < 1 || slots > 64 {
         return 0;
@@ -67,8 +73,7 @@ pub(crate) fn room_for(version: u32, slots: u64) -> u64
 
 // How many bytes of memory a start takes, for a medium of so many bytes and an outbox of this room.
 pub(crate) fn memory_for(size: u64, version: u32, slots: u64, room: u64) -> u64
-    ensures { size ≤ 2 ^ 48 → room ≤ 2 ^ 32 → 1 ≤ version → version ≤ 2 → 1 ≤ slots → slots ≤ 64
-        → result ≡ memory_of size version slots room }
+    ensures { TellsMemory size version slots room result }
 {
     if slots < 1 || slots > 64 {
         return 0;
