@@ -60,6 +60,23 @@ pub(crate) fn each_number(
     Ok(())
 }
 
+// Numbers that are limits somewhere.
+const LIMITS: [u64; 13] = [
+    48,
+    49,
+    64,
+    65,
+    240,
+    241,
+    (1 << 31) - 1,
+    1 << 31,
+    (1 << 31) + 1,
+    LAST_STAMP,
+    LAST_STAMP + 1,
+    LAST_STAMP + 2,
+    u64::MAX,
+];
+
 // The number at this place is set to others.
 fn others_of(
     judge: &mut Judge,
@@ -67,36 +84,8 @@ fn others_of(
     old: u64,
     standing: &Standing,
 ) -> Result<(), AllocError> {
-    let blocks = standing.shape.blocks;
-    let near = [
-        0,
-        1,
-        2,
-        old.wrapping_sub(1),
-        old.wrapping_add(1),
-        old.wrapping_add(standing.shape.slots),
-        standing.next,
-        blocks.wrapping_sub(1),
-        blocks,
-        blocks.wrapping_add(1),
-    ];
-    let limits = [
-        48,
-        49,
-        64,
-        65,
-        240,
-        241,
-        (1 << 31) - 1,
-        1 << 31,
-        (1 << 31) + 1,
-        old | 1 << 32,
-        LAST_STAMP,
-        LAST_STAMP + 1,
-        LAST_STAMP + 2,
-        u64::MAX,
-    ];
-    for number in near.iter().chain(limits.iter()) {
+    let near = near(old, standing);
+    for number in near.iter().chain(LIMITS.iter()) {
         if *number != old {
             judge.change(&[Patch {
                 place,
@@ -105,6 +94,24 @@ fn others_of(
         }
     }
     Ok(())
+}
+
+// Numbers near one, and near the sizes of the image.
+fn near(old: u64, standing: &Standing) -> [u64; 11] {
+    let blocks = standing.shape.blocks;
+    [
+        0,
+        1,
+        2,
+        old.wrapping_sub(1),
+        old.wrapping_add(1),
+        old.wrapping_add(standing.shape.slots),
+        old | 1 << 32,
+        standing.next,
+        blocks.wrapping_sub(1),
+        blocks,
+        blocks.wrapping_add(1),
+    ]
 }
 
 /// Every two of the faults of super and head at once, so that their order is seen.

@@ -73,43 +73,43 @@ pub(crate) fn shared_by(
     slot: u64,
     count: u64,
 ) -> Result<Shared, AllocError> {
-    let mut stamps = Vec::new(alloc);
-    let mut counts = Vec::new(alloc);
-    let mut entries = Vec::new(alloc);
     let two = standing.shape.version == 2;
-    let (heads, last, width) = if two {
-        (count.div_ceil(30), 248, 2)
+    let mut shared = Shared {
+        stamps: Vec::new(alloc),
+        counts: Vec::new(alloc),
+        entries: Vec::new(alloc),
+        width: if two { 2 } else { 1 },
+    };
+    let (heads, last) = if two {
+        (count.div_ceil(30), 248)
     } else {
-        (1, 49, 1)
+        (1, 49)
     };
     for part in (0..heads).chain(last..last + 1) {
         let start = sector(slot.saturating_add(part)).start;
-        stamps
-            .push(start.saturating_add(1))
-            .map_err(AllocError::from)?;
-        counts
-            .push(start.saturating_add(2))
-            .map_err(AllocError::from)?;
+        shared.stamps.push(start.saturating_add(1))?;
+        shared.counts.push(start.saturating_add(2))?;
     }
     for place in 0..count {
-        let (part, entry) = if two {
-            (place / 30, place % 30 * 2 + 4)
-        } else {
-            (0, place.saturating_add(3))
-        };
-        let start = sector(slot.saturating_add(part)).start;
-        entries
-            .push(start.saturating_add(entry as usize))
-            .map_err(AllocError::from)?;
-        if two {
+        shared.entries.push(entry_at(two, slot, place))?;
+    }
+    if two {
+        for place in 0..count {
             let data = sector(slot.saturating_add(place).saturating_add(8)).start;
-            stamps.push(data).map_err(AllocError::from)?;
+            shared.stamps.push(data)?;
         }
     }
-    Ok(Shared {
-        stamps,
-        counts,
-        entries,
-        width,
-    })
+    Ok(shared)
+}
+
+// Where the entry of a block stands, by its place in the record.
+fn entry_at(two: bool, slot: u64, place: u64) -> usize {
+    let (part, entry) = if two {
+        (place / 30, place % 30 * 2 + 4)
+    } else {
+        (0, place.saturating_add(3))
+    };
+    sector(slot.saturating_add(part))
+        .start
+        .saturating_add(entry as usize)
 }

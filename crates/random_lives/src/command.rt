@@ -230,7 +230,6 @@ fn over_blocks(random: &mut Random, block: [u8; 16], length: u8, count: u32) -> 
 // Blocks: mostly a few of the disk, sometimes many, none, too many or others.
 fn any_extent(random: &mut Random, shape: &Shape) -> Extent {
     let blocks = u64::from(shape.blocks);
-    let limit = u64::from(shape.limit());
     match random.below(40) {
         0 => Extent {
             address: blocks,
@@ -244,6 +243,18 @@ fn any_extent(random: &mut Random, shape: &Shape) -> Extent {
             address: u64::MAX,
             count: random.one_of(&[0, 1, 2]),
         },
+        6 => Extent {
+            address: u64::from(u32::MAX),
+            count: u32::MAX,
+        },
+        kind => on_the_disk(random, shape, kind),
+    }
+}
+
+// Blocks of the disk, but perhaps too many or none.
+fn on_the_disk(random: &mut Random, shape: &Shape, kind: u64) -> Extent {
+    let blocks = u64::from(shape.blocks);
+    match kind {
         3 => Extent {
             address: 0,
             count: shape.limit().saturating_add(1),
@@ -256,11 +267,7 @@ fn any_extent(random: &mut Random, shape: &Shape) -> Extent {
             address: random.below(blocks),
             count: shape.limit(),
         },
-        6 => Extent {
-            address: u64::from(u32::MAX),
-            count: u32::MAX,
-        },
-        7..10 => inside(random, blocks, limit.min(blocks)),
+        7..10 => inside(random, blocks, u64::from(shape.limit()).min(blocks)),
         _ => inside(random, blocks, blocks.min(4)),
     }
 }

@@ -173,25 +173,29 @@ impl Judge {
             return Ok(());
         }
         let blocks = self.served()?;
-        let found = match &stage {
-            Stage::Runs(hearing) => {
-                count(&mut self.counts.cut_after);
-                hearing.found(None, &blocks)?.is_some()
-            }
-            Stage::OffIn(hearing, event) => {
-                count(&mut self.counts.cut_in_event);
-                hearing.found(Some(event), &blocks)?.is_some()
-            }
-            Stage::OffInStart | Stage::Waits | Stage::Refused => {
-                count(&mut self.counts.cut_in_start);
-                blocks == self.opening
-            }
-        };
-        if !found {
+        if !self.may_be_left(&stage, &blocks)? {
             return Err(Finding::Blocks);
         }
         self.opening = blocks;
         Ok(())
+    }
+
+    // Whether a cut at this stage may leave these blocks. It is counted by what was going on.
+    fn may_be_left(&mut self, stage: &Stage, blocks: &Array) -> Result<bool, Finding> {
+        match stage {
+            Stage::Runs(hearing) => {
+                count(&mut self.counts.cut_after);
+                Ok(hearing.found(None, blocks)?.is_some())
+            }
+            Stage::OffIn(hearing, event) => {
+                count(&mut self.counts.cut_in_event);
+                Ok(hearing.found(Some(event), blocks)?.is_some())
+            }
+            Stage::OffInStart | Stage::Waits | Stage::Refused => {
+                count(&mut self.counts.cut_in_start);
+                Ok(*blocks == self.opening)
+            }
+        }
     }
 
     // The blocks that a disk on a copy of the medium serves.

@@ -24,18 +24,7 @@ pub(crate) fn lived_in_one_call(alloc: Global) -> Result<(), Difference> {
     let second = life_of(alloc, Some((&forced, true)))?;
     let third = life_of(alloc, None)?;
     let lives = [first, second, third];
-    let mut answers = Answers::with_room(alloc, room_for(&lives)?).ok_or(AllocError)?;
-    let medium = run_lives(
-        alloc,
-        SHAPE.fresh(alloc)?,
-        disk_identity()?,
-        &lives,
-        &mut answers,
-    )
-    .map_err(|error| Difference::Start(error.fault))?;
-    if medium.is_off() || medium.unflushed() > 0 {
-        return Err(Difference::Medium);
-    }
+    let answers = lived(alloc, &lives)?;
     let mut array = Array::zeros(alloc, 16)?;
     let mut rest = heard(alloc, &lives[0], answers.list(), &array)?;
     rest = heard(alloc, &lives[1], rest, &array)?;
@@ -46,6 +35,19 @@ pub(crate) fn lived_in_one_call(alloc: Global) -> Result<(), Difference> {
     } else {
         Err(Difference::Judged(Finding::Count))
     }
+}
+
+// What is answered in these lives, after which the power is on and nothing unflushed.
+fn lived(alloc: Global, lives: &[Life]) -> Result<Answers, Difference> {
+    let mut answers = Answers::with_room(alloc, room_for(lives)?).ok_or(AllocError)?;
+    let fresh = SHAPE.fresh(alloc)?;
+    let medium = run_lives(alloc, fresh, disk_identity()?, lives, &mut answers).map_err(
+        |error| Difference::Start(error.fault),
+    )?;
+    if medium.is_off() || medium.unflushed() > 0 {
+        return Err(Difference::Medium);
+    }
+    Ok(answers)
 }
 
 /// A start on what is no image is refused, and ends the lives without an answer.
