@@ -13,6 +13,3 @@ pub use copies::read_copy;
 pub use laws::image_laws;
 pub use record_part::Part;
 pub use record_parts::{copy_place, early, part, parts, slot_place};
-
-#[cfg(test)]
-mod tests;

@@ -31,6 +31,3 @@ pub use places::{commit_place, data_place, place_of, place_of2, slot_of};
 pub use super_fault::SuperFault;
 pub use super_sector::Super;
 pub use whole::whole_record;
-
-#[cfg(test)]
-mod tests;

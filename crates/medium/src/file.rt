@@ -17,9 +17,6 @@ use std::io;
 use std::marker::Model;
 use thiserror::Error;
 
-#[cfg(test)]
-mod tests;
-
 const SECTOR_LIMIT: u64 = 65_536;
 
 /// Why no medium was made of an image file.

@@ -26,5 +26,3 @@ pub use switch::Switch;
 
 #[cfg(test)]
 mod history;
-#[cfg(test)]
-mod tests;

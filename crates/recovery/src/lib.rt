@@ -23,8 +23,3 @@ pub use migration::migrate;
 pub use recovered::Recovered;
 pub use recovery::recover;
 pub use start_fault::StartFault;
-
-#[cfg(test)]
-mod migration_tests;
-#[cfg(test)]
-mod tests;

@@ -1,13 +1,22 @@
 // A sector there and back, and what a cut between could have left.
-ghost use Rattle.std.specs.Prelude.{◌≡◌, ◌<◌, ◌≤◌, ℕ, length, OnOk};
+ghost use Rattle.std.specs.Prelude.{◌≡◌, ◌<◌, ◌≤◌, ℕ, length, IfOk, OnOk};
 ghost use Rattle.medium.specs.History.{state_of, EachMoment};
 ghost use Rattle.medium.specs.Medium.{Image, CutLeaves, Holds, Only};
 ghost use Rattle.medium.specs.Moments.{EachCut, SparesFrom};
 ghost use Rattle.medium.specs.Sim as sim;
 
 use super::*;
-use crate::tests::zeros;
+use std::alloc::AllocError;
 use std::test::Fail;
+
+// Sectors of zeros.
+fn zeros(rt: HostRuntime, sectors: usize, room: usize) -> Result<SimMedium, AllocError>
+    requires { sectors ≤ 8 }
+    ensures { IfOk result (λ m. (sim.state_of m).size ≡ sectors) }
+{
+    let image = vec![in rt.alloc(); 0u8; sectors * 512]?;
+    SimMedium::new(rt.alloc(), image, room).map_err(|_| AllocError)
+}
 
 // Writes the first sector and makes it durable.
 fn put<M: Medium>(m: &mut M, block: &[u8; 512]) -> Result<(), MediumFault>
