@@ -101,8 +101,8 @@ pub(crate) fn try_commands<R: Files<File = File> + AllocGlobal>(
     Ok(())
 }
 
-// A command writes this text and ends with this status.
-fn ends<R: Files<File = File> + AllocGlobal>(
+/// A command writes this text and ends with this status.
+pub(crate) fn ends<R: Files<File = File> + AllocGlobal>(
     rt: &R,
     words: &[&str],
     text: &str,

@@ -9,6 +9,12 @@ pub(crate) struct Counts {
     pub(crate) bytes: u64,
     pub(crate) played: u64,
     pub(crate) no_scripts: u64,
+    /// Writers and readers that failed in mid-stream.
+    pub(crate) writers: u64,
+    pub(crate) readers: u64,
+    /// Images that were made, and those that would have a size out of the limits.
+    pub(crate) made: u64,
+    pub(crate) no_sizes: u64,
 }
 
 impl Counts {

@@ -30,9 +30,18 @@ pub(crate) enum Finding {
     /// A script of this length in bytes.
     #[error("a script of {0} bytes")]
     Length(usize),
+    /// The writer fails behind so many bytes.
+    #[error("other bytes or another fault with a writer of {0} bytes")]
+    Writer(usize),
+    /// The reader fails behind so many lines.
+    #[error("an answer or another fault with a reader of {0} lines")]
+    Reader(usize),
     /// A command of the program ends otherwise.
     #[error("command {0} ends otherwise")]
     Command(usize),
+    /// An image at this place of the sizes.
+    #[error("image {0} is made otherwise")]
+    Size(usize),
     /// No disk.
     #[error("no disk started")]
     NoDisk,

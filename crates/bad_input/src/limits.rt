@@ -107,22 +107,21 @@ pub(crate) fn try_others(
     Ok(())
 }
 
-/// Tries scripts of as many bytes as one may have, one less and one more.
+/// Tries scripts of as many bytes as one may have, one less and one more: comments, and empty lines.
 pub(crate) fn try_lengths(
     alloc: Global,
     medium: &SimMedium,
     counts: &mut Counts,
 ) -> Result<(), Finding> {
-    for (length, good) in [
-        (0, true),
-        (SCRIPT_LIMIT - 1, true),
-        (SCRIPT_LIMIT, true),
-        (SCRIPT_LIMIT + 1, false),
+    for (length, byte, good) in [
+        (0, b'#', true),
+        (SCRIPT_LIMIT - 1, b'#', true),
+        (SCRIPT_LIMIT, b'#', true),
+        (SCRIPT_LIMIT, b'\n', true),
+        (SCRIPT_LIMIT + 1, b'?', false),
+        (SCRIPT_LIMIT + 1, b'\n', false),
     ] {
-        let mut script = vec![in alloc; b'#'; length]?;
-        if !good {
-            script.as_mut_slice().fill(b'?');
-        }
+        let script = vec![in alloc; byte; length]?;
         for play in [Play::Run, Play::Sim] {
             let mut out = Vec::new(alloc);
             let fault = play_on(alloc, medium, play, PacketSize::High512, &script, &mut out)?;

@@ -8,10 +8,13 @@
 //!   less and one more; scripts of the greatest length: played as several lives and as one. A small
 //!   grammar of the program's own tells how many answers there are, or which line is none.
 //! - Packets of every size where data is to be sent, and where a packet of 512 bytes is due.
-//! - The program itself, on files: its exit statuses, and images that are too short.
+//! - Writers that fail behind each number of bytes of an answer, and readers that fail behind each
+//!   number of lines.
+//! - The program itself, on files: its exit statuses, images that are too short, and the greatest ones.
 //!
-//! It works in the files `image`, `script` and `short` of the current folder. It writes how much it
-//! judged, and, where something is not as the definitions have it, what, and ends with status 1.
+//! It works in the files `image`, `script`, `short` and `limit` of the current folder. It writes how
+//! much it judged, and, where something is not as the definitions have it, what, and ends with
+//! status 1.
 #![tactic(auto)]
 
 mod commands;
@@ -22,6 +25,8 @@ mod limits;
 mod packets;
 mod phases;
 mod scripts;
+mod sizes;
+mod streams;
 mod wrong_wrappers;
 
 use counts::Counts;
@@ -53,12 +58,21 @@ fn tell<R: Files<File = File> + AllocGlobal, W: Write>(rt: &R, out: &mut W) -> i
         bytes,
         played,
         no_scripts,
+        writers,
+        readers,
+        made,
+        no_sizes,
     } = counts;
     writeln!(out, "wrappers: {taken} taken, {refused} refused")?;
     writeln!(
         out,
         "scripts: {bytes} bytes, {played} played, {no_scripts} refused"
     )?;
+    writeln!(
+        out,
+        "streams: {writers} writers failed, {readers} readers failed"
+    )?;
+    writeln!(out, "images: {made} made, {no_sizes} refused")?;
     match tried {
         Ok(()) => {
             writeln!(out, "0 outside")?;
@@ -87,6 +101,8 @@ fn try_all<R: Files<File = File> + AllocGlobal>(
     phases::try_sending(alloc, &medium, counts)?;
     phases::try_taking(alloc, &medium, counts)?;
     phases::try_endings(alloc, &medium, counts)?;
+    streams::try_streams(alloc, &medium, counts)?;
+    sizes::try_sizes(rt, counts)?;
     commands::try_commands(rt, counts)
 }
 

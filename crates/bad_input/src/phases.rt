@@ -6,13 +6,16 @@ use bot_machine::PacketSize;
 use medium::SimMedium;
 use std::alloc::{AllocError, Global};
 
-const SENSE: &str = "out 55534243010000001200000080000603000000120000000000000000000000\nin\nin\n";
+/// REQUEST SENSE, which ends the unit attention of a start, and what comes of it.
+pub(crate) const SENSE: &str =
+    "out 55534243010000001200000080000603000000120000000000000000000000\nin\nin\n";
 
-const ATTENTION: &str =
+pub(crate) const ATTENTION: &str =
     "ack\ndata 700006000000000a00000000290000000000\ndata 55534253010000000000000000\n";
 
 // READ(10) and WRITE(10) of block 3.
-const READ: &str = "out 55534243020000000002000080000a28000000000300000100000000000000\n";
+pub(crate) const READ: &str =
+    "out 55534243020000000002000080000a28000000000300000100000000000000\n";
 
 const WRITE: &str = "out 55534243030000000002000000000a2a080000000300000100000000000000\n";
 
@@ -122,8 +125,8 @@ fn push_out(script: &mut Vec<u8>, size: usize) -> Result<(), AllocError> {
     script.push(b'\n').map_err(AllocError::from)
 }
 
-// The line of a block of zeros.
-fn push_zeros(text: &mut Vec<u8>) -> Result<(), AllocError> {
+/// The line of a block of zeros.
+pub(crate) fn push_zeros(text: &mut Vec<u8>) -> Result<(), AllocError> {
     text.extend_from_slice(b"data ")?;
     for _ in 0..512 {
         text.extend_from_slice(b"00")?;

@@ -7,6 +7,7 @@ use judging::copied;
 use medium::SimMedium;
 use runner::{ScriptFault, run_script, sim_script};
 use std::alloc::Global;
+use std::io::{Read, Write};
 
 /// Whether a script is one of several lives, on a simulated medium.
 #[derive(Clone, Copy, Debug, PartialEq, Eq)]
@@ -92,7 +93,7 @@ pub(crate) fn try_script(
     }
 }
 
-// Plays a script on a copy of a medium, and gives its fault.
+/// Plays a script on a copy of a medium, and gives its fault.
 pub(crate) fn play_on(
     alloc: Global,
     medium: &SimMedium,
@@ -106,6 +107,23 @@ pub(crate) fn play_on(
     let played = match play {
         Play::Run => run_script(alloc, medium, &mut script, out, size),
         Play::Sim => sim_script(alloc, medium, &mut script, out, size),
+    };
+    Ok(played.err().map(|error| error.fault))
+}
+
+/// Plays a script of a reader on a copy of a medium, with packets of 512 bytes, and gives its fault.
+pub(crate) fn play_streams<R: Read, W: Write>(
+    alloc: Global,
+    medium: &SimMedium,
+    play: Play,
+    script: &mut R,
+    out: &mut W,
+) -> Result<Option<ScriptFault>, Finding> {
+    let medium = copied(alloc, medium)?;
+    let size = PacketSize::High512;
+    let played = match play {
+        Play::Run => run_script(alloc, medium, script, out, size),
+        Play::Sim => sim_script(alloc, medium, script, out, size),
     };
     Ok(played.err().map(|error| error.fault))
 }
