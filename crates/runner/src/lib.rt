@@ -34,6 +34,3 @@ pub use program::{command, run_program};
 pub use script::{SCRIPT_LIMIT, run_script};
 pub use serve::{LineFault, serve_lines};
 pub use sim::sim_script;
-
-#[cfg(test)]
-mod tests;

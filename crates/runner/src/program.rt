@@ -34,9 +34,6 @@ use std::fs::{File, Files};
 use std::io::{ErrorKind, Write};
 use std::{env, fs};
 
-#[cfg(test)]
-mod tests;
-
 /// Does what the words after the program's name ask for, and gives the exit status.
 ///
 /// `format IMAGE --blocks N --slots K` makes an image file and prints `formatted`: of format 1, or
