@@ -32,9 +32,28 @@ impl<M: Medium> Store<M> {
             ⊎ (active_of self.new.cached ≡ []) }
         ensures follows { M.follows self.old.medium self.new.medium }
     {
-        if self.is_dead() {
+        if self.is_dead() || self.is_settled() {
             return;
         }
+        self.work();
+    }
+
+    // Makes one step of a live store. It stands apart so that a tick with nothing to do is short.
+    #[inline(never)]
+    fn work(&mut self)
+        requires live { is_dead self.old.cached ≡ false }
+        ensures turn { IsTurn (M.state self.old.medium) (M.state self.new.medium)
+            self.old.cached self.new.cached }
+        ensures order { IsBackgroundStep (M.state self.old.medium) (M.state self.new.medium)
+            self.old.cached self.new.cached }
+        ensures calls { (M.state self.new.medium).calls ≤ (M.state self.old.medium).calls + 2 }
+        ensures left { is_dead self.new.cached ≡ false
+            → (steps_left self.new.cached < steps_left self.old.cached)
+            ⊎ (steps_left self.old.cached ≡ 0) }
+        ensures active { (active_of self.new.cached ≡ active_of self.old.cached)
+            ⊎ (active_of self.new.cached ≡ []) }
+        ensures follows { M.follows self.old.medium self.new.medium }
+    {
         if self.writing {
             let _ = self.step();
             return;

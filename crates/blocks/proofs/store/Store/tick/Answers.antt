@@ -1,24 +1,5 @@
-use Rattle.std.proofs.Common.{◌≡◌, ◌<◌, ◌∙◌, ap, sym, subst, arith, rules, false}
-use Rattle.std.proofs.lemmas.Bool.{false≢true}
-use Rattle.redo_log.specs.Value.{LogValue, HasRoom}
-use Rattle.blocks.specs.StoreValue.{is_dead, unwritten}
 use Rattle.blocks.proofs.Turning.{stays}
 use Rattle.blocks.proofs.store.Store.tick.Goals as goal
 
 pub returns-then-is_dead-clause-turn : goal.returns-then-is_dead-clause-turn
 returns-then-is_dead-clause-turn g c = stays _ _ (g.met.M.Medium.sound c.args.self.now.medium)
-
-pub returns-then-not-is_empty-clause-order : goal.returns-then-not-is_empty-clause-order
-returns-then-not-is_empty-clause-order g c =
-    let live : is_dead c.args.self.now.cached ≡ false = sym c.is_dead.ensures ∙ c.if-is_dead.false in
-    let log_is = ap (λ v. v.cached.log) c.self.view_is in
-    let idle : c.args.self.now.cached.log.steps_left ≡ 0 = subst (λ (log : LogValue). log.steps_left ≡ 0) log_is
-    (c.self.invariant.rests (rw (← c.self.view_is) at live) c.if-self.false) in
-    let room : HasRoom c.args.self.now.cached.log = subst (λ (log : LogValue). HasRoom log) log_is (c.has_room.ensures.room.0 c.if-has_room.true) in
-    let some : 0 < unwritten c.args.self.now.cached = search rules in
-    record {
-      dead = λ dead. absurd (false≢true (sym live ∙ dead));
-      goes_on = λ lives steps. absurd (omega (arith, steps, idle));
-      begins = λ lives may. c.begin_next.ensures.beginning;
-      retires = λ lives none full. absurd (full (room, some));
-    }
