@@ -93,48 +93,69 @@ pub(crate) fn numbers_its_faults() -> Result<(), Difference> {
 fn calls_in_format_1(alloc: Global) -> Result<(), Difference> {
     let mut m = zeros(alloc, 1402)?;
     let mut log = idle(alloc, LogFormat::One, 8, 3)?;
+    writes_in_format_1(&mut log, &mut m)
+}
+
+fn writes_in_format_1(log: &mut Log, m: &mut Recorder<SimMedium>) -> Result<(), Difference>
+    requires blocks { log.old.shape.blocks ≡ 1000 }
+    requires fits { sectors_of log.old.shape ≤ (state_of m.old.medium).size }
+{
     holds("room at first", log.has_room())?;
     let bytes = [5; 1536];
-    begin(&mut log, &THREE, &bytes)?;
+    begin(log, &THREE, &bytes)?;
     holds("no room under way", !log.has_room())?;
-    write_out(&mut log, &mut m, &THREE, &bytes)?;
-    had_calls(&mut m, &WRITTEN)?;
+    write_out(log, m, &THREE, &bytes)?;
+    had_calls(m, &WRITTEN)?;
     holds("room behind a record", log.has_room())?;
-    retire(&mut log, &mut m, 5)?;
-    had_calls(&mut m, &RETIRED)?;
-    retire(&mut log, &mut m, 5)?;
-    had_so_many(&mut m, 0)?;
-    begins_with(&m, 1, HEAD)?;
-    begins_with(&m, 409, &[5; 16])
+    retire(log, m, 5)?;
+    had_calls(m, &RETIRED)?;
+    retire(log, m, 5)?;
+    had_so_many(m, 0)?;
+    begins_with(m, 1, HEAD)?;
+    begins_with(m, 409, &[5; 16])
 }
 
 // The calls of a record of format 2 and of its retiring.
 fn calls_in_format_2(alloc: Global) -> Result<(), Difference> {
     let mut m = zeros(alloc, 1500)?;
     let mut log = idle(alloc, LogFormat::Two, 2, 3)?;
-    log_three(&mut log, &mut m, 5)?;
-    had_calls(&mut m, &WRITTEN_IN_FORMAT_2)?;
-    begins_with(&m, 260, PLACE)?;
-    has_copy(&log, &mut m, 7, (1, 1, 5))?;
-    had_calls(&mut m, &[Called::Read(260), Called::Read(251)])?;
-    retire(&mut log, &mut m, 6)?;
-    had_calls(&mut m, &RETIRED_IN_FORMAT_2)?;
-    begins_with(&m, 1, HEAD)?;
-    begins_with(&m, 507, &[5; 16])
+    writes_in_format_2(&mut log, &mut m)
+}
+
+fn writes_in_format_2(log: &mut Log, m: &mut Recorder<SimMedium>) -> Result<(), Difference>
+    requires blocks { log.old.shape.blocks ≡ 1000 }
+    requires fits { sectors_of log.old.shape ≤ (state_of m.old.medium).size }
+{
+    log_three(log, m, 5)?;
+    had_calls(m, &WRITTEN_IN_FORMAT_2)?;
+    begins_with(m, 260, PLACE)?;
+    has_copy(log, m, 7, (1, 1, 5))?;
+    had_calls(m, &[Called::Read(260), Called::Read(251)])?;
+    retire(log, m, 6)?;
+    had_calls(m, &RETIRED_IN_FORMAT_2)?;
+    begins_with(m, 1, HEAD)?;
+    begins_with(m, 507, &[5; 16])
 }
 
 // A record with two descriptors.
 fn two_descriptors(alloc: Global) -> Result<(), Difference> {
     let mut m = zeros(alloc, 1500)?;
     let mut log = idle(alloc, LogFormat::Two, 2, 3)?;
-    log_many(&mut log, &mut m)?;
-    had_so_many(&mut m, 35)?;
-    has_copy(&log, &mut m, 30, (1, 30, 9))?;
-    had_calls(&mut m, &[Called::Read(289), Called::Read(252)])?;
-    retire(&mut log, &mut m, 35)?;
-    had_so_many(&mut m, 67)?;
-    begins_with(&m, 1, HEAD)?;
-    begins_with(&m, 529, &[5; 16])?;
+    writes_two_descriptors(&mut log, &mut m)
+}
+
+fn writes_two_descriptors(log: &mut Log, m: &mut Recorder<SimMedium>) -> Result<(), Difference>
+    requires blocks { log.old.shape.blocks ≡ 1000 }
+    requires fits { sectors_of log.old.shape ≤ (state_of m.old.medium).size }
+{
+    log_many(log, m)?;
+    had_so_many(m, 35)?;
+    has_copy(log, m, 30, (1, 30, 9))?;
+    had_calls(m, &[Called::Read(289), Called::Read(252)])?;
+    retire(log, m, 35)?;
+    had_so_many(m, 67)?;
+    begins_with(m, 1, HEAD)?;
+    begins_with(m, 529, &[5; 16])?;
     let byte = m.medium.image().get(512 * 530);
     holds("the last block", byte == Some(&9))
 }
@@ -143,34 +164,48 @@ fn two_descriptors(alloc: Global) -> Result<(), Difference> {
 fn newest_copy(alloc: Global) -> Result<(), Difference> {
     let mut m = zeros(alloc, 1402)?;
     let mut log = idle(alloc, LogFormat::One, 8, 3)?;
-    has_none(&log, 7)?;
-    log_three(&mut log, &mut m, 5)?;
-    has_none(&log, 8)?;
-    has_copy(&log, &mut m, 7, (3, 1, 5))?;
-    log_three(&mut log, &mut m, 6)?;
-    has_copy(&log, &mut m, 7, (4, 1, 6))?;
-    retire(&mut log, &mut m, 5)?;
-    begins_with(&m, 409, &[5; 16])?;
-    has_copy(&log, &mut m, 7, (4, 1, 6))?;
-    retire(&mut log, &mut m, 5)?;
-    begins_with(&m, 409, &[6; 16])?;
-    has_none(&log, 7)
+    finds_the_newest(&mut log, &mut m)
+}
+
+fn finds_the_newest(log: &mut Log, m: &mut Recorder<SimMedium>) -> Result<(), Difference>
+    requires blocks { log.old.shape.blocks ≡ 1000 }
+    requires fits { sectors_of log.old.shape ≤ (state_of m.old.medium).size }
+{
+    has_none(log, 7)?;
+    log_three(log, m, 5)?;
+    has_none(log, 8)?;
+    has_copy(log, m, 7, (3, 1, 5))?;
+    log_three(log, m, 6)?;
+    has_copy(log, m, 7, (4, 1, 6))?;
+    retire(log, m, 5)?;
+    begins_with(m, 409, &[5; 16])?;
+    has_copy(log, m, 7, (4, 1, 6))?;
+    retire(log, m, 5)?;
+    begins_with(m, 409, &[6; 16])?;
+    has_none(log, 7)
 }
 
 // A full ring waits for its oldest record.
 fn full_ring(alloc: Global) -> Result<(), Difference> {
     let mut m = zeros(alloc, 1102)?;
     let mut log = idle(alloc, LogFormat::One, 2, 3)?;
-    log_three(&mut log, &mut m, 5)?;
-    log_three(&mut log, &mut m, 6)?;
+    waits_for_the_oldest(&mut log, &mut m)
+}
+
+fn waits_for_the_oldest(log: &mut Log, m: &mut Recorder<SimMedium>) -> Result<(), Difference>
+    requires blocks { log.old.shape.blocks ≡ 1000 }
+    requires fits { sectors_of log.old.shape ≤ (state_of m.old.medium).size }
+{
+    log_three(log, m, 5)?;
+    log_three(log, m, 6)?;
     holds("a full ring", !log.has_room())?;
-    retire(&mut log, &mut m, 5)?;
+    retire(log, m, 5)?;
     holds("room behind the oldest", log.has_room())?;
-    log_three(&mut log, &mut m, 7)?;
+    log_three(log, m, 7)?;
     holds("a ring that is full again", !log.has_room())?;
-    begins_with(&m, 1, HEAD)?;
-    begins_with(&m, 52, FIFTH)?;
-    has_copy(&log, &mut m, 9, (1, 2, 7))
+    begins_with(m, 1, HEAD)?;
+    begins_with(m, 52, FIFTH)?;
+    has_copy(log, m, 9, (1, 2, 7))
 }
 
 // A refused call is the last.

@@ -41,23 +41,31 @@ fn loses_none_that_is_kept(alloc: Global, image: &[u8]) -> Result<(), Difference
 
 fn retired_for_a_write(alloc: Global) -> Result<(), Difference> {
     let mut store = started(alloc, &formatted(alloc)?)?;
+    writes_nine(&mut store)
+}
+
+fn writes_nine(store: &mut Store<SimMedium>) -> Result<(), Difference> {
     let first = store.medium().flushes();
-    fill(&mut store)?;
+    fill(store)?;
     let second = store.medium().flushes();
-    write_through(&mut store, 8, 9)?;
+    write_through(store, 8, 9)?;
     let third = store.medium().flushes();
     holds("eight records", second.checked_sub(first) == Some(16))?;
     holds("a ninth record", third.checked_sub(second) == Some(4))?;
-    holds("nine blocks", nine_bytes(&mut store)? == WITH)
+    holds("nine blocks", nine_bytes(store)? == WITH)
 }
 
 fn retired_by_ticks(alloc: Global) -> Result<(), Difference> {
     let mut store = filled(alloc, &formatted(alloc)?)?;
+    empties(&mut store)
+}
+
+fn empties(store: &mut Store<SimMedium>) -> Result<(), Difference> {
     let full = store.medium().flushes();
-    rest(&mut store);
+    rest(store);
     let empty = store.medium().flushes();
     holds("eight retired records", empty.checked_sub(full) == Some(16))?;
-    write_through(&mut store, 8, 9)?;
+    write_through(store, 8, 9)?;
     let last = store.medium().flushes();
     holds("a record with room", last.checked_sub(empty) == Some(2))
 }
@@ -73,8 +81,17 @@ fn fused_ninth(
     let mut store = filled(alloc, image)?;
     store.fuse(fuse);
     let lives = lives(write_through(&mut store, 8, 9))?;
+    Ok((lives, nine_after_a_cut(alloc, store, kept)?))
+}
+
+// What a start after a cut finds.
+fn nine_after_a_cut(
+    alloc: Global,
+    store: Store<SimMedium>,
+    kept: &Kept,
+) -> Result<[u8; 9], Difference> {
     let mut store = restarted(alloc, store, kept)?;
-    Ok((lives, nine_bytes(&mut store)?))
+    nine_bytes(&mut store)
 }
 
 // A store whose eight log slots all hold a record.

@@ -1,4 +1,6 @@
 // Starts of images of 16 blocks and 2 slots: 118 sectors, of which block 0 is at home in sector 102.
+ghost use Rattle.std.specs.Prelude.{◌<◌};
+
 use crate::difference::{Difference, holds};
 use crate::transfer::{byte_of, read, restarted, started_on, write_through};
 use blocks::{StartError, StartFault, Store};
@@ -32,15 +34,11 @@ const FAULTY: [(usize, u8, StartFault); 5] = [
 
 /// A start serves the whole records.
 pub(crate) fn serves_whole_records(alloc: Global) -> Result<(), Difference> {
-    let mut store = start(alloc, image(alloc, &[])?)?;
-    holds("a dead store", !store.is_dead())?;
-    holds("a fresh image", four_to_seven(&mut store)? == [0; 4])?;
-    let mut store = start(alloc, image(alloc, &WITH_RECORD)?)?;
-    let found = four_to_seven(&mut store)?;
-    holds("an image with a record", found == [0, 0x11, 0x22, 0])?;
-    let mut store = start(alloc, store.into_medium())?;
-    let found = four_to_seven(&mut store)?;
-    holds("a second start", found == [0, 0x11, 0x22, 0])
+    serves(alloc, image(alloc, &[])?, [0; 4])?;
+    let medium = image(alloc, &WITH_RECORD)?;
+    let medium = serves(alloc, medium, [0, 0x11, 0x22, 0])?;
+    serves(alloc, medium, [0, 0x11, 0x22, 0])?;
+    Ok(())
 }
 
 /// A start with a refused call gives the medium back, and a faulty image is refused.
@@ -50,8 +48,7 @@ pub(crate) fn refuses(alloc: Global) -> Result<(), Difference> {
     last_stamp(alloc)
 }
 
-// On a fresh image a start makes eight calls: a flush, four reads, a flush, a write, a flush. Where
-// one is refused, the medium comes back.
+// On a fresh image a start makes eight calls: a flush, four reads, a flush, a write, a flush.
 fn refused_calls(alloc: Global) -> Result<(), Difference> {
     for call in 1..9 {
         let fault = match call {
@@ -59,15 +56,21 @@ fn refused_calls(alloc: Global) -> Result<(), Difference> {
             7 => StartFault::Write,
             _ => StartFault::Flush,
         };
-        let mut medium = image(alloc, &[(107 * 512, b"\x33")])?;
-        medium.fail(call);
-        let mut error = refused(alloc, medium)?;
-        holds("the fault of a refused call", error.fault == fault)?;
-        error.medium.cut(&Kept::None);
-        let mut store = start(alloc, error.medium)?;
-        let found = four_to_seven(&mut store)?;
-        holds("the medium that came back", found == [0, 0x33, 0, 0])?;
+        refused_call(alloc, call, fault)?;
     }
+    Ok(())
+}
+
+// Where a call of a start is refused, the medium comes back.
+fn refused_call(alloc: Global, call: u64, fault: StartFault) -> Result<(), Difference>
+    requires { 0 < call }
+{
+    let mut medium = image(alloc, &[(107 * 512, b"\x33")])?;
+    medium.fail(call);
+    let mut error = refused(alloc, medium)?;
+    error.medium.cut(&Kept::None);
+    holds("the fault of a refused call", error.fault == fault)?;
+    serves(alloc, error.medium, [0, 0x33, 0, 0])?;
     Ok(())
 }
 
@@ -135,6 +138,15 @@ fn start(alloc: Global, medium: SimMedium) -> Result<Store<SimMedium>, Differenc
 fn refused(alloc: Global, medium: SimMedium) -> Result<StartError<SimMedium>, Difference> {
     let started = Store::start(alloc, medium);
     started.err().ok_or(Difference::NotRefused)
+}
+
+// Tells whether a start on a medium serves blocks 4 to 7 with these first bytes. Gives the medium
+// back.
+fn serves(alloc: Global, medium: SimMedium, wanted: [u8; 4]) -> Result<SimMedium, Difference> {
+    let mut store = start(alloc, medium)?;
+    let found = four_to_seven(&mut store)?;
+    holds("the served blocks", !store.is_dead() && found == wanted)?;
+    Ok(store.into_medium())
 }
 
 // The first bytes of blocks 4 to 7.

@@ -60,20 +60,26 @@ pub(crate) fn started(alloc: Global, image: &[u8]) -> Result<Store<SimMedium>, D
 }
 
 fn lost_without_a_sync(alloc: Global) -> Result<(), Difference> {
-    let mut store = started(alloc, &formatted(alloc)?)?;
-    write_twice(&mut store)?;
-    holds("a write", byte_of(&mut store, 5)? == 0x22)?;
-    let mut store = restarted(alloc, store, &Kept::None)?;
-    holds("a lost write", byte_of(&mut store, 5)? == 0)
+    let mut store = fresh(alloc)?;
+    write_and_read(&mut store)?;
+    holds("a lost write", byte_after_a_cut(alloc, store)? == 0)
+}
+
+fn write_and_read(store: &mut Store<SimMedium>) -> Result<(), Difference> {
+    write_twice(store)?;
+    holds("a write", byte_of(store, 5)? == 0x22)
 }
 
 fn kept_by_a_sync(alloc: Global) -> Result<(), Difference> {
-    let mut store = started(alloc, &formatted(alloc)?)?;
-    write_twice(&mut store)?;
+    let mut store = fresh(alloc)?;
+    sync_and_read(&mut store)?;
+    holds("a kept write", byte_after_a_cut(alloc, store)? == 0x22)
+}
+
+fn sync_and_read(store: &mut Store<SimMedium>) -> Result<(), Difference> {
+    write_twice(store)?;
     store.sync()?;
-    holds("a synced write", byte_of(&mut store, 5)? == 0x22)?;
-    let mut store = restarted(alloc, store, &Kept::None)?;
-    holds("a kept write", byte_of(&mut store, 5)? == 0x22)
+    holds("a synced write", byte_of(store, 5)? == 0x22)
 }
 
 // Whether a store lives through `write_three`, and what a start after a cut finds.
@@ -85,21 +91,28 @@ fn fused_life(
 ) -> Result<(bool, [u8; 3]), Difference> {
     let mut store = started(alloc, image)?;
     let lives = lives(write_three(&mut store, fuse))?;
-    let mut store = restarted(alloc, store, kept)?;
-    Ok((lives, bytes_of(&mut store)?))
+    Ok((lives, bytes_after_a_cut(alloc, store, kept)?))
 }
 
 fn ticks_bring_all_to_rest(alloc: Global) -> Result<(), Difference> {
-    let mut store = started(alloc, &formatted(alloc)?)?;
-    write_three(&mut store, 1000)?;
-    rest(&mut store);
-    holds("blocks at rest", bytes_of(&mut store)? == [1, 2, 3])?;
-    let mut store = restarted(alloc, store, &Kept::None)?;
-    holds("blocks after a cut", bytes_of(&mut store)? == [1, 2, 3])
+    let mut store = fresh(alloc)?;
+    write_and_rest(&mut store)?;
+    let found = bytes_after_a_cut(alloc, store, &Kept::None)?;
+    holds("blocks after a cut", found == [1, 2, 3])
+}
+
+fn write_and_rest(store: &mut Store<SimMedium>) -> Result<(), Difference> {
+    write_three(store, 1000)?;
+    rest(store);
+    holds("blocks at rest", bytes_of(store)? == [1, 2, 3])
 }
 
 fn no_call_at_rest(alloc: Global) -> Result<(), Difference> {
-    let mut store = started(alloc, &formatted(alloc)?)?;
+    let mut store = fresh(alloc)?;
+    makes_no_call(&mut store)
+}
+
+fn makes_no_call(store: &mut Store<SimMedium>) -> Result<(), Difference> {
     store.fuse(0);
     store.tick();
     holds("a sync at rest", store.sync() == Ok(()))?;
@@ -107,29 +120,58 @@ fn no_call_at_rest(alloc: Global) -> Result<(), Difference> {
 }
 
 fn refused_flush(alloc: Global) -> Result<(), Difference> {
-    let mut store = started(alloc, &formatted(alloc)?)?;
-    write_twice(&mut store)?;
+    let mut store = fresh(alloc)?;
+    dies_of_a_flush(&mut store)
+}
+
+fn dies_of_a_flush(store: &mut Store<SimMedium>) -> Result<(), Difference> {
+    write_twice(store)?;
     store.fail(3);
     holds("a refused flush", store.sync() == Err(StoreFault::Dead))?;
-    holds("a write to a dead store", !lives(write_twice(&mut store))?)?;
-    let read = byte_of(&mut store, 5);
+    holds("a write to a dead store", !lives(write_twice(store))?)?;
+    let read = byte_of(store, 5);
     let refused = matches!(&read, Err(Difference::Store(StoreFault::Dead)));
     holds("a read of a dead store", store.is_dead() && refused)
 }
 
-// A logged block of format 2 is read by two calls: its first 8 bytes stand in a descriptor, and the
-// others in a data place.
 fn refused_read(alloc: Global) -> Result<(), Difference> {
     let mut store = started_in_format_2(alloc)?;
-    write(&mut store, 15, &[0x5a; 512])?;
+    outlives_a_read(&mut store)
+}
+
+// A logged block of format 2 is read by two calls: its first 8 bytes stand in a descriptor, and the
+// others in a data place.
+fn outlives_a_read(store: &mut Store<SimMedium>) -> Result<(), Difference> {
+    write(store, 15, &[0x5a; 512])?;
     store.sync()?;
     let mut bytes = [0; 512];
     store.fail(2);
-    let first = read(&mut store, 15, &mut bytes);
+    let first = read(store, 15, &mut bytes);
     let refused = matches!(&first, Err(Difference::Store(StoreFault::ReadFault)));
     holds("a refused read", refused)?;
-    read(&mut store, 15, &mut bytes)?;
+    read(store, 15, &mut bytes)?;
     holds("a logged block", (bytes[7], bytes[8]) == (0x5a, 0x5a))
+}
+
+// A store on blocks of zeros.
+fn fresh(alloc: Global) -> Result<Store<SimMedium>, Difference> {
+    started(alloc, &formatted(alloc)?)
+}
+
+// What a start after a cut that keeps nothing finds in block 5.
+fn byte_after_a_cut(alloc: Global, store: Store<SimMedium>) -> Result<u8, Difference> {
+    let mut store = restarted(alloc, store, &Kept::None)?;
+    byte_of(&mut store, 5)
+}
+
+// What a start after a cut finds.
+fn bytes_after_a_cut(
+    alloc: Global,
+    store: Store<SimMedium>,
+    kept: &Kept,
+) -> Result<[u8; 3], Difference> {
+    let mut store = restarted(alloc, store, kept)?;
+    bytes_of(&mut store)
 }
 
 // A store of 16 blocks and one log slot of format 2.
