@@ -6,7 +6,7 @@ use crate::difference::{Difference, holds};
 use medium::{Medium, MediumFault, SimMedium, Switch};
 use std::alloc::Global;
 
-/// A call that changes nothing but what it names.
+/// A call of a medium.
 #[derive(Clone, Copy, Debug, PartialEq, Eq)]
 pub(crate) enum Called {
     Read(u64),
