@@ -19,6 +19,3 @@ pub use fault::StoreFault;
 pub use recovery::StartFault;
 pub use start_error::StartError;
 pub use store::Store;
-
-#[cfg(test)]
-mod tests;

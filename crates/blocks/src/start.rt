@@ -19,9 +19,6 @@ use recovery::{Recovered, StartFault, recover};
 use redo_log::Log;
 use std::alloc::Global;
 
-#[cfg(test)]
-mod tests;
-
 // What a store keeps in memory.
 #[derive(Drop)]
 struct Parts {

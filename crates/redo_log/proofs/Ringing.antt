@@ -5,7 +5,6 @@ use Rattle.std.proofs.lemmas.List.{map-append}
 use Rattle.std.proofs.lemmas.List.Sums.{sum_by-cons}
 use Rattle.arrayvec.specs.ArrayVec.{ArrayVec}
 use Rattle.log_layout.specs.declared.log_format.LogFormat.{LogFormat}
-use Rattle.log_layout.specs.declared.log_format.LogFormat.TheVariants.{One, Two}
 use Rattle.log_layout.specs.Places.{Shape, limit_of}
 use Rattle.redo_log.specs.Value.{turns_home, retire_steps_of, most_retire_steps, IsRetireStepped}
 use Rattle.redo_log.specs.Stages.{value_at, oldest_at, begun_at, AreInside, IsOldest, IsUnderWay, IsRing}
@@ -24,11 +23,6 @@ lists_more records last = let f : ArrayVec ℕ → List ℕ = λ r. r.items in m
 pub few_under_way : (shape : Shape) (numbers : List ℕ) (made : Option ℕ) → IsUnderWay shape numbers made → length numbers ≤ limit_of shape.format
 few_under_way shape numbers None is = omega (arith, ap (λ (l : List ℕ). length l) is)
 few_under_way shape numbers (Some w) is = is.0.few
-
--- no record has more than 240 blocks
-pub few_blocks : (format : LogFormat) → limit_of format ≤ 240
-few_blocks One = omega arith
-few_blocks Two = omega arith
 
 All_more : {X : Type 0} (P : X → Type 0) (xs : List X) (x : X) → All P xs → P x → All P (xs ++ x ∷ [])
 All_more P [] x each last zero d below = last

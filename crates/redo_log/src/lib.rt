@@ -17,6 +17,3 @@ mod turn;
 pub use fault::LogFault;
 pub use log::Log;
 pub use progress::Progress;
-
-#[cfg(test)]
-mod tests;
