@@ -10,6 +10,3 @@ mod form;
 
 pub use command::{BlockRange, Command, Transfer};
 pub use decode::parse;
-
-#[cfg(test)]
-mod tests;

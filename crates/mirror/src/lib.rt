@@ -9,6 +9,3 @@ mod story;
 
 pub use call::{DeviceCall, SectorWrite};
 pub use mirror::{MirrorError, MirrorMedium};
-
-#[cfg(test)]
-mod tests;

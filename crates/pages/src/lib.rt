@@ -5,8 +5,6 @@
 mod caching;
 mod identification;
 mod inquiry;
-#[cfg(test)]
-mod tests;
 
 pub use caching::{mode_select, mode_sense};
 pub use identification::Identity;

@@ -4,8 +4,6 @@
 
 mod codes;
 mod laws;
-#[cfg(test)]
-mod tests;
 mod waiting;
 
 pub use codes::{Sense, SenseKey};

@@ -12,6 +12,3 @@ pub use command::{Cbw, CbwFault, read_cbw};
 pub use status::{Status, write_csw};
 pub use table::{case_of, outcome};
 pub use way::Way;
-
-#[cfg(test)]
-mod tests;
