@@ -54,22 +54,24 @@ fn answers_to_two(kind: Kind, word: &[u8], only: &[u8]) -> Option<u64> {
     if word == b"tick".as_slice() {
         return number(only, 1, 1_000_000).map(|_| 0);
     }
-    if !kind.switches {
+    if !kind.switches || !moves_power(word, only) {
         return None;
     }
+    Some(0)
+}
+
+// A line of two words that arms a fuse or a failure, or cuts.
+fn moves_power(word: &[u8], only: &[u8]) -> bool {
     if word == b"fuse".as_slice() {
-        return number(only, 0, 1_000_000_000).map(|_| 0);
+        return number(only, 0, 1_000_000_000).is_some();
     }
     if word == b"fail".as_slice() {
-        return number(only, 1, 1_000_000_000).map(|_| 0);
+        return number(only, 1, 1_000_000_000).is_some();
     }
     if word != b"cut".as_slice() {
-        None
-    } else if only == b"none".as_slice() || only == b"all".as_slice() {
-        Some(0)
-    } else {
-        number(only, 0, 16_383).map(|_| 0)
+        return false;
     }
+    only == b"none".as_slice() || only == b"all".as_slice() || number(only, 0, 16_383).is_some()
 }
 
 // `fill` writes one answer a packet.

@@ -52,27 +52,7 @@ fn main(rt: HostRuntime) -> ExitCode {
 fn tell<R: Files<File = File> + AllocGlobal, W: Write>(rt: &R, out: &mut W) -> io::Result<bool> {
     let mut counts = Counts::default();
     let tried = try_all(rt, &mut counts);
-    let Counts {
-        taken,
-        refused,
-        bytes,
-        played,
-        no_scripts,
-        writers,
-        readers,
-        made,
-        no_sizes,
-    } = counts;
-    writeln!(out, "wrappers: {taken} taken, {refused} refused")?;
-    writeln!(
-        out,
-        "scripts: {bytes} bytes, {played} played, {no_scripts} refused"
-    )?;
-    writeln!(
-        out,
-        "streams: {writers} writers failed, {readers} readers failed"
-    )?;
-    writeln!(out, "images: {made} made, {no_sizes} refused")?;
+    tell_counts(&counts, out)?;
     match tried {
         Ok(()) => {
             writeln!(out, "0 outside")?;
@@ -83,6 +63,31 @@ fn tell<R: Files<File = File> + AllocGlobal, W: Write>(rt: &R, out: &mut W) -> i
             Ok(false)
         }
     }
+}
+
+// A line for each kind of input.
+fn tell_counts<W: Write>(counts: &Counts, out: &mut W) -> io::Result<()> {
+    let Counts {
+        taken,
+        refused,
+        bytes,
+        played,
+        no_scripts,
+        writers,
+        readers,
+        made,
+        no_sizes,
+    } = *counts;
+    writeln!(out, "wrappers: {taken} taken, {refused} refused")?;
+    writeln!(
+        out,
+        "scripts: {bytes} bytes, {played} played, {no_scripts} refused"
+    )?;
+    writeln!(
+        out,
+        "streams: {writers} writers failed, {readers} readers failed"
+    )?;
+    writeln!(out, "images: {made} made, {no_sizes} refused")
 }
 
 fn try_all<R: Files<File = File> + AllocGlobal>(

@@ -94,12 +94,17 @@ pub(crate) fn shared_by(
         shared.entries.push(entry_at(two, slot, place))?;
     }
     if two {
-        for place in 0..count {
-            let data = sector(slot.saturating_add(place).saturating_add(8)).start;
-            shared.stamps.push(data)?;
-        }
+        stamp_data(&mut shared.stamps, slot, count)?;
     }
     Ok(shared)
+}
+
+// Adds where the stamps of so many data places of format 2 stand.
+fn stamp_data(stamps: &mut Vec<usize>, slot: u64, count: u64) -> Result<(), AllocError> {
+    for place in 0..count {
+        stamps.push(sector(slot.saturating_add(place).saturating_add(8)).start)?;
+    }
+    Ok(())
 }
 
 // Where the entry of a block stands, by its place in the record.
