@@ -1,5 +1,6 @@
 // An array of blocks, and writes to it.
-ghost use Rattle.std.specs.Prelude.{◌≡◌, length, IfOk};
+ghost use Rattle.std.specs.Prelude.{◌≡◌, take, replicate, IfOk};
+ghost use Rattle.abstract_disk.specs.Blocks.{overlaid, blocks_after};
 
 use std::alloc::{AllocError, Global};
 
@@ -22,15 +23,17 @@ pub struct Write {
 impl Array {
     /// So many blocks of zeros.
     pub fn zeros(alloc: Global, count: usize) -> Result<Array, AllocError>
-        ensures { IfOk result (λ array. length array.blocks.items ≡ count) }
+        ensures { IfOk result (λ array. array.blocks.items ≡ replicate count (replicate 512 0)) }
     {
-        Ok(Array {
-            blocks: vec![in alloc; [0; 512]; count]?,
-        })
+        let mut blocks: Vec<Block> = Vec::new(alloc);
+        for _made in 0..count {
+            blocks.push([0; 512])?;
+        }
+        Ok(Array { blocks })
     }
 
     /// The same blocks.
-    pub fn copy(&self, alloc: Global) -> Result<Array, AllocError>
+    pub(crate) fn copy(&self, alloc: Global) -> Result<Array, AllocError>
         ensures { IfOk result (λ array. array.blocks.items ≡ self.now.blocks.items) }
     {
         let blocks = Vec::from_slice(alloc, &self.blocks)?;
@@ -38,38 +41,29 @@ impl Array {
     }
 
     /// Puts the blocks of a write in place of those that were there.
-    pub fn apply(&mut self, write: &Write) {
-        let from = write.address as usize;
-        for (to, block) in self.blocks.iter_mut().skip(from).zip(write.blocks.iter()) {
-            *to = *block;
-        }
+    pub fn apply(&mut self, write: &Write)
+        ensures { self.new.blocks.items
+            ≡ overlaid self.old.blocks.items write.now.address write.now.blocks.items }
+    {
+        let from = self.blocks.len().min(write.address as usize);
+        let count = write.blocks.len().min(self.blocks.len() - from);
+        self.blocks[from..from + count].copy_from_slice(&write.blocks[..count]);
     }
 
     /// The array after the first so many of these writes, in their order.
-    pub fn after(
+    pub(crate) fn after(
         &self,
         alloc: Global,
         writes: &[Write],
         count: usize,
-    ) -> Result<Array, AllocError> {
+    ) -> Result<Array, AllocError>
+        ensures { IfOk result (λ array. array.blocks.items
+            ≡ blocks_after self.now.blocks.items (take count writes.now)) }
+    {
         let mut array = self.copy(alloc)?;
-        for write in writes.iter().take(count) {
+        for write in &writes[..count.min(writes.len())] {
             array.apply(write);
         }
         Ok(array)
-    }
-}
-
-impl Write {
-    /// The same write.
-    pub fn copy(&self, alloc: Global) -> Result<Write, AllocError>
-        ensures address { IfOk result (λ write. write.address ≡ self.now.address) }
-        ensures blocks { IfOk result (λ write. write.blocks.items ≡ self.now.blocks.items) }
-    {
-        let blocks = Vec::from_slice(alloc, &self.blocks)?;
-        Ok(Write {
-            address: self.address,
-            blocks,
-        })
     }
 }

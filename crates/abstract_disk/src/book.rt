@@ -1,4 +1,6 @@
 // The book of a life: the blocks with which it opened, and the writes that were accepted in it.
+ghost use Rattle.std.specs.Prelude.{◌≡◌, ◌≤◌, IfOk, IfSome};
+
 use crate::array::{Array, Write};
 use std::alloc::{AllocError, Global};
 
@@ -21,7 +23,9 @@ pub(crate) struct Book {
 
 impl Book {
     /// A life opens with these blocks.
-    pub(crate) fn new(alloc: Global, opening: &Array) -> Result<Book, AllocError> {
+    pub(crate) fn new(alloc: Global, opening: &Array) -> Result<Book, AllocError>
+        ensures { IfOk result (λ book. book.opening.blocks.items ≡ opening.now.blocks.items) }
+    {
         Ok(Book {
             opening: opening.copy(alloc)?,
             writes: Vec::new(alloc),
@@ -52,7 +56,9 @@ impl Book {
         found: Found,
         in_progress: Option<&Write>,
         blocks: &Array,
-    ) -> Result<Option<usize>, AllocError> {
+    ) -> Result<Option<usize>, AllocError>
+        ensures { IfOk result (λ number. IfSome number (λ count. found.least ≤ count)) }
+    {
         let mut array = self.opening.after(alloc, &self.writes, found.least)?;
         if array == *blocks {
             return Ok(Some(found.least));

@@ -1,4 +1,7 @@
 // Every disk of the definitions that the answers so far allow.
+ghost use Rattle.std.specs.Prelude.{◌≡◌, ◌↔◌, ◌<◌, ◌≤◌, length, map, IfOk, IfSome, IsTrue};
+ghost use Rattle.abstract_disk.specs.Followed.{disks_of, opening_of, case_in, failing, least_promised};
+
 use crate::array::{Array, Write};
 use crate::book::{Book, Found};
 use crate::command::Shape;
@@ -24,7 +27,10 @@ impl Hearing {
         opening: &Array,
         limit: u32,
         size: PacketSize,
-    ) -> Result<Hearing, AllocError> {
+    ) -> Result<Hearing, AllocError>
+        ensures one { IfOk result (λ hearing. length (disks_of hearing) ≡ 1) }
+        ensures opening { IfOk result (λ hearing. opening_of hearing ≡ opening.now.blocks.items) }
+    {
         let blocks = u32::try_from(opening.blocks.len()).map_err(|_| AllocError)?;
         let disk = Disk::new(Shape { blocks, limit }, size.bytes());
         Ok(Hearing {
@@ -35,7 +41,9 @@ impl Hearing {
     }
 
     /// From now on at most one more call of the medium is refused (a failure was armed).
-    pub fn may_fail(&mut self) {
+    pub fn may_fail(&mut self)
+        ensures { disks_of self.new ≡ map failing (disks_of self.old) }
+    {
         for disk in self.disks.iter_mut() {
             disk.may_fail = true;
         }
@@ -43,7 +51,9 @@ impl Hearing {
 
     /// Whether a disk of the definitions can give this answer to this event. Goes on with each that
     /// can. Never called with `Answer::Off`.
-    pub fn hear(&mut self, event: &Event, answer: &Answer) -> Result<bool, AllocError> {
+    pub fn hear(&mut self, event: &Event, answer: &Answer) -> Result<bool, AllocError>
+        ensures { IfOk result (λ possible. IsTrue possible ↔ (0 < length (disks_of self.new))) }
+    {
         let disks = mem::replace(&mut self.disks, Vec::new(self.alloc));
         let number = self.accepted(&disks).saturating_add(1);
         for mut disk in disks {
@@ -62,7 +72,9 @@ impl Hearing {
     /// The power goes, in this event or after the last one: the numbers k of accepted writes (with
     /// that of the event, if it carries one out) after which the blocks may be found: from the
     /// promised ones to all and the one in progress.
-    pub fn may_find(&self, cut_in: Option<&Event>) -> Result<Found, AllocError> {
+    pub fn may_find(&self, cut_in: Option<&Event>) -> Result<Found, AllocError>
+        ensures { IfOk result (λ found. found.least ≡ least_promised (disks_of self.now)) }
+    {
         let mut all = Found {
             least: usize::MAX,
             most: 0,
@@ -77,11 +89,10 @@ impl Hearing {
 
     /// The least number k of those for which the blocks after the first k accepted writes are these,
     /// or None: no cut may leave them.
-    pub fn found(
-        &self,
-        cut_in: Option<&Event>,
-        blocks: &Array,
-    ) -> Result<Option<usize>, AllocError> {
+    pub fn found(&self, cut_in: Option<&Event>, blocks: &Array) -> Result<Option<usize>, AllocError>
+        ensures { IfOk result (λ least. IfSome least
+            (λ count. least_promised (disks_of self.now) ≤ count)) }
+    {
         let mut least: Option<usize> = None;
         for disk in &self.disks {
             let (found, write) = self.found_of(disk, cut_in)?;
@@ -97,7 +108,9 @@ impl Hearing {
     }
 
     /// The number of the case of the exchange that the last event began, or 0 where it began none.
-    pub fn begun_case(&self) -> u8 {
+    pub fn begun_case(&self) -> u8
+        ensures { result ≡ case_in (disks_of self.now) }
+    {
         self.disks.first().map_or(0, |disk| disk.case)
     }
 
@@ -139,7 +152,9 @@ impl Hearing {
         &self,
         disk: &Disk,
         cut_in: Option<&Event>,
-    ) -> Result<(Found, Option<Write>), AllocError> {
+    ) -> Result<(Found, Option<Write>), AllocError>
+        ensures { IfOk result (λ told. told.0.least ≡ disk.now.unit.promised) }
+    {
         let found = Found {
             least: disk.unit.promised,
             most: disk.unit.accepted,
