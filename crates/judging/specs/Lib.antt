@@ -1,0 +1,4 @@
+pub mod Commands
+pub mod Formats
+pub mod Judged
+pub mod Sent

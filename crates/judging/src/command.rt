@@ -1,6 +1,10 @@
 // Commands of a host, and their wrappers (USB Mass Storage Class Bulk-Only Transport 1.0, 5.1;
 // SPC-4 and SBC-3 for the commands).
 
+ghost use Rattle.std.specs.Prelude.{◌≡◌, length};
+ghost use Rattle.judging.specs.Commands.{read_command, write_command, sense_command};
+ghost use Rattle.judging.specs.Commands.{synchronize_command, wrapper_of};
+
 /// The direction in which a host announces data.
 #[derive(Clone, Copy, Debug, PartialEq, Eq)]
 pub enum Direction {
@@ -19,7 +23,9 @@ pub struct Command {
 
 impl Command {
     /// REQUEST SENSE for 18 bytes. Its six bytes have four more behind them, which a disk ignores.
-    pub fn request_sense() -> Command {
+    pub(crate) fn request_sense() -> Command
+        ensures { result ≡ sense_command }
+    {
         Command {
             block: [0x03, 0, 0, 0, 18, 0, 0, 0, 0, 0],
             direction: Direction::ToHost,
@@ -28,7 +34,9 @@ impl Command {
     }
 
     /// READ(10).
-    pub fn read(address: u32, count: u16) -> Command {
+    pub fn read(address: u32, count: u16) -> Command
+        ensures { result ≡ read_command address count }
+    {
         let [a, b, c, d] = address.to_be_bytes();
         let [e, f] = count.to_be_bytes();
         Command {
@@ -39,7 +47,9 @@ impl Command {
     }
 
     /// WRITE(10), with FUA where it is forced.
-    pub fn write(address: u32, count: u16, forced: bool) -> Command {
+    pub(crate) fn write(address: u32, count: u16, forced: bool) -> Command
+        ensures { result ≡ write_command address count forced }
+    {
         let [a, b, c, d] = address.to_be_bytes();
         let [e, f] = count.to_be_bytes();
         let flags = if forced { 0x08 } else { 0 };
@@ -51,7 +61,9 @@ impl Command {
     }
 
     /// SYNCHRONIZE CACHE(10) of all blocks.
-    pub fn synchronize() -> Command {
+    pub(crate) fn synchronize() -> Command
+        ensures { result ≡ synchronize_command }
+    {
         Command {
             block: [0x35, 0, 0, 0, 0, 0, 0, 0, 0, 0],
             direction: Direction::ToDevice,
@@ -60,7 +72,9 @@ impl Command {
     }
 
     /// The bytes of its command block wrapper with this tag.
-    pub fn wrapper(&self, tag: u32) -> [u8; 31] {
+    pub(crate) fn wrapper(&self, tag: u32) -> [u8; 31]
+        ensures { result ≡ wrapper_of self.now tag }
+    {
         let mut bytes = [0; 31];
         bytes[..4].copy_from_slice(b"USBC");
         bytes[4..8].copy_from_slice(&tag.to_le_bytes());

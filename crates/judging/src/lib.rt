@@ -18,7 +18,6 @@ mod worked;
 pub use command::{Command, Direction};
 pub use finding::Finding;
 pub use host::Host;
-pub use packet::{passed, power_on_sense, to_device, to_host};
 pub use player::Player;
 pub use playing::{Played, disk_identity, hear, play};
 pub use power::{copied, cut};

@@ -1,36 +1,58 @@
 // Lives that are played event by event.
-ghost use Rattle.std.specs.Prelude.{◌≡◌, ◌<◌};
-ghost use Rattle.bot_machine.specs.LivesValue.{medium_in};
+ghost use Rattle.std.specs.Prelude.{◌≡◌, ◌<◌, [], ◌∷◌, length, IfOk, IfErr, OnOk};
+ghost use Rattle.medium.specs.Sim.{IsFused, IsFailing};
+ghost use Rattle.bot_machine.specs.Lives.{arms, fails, starts};
+ghost use Rattle.bot_machine.specs.LivesValue.{medium_in, LivesGoOn, IsRefused};
+ghost use Rattle.bot_machine.specs.declared.stage.Stage.TheVariants.{Rests};
 
 use crate::finding::Finding;
 use crate::playing::disk_identity;
 use bot_machine::{Answer, Event, Lives, StartFault};
 use medium::SimMedium;
 use std::alloc::{AllocError, Global};
+use std::marker::Model;
 
 /// Plays lives at high speed on a medium in memory, event by event, so that the medium is seen while
 /// its power is off, and a refusal can be armed.
 #[derive(Drop)]
 pub struct Player {
     lives: Lives,
-    ghost high_speed: { lives.device.packet_size ≡ 512 },
+}
+
+impl Model for Player {
+    ghost use Rattle.std.specs.Prelude.{◌≡◌};
+    ghost use Rattle.bot_machine.specs.LivesValue.{LivesValue};
+
+    ghost Value = { LivesValue };
+
+    ghost view = { λ player. player.lives };
+
+    ghost invariant = { λ player. player.lives.device.packet_size ≡ 512 };
 }
 
 impl Player {
     /// No life has been yet.
-    pub fn new(medium: SimMedium) -> Result<Player, Finding> {
+    pub fn new(medium: SimMedium) -> Result<Player, Finding>
+        ensures { IfOk result (λ player. player.stage ≡ Rests medium) }
+    {
         Ok(Player {
             lives: Lives::new(medium, disk_identity()?),
         })
     }
 
     /// The medium.
-    pub fn medium(&self) -> &SimMedium {
+    pub fn medium(&self) -> &SimMedium
+        ensures { result.now ≡ medium_in self.now.stage }
+    {
         self.lives.medium()
     }
 
     /// Arms a fuse: so many writes and flushes happen, and at the next the power goes.
-    pub fn fuse(&mut self, writes: u64) {
+    pub fn fuse(&mut self, writes: u64)
+        ensures goes_on { LivesGoOn self.old (arms writes ∷ []) [] self.new }
+        ensures fused { IsFused writes (medium_in self.old.stage)
+            (medium_in self.new.stage) }
+    {
         self.lives.fuse(writes);
     }
 
@@ -38,6 +60,9 @@ impl Player {
     /// once.
     pub fn fail(&mut self, call: u64)
         requires { 0 < call }
+        ensures goes_on { LivesGoOn self.old (fails call ∷ []) [] self.new }
+        ensures failing { IsFailing call (medium_in self.old.stage)
+            (medium_in self.new.stage) }
     {
         self.lives.fail(call);
     }
@@ -47,7 +72,12 @@ impl Player {
     /// # Errors
     ///
     /// The fault with which the start was refused, where the power is still on.
-    pub fn start(&mut self, alloc: Global) -> Result<(), StartFault> {
+    pub fn start(&mut self, alloc: Global) -> Result<(), StartFault>
+        ensures ok { OnOk result
+            (LivesGoOn self.old (starts ∷ []) [] self.new) }
+        ensures err { IfErr result (λ fault. IsRefused self.old fault
+            self.new) }
+    {
         self.lives.start(alloc)
     }
 
@@ -56,7 +86,9 @@ impl Player {
     /// # Errors
     ///
     /// `Start` where the start was refused.
-    pub fn play(&mut self, alloc: Global, events: &[Event]) -> Result<Vec<Answer>, Finding> {
+    pub fn play(&mut self, alloc: Global, events: &[Event]) -> Result<Vec<Answer>, Finding>
+        ensures { IfOk result (λ answers. length answers.items ≡ length events.now) }
+    {
         let mut answers = Vec::new(alloc);
         for event in events {
             let answer = self.lives.event(alloc, event).map_err(Finding::Start)?;

@@ -1,5 +1,6 @@
 // The play of a life, and the judgement of its answers.
-ghost use Rattle.std.specs.Prelude.{◌≡◌, None, IfOk};
+ghost use Rattle.std.specs.Prelude.{◌≡◌, None, length, slice_get, IfOk, IfSome, IsSome, OnOk, OnSome};
+ghost use Rattle.judging.specs.Judged.{judged_identity};
 ghost use Rattle.bot_machine.specs.LivesValue.{IsAtRest};
 
 use crate::finding::Finding;
@@ -36,6 +37,7 @@ pub fn play(
     requires unfused { medium.power.fuse ≡ None }
     ensures rests { IfOk result (λ played. IsAtRest played.medium) }
     ensures unfused { IfOk result (λ played. played.medium.power.fuse ≡ None) }
+    ensures cut { IfOk result (λ played. OnSome played.cut_in (IsSome life.now.fuse)) }
 {
     let (medium, answers) = live(alloc, medium, life)?;
     let cut_in = hear(&life.events, answers.list(), hearing)?;
@@ -46,7 +48,9 @@ pub fn play(
 }
 
 /// The identity of the disks that are judged.
-pub fn disk_identity() -> Result<Identity, Finding> {
+pub fn disk_identity() -> Result<Identity, Finding>
+    ensures { IfOk result (λ identity. identity ≡ judged_identity) }
+{
     Identity::new(
         *b"USBDISK ",
         *b"POWER SAFE DISK ",
@@ -87,7 +91,11 @@ pub fn hear(
     events: &[Event],
     told: &[Answer],
     hearing: &mut Hearing,
-) -> Result<Option<usize>, Finding> {
+) -> Result<Option<usize>, Finding>
+    ensures count { OnOk result (length told.now ≡ length events.now) }
+    ensures cut { IfOk result (λ cut_in. IfSome cut_in (λ place. slice_get told.now place
+        ≡ Some Answer.Off)) }
+{
     if told.len() != events.len() {
         return Err(Finding::Count);
     }

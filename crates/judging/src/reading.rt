@@ -1,5 +1,5 @@
 // The blocks that an image serves.
-ghost use Rattle.std.specs.Prelude.{◌≡◌, None, IfOk};
+ghost use Rattle.std.specs.Prelude.{◌≡◌, None, length, IfOk};
 ghost use Rattle.bot_machine.specs.LivesValue.{IsAtRest};
 
 use crate::finding::Finding;
@@ -29,6 +29,7 @@ pub fn blocks_of(
     requires unfused { medium.power.fuse ≡ None }
     ensures rests { IfOk result (λ served. IsAtRest served.0) }
     ensures unfused { IfOk result (λ served. served.0.power.fuse ≡ None) }
+    ensures count { IfOk result (λ served. length served.1.blocks.items ≡ blocks) }
 {
     let life = reading_life(alloc, blocks, limit)?;
     let (medium, answers) = live(alloc, medium, &life)?;
@@ -41,12 +42,9 @@ pub fn blocks_of(
 /// # Errors
 ///
 /// Those of `blocks_of`.
-pub fn served(
-    alloc: Global,
-    player: &mut Player,
-    blocks: u32,
-    limit: u32,
-) -> Result<Array, Finding> {
+pub fn served(alloc: Global, player: &mut Player, blocks: u32, limit: u32) -> Result<Array, Finding>
+    ensures { IfOk result (λ array. length array.blocks.items ≡ blocks) }
+{
     let life = reading_life(alloc, blocks, limit)?;
     let answers = player.play(alloc, &life.events)?;
     blocks_in(alloc, &answers, blocks, limit)
@@ -67,7 +65,9 @@ fn reading_life(alloc: Global, blocks: u32, limit: u32) -> Result<Life, Finding>
 }
 
 // The blocks that the answers to that life give.
-fn blocks_in(alloc: Global, answers: &[Answer], blocks: u32, limit: u32) -> Result<Array, Finding> {
+fn blocks_in(alloc: Global, answers: &[Answer], blocks: u32, limit: u32) -> Result<Array, Finding>
+    ensures { IfOk result (λ array. length array.blocks.items ≡ blocks) }
+{
     let mut told = Told { answers, place: 0 };
     told.ack()?;
     told.data(&power_on_sense())?;
@@ -81,6 +81,9 @@ fn blocks_in(alloc: Global, answers: &[Answer], blocks: u32, limit: u32) -> Resu
         told.data(&passed(tag))?;
     }
     told.end()?;
+    if array.len() != blocks as usize {
+        return Err(Finding::Blocks);
+    }
     Ok(Array { blocks: array })
 }
 

@@ -1,4 +1,5 @@
 // The shape of an image.
+ghost use Rattle.judging.specs.Formats.{limit_of};
 ghost use Rattle.std.specs.Prelude.{◌≡◌, None, IfOk};
 ghost use Rattle.bot_machine.specs.LivesValue.{IsAtRest};
 
@@ -26,7 +27,9 @@ pub struct Shape {
 
 impl Format {
     /// How many blocks a READ or a WRITE moves at most.
-    pub fn limit(self) -> u32 {
+    pub fn limit(self) -> u32
+        ensures { result ≡ limit_of self }
+    {
         match self {
             Format::One => 48,
             Format::Two => 240,
@@ -44,8 +47,8 @@ impl fmt::Display for Format {
 }
 
 impl Shape {
-    /// How many sectors the image has.
-    pub fn sectors(self) -> u64 {
+    // How many sectors the image has.
+    fn sectors(self) -> u64 {
         let slots = u64::from(self.slots);
         let log = match self.format {
             Format::One => slots * 50,

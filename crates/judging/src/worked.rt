@@ -1,4 +1,9 @@
 // The life that is cut, and in which a call of the medium is refused, at each place.
+ghost use Rattle.std.specs.Prelude.{◌≡◌, replicate, IfOk, OnOk};
+ghost use Rattle.bot_machine.specs.declared.event.Event.TheVariants.{In};
+ghost use Rattle.judging.specs.Commands.{sense_command, synchronize_command};
+ghost use Rattle.judging.specs.Sent.{with_event, with_tokens, with_command, with_strokes};
+
 use crate::finding::Finding;
 use crate::host::Host;
 use abstract_disk::{Block, Write};
@@ -43,9 +48,13 @@ pub const STROKES: [Stroke; 5] = [
 
 impl Stroke {
     /// The write whose blocks are full of this byte.
-    pub fn filled(self, alloc: Global, byte: u8) -> Result<Write, AllocError> {
+    pub fn filled(self, alloc: Global, byte: u8) -> Result<Write, AllocError>
+        ensures address { IfOk result (λ write. write.address ≡ self.address) }
+        ensures blocks { IfOk result (λ write. write.blocks.items
+            ≡ replicate self.count (replicate 512 byte)) }
+    {
         let mut blocks: Vec<Block> = Vec::new(alloc);
-        for _ in 0..self.count {
+        for _made in 0..self.count {
             blocks.push([byte; 512])?;
         }
         Ok(Write {
@@ -58,13 +67,25 @@ impl Stroke {
 impl Host {
     /// The worked life: REQUEST SENSE, the five writes, the first full of the byte 1, the second of 2
     /// and so on, and SYNCHRONIZE CACHE.
-    pub fn worked_life(&mut self, alloc: Global) -> Result<(), Finding> {
+    pub fn worked_life(&mut self, alloc: Global) -> Result<(), Finding>
+        ensures { let begun = with_tokens (with_command self.old sense_command) 2 in
+            let written = with_strokes begun STROKES in
+            OnOk result (self.new ≡ with_event (with_command written synchronize_command) In) }
+    {
         self.request_sense()?;
+        self.strokes(alloc, &STROKES)?;
+        self.synchronize()
+    }
+
+    // These writes, the first full of the byte 1, the second of 2 and so on.
+    fn strokes(&mut self, alloc: Global, strokes: &[Stroke]) -> Result<(), Finding>
+        ensures { OnOk result (self.new ≡ with_strokes self.old strokes.now) }
+    {
         let mut byte = 0u8;
-        for stroke in STROKES {
+        for stroke in strokes {
             byte = byte.wrapping_add(1);
             self.write(&stroke.filled(alloc, byte)?, stroke.forced)?;
         }
-        self.synchronize()
+        Ok(())
     }
 }
