@@ -18,7 +18,8 @@ pub record Sent : Type 0 where
 abbrev pub ticked : List Event → ℕ → List Event
 ticked events count = events ++ replicate count Tick
 
--- these events, and the steps in the background that come before the next one: none before the first
+-- these events, and the steps in the background that come before the next one, none before the
+-- first
 abbrev pub paused : List Event → ℕ → List Event
 paused [] between = []
 paused (event ∷ events) between = ticked (event ∷ events) between
