@@ -12,7 +12,8 @@ use Rattle.log_image.specs.Format2.{format2, offset2}
 use Rattle.log_layout.proofs.BytesTwo.{entry_stands, entry_begins, place_rest, two_parts}
 use Rattle.log_image.proofs.Format2Laws.{offset_descriptor, offset_place, part_descriptor, part_place}
 
-module _ (shape : Shape) (image : Image) (s : ℕ) (es : List Entry) (w : IsWholeIn format2 shape image s es) (i : ℕ) (below : i < length es) where
+module _ (shape : Shape) (image : Image) (s : ℕ) (es : List Entry) (w : IsWholeIn format2 shape image s es) (i : ℕ)
+    (below : i < length es) where
   pub descriptor_there : image (2 + 249 * (s % shape.slots) + i / 30) ≡ descriptor_bytes s es (i / 30)
   descriptor_there =
       let d : i / 30 < (length es + 29) / 30 = omega arith in
@@ -24,13 +25,15 @@ module _ (shape : Shape) (image : Image) (s : ℕ) (es : List Entry) (w : IsWhol
       let b : (length es + 29) / 30 ≤ (length es + 29) / 30 + i = omega arith in
       let d : (length es + 29) / 30 + i < (length es + 29) / 30 + length es = omega arith in
       let back : (length es + 29) / 30 + i - (length es + 29) / 30 ≡ i = omega arith in
-      let o : 8 + i ≡ offset2 (length es) ((length es + 29) / 30 + i) = omega (arith, offset_place (length es) ((length es + 29) / 30 + i) b d) in
+      let o : 8 + i ≡ offset2 (length es) ((length es + 29) / 30 + i) =
+      omega (arith, offset_place (length es) ((length es + 29) / 30 + i) b d) in
       ap (λ (x : ℕ). image (2 + 249 * (s % shape.slots) + x)) o
       ∙ (w.there ((length es + 29) / 30 + i) (omega arith)
       ∙ (part_place s es ((length es + 29) / 30 + i) b d ∙ ap (λ (k : ℕ). place_bytes s (block_of es k)) back))
 
   -- the first 8 bytes stand in the descriptor
-  pub begins_there : (descriptor : List ℕ) → descriptor ≡ descriptor_bytes s es (i / 30) → slice_range descriptor (40 + 16 * (i % 30)) (40 + 16 * (i % 30) + 8) ≡ take 8 (block_of es i)
+  pub begins_there : (descriptor : List ℕ) → descriptor ≡ descriptor_bytes s es (i / 30)
+      → slice_range descriptor (40 + 16 * (i % 30)) (40 + 16 * (i % 30) + 8) ≡ take 8 (block_of es i)
   begins_there descriptor is =
       let e : ℕ = i % 30 in
       let small : i % 30 < 30 = omega arith in

@@ -57,7 +57,8 @@ record Counted (shape : Shape) (image : Image) (head room : ℕ) : Type 0 where
 
 -- whole records are counted from a stamp on
 counted : (shape : Shape) (image : Image) (head room : ℕ) → Counted shape image head room
-counted shape image head zero = record { count = 0; few = omega arith; whole = λ j below. absurd (omega arith); ends = λ less. absurd (omega arith) }
+counted shape image head zero =
+    record { count = 0; few = omega arith; whole = λ j below. absurd (omega arith); ends = λ less. absurd (omega arith) }
 counted shape image head (suc room) = elim (whole_or_not (layout_of shape.format) (laws_of shape.format) shape image head) [
   | inl w ↦ longer w (counted shape image (head + 1) room)
   | inr not ↦ none not
@@ -82,10 +83,12 @@ counted shape image head (suc room) = elim (whole_or_not (layout_of shape.format
       count = suc c.count;
       few = omega (arith, c.few);
       whole = each c w;
-      ends = λ less v. c.ends (omega arith) (let e : head + suc c.count ≡ head + 1 + c.count = omega arith in subst (HasWhole shape image) e v);
+      ends = λ less v.
+          c.ends (omega arith) (let e : head + suc c.count ≡ head + 1 + c.count = omega arith in subst (HasWhole shape image) e v);
     }
 
 -- each image has a count of whole records from each stamp on
 pub count_of : (shape : Shape) (image : Image) (head : ℕ) → (count : ℕ)
     × IsCount shape image head count
-count_of shape image head = let c = counted shape image head shape.slots in (c.count, record { few = c.few; whole = c.whole; ends = c.ends })
+count_of shape image head =
+    let c = counted shape image head shape.slots in (c.count, record { few = c.few; whole = c.whole; ends = c.ends })

@@ -1,5 +1,6 @@
 -- The crash argument, for every layout: what the writing of a record leaves.
-use Rattle.std.proofs.Common.{◌≡◌, ◌≢◌, ◌⊎◌, inl, inr, ⊎_elim, ℕ, zero, suc, ◌+◌, ◌*◌, ◌-◌, ◌%◌, ◌<◌, ◌≤◌, List, [], ◌∷◌, ◌++◌, length, get_or, sym, ◌∙◌, ap, subst, arith, length-append}
+use Rattle.std.proofs.Common.{◌≡◌, ◌≢◌, ◌⊎◌, inl, inr, ⊎_elim, ℕ, zero, suc, ◌+◌, ◌*◌, ◌-◌, ◌%◌, ◌<◌, ◌≤◌, List, [], ◌∷◌, ◌++◌, length}
+use Rattle.std.proofs.Common.{get_or, sym, ◌∙◌, ap, subst, arith, length-append}
 use Rattle.std.proofs.lemmas.Bool.{cases_eq, cases_lt}
 use Rattle.std.proofs.lemmas.Nat.{mod_below}
 use Rattle.std.proofs.lemmas.List.{get_or_append_left}
@@ -32,7 +33,9 @@ all_or_one P Q (suc n) each = ⊎_elim
 
 module _ (L : Layout) (laws : Laws L) (shape : Shape) (some : 1 ≤ shape.slots) where
   -- where the last sector of the slot does not carry a stamp, that stamp's record is not whole
-  last_free_none : (image : Image) (stamp : ℕ) → IsFree L stamp (L.slot_sectors - 1) (image (2 + L.slot_sectors * (stamp % shape.slots) + (L.slot_sectors - 1))) → ¬ HasWholeIn L shape image stamp
+  last_free_none : (image : Image) (stamp : ℕ)
+      → IsFree L stamp (L.slot_sectors - 1) (image (2 + L.slot_sectors * (stamp % shape.slots) + (L.slot_sectors - 1)))
+      → ¬ HasWholeIn L shape image stamp
   last_free_none image stamp free whole =
       let m = length whole.0 in
       let last = L.parts m - 1 in
@@ -43,7 +46,8 @@ module _ (L : Layout) (laws : Laws L) (shape : Shape) (some : 1 ≤ shape.slots)
       elim (laws.carries shape.blocks stamp whole.0 last r below) [
         | inl early ↦ absurd (omega (arith, laws.last_is_late m))
         | inr c ↦
-            let carries : L.carries (L.slot_sectors - 1) stamp (L.part stamp whole.0 last) = subst (λ (o : ℕ). L.carries o stamp (L.part stamp whole.0 last)) (laws.last m) c in
+            let carries : L.carries (L.slot_sectors - 1) stamp (L.part stamp whole.0 last) =
+            subst (λ (o : ℕ). L.carries o stamp (L.part stamp whole.0 last)) (laws.last m) c in
             let less : stamp < stamp = free stamp (subst (L.carries (L.slot_sectors - 1) stamp) (sym here) carries) in
             absurd (omega arith)
       ]
@@ -66,7 +70,8 @@ module _ (L : Layout) (laws : Laws L) (shape : Shape) (some : 1 ≤ shape.slots)
   }
 
 -- where no sector of the log carries the stamp or a later one, a record may be begun
-pub rests_begun : (L : Layout) → Laws L → (v : View) → 1 ≤ v.shape.slots → length v.under_way ≤ L.most → (image : Image) → Resting L v image → Guarded L v 0 0 image
+pub rests_begun : (L : Layout) → Laws L → (v : View) → 1 ≤ v.shape.slots → length v.under_way ≤ L.most → (image : Image) → Resting L v image
+    → Guarded L v 0 0 image
 rests_begun L laws v some few image r = record {
   keeps = r.keeps;
   parts = record {
@@ -98,42 +103,52 @@ module _ (L : Layout) (laws : Laws L) (v : View) (slots : HasSlots L v) where
   inside p below = laws.inside (length v.under_way) p slots.under_way.fit.few below
 
   -- a record of an earlier stamp is whole in an image that has other bytes in a sector of the slot
-  whole_stays : (before image : Image) (o : ℕ) (bytes : List ℕ) → o < L.slot_sectors → Holds (2 + L.slot_sectors * ((v.head + length v.records) % v.shape.slots) + o) bytes before image
-      → (j : ℕ) (entries : List Entry) → j < length v.records → IsWholeIn L v.shape before (v.head + j) entries → IsWholeIn L v.shape image (v.head + j) entries
+  whole_stays : (before image : Image) (o : ℕ) (bytes : List ℕ) → o < L.slot_sectors
+      → Holds (2 + L.slot_sectors * ((v.head + length v.records) % v.shape.slots) + o) bytes before image → (j : ℕ) (entries : List Entry)
+      → j < length v.records → IsWholeIn L v.shape before (v.head + j) entries → IsWholeIn L v.shape image (v.head + j) entries
   whole_stays before image o bytes small write j entries earlier w =
-      let other : (v.head + j) % v.shape.slots ≢ (v.head + length v.records) % v.shape.slots = other_slot (v.head + j) (v.head + length v.records) v.shape.slots (omega arith) (omega (arith, slots.room)) in
+      let other : (v.head + j) % v.shape.slots ≢ (v.head + length v.records) % v.shape.slots =
+      other_slot (v.head + j) (v.head + length v.records) v.shape.slots (omega arith) (omega (arith, slots.room)) in
       record {
         fit = w.fit;
         least = w.least;
         below = w.below;
         there = λ p below. write.elsewhere (2 + L.slot_sectors * ((v.head + j) % v.shape.slots) + L.offset (length entries) p)
-            (other_sector L.slot_sectors ((v.head + j) % v.shape.slots) ((v.head + length v.records) % v.shape.slots) (L.offset (length entries) p) o other (laws.inside (length entries) p w.fit.few below) small)
+            (other_sector L.slot_sectors ((v.head + j) % v.shape.slots) ((v.head + length v.records) % v.shape.slots)
+            (L.offset (length entries) p) o other (laws.inside (length entries) p w.fit.few below) small)
             ∙ w.there p below;
       }
 
   -- the durable records, the super, the head and home stay
-  keeps_stays : (before image : Image) (o : ℕ) (bytes : List ℕ) → o < L.slot_sectors → Holds (2 + L.slot_sectors * ((v.head + length v.records) % v.shape.slots) + o) bytes before image
-      → KeepsView L v before → KeepsView L v image
+  keeps_stays : (before image : Image) (o : ℕ) (bytes : List ℕ) → o < L.slot_sectors
+      → Holds (2 + L.slot_sectors * ((v.head + length v.records) % v.shape.slots) + o) bytes before image → KeepsView L v before
+      → KeepsView L v image
   keeps_stays before image o bytes small write k =
-      let low : 2 + L.slot_sectors * ((v.head + length v.records) % v.shape.slots) + o < 2 + L.slot_sectors * v.shape.slots = in_log L.slot_sectors ((v.head + length v.records) % v.shape.slots) v.shape.slots o slot_below small in
+      let low : 2 + L.slot_sectors * ((v.head + length v.records) % v.shape.slots) + o < 2 + L.slot_sectors * v.shape.slots =
+      in_log L.slot_sectors ((v.head + length v.records) % v.shape.slots) v.shape.slots o slot_below small in
       record {
         super = subst (IsSuper v.shape) (sym (write.elsewhere 0 (λ e. omega arith))) k.super;
         head_is = subst (IsHead v.head) (sym (write.elsewhere 1 (λ e. omega arith))) k.head_is;
         whole = λ j below. whole_stays before image o bytes small write j (get_or v.records j []) below (k.whole j below);
-        blocks = λ b below. with_records-same v.records (home_of v.shape image) (home_of v.shape before) b (write.elsewhere (v.shape.home + b) (λ e. omega (arith, slots.behind))) ∙ k.blocks b below;
+        blocks = λ b below. with_records-same v.records (home_of v.shape image) (home_of v.shape before) b
+            (write.elsewhere (v.shape.home + b) (λ e. omega (arith, slots.behind)))
+            ∙ k.blocks b below;
       }
 
   -- part k is written: it carries the record's stamp at most
   carries_stays : (before image : Image) (k : ℕ) → k < L.parts (length v.under_way)
-      → Holds (2 + L.slot_sectors * ((v.head + length v.records) % v.shape.slots) + L.offset (length v.under_way) k) (L.part (v.head + length v.records) v.under_way k) before image
+      → Holds (2 + L.slot_sectors * ((v.head + length v.records) % v.shape.slots) + L.offset (length v.under_way) k)
+      (L.part (v.head + length v.records) v.under_way k) before image
       → CarriesBelowIn L v.shape before (v.head + length v.records + 1) → CarriesBelowIn L v.shape image (v.head + length v.records + 1)
   carries_stays before image k below write c other o t low small carries = elim (cases_eq (2 + L.slot_sectors * other + o) (at k)) [
     | inl is ↦ elim (cases_eq other slot) [
       | inl same ↦
           let same_o : o ≡ L.offset (length v.under_way) k = omega (arith, is, ap (λ (x : ℕ). L.slot_sectors * x) same) in
           let here : image (2 + L.slot_sectors * other + o) ≡ L.part (v.head + length v.records) v.under_way k = ap image is ∙ write.here in
-          let one : t ≡ v.head + length v.records = laws.one_stamp v.shape.blocks (v.head + length v.records) t v.under_way k slots.under_way below
-          (subst (λ (x : ℕ). L.carries x t (L.part (v.head + length v.records) v.under_way k)) same_o (subst (L.carries o t) here carries)) in
+          let one : t ≡ v.head + length v.records = laws.one_stamp v.shape.blocks (v.head + length v.records) t v.under_way k
+          slots.under_way below
+          (subst (λ (x : ℕ). L.carries x t (L.part (v.head + length v.records) v.under_way k)) same_o
+          (subst (L.carries o t) here carries)) in
           omega (arith, one)
       | inr apart ↦ absurd (other_sector L.slot_sectors other slot o (L.offset (length v.under_way) k) apart small (inside k below) is)
     ]
@@ -142,16 +157,20 @@ module _ (L : Layout) (laws : Laws L) (v : View) (slots : HasSlots L v) where
 
   -- a part that was not written now
   part_stays : (before image : Image) (k p : ℕ) → k < L.parts (length v.under_way) → p < L.parts (length v.under_way) → p ≢ k
-      → Holds (2 + L.slot_sectors * ((v.head + length v.records) % v.shape.slots) + L.offset (length v.under_way) k) (L.part (v.head + length v.records) v.under_way k) before image
+      → Holds (2 + L.slot_sectors * ((v.head + length v.records) % v.shape.slots) + L.offset (length v.under_way) k)
+      (L.part (v.head + length v.records) v.under_way k) before image
       → image (at p) ≡ before (at p)
-  part_stays before image k p below small not write = write.elsewhere (at p) (λ e. not (laws.apart (length v.under_way) p k slots.under_way.fit.few small below (omega (arith, e))))
+  part_stays before image k p below small not write =
+      write.elsewhere (at p) (λ e. not (laws.apart (length v.under_way) p k slots.under_way.fit.few small below (omega (arith, e))))
 
   -- part k reached the medium
   pub Guarded-write : (before image : Image) (k durable : ℕ) → k < L.parts (length v.under_way)
-      → Holds (2 + L.slot_sectors * ((v.head + length v.records) % v.shape.slots) + L.offset (length v.under_way) k) (L.part (v.head + length v.records) v.under_way k) before image
+      → Holds (2 + L.slot_sectors * ((v.head + length v.records) % v.shape.slots) + L.offset (length v.under_way) k)
+      (L.part (v.head + length v.records) v.under_way k) before image
       → Guarded L v k durable before → Guarded L v (k + 1) durable image
   Guarded-write before image k durable below write g = record {
-    keeps = keeps_stays before image (L.offset (length v.under_way) k) (L.part (v.head + length v.records) v.under_way k) (inside k below) write g.keeps;
+    keeps = keeps_stays before image (L.offset (length v.under_way) k) (L.part (v.head + length v.records) v.under_way k) (inside k below)
+        write g.keeps;
     parts = record {
       carries = carries_stays before image k below write g.parts.carries;
       flushed = λ p less small. elim (cases_eq p k) [
@@ -162,14 +181,18 @@ module _ (L : Layout) (laws : Laws L) (v : View) (slots : HasSlots L v) where
         | inl is ↦ inl (ap image (ap at is) ∙ write.here ∙ ap (λ (x : ℕ). L.part (v.head + length v.records) v.under_way x) (sym is))
         | inr not ↦
             let same = part_stays before image k p below small not write in
-            ⊎_elim (λ there. inl (same ∙ there)) (λ free. inr (subst (IsFree L (v.head + length v.records) (L.offset (length v.under_way) p)) (sym same) free)) (g.parts.either p (omega arith) small)
+            ⊎_elim (λ there. inl (same ∙ there))
+            (λ free. inr (subst (IsFree L (v.head + length v.records) (L.offset (length v.under_way) p)) (sym same) free))
+            (g.parts.either p (omega arith) small)
       ];
-      free = λ p more small. subst (IsFree L (v.head + length v.records) (L.offset (length v.under_way) p)) (sym (part_stays before image k p below small (λ e. omega arith) write)) (g.parts.free p (omega arith) small);
+      free = λ p more small. subst (IsFree L (v.head + length v.records) (L.offset (length v.under_way) p))
+          (sym (part_stays before image k p below small (λ e. omega arith) write)) (g.parts.free p (omega arith) small);
     };
   }
 
   -- part k was lost
-  pub Guarded-lost : (image : Image) (k durable : ℕ) → k < L.parts (length v.under_way) → Guarded L v k durable image → Guarded L v (k + 1) durable image
+  pub Guarded-lost : (image : Image) (k durable : ℕ) → k < L.parts (length v.under_way) → Guarded L v k durable image
+      → Guarded L v (k + 1) durable image
   Guarded-lost image k durable below g = record {
     keeps = g.keeps;
     parts = record {
@@ -184,7 +207,8 @@ module _ (L : Layout) (laws : Laws L) (v : View) (slots : HasSlots L v) where
   }
 
   -- all that is written is flushed
-  pub Guarded-flush : (image : Image) (k durable : ℕ) → ((p : ℕ) → p < k → p < L.parts (length v.under_way) → image (at p) ≡ L.part (v.head + length v.records) v.under_way p)
+  pub Guarded-flush : (image : Image) (k durable : ℕ)
+      → ((p : ℕ) → p < k → p < L.parts (length v.under_way) → image (at p) ≡ L.part (v.head + length v.records) v.under_way p)
       → Guarded L v k durable image → Guarded L v k k image
   Guarded-flush image k durable there g = record {
     keeps = g.keeps;
@@ -197,7 +221,8 @@ module _ (L : Layout) (laws : Laws L) (v : View) (slots : HasSlots L v) where
   }
 
   -- with all its parts in its slot the record is whole
-  whole_now : (image : Image) → ((p : ℕ) → p < L.parts (length v.under_way) → image (at p) ≡ L.part (v.head + length v.records) v.under_way p)
+  whole_now : (image : Image)
+      → ((p : ℕ) → p < L.parts (length v.under_way) → image (at p) ≡ L.part (v.head + length v.records) v.under_way p)
       → IsWholeIn L v.shape image (v.head + length v.records) v.under_way
   whole_now image there = record {
     fit = slots.under_way.fit;
@@ -207,11 +232,14 @@ module _ (L : Layout) (laws : Laws L) (v : View) (slots : HasSlots L v) where
   }
 
   -- a record that is whole is one of its stamp
-  record_of : (image : Image) (stamp : ℕ) (entries : List Entry) → IsWholeIn L v.shape image stamp entries → IsRecordOf L v.shape.blocks stamp entries
+  record_of : (image : Image) (stamp : ℕ) (entries : List Entry) → IsWholeIn L v.shape image stamp entries
+      → IsRecordOf L v.shape.blocks stamp entries
   record_of image stamp entries w = record { fit = w.fit; least = w.least; below = w.below }
 
   -- where the last sector of the slot does not carry a stamp, that stamp's record is not whole
-  no_last : (image : Image) (stamp : ℕ) → IsFree L stamp (L.slot_sectors - 1) (image (2 + L.slot_sectors * (stamp % v.shape.slots) + (L.slot_sectors - 1))) → ¬ HasWholeIn L v.shape image stamp
+  no_last : (image : Image) (stamp : ℕ)
+      → IsFree L stamp (L.slot_sectors - 1) (image (2 + L.slot_sectors * (stamp % v.shape.slots) + (L.slot_sectors - 1)))
+      → ¬ HasWholeIn L v.shape image stamp
   no_last image stamp free = last_free_none L laws v.shape slots.some image stamp free
 
   -- behind the stamps that the log carries no record is whole
@@ -219,7 +247,8 @@ module _ (L : Layout) (laws : Laws L) (v : View) (slots : HasSlots L v) where
   none_behind image end c = none_carried L laws v.shape slots.some image end c
 
   -- the record under way is not whole, or it is, with its blocks
-  pub whole_or_not : (image : Image) (k durable : ℕ) → (L.parts (length v.under_way) ≤ k → L.early (length v.under_way) ≤ durable) → Guarded L v k durable image
+  pub whole_or_not : (image : Image) (k durable : ℕ) → (L.parts (length v.under_way) ≤ k → L.early (length v.under_way) ≤ durable)
+      → Guarded L v k durable image
       → (¬ HasWholeIn L v.shape image (v.head + length v.records)) ⊎ IsWholeIn L v.shape image (v.head + length v.records) v.under_way
   whole_or_not image k durable early g =
       let last = L.parts (length v.under_way) - 1 in
@@ -228,7 +257,8 @@ module _ (L : Layout) (laws : Laws L) (v : View) (slots : HasSlots L v) where
         | inr not ↦ inl (no_last image (v.head + length v.records) (last_free image (g.parts.free last not below)))
         | inl written ↦ elim (g.parts.either last written below) [
           | inr free ↦ inl (no_last image (v.head + length v.records) (last_free image free))
-          | inl commit ↦ elim (all_or_one
+          | inl commit ↦
+              elim (all_or_one
               (λ p. image (at p) ≡ L.part (v.head + length v.records) v.under_way p)
               (λ p. IsFree L (v.head + length v.records) (L.offset (length v.under_way) p) (image (at p)) × (durable ≤ p))
               (L.parts (length v.under_way))
@@ -237,72 +267,102 @@ module _ (L : Layout) (laws : Laws L) (v : View) (slots : HasSlots L v) where
                 | inr unsure ↦ ⊎_elim (λ there. inl there) (λ free. inr (free, unsure)) (g.parts.either p (omega arith) small)
               ])) [
                 | inl all ↦ inr (whole_now image all)
-                | inr one ↦ inl (λ whole.
+                | inr one ↦
+                    inl (λ whole.
                     let r = record_of image (v.head + length v.records) whole.0 whole.1 in
                     let m = length whole.0 in
-                    let their : image (2 + L.slot_sectors * slot + L.offset m (L.parts m - 1)) ≡ L.part (v.head + length v.records) whole.0 (L.parts m - 1) = whole.1.there (L.parts m - 1) (omega (arith, laws.some_parts m)) in
-                    let same_place : at last ≡ 2 + L.slot_sectors * slot + L.offset m (L.parts m - 1) = omega (arith, laws.last m, laws.last (length v.under_way)) in
-                    let same : length v.under_way ≡ m = laws.count v.shape.blocks (v.head + length v.records) v.under_way whole.0 slots.under_way r (sym commit ∙ (ap image same_place ∙ their)) in
+                    let their : image (2 + L.slot_sectors * slot + L.offset m (L.parts m - 1))
+                    ≡ L.part (v.head + length v.records) whole.0 (L.parts m - 1) =
+                    whole.1.there (L.parts m - 1) (omega (arith, laws.some_parts m)) in
+                    let same_place : at last ≡ 2 + L.slot_sectors * slot + L.offset m (L.parts m - 1) =
+                    omega (arith, laws.last m, laws.last (length v.under_way)) in
+                    let same : length v.under_way ≡ m = laws.count v.shape.blocks (v.head + length v.records) v.under_way whole.0
+                    slots.under_way r (sym commit ∙ (ap image same_place ∙ their)) in
                     let small : one.0 < L.parts m = subst (λ (x : ℕ). one.0 < L.parts x) same one.1 in
-                    let here : image (at one.0) ≡ L.part (v.head + length v.records) whole.0 one.0 = ap (λ (x : ℕ). image (2 + L.slot_sectors * slot + L.offset x one.0)) same ∙ whole.1.there one.0 small in
+                    let here : image (at one.0) ≡ L.part (v.head + length v.records) whole.0 one.0 =
+                    ap (λ (x : ℕ). image (2 + L.slot_sectors * slot + L.offset x one.0)) same ∙ whole.1.there one.0 small in
                     elim (laws.carries v.shape.blocks (v.head + length v.records) whole.0 one.0 r small) [
-                      | inl soon ↦ absurd (omega (arith, early (omega arith), one.2.1, subst (λ (x : ℕ). one.0 < L.early x) (sym same) soon))
+                      | inl soon ↦
+                          absurd (omega (arith, early (omega arith), one.2.1, subst (λ (x : ℕ). one.0 < L.early x) (sym same) soon))
                       | inr c ↦
-                          let carries : L.carries (L.offset (length v.under_way) one.0) (v.head + length v.records) (L.part (v.head + length v.records) whole.0 one.0) =
-                          subst (λ (x : ℕ). L.carries (L.offset x one.0) (v.head + length v.records) (L.part (v.head + length v.records) whole.0 one.0)) (sym same) c in
-                          let less : v.head + length v.records < v.head + length v.records = one.2.0 (v.head + length v.records) (subst (L.carries (L.offset (length v.under_way) one.0) (v.head + length v.records)) (sym here) carries) in
+                          let carries : L.carries (L.offset (length v.under_way) one.0) (v.head + length v.records)
+                          (L.part (v.head + length v.records) whole.0 one.0) =
+                          subst
+                          (λ (x : ℕ). L.carries (L.offset x one.0) (v.head + length v.records)
+                          (L.part (v.head + length v.records) whole.0 one.0))
+                          (sym same) c in
+                          let less : v.head + length v.records < v.head + length v.records =
+                          one.2.0 (v.head + length v.records)
+                          (subst (L.carries (L.offset (length v.under_way) one.0) (v.head + length v.records)) (sym here)
+                          carries) in
                           absurd (omega arith)
                     ])
               ]
         ]
       ]
     where
-      last_free : (image : Image) → IsFree L (v.head + length v.records) (L.offset (length v.under_way) (L.parts (length v.under_way) - 1)) (image (at (L.parts (length v.under_way) - 1)))
-          → IsFree L (v.head + length v.records) (L.slot_sectors - 1) (image (2 + L.slot_sectors * ((v.head + length v.records) % v.shape.slots) + (L.slot_sectors - 1)))
-      last_free image free = let P : ℕ → Type 0 = λ (o : ℕ). IsFree L (v.head + length v.records) o (image (2 + L.slot_sectors * ((v.head + length v.records) % v.shape.slots) + o)) in subst P (laws.last (length v.under_way)) free
+      last_free : (image : Image)
+          → IsFree L (v.head + length v.records) (L.offset (length v.under_way) (L.parts (length v.under_way) - 1))
+          (image (at (L.parts (length v.under_way) - 1)))
+          → IsFree L (v.head + length v.records) (L.slot_sectors - 1)
+          (image (2 + L.slot_sectors * ((v.head + length v.records) % v.shape.slots) + (L.slot_sectors - 1)))
+      last_free image free =
+          let P : ℕ → Type 0 = λ (o : ℕ).
+          IsFree L (v.head + length v.records) o (image (2 + L.slot_sectors * ((v.head + length v.records) % v.shape.slots) + o)) in
+          subst P (laws.last (length v.under_way)) free
 
   -- an image where the record under way is not whole
-  found_without : (image : Image) (k durable : ℕ) → Guarded L v k durable image → ¬ HasWholeIn L v.shape image (v.head + length v.records) → Found L v image
-  found_without image k durable g not = record { keeps = g.keeps; few = omega (arith, slots.room); ends = λ room. not; carries = g.parts.carries }
+  found_without : (image : Image) (k durable : ℕ) → Guarded L v k durable image → ¬ HasWholeIn L v.shape image (v.head + length v.records)
+      → Found L v image
+  found_without image k durable g not =
+      record { keeps = g.keeps; few = omega (arith, slots.room); ends = λ room. not; carries = g.parts.carries }
 
   -- an image where it is keeps it with the durable ones
-  keeps_with : (image : Image) → KeepsView L v image → IsWholeIn L v.shape image (v.head + length v.records) v.under_way → KeepsView L (with_record v) image
+  keeps_with : (image : Image) → KeepsView L v image → IsWholeIn L v.shape image (v.head + length v.records) v.under_way
+      → KeepsView L (with_record v) image
   keeps_with image keeps whole =
       let longer : length (v.records ++ v.under_way ∷ []) ≡ length v.records + 1 = length-append v.records (v.under_way ∷ []) in
       record {
         super = keeps.super;
         head_is = keeps.head_is;
         whole = λ j below. elim (cases_lt j (length v.records)) [
-          | inl earlier ↦ subst (λ (r : List Entry). IsWholeIn L v.shape image (v.head + j) r) (sym (get_or_append_left v.records (v.under_way ∷ []) [] j earlier)) (keeps.whole j earlier)
+          | inl earlier ↦
+              subst (λ (r : List Entry). IsWholeIn L v.shape image (v.head + j) r)
+              (sym (get_or_append_left v.records (v.under_way ∷ []) [] j earlier)) (keeps.whole j earlier)
           | inr late ↦
               let is : j ≡ length v.records = omega arith in
               subst (λ (i : ℕ). IsWholeIn L v.shape image (v.head + i) (get_or (v.records ++ v.under_way ∷ []) i [])) (sym is)
-              (subst (λ (r : List Entry). IsWholeIn L v.shape image (v.head + length v.records) r) (sym (get_or-append_seam v.records v.under_way [] [])) whole)
+              (subst (λ (r : List Entry). IsWholeIn L v.shape image (v.head + length v.records) r)
+              (sym (get_or-append_seam v.records v.under_way [] [])) whole)
         ];
         blocks = λ b below. with_records-append v.records v.under_way (home_of v.shape image) b
             ∙ with_blocks-same v.under_way (with_records v.records (home_of v.shape image)) v.array b (keeps.blocks b below);
       }
 
   -- and stands for it
-  found_with : (image : Image) (k durable : ℕ) → Guarded L v k durable image → IsWholeIn L v.shape image (v.head + length v.records) v.under_way → Found L (with_record v) image
+  found_with : (image : Image) (k durable : ℕ) → Guarded L v k durable image
+      → IsWholeIn L v.shape image (v.head + length v.records) v.under_way → Found L (with_record v) image
   found_with image k durable g whole =
       let longer : length (v.records ++ v.under_way ∷ []) ≡ length v.records + 1 = length-append v.records (v.under_way ∷ []) in
       record {
         keeps = keeps_with image g.keeps whole;
         few = omega (arith, longer, slots.room);
-        ends = λ room. subst (λ (t : ℕ). ¬ HasWholeIn L v.shape image t) (omega (arith, longer)) (none_behind image (v.head + length v.records + 1) g.parts.carries);
+        ends = λ room. subst (λ (t : ℕ). ¬ HasWholeIn L v.shape image t) (omega (arith, longer))
+            (none_behind image (v.head + length v.records + 1) g.parts.carries);
         carries = λ other o t low small c. omega (arith, longer, g.parts.carries other o t low small c);
       }
 
   -- so a cut leaves what it may leave
-  pub guarded_leaves : (image : Image) (k durable : ℕ) → (L.parts (length v.under_way) ≤ k → L.early (length v.under_way) ≤ durable) → Guarded L v k durable image → MayLeave L v image
+  pub guarded_leaves : (image : Image) (k durable : ℕ) → (L.parts (length v.under_way) ≤ k → L.early (length v.under_way) ≤ durable)
+      → Guarded L v k durable image → MayLeave L v image
   guarded_leaves image k durable early g = ⊎_elim
       (λ not. inl (found_without image k durable g not))
       (λ whole. inr (found_with image k durable g whole))
       (whole_or_not image k durable early g)
 
   -- and when all is flushed, the record is whole, and none is under way
-  pub durable_rests : (image : Image) (k durable : ℕ) → L.parts (length v.under_way) ≤ durable → Guarded L v k durable image → Resting L (with_record v) image
+  pub durable_rests : (image : Image) (k durable : ℕ) → L.parts (length v.under_way) ≤ durable → Guarded L v k durable image
+      → Resting L (with_record v) image
   durable_rests image k durable all g =
       let longer : length (v.records ++ v.under_way ∷ []) ≡ length v.records + 1 = length-append v.records (v.under_way ∷ []) in
       record {
@@ -315,8 +375,10 @@ module _ (L : Layout) (laws : Laws L) (v : View) (slots : HasSlots L v) where
   rest_early image k durable early g =
       let last = L.parts (length v.under_way) - 1 in
       let below : last < L.parts (length v.under_way) = omega (arith, laws.some_parts (length v.under_way)) in
-      let P : ℕ → Type 0 = λ (o : ℕ). IsFree L (v.head + length v.records) o (image (2 + L.slot_sectors * ((v.head + length v.records) % v.shape.slots) + o)) in
-      found_without image k durable g (no_last image (v.head + length v.records) (subst P (laws.last (length v.under_way)) (g.parts.free last (omega arith) below)))
+      let P : ℕ → Type 0 = λ (o : ℕ).
+      IsFree L (v.head + length v.records) o (image (2 + L.slot_sectors * ((v.head + length v.records) % v.shape.slots) + o)) in
+      found_without image k durable g
+      (no_last image (v.head + length v.records) (subst P (laws.last (length v.under_way)) (g.parts.free last (omega arith) below)))
 
   -- a flush that was not the record's own may be forgotten
   pub Guarded-less : (image : Image) (k less durable : ℕ) → less ≤ durable → Guarded L v k durable image → Guarded L v k less image
@@ -331,40 +393,62 @@ module _ (L : Layout) (laws : Laws L) (v : View) (slots : HasSlots L v) where
   }
 
   -- what the record under way has may be whole with its own blocks alone
-  pub exactly : (image : Image) (entries : List Entry) → IsWholeIn L v.shape image (v.head + length v.records) v.under_way → IsWholeIn L v.shape image (v.head + length v.records) entries → entries ≡ v.under_way
+  pub exactly : (image : Image) (entries : List Entry) → IsWholeIn L v.shape image (v.head + length v.records) v.under_way
+      → IsWholeIn L v.shape image (v.head + length v.records) entries → entries ≡ v.under_way
   exactly image entries mine theirs =
       let r = record_of image (v.head + length v.records) entries theirs in
       let m = length entries in
       let last_mine = mine.there (L.parts n - 1) (omega (arith, laws.some_parts n)) in
       let last_theirs = theirs.there (L.parts m - 1) (omega (arith, laws.some_parts m)) in
-      let same_place : 2 + L.slot_sectors * slot + L.offset m (L.parts m - 1) ≡ at (L.parts n - 1) = omega (arith, laws.last m, laws.last n) in
-      let same : length entries ≡ length v.under_way = laws.count v.shape.blocks (v.head + length v.records) entries v.under_way r slots.under_way (sym last_theirs ∙ (ap image same_place ∙ last_mine)) in
-      laws.exact v.shape.blocks (v.head + length v.records) entries v.under_way r slots.under_way same (λ p below.
-      sym (theirs.there p below) ∙ (ap (λ (x : ℕ). image (2 + L.slot_sectors * slot + L.offset x p)) same ∙ mine.there p (subst (λ (x : ℕ). p < L.parts x) same below)))
+      let same_place : 2 + L.slot_sectors * slot + L.offset m (L.parts m - 1) ≡ at (L.parts n - 1) =
+      omega (arith, laws.last m, laws.last n) in
+      let same : length entries ≡ length v.under_way = laws.count v.shape.blocks (v.head + length v.records) entries v.under_way r
+      slots.under_way (sym last_theirs ∙ (ap image same_place ∙ last_mine)) in
+      laws.exact v.shape.blocks (v.head + length v.records) entries v.under_way r slots.under_way same
+      (λ p below. sym (theirs.there p below)
+      ∙ (ap (λ (x : ℕ). image (2 + L.slot_sectors * slot + L.offset x p)) same
+      ∙ mine.there p (subst (λ (x : ℕ). p < L.parts x) same below)))
 
   pub begun_each : (image : Image) → Resting L v image → Guarded L v 0 0 image
   begun_each image r = rests_begun L laws v slots.some slots.under_way.fit.few image r
 
 module _ (L : Layout) (laws : Laws L) (v : View) (slots : HasSlots L v) where
   -- Where a part but the last one was written with other blocks in it, the record under way is not whole.
-  pub other_written : (before image : Image) (k durable : ℕ) (other : List Entry) → IsRecordOf L v.shape.blocks (v.head + length v.records) other → length other ≡ length v.under_way
+  pub other_written : (before image : Image) (k durable : ℕ) (other : List Entry)
+      → IsRecordOf L v.shape.blocks (v.head + length v.records) other → length other ≡ length v.under_way
       → k + 1 < L.parts (length v.under_way)
-      → Holds (2 + L.slot_sectors * ((v.head + length v.records) % v.shape.slots) + L.offset (length v.under_way) k) (L.part (v.head + length v.records) other k) before image
+      → Holds (2 + L.slot_sectors * ((v.head + length v.records) % v.shape.slots) + L.offset (length v.under_way) k)
+      (L.part (v.head + length v.records) other k) before image
       → Guarded L v k durable before → Found L v image
   other_written before image k durable other is same early write g =
       let w : View = record v { under_way = other } in
       let slots_w : HasSlots L w = record { some = slots.some; room = slots.room; behind = slots.behind; under_way = is } in
-      let at_w : Holds (2 + L.slot_sectors * ((v.head + length v.records) % v.shape.slots) + L.offset (length other) k) (L.part (v.head + length v.records) other k) before image =
-      subst (λ (m : ℕ). Holds (2 + L.slot_sectors * ((v.head + length v.records) % v.shape.slots) + L.offset m k) (L.part (v.head + length v.records) other k) before image) (sym same) write in
+      let at_w : Holds (2 + L.slot_sectors * ((v.head + length v.records) % v.shape.slots) + L.offset (length other) k)
+      (L.part (v.head + length v.records) other k) before image =
+      subst
+      (λ (m : ℕ). Holds (2 + L.slot_sectors * ((v.head + length v.records) % v.shape.slots) + L.offset m k)
+      (L.part (v.head + length v.records) other k) before image)
+      (sym same) write in
       let k_w : k < L.parts (length other) = subst (λ (m : ℕ). k < L.parts m) (sym same) (omega (arith, early)) in
       let last = L.parts (length v.under_way) - 1 in
       let below : last < L.parts (length v.under_way) = omega (arith, early) in
-      let stays : image (2 + L.slot_sectors * ((v.head + length v.records) % v.shape.slots) + L.offset (length v.under_way) last) ≡ before (2 + L.slot_sectors * ((v.head + length v.records) % v.shape.slots) + L.offset (length v.under_way) last) = write.elsewhere (2 + L.slot_sectors * ((v.head + length v.records) % v.shape.slots) + L.offset (length v.under_way) last) (λ e. omega (arith, early, laws.apart (length v.under_way) last k slots.under_way.fit.few below (omega (arith, early)) (omega (arith, e)))) in
-      let free : IsFree L (v.head + length v.records) (L.offset (length v.under_way) last) (image (2 + L.slot_sectors * ((v.head + length v.records) % v.shape.slots) + L.offset (length v.under_way) last)) =
-      subst (IsFree L (v.head + length v.records) (L.offset (length v.under_way) last)) (sym stays) (g.parts.free last (omega (arith, early)) below) in
-      let P : ℕ → Type 0 = λ (o : ℕ). IsFree L (v.head + length v.records) o (image (2 + L.slot_sectors * ((v.head + length v.records) % v.shape.slots) + o)) in
+      let stays : image (2 + L.slot_sectors * ((v.head + length v.records) % v.shape.slots) + L.offset (length v.under_way) last)
+      ≡ before (2 + L.slot_sectors * ((v.head + length v.records) % v.shape.slots) + L.offset (length v.under_way) last) =
+      write.elsewhere (2 + L.slot_sectors * ((v.head + length v.records) % v.shape.slots) + L.offset (length v.under_way) last)
+      (λ e. omega (
+        arith,
+        early,
+        laws.apart (length v.under_way) last k slots.under_way.fit.few below (omega (arith, early)) (omega (arith, e)),
+      )) in
+      let free : IsFree L (v.head + length v.records) (L.offset (length v.under_way) last)
+      (image (2 + L.slot_sectors * ((v.head + length v.records) % v.shape.slots) + L.offset (length v.under_way) last)) =
+      subst (IsFree L (v.head + length v.records) (L.offset (length v.under_way) last)) (sym stays)
+      (g.parts.free last (omega (arith, early)) below) in
+      let P : ℕ → Type 0 = λ (o : ℕ).
+      IsFree L (v.head + length v.records) o (image (2 + L.slot_sectors * ((v.head + length v.records) % v.shape.slots) + o)) in
       record {
-        keeps = keeps_stays L laws v slots before image (L.offset (length v.under_way) k) (L.part (v.head + length v.records) other k) (inside L laws v slots k (omega (arith, early))) write g.keeps;
+        keeps = keeps_stays L laws v slots before image (L.offset (length v.under_way) k) (L.part (v.head + length v.records) other k)
+            (inside L laws v slots k (omega (arith, early))) write g.keeps;
         few = omega (arith, slots.room);
         ends = λ room. no_last L laws v slots image (v.head + length v.records) (subst P (laws.last (length v.under_way)) free);
         carries = carries_stays L laws w slots_w before image k k_w at_w g.parts.carries;

@@ -90,8 +90,10 @@ module _ (size : ℕ) (image : Image) where
 
   -- nor these
   super_size : HasFault size image BadSuper → ¬ HasFault size image BadSize
-  super_size h k = ⊎_elim (λ e. omega arith)
-      (λ q. ⊎_elim (λ z. ⊎_elim (λ m. m (z.0)) (λ r. r.2 (z.2)) h.1) (λ short. ⊎_elim (λ m. no_fault Magic short.0 (image 0) m short.1) (λ r. no_fault Rest short.0 (image 0) r short.1) h.1) q) k
+  super_size h k =
+      ⊎_elim (λ e. omega arith)
+      (λ q. ⊎_elim (λ z. ⊎_elim (λ m. m (z.0)) (λ r. r.2 (z.2)) h.1)
+      (λ short. ⊎_elim (λ m. no_fault Magic short.0 (image 0) m short.1) (λ r. no_fault Rest short.0 (image 0) r short.1) h.1) q) k
 
   -- nor these
   super_head : HasFault size image BadSuper → ¬ HasFault size image BadHead
@@ -99,7 +101,8 @@ module _ (size : ℕ) (image : Image) where
 
   -- nor these
   version_size : HasFault size image BadVersion → ¬ HasFault size image BadSize
-  version_size h k = ⊎_elim (λ e. omega arith) (λ q. ⊎_elim (λ z. h.1.1 (z.1)) (λ short. no_fault Version short.0 (image 0) h.1 short.1) q) k
+  version_size h k =
+      ⊎_elim (λ e. omega arith) (λ q. ⊎_elim (λ z. h.1.1 (z.1)) (λ short. no_fault Version short.0 (image 0) h.1 short.1) q) k
 
   -- nor these
   version_head : HasFault size image BadVersion → ¬ HasFault size image BadHead
@@ -134,7 +137,8 @@ module _ (size : ℕ) (image : Image) where
 
   -- an image that stands for something has none
   pub HasFault-stands : (fault : ImageFault) → HasFault size image fault → ¬ Stands size image
-  HasFault-stands BadSuper h s = ⊎_elim (λ m. no_fault Magic s.0 (image 0) m s.3.keeps.super) (λ r. no_fault Rest s.0 (image 0) r s.3.keeps.super) h.1
+  HasFault-stands BadSuper h s =
+      ⊎_elim (λ m. no_fault Magic s.0 (image 0) m s.3.keeps.super) (λ r. no_fault Rest s.0 (image 0) r s.3.keeps.super) h.1
   HasFault-stands BadVersion h s = no_fault Version s.0 (image 0) h.1 s.3.keeps.super
   HasFault-stands BadSize h s = size_shape h s.0 (record { super = s.3.keeps.super; fits = s.3.fits })
   HasFault-stands BadHead h s = h.2 s.3.head s.3.keeps.head_is

@@ -1,5 +1,6 @@
 -- Format 1 keeps the laws of a layout too.
-use Rattle.std.proofs.Common.{◌≡◌, ◌⊎◌, inl, inr, ⊎_elim, ℕ, ◌+◌, ◌-◌, ◌^◌, ◌<◌, ◌≤◌, List, [], length, get_or, refl, sym, ◌∙◌, ap, subst, arith}
+use Rattle.std.proofs.Common.{◌≡◌, ◌⊎◌, inl, inr, ⊎_elim, ℕ, ◌+◌, ◌-◌, ◌^◌, ◌<◌, ◌≤◌, List, [], length, get_or, refl, sym, ◌∙◌, ap, subst}
+use Rattle.std.proofs.Common.{arith}
 use Rattle.std.specs.Prelude.{true, false, nat_lt}
 use Rattle.std.proofs.lemmas.Bool.{cases_lt}
 use Rattle.std.proofs.lemmas.Bool.Decides.{nat_tests}
@@ -55,7 +56,9 @@ kind_of n p = elim (cases_lt p 1) [
 ]
 
 pub inside1 : (n p : ℕ) → n ≤ 48 → p < n + 2 → offset1 n p < 50
-inside1 n p few below = ⊎_elim (λ (e : p < n + 1). omega (arith, offset_early n p e)) (λ (c : n + 1 ≤ p). omega (arith, offset_commit n p c)) (cases_lt p (n + 1))
+inside1 n p few below =
+    ⊎_elim (λ (e : p < n + 1). omega (arith, offset_early n p e)) (λ (c : n + 1 ≤ p). omega (arith, offset_commit n p c))
+    (cases_lt p (n + 1))
 
 pub apart1 : (n p q : ℕ) → n ≤ 48 → p < n + 2 → q < n + 2 → offset1 n p ≡ offset1 n q → p ≡ q
 apart1 n p q few hp hq e = elim (cases_lt p (n + 1)) [
@@ -69,7 +72,8 @@ apart1 n p q few hp hq e = elim (cases_lt p (n + 1)) [
   ]
 ]
 
-pub descriptor_of : (blocks s : ℕ) (entries : List Entry) → IsRecordOf format1 blocks s entries → IsDescriptor s (numbers_of entries) (descriptor1 s (numbers_of entries))
+pub descriptor_of : (blocks s : ℕ) (entries : List Entry) → IsRecordOf format1 blocks s entries
+    → IsDescriptor s (numbers_of entries) (descriptor1 s (numbers_of entries))
 descriptor_of blocks s entries r =
     let f : Entry → ℕ = λ e. e.0 in
     record {
@@ -84,7 +88,8 @@ descriptor_of blocks s entries r =
       };
     }
 
-pub commit_of : (blocks s : ℕ) (entries : List Entry) → IsRecordOf format1 blocks s entries → IsCommit s (length entries) (commit1 s (length entries))
+pub commit_of : (blocks s : ℕ) (entries : List Entry) → IsRecordOf format1 blocks s entries
+    → IsCommit s (length entries) (commit1 s (length entries))
 commit_of blocks s entries r = record { spelled = refl; least = r.least; most = r.below; some = r.fit.some; few = r.fit.few }
 
 pub carries1 : (blocks s : ℕ) (entries : List Entry) (p : ℕ) → IsRecordOf format1 blocks s entries → p < length entries + 2
@@ -96,7 +101,8 @@ carries1 blocks s entries p r below = elim (cases_lt p (length entries + 1)) [
       inr (record {
         descriptor = λ low. absurd (omega (arith, o));
         place = λ high. omega (arith, o);
-        commit = λ high. (length entries, subst (IsCommit s (length entries)) (sym (part_commit s entries p c)) (commit_of blocks s entries r));
+        commit = λ high.
+            (length entries, subst (IsCommit s (length entries)) (sym (part_commit s entries p c)) (commit_of blocks s entries r));
       })
 ]
 
@@ -105,14 +111,16 @@ pub one_stamp1 : (blocks s t : ℕ) (entries : List Entry) (p : ℕ) → IsRecor
 one_stamp1 blocks s t entries p r (Described d) c =
     let o = offset_early (length entries) p (omega arith) in
     let f = c.descriptor (omega (arith, o)) in
-    IsDescriptor-stamp t s f.0 (numbers_of entries) (part1 s entries p) f.1 (subst (IsDescriptor s (numbers_of entries)) (sym (part_descriptor s entries p d)) (descriptor_of blocks s entries r))
+    IsDescriptor-stamp t s f.0 (numbers_of entries) (part1 s entries p) f.1
+    (subst (IsDescriptor s (numbers_of entries)) (sym (part_descriptor s entries p d)) (descriptor_of blocks s entries r))
 one_stamp1 blocks s t entries p r (Placed b d) c =
     let o = offset_early (length entries) p d in
     absurd (omega (arith, o, c.place (omega (arith, o)), r.fit.few))
 one_stamp1 blocks s t entries p r (Committed d) c =
     let o = offset_commit (length entries) p d in
     let f = c.commit (omega (arith, o)) in
-    IsCommit-stamp t s f.0 (length entries) (part1 s entries p) f.1 (subst (IsCommit s (length entries)) (sym (part_commit s entries p d)) (commit_of blocks s entries r))
+    IsCommit-stamp t s f.0 (length entries) (part1 s entries p) f.1
+    (subst (IsCommit s (length entries)) (sym (part_commit s entries p d)) (commit_of blocks s entries r))
 
 pub commit_count : (s m n : ℕ) → m < 2 ^ 64 → n < 2 ^ 64 → commit1 s m ≡ commit1 s n → m ≡ n
 unfolding spelling
@@ -122,14 +130,18 @@ pub same_entry : (blocks s : ℕ) (a b : List Entry) → IsRecordOf format1 bloc
     → ((p : ℕ) → p < length a + 2 → part1 s a p ≡ part1 s b p) → (i : ℕ) → i < length a → get_or a i (0, []) ≡ get_or b i (0, [])
 same_entry blocks s a b ra rb same each i below =
     let f : Entry → ℕ = λ e. e.0 in
-    let descriptors : descriptor1 s (numbers_of a) ≡ descriptor1 s (numbers_of b) = sym (part_descriptor s a 0 (omega arith)) ∙ (each 0 (omega arith) ∙ part_descriptor s b 0 (omega arith)) in
-    let numbers : numbers_of a ≡ numbers_of b = IsDescriptor-numbers s s (numbers_of a) (numbers_of b) (descriptor1 s (numbers_of a)) (descriptor_of blocks s a ra)
-    (subst (IsDescriptor s (numbers_of b)) (sym descriptors) (descriptor_of blocks s b rb)) in
-    let number : (get_or a i (0, [])).0 ≡ (get_or b i (0, [])).0 = sym (get_or-map f a i (0, [])) ∙ (ap (λ (l : List ℕ). get_or l i 0) numbers ∙ get_or-map f b i (0, [])) in
+    let descriptors : descriptor1 s (numbers_of a) ≡ descriptor1 s (numbers_of b) =
+    sym (part_descriptor s a 0 (omega arith)) ∙ (each 0 (omega arith) ∙ part_descriptor s b 0 (omega arith)) in
+    let numbers : numbers_of a ≡ numbers_of b = IsDescriptor-numbers s s (numbers_of a) (numbers_of b) (descriptor1 s (numbers_of a))
+    (descriptor_of blocks s a ra) (subst (IsDescriptor s (numbers_of b)) (sym descriptors) (descriptor_of blocks s b rb)) in
+    let number : (get_or a i (0, [])).0 ≡ (get_or b i (0, [])).0 =
+    sym (get_or-map f a i (0, [])) ∙ (ap (λ (l : List ℕ). get_or l i 0) numbers ∙ get_or-map f b i (0, [])) in
     let back : i + 1 - 1 ≡ i = omega arith in
     let block : block_of a i ≡ block_of b i =
     ap (λ (k : ℕ). block_of a k) (sym back)
-    ∙ (sym (part_place s a (i + 1) (omega arith) (omega arith)) ∙ (each (i + 1) (omega arith) ∙ (part_place s b (i + 1) (omega arith) (omega arith) ∙ ap (λ (k : ℕ). block_of b k) back))) in
+    ∙ (sym (part_place s a (i + 1) (omega arith) (omega arith))
+    ∙ (each (i + 1) (omega arith)
+    ∙ (part_place s b (i + 1) (omega arith) (omega arith) ∙ ap (λ (k : ℕ). block_of b k) back))) in
     pair (get_or a i (0, [])) (get_or b i (0, [])) number block
   where
     pair : (a b : Entry) → a.0 ≡ b.0 → a.1 ≡ b.1 → a ≡ b

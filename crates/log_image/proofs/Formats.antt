@@ -10,8 +10,10 @@ use Rattle.log_image.specs.LayoutLaws.{Laws}
 use Rattle.log_image.specs.Format1.{format1, commit1}
 use Rattle.log_image.specs.Format2.{format2}
 use Rattle.log_image.specs.Formats.{layout_of}
-use Rattle.log_image.proofs.Format1Laws.{inside1, apart1, carries1, one_stamp1, commit_count as commit_count1, kind_of as kind_of1, same_entry as same_entry1, part_commit as part_commit1, offset_commit as offset_commit1}
-use Rattle.log_image.proofs.Format2Laws.{inside2, apart2, carries2, one_stamp2, kind_of as kind_of2, same_entry as same_entry2, part_commit as part_commit2, offset_commit as offset_commit2}
+use Rattle.log_image.proofs.Format1Laws.{inside1, apart1, carries1, one_stamp1, commit_count as commit_count1, kind_of as kind_of1}
+use Rattle.log_image.proofs.Format1Laws.{same_entry as same_entry1, part_commit as part_commit1, offset_commit as offset_commit1}
+use Rattle.log_image.proofs.Format2Laws.{inside2, apart2, carries2, one_stamp2, kind_of as kind_of2, same_entry as same_entry2}
+use Rattle.log_image.proofs.Format2Laws.{part_commit as part_commit2, offset_commit as offset_commit2}
 use Rattle.log_image.proofs.ReadingOne.{record_read as read1, zeros_carry_none as zeros1}
 use Rattle.log_image.proofs.Reading.{record_read as read2}
 use Rattle.log_image.proofs.Zeros.{zeros_carry_none as zeros2}
@@ -25,7 +27,8 @@ format1_laws = record {
   carries = carries1;
   last_is_late = λ n. omega arith;
   one_stamp = λ blocks s t entries p r below c. one_stamp1 blocks s t entries p r (kind_of1 (length entries) p) c;
-  last_part = λ s a b same. part_commit1 s a (length a + 2 - 1) (omega arith) ∙ (ap (commit1 s) same ∙ sym (part_commit1 s b (length b + 2 - 1) (omega arith)));
+  last_part = λ s a b same.
+      part_commit1 s a (length a + 2 - 1) (omega arith) ∙ (ap (commit1 s) same ∙ sym (part_commit1 s b (length b + 2 - 1) (omega arith)));
   count = λ blocks s a b ra rb e. commit_count1 s (length a) (length b) (omega (arith, ra.fit.few)) (omega (arith, rb.fit.few))
       (sym (part_commit1 s a (length a + 2 - 1) (omega arith)) ∙ (e ∙ part_commit1 s b (length b + 2 - 1) (omega arith)));
   exact = λ blocks s a b ra rb same each. ext_get_or (0, []) a b same (same_entry1 blocks s a b ra rb same each);
@@ -42,9 +45,11 @@ format2_laws = record {
   carries = λ blocks s entries p r below. inr (carries2 blocks s entries p r (kind_of2 (length entries) p));
   last_is_late = λ n. omega arith;
   one_stamp = λ blocks s t entries p r below c. one_stamp2 blocks s t entries p r (kind_of2 (length entries) p) c;
-  last_part = λ s a b same. part_commit2 s a ((length a + 29) / 30 + length a + 1 - 1) (omega arith) ∙ (ap (commit_bytes s) same ∙ sym (part_commit2 s b ((length b + 29) / 30 + length b + 1 - 1) (omega arith)));
+  last_part = λ s a b same. part_commit2 s a ((length a + 29) / 30 + length a + 1 - 1) (omega arith)
+      ∙ (ap (commit_bytes s) same ∙ sym (part_commit2 s b ((length b + 29) / 30 + length b + 1 - 1) (omega arith)));
   count = λ blocks s a b ra rb e. commit_count2 s s (length a) (length b) (omega (arith, ra.fit.few)) (omega (arith, rb.fit.few))
-      (sym (part_commit2 s a ((length a + 29) / 30 + length a + 1 - 1) (omega arith)) ∙ (e ∙ part_commit2 s b ((length b + 29) / 30 + length b + 1 - 1) (omega arith)));
+      (sym (part_commit2 s a ((length a + 29) / 30 + length a + 1 - 1) (omega arith))
+      ∙ (e ∙ part_commit2 s b ((length b + 29) / 30 + length b + 1 - 1) (omega arith)));
   exact = λ blocks s a b ra rb same each. ext_get_or (0, []) a b same (same_entry2 blocks s a b ra rb same each);
   read = λ shape image s es w. read2 shape image s es w;
   zeros = zeros2;

@@ -1,5 +1,6 @@
 -- Arrays with records laid over them.
-use Rattle.std.proofs.Common.{◌≡◌, ◌≢◌, ◌⊎◌, inl, inr, ℕ, zero, suc, ◌<◌, List, [], ◌∷◌, ◌++◌, length, get_or, refl, sym, ◌∙◌, ap, subst, arith}
+use Rattle.std.proofs.Common.{◌≡◌, ◌≢◌, ◌⊎◌, inl, inr, ℕ, zero, suc, ◌<◌, List, [], ◌∷◌, ◌++◌, length, get_or, refl, sym, ◌∙◌, ap, subst}
+use Rattle.std.proofs.Common.{arith}
 use Rattle.std.specs.Prelude.{if◌then◌else◌, ◌==◌, Bool, true, false}
 use Rattle.std.proofs.lemmas.Bool.{cases_eq}
 use Rattle.std.proofs.lemmas.Bool.Decides.{nat_tests}
@@ -16,7 +17,8 @@ with_blocks-same (x ∷ entries) a c b e = ap (λ (v : List ℕ). if x.0 == b th
 pub with_records-same : (records : List (List Entry)) (a c : Array) (b : ℕ) → a b ≡ c b
     → with_records records a b ≡ with_records records c b
 with_records-same [] a c b e = e
-with_records-same (entries ∷ records) a c b e = with_records-same records (with_blocks entries a) (with_blocks entries c) b (with_blocks-same entries a c b e)
+with_records-same (entries ∷ records) a c b e =
+    with_records-same records (with_blocks entries a) (with_blocks entries c) b (with_blocks-same entries a c b e)
 
 -- one more record is laid over the others
 pub with_records-append : (records : List (List Entry)) (entries : List Entry) (a : Array) (b : ℕ)
@@ -44,7 +46,8 @@ with_blocks-hides (e ∷ entries) (suc i) a c below =
 pub records-hide : (records : List (List Entry)) (j i : ℕ) → j < length records
     → i < length (get_or records j []) → Hides records (get_or (get_or records j []) i (0, [])).0
 records-hide [] j i below inside a c = absurd (omega arith)
-records-hide (r ∷ records) zero i below inside a c = with_records-same records (with_blocks r a) (with_blocks r c) (get_or r i (0, [])).0 (with_blocks-hides r i a c inside)
+records-hide (r ∷ records) zero i below inside a c =
+    with_records-same records (with_blocks r a) (with_blocks r c) (get_or r i (0, [])).0 (with_blocks-hides r i a c inside)
 records-hide (r ∷ records) (suc j) i below inside a c = records-hide records j i (omega arith) inside (with_blocks r a) (with_blocks r c)
 
 -- blocks that stand in the array already change nothing
@@ -53,7 +56,9 @@ pub with_blocks-home : (entries : List Entry) (a : Array) (b : ℕ) → ((i : �
 with_blocks-home [] a b home = refl
 with_blocks-home (e ∷ entries) a b home = elim (cases_eq e.0 b) [
   | inl is ↦ ap (λ (t : Bool). if t then e.1 else with_blocks entries a b) (yes is) ∙ sym (home 0 (omega arith)) ∙ ap a is
-  | inr not ↦ ap (λ (t : Bool). if t then e.1 else with_blocks entries a b) (no not) ∙ with_blocks-home entries a b (λ i below. home (suc i) (omega arith))
+  | inr not ↦
+      ap (λ (t : Bool). if t then e.1 else with_blocks entries a b) (no not)
+      ∙ with_blocks-home entries a b (λ i below. home (suc i) (omega arith))
 ]
   where
     yes : e.0 ≡ b → (e.0 == b) ≡ true
@@ -87,6 +92,7 @@ pub with_blocks-copied : (entries : List Entry) (old new : Array) → ((i : ℕ)
     → (b : ℕ) → new b ≡ with_blocks entries old b
 with_blocks-copied entries old new copied others b =
     sym (with_blocks-home entries new b copied) ∙ elim (named_or_not entries b) [
-      | inl found ↦ subst (λ x. with_blocks entries new x ≡ with_blocks entries old x) found.2 (with_blocks-hides entries found.0 new old found.1)
+      | inl found ↦
+          subst (λ x. with_blocks entries new x ≡ with_blocks entries old x) found.2 (with_blocks-hides entries found.0 new old found.1)
       | inr none ↦ with_blocks-same entries new old b (others b none)
     ]

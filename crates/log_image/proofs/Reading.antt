@@ -1,5 +1,6 @@
 -- The record that stands in a slot, read back.
-use Rattle.std.proofs.Common.{◌≡◌, ℕ, ◌+◌, ◌-◌, ◌*◌, ◌/◌, ◌%◌, ◌^◌, ◌<◌, List, [], ◌++◌, length, get_or, take, drop, map, refl, sym, ◌∙◌, ap, arith}
+use Rattle.std.proofs.Common.{◌≡◌, ℕ, ◌+◌, ◌-◌, ◌*◌, ◌/◌, ◌%◌, ◌^◌, ◌<◌, List, [], ◌++◌, length, get_or, take, drop, map, refl, sym, ◌∙◌}
+use Rattle.std.proofs.Common.{ap, arith}
 use Rattle.std.specs.Prelude.{replicate}
 use Rattle.std.specs.List.{range_with_len}
 use Rattle.std.proofs.lemmas.List.{length-map}
@@ -20,7 +21,8 @@ use Rattle.log_image.proofs.Copying.{descriptor_there, place_there, copy_is}
 -- the count in a commit
 commit_says : (s n : ℕ) → n < 2 ^ 64 → little_number 8 (drop 16 (commit_bytes s n)) ≡ n
 unfolding commit_bytes padded
-commit_says s n small = little_number-reads_back 8 n (replicate (512 - length (little_bytes 8 commit_mark ++ (little_bytes 8 s ++ little_bytes 8 n))) 0) small
+commit_says s n small =
+    little_number-reads_back 8 n (replicate (512 - length (little_bytes 8 commit_mark ++ (little_bytes 8 s ++ little_bytes 8 n))) 0) small
 
 -- the number in an entry
 entry_says : (e : Entry) → e.0 < 2 ^ 64 → little_number 8 (entry_bytes e) ≡ e.0
@@ -33,7 +35,9 @@ module _ (shape : Shape) (image : Image) (s : ℕ) (es : List Entry) (w : IsWhol
       let p : ℕ = (length es + 29) / 30 + length es in
       let o = offset_commit (length es) ((length es + 29) / 30 + length es) (omega arith) in
       ap (λ (x : ℕ). little_number 8 (drop 16 (image (2 + 249 * (s % shape.slots) + x)))) (sym o)
-      ∙ (ap (λ (l : List ℕ). little_number 8 (drop 16 l)) (w.there ((length es + 29) / 30 + length es) (omega arith) ∙ part_commit s es ((length es + 29) / 30 + length es) (omega arith))
+      ∙ (ap (λ (l : List ℕ). little_number 8 (drop 16 l))
+      (w.there ((length es + 29) / 30 + length es) (omega arith)
+      ∙ part_commit s es ((length es + 29) / 30 + length es) (omega arith))
       ∙ commit_says s (length es) (omega (arith, w.fit.few)))
 
   number_small : (i : ℕ) → i < length es → (get_or es i (0, [])).0 < 2 ^ 64
@@ -41,7 +45,8 @@ module _ (shape : Shape) (image : Image) (s : ℕ) (es : List Entry) (w : IsWhol
       let f : Entry → ℕ = λ e. e.0 in
       omega (arith, w.fit.small i 0 (omega (arith, length-map es f)), get_or-map f es i (0, []))
 
-  number_is : (i : ℕ) → i < length es → little_number 8 (drop (32 + 16 * (i % 30)) (image (2 + 249 * (s % shape.slots) + i / 30))) ≡ (get_or es i (0, [])).0
+  number_is : (i : ℕ) → i < length es
+      → little_number 8 (drop (32 + 16 * (i % 30)) (image (2 + 249 * (s % shape.slots) + i / 30))) ≡ (get_or es i (0, [])).0
   number_is i below =
       let small : i % 30 < 30 = omega arith in
       let split : 30 * (i / 30) + i % 30 ≡ i = omega arith in
@@ -54,8 +59,9 @@ module _ (shape : Shape) (image : Image) (s : ℕ) (es : List Entry) (w : IsWhol
   entry_is : (i : ℕ) → i < length es → get_or es i (0, []) ≡ entry_in image (2 + 249 * (s % shape.slots)) i
   entry_is i below =
       let number = sym (number_is i below) in
-      let block = sym (copy_is shape image s es w i below (image (2 + 249 * (s % shape.slots) + i / 30)) (image (2 + 249 * (s % shape.slots) + (8 + i))) _
-      (descriptor_there shape image s es w i below) (place_there shape image s es w i below) refl) in
+      let block = sym (copy_is shape image s es w i below (image (2 + 249 * (s % shape.slots) + i / 30))
+      (image (2 + 249 * (s % shape.slots) + (8 + i))) _ (descriptor_there shape image s es w i below)
+      (place_there shape image s es w i below) refl) in
       pair (get_or es i (0, [])) (entry_in image (2 + 249 * (s % shape.slots)) i) number block
     where
       pair : (a b : Entry) → a.0 ≡ b.0 → a.1 ≡ b.1 → a ≡ b

@@ -1,5 +1,6 @@
 -- The record that stands in a slot of format 1, read back, and what zeros carry.
-use Rattle.std.proofs.Common.{◌≡◌, inl, inr, ℕ, zero, suc, ◌+◌, ◌-◌, ◌*◌, ◌%◌, ◌<◌, List, [], ◌∷◌, length, get_or, refl, sym, ◌∙◌, ap, subst, arith}
+use Rattle.std.proofs.Common.{◌≡◌, inl, inr, ℕ, zero, suc, ◌+◌, ◌-◌, ◌*◌, ◌%◌, ◌<◌, List, [], ◌∷◌, length, get_or, refl, sym, ◌∙◌, ap}
+use Rattle.std.proofs.Common.{subst, arith}
 use Rattle.std.specs.Prelude.{replicate}
 use Rattle.std.proofs.lemmas.Bool.{cases_lt}
 use Rattle.std.proofs.lemmas.List.{length-map}
@@ -63,7 +64,9 @@ module _ (shape : Shape) (image : Image) (s : ℕ) (es : List Entry) (w : IsWhol
       let o : 0 ≡ offset1 (length es) 0 = sym (offset_early (length es) 0 (omega arith)) in
       let at : 2 + 50 * (s % shape.slots) ≡ 2 + 50 * (s % shape.slots) + 0 = omega arith in
       subst (IsDescriptor s (numbers_of es))
-      (sym (ap image at ∙ (ap (λ (x : ℕ). image (2 + 50 * (s % shape.slots) + x)) o ∙ (w.there 0 (omega arith) ∙ part_descriptor s es 0 (omega arith)))))
+      (sym (ap image at
+      ∙ (ap (λ (x : ℕ). image (2 + 50 * (s % shape.slots) + x)) o
+      ∙ (w.there 0 (omega arith) ∙ part_descriptor s es 0 (omega arith)))))
       (descriptor_of shape.blocks s es record_is)
 
   pub place_there : (i : ℕ) → i < length es → image (2 + 50 * (s % shape.slots) + 1 + i) ≡ block_of es i
@@ -78,11 +81,13 @@ module _ (shape : Shape) (image : Image) (s : ℕ) (es : List Entry) (w : IsWhol
   pub record_read : es ≡ record_in image (2 + 50 * (s % shape.slots))
   record_read =
       let at : ℕ = 2 + 50 * (s % shape.slots) in
-      let numbers : numbers_of es ≡ numbers_in (image (2 + 50 * (s % shape.slots))) = numbers_read s (numbers_of es) (image (2 + 50 * (s % shape.slots))) descriptor_there in
+      let numbers : numbers_of es ≡ numbers_in (image (2 + 50 * (s % shape.slots))) =
+      numbers_read s (numbers_of es) (image (2 + 50 * (s % shape.slots))) descriptor_there in
       let f : Entry → ℕ = λ e. e.0 in
       entries_same es (record_in image (2 + 50 * (s % shape.slots)))
       (numbers ∙ sym (numbers_of-entries_in image (2 + 50 * (s % shape.slots) + 1) (numbers_in (image (2 + 50 * (s % shape.slots))))))
-      (λ i below. sym (place_there i below) ∙ sym (bytes_of-entries_in image (2 + 50 * (s % shape.slots) + 1) i (numbers_in (image (2 + 50 * (s % shape.slots))))
+      (λ i below. sym (place_there i below)
+      ∙ sym (bytes_of-entries_in image (2 + 50 * (s % shape.slots) + 1) i (numbers_in (image (2 + 50 * (s % shape.slots))))
       (omega (arith, below, length-map es f, ap length numbers))))
 
 zero_number : number_in (replicate 512 0) 1 ≡ 0

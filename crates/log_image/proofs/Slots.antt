@@ -9,7 +9,9 @@ other_slot a b k less near same =
     let da = div-add-mod a k in
     let db = div-add-mod b k in
     ⊎_elim
-    (λ (lt : a / k < b / k). let m : k * (a / k + 1) ≤ k * (b / k) = mul-le-mul_left k (omega arith) in absurd (omega (arith, m, more k (a / k), da, db, same)))
+    (λ (lt : a / k < b / k).
+    let m : k * (a / k + 1) ≤ k * (b / k) = mul-le-mul_left k (omega arith) in
+    absurd (omega (arith, m, more k (a / k), da, db, same)))
     (λ (ge : b / k ≤ a / k). let m : k * (b / k) ≤ k * (a / k) = mul-le-mul_left k ge in absurd (omega (arith, m, da, db, same)))
     (cases_lt (a / k) (b / k))
   where

@@ -1,5 +1,6 @@
 -- An image stands for one array and one next stamp.
-use Rattle.std.proofs.Common.{◌≡◌, ⊎_elim, ℕ, zero, suc, ◌+◌, ◌*◌, ◌<◌, ◌≤◌, List, [], ◌∷◌, length, get_or, refl, sym, ◌∙◌, ap, subst, arith}
+use Rattle.std.proofs.Common.{◌≡◌, ⊎_elim, ℕ, zero, suc, ◌+◌, ◌*◌, ◌<◌, ◌≤◌, List, [], ◌∷◌, length, get_or, refl, sym, ◌∙◌, ap, subst}
+use Rattle.std.proofs.Common.{arith}
 use Rattle.std.proofs.lemmas.Bool.{cases_lt}
 use Rattle.std.proofs.lemmas.List.{ext_get_or}
 use Rattle.medium.specs.Medium.{Image}
@@ -16,31 +17,36 @@ use Rattle.log_layout.proofs.Decoding.{IsSuper-one}
 use Rattle.log_image.proofs.Formats.{laws_of, sectors_are}
 use Rattle.log_image.proofs.Wholeness.{IsWhole-one, HasWhole-same, CarriesBelow-agree, Keeps-same, slot_inside}
 
-module _ (size other : ℕ) (shape : Shape) (image : Image) (a b : Array) (t u : ℕ) (h : StandsFor size shape image a t) (k : StandsFor other shape image b u) where
+module _ (size other : ℕ) (shape : Shape) (image : Image) (a b : Array) (t u : ℕ) (h : StandsFor size shape image a t)
+    (k : StandsFor other shape image b u) where
   -- the head is the same
   pub heads : h.head ≡ k.head
   heads = IsHead-one h.head k.head (image 1) h.keeps.head_is k.keeps.head_is
 
   -- there are as many records
   pub counts : length h.records ≡ length k.records
-  counts = ⊎_elim
+  counts =
+      ⊎_elim
       (λ (less : length h.records < length k.records). absurd (h.ends (omega (arith, k.few)) (
         get_or k.records (length h.records) [],
-        subst (λ s. IsWhole shape image s (get_or k.records (length h.records) [])) (omega (arith, heads)) (k.keeps.whole (length h.records) less),
+        subst (λ s. IsWhole shape image s (get_or k.records (length h.records) [])) (omega (arith, heads))
+            (k.keeps.whole (length h.records) less),
       )))
       (λ (ge : length k.records ≤ length h.records). ⊎_elim
       (λ (less : length k.records < length h.records). absurd (k.ends (omega (arith, h.few)) (
         get_or h.records (length k.records) [],
-        subst (λ s. IsWhole shape image s (get_or h.records (length k.records) [])) (omega (arith, heads)) (h.keeps.whole (length k.records) less),
+        subst (λ s. IsWhole shape image s (get_or h.records (length k.records) [])) (omega (arith, heads))
+            (h.keeps.whole (length k.records) less),
       )))
-      (λ (le : length h.records ≤ length k.records). omega arith)
-      (cases_lt (length k.records) (length h.records)))
+      (λ (le : length h.records ≤ length k.records). omega arith) (cases_lt (length k.records) (length h.records)))
       (cases_lt (length h.records) (length k.records))
 
   -- they are the same records
   pub records_same : h.records ≡ k.records
-  records_same = ext_get_or [] h.records k.records counts (λ j below.
-      IsWhole-one (layout_of shape.format) (laws_of shape.format) shape image (h.head + j) (get_or h.records j []) (get_or k.records j []) (h.keeps.whole j below)
+  records_same =
+      ext_get_or [] h.records k.records counts
+      (λ j below. IsWhole-one (layout_of shape.format) (laws_of shape.format) shape image (h.head + j) (get_or h.records j [])
+      (get_or k.records j []) (h.keeps.whole j below)
       (subst (λ s. IsWhole shape image s (get_or k.records j [])) (omega (arith, heads)) (k.keeps.whole j (omega (arith, counts)))))
 
   -- so are the next stamp and the blocks of the array
@@ -149,7 +155,8 @@ module _ (size : ℕ) (shape : Shape) (before image : Image) (agree : Agree 0 si
             (λ x low high. agree x (omega arith) (omega (arith, s.fits)))
             s.keeps;
         few = s.few;
-        ends = λ less w. s.ends less (HasWhole-same (layout_of shape.format) (laws_of shape.format) shape image before (s.head + length s.records)
+        ends = λ less w. s.ends less
+            (HasWhole-same (layout_of shape.format) (laws_of shape.format) shape image before (s.head + length s.records)
             (λ x low high. sym (slot_agrees (before 0) s.keeps.super s.fits (s.head + length s.records) x low high)) w);
         next_is = s.next_is;
       }
@@ -164,7 +171,8 @@ module _ (size : ℕ) (shape : Shape) (before image : Image) (agree : Agree 0 si
   }
 
 -- an image that stands for something has the shape of its super
-pub StandsFor-shape : (size : ℕ) (shape : Shape) (image : Image) (array : Array) (next : ℕ) → StandsFor size shape image array next → HasShape size shape image
+pub StandsFor-shape : (size : ℕ) (shape : Shape) (image : Image) (array : Array) (next : ℕ) → StandsFor size shape image array next
+    → HasShape size shape image
 StandsFor-shape size shape image array next s = record { super = s.keeps.super; fits = s.fits }
 
 -- a count holds in each image with the same sectors
@@ -172,6 +180,8 @@ pub IsCount-same : (shape : Shape) (before image : Image) (head count : ℕ) →
     → image x ≡ before x) → IsCount shape before head count → IsCount shape image head count
 IsCount-same shape before image head count same c = record {
   few = c.few;
-  whole = λ j below. HasWhole-same (layout_of shape.format) (laws_of shape.format) shape before image (head + j) (λ x low high. same x) (c.whole j below);
-  ends = λ less w. c.ends less (HasWhole-same (layout_of shape.format) (laws_of shape.format) shape image before (head + count) (λ x low high. sym (same x)) w);
+  whole = λ j below.
+      HasWhole-same (layout_of shape.format) (laws_of shape.format) shape before image (head + j) (λ x low high. same x) (c.whole j below);
+  ends = λ less w. c.ends less
+      (HasWhole-same (layout_of shape.format) (laws_of shape.format) shape image before (head + count) (λ x low high. sym (same x)) w);
 }

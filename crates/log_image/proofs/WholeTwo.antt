@@ -1,5 +1,6 @@
 -- A whole record of format 2, by what its sectors are decoded to.
-use Rattle.std.proofs.Common.{◌≡◌, ℕ, ◌+◌, ◌*◌, ◌-◌, ◌/◌, ◌%◌, ◌^◌, ◌<◌, List, [], ◌++◌, length, get_or, take, drop, sym, ◌∙◌, ap, subst, arith, length-append}
+use Rattle.std.proofs.Common.{◌≡◌, ℕ, ◌+◌, ◌*◌, ◌-◌, ◌/◌, ◌%◌, ◌^◌, ◌<◌, List, [], ◌++◌, length, get_or, take, drop, sym, ◌∙◌, ap, subst}
+use Rattle.std.proofs.Common.{arith, length-append}
 use Rattle.std.specs.Prelude.{slice_range, All}
 use Rattle.std.proofs.lemmas.List.{take_at, drop_at, get_or-take, get_or-drop, length-take, length-drop, length-map, ext_get_or}
 use Rattle.std.proofs.lemmas.List.FromFn.{get_or-map-range_with_len, length-map-range_with_len}
@@ -17,7 +18,8 @@ use Rattle.log_image.specs.Record.{Entry, numbers_of, block_of}
 use Rattle.log_image.specs.Layout.{IsWholeIn}
 use Rattle.log_image.specs.Format2.{format2, entry_in, record_in, part2, offset2}
 use Rattle.log_image.specs.SlotTwo.{HasDescriptors, HasPlaces}
-use Rattle.log_image.proofs.Format2Laws.{Kind, Described, Placed, Committed, kind_of, offset_descriptor, offset_place, offset_commit, part_descriptor, part_place, part_commit}
+use Rattle.log_image.proofs.Format2Laws.{Kind, Described, Placed, Committed, kind_of, offset_descriptor, offset_place, offset_commit}
+use Rattle.log_image.proofs.Format2Laws.{part_descriptor, part_place, part_commit}
 use Rattle.log_image.proofs.Copying.{place_there}
 
 -- data places have 512 bytes each
@@ -25,7 +27,8 @@ abbrev pub AreSectors : Image → ℕ → ℕ → Type 0
 AreSectors image at count = (i : ℕ) → i < count → length (image (at + (8 + i))) ≡ 512
 
 module _ (image : Image) (at s : ℕ) (numbers : List ℕ) (commit : IsCommitTwo s (length numbers) (image (at + 248)))
-    (described : HasDescriptors image at s numbers) (placed : HasPlaces image at s (length numbers)) (sectors : AreSectors image at (length numbers)) where
+    (described : HasDescriptors image at s numbers) (placed : HasPlaces image at s (length numbers))
+    (sectors : AreSectors image at (length numbers)) where
   read_count : little_number 8 (drop 16 (image (at + 248))) ≡ length numbers
   unfolding number_in
   read_count = commit_count s (length numbers) (image (at + 248)) commit
@@ -34,7 +37,9 @@ module _ (image : Image) (at s : ℕ) (numbers : List ℕ) (commit : IsCommitTwo
   read_long = length-map-range_with_len (entry_in image at) 0 (little_number 8 (drop 16 (image (at + 248)))) ∙ read_count
 
   read_entry : (i : ℕ) → i < length numbers → get_or (record_in image at) i (0, []) ≡ entry_in image at i
-  read_entry i below = get_or-map-range_with_len (entry_in image at) 0 (little_number 8 (drop 16 (image (at + 248)))) i i (0, []) (omega (arith, read_count)) (omega arith)
+  read_entry i below =
+      get_or-map-range_with_len (entry_in image at) 0 (little_number 8 (drop 16 (image (at + 248)))) i i (0, []) (omega (arith, read_count))
+      (omega arith)
 
   -- entry e of descriptor j
   module _ (j e : ℕ) (here : j < (length numbers + 29) / 30) (small : e < 30) (below : 30 * j + e < length numbers) where
@@ -47,7 +52,8 @@ module _ (image : Image) (at s : ℕ) (numbers : List ℕ) (commit : IsCommitTwo
         ∙ get_or-take 30 (drop (30 * j) numbers) e 0 small ∙ get_or-drop (30 * j) numbers e 0
 
     first_there : slice_range (image (at + j)) (40 + 16 * e) (40 + 16 * e + 8) ≡ get_or (described j here).0 e []
-    first_there = first_is s (length numbers) j (take 30 (drop (30 * j) numbers)) (described j here).0 (image (at + j)) (described j here).1 e inside
+    first_there =
+        first_is s (length numbers) j (take 30 (drop (30 * j) numbers)) (described j here).0 (image (at + j)) (described j here).1 e inside
 
     first_long : length (slice_range (image (at + j)) (40 + 16 * e) (40 + 16 * e + 8)) ≡ 8
     first_long =
@@ -56,7 +62,12 @@ module _ (image : Image) (at s : ℕ) (numbers : List ℕ) (commit : IsCommitTwo
 
     small_there : get_or numbers (30 * j + e) 0 < 2 ^ 31
     small_there =
-        omega (arith, (described j here).1.entries.small e 0 inside, get_or-take 30 (drop (30 * j) numbers) e 0 small, get_or-drop (30 * j) numbers e 0)
+        omega (
+          arith,
+          (described j here).1.entries.small e 0 inside,
+          get_or-take 30 (drop (30 * j) numbers) e 0 small,
+          get_or-drop (30 * j) numbers e 0,
+        )
 
   -- the i-th entry
   module _ (i : ℕ) (below : i < length numbers) where
@@ -75,10 +86,14 @@ module _ (image : Image) (at s : ℕ) (numbers : List ℕ) (commit : IsCommitTwo
     begins_long = first_long (i / 30) (i % 30) (omega arith) (omega arith) (omega arith)
 
     read_begins : take 8 (entry_in image at i).1 ≡ slice_range (image (at + i / 30)) (40 + 16 * (i % 30)) (40 + 16 * (i % 30) + 8)
-    read_begins = take_at (slice_range (image (at + i / 30)) (40 + 16 * (i % 30)) (40 + 16 * (i % 30) + 8)) (drop 8 (image (at + (8 + i)))) 8 begins_long
+    read_begins =
+        take_at (slice_range (image (at + i / 30)) (40 + 16 * (i % 30)) (40 + 16 * (i % 30) + 8)) (drop 8 (image (at + (8 + i)))) 8
+        begins_long
 
     read_rest : drop 8 (entry_in image at i).1 ≡ drop 8 (image (at + (8 + i)))
-    read_rest = drop_at (slice_range (image (at + i / 30)) (40 + 16 * (i % 30)) (40 + 16 * (i % 30) + 8)) (drop 8 (image (at + (8 + i)))) 8 begins_long
+    read_rest =
+        drop_at (slice_range (image (at + i / 30)) (40 + 16 * (i % 30)) (40 + 16 * (i % 30) + 8)) (drop 8 (image (at + (8 + i)))) 8
+        begins_long
 
     read_sized : length (entry_in image at i).1 ≡ 512
     read_sized =
@@ -106,7 +121,8 @@ module _ (image : Image) (at s : ℕ) (numbers : List ℕ) (commit : IsCommitTwo
       let inside : i < length numbers = omega (arith, below, long, read_long) in
       get_or-map f (record_in image at) i (0, []) ∙ ap f (read_entry i inside) ∙ read_number i inside)
 
-  firsts_read : (j : ℕ) (in_record : j < (length numbers + 29) / 30) → (described j in_record).0 ≡ firsts_of (chunk_of (record_in image at) j)
+  firsts_read : (j : ℕ) (in_record : j < (length numbers + 29) / 30)
+      → (described j in_record).0 ≡ firsts_of (chunk_of (record_in image at) j)
   firsts_read j in_record =
       let es : List Entry = record_in image at in
       let first : Entry → List ℕ = λ e. take 8 e.1 in
@@ -114,17 +130,29 @@ module _ (image : Image) (at s : ℕ) (numbers : List ℕ) (commit : IsCommitTwo
       let d = (described j in_record).1.entries in
       let many : length (described j in_record).0 ≡ length (take 30 (drop (30 * j) numbers)) = d.each in
       let here : length (chunk_of es j) ≡ length (take 30 (drop (30 * j) numbers)) =
-      omega (arith, read_long, length-take 30 (drop (30 * j) numbers), length-drop (30 * j) numbers, length-take 30 (drop (30 * j) es), length-drop (30 * j) es) in
-      ext_get_or [] (described j in_record).0 (firsts_of (chunk_of es j)) (omega (arith, many, here, length-map (chunk_of es j) first)) (λ e below.
+      omega (
+        arith,
+        read_long,
+        length-take 30 (drop (30 * j) numbers),
+        length-drop (30 * j) numbers,
+        length-take 30 (drop (30 * j) es),
+        length-drop (30 * j) es,
+      ) in
+      ext_get_or [] (described j in_record).0 (firsts_of (chunk_of es j)) (omega (arith, many, here, length-map (chunk_of es j) first))
+      (λ e below.
       let small : e < 30 = omega (arith, below, many, length-take 30 (drop (30 * j) numbers)) in
-      let within : 30 * j + e < length numbers = omega (arith, below, many, length-take 30 (drop (30 * j) numbers), length-drop (30 * j) numbers) in
+      let within : 30 * j + e < length numbers =
+      omega (arith, below, many, length-take 30 (drop (30 * j) numbers), length-drop (30 * j) numbers) in
       let quotient : (30 * j + e) / 30 ≡ j = omega arith in
       let remainder : (30 * j + e) % 30 ≡ e = omega arith in
       sym (first_there j e in_record small within)
       ∙ sym (ap (λ (k : ℕ). slice_range (image (at + k)) (40 + 16 * e) (40 + 16 * e + 8)) quotient)
       ∙ sym (ap (λ (k : ℕ). slice_range (image (at + (30 * j + e) / 30)) (40 + 16 * k) (40 + 16 * k + 8)) remainder)
       ∙ sym (read_begins (30 * j + e) within)
-      ∙ ap first (sym (get_or-take 30 (drop (30 * j) es) e (0, []) small ∙ get_or-drop (30 * j) es e (0, []) ∙ read_entry (30 * j + e) within))
+      ∙ ap first
+      (sym (get_or-take 30 (drop (30 * j) es) e (0, []) small
+      ∙ get_or-drop (30 * j) es e (0, [])
+      ∙ read_entry (30 * j + e) within))
       ∙ sym (get_or-map first (chunk_of es j) e (0, [])))
 
   descriptor_read : (j : ℕ) → j < (length numbers + 29) / 30 → image (at + j) ≡ descriptor_bytes s (record_in image at) j
@@ -137,12 +165,16 @@ module _ (image : Image) (at s : ℕ) (numbers : List ℕ) (commit : IsCommitTwo
       (ap (λ (l : List ℕ). take 30 (drop (30 * j) l)) (sym numbers_read) ∙ sym (numbers_of_chunk es j)) (firsts_read j in_record)
 
   small_read : All (λ b. b < 2 ^ 31) numbers
-  small_read = All-from_get_or (λ (b : ℕ). b < 2147483648) numbers 0 (λ i below. subst (λ (k : ℕ). get_or numbers k 0 < 2147483648) (split i below) (small_there (i / 30) (i % 30) (omega arith) (omega arith) (omega arith)))
+  small_read =
+      All-from_get_or (λ (b : ℕ). b < 2147483648) numbers 0
+      (λ i below. subst (λ (k : ℕ). get_or numbers k 0 < 2147483648) (split i below)
+      (small_there (i / 30) (i % 30) (omega arith) (omega arith) (omega arith)))
 
   commit_read : image (at + 248) ≡ commit_bytes s (length (record_in image at))
   commit_read = commit.spelled ∙ ap (λ (n : ℕ). commit_bytes s n) (sym read_long)
 
-  part_read : (p : ℕ) → Kind (length (record_in image at)) p → image (at + offset2 (length (record_in image at)) p) ≡ part2 s (record_in image at) p
+  part_read : (p : ℕ) → Kind (length (record_in image at)) p
+      → image (at + offset2 (length (record_in image at)) p) ≡ part2 s (record_in image at) p
   part_read p (Described d) =
       ap (λ (x : ℕ). image (at + x)) (offset_descriptor (length (record_in image at)) p d)
       ∙ descriptor_read p (omega (arith, d, read_long)) ∙ sym (part_descriptor s (record_in image at) p d)
@@ -172,7 +204,8 @@ module _ (image : Image) (at s : ℕ) (numbers : List ℕ) (commit : IsCommitTwo
         };
         least = commit.least;
         below = commit.most;
-        there = λ p within. subst (λ (x : ℕ). image (x + offset2 (length (record_in image at)) p) ≡ part2 s (record_in image at) p) is (part_read p (kind_of (length (record_in image at)) p));
+        there = λ p within. subst (λ (x : ℕ). image (x + offset2 (length (record_in image at)) p) ≡ part2 s (record_in image at) p) is
+            (part_read p (kind_of (length (record_in image at)) p));
       }
 
 -- what a whole record's sectors are decoded to
@@ -181,7 +214,8 @@ module _ (shape : Shape) (image : Image) (s : ℕ) (es : List Entry) (w : IsWhol
   commit_whole =
       let p : ℕ = (length es + 29) / 30 + length es in
       record {
-        spelled = ap (λ (x : ℕ). image (2 + 249 * (s % shape.slots) + x)) (sym (offset_commit (length es) ((length es + 29) / 30 + length es) (omega arith)))
+        spelled = ap (λ (x : ℕ). image (2 + 249 * (s % shape.slots) + x))
+            (sym (offset_commit (length es) ((length es + 29) / 30 + length es) (omega arith)))
             ∙ w.there ((length es + 29) / 30 + length es) (omega arith)
             ∙ part_commit s es ((length es + 29) / 30 + length es) (omega arith);
         least = w.least;
@@ -194,7 +228,9 @@ module _ (shape : Shape) (image : Image) (s : ℕ) (es : List Entry) (w : IsWhol
       → IsDescriptorTwo s (length es) j (numbers_of (chunk_of es j)) (firsts_of (chunk_of es j)) (image (2 + 249 * (s % shape.slots) + j))
   descriptor_whole j below =
       let there : image (2 + 249 * (s % shape.slots) + j) ≡ descriptor_bytes s es j =
-      ap (λ (x : ℕ). image (2 + 249 * (s % shape.slots) + x)) (sym (offset_descriptor (length es) j below)) ∙ w.there j (omega arith) ∙ part_descriptor s es j below in
+      ap (λ (x : ℕ). image (2 + 249 * (s % shape.slots) + x)) (sym (offset_descriptor (length es) j below))
+      ∙ w.there j (omega arith)
+      ∙ part_descriptor s es j below in
       subst (IsDescriptorTwo s (length es) j (numbers_of (chunk_of es j)) (firsts_of (chunk_of es j))) (sym there)
       (descriptor_two s es j w.least w.below w.fit.few (omega arith) w.fit.rising w.fit.small w.fit.sized)
 

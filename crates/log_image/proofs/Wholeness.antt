@@ -55,7 +55,8 @@ module _ (L : Layout) (laws : Laws L) (shape : Shape) where
       super = subst (IsSuper shape) (sym zeroth) k.super;
       head_is = subst (IsHead head) (sym first) k.head_is;
       whole = λ j below. IsWhole-same (head + j) (get_or records j []) (slots j below) (k.whole j below);
-      blocks = λ b below. with_records-same records (home_of shape image) (home_of shape before) b (home (shape.home + b) (omega arith) (omega arith))
+      blocks = λ b below. with_records-same records (home_of shape image) (home_of shape before) b
+          (home (shape.home + b) (omega arith) (omega arith))
           ∙ k.blocks b below;
     }
 

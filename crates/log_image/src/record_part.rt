@@ -1,3 +1,4 @@
+//! The parts of a journal record.
 /// One sector of a record.
 #[derive(Drop)]
 pub struct Part {

@@ -1,12 +1,15 @@
 -- What the sectors of format 2 say, read back.
-use Rattle.std.proofs.Common.{◌≡◌, ℕ, zero, suc, ◌+◌, ◌*◌, ◌-◌, ◌^◌, ◌<◌, ◌≤◌, List, [], ◌∷◌, ◌++◌, length, get_or, take, drop, refl, sym, ◌∙◌, ap, arith, length-append}
-use Rattle.std.proofs.lemmas.List.{take_at, drop_at, drop-drop, append_assoc, length-drop, length-take, length-take-le, get_or-take, get_or-drop, take-append-drop}
+use Rattle.std.proofs.Common.{◌≡◌, ℕ, zero, suc, ◌+◌, ◌*◌, ◌-◌, ◌^◌, ◌<◌, ◌≤◌, List, [], ◌∷◌, ◌++◌, length, get_or, take, drop, refl, sym}
+use Rattle.std.proofs.Common.{◌∙◌, ap, arith, length-append}
+use Rattle.std.proofs.lemmas.List.{take_at, drop_at, drop-drop, append_assoc, length-drop, length-take, length-take-le, get_or-take}
+use Rattle.std.proofs.lemmas.List.{get_or-drop, take-append-drop}
 use Rattle.std.specs.Prelude.{replicate, All}
 use Rattle.std.specs.List.{flat_map}
 use Rattle.byteorder.specs.Endian.{little_bytes, little_number}
 use Rattle.byteorder.specs.Numbers.{little_number-reads_back}
 use Rattle.log_layout.specs.Entry.{Entry}
-use Rattle.log_layout.specs.SectorsTwo.{padded, entry_bytes, descriptor_bytes, place_bytes, commit_bytes, descriptor_mark, commit_mark, chunk_of}
+use Rattle.log_layout.specs.SectorsTwo.{padded, entry_bytes, descriptor_bytes, place_bytes, commit_bytes, descriptor_mark, commit_mark}
+use Rattle.log_layout.specs.SectorsTwo.{chunk_of}
 
 -- bytes that begin with a number begin with one only
 pub first_number : (x y : ℕ) (xs ys : List ℕ) → x < 2 ^ 64 → y < 2 ^ 64 → little_bytes 8 x ++ xs ≡ little_bytes 8 y ++ ys → x ≡ y
@@ -45,7 +48,8 @@ unfolding entry_bytes
 length_entry e size = omega (arith, length-append (little_bytes 8 e.0) (take 8 e.1), length-take-le 8 e.1 (omega arith))
 
 -- entry e of a descriptor, 16 bytes each
-pub entry_at : (es : List Entry) (e : ℕ) (rest : List ℕ) → e < length es → All (λ x. 8 ≤ length x.1) es → take 16 (drop (16 * e) (flat_map entry_bytes es ++ rest)) ≡ entry_bytes (get_or es e (0, []))
+pub entry_at : (es : List Entry) (e : ℕ) (rest : List ℕ) → e < length es → All (λ x. 8 ≤ length x.1) es
+    → take 16 (drop (16 * e) (flat_map entry_bytes es ++ rest)) ≡ entry_bytes (get_or es e (0, []))
 entry_at [] e rest below sized = absurd (omega arith)
 entry_at (x ∷ es) zero rest below sized =
     ap (λ (l : List ℕ). take 16 l) (append_assoc (entry_bytes x) (flat_map entry_bytes es) rest)
@@ -55,15 +59,23 @@ entry_at (x ∷ es) (suc e) rest below sized =
     ap (λ (k : ℕ). take 16 (drop k (flat_map entry_bytes (x ∷ es) ++ rest))) step
     ∙ ap (λ (l : List ℕ). take 16 l) (sym (drop-drop (16 * e) 16 (flat_map entry_bytes (x ∷ es) ++ rest)))
     ∙ ap (λ (l : List ℕ). take 16 (drop (16 * e) (drop 16 l))) (append_assoc (entry_bytes x) (flat_map entry_bytes es) rest)
-    ∙ ap (λ (l : List ℕ). take 16 (drop (16 * e) l)) (drop_at (entry_bytes x) (flat_map entry_bytes es ++ rest) 16 (length_entry x (sized 0 (0, []) (omega arith))))
+    ∙ ap (λ (l : List ℕ). take 16 (drop (16 * e) l))
+    (drop_at (entry_bytes x) (flat_map entry_bytes es ++ rest) 16 (length_entry x (sized 0 (0, []) (omega arith))))
     ∙ entry_at es e rest (omega arith) (λ k d inside. sized (suc k) d (omega arith))
 
 -- behind the header of a descriptor its entries stand
-entries_stand : (s : ℕ) (entries : List Entry) (j : ℕ) → drop 32 (descriptor_bytes s entries j) ≡ flat_map entry_bytes (chunk_of entries j) ++ replicate (512 - (32 + length (flat_map entry_bytes (chunk_of entries j)))) 0
+entries_stand : (s : ℕ) (entries : List Entry) (j : ℕ)
+    → drop 32 (descriptor_bytes s entries j)
+    ≡ flat_map entry_bytes (chunk_of entries j) ++ replicate (512 - (32 + length (flat_map entry_bytes (chunk_of entries j)))) 0
 unfolding descriptor_bytes padded
 entries_stand s entries j =
     let k : ℕ = length (flat_map entry_bytes (chunk_of entries j)) in
-    let same : 512 - length (little_bytes 8 descriptor_mark ++ (little_bytes 8 s ++ (little_bytes 8 (length entries) ++ (little_bytes 8 j ++ flat_map entry_bytes (chunk_of entries j))))) ≡ 512 - (32 + length (flat_map entry_bytes (chunk_of entries j))) = omega arith in
+    let same : 512
+    - length (little_bytes 8 descriptor_mark
+    ++ (little_bytes 8 s
+    ++ (little_bytes 8 (length entries) ++ (little_bytes 8 j ++ flat_map entry_bytes (chunk_of entries j)))))
+    ≡ 512 - (32 + length (flat_map entry_bytes (chunk_of entries j))) =
+    omega arith in
     ap (λ (z : ℕ). flat_map entry_bytes (chunk_of entries j) ++ replicate z 0) same
 
 -- block i of a record stands in its descriptor
@@ -74,7 +86,12 @@ entry_stands s entries j e small below sized =
     let inside : e < length (chunk_of entries j) = chunk_length entries j e small below in
     ap (λ (l : List ℕ). take 16 l) (sym (drop-drop (16 * e) 32 (descriptor_bytes s entries j)))
     ∙ ap (λ (l : List ℕ). take 16 (drop (16 * e) l)) (entries_stand s entries j)
-    ∙ entry_at (chunk_of entries j) e _ inside (λ k d within. omega (arith, ap (λ (x : Entry). length x.1) (chunk_get entries j k d (omega (arith, chunk_few entries j))) ∙ sized (30 * j + k) d (chunk_inside entries j k within)))
+    ∙ entry_at (chunk_of entries j) e _ inside
+    (λ k d within. omega (
+      arith,
+      ap (λ (x : Entry). length x.1) (chunk_get entries j k d (omega (arith, chunk_few entries j)))
+          ∙ sized (30 * j + k) d (chunk_inside entries j k within),
+    ))
     ∙ ap entry_bytes (chunk_get entries j e (0, []) small)
   where
     chunk_get : (entries : List Entry) (j e : ℕ) (d : Entry) → e < 30 → get_or (chunk_of entries j) e d ≡ get_or entries (30 * j + e) d

@@ -1,5 +1,6 @@
 -- Whether bytes spell a value: each is so or not.
-use Rattle.std.proofs.Common.{◌≡◌, ◌⊎◌, inl, inr, ⊎_elim, ℕ, zero, suc, ◌+◌, ◌*◌, ◌-◌, ◌^◌, ◌<◌, ◌≤◌, List, [], ◌∷◌, length, get_or, refl, sym, ◌∙◌, ap, subst, arith}
+use Rattle.std.proofs.Common.{◌≡◌, ◌⊎◌, inl, inr, ⊎_elim, ℕ, zero, suc, ◌+◌, ◌*◌, ◌-◌, ◌^◌, ◌<◌, ◌≤◌, List, [], ◌∷◌, length, get_or, refl}
+use Rattle.std.proofs.Common.{sym, ◌∙◌, ap, subst, arith}
 use Rattle.std.specs.Prelude.{All}
 use Rattle.std.proofs.lemmas.Grind.{get_or_default_zero}
 use Rattle.std.proofs.lemmas.Bool.{cases_eq, cases_lt}
@@ -8,7 +9,8 @@ use Rattle.log_layout.specs.declared.log_format.LogFormat.TheVariants.{One, Two}
 use Rattle.log_layout.specs.Places.{Shape, IsFirstHome, slot_sectors_of, gap_of}
 use Rattle.log_layout.specs.Spelling.{spelling, number_in, super_mark, head_mark, descriptor_mark, commit_mark}
 use Rattle.log_layout.specs.Sectors.{version_of, IsSuper, IsHead, IsRising, AreBlockNumbers, IsDescriptor, IsCommit}
-use Rattle.log_layout.proofs.Decoding.{head_stamp, commit_stamp, commit_count, descriptor_stamp, descriptor_numbers, super_blocks, super_slots, super_home}
+use Rattle.log_layout.proofs.Decoding.{head_stamp, commit_stamp, commit_count, descriptor_stamp, descriptor_numbers, super_blocks}
+use Rattle.log_layout.proofs.Decoding.{super_slots, super_home}
 
 -- so or not
 abbrev pub Decided : Type 0 → Type 0
@@ -89,16 +91,19 @@ each_read : (bytes : List ℕ) (place n i : ℕ) → i < n
     → get_or (read_numbers bytes place n) i 0 ≡ number_in bytes (place + i)
 each_read bytes place zero i below = absurd (omega arith)
 each_read bytes place (suc n) zero below = let e : place ≡ place + 0 = omega arith in ap (number_in bytes) e
-each_read bytes place (suc n) (suc i) below = let e : suc place + i ≡ place + suc i = omega arith in each_read bytes (suc place) n i (omega arith)
-    ∙ ap (number_in bytes) e
+each_read bytes place (suc n) (suc i) below =
+    let e : suc place + i ≡ place + suc i = omega arith in each_read bytes (suc place) n i (omega arith) ∙ ap (number_in bytes) e
 
 -- a sector is a head or not
 pub head_or_not : (bytes : List ℕ) → Decided ((stamp : ℕ) × IsHead stamp bytes)
 head_or_not bytes =
     let s = number_in bytes 1 in
     along (λ h. (s, record { spelled = h.0; least = h.1.0; most = h.1.1 }))
-    (λ h. let same : s ≡ h.0 = head_stamp h.0 bytes h.1 in
-    (h.1.spelled ∙ ap (λ (n : ℕ). spelling (head_mark ∷ n ∷ [])) (sym same), (subst (λ n. 1 ≤ n) (sym same) h.1.least, subst (λ n. n < 2 ^ 63) (sym same) h.1.most)))
+    (λ h.
+    let same : s ≡ h.0 = head_stamp h.0 bytes h.1 in (
+      h.1.spelled ∙ ap (λ (n : ℕ). spelling (head_mark ∷ n ∷ [])) (sym same),
+      (subst (λ n. 1 ≤ n) (sym same) h.1.least, subst (λ n. n < 2 ^ 63) (sym same) h.1.most),
+    ))
     (both (same_or_not bytes (spelling (head_mark ∷ s ∷ []))) (both (at_most_or_not 1 s) (below_or_not s (2 ^ 63))))
 
 -- a sector is a commit or not
@@ -108,20 +113,30 @@ commit_or_not bytes =
     let s = number_in bytes 1 in
     let n = number_in bytes 2 in
     along (λ h. (s, n, record { spelled = h.0; least = h.1.0; most = h.1.1.0; some = h.1.1.1.0; few = h.1.1.1.1 }))
-    (λ h. let c = h.2 in
+    (λ h.
+    let c = h.2 in
     let same : s ≡ h.0 = commit_stamp h.0 h.1 bytes c in
     let count : n ≡ h.1 = commit_count h.0 h.1 bytes c in (
       c.spelled ∙ ap (λ (k : ℕ). spelling (commit_mark ∷ k ∷ h.1 ∷ [])) (sym same)
           ∙ ap (λ (k : ℕ). spelling (commit_mark ∷ s ∷ k ∷ [])) (sym count),
-      (subst (λ k. 1 ≤ k) (sym same) c.least, (subst (λ k. k < 2 ^ 63 - 1) (sym same) c.most, (subst (λ k. 1 ≤ k) (sym count) c.some, subst (λ k. k ≤ 48) (sym count) c.few))),
+      (
+        subst (λ k. 1 ≤ k) (sym same) c.least,
+        (
+          subst (λ k. k < 2 ^ 63 - 1) (sym same) c.most,
+          (subst (λ k. 1 ≤ k) (sym count) c.some, subst (λ k. k ≤ 48) (sym count) c.few),
+        ),
+      ),
     ))
-    (both (same_or_not bytes (spelling (commit_mark ∷ s ∷ n ∷ []))) (both (at_most_or_not 1 s) (both (below_or_not s (2 ^ 63 - 1)) (both (at_most_or_not 1 n) (at_most_or_not n 48)))))
+    (both (same_or_not bytes (spelling (commit_mark ∷ s ∷ n ∷ [])))
+    (both (at_most_or_not 1 s) (both (below_or_not s (2 ^ 63 - 1)) (both (at_most_or_not 1 n) (at_most_or_not n 48)))))
 
 -- block numbers that a record may have or not
 block_numbers_or_not : (numbers : List ℕ) → Decided (AreBlockNumbers numbers)
 block_numbers_or_not numbers =
     along (λ h. record { some = h.0; few = h.1.0; rising = h.1.1.0; fit = h.1.1.1 }) (λ b. (b.some, (b.few, (b.rising, b.fit))))
-    (both (at_most_or_not 1 (length numbers)) (both (at_most_or_not (length numbers) 48) (both (rising_or_not numbers) (all_or_not (λ b. b < 2 ^ 31) (λ b. below_or_not b (2 ^ 31)) numbers))))
+    (both (at_most_or_not 1 (length numbers))
+    (both (at_most_or_not (length numbers) 48)
+    (both (rising_or_not numbers) (all_or_not (λ b. b < 2 ^ 31) (λ b. below_or_not b (2 ^ 31)) numbers))))
 
 -- a sector is a descriptor or not
 pub descriptor_or_not : (bytes : List ℕ) → Decided ((stamp : ℕ) × (numbers : List ℕ)
@@ -130,14 +145,20 @@ descriptor_or_not bytes =
     let s = number_in bytes 1 in
     let ns = read_numbers bytes 3 (number_in bytes 2) in
     along (λ h. (s, ns, record { spelled = h.0; least = h.1.0; most = h.1.1.0; block_numbers = h.1.1.1 }))
-    (λ h. let d = h.2 in
+    (λ h.
+    let d = h.2 in
     let same : s ≡ h.0 = descriptor_stamp h.0 h.1 bytes d in
-    let numbers : ns ≡ h.1 = descriptor_numbers h.0 h.1 bytes d (number_in bytes 2) ns refl (length_read bytes 3 (number_in bytes 2)) (each_read bytes 3 (number_in bytes 2)) in (
+    let numbers : ns ≡ h.1 = descriptor_numbers h.0 h.1 bytes d (number_in bytes 2) ns refl
+    (length_read bytes 3 (number_in bytes 2)) (each_read bytes 3 (number_in bytes 2)) in (
       d.spelled ∙ ap (λ (k : ℕ). spelling (descriptor_mark ∷ k ∷ length h.1 ∷ h.1)) (sym same)
           ∙ ap (λ (l : List ℕ). spelling (descriptor_mark ∷ s ∷ length l ∷ l)) (sym numbers),
-      (subst (λ k. 1 ≤ k) (sym same) d.least, (subst (λ k. k < 2 ^ 63 - 1) (sym same) d.most, subst AreBlockNumbers (sym numbers) d.block_numbers)),
+      (
+        subst (λ k. 1 ≤ k) (sym same) d.least,
+        (subst (λ k. k < 2 ^ 63 - 1) (sym same) d.most, subst AreBlockNumbers (sym numbers) d.block_numbers),
+      ),
     ))
-    (both (same_or_not bytes (spelling (descriptor_mark ∷ s ∷ length ns ∷ ns))) (both (at_most_or_not 1 s) (both (below_or_not s (2 ^ 63 - 1)) (block_numbers_or_not ns))))
+    (both (same_or_not bytes (spelling (descriptor_mark ∷ s ∷ length ns ∷ ns)))
+    (both (at_most_or_not 1 s) (both (below_or_not s (2 ^ 63 - 1)) (block_numbers_or_not ns))))
 
 -- home begins where it has to or not
 pub first_home_or_not : (format : LogFormat) (slots home : ℕ) → Decided (IsFirstHome format slots home)
@@ -152,8 +173,21 @@ super_of_format format bytes =
     let k = number_in bytes 3 in
     let h = number_in bytes 5 in
     let shape : Shape = record { format = format; blocks = n; slots = k; home = h } in
-    along (λ w. (shape, refl, record { spelled = w.0; some_blocks = w.1.0; most_blocks = w.1.1.0; some_slots = w.1.1.1.0; most_slots = w.1.1.1.1.0; home_is = w.1.1.1.1.1 }))
-    (λ w. let s = w.2 in
+    along
+    (λ w. (
+      shape,
+      refl,
+      record {
+        spelled = w.0;
+        some_blocks = w.1.0;
+        most_blocks = w.1.1.0;
+        some_slots = w.1.1.1.0;
+        most_slots = w.1.1.1.1.0;
+        home_is = w.1.1.1.1.1;
+      },
+    ))
+    (λ w.
+    let s = w.2 in
     let blocks : n ≡ w.0.blocks = super_blocks w.0 bytes s in
     let slots : k ≡ w.0.slots = super_slots w.0 bytes s in
     let home : h ≡ w.0.home = super_home w.0 bytes s in (
@@ -170,13 +204,17 @@ super_of_format format bytes =
             subst (λ x. 1 ≤ x) (sym slots) s.some_slots,
             (
               subst (λ x. x ≤ 64) (sym slots) s.most_slots,
-              subst (λ (x : ℕ). IsFirstHome format k x) (sym home) (subst (λ (x : ℕ). IsFirstHome format x w.0.home) (sym slots) (subst (λ (f : LogFormat). IsFirstHome f w.0.slots w.0.home) w.1 s.home_is)),
+              subst (λ (x : ℕ). IsFirstHome format k x) (sym home)
+                  (subst (λ (x : ℕ). IsFirstHome format x w.0.home) (sym slots)
+                  (subst (λ (f : LogFormat). IsFirstHome f w.0.slots w.0.home) w.1 s.home_is)),
             ),
           ),
         ),
       ),
     ))
-    (both (same_or_not bytes (spelling (super_mark ∷ version_of format ∷ n ∷ k ∷ 2 ∷ h ∷ []))) (both (at_most_or_not 1 n) (both (at_most_or_not n (2 ^ 31)) (both (at_most_or_not 1 k) (both (at_most_or_not k 64) (first_home_or_not format k h))))))
+    (both (same_or_not bytes (spelling (super_mark ∷ version_of format ∷ n ∷ k ∷ 2 ∷ h ∷ [])))
+    (both (at_most_or_not 1 n)
+    (both (at_most_or_not n (2 ^ 31)) (both (at_most_or_not 1 k) (both (at_most_or_not k 64) (first_home_or_not format k h))))))
 
 -- a sector is a super or not
 pub super_or_not : (bytes : List ℕ) → Decided ((shape : Shape) × IsSuper shape bytes)
@@ -188,6 +226,7 @@ super_or_not bytes = elim (super_of_format One bytes) [
   ]
 ]
   where
-    neither : (shape : Shape) (f : LogFormat) → shape.format ≡ f → IsSuper shape bytes → (¬ ((s : Shape) × (s.format ≡ One) × IsSuper s bytes)) → (¬ ((s : Shape) × (s.format ≡ Two) × IsSuper s bytes)) → ⊥
+    neither : (shape : Shape) (f : LogFormat) → shape.format ≡ f → IsSuper shape bytes
+        → (¬ ((s : Shape) × (s.format ≡ One) × IsSuper s bytes)) → (¬ ((s : Shape) × (s.format ≡ Two) × IsSuper s bytes)) → ⊥
     neither shape One is s no_one no_two = no_one (shape, is, s)
     neither shape Two is s no_one no_two = no_two (shape, is, s)

@@ -1,5 +1,6 @@
 -- What a sector's numbers say of the value that it spells.
-use Rattle.std.proofs.Common.{◌≡◌, ◌⊎◌, inl, inr, ⊎_elim, refl, ℕ, zero, suc, ◌+◌, ◌^◌, ◌<◌, ◌≤◌, ◌*◌, List, [], ◌∷◌, length, drop, get_or, ap, sym, ◌∙◌, arith}
+use Rattle.std.proofs.Common.{◌≡◌, ◌⊎◌, inl, inr, ⊎_elim, refl, ℕ, zero, suc, ◌+◌, ◌^◌, ◌<◌, ◌≤◌, ◌*◌, List, [], ◌∷◌, length, drop, get_or}
+use Rattle.std.proofs.Common.{ap, sym, ◌∙◌, arith}
 use Rattle.std.specs.Prelude.{All}
 use Rattle.std.proofs.lemmas.List.{ext_get_or}
 use Rattle.log_layout.specs.Places.{Shape, IsFirstHome, slot_sectors_of, gap_of}
@@ -25,16 +26,21 @@ behind_three a b c i ns = let e : 3 + i ≡ suc (suc (suc i)) = omega arith in a
 module _ (stamp : ℕ) (numbers bytes : List ℕ) (d : IsDescriptor stamp numbers bytes) where
   -- the stamp of a descriptor
   pub descriptor_stamp : number_in bytes 1 ≡ stamp
-  descriptor_stamp = spelling-get 1 (descriptor_mark ∷ stamp ∷ length numbers ∷ numbers) bytes (omega arith) (descriptor_fits stamp numbers bytes d) d.spelled
+  descriptor_stamp =
+      spelling-get 1 (descriptor_mark ∷ stamp ∷ length numbers ∷ numbers) bytes (omega arith) (descriptor_fits stamp numbers bytes d)
+      d.spelled
 
   -- how many block numbers it has
   pub descriptor_count : number_in bytes 2 ≡ length numbers
-  descriptor_count = spelling-get 2 (descriptor_mark ∷ stamp ∷ length numbers ∷ numbers) bytes (omega arith) (descriptor_fits stamp numbers bytes d) d.spelled
+  descriptor_count =
+      spelling-get 2 (descriptor_mark ∷ stamp ∷ length numbers ∷ numbers) bytes (omega arith) (descriptor_fits stamp numbers bytes d)
+      d.spelled
 
   -- each of its block numbers
   pub descriptor_number : (i : ℕ) → i < length numbers → number_in bytes (3 + i) ≡ get_or numbers i 0
   descriptor_number i below =
-      spelling-get (3 + i) (descriptor_mark ∷ stamp ∷ length numbers ∷ numbers) bytes (omega arith) (descriptor_fits stamp numbers bytes d) d.spelled
+      spelling-get (3 + i) (descriptor_mark ∷ stamp ∷ length numbers ∷ numbers) bytes (omega arith) (descriptor_fits stamp numbers bytes d)
+      d.spelled
       ∙ behind_three descriptor_mark stamp (length numbers) i numbers
 
   -- a list that was read as its block numbers is its block numbers
@@ -43,9 +49,10 @@ module _ (stamp : ℕ) (numbers bytes : List ℕ) (d : IsDescriptor stamp number
       → ((i : ℕ) → i < count → get_or list i 0 ≡ number_in bytes (3 + i)) → list ≡ numbers
   descriptor_numbers count list is size read =
       let same : count ≡ length numbers = is ∙ descriptor_count in
-      ext_get_or 0 list numbers (omega (arith, size, same)) (λ i below.
-      read i (omega (arith, size))
-      ∙ spelling-get (3 + i) (descriptor_mark ∷ stamp ∷ length numbers ∷ numbers) bytes (omega (arith, size, same)) (descriptor_fits stamp numbers bytes d) d.spelled
+      ext_get_or 0 list numbers (omega (arith, size, same))
+      (λ i below. read i (omega (arith, size))
+      ∙ spelling-get (3 + i) (descriptor_mark ∷ stamp ∷ length numbers ∷ numbers) bytes (omega (arith, size, same))
+      (descriptor_fits stamp numbers bytes d) d.spelled
       ∙ behind_three descriptor_mark stamp (length numbers) i numbers)
 
 -- the version of a format is a small number
@@ -83,30 +90,40 @@ super_fits shape bytes s (suc zero) x below = omega (arith, version_small shape.
 super_fits shape bytes s (suc (suc zero)) x below = omega (arith, s.most_blocks)
 super_fits shape bytes s (suc (suc (suc zero))) x below = omega (arith, s.most_slots)
 super_fits shape bytes s (suc (suc (suc (suc zero)))) x below = omega arith
-super_fits shape bytes s (suc (suc (suc (suc (suc zero))))) x below = omega (arith, s.most_slots, home_near shape.format shape.slots shape.home s.home_is)
+super_fits shape bytes s (suc (suc (suc (suc (suc zero))))) x below =
+    omega (arith, s.most_slots, home_near shape.format shape.slots shape.home s.home_is)
 super_fits shape bytes s (suc (suc (suc (suc (suc (suc k)))))) x below = absurd (omega arith)
 
 module _ (shape : Shape) (bytes : List ℕ) (s : IsSuper shape bytes) where
   -- how many blocks a super has
   pub super_blocks : number_in bytes 2 ≡ shape.blocks
-  super_blocks = spelling-get 2 (super_mark ∷ version_of shape.format ∷ shape.blocks ∷ shape.slots ∷ 2 ∷ shape.home ∷ []) bytes (omega arith) (super_fits shape bytes s) s.spelled
+  super_blocks =
+      spelling-get 2 (super_mark ∷ version_of shape.format ∷ shape.blocks ∷ shape.slots ∷ 2 ∷ shape.home ∷ []) bytes (omega arith)
+      (super_fits shape bytes s) s.spelled
 
   -- how many slots it has
   pub super_slots : number_in bytes 3 ≡ shape.slots
-  super_slots = spelling-get 3 (super_mark ∷ version_of shape.format ∷ shape.blocks ∷ shape.slots ∷ 2 ∷ shape.home ∷ []) bytes (omega arith) (super_fits shape bytes s) s.spelled
+  super_slots =
+      spelling-get 3 (super_mark ∷ version_of shape.format ∷ shape.blocks ∷ shape.slots ∷ 2 ∷ shape.home ∷ []) bytes (omega arith)
+      (super_fits shape bytes s) s.spelled
 
   -- where home begins
   pub super_home : number_in bytes 5 ≡ shape.home
-  super_home = spelling-get 5 (super_mark ∷ version_of shape.format ∷ shape.blocks ∷ shape.slots ∷ 2 ∷ shape.home ∷ []) bytes (omega arith) (super_fits shape bytes s) s.spelled
+  super_home =
+      spelling-get 5 (super_mark ∷ version_of shape.format ∷ shape.blocks ∷ shape.slots ∷ 2 ∷ shape.home ∷ []) bytes (omega arith)
+      (super_fits shape bytes s) s.spelled
 
   -- its version
   pub super_version : number_in bytes 1 ≡ version_of shape.format
-  super_version = spelling-get 1 (super_mark ∷ version_of shape.format ∷ shape.blocks ∷ shape.slots ∷ 2 ∷ shape.home ∷ []) bytes (omega arith) (super_fits shape bytes s) s.spelled
+  super_version =
+      spelling-get 1 (super_mark ∷ version_of shape.format ∷ shape.blocks ∷ shape.slots ∷ 2 ∷ shape.home ∷ []) bytes (omega arith)
+      (super_fits shape bytes s) s.spelled
 
   -- a super has no fault
   pub super_begins : HasMagic bytes × HasVersion bytes × HasZeroRest bytes
   super_begins = (
-    spelling-get 0 (super_mark ∷ version_of shape.format ∷ shape.blocks ∷ shape.slots ∷ 2 ∷ shape.home ∷ []) bytes (omega arith) (super_fits shape bytes s) s.spelled,
+    spelling-get 0 (super_mark ∷ version_of shape.format ∷ shape.blocks ∷ shape.slots ∷ 2 ∷ shape.home ∷ []) bytes (omega arith)
+        (super_fits shape bytes s) s.spelled,
     ⊎_elim (λ e. inl (super_version ∙ e)) (λ e. inr (super_version ∙ e)) (version_known shape.format),
     ap (λ (l : List ℕ). drop 48 l) s.spelled
         ∙ spelling-rest (super_mark ∷ version_of shape.format ∷ shape.blocks ∷ shape.slots ∷ 2 ∷ shape.home ∷ []),
@@ -147,9 +164,11 @@ commit_fits stamp count bytes c (suc (suc (suc k))) x below = absurd (omega arit
 -- the stamp of a commit
 pub commit_stamp : (stamp count : ℕ) (bytes : List ℕ) → IsCommit stamp count bytes
     → number_in bytes 1 ≡ stamp
-commit_stamp stamp count bytes c = spelling-get 1 (commit_mark ∷ stamp ∷ count ∷ []) bytes (omega arith) (commit_fits stamp count bytes c) c.spelled
+commit_stamp stamp count bytes c =
+    spelling-get 1 (commit_mark ∷ stamp ∷ count ∷ []) bytes (omega arith) (commit_fits stamp count bytes c) c.spelled
 
 -- its count
 pub commit_count : (stamp count : ℕ) (bytes : List ℕ) → IsCommit stamp count bytes
     → number_in bytes 2 ≡ count
-commit_count stamp count bytes c = spelling-get 2 (commit_mark ∷ stamp ∷ count ∷ []) bytes (omega arith) (commit_fits stamp count bytes c) c.spelled
+commit_count stamp count bytes c =
+    spelling-get 2 (commit_mark ∷ stamp ∷ count ∷ []) bytes (omega arith) (commit_fits stamp count bytes c) c.spelled

@@ -1,9 +1,11 @@
 -- The entries of a descriptor of format 2.
-use Rattle.std.proofs.Common.{◌≡◌, inl, inr, ℕ, suc, ◌+◌, ◌*◌, ◌-◌, ◌^◌, ◌<◌, ◌≤◌, List, [], ◌∷◌, ◌++◌, length, get_or, take, drop, refl, sym, ◌∙◌, ap, arith, length-append}
+use Rattle.std.proofs.Common.{◌≡◌, inl, inr, ℕ, suc, ◌+◌, ◌*◌, ◌-◌, ◌^◌, ◌<◌, ◌≤◌, List, [], ◌∷◌, ◌++◌, length, get_or, take, drop, refl}
+use Rattle.std.proofs.Common.{sym, ◌∙◌, ap, arith, length-append}
 use Rattle.std.specs.Prelude.{All, min, zip, slice_range, replicate}
 use Rattle.std.specs.List.{flat_map}
 use Rattle.std.proofs.lemmas.Bool.{cases_lt}
-use Rattle.std.proofs.lemmas.List.{take_all, length-take, length-drop, append_assoc, append-nil, take_more, drop-drop, drop-take, get_or-take, get_or-drop, ext_get_or}
+use Rattle.std.proofs.lemmas.List.{take_all, length-take, length-drop, append_assoc, append-nil, take_more, drop-drop, drop-take}
+use Rattle.std.proofs.lemmas.List.{get_or-take, get_or-drop, ext_get_or}
 use Rattle.std.proofs.lemmas.List.Elements.{All-take, All-from_get_or}
 use Rattle.std.proofs.lemmas.Slice.Zip.{length-zip, get_or-zip}
 use Rattle.std.proofs.lemmas.Grind.{flat_map-append}
@@ -12,7 +14,8 @@ use Rattle.byteorder.specs.Numbers.{little_number-reads_back, little_from-take}
 use Rattle.log_layout.specs.Entry.{Entry}
 use Rattle.log_layout.specs.Spelling.{number_in}
 use Rattle.log_layout.specs.Sectors.{IsRising}
-use Rattle.log_layout.specs.SectorsTwo.{padded, entry_bytes, commit_bytes, descriptor_mark, commit_mark, entries_here, IsDescriptorTwo, IsCommitTwo}
+use Rattle.log_layout.specs.SectorsTwo.{padded, entry_bytes, commit_bytes, descriptor_mark, commit_mark, entries_here, IsDescriptorTwo}
+use Rattle.log_layout.specs.SectorsTwo.{IsCommitTwo}
 use Rattle.log_layout.proofs.BytesTwo.{length_entry, entry_at}
 
 -- each entry has the 8 bytes that a descriptor keeps
@@ -22,7 +25,13 @@ AreLong entries = All (λ (e : Entry). 8 ≤ length e.1) entries
 -- entries take 16 bytes each
 pub length_entries : (es : List Entry) → AreLong es → length (flat_map entry_bytes es) ≡ 16 * length es
 length_entries [] long = refl
-length_entries (x ∷ es) long = omega (arith, length-append (entry_bytes x) (flat_map entry_bytes es), length_entry x (long 0 (0, []) (omega arith)), length_entries es (λ k d below. long (suc k) d (omega arith)))
+length_entries (x ∷ es) long =
+    omega (
+      arith,
+      length-append (entry_bytes x) (flat_map entry_bytes es),
+      length_entry x (long 0 (0, []) (omega arith)),
+      length_entries es (λ k d below. long (suc k) d (omega arith)),
+    )
 
 module _ (numbers : List ℕ) (firsts : List (List ℕ)) (each : length firsts ≡ length numbers) where
   -- entry e
@@ -36,7 +45,11 @@ module _ (numbers : List ℕ) (firsts : List (List ℕ)) (each : length firsts �
     pub zipped_long : AreLong (zip numbers firsts)
     zipped_long e d below =
         let inside : e < length numbers = omega (arith, length_zipped) in
-        omega (arith, ap (λ (x : Entry). length x.1) (get_or-zip numbers firsts e d inside (omega (arith, inside))), sized e d.1 (omega (arith, inside)))
+        omega (
+          arith,
+          ap (λ (x : Entry). length x.1) (get_or-zip numbers firsts e d inside (omega (arith, inside))),
+          sized e d.1 (omega (arith, inside)),
+        )
 
     -- how many bytes stand behind so many entries
     pub length_so_far : (before : List ℕ) (e : ℕ) → length before ≡ 32 → e ≤ length numbers
@@ -59,9 +72,11 @@ module _ (numbers : List ℕ) (firsts : List (List ℕ)) (each : length firsts �
         let es : List Entry = zip numbers firsts in
         let fm : List ℕ = flat_map entry_bytes (take e (zip numbers firsts)) in
         let x : Entry = (get_or numbers e 0, get_or firsts e []) in
-        let eight : take 8 (get_or firsts e []) ≡ get_or firsts e [] = take_all 8 (get_or firsts e []) (omega (arith, sized e [] (omega arith))) in
+        let eight : take 8 (get_or firsts e []) ≡ get_or firsts e [] =
+        take_all 8 (get_or firsts e []) (omega (arith, sized e [] (omega arith))) in
         let longer : take (e + 1) (zip numbers firsts) ≡ take e (zip numbers firsts) ++ x ∷ [] =
-        take_more (zip numbers firsts) e (0, []) (omega (arith, length_zipped)) ∙ ap (λ (y : Entry). take e (zip numbers firsts) ++ y ∷ []) (zipped e below) in
+        take_more (zip numbers firsts) e (0, []) (omega (arith, length_zipped))
+        ∙ ap (λ (y : Entry). take e (zip numbers firsts) ++ y ∷ []) (zipped e below) in
         append_assoc (before ++ fm) (little_bytes 8 (get_or numbers e 0)) (get_or firsts e [])
         ∙ append_assoc before fm (little_bytes 8 (get_or numbers e 0) ++ get_or firsts e [])
         ∙ ap (λ (l : List ℕ). before ++ (fm ++ (little_bytes 8 (get_or numbers e 0) ++ l))) (sym eight)
@@ -85,7 +100,9 @@ items_here items numbers from here is are =
     let count : from + here - from ≡ here = omega arith in
     are ∙ ap (λ (k : ℕ). take k (drop from numbers)) count ∙ elim (cases_lt 30 (length numbers - from)) [
       | inl more ↦ let full : here ≡ 30 = omega arith in ap (λ (k : ℕ). take k (drop from numbers)) full
-      | inr all ↦ take_all here (drop from numbers) (omega (arith, length-drop from numbers)) ∙ sym (take_all 30 (drop from numbers) (omega (arith, length-drop from numbers)))
+      | inr all ↦
+          take_all here (drop from numbers) (omega (arith, length-drop from numbers))
+          ∙ sym (take_all 30 (drop from numbers) (omega (arith, length-drop from numbers)))
     ]
 
 -- a part of bytes is as long as it says
@@ -115,18 +132,23 @@ pub third_number : (a b c : ℕ) (xs bytes : List ℕ) → c < 2 ^ 64
 unfolding number_in padded
 third_number a b c xs bytes small is =
     ap (λ (l : List ℕ). little_number 8 (drop 16 l)) is
-    ∙ little_number-reads_back 8 c (xs ++ replicate (512 - length (little_bytes 8 a ++ (little_bytes 8 b ++ (little_bytes 8 c ++ xs)))) 0) small
+    ∙ little_number-reads_back 8 c
+    (xs ++ replicate (512 - length (little_bytes 8 a ++ (little_bytes 8 b ++ (little_bytes 8 c ++ xs)))) 0) small
 
-module _ (a b c d : ℕ) (xs bytes : List ℕ) (is : bytes ≡ padded (little_bytes 8 a ++ (little_bytes 8 b ++ (little_bytes 8 c ++ (little_bytes 8 d ++ xs))))) where
+module _ (a b c d : ℕ) (xs bytes : List ℕ)
+    (is : bytes ≡ padded (little_bytes 8 a ++ (little_bytes 8 b ++ (little_bytes 8 c ++ (little_bytes 8 d ++ xs))))) where
   -- the fourth
   pub fourth_number : d < 2 ^ 64 → number_in bytes 3 ≡ d
   unfolding number_in padded
   fourth_number small =
       ap (λ (l : List ℕ). little_number 8 (drop 24 l)) is
-      ∙ little_number-reads_back 8 d (xs ++ replicate (512 - length (little_bytes 8 a ++ (little_bytes 8 b ++ (little_bytes 8 c ++ (little_bytes 8 d ++ xs))))) 0) small
+      ∙ little_number-reads_back 8 d
+      (xs ++ replicate (512 - length (little_bytes 8 a ++ (little_bytes 8 b ++ (little_bytes 8 c ++ (little_bytes 8 d ++ xs))))) 0)
+      small
 
   -- and what stands behind it
-  pub behind_four : drop 32 bytes ≡ xs ++ replicate (512 - length (little_bytes 8 a ++ (little_bytes 8 b ++ (little_bytes 8 c ++ (little_bytes 8 d ++ xs))))) 0
+  pub behind_four : drop 32 bytes
+      ≡ xs ++ replicate (512 - length (little_bytes 8 a ++ (little_bytes 8 b ++ (little_bytes 8 c ++ (little_bytes 8 d ++ xs))))) 0
   unfolding padded
   behind_four = ap (λ (l : List ℕ). drop 32 l) is
 
@@ -141,21 +163,30 @@ module _ (stamp count : ℕ) (bytes : List ℕ) (c : IsCommitTwo stamp count byt
   commit_count = third_number commit_mark stamp count [] bytes (omega (arith, c.few)) c.spelled
 
 -- what the bytes of a descriptor say
-module _ (stamp count j : ℕ) (numbers : List ℕ) (firsts : List (List ℕ)) (bytes : List ℕ) (d : IsDescriptorTwo stamp count j numbers firsts bytes) where
+module _ (stamp count j : ℕ) (numbers : List ℕ) (firsts : List (List ℕ)) (bytes : List ℕ)
+    (d : IsDescriptorTwo stamp count j numbers firsts bytes) where
   pub stamp_is : number_in bytes 1 ≡ stamp
-  stamp_is = second_number descriptor_mark stamp (little_bytes 8 count ++ (little_bytes 8 j ++ flat_map entry_bytes (zip numbers firsts))) bytes (omega (arith, d.most)) d.spelled
+  stamp_is =
+      second_number descriptor_mark stamp (little_bytes 8 count ++ (little_bytes 8 j ++ flat_map entry_bytes (zip numbers firsts))) bytes
+      (omega (arith, d.most)) d.spelled
 
   pub count_is : number_in bytes 2 ≡ count
-  count_is = third_number descriptor_mark stamp count (little_bytes 8 j ++ flat_map entry_bytes (zip numbers firsts)) bytes (omega (arith, d.entries.few)) d.spelled
+  count_is =
+      third_number descriptor_mark stamp count (little_bytes 8 j ++ flat_map entry_bytes (zip numbers firsts)) bytes
+      (omega (arith, d.entries.few)) d.spelled
 
   pub index_is : number_in bytes 3 ≡ j
-  index_is = fourth_number descriptor_mark stamp count j (flat_map entry_bytes (zip numbers firsts)) bytes d.spelled (omega (arith, d.entries.few, d.entries.used))
+  index_is =
+      fourth_number descriptor_mark stamp count j (flat_map entry_bytes (zip numbers firsts)) bytes d.spelled
+      (omega (arith, d.entries.few, d.entries.used))
 
   entry_is : (e : ℕ) → e < length numbers → take 16 (drop (32 + 16 * e) bytes) ≡ entry_bytes (get_or numbers e 0, get_or firsts e [])
   entry_is e below =
       ap (λ (l : List ℕ). take 16 l) (sym (drop-drop (16 * e) 32 bytes))
-      ∙ ap (λ (l : List ℕ). take 16 (drop (16 * e) l)) (behind_four descriptor_mark stamp count j (flat_map entry_bytes (zip numbers firsts)) bytes d.spelled)
-      ∙ entry_at (zip numbers firsts) e _ (omega (arith, length_zipped numbers firsts d.entries.each)) (zipped_long numbers firsts d.entries.each d.entries.sized)
+      ∙ ap (λ (l : List ℕ). take 16 (drop (16 * e) l))
+      (behind_four descriptor_mark stamp count j (flat_map entry_bytes (zip numbers firsts)) bytes d.spelled)
+      ∙ entry_at (zip numbers firsts) e _ (omega (arith, length_zipped numbers firsts d.entries.each))
+      (zipped_long numbers firsts d.entries.each d.entries.sized)
       ∙ ap entry_bytes (zipped numbers firsts d.entries.each e below)
 
   pub number_is : (e : ℕ) → e < length numbers → number_in bytes (4 + 2 * e) ≡ get_or numbers e 0
@@ -200,7 +231,8 @@ pub IsDescriptorTwo-one : (bytes : List ℕ) (a b m n i j : ℕ) (ns ms : List �
 IsDescriptorTwo-one bytes a b m n i j ns ms fs gs d e =
     let counts : m ≡ n = sym (count_is a m i ns fs bytes d) ∙ count_is b n j ms gs bytes e in
     let indices : i ≡ j = sym (index_is a m i ns fs bytes d) ∙ index_is b n j ms gs bytes e in
-    let here : length ns ≡ entries_here n j = d.entries.many ∙ ap (λ (k : ℕ). entries_here k i) counts ∙ ap (λ (k : ℕ). entries_here n k) indices in (
+    let here : length ns ≡ entries_here n j =
+    d.entries.many ∙ ap (λ (k : ℕ). entries_here k i) counts ∙ ap (λ (k : ℕ). entries_here n k) indices in (
       sym (stamp_is a m i ns fs bytes d) ∙ stamp_is b n j ms gs bytes e,
       counts,
       indices,

@@ -1,5 +1,6 @@
 -- The descriptors of a record of format 2, by its entries.
-use Rattle.std.proofs.Common.{◌≡◌, ℕ, ◌*◌, ◌-◌, ◌^◌, ◌<◌, ◌≤◌, List, [], ◌∷◌, ◌++◌, length, get_or, take, drop, refl, sym, ◌∙◌, ap, subst, arith}
+use Rattle.std.proofs.Common.{◌≡◌, ℕ, ◌*◌, ◌-◌, ◌^◌, ◌<◌, ◌≤◌, List, [], ◌∷◌, ◌++◌, length, get_or, take, drop, refl, sym, ◌∙◌, ap, subst}
+use Rattle.std.proofs.Common.{arith}
 use Rattle.std.specs.Prelude.{All, zip}
 use Rattle.std.specs.List.{flat_map}
 use Rattle.std.proofs.lemmas.List.{take-take, take-map, drop-map, length-map, length-take, length-drop, length-take-le}
@@ -8,7 +9,8 @@ use Rattle.std.proofs.Math.ListN.{get_or-map}
 use Rattle.byteorder.specs.Endian.{little_bytes}
 use Rattle.log_layout.specs.Entry.{Entry, numbers_of}
 use Rattle.log_layout.specs.Sectors.{IsRising}
-use Rattle.log_layout.specs.SectorsTwo.{padded, entry_bytes, descriptor_bytes, descriptor_mark, place_bytes, firsts_of, chunk_of, spelled_two, IsDescriptorTwo}
+use Rattle.log_layout.specs.SectorsTwo.{padded, entry_bytes, descriptor_bytes, descriptor_mark, place_bytes, firsts_of, chunk_of}
+use Rattle.log_layout.specs.SectorsTwo.{spelled_two, IsDescriptorTwo}
 use Rattle.log_layout.proofs.EntriesTwo.{rising_part}
 
 -- the bytes of entries are those of their numbers and first bytes
@@ -16,7 +18,8 @@ entries_same : (es : List Entry) → flat_map entry_bytes (zip (numbers_of es) (
 unfolding entry_bytes
 entries_same [] = refl
 entries_same (e ∷ es) =
-    ap (λ (l : List ℕ). (little_bytes 8 e.0 ++ l) ++ flat_map entry_bytes (zip (numbers_of es) (firsts_of es))) (take-take 8 8 e.1 (omega arith))
+    ap (λ (l : List ℕ). (little_bytes 8 e.0 ++ l) ++ flat_map entry_bytes (zip (numbers_of es) (firsts_of es)))
+    (take-take 8 8 e.1 (omega arith))
     ∙ ap (λ (l : List ℕ). entry_bytes e ++ l) (entries_same es)
 
 -- descriptor j of a record spells its entries from 30 j on
@@ -24,7 +27,10 @@ pub descriptor_spelled : (stamp : ℕ) (es : List Entry) (j : ℕ)
     → descriptor_bytes stamp es j ≡ spelled_two stamp (length es) j (numbers_of (chunk_of es j)) (firsts_of (chunk_of es j))
 unfolding descriptor_bytes
 descriptor_spelled stamp es j =
-    ap (λ (l : List ℕ). padded (little_bytes 8 descriptor_mark ++ (little_bytes 8 stamp ++ (little_bytes 8 (length es) ++ (little_bytes 8 j ++ l))))) (sym (entries_same (chunk_of es j)))
+    ap
+    (λ (l : List ℕ).
+    padded (little_bytes 8 descriptor_mark ++ (little_bytes 8 stamp ++ (little_bytes 8 (length es) ++ (little_bytes 8 j ++ l)))))
+    (sym (entries_same (chunk_of es j)))
 
 -- the numbers of these entries
 pub numbers_of_chunk : (es : List Entry) (j : ℕ) → numbers_of (chunk_of es j) ≡ take 30 (drop (30 * j) (numbers_of es))
@@ -61,8 +67,11 @@ descriptor_two stamp es j least most few used rising small sized =
         many = omega (arith, long_numbers, length-take 30 (drop (30 * j) es), length-drop (30 * j) es);
         each = omega (arith, long_numbers, long_firsts);
         rising = subst IsRising (sym numbers) (rising_part (numbers_of es) (30 * j) 30 rising);
-        small = subst (All fits) (sym numbers) (All-take fits 30 (drop (30 * j) (numbers_of es)) (All-drop fits (30 * j) (numbers_of es) small));
-        sized = All-from_get_or (λ (l : List ℕ). length l ≡ 8) (firsts_of (chunk_of es j)) [] (λ i below. eight (chunk_of es j) i (omega (arith, below, long_firsts)) (All-take full 30 (drop (30 * j) es) (All-drop full (30 * j) es sized)));
+        small = subst (All fits) (sym numbers)
+            (All-take fits 30 (drop (30 * j) (numbers_of es)) (All-drop fits (30 * j) (numbers_of es) small));
+        sized = All-from_get_or (λ (l : List ℕ). length l ≡ 8) (firsts_of (chunk_of es j)) []
+            (λ i below. eight (chunk_of es j) i (omega (arith, below, long_firsts))
+            (All-take full 30 (drop (30 * j) es) (All-drop full (30 * j) es sized)));
       };
     }
 

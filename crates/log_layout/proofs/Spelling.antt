@@ -1,6 +1,8 @@
 -- A sector spells one value.
-use Rattle.std.proofs.Common.{◌≡◌, ℕ, zero, suc, ◌+◌, ◌*◌, ◌-◌, ◌^◌, ◌<◌, ◌≤◌, List, [], ◌∷◌, ◌++◌, length, take, drop, refl, sym, ◌∙◌, ap, arith, length-append}
-use Rattle.std.proofs.lemmas.List.{take_at, drop_at, take_all, drop_all, drop-replicate, length-replicate, length-drop, drop-drop, append-nil, append_assoc}
+use Rattle.std.proofs.Common.{◌≡◌, ℕ, zero, suc, ◌+◌, ◌*◌, ◌-◌, ◌^◌, ◌<◌, ◌≤◌, List, [], ◌∷◌, ◌++◌, length, take, drop, refl, sym, ◌∙◌, ap}
+use Rattle.std.proofs.Common.{arith, length-append}
+use Rattle.std.proofs.lemmas.List.{take_at, drop_at, take_all, drop_all, drop-replicate, length-replicate, length-drop, drop-drop}
+use Rattle.std.proofs.lemmas.List.{append-nil, append_assoc}
 use Rattle.std.proofs.lemmas.Grind.{flat_map-append}
 use borrow.Rule.Slice.PartMut.{put_mid, mid_of}
 use Rattle.std.specs.Prelude.{replicate, All, get_or}
@@ -36,7 +38,8 @@ numbers_of_bytes [] (y ∷ ys) zs ws same fx fy e = absurd (omega arith)
 numbers_of_bytes (x ∷ xs) [] zs ws same fx fy e = absurd (omega arith)
 numbers_of_bytes (x ∷ xs) (y ∷ ys) zs ws same fx fy e =
     let one : x ≡ y = first_number x y _ _ (fx 0 0 (omega arith)) (fy 0 0 (omega arith)) e in
-    let rest : xs ≡ ys = numbers_of_bytes xs ys zs ws (omega arith) (λ k d below. fx (suc k) d (omega arith)) (λ k d below. fy (suc k) d (omega arith)) (rest_of_numbers x y _ _ e) in
+    let rest : xs ≡ ys = numbers_of_bytes xs ys zs ws (omega arith) (λ k d below. fx (suc k) d (omega arith))
+    (λ k d below. fy (suc k) d (omega arith)) (rest_of_numbers x y _ _ e) in
     cc
 
 -- a sector is a head of one stamp
@@ -65,18 +68,20 @@ unfolding spelling
 descriptor_numbers a b xs ys lx ly fx fy e =
     let second = rest_of_numbers a b _ _ (rest_of_numbers descriptor_mark descriptor_mark _ _ e) in
     let count : length xs ≡ length ys = first_number (length xs) (length ys) _ _ (omega arith) (omega arith) second in
-    numbers_of_bytes xs ys _ _ count (λ k d below. omega (arith, fx k d below)) (λ k d below. omega (arith, fy k d below)) (rest_of_numbers (length xs) (length ys) _ _ second)
+    numbers_of_bytes xs ys _ _ count (λ k d below. omega (arith, fx k d below)) (λ k d below. omega (arith, fy k d below))
+    (rest_of_numbers (length xs) (length ys) _ _ second)
 
 -- a sector is a descriptor of one list of block numbers
 pub IsDescriptor-numbers : (a b : ℕ) (xs ys bytes : List ℕ) → IsDescriptor a xs bytes
     → IsDescriptor b ys bytes → xs ≡ ys
-IsDescriptor-numbers a b xs ys bytes h k = descriptor_numbers a b xs ys h.block_numbers.few k.block_numbers.few h.block_numbers.fit k.block_numbers.fit (sym h.spelled
-    ∙ k.spelled)
+IsDescriptor-numbers a b xs ys bytes h k =
+    descriptor_numbers a b xs ys h.block_numbers.few k.block_numbers.few h.block_numbers.fit k.block_numbers.fit (sym h.spelled ∙ k.spelled)
 
 -- numbers take eight bytes each
 length_bytes : (numbers : List ℕ) → length (flat_map (little_bytes 8) numbers) ≡ 8 * length numbers
 length_bytes [] = refl
-length_bytes (n ∷ numbers) = let more = length_bytes numbers in omega (arith, length-append (little_bytes 8 n) (flat_map (little_bytes 8) numbers))
+length_bytes (n ∷ numbers) =
+    let more = length_bytes numbers in omega (arith, length-append (little_bytes 8 n) (flat_map (little_bytes 8) numbers))
 
 -- a number written behind those that are spelled
 pub spelling-put : (i number : ℕ) (numbers sector part : List ℕ) → length numbers ≡ i
@@ -88,21 +93,25 @@ spelling-put i number numbers sector part count inside size is wrote =
     let flat : List ℕ = flat_map (little_bytes 8) numbers in
     let zeros : List ℕ = replicate (512 - 8 * length numbers) 0 in
     let long : length flat ≡ 8 * i = omega (arith, length_bytes numbers) in
-    let front : take (8 * i) sector ≡ flat = ap (λ (l : List ℕ). take (8 * i) l) is
-    ∙ take_at flat zeros (8 * i) long in
-    let back : drop (8 * i) sector ≡ zeros = ap (λ (l : List ℕ). drop (8 * i) l) is
-    ∙ drop_at flat zeros (8 * i) long in
-    let mid : take (length sector - 8 * i) (drop (8 * i) sector) ≡ zeros = ap (λ (l : List ℕ). take (length sector - 8 * i) l) back
+    let front : take (8 * i) sector ≡ flat = ap (λ (l : List ℕ). take (8 * i) l) is ∙ take_at flat zeros (8 * i) long in
+    let back : drop (8 * i) sector ≡ zeros = ap (λ (l : List ℕ). drop (8 * i) l) is ∙ drop_at flat zeros (8 * i) long in
+    let mid : take (length sector - 8 * i) (drop (8 * i) sector) ≡ zeros =
+    ap (λ (l : List ℕ). take (length sector - 8 * i) l) back
     ∙ take_all (length sector - 8 * i) zeros (omega (arith, length-replicate {A = ℕ} (512 - 8 * length numbers) 0)) in
-    let rest : drop 8 (take (length sector - 8 * i) (drop (8 * i) sector)) ≡ replicate (512 - 8 * length numbers - 8) 0 = ap (λ (l : List ℕ). drop 8 l) mid
-    ∙ drop-replicate 8 (512 - 8 * length numbers) 0 in
-    let past : drop (length sector - 8 * i) (drop (8 * i) sector) ≡ [] = drop_all (length sector - 8 * i) (drop (8 * i) sector) (omega (arith, length-drop (8 * i) sector)) in
-    let fewer : 512 - 8 * length numbers - 8 ≡ 512 - 8 * length (numbers ++ number ∷ []) = omega (arith, length-append numbers (number ∷ [])) in
-    let all : flat_map (little_bytes 8) (numbers ++ number ∷ []) ≡ flat ++ (little_bytes 8 number ++ []) = flat_map-append (little_bytes 8) numbers (number ∷ []) in
-    joined (take (8 * i) sector) flat part (little_bytes 8 number) (drop 8 (take (length sector - 8 * i) (drop (8 * i) sector))) (replicate (512 - 8 * length numbers - 8) 0) (drop (length sector - 8 * i) (drop (8 * i) sector)) front wrote rest past
+    let rest : drop 8 (take (length sector - 8 * i) (drop (8 * i) sector)) ≡ replicate (512 - 8 * length numbers - 8) 0 =
+    ap (λ (l : List ℕ). drop 8 l) mid ∙ drop-replicate 8 (512 - 8 * length numbers) 0 in
+    let past : drop (length sector - 8 * i) (drop (8 * i) sector) ≡ [] =
+    drop_all (length sector - 8 * i) (drop (8 * i) sector) (omega (arith, length-drop (8 * i) sector)) in
+    let fewer : 512 - 8 * length numbers - 8 ≡ 512 - 8 * length (numbers ++ number ∷ []) =
+    omega (arith, length-append numbers (number ∷ [])) in
+    let all : flat_map (little_bytes 8) (numbers ++ number ∷ []) ≡ flat ++ (little_bytes 8 number ++ []) =
+    flat_map-append (little_bytes 8) numbers (number ∷ []) in
+    joined (take (8 * i) sector) flat part (little_bytes 8 number) (drop 8 (take (length sector - 8 * i) (drop (8 * i) sector)))
+    (replicate (512 - 8 * length numbers - 8) 0) (drop (length sector - 8 * i) (drop (8 * i) sector)) front wrote rest past
     ∙ ap (λ (k : ℕ). flat ++ (little_bytes 8 number ++ replicate k 0)) fewer
     ∙ sym (append_assoc flat (little_bytes 8 number) (replicate (512 - 8 * length (numbers ++ number ∷ [])) 0))
-    ∙ ap (λ (l : List ℕ). (flat ++ l) ++ replicate (512 - 8 * length (numbers ++ number ∷ [])) 0) (sym (append-nil (little_bytes 8 number)))
+    ∙ ap (λ (l : List ℕ). (flat ++ l) ++ replicate (512 - 8 * length (numbers ++ number ∷ [])) 0)
+    (sym (append-nil (little_bytes 8 number)))
     ∙ ap (λ (l : List ℕ). l ++ replicate (512 - 8 * length (numbers ++ number ∷ [])) 0) (sym all)
   where
     joined : (front flat part bytes tail rest past : List ℕ) → front ≡ flat → part ≡ bytes ++ tail
@@ -129,7 +138,8 @@ spelling-get i numbers sector below fit is =
     get_from : (i : ℕ) (numbers zeros : List ℕ) → i < length numbers → All (λ n. n < 2 ^ 64) numbers
         → little_number 8 (drop (8 * i) (flat_map (little_bytes 8) numbers ++ zeros)) ≡ get_or numbers i 0
     get_from i [] zeros below fit = absurd (omega arith)
-    get_from zero (n ∷ numbers) zeros below fit = little_number-reads_back 8 n (flat_map (little_bytes 8) numbers ++ zeros) (fit 0 0 (omega arith))
+    get_from zero (n ∷ numbers) zeros below fit =
+        little_number-reads_back 8 n (flat_map (little_bytes 8) numbers ++ zeros) (fit 0 0 (omega arith))
     get_from (suc i) (n ∷ numbers) zeros below fit =
         let step : 8 * suc i ≡ 8 + 8 * i = omega arith in
         ap (λ (k : ℕ). little_number 8 (drop k (flat_map (little_bytes 8) (n ∷ numbers) ++ zeros))) step
@@ -140,4 +150,5 @@ spelling-get i numbers sector below fit is =
 pub spelling-rest : (numbers : List ℕ)
     → drop (8 * length numbers) (spelling numbers) ≡ replicate (512 - 8 * length numbers) 0
 unfolding spelling
-spelling-rest numbers = drop_at (flat_map (little_bytes 8) numbers) (replicate (512 - 8 * length numbers) 0) (8 * length numbers) (length_bytes numbers)
+spelling-rest numbers =
+    drop_at (flat_map (little_bytes 8) numbers) (replicate (512 - 8 * length numbers) 0) (8 * length numbers) (length_bytes numbers)

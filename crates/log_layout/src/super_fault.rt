@@ -1,3 +1,4 @@
+//! What can be wrong with a super.
 use thiserror::Error;
 
 /// What is wrong with a sector that should be a super: the first that applies, in this order.

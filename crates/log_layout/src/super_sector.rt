@@ -108,8 +108,7 @@ impl Super {
         if !has_zero_rest(sector) {
             return Err(SuperFault::Rest);
         }
-        let blocks = number_at(sector, 2);
-        let slots = number_at(sector, 3);
+        let (blocks, slots) = (number_at(sector, 2), number_at(sector, 3));
         let home = number_at(sector, 5);
         if !are_sizes(format, blocks, slots, home) {
             return Err(SuperFault::Sizes);

@@ -33,5 +33,6 @@ module _ (keep : ℕ → Bool) (ws : List UnflushedWrite) (i : ℕ) (d : Unflush
       ∙ sym (step_lost keep i (get_or ws i d) (drop (i + 1) ws) old s e)
       ∙ ap (λ (l : List UnflushedWrite). latest (kept_writes keep i l) s (old s)) (sym (next_write ws i d lt))
 
-pub room_left : (size : ℕ) (ws : List UnflushedWrite) (i : ℕ) (d : UnflushedWrite) → i < length ws → LieWithin size (drop i ws) → LieWithin size (drop (i + 1) ws)
+pub room_left : (size : ℕ) (ws : List UnflushedWrite) (i : ℕ) (d : UnflushedWrite) → i < length ws → LieWithin size (drop i ws)
+    → LieWithin size (drop (i + 1) ws)
 room_left size ws i d lt room = (subst (LieWithin size) (next_write ws i d lt) room).1

@@ -15,7 +15,8 @@ is_out a b lt = grind (arith, nat_tests, lt)
 pub apply_before : (array : Array) (write : Write) (b : ℕ) → b < write.address → apply array write b ≡ array b
 apply_before array write b before = rw (is_out write.address b before) refl
 
-from_address : (array : Array) (write : Write) (b : ℕ) → write.address ≤ b → apply array write b ≡ get_or write.blocks (b - write.address) (array b)
+from_address : (array : Array) (write : Write) (b : ℕ) → write.address ≤ b
+    → apply array write b ≡ get_or write.blocks (b - write.address) (array b)
 from_address array write b le = rw (is_in write.address b le) refl
 
 -- a block past the range stays
@@ -24,7 +25,8 @@ apply_past array write b past =
     from_address array write b (omega (arith, past)) ∙ get_or_past write.blocks (b - write.address) (array b) (omega (arith, past))
 
 -- a block in the range is the write's
-pub apply_inside : (array : Array) (write : Write) (i : ℕ) (d : List ℕ) → i < length write.blocks → apply array write (write.address + i) ≡ get_or write.blocks i d
+pub apply_inside : (array : Array) (write : Write) (i : ℕ) (d : List ℕ) → i < length write.blocks
+    → apply array write (write.address + i) ≡ get_or write.blocks i d
 apply_inside array write i d inside =
     let place : write.address + i - write.address ≡ i = omega arith in
     from_address array write (write.address + i) (omega arith)

@@ -21,11 +21,13 @@ is_same Flush Write = inr (λ e. absurd (cc e))
 is_same Flush Flush = inl refl
 
 -- no count falls in a call
-pub failures_grow : (old new : State) {fault : MediumFault} {result : Result (Unit {0}) MediumFault} → Passes fault result old new → old.failures ≤ new.failures
+pub failures_grow : (old new : State) {fault : MediumFault} {result : Result (Unit {0}) MediumFault} → Passes fault result old new
+    → old.failures ≤ new.failures
 failures_grow old new {fault} {result} call = grind (arith, common_steps, call.failures_are)
 
 -- no count of a kind falls in a call
-pub refused_grow : (old new : State) {fault : MediumFault} {result : Result (Unit {0}) MediumFault} → Passes fault result old new → (kind : MediumFault) → old.refused kind ≤ new.refused kind
+pub refused_grow : (old new : State) {fault : MediumFault} {result : Result (Unit {0}) MediumFault} → Passes fault result old new
+    → (kind : MediumFault) → old.refused kind ≤ new.refused kind
 refused_grow old new {fault} {result} call kind = elim (is_same kind fault) [
   | inl same ↦ subst (λ k. old.refused k ≤ new.refused k) (sym same) (grind (arith, common_steps, call.refused_are))
   | inr other ↦ omega (arith, call.others_stay kind other)
@@ -43,29 +45,34 @@ started P m sound here = record {
 }
 
 -- one call more, after which a cut leaves what has P
-pub goes_on : (P : Image → Type 0) (old mid new : State) {fault : MediumFault} {result : Result (Unit {0}) MediumFault} → LeavesOnly P old mid → Passes fault result mid new → EachCut P new → LeavesOnly P old new
+pub goes_on : (P : Image → Type 0) (old mid new : State) {fault : MediumFault} {result : Result (Unit {0}) MediumFault}
+    → LeavesOnly P old mid → Passes fault result mid new → EachCut P new → LeavesOnly P old new
 goes_on P old mid new {fault} {result} so_far call here = record {
   later = omega (arith, so_far.later, call.calls_are);
   failures_stay = omega (arith, so_far.failures_stay, failures_grow mid new call);
   refused_stay = λ kind. omega (arith, so_far.refused_stay kind, refused_grow mid new call kind);
   size_stays = call.size_stays ∙ so_far.size_stays;
   each = λ image since. ⊎_elim (so_far.each image) (here image) (call.nothing_else old.calls image so_far.later since);
-  before = λ t image le since. ⊎_elim (so_far.before t image le) (λ now. inr (here image now)) (call.nothing_else t image (omega (arith, le, so_far.later)) since);
+  before = λ t image le since.
+      ⊎_elim (so_far.before t image le) (λ now. inr (here image now)) (call.nothing_else t image (omega (arith, le, so_far.later)) since);
 }
 
 -- one call, with P before and after it
-pub one_call : (P : Image → Type 0) (old new : State) {fault : MediumFault} {result : Result (Unit {0}) MediumFault} → IsSound old → Passes fault result old new → EachCut P old → EachCut P new → LeavesOnly P old new
+pub one_call : (P : Image → Type 0) (old new : State) {fault : MediumFault} {result : Result (Unit {0}) MediumFault} → IsSound old
+    → Passes fault result old new → EachCut P old → EachCut P new → LeavesOnly P old new
 one_call P old new sound call first last = goes_on P old old new (started P old sound first) call last
 
 -- one turn, and then another
-pub joined : (P Q : Image → Type 0) (old mid new : State) → LeavesOnly P old mid → LeavesOnly Q mid new → LeavesOnly (λ image. P image ⊎ Q image) old new
+pub joined : (P Q : Image → Type 0) (old mid new : State) → LeavesOnly P old mid → LeavesOnly Q mid new
+    → LeavesOnly (λ image. P image ⊎ Q image) old new
 joined P Q old mid new first second = record {
   later = omega (arith, first.later, second.later);
   failures_stay = omega (arith, first.failures_stay, second.failures_stay);
   refused_stay = λ kind. omega (arith, first.refused_stay kind, second.refused_stay kind);
   size_stays = second.size_stays ∙ first.size_stays;
   each = λ image since. ⊎_elim (λ was. inl (first.each image was)) inr (second.before old.calls image first.later since);
-  before = λ t image le since. ⊎_elim (λ was. ⊎_elim inl (λ p. inr (inl p)) (first.before t image le was)) (λ q. inr (inr q)) (second.before t image (omega (arith, le, first.later)) since);
+  before = λ t image le since. ⊎_elim (λ was. ⊎_elim inl (λ p. inr (inl p)) (first.before t image le was)) (λ q. inr (inr q))
+      (second.before t image (omega (arith, le, first.later)) since);
 }
 
 -- what is weaker holds too
@@ -81,7 +88,8 @@ weaker P Q old new f so = record {
 
 -- one turn, and then another that leaves the same
 pub joined_same : (P : Image → Type 0) (old mid new : State) → LeavesOnly P old mid → LeavesOnly P mid new → LeavesOnly P old new
-joined_same P old mid new first second = weaker (λ image. P image ⊎ P image) P old new (λ image either. ⊎_elim (λ p. p) (λ p. p) either) (joined P P old mid new first second)
+joined_same P old mid new first second =
+    weaker (λ image. P image ⊎ P image) P old new (λ image either. ⊎_elim (λ p. p) (λ p. p) either) (joined P P old mid new first second)
 
 -- at the exit a cut leaves what has P
 pub at_exit : (P : Image → Type 0) (old new : State) → IsSound new → LeavesOnly P old new → EachCut P new
@@ -96,11 +104,14 @@ pub started_within : (bound : Sets) (m : State) → IsSound m → Within m.may_l
 started_within bound m sound here = started (CutLeaves bound) m sound (λ image cut s. here s (image s) (cut s))
 
 -- one call more, after which the sets are within the bound
-pub goes_on_within : (bound : Sets) (old mid new : State) {fault : MediumFault} {result : Result (Unit {0}) MediumFault} → StaysWithin bound old mid → Passes fault result mid new → Within new.may_leave bound → StaysWithin bound old new
-goes_on_within bound old mid new {fault} {result} so_far call here = goes_on (CutLeaves bound) old mid new so_far call (λ image cut s. here s (image s) (cut s))
+pub goes_on_within : (bound : Sets) (old mid new : State) {fault : MediumFault} {result : Result (Unit {0}) MediumFault}
+    → StaysWithin bound old mid → Passes fault result mid new → Within new.may_leave bound → StaysWithin bound old new
+goes_on_within bound old mid new {fault} {result} so_far call here =
+    goes_on (CutLeaves bound) old mid new so_far call (λ image cut s. here s (image s) (cut s))
 
 -- a write keeps the sets within a bound that has its bytes
-pub gains_within : (bound sets new : Sets) (s : ℕ) (bytes : List ℕ) → Within sets bound → Gains s bytes sets new → ((t : ℕ) (c : List ℕ) → (t ≡ s) × (c ≡ bytes) → bound t c) → Within new bound
+pub gains_within : (bound sets new : Sets) (s : ℕ) (bytes : List ℕ) → Within sets bound → Gains s bytes sets new
+    → ((t : ℕ) (c : List ℕ) → (t ≡ s) × (c ≡ bytes) → bound t c) → Within new bound
 gains_within bound sets new s bytes w gains has t c now = ⊎_elim (w t c) (has t c) (gains t c now)
 
 -- a part of a part is a part
@@ -128,7 +139,8 @@ holds_updated old new s bytes h t = elim (cases_eq t s) [
   | inr other ↦ h.elsewhere t other ∙ sym (updated_elsewhere old s bytes t other)
 ]
 
-module _ (old : State) (sound : IsSound old) (new : Sets) (s : ℕ) (bytes : List ℕ) (gains : Gains s bytes old.may_leave new) (image : Image) (cut : CutLeaves new image) where
+module _ (old : State) (sound : IsSound old) (new : Sets) (s : ℕ) (bytes : List ℕ) (gains : Gains s bytes old.may_leave new) (image : Image)
+    (cut : CutLeaves new image) where
   was_elsewhere : (t : ℕ) → t ≢ s → old.may_leave t (image t)
   was_elsewhere t not = ⊎_elim (λ was. was) (λ written. absurd (not written.0)) (gains t (image t) (cut t))
 
@@ -140,19 +152,29 @@ module _ (old : State) (sound : IsSound old) (new : Sets) (s : ℕ) (bytes : Lis
 
   -- An image allowed after a write was allowed before, or is one that was, with that sector overwritten.
   pub after_write : CutLeaves old.may_leave image ⊎ ((before : Image) × CutLeaves old.may_leave before × Holds s bytes before image)
-  after_write = ⊎_elim
+  after_write =
+      ⊎_elim
       (λ was. inl (λ t. elim (cases_eq t s) [
         | inl is ↦ let P : ℕ → Type 0 = λ u. old.may_leave u (image u) in subst P (sym is) was
         | inr not ↦ was_elsewhere t not
       ]))
-      (λ written. inr (updated image s (old.content s), was_before, record { here = written.1; elsewhere = λ t not. sym (updated_elsewhere image s (old.content s) t not) }))
+      (λ written. inr (
+        updated image s (old.content s),
+        was_before,
+        record {
+          here = written.1;
+          elsewhere = λ t not. sym (updated_elsewhere image s (old.content s) t not);
+        },
+      ))
       (gains s (image s) (cut s))
 
 -- A write takes images with P to images with Q, where those that it leaves as they were have Q too.
-pub each_write : (P Q : Image → Type 0) (old new : State) (s : ℕ) (bytes : List ℕ) → IsSound old → Gains s bytes old.may_leave new.may_leave → EachCut P old
-    → ((image : Image) → P image → Q image) → ((before image : Image) → Holds s bytes before image → P before → Q image) → EachCut Q new
+pub each_write : (P Q : Image → Type 0) (old new : State) (s : ℕ) (bytes : List ℕ) → IsSound old → Gains s bytes old.may_leave new.may_leave
+    → EachCut P old → ((image : Image) → P image → Q image) → ((before image : Image) → Holds s bytes before image → P before → Q image)
+    → EachCut Q new
 each_write P Q old new s bytes sound gains each stays changes image cut =
-    ⊎_elim (λ was. stays image (each image was)) (λ w. changes w.0 image w.2 (each w.0 w.1)) (after_write old sound new.may_leave s bytes gains image cut)
+    ⊎_elim (λ was. stays image (each image was)) (λ w. changes w.0 image w.2 (each w.0 w.1))
+    (after_write old sound new.may_leave s bytes gains image cut)
 
 -- where the sets have the one content, a cut leaves it
 pub only_image : (content : Image) (sets : Sets) → Only content sets → (image : Image) → CutLeaves sets image → image ≡ content
@@ -175,7 +197,8 @@ quiet_start m = record {
 }
 
 -- one call that writes nothing
-pub quiet_call : (old new : State) {fault : MediumFault} {result : Result (Unit {0}) MediumFault} → Passes fault result old new → Stays old.content new.content → Within new.may_leave old.may_leave → IsQuiet old new
+pub quiet_call : (old new : State) {fault : MediumFault} {result : Result (Unit {0}) MediumFault} → Passes fault result old new
+    → Stays old.content new.content → Within new.may_leave old.may_leave → IsQuiet old new
 quiet_call old new {fault} {result} call stays within = record {
   later = omega (arith, call.calls_are);
   failures_stay = failures_grow old new call;
@@ -206,7 +229,8 @@ quiet_leaves P old new sound each quiet = record {
   failures_stay = quiet.failures_stay;
   refused_stay = quiet.refused_stay;
   size_stays = quiet.size_stays;
-  each = λ image since. ⊎_elim (λ was. each image (sound.only_now image was)) (each image) (quiet.nothing_else old.calls image (omega arith) since);
+  each = λ image since.
+      ⊎_elim (λ was. each image (sound.only_now image was)) (each image) (quiet.nothing_else old.calls image (omega arith) since);
   before = λ t image le since. ⊎_elim inl (λ now. inr (each image now)) (quiet.nothing_else t image le since);
 }
 
@@ -257,7 +281,8 @@ unchanged_through old mid new first second = record {
 }
 
 -- one call more that writes nothing, where each image has P before it
-pub goes_on_quiet : (P : Image → Type 0) (old mid new : State) → LeavesOnly P old mid → IsSound mid → EachCut P mid → IsQuiet mid new → LeavesOnly P old new
+pub goes_on_quiet : (P : Image → Type 0) (old mid new : State) → LeavesOnly P old mid → IsSound mid → EachCut P mid → IsQuiet mid new
+    → LeavesOnly P old new
 goes_on_quiet P old mid new so_far sound each quiet = joined_same P old mid new so_far (quiet_leaves P mid new sound each quiet)
 
 -- a run that begins where nothing has changed since old
@@ -268,7 +293,8 @@ after_unchanged P old mid new same run = record {
   refused_stay = λ kind. omega (arith, same.refused_stay kind, run.refused_stay kind);
   size_stays = run.size_stays ∙ same.size_stays;
   each = λ image since. run.each image (subst (λ t. new.left_since t image) (sym same.calls_stay) since);
-  before = λ t image le since. ⊎_elim (λ was. inl (same.left_shrinks t image was)) inr (run.before t image (omega (arith, le, same.calls_stay)) since);
+  before = λ t image le since.
+      ⊎_elim (λ was. inl (same.left_shrinks t image was)) inr (run.before t image (omega (arith, le, same.calls_stay)) since);
 }
 
 -- a run after which nothing changes

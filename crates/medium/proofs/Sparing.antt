@@ -30,9 +30,9 @@ pub spared_unchanged : (first : ℕ) (old new : State) → IsSound old → IsUnc
 spared_unchanged first old new sound same = spared_quiet first old new sound (unchanged_quiet old new same)
 
 -- one call, which writes to the sectors below alone
-pub spared_call : (first : ℕ) (old new : State) {fault : MediumFault} {result : Result (Unit {0}) MediumFault} → IsSound old → Passes fault result old new
-    → ((s : ℕ) → first ≤ s → new.content s ≡ old.content s) → ((s : ℕ) (c : List ℕ) → first ≤ s → new.may_leave s c → old.may_leave s c)
-    → SparesFrom first old new
+pub spared_call : (first : ℕ) (old new : State) {fault : MediumFault} {result : Result (Unit {0}) MediumFault} → IsSound old
+    → Passes fault result old new → ((s : ℕ) → first ≤ s → new.content s ≡ old.content s)
+    → ((s : ℕ) (c : List ℕ) → first ≤ s → new.may_leave s c → old.may_leave s c) → SparesFrom first old new
 spared_call first old new sound call content sets = record {
   content = content;
   sets = sets;
@@ -41,8 +41,8 @@ spared_call first old new sound call content sets = record {
 }
 
 -- a write to a sector below, good or refused
-pub spared_write : (first : ℕ) (old new : State) {fault : MediumFault} {result : Result (Unit {0}) MediumFault} (t : ℕ) (bytes : List ℕ) → IsSound old → t < first
-    → Passes fault result old new → Gains t bytes old.may_leave new.may_leave
+pub spared_write : (first : ℕ) (old new : State) {fault : MediumFault} {result : Result (Unit {0}) MediumFault} (t : ℕ) (bytes : List ℕ)
+    → IsSound old → t < first → Passes fault result old new → Gains t bytes old.may_leave new.may_leave
     → Stays old.content new.content ⊎ Holds t bytes old.content new.content → SparesFrom first old new
 spared_write first old new t bytes sound below call gains content = spared_call first old new sound call
     (λ s le. ⊎_elim (λ stays. stays s) (λ holds. holds.elsewhere s (apart s le)) content)
@@ -52,9 +52,10 @@ spared_write first old new t bytes sound below call gains content = spared_call 
     apart s le same = omega (arith, le, same, below)
 
 -- a call that writes nothing: a read or a flush
-pub spared_silent : (first : ℕ) (old new : State) {fault : MediumFault} {result : Result (Unit {0}) MediumFault} → IsSound old → Passes fault result old new
-    → Stays old.content new.content → Within new.may_leave old.may_leave → SparesFrom first old new
-spared_silent first old new sound call content sets = spared_call first old new sound call (λ s le. content s) (λ s c le left. sets s c left)
+pub spared_silent : (first : ℕ) (old new : State) {fault : MediumFault} {result : Result (Unit {0}) MediumFault} → IsSound old
+    → Passes fault result old new → Stays old.content new.content → Within new.may_leave old.may_leave → SparesFrom first old new
+spared_silent first old new sound call content sets =
+    spared_call first old new sound call (λ s le. content s) (λ s c le left. sets s c left)
 
 -- some calls, and then others
 pub spared_joined : (first : ℕ) (old mid new : State) → SparesFrom first old mid → SparesFrom first mid new → SparesFrom first old new

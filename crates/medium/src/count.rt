@@ -1,4 +1,4 @@
-// A number that only proofs read.
+//! A number that only proofs read.
 ghost use Rattle.std.specs.Prelude.{◌≡◌, ◌+◌, ℕ};
 ghost use Rattle.std.specs.Borrow.{ftrue};
 
@@ -22,14 +22,14 @@ impl Count {
         Count { of: PhantomData }
     }
 
-    // One more.
+    /// One more.
     pub(crate) fn next(&self) -> Count
         ensures { result.number ≡ self.now.number + 1 }
     {
         Count { of: PhantomData }
     }
 
-    // The same number.
+    /// The same number.
     pub(crate) fn copy(&self) -> Count
         ensures { result.number ≡ self.now.number }
     {

@@ -1,4 +1,4 @@
-// The calls that a medium can refuse.
+//! The calls that a medium can refuse.
 use thiserror::Error;
 
 /// The kind of the call that a medium refused.

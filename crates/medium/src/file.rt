@@ -1,4 +1,4 @@
-// A medium over an image file.
+//! A medium over an image file.
 ghost use Rattle.std.specs.Prelude.{◌≡◌, ◌≢◌, ◌⊎◌, ◌+◌, ◌*◌, ◌%◌, ◌<◌, ◌≤◌, ◌↔◌, length, replicate};
 ghost use Rattle.std.specs.Prelude.{IfOk, IfErr, IsErrOf, OnOk, OnErr};
 ghost use Rattle.medium.specs.ImageFile.{state_of, fresh, IsImage};

@@ -1,4 +1,4 @@
-// A medium for tests that remembers, for proofs alone, what it was at each moment.
+//! A medium for tests that remembers, for proofs alone, what it was at each moment.
 ghost use Rattle.std.specs.Prelude.{◌≡◌, []};
 
 use crate::fault::MediumFault;
@@ -26,7 +26,7 @@ impl Model for Remembering {
 }
 
 impl Remembering {
-    // From now on each moment is remembered.
+    /// From now on each moment is remembered.
     pub(crate) fn new(medium: SimMedium) -> Remembering
         ensures { result ≡ record { now = medium; earlier = [] } }
     {

@@ -1,4 +1,4 @@
-// Which unflushed writes a cut keeps.
+//! Which unflushed writes a cut keeps.
 ghost use Rattle.std.specs.Prelude.{◌≡◌, ◌==◌};
 ghost use Rattle.std.specs.List.{list_any};
 ghost use Rattle.medium.specs.Writes.{kept_by};
@@ -17,7 +17,7 @@ pub enum Kept {
 impl Kept {
     ghost use Rattle.medium.specs.Writes.{keeps};
 
-    // Whether the write of this number is kept.
+    /// Whether the write of this number is kept.
     pub(crate) fn keeps(&self, number: usize) -> bool
         ensures { result ≡ keeps self.now number }
     {

@@ -1,4 +1,4 @@
-// Sectors that can be read, written and flushed.
+//! Sectors that can be read, written and flushed.
 ghost use Rattle.std.specs.Prelude.{◌≡◌, ◌⊎◌, ◌<◌, ℕ, OnOk, OnErr};
 ghost use Rattle.medium.specs.declared.fault.MediumFault.TheVariants.{Read, Write, Flush};
 ghost use Rattle.medium.specs.Medium.{State, Stays, Holds, Within, Gains, Only, Passes, IsSound};

@@ -1,4 +1,4 @@
-// A medium that hands its calls on to a device.
+//! A medium that hands its calls on to a device.
 ghost use Rattle.medium.specs.Moments.{IsUnchanged};
 
 use crate::medium::Medium;

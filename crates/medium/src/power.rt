@@ -1,4 +1,4 @@
-// When calls are refused: a fuse, one failure, and the power.
+//! When calls are refused: a fuse, one failure, and the power.
 ghost use Rattle.std.specs.Prelude.{◌≡◌, None, false};
 
 use crate::fault::MediumFault;
@@ -15,7 +15,7 @@ pub struct Power {
 impl Power {
     ghost use Rattle.medium.specs.Power.{powered, admits, after_call};
 
-    // The power is on, and nothing is to be refused.
+    /// The power is on, and nothing is to be refused.
     pub(crate) fn on() -> Power
         ensures { result ≡ powered }
     {
@@ -26,7 +26,7 @@ impl Power {
         }
     }
 
-    // Whether a call of this kind happens, where there is room for it or not.
+    /// Whether a call of this kind happens, where there is room for it or not.
     pub(crate) fn admit(&mut self, kind: MediumFault, fits: bool) -> bool
         ensures happens { result ≡ admits self.old kind fits }
         ensures after { self.new ≡ after_call self.old kind fits }

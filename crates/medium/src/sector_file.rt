@@ -1,4 +1,4 @@
-// A file that can hold the sectors of an image.
+//! A file that can hold the sectors of an image.
 use std::fs::{File, OpenFile};
 use std::io;
 use std::io::Read;

@@ -1,4 +1,4 @@
-// Sectors in a row of bytes, and lists of writes to them.
+//! Sectors in a row of bytes, and lists of writes to them.
 ghost use Rattle.std.specs.Prelude.{◌≡◌, ◌+◌, ◌*◌, ◌<◌, ◌≤◌, ◌++◌, ℕ, [], length, vec_capacity};
 ghost use Rattle.medium.specs.Medium.{Holds};
 ghost use Rattle.medium.specs.Writes.{sector_of, applied, LieWithin, kept_writes, keeps};
@@ -8,7 +8,7 @@ use crate::unflushed::UnflushedWrite;
 
 pub(crate) const SECTOR: usize = 512;
 
-// Copies a sector out.
+/// Copies a sector out.
 pub(crate) fn load(bytes: &[u8], sector: u64, to: &mut [u8; 512])
     requires { 512 * (sector + 1) ≤ length bytes.now }
     ensures { to.new ≡ sector_of bytes.now sector }
@@ -17,7 +17,7 @@ pub(crate) fn load(bytes: &[u8], sector: u64, to: &mut [u8; 512])
     to.copy_from_slice(&bytes[at..at + SECTOR]);
 }
 
-// Copies a block over a sector.
+/// Copies a block over a sector.
 pub(crate) fn store(bytes: &mut [u8], sector: u64, block: &[u8; 512])
     requires { 512 * (sector + 1) ≤ length bytes.old }
     ensures { Holds sector block.now (sector_of bytes.old) (sector_of bytes.new) }
@@ -26,7 +26,7 @@ pub(crate) fn store(bytes: &mut [u8], sector: u64, block: &[u8; 512])
     bytes[at..at + SECTOR].copy_from_slice(block);
 }
 
-// Copies out what a sector holds after these writes.
+/// Copies out what a sector holds after these writes.
 pub(crate) fn load_after(bytes: &[u8], writes: &[UnflushedWrite], sector: u64, to: &mut [u8; 512])
     requires { 512 * (sector + 1) ≤ length bytes.now }
     ensures { to.new ≡ applied writes.now (sector_of bytes.now) sector }
@@ -39,7 +39,7 @@ pub(crate) fn load_after(bytes: &[u8], writes: &[UnflushedWrite], sector: u64, t
     }
 }
 
-// Applies the writes that are kept, in order.
+/// Applies the writes that are kept, in order.
 pub(crate) fn apply(bytes: &mut [u8], writes: &[UnflushedWrite], kept: &Kept)
     requires { LieWithin (length bytes.old) writes.now }
     ensures { (s : ℕ) → sector_of bytes.new s
@@ -52,7 +52,7 @@ pub(crate) fn apply(bytes: &mut [u8], writes: &[UnflushedWrite], kept: &Kept)
     }
 }
 
-// Applies the writes that are kept, in order, and forgets them all.
+/// Applies the writes that are kept, in order, and forgets them all.
 pub(crate) fn settle(bytes: &mut Vec<u8>, writes: &mut Vec<UnflushedWrite>, kept: &Kept)
     requires { LieWithin (length bytes.old.items) writes.old.items }
     ensures sectors { (s : ℕ) → sector_of bytes.new.items s
@@ -65,7 +65,7 @@ pub(crate) fn settle(bytes: &mut Vec<u8>, writes: &mut Vec<UnflushedWrite>, kept
     writes.clear();
 }
 
-// Appends writes to a list that has room for them.
+/// Appends writes to a list that has room for them.
 pub(crate) fn append(list: &mut Vec<UnflushedWrite>, writes: &[UnflushedWrite])
     requires { length list.old.items + length writes.now ≤ vec_capacity list.old }
     ensures items { list.new.items ≡ list.old.items ++ writes.now }

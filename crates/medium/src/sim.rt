@@ -1,4 +1,4 @@
-// A medium in memory, whose power can be cut.
+//! A medium in memory, whose power can be cut.
 ghost use Rattle.std.specs.Prelude.{◌≡◌, ◌≢◌, ◌⊎◌, ◌%◌, ◌↔◌, [], length, IfOk, IfSome, IsErrOf};
 ghost use Rattle.medium.specs.Medium.{CutLeaves};
 ghost use Rattle.medium.specs.Moments.{IsFlushed};

@@ -1,4 +1,4 @@
-// A medium whose calls can be made to fail.
+//! A medium whose calls can be made to fail.
 ghost use Rattle.std.specs.Prelude.{◌<◌, ℕ};
 ghost use Rattle.medium.specs.Moments.{IsUnchanged};
 

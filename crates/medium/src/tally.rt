@@ -1,4 +1,4 @@
-// How many calls of each kind there were, as proofs count them.
+//! How many calls of each kind there were, as proofs count them.
 ghost use Rattle.std.specs.Prelude.{◌≡◌};
 ghost use Rattle.medium.specs.Tally.{none, one_more};
 ghost use Rattle.medium.specs.SimView.{tally_of};
@@ -24,7 +24,7 @@ impl Calls {
         }
     }
 
-    // Counts one of this kind.
+    /// Counts one of this kind.
     pub(crate) fn add(&mut self, kind: MediumFault)
         ensures { tally_of self.new ≡ one_more (tally_of self.old) kind }
     {
@@ -35,7 +35,7 @@ impl Calls {
         }
     }
 
-    // The same counts.
+    /// The same counts.
     pub(crate) fn copy(&self) -> Calls
         ensures { tally_of result ≡ tally_of self.now }
     {

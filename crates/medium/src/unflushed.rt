@@ -1,4 +1,4 @@
-// A write that a cut may lose.
+//! A write that a cut may lose.
 
 /// The bytes of a sector that no flush has made durable yet.
 #[derive(Clone, Copy, Debug)]

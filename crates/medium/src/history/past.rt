@@ -1,4 +1,4 @@
-// What a medium was before each call, the latest first. It takes no memory.
+//! What a medium was before each call, the latest first. It takes no memory.
 ghost use Rattle.std.specs.Prelude.{◌≡◌, List, [], ◌∷◌};
 ghost use Rattle.std.specs.Borrow.{ftrue};
 ghost use Rattle.medium.specs.Sim.{Sim};
@@ -22,7 +22,7 @@ impl Past {
         Past {}
     }
 
-    // The medium as it is comes first.
+    /// The medium as it is comes first.
     pub(crate) fn with(&self, _medium: &SimMedium) -> Past
         ensures { result.moments ≡ _medium.now ∷ self.now.moments }
     {

@@ -1,4 +1,4 @@
-// A sector there and back, and what a cut between could have left.
+//! A sector there and back, and what a cut between could have left.
 ghost use Rattle.std.specs.Prelude.{◌≡◌, ◌<◌, ◌≤◌, ℕ, length, IfOk, OnOk};
 ghost use Rattle.medium.specs.History.{state_of, EachMoment};
 ghost use Rattle.medium.specs.Medium.{Image, CutLeaves, Holds, Only};

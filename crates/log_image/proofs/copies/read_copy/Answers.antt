@@ -15,7 +15,8 @@ returns-in-One-clause-ok g c stamp entries slot below whole =
     let old = g.M.Medium.state c.args.m.now in
     let shape = shape_of c.args.sizes.now in
     let w = subst (λ (f : LogFormat). IsWholeIn (layout_of f) shape old.content stamp entries) c.in-One.is whole in
-    let place = subst (λ (f : LogFormat). c.copy_place.result ≡ 2 + (layout_of f).slot_sectors * c.args.slot + first_data_of f + c.args.i) c.in-One.is c.copy_place.ensures in
+    let place = subst (λ (f : LogFormat). c.copy_place.result ≡ 2 + (layout_of f).slot_sectors * c.args.slot + first_data_of f + c.args.i)
+    c.in-One.is c.copy_place.ensures in
     c.in_ok-read.ensures.ok
     ∙ ap old.content (place ∙ ap (λ (x : ℕ). 2 + 50 * x + 1 + c.args.i) slot)
     ∙ place_there_one shape old.content stamp entries w c.args.i below
@@ -26,7 +27,8 @@ returns-in-Two-clause-ok g c stamp entries slot below whole =
     let shape = shape_of c.args.sizes.now in
     let i : ℕ = c.args.i in
     let w = subst (λ (f : LogFormat). IsWholeIn (layout_of f) shape old.content stamp entries) c.in-Two.is whole in
-    let place = subst (λ (f : LogFormat). c.copy_place.result ≡ 2 + (layout_of f).slot_sectors * c.args.slot + first_data_of f + i) c.in-Two.is c.copy_place.ensures in
+    let place = subst (λ (f : LogFormat). c.copy_place.result ≡ 2 + (layout_of f).slot_sectors * c.args.slot + first_data_of f + i)
+    c.in-Two.is c.copy_place.ensures in
     let at : 2 + 249 * c.args.slot + 8 + c.args.i ≡ 2 + 249 * (stamp % c.args.sizes.now.slots) + (8 + c.args.i) = omega (arith, slot) in
     on_ok_weaker c.read_begin.result (λ read.
     read ∙ copy_is shape old.content stamp entries w i below
@@ -42,4 +44,5 @@ returns-in-Two-clause-quiet g c =
     let old = g.M.Medium.state c.args.m.now in
     let mid = g.M.Medium.state c.read.new.self in
     let new = g.M.Medium.state c.read_begin.new.m in
-    quiet_joined old mid new (quiet_call old mid c.read.ensures.passes c.read.ensures.content c.read.ensures.sets) c.read_begin.ensures.quiet
+    quiet_joined old mid new (quiet_call old mid c.read.ensures.passes c.read.ensures.content c.read.ensures.sets)
+    c.read_begin.ensures.quiet

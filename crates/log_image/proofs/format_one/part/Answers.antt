@@ -20,7 +20,8 @@ returns-then-p-count-clause-offset c = omega (arith, offset_early (length c.args
 
 pub returns-then-p-count-clause-sector : goal.returns-then-p-count-clause-sector
 returns-then-p-count-clause-sector c =
-    let many : length (entries_of c.args.numbers.now c.args.bytes.now) ≡ length c.args.numbers.now = length_of_batch c.args.numbers.now c.args.bytes.now in
+    let many : length (entries_of c.args.numbers.now c.args.bytes.now) ≡ length c.args.numbers.now =
+    length_of_batch c.args.numbers.now c.args.bytes.now in
     c.block.ensures
     ∙ ap (λ (e : Entry). e.1) (sym (entry_of_batch (c.args.p - 1) c.args.numbers.now c.args.bytes.now (0, []) (omega arith)))
     ∙ sym (part_place c.args.stamp (entries_of c.args.numbers.now c.args.bytes.now) c.args.p (omega arith) (omega (arith, many)))
@@ -30,7 +31,8 @@ returns-else-p-count-clause-offset c = omega (arith, offset_commit (length c.arg
 
 pub returns-else-p-count-clause-sector : goal.returns-else-p-count-clause-sector
 returns-else-p-count-clause-sector c =
-    let many : length (entries_of c.args.numbers.now c.args.bytes.now) ≡ length c.args.numbers.now = length_of_batch c.args.numbers.now c.args.bytes.now in
+    let many : length (entries_of c.args.numbers.now c.args.bytes.now) ≡ length c.args.numbers.now =
+    length_of_batch c.args.numbers.now c.args.bytes.now in
     c.encode-else-p-count.ensures.spelled
     ∙ ap (λ (s : ℕ). commit1 s c.new-else-p-count.result.count) c.new-else-p-count.ensures.stamp
     ∙ ap (λ (n : ℕ). commit1 c.args.stamp n) (c.new-else-p-count.ensures.count ∙ sym many)

@@ -16,7 +16,8 @@ loop-e-preserved c before count is =
     let fm : List ℕ = flat_map entry_bytes (take c.loop-e.e (zip c.args.numbers.now c.args.firsts.now)) in
     let number : List ℕ = little_bytes 8 (get_or c.args.numbers.now c.loop-e.e 0) in
     let long = length_so_far numbers firsts c.requires.each c.requires.sized before e count (omega arith) in
-    c.append.ensures ((before ++ fm) ++ number) (omega (arith, long, length-append (before ++ fm) number)) (c.append_number.ensures (before ++ fm) long (c.loop-e.invariant before count is))
+    c.append.ensures ((before ++ fm) ++ number) (omega (arith, long, length-append (before ++ fm) number))
+    (c.append_number.ensures (before ++ fm) long (c.loop-e.invariant before count is))
     ∙ ap (λ (l : List ℕ). padded l) (entries_more numbers firsts c.requires.each c.requires.sized before e c.loop-e-test.true)
 
 pub returns : goal.returns
@@ -24,4 +25,5 @@ returns c before count is =
     let numbers = c.args.numbers.now in
     let firsts = c.args.firsts.now in
     c.loop-e.invariant before count is
-    ∙ ap (λ (l : List Entry). padded (before ++ flat_map entry_bytes l)) (take_all c.loop-e.e (zip numbers firsts) (omega (arith, length_zipped numbers firsts c.requires.each)))
+    ∙ ap (λ (l : List Entry). padded (before ++ flat_map entry_bytes l))
+    (take_all c.loop-e.e (zip numbers firsts) (omega (arith, length_zipped numbers firsts c.requires.each)))

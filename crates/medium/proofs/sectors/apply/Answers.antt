@@ -11,11 +11,20 @@ loop-i-preserved c =
     let d : UnflushedWrite = record { sector = 0; block = [] } in
     let lt = c.loop-i-test.true in
     record {
-      room = subst (λ (n : ℕ). LieWithin n (drop (c.loop-i.i + 1) c.args.writes.now)) (sym c.if-keeps.auto.bytes) (room_left (length c.loop-i.bytes) c.args.writes.now c.loop-i.i d lt c.loop-i.invariant.room);
+      room = subst (λ (n : ℕ). LieWithin n (drop (c.loop-i.i + 1) c.args.writes.now)) (sym c.if-keeps.auto.bytes)
+          (room_left (length c.loop-i.bytes) c.args.writes.now c.loop-i.i d lt c.loop-i.invariant.room);
       left = λ s. elim c.if-keeps.branch [
-        | then-keeps w ↦ left_kept (keeps c.args.kept.now) c.args.writes.now c.loop-i.i d lt (sector_of c.loop-i.bytes) (sector_of c.if-keeps.bytes) (sym c.keeps.ensures ∙ w.if-keeps.true) s (subst (λ (l : List ℕ). Holds (get_or c.args.writes.now c.loop-i.i d).sector (get_or c.args.writes.now c.loop-i.i d).block (sector_of c.loop-i.bytes) (sector_of l)) (sym w.bytes-is) w.store.ensures)
+        | then-keeps w ↦
+            left_kept (keeps c.args.kept.now) c.args.writes.now c.loop-i.i d lt (sector_of c.loop-i.bytes) (sector_of c.if-keeps.bytes)
+            (sym c.keeps.ensures ∙ w.if-keeps.true) s
+            (subst
+            (λ (l : List ℕ). Holds (get_or c.args.writes.now c.loop-i.i d).sector (get_or c.args.writes.now c.loop-i.i d).block
+            (sector_of c.loop-i.bytes) (sector_of l))
+            (sym w.bytes-is) w.store.ensures)
             ∙ c.loop-i.invariant.left s
-        | else-keeps w ↦ left_lost (keeps c.args.kept.now) c.args.writes.now c.loop-i.i d lt (sector_of c.loop-i.bytes) (sector_of c.if-keeps.bytes) (sym c.keeps.ensures ∙ w.if-keeps.false) s (ap (λ (l : List ℕ). sector_of l s) w.bytes-is)
+        | else-keeps w ↦
+            left_lost (keeps c.args.kept.now) c.args.writes.now c.loop-i.i d lt (sector_of c.loop-i.bytes) (sector_of c.if-keeps.bytes)
+            (sym c.keeps.ensures ∙ w.if-keeps.false) s (ap (λ (l : List ℕ). sector_of l s) w.bytes-is)
             ∙ c.loop-i.invariant.left s
       ];
     }

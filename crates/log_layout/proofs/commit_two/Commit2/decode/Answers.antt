@@ -2,7 +2,10 @@ use Rattle.std.proofs.Common.{◌≡◌, ℕ, rules, arith, sym, ◌∙◌, ap}
 use Rattle.log_layout.specs.SectorsTwo.{commit_bytes}
 use Rattle.log_layout.proofs.EntriesTwo.{commit_stamp, commit_count}
 use Rattle.log_layout.proofs.commit_two.Commit2.decode.Goals as goal
-use Rattle.log_layout.proofs.commit_two.Commit2.decode.Goals.{then-stamp-lt1-via-then-stamp-lt1, then-stamp-lt1-via-else-stamp-lt1+then-stamp, then-stamp-lt1-via-else-stamp-lt1+else-stamp+then-count-lt1, then-stamp-lt1-via-else-stamp-lt1+else-stamp+else-count-lt1+then-count-gt240}
+use Rattle.log_layout.proofs.commit_two.Commit2.decode.Goals.{then-stamp-lt1-via-then-stamp-lt1}
+use Rattle.log_layout.proofs.commit_two.Commit2.decode.Goals.{then-stamp-lt1-via-else-stamp-lt1+then-stamp}
+use Rattle.log_layout.proofs.commit_two.Commit2.decode.Goals.{then-stamp-lt1-via-else-stamp-lt1+else-stamp+then-count-lt1}
+use Rattle.log_layout.proofs.commit_two.Commit2.decode.Goals.{then-stamp-lt1-via-else-stamp-lt1+else-stamp+else-count-lt1+then-count-gt240}
 
 pub returns-then-stamp-lt1-clause-all : goal.returns-then-stamp-lt1-clause-all
 returns-then-stamp-lt1-clause-all c stamp count d =

@@ -18,9 +18,18 @@ returns c =
           (c.append_number-4.ensures ((little_bytes 8 mark ++ stamp) ++ count) refl
           (c.append_number-3.ensures (little_bytes 8 mark ++ stamp) refl
           (c.append_number-2.ensures (little_bytes 8 mark) refl (c.append_number.ensures [] refl padded-none))))
-          ∙ ap (λ (l : List ℕ). padded (little_bytes 8 mark ++ (stamp ++ (count ++ (index ++ flat_map entry_bytes (zip l c.deref-2.result.now)))))) c.deref.ensures.0
-          ∙ ap (λ (l : List (List ℕ)). padded (little_bytes 8 mark ++ (stamp ++ (count ++ (index ++ flat_map entry_bytes (zip d.numbers.items l)))))) c.deref-2.ensures.0
-          ∙ ap (λ (x : ℕ). padded (little_bytes 8 x ++ (stamp ++ (count ++ (index ++ flat_map entry_bytes (zip d.numbers.items d.firsts.items)))))) c.mark_number.ensures;
+          ∙ ap
+          (λ (l : List ℕ).
+          padded (little_bytes 8 mark ++ (stamp ++ (count ++ (index ++ flat_map entry_bytes (zip l c.deref-2.result.now))))))
+          c.deref.ensures.0
+          ∙ ap
+          (λ (l : List (List ℕ)).
+          padded (little_bytes 8 mark ++ (stamp ++ (count ++ (index ++ flat_map entry_bytes (zip d.numbers.items l))))))
+          c.deref-2.ensures.0
+          ∙ ap
+          (λ (x : ℕ).
+          padded (little_bytes 8 x ++ (stamp ++ (count ++ (index ++ flat_map entry_bytes (zip d.numbers.items d.firsts.items))))))
+          c.mark_number.ensures;
       least = d.least;
       most = d.most;
       entries = d.entries;

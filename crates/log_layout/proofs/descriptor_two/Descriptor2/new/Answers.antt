@@ -6,7 +6,9 @@ use Rattle.log_layout.proofs.EntriesTwo.{items_here, rising_part, sized_from}
 use Rattle.log_layout.proofs.descriptor_two.Descriptor2.new.Goals as goal
 
 pub returns-clause-numbers : goal.returns-clause-numbers
-returns-clause-numbers c = items_here c.list_of.result.items c.args.numbers.now (30 * c.args.index) c.count_here-here.result c.count_here-here.ensures c.list_of.ensures
+returns-clause-numbers c =
+    items_here c.list_of.result.items c.args.numbers.now (30 * c.args.index) c.count_here-here.result c.count_here-here.ensures
+    c.list_of.ensures
 
 pub invariant_of-result : goal.invariant_of-result
 invariant_of-result c =
@@ -23,10 +25,25 @@ invariant_of-result c =
       entries = record {
         few = c.requires.few;
         used = c.requires.used;
-        many = omega (arith, long, length-take 30 (drop (30 * c.args.index) c.args.numbers.now), length-drop (30 * c.args.index) c.args.numbers.now);
-        each = omega (arith, here, c.firsts_in.ensures.count, long, length-take 30 (drop (30 * c.args.index) c.args.numbers.now), length-drop (30 * c.args.index) c.args.numbers.now);
+        many = omega (
+          arith,
+          long,
+          length-take 30 (drop (30 * c.args.index) c.args.numbers.now),
+          length-drop (30 * c.args.index) c.args.numbers.now,
+        );
+        each = omega (
+          arith,
+          here,
+          c.firsts_in.ensures.count,
+          long,
+          length-take 30 (drop (30 * c.args.index) c.args.numbers.now),
+          length-drop (30 * c.args.index) c.args.numbers.now,
+        );
         rising = subst IsRising (sym items) (rising_part c.args.numbers.now (30 * c.args.index) 30 c.requires.rising);
-        small = subst (All small) (sym items) (All-take small 30 (drop (30 * c.args.index) c.args.numbers.now) (All-drop small (30 * c.args.index) c.args.numbers.now c.requires.small));
-        sized = sized_from c.firsts_in.result.items c.count_here-here.result c.args.bytes.now (λ i. 512 * (from + i)) c.firsts_in.ensures.count (λ i below. omega (arith, below, here, c.requires.size)) c.firsts_in.ensures.each;
+        small = subst (All small) (sym items)
+            (All-take small 30 (drop (30 * c.args.index) c.args.numbers.now)
+            (All-drop small (30 * c.args.index) c.args.numbers.now c.requires.small));
+        sized = sized_from c.firsts_in.result.items c.count_here-here.result c.args.bytes.now (λ i. 512 * (from + i))
+            c.firsts_in.ensures.count (λ i below. omega (arith, below, here, c.requires.size)) c.firsts_in.ensures.each;
       };
     }

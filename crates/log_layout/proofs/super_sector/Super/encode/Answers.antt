@@ -16,7 +16,8 @@ returns c =
           (c.put-3.ensures (mark ∷ version ∷ []) refl
           (c.put-2.ensures (mark ∷ []) refl (c.put.ensures [] refl spelling-none)))))
           ∙ ap (λ (v : ℕ). spelling (mark ∷ v ∷ sizes.blocks ∷ sizes.slots ∷ 2 ∷ sizes.home ∷ [])) c.version.ensures
-          ∙ ap (λ (number : ℕ). spelling (number ∷ version_of sizes.format ∷ sizes.blocks ∷ sizes.slots ∷ 2 ∷ sizes.home ∷ [])) c.mark_number.ensures;
+          ∙ ap (λ (number : ℕ). spelling (number ∷ version_of sizes.format ∷ sizes.blocks ∷ sizes.slots ∷ 2 ∷ sizes.home ∷ []))
+          c.mark_number.ensures;
       some_blocks = sizes.some_blocks;
       most_blocks = sizes.most_blocks;
       some_slots = sizes.some_slots;

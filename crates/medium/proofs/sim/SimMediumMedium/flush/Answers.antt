@@ -14,13 +14,19 @@ all_applied c s =
     c.settle.ensures.sectors s ∙ apply_all _ _ _ _ s (ap (λ (m : Sim). m.unflushed) view) (ap (λ (m : Sim). m.flushed) view)
 
 pub returns-clause-ok : goal.returns-clause-ok
-returns-clause-ok c = flushed_only c.args.self.now c.settle.new.bytes.items c.settle.new.writes.items (all_applied (goal.at.returns-clause-ok c).After-settle) c.settle.ensures.none
+returns-clause-ok c =
+    flushed_only c.args.self.now c.settle.new.bytes.items c.settle.new.writes.items (all_applied (goal.at.returns-clause-ok c).After-settle)
+    c.settle.ensures.none
 
 pub returns-clause-content : goal.returns-clause-content
-returns-clause-content c = flushed_content c.args.self.now c.settle.new.bytes.items c.settle.new.writes.items (all_applied (goal.at.returns-clause-content c).After-settle) c.settle.ensures.none
+returns-clause-content c =
+    flushed_content c.args.self.now c.settle.new.bytes.items c.settle.new.writes.items
+    (all_applied (goal.at.returns-clause-content c).After-settle) c.settle.ensures.none
 
 pub returns-clause-sets : goal.returns-clause-sets
-returns-clause-sets c = flushed_set c.args.self.now c.settle.new.bytes.items c.settle.new.writes.items (all_applied (goal.at.returns-clause-sets c).After-settle) c.settle.ensures.none
+returns-clause-sets c =
+    flushed_set c.args.self.now c.settle.new.bytes.items c.settle.new.writes.items
+    (all_applied (goal.at.returns-clause-sets c).After-settle) c.settle.ensures.none
 
 pub returns-clause-exact : goal.returns-clause-exact
 returns-clause-exact c =
@@ -36,5 +42,6 @@ returns-clause-exact c =
       power_is = ap (λ (m : Sim). m.power) view;
       calls_are = ap (λ (m : Sim). m.calls) view;
       made_is = ap (λ (m : Sim). m.made) view;
-      refused_stay = ap (λ (m : Sim). m.refused) view ∙ ap (λ b. if b then c.args.self.now.refused else one_more c.args.self.now.refused Flush) happens;
+      refused_stay = ap (λ (m : Sim). m.refused) view
+          ∙ ap (λ b. if b then c.args.self.now.refused else one_more c.args.self.now.refused Flush) happens;
     }

@@ -18,18 +18,25 @@ invariant_of-self c =
     let whole : are_whole c.args.self.now.unflushed ≡ true = ap (λ (m : Sim). are_whole m.unflushed) (sym view) ∙ sound.whole_writes in
     let inside : w.sector < length c.args.self.now.flushed / 512 = rw (size_whole c.args.self.now whole) at c.requires in
     let lies : 512 * (w.sector + 1) ≤ length c.self-2.inside.bytes.items = omega (arith, inside, same_size, sound.whole) in
-    let happens : admits c.args.self.now.power Write (ltb c.len.result c.self.inside.room) ≡ true = sym c.admit.ensures.happens ∙ c.if-not-admit.false in
-    let fewer : c.len.result < c.self.inside.room = ltb-true _ _ (admits_fits c.args.self.now.power Write (ltb c.len.result c.self.inside.room) happens) in
-    let same_room : c.self-2.inside.room ≡ c.self.inside.room = ap (λ (m : Sim). m.room) view ∙ sym (ap (λ (m : Sim). m.room) c.self.view_is) in
-    let same_writes : length c.self-2.inside.writes.items ≡ length c.self.inside.writes.items = ap (λ (m : Sim). length m.unflushed) view ∙ sym (ap (λ (m : Sim). length m.unflushed) c.self.view_is) in
+    let happens : admits c.args.self.now.power Write (ltb c.len.result c.self.inside.room) ≡ true =
+    sym c.admit.ensures.happens ∙ c.if-not-admit.false in
+    let fewer : c.len.result < c.self.inside.room =
+    ltb-true _ _ (admits_fits c.args.self.now.power Write (ltb c.len.result c.self.inside.room) happens) in
+    let same_room : c.self-2.inside.room ≡ c.self.inside.room =
+    ap (λ (m : Sim). m.room) view ∙ sym (ap (λ (m : Sim). m.room) c.self.view_is) in
+    let same_writes : length c.self-2.inside.writes.items ≡ length c.self.inside.writes.items =
+    ap (λ (m : Sim). length m.unflushed) view ∙ sym (ap (λ (m : Sim). length m.unflushed) c.self.view_is) in
     let counted : c.len.result ≡ length c.self.inside.writes.items = c.len.ensures ∙ c.self.inside.writes.ok.0 in
-    let held : length c.push_reserved.new.self.items ≤ c.self-2.inside.room = rw c.push_reserved.ensures.items (simp length-append (omega arith)) in
-    let whole_writes : are_whole c.push_reserved.new.self.items ≡ true = rw c.push_reserved.ensures.items (whole_last c.self-2.inside.writes.items w sound.whole_writes c.told-from) in
+    let held : length c.push_reserved.new.self.items ≤ c.self-2.inside.room =
+    rw c.push_reserved.ensures.items (simp length-append (omega arith)) in
+    let whole_writes : are_whole c.push_reserved.new.self.items ≡ true =
+    rw c.push_reserved.ensures.items (whole_last c.self-2.inside.writes.items w sound.whole_writes c.told-from) in
     record {
       well_formed = record {
         some = sound.some;
         whole = sound.whole;
-        within = subst (LieWithin (length c.self-2.inside.bytes.items)) (sym c.push_reserved.ensures.items) (room_last _ c.self-2.inside.writes.items w sound.within lies);
+        within = subst (LieWithin (length c.self-2.inside.bytes.items)) (sym c.push_reserved.ensures.items)
+            (room_last _ c.self-2.inside.writes.items w sound.within lies);
         whole_writes = whole_writes;
         held = held;
       };
@@ -39,9 +46,15 @@ invariant_of-self c =
 pub returns-clause-ok : goal.returns-clause-ok
 returns-clause-ok c =
     let view = c.self-2.view_is ∙ c.admit.ensures.after in
-    written_content c.args.self.now c.self-2.inside.bytes.items c.push_reserved.new.self.items (record { sector = c.args.sector; block = c.args.from.now }) (ap (λ (m : Sim). m.flushed) view) (c.push_reserved.ensures.items ∙ ap (λ (m : Sim). m.unflushed ++ record { sector = c.args.sector; block = c.args.from.now } ∷ []) view)
+    written_content c.args.self.now c.self-2.inside.bytes.items c.push_reserved.new.self.items
+    (record { sector = c.args.sector; block = c.args.from.now }) (ap (λ (m : Sim). m.flushed) view)
+    (c.push_reserved.ensures.items
+    ∙ ap (λ (m : Sim). m.unflushed ++ record { sector = c.args.sector; block = c.args.from.now } ∷ []) view)
 
 pub returns-clause-sets : goal.returns-clause-sets
 returns-clause-sets c =
     let view = c.self-2.view_is ∙ c.admit.ensures.after in
-    written_set c.args.self.now c.self-2.inside.bytes.items c.push_reserved.new.self.items (record { sector = c.args.sector; block = c.args.from.now }) (ap (λ (m : Sim). m.flushed) view) (c.push_reserved.ensures.items ∙ ap (λ (m : Sim). m.unflushed ++ record { sector = c.args.sector; block = c.args.from.now } ∷ []) view)
+    written_set c.args.self.now c.self-2.inside.bytes.items c.push_reserved.new.self.items
+    (record { sector = c.args.sector; block = c.args.from.now }) (ap (λ (m : Sim). m.flushed) view)
+    (c.push_reserved.ensures.items
+    ∙ ap (λ (m : Sim). m.unflushed ++ record { sector = c.args.sector; block = c.args.from.now } ∷ []) view)
