@@ -1,5 +1,6 @@
 -- One call more of a medium in memory: what it gives to the device, and what the device is then.
-use Rattle.std.proofs.Common.{◌≤◌, ◌≡◌, ◌≢◌, ◌⊎◌, inl, inr, ℕ, ◌+◌, ◌/◌, true, List, [], ◌∷◌, ◌++◌, length, take, Option, Some, None, Ok, Err, refl, sym, ◌∙◌, ap, subst, arith, length-append, if◌then◌else◌, ◌==◌}
+use Rattle.std.proofs.Common.{◌≤◌, ◌≡◌, ◌≢◌, ◌⊎◌, inl, inr, ℕ, ◌+◌, ◌/◌, true, List, [], ◌∷◌, ◌++◌, length, take, Option, Some, None, Ok}
+use Rattle.std.proofs.Common.{Err, refl, sym, ◌∙◌, ap, subst, arith, length-append, if◌then◌else◌, ◌==◌}
 use Rattle.std.proofs.lemmas.Bool.{cases_lt}
 use Rattle.std.proofs.lemmas.Bool.Decides.{nat_tests}
 use Rattle.std.proofs.lemmas.List.{take-append-le, append-nil}
@@ -26,7 +27,8 @@ given_none asked = given-append asked (None ∷ []) ∙ append-nil (given asked)
 pub given_some : (asked : List (Option DeviceCall)) (call : DeviceCall) → given (asked ++ Some call ∷ []) ≡ given asked ++ call ∷ []
 given_some asked call = given-append asked (Some call ∷ [])
 
-pub whole_more : (calls : List DeviceCall) (call : DeviceCall) → are_whole calls ≡ true → is_whole call ≡ true → are_whole (calls ++ call ∷ []) ≡ true
+pub whole_more : (calls : List DeviceCall) (call : DeviceCall) → are_whole calls ≡ true → is_whole call ≡ true
+    → are_whole (calls ++ call ∷ []) ≡ true
 whole_more calls call whole one = list_all-append is_whole calls (call ∷ []) ∙ rw whole (rw one refl)
 
 -- a call that gave nothing leaves the device
@@ -34,11 +36,13 @@ pub quiet_device : (m : Mirror) → device_of (reads m).story ≡ device_of m.st
 quiet_device m = ap (λ (calls : List DeviceCall). after (durable m.story.opening) calls) (given_none m.story.asked)
 
 pub given_device : (m : Mirror) (call : DeviceCall) → device_of (gives m call).story ≡ carried_out (device_of m.story) call
-given_device m call = ap (λ (calls : List DeviceCall). after (durable m.story.opening) calls) (given_some m.story.asked call) ∙ after-append (durable m.story.opening) (given m.story.asked) (call ∷ [])
+given_device m call =
+    ap (λ (calls : List DeviceCall). after (durable m.story.opening) calls) (given_some m.story.asked call)
+    ∙ after-append (durable m.story.opening) (given m.story.asked) (call ∷ [])
 
 -- what a cut since a moment could have left is what it was before the last call, or what a cut may leave now
-pub one_moment_more : (old new : Told) (x : Option DeviceCall) → new.opening ≡ old.opening → new.asked ≡ old.asked ++ x ∷ [] → (t : ℕ) (image : Image)
-    → LeftSince new t image → LeftSince old t image ⊎ CutLeaves (device_of new).may_leave image
+pub one_moment_more : (old new : Told) (x : Option DeviceCall) → new.opening ≡ old.opening → new.asked ≡ old.asked ++ x ∷ []
+    → (t : ℕ) (image : Image) → LeftSince new t image → LeftSince old t image ⊎ CutLeaves (device_of new).may_leave image
 one_moment_more old new x opening asked t image left = elim (cases_lt (length old.asked) left.at) [
   | inl since ↦ inr (at_last new image left.at (rw asked (simp length-append (omega (arith, since)))) left.cut)
   | inr before ↦ inl (record {
@@ -46,7 +50,9 @@ one_moment_more old new x opening asked t image left = elim (cases_lt (length ol
     later = left.later;
     past = before;
     cut = λ s. subst (λ (bytes : List ℕ). (after (durable bytes) (given (take left.at old.asked))).may_leave s (image s)) opening
-        (subst (λ (calls : List (Option DeviceCall)). (after (durable new.opening) (given calls)).may_leave s (image s)) (ap (λ (calls : List (Option DeviceCall)). take left.at calls) asked ∙ take-append-le left.at old.asked (x ∷ []) before) (left.cut s));
+        (subst (λ (calls : List (Option DeviceCall)). (after (durable new.opening) (given calls)).may_leave s (image s))
+        (ap (λ (calls : List (Option DeviceCall)). take left.at calls) asked ∙ take-append-le left.at old.asked (x ∷ []) before)
+        (left.cut s));
   })
 ]
 
@@ -104,11 +110,13 @@ module _ (m : Mirror) where
     nothing_else = λ t image le since. one_moment_more m.story (refuses m call).story None refl refl t image since;
   }
 
-  given_size : (call : DeviceCall) → are_whole (given m.story.asked) ≡ true → is_whole call ≡ true → size_of (gives m call).story ≡ size_of m.story
+  given_size : (call : DeviceCall) → are_whole (given m.story.asked) ≡ true → is_whole call ≡ true
+      → size_of (gives m call).story ≡ size_of m.story
   given_size call whole one = ap (λ b. if b then length m.story.opening / 512 else 0)
       (ap are_whole (given_some m.story.asked call) ∙ whole_more (given m.story.asked) call whole one ∙ sym whole)
 
-  pub given_passes : (call : DeviceCall) → are_whole (given m.story.asked) ≡ true → is_whole call ≡ true → Passes (kind_of call) (Ok tt) (state_of m) (state_of (gives m call))
+  pub given_passes : (call : DeviceCall) → are_whole (given m.story.asked) ≡ true → is_whole call ≡ true
+      → Passes (kind_of call) (Ok tt) (state_of m) (state_of (gives m call))
   given_passes call whole one = record {
     calls_are = last (Some call);
     made_is = counted (kind_of call) m.story.made;
@@ -125,12 +133,14 @@ module _ (m : Mirror) where
   quiet_content s = ap (λ (calls : List DeviceCall). (after (durable m.story.opening) calls).content s) (given_none m.story.asked)
 
   pub quiet_sets : Within (state_of (reads m)).may_leave (state_of m).may_leave
-  quiet_sets s c left = subst (λ (calls : List DeviceCall). (after (durable m.story.opening) calls).may_leave s c) (given_none m.story.asked) left
+  quiet_sets s c left =
+      subst (λ (calls : List DeviceCall). (after (durable m.story.opening) calls).may_leave s c) (given_none m.story.asked) left
 
   pub given_content : (call : DeviceCall) (s : ℕ) → (state_of (gives m call)).content s ≡ (carried_out (device_of m.story) call).content s
   given_content call s = ap (λ (device : Device). device.content s) (given_device m call)
 
-  pub given_sets : (call : DeviceCall) (s : ℕ) (c : List ℕ) → (state_of (gives m call)).may_leave s c → (carried_out (device_of m.story) call).may_leave s c
+  pub given_sets : (call : DeviceCall) (s : ℕ) (c : List ℕ) → (state_of (gives m call)).may_leave s c
+      → (carried_out (device_of m.story) call).may_leave s c
   given_sets call s c left = subst (λ (device : Device). device.may_leave s c) (given_device m call) left
 
   at_here : (s : ℕ) (x y : List ℕ) → (if s == s then x else y) ≡ x
@@ -139,20 +149,24 @@ module _ (m : Mirror) where
   at_other : (t s : ℕ) (x y : List ℕ) → t ≢ s → (if t == s then x else y) ≡ y
   at_other t s x y other = grind (arith, nat_tests)
 
-  pub written : (s : ℕ) (block : List ℕ) → Holds s block (state_of m).content (state_of (gives m (Write (record { sector = s; block = block })))).content
+  pub written : (s : ℕ) (block : List ℕ)
+      → Holds s block (state_of m).content (state_of (gives m (Write (record { sector = s; block = block })))).content
   written s block = record {
     here = given_content (Write (record { sector = s; block = block })) s ∙ at_here s block ((device_of m.story).content s);
-    elsewhere = λ t other. given_content (Write (record { sector = s; block = block })) t ∙ at_other t s block ((device_of m.story).content t) other;
+    elsewhere = λ t other.
+        given_content (Write (record { sector = s; block = block })) t ∙ at_other t s block ((device_of m.story).content t) other;
   }
 
 -- the value of a medium whose story went on
 pub told_on : (step : Told → Told) (was now : Mirror) (told : Told) → told ≡ step was.story → was ≡ now
     → record { story = told; outbox = was.outbox; room = was.room } ≡ record now { story = step now.story }
-told_on step was now told is same = (λ i. record { story = is i; outbox = was.outbox; room = was.room }) ∙ ap (λ (m : Mirror). record m { story = step m.story }) same
+told_on step was now told is same =
+    (λ i. record { story = is i; outbox = was.outbox; room = was.room }) ∙ ap (λ (m : Mirror). record m { story = step m.story }) same
 
-pub given_on : (call : DeviceCall) (was now : Mirror) (told : Told) (outbox : List DeviceCall) → told ≡ gave was.story call → outbox ≡ was.outbox ++ call ∷ [] → was ≡ now
-    → record { story = told; outbox = outbox; room = was.room } ≡ gives now call
-given_on call was now told outbox is more same = (λ i. record { story = is i; outbox = more i; room = was.room }) ∙ ap (λ (m : Mirror). gives m call) same
+pub given_on : (call : DeviceCall) (was now : Mirror) (told : Told) (outbox : List DeviceCall) → told ≡ gave was.story call
+    → outbox ≡ was.outbox ++ call ∷ [] → was ≡ now → record { story = told; outbox = outbox; room = was.room } ≡ gives now call
+given_on call was now told outbox is more same =
+    (λ i. record { story = is i; outbox = more i; room = was.room }) ∙ ap (λ (m : Mirror). gives m call) same
 
 module _ (now new : Mirror) where
   pub passes_read : new ≡ reads now → Passes fault.Read (Ok tt) (state_of now) (state_of new)
@@ -178,7 +192,8 @@ module _ (now new : Mirror) where
 
   module _ (call : DeviceCall) where
     pub passes_refused : new ≡ refuses now call → Passes (kind_of call) (Err (kind_of call)) (state_of now) (state_of new)
-    passes_refused e = subst (λ (n : Mirror). Passes (kind_of call) (Err (kind_of call)) (state_of now) (state_of n)) (sym e) (refused_passes now call)
+    passes_refused e =
+        subst (λ (n : Mirror). Passes (kind_of call) (Err (kind_of call)) (state_of now) (state_of n)) (sym e) (refused_passes now call)
 
     pub content_refused : new ≡ refuses now call → Stays (state_of now).content (state_of new).content
     content_refused e = subst (λ (n : Mirror). Stays (state_of now).content (state_of n).content) (sym e) (quiet_content now)
@@ -198,14 +213,20 @@ module _ (now new : Mirror) where
       failures_stay = omega (arith, counted_all now (kind_of call) now.story.refused);
     })
 
-    pub passes_given : new ≡ gives now call → are_whole (given now.story.asked) ≡ true → is_whole call ≡ true → Passes (kind_of call) (Ok tt) (state_of now) (state_of new)
-    passes_given e whole one = subst (λ (n : Mirror). Passes (kind_of call) (Ok tt) (state_of now) (state_of n)) (sym e) (given_passes now call whole one)
+    pub passes_given : new ≡ gives now call → are_whole (given now.story.asked) ≡ true → is_whole call ≡ true
+        → Passes (kind_of call) (Ok tt) (state_of now) (state_of new)
+    passes_given e whole one =
+        subst (λ (n : Mirror). Passes (kind_of call) (Ok tt) (state_of now) (state_of n)) (sym e) (given_passes now call whole one)
 
     pub content_given : new ≡ gives now call → (s : ℕ) → (state_of new).content s ≡ (carried_out (device_of now.story) call).content s
-    content_given e = subst (λ (n : Mirror). (s : ℕ) → (state_of n).content s ≡ (carried_out (device_of now.story) call).content s) (sym e) (given_content now call)
+    content_given e =
+        subst (λ (n : Mirror). (s : ℕ) → (state_of n).content s ≡ (carried_out (device_of now.story) call).content s) (sym e)
+        (given_content now call)
 
     pub sets_given : new ≡ gives now call → Within (state_of new).may_leave (carried_out (device_of now.story) call).may_leave
-    sets_given e = subst (λ (n : Mirror). Within (state_of n).may_leave (carried_out (device_of now.story) call).may_leave) (sym e) (given_sets now call)
+    sets_given e =
+        subst (λ (n : Mirror). Within (state_of n).may_leave (carried_out (device_of now.story) call).may_leave) (sym e)
+        (given_sets now call)
 
     pub follows_given : new ≡ gives now call → ComesAfter now new
     follows_given e = subst (λ (n : Mirror). ComesAfter now n) (sym e) (record {
@@ -219,5 +240,6 @@ module _ (now new : Mirror) where
       failures_stay = omega arith;
     })
 
-  pub holds_given : (s : ℕ) (block : List ℕ) → new ≡ gives now (Write (record { sector = s; block = block })) → Holds s block (state_of now).content (state_of new).content
+  pub holds_given : (s : ℕ) (block : List ℕ) → new ≡ gives now (Write (record { sector = s; block = block }))
+      → Holds s block (state_of now).content (state_of new).content
   holds_given s block e = subst (λ (n : Mirror). Holds s block (state_of now).content (state_of n).content) (sym e) (written now s block)

@@ -1,5 +1,6 @@
 -- Devices that have carried out a first part of what was sent.
-use Rattle.std.proofs.Common.{◌≡◌, ℕ, ◌+◌, ◌-◌, ◌≤◌, zero, suc, List, [], ◌∷◌, ◌++◌, length, take, Option, Some, None, refl, sym, ◌∙◌, ap, subst, arith, length-append, append_assoc}
+use Rattle.std.proofs.Common.{◌≡◌, ℕ, ◌+◌, ◌-◌, ◌≤◌, zero, suc, List, [], ◌∷◌, ◌++◌, length, take, Option, Some, None, refl, sym, ◌∙◌, ap}
+use Rattle.std.proofs.Common.{subst, arith, length-append, append_assoc}
 use Rattle.std.proofs.Math.Seq.{take-nil, take-append-add}
 use Rattle.mirror.specs.Device.{durable, after}
 use Rattle.mirror.specs.Story.{given}
@@ -54,8 +55,10 @@ pub covers : (old new : Mirror) → given old.story.asked ≡ sent old → Comes
 covers old new all follows count image le left =
     let part = later_part old.story.asked follows.since count (omega (arith, le, ap (λ (l : List DeviceCall). length l) all)) in
     let gives : given (take part.at new.story.asked) ≡ take count (sent new) =
-    ap (λ (l : List (Option DeviceCall)). given (take part.at l)) follows.asked ∙ part.gives
-    ∙ ap (λ (l : List (Option DeviceCall)). take count (given l)) (sym follows.asked) ∙ ap (λ (l : List DeviceCall). take count l) (still_sent old new all follows) in
+    ap (λ (l : List (Option DeviceCall)). given (take part.at l)) follows.asked
+    ∙ part.gives
+    ∙ ap (λ (l : List (Option DeviceCall)). take count (given l)) (sym follows.asked)
+    ∙ ap (λ (l : List DeviceCall). take count l) (still_sent old new all follows) in
     record {
       at = part.at;
       later = part.later;

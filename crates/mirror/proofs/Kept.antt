@@ -1,5 +1,6 @@
 -- How a medium in memory with an outbox stays kept, call by call.
-use Rattle.std.proofs.Common.{◌≡◌, ◌⊎◌, ◌==◌, false, inl, inr, ℕ, ◌%◌, ◌<◌, true, List, [], ◌∷◌, ◌++◌, length, None, sym, ◌∙◌, ap, arith, length-append, append_assoc, deque_capacity, if◌then◌else◌}
+use Rattle.std.proofs.Common.{◌≡◌, ◌⊎◌, ◌==◌, false, inl, inr, ℕ, ◌%◌, ◌<◌, true, List, [], ◌∷◌, ◌++◌, length, None, sym, ◌∙◌, ap, arith}
+use Rattle.std.proofs.Common.{length-append, append_assoc, deque_capacity, if◌then◌else◌}
 use Rattle.std.proofs.lemmas.Bool.Decides.{eqb_tells}
 use Rattle.medium.specs.Medium.{Image, Holds}
 use Rattle.medium.specs.Writes.{sector_of}
@@ -17,8 +18,10 @@ put_is s block old new holds t (inl here) = rw here.0 (ap new here.1 ∙ holds.h
 put_is s block old new holds t (inr other) = rw other.0 (holds.elsewhere t other.1)
 
 -- a sector in memory that was written is as the device has it
-pub stored : (s : ℕ) (block : List ℕ) (old new image : Image) → Holds s block old new → ((t : ℕ) → old t ≡ image t) → (t : ℕ) → new t ≡ put s block image t
-stored s block old new image holds same t = put_is s block old new holds t (eqb_tells t s) ∙ ap (λ (c : List ℕ). if t == s then block else c) (same t)
+pub stored : (s : ℕ) (block : List ℕ) (old new image : Image) → Holds s block old new → ((t : ℕ) → old t ≡ image t) → (t : ℕ)
+    → new t ≡ put s block image t
+stored s block old new image holds same t =
+    put_is s block old new holds t (eqb_tells t s) ∙ ap (λ (c : List ℕ). if t == s then block else c) (same t)
 
 -- a call that gave nothing
 pub record IsQuiet (old new : Told) : Type 0 where
@@ -34,7 +37,8 @@ module _ (old new : Told) (quiet : IsQuiet old new) where
   same_content s = ap (λ (bytes : List ℕ). (after (durable bytes) (given new.asked)).content s) quiet.opening
       ∙ ap (λ (calls : List DeviceCall). (after (durable old.opening) calls).content s) same_given
 
-module _ (m n : Inside) (kept : IsKept m) (outbox : n.outbox ≡ m.outbox) (room : n.room ≡ m.room) (sectors : n.sectors ≡ m.sectors) (quiet : IsQuiet m.story.told n.story.told) where
+module _ (m n : Inside) (kept : IsKept m) (outbox : n.outbox ≡ m.outbox) (room : n.room ≡ m.room) (sectors : n.sectors ≡ m.sectors)
+    (quiet : IsQuiet m.story.told n.story.told) where
   -- a call that gave nothing keeps it
   pub kept_quiet : IsKept n
   kept_quiet =
@@ -52,9 +56,11 @@ module _ (m n : Inside) (kept : IsKept m) (outbox : n.outbox ≡ m.outbox) (room
         reserved = omega (arith, ap (λ q. deque_capacity q) outbox, room, kept.reserved);
       }
 
-module _ (m n : Inside) (kept : IsKept m) (call : DeviceCall) (told : n.story.told ≡ gave m.story.told call) (outbox : n.outbox.items ≡ m.outbox.items ++ call ∷ [])
-    (capacity : deque_capacity n.outbox ≡ deque_capacity m.outbox) (room : n.room ≡ m.room) (fits : length m.outbox.items < m.room) (whole : is_whole call ≡ true)
-    (content : (s : ℕ) → sector_of n.sectors.bytes.items s ≡ (carried_out (device_of m.story.told) call).content s) (long : length n.sectors.bytes.items ≡ length m.sectors.bytes.items) where
+module _ (m n : Inside) (kept : IsKept m) (call : DeviceCall) (told : n.story.told ≡ gave m.story.told call)
+    (outbox : n.outbox.items ≡ m.outbox.items ++ call ∷ []) (capacity : deque_capacity n.outbox ≡ deque_capacity m.outbox)
+    (room : n.room ≡ m.room) (fits : length m.outbox.items < m.room) (whole : is_whole call ≡ true)
+    (content : (s : ℕ) → sector_of n.sectors.bytes.items s ≡ (carried_out (device_of m.story.told) call).content s)
+    (long : length n.sectors.bytes.items ≡ length m.sectors.bytes.items) where
   opening : n.story.told.opening ≡ m.story.told.opening
   opening = ap (λ (t : Told). t.opening) told
 
@@ -72,7 +78,10 @@ module _ (m n : Inside) (kept : IsKept m) (call : DeviceCall) (told : n.story.to
           some = rw opening was.some;
           whole = ap (λ (l : List ℕ). length l % 512) opening ∙ was.whole;
           whole_writes = ap are_whole all ∙ whole_more (given m.story.told.asked) call was.whole_writes whole;
-          all_sent = all ∙ ap (λ (l : List DeviceCall). l ++ call ∷ []) was.all_sent ∙ append_assoc m.story.told.taken m.outbox.items (call ∷ []) ∙ (λ i. sym taken i ++ sym outbox i);
+          all_sent = all
+              ∙ ap (λ (l : List DeviceCall). l ++ call ∷ []) was.all_sent
+              ∙ append_assoc m.story.told.taken m.outbox.items (call ∷ [])
+              ∙ (λ i. sym taken i ++ sym outbox i);
           held = rw outbox (simp length-append (omega (arith, room, fits)));
         };
         mirrors = λ s. content s ∙ sym (given_content (view_of m) call s) ∙ sym (ap (λ (t : Told). (device_of t).content s) told);

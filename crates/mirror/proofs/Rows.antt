@@ -7,19 +7,23 @@ use borrow.Rule.Slice.PartMut.{put_mid}
 use Rattle.medium.specs.Medium.{Holds}
 use Rattle.medium.specs.Writes.{sector_of}
 
-module _ (bytes block : List ℕ) (s at size : ℕ) (at_is : at ≡ 512 * s) (size_is : size ≡ 512) (fits : 512 * (s + 1) ≤ length bytes) (long : length block ≡ 512) where
+module _ (bytes block : List ℕ) (s at size : ℕ) (at_is : at ≡ 512 * s) (size_is : size ≡ 512) (fits : 512 * (s + 1) ≤ length bytes)
+    (long : length block ≡ 512) where
   abbrev stored : List ℕ
   stored = put_mid at size bytes block
 
   here : sector_of stored s ≡ block
   here =
-      let part : take (at + 512 - at) (drop at stored) ≡ block = between-put_mid at size bytes block (at + 512) (omega arith) (omega arith) in
+      let part : take (at + 512 - at) (drop at stored) ≡ block =
+      between-put_mid at size bytes block (at + 512) (omega arith) (omega arith) in
       let same : at + 512 - at ≡ 512 = omega arith in
       ap (λ (n : ℕ). take 512 (drop n stored)) (sym at_is) ∙ ap (λ (n : ℕ). take n (drop at stored)) (sym same) ∙ part
 
   below : (t : ℕ) → t < s → sector_of stored t ≡ sector_of bytes t
   below t lt =
-      sym (drop-take (512 * t) 512 stored) ∙ ap (λ (l : List ℕ). drop (512 * t) l) (take-put_mid_below at size bytes block (512 * t + 512) (omega arith) (omega arith)) ∙ drop-take (512 * t) 512 bytes
+      sym (drop-take (512 * t) 512 stored)
+      ∙ ap (λ (l : List ℕ). drop (512 * t) l) (take-put_mid_below at size bytes block (512 * t + 512) (omega arith) (omega arith))
+      ∙ drop-take (512 * t) 512 bytes
 
   above : (t : ℕ) → s < t → sector_of stored t ≡ sector_of bytes t
   above t lt = ap (λ (l : List ℕ). take 512 l) (drop-put_mid at size bytes block (512 * t) (omega arith) (omega arith) (omega arith))

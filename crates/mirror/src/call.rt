@@ -1,4 +1,4 @@
-// What a device is to do.
+//! What a device is to do.
 
 /// The bytes of a sector.
 #[derive(Clone, Copy, Debug, PartialEq, Eq)]

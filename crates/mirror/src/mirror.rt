@@ -1,4 +1,4 @@
-// A medium in memory, and an outbox for the device behind it.
+//! A medium in memory, and an outbox for the device behind it.
 ghost use Rattle.std.specs.Prelude.{◌≡◌, ◌≢◌, ◌⊎◌, ◌+◌, ◌≤◌, ◌%◌, ◌↔◌, ℕ, [], length};
 ghost use Rattle.std.specs.Prelude.{IfOk, IsErrOf};
 ghost use Rattle.medium.specs.Moments.{IsFlushed};

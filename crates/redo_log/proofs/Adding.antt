@@ -7,12 +7,18 @@ use Rattle.medium.proofs.Moments.{started_within, goes_on_within, weaker}
 use Rattle.redo_log.specs.Calls.{gaining, WritesOnly}
 
 -- a call that writes nothing, and then one that writes a sector
-pub quiet_write : (place : ℕ) (bytes written : List ℕ) (old mid new : State) {first second : MediumFault} {one two : Result (Unit {0}) MediumFault} → IsSound old → written ≡ bytes
-    → Passes first one old mid → Within mid.may_leave old.may_leave → Passes second two mid new → Gains place written mid.may_leave new.may_leave → WritesOnly place bytes old new
+pub quiet_write : (place : ℕ) (bytes written : List ℕ) (old mid new : State) {first second : MediumFault}
+    {one two : Result (Unit {0}) MediumFault} → IsSound old → written ≡ bytes → Passes first one old mid
+    → Within mid.may_leave old.may_leave → Passes second two mid new → Gains place written mid.may_leave new.may_leave
+    → WritesOnly place bytes old new
 quiet_write place bytes written old mid new {first} {second} {one} {two} sound is read within wrote gains =
-    let adds : Gains place bytes old.may_leave new.may_leave = λ s c left. ⊎_elim (λ was. inl (within s c was)) (λ here. inr (here.0, here.1 ∙ is)) (gains s c left) in
+    let adds : Gains place bytes old.may_leave new.may_leave = λ s c left.
+    ⊎_elim (λ was. inl (within s c was)) (λ here. inr (here.0, here.1 ∙ is)) (gains s c left) in
     record {
-      moments = goes_on_within bound old mid new (goes_on_within bound old old mid (started_within bound old sound (λ s c left. inl left)) read (λ s c left. inl (within s c left))) wrote adds;
+      moments = goes_on_within bound old mid new
+          (goes_on_within bound old old mid (started_within bound old sound (λ s c left. inl left)) read
+          (λ s c left. inl (within s c left)))
+          wrote adds;
       sets = adds;
     }
   where
@@ -20,10 +26,13 @@ quiet_write place bytes written old mid new {first} {second} {one} {two} sound i
     bound = gaining place bytes old.may_leave
 
 -- a call that writes a sector, and then one that writes nothing
-pub write_quiet : (place : ℕ) (bytes : List ℕ) (old mid new : State) {first second : MediumFault} {one two : Result (Unit {0}) MediumFault} → IsSound old
-    → Passes first one old mid → Gains place bytes old.may_leave mid.may_leave → Passes second two mid new → Within new.may_leave mid.may_leave → WritesOnly place bytes old new
+pub write_quiet : (place : ℕ) (bytes : List ℕ) (old mid new : State) {first second : MediumFault} {one two : Result (Unit {0}) MediumFault}
+    → IsSound old → Passes first one old mid → Gains place bytes old.may_leave mid.may_leave → Passes second two mid new
+    → Within new.may_leave mid.may_leave → WritesOnly place bytes old new
 write_quiet place bytes old mid new {first} {second} {one} {two} sound wrote gains flush within = record {
-  moments = goes_on_within bound old mid new (goes_on_within bound old old mid (started_within bound old sound (λ s c left. inl left)) wrote gains) flush (λ s c left. gains s c (within s c left));
+  moments = goes_on_within bound old mid new
+      (goes_on_within bound old old mid (started_within bound old sound (λ s c left. inl left)) wrote gains) flush
+      (λ s c left. gains s c (within s c left));
   sets = λ s c left. gains s c (within s c left);
 }
   where

@@ -16,11 +16,13 @@ pub count_of : (numbers : List ℕ) (entries : List Entry) → numbers ≡ numbe
 count_of numbers entries is = let f : Entry → ℕ = λ e. e.0 in omega (arith, ap (λ (l : List ℕ). length l) is, length-map entries f)
 
 -- blocks of 512 bytes under these numbers are a record
-pub record_entries : (shape : Shape) (stamp : ℕ) (numbers : List ℕ) (entries : List Entry) → IsSized shape → IsRecord shape stamp numbers → numbers ≡ numbers_of entries → All (λ (e : Entry). length e.1 ≡ 512) entries
+pub record_entries : (shape : Shape) (stamp : ℕ) (numbers : List ℕ) (entries : List Entry) → IsSized shape → IsRecord shape stamp numbers
+    → numbers ≡ numbers_of entries → All (λ (e : Entry). length e.1 ≡ 512) entries
     → IsRecordOf (layout_of shape.format) shape.blocks stamp entries
 record_entries shape stamp numbers entries sized rec is full =
     let count : length numbers ≡ length entries = count_of numbers entries is in
-    let inside : All (λ b. b < shape.blocks) (numbers_of entries) = subst (λ (l : List ℕ). All (λ b. b < shape.blocks) l) is rec.numbers_are.inside in
+    let inside : All (λ b. b < shape.blocks) (numbers_of entries) =
+    subst (λ (l : List ℕ). All (λ b. b < shape.blocks) l) is rec.numbers_are.inside in
     record {
       fit = record {
         some = omega (arith, count, rec.numbers_are.some);
@@ -35,5 +37,8 @@ record_entries shape stamp numbers entries sized rec is full =
     }
 
 -- and so is a batch
-pub record_batch : (shape : Shape) (stamp : ℕ) (numbers bytes : List ℕ) → IsSized shape → IsRecord shape stamp numbers → length bytes ≡ 512 * length numbers → IsRecordOf (layout_of shape.format) shape.blocks stamp (entries_of numbers bytes)
-record_batch shape stamp numbers bytes sized rec size = record_entries shape stamp numbers (entries_of numbers bytes) sized rec (sym (numbers_of_batch numbers bytes)) (sized_batch numbers bytes size)
+pub record_batch : (shape : Shape) (stamp : ℕ) (numbers bytes : List ℕ) → IsSized shape → IsRecord shape stamp numbers
+    → length bytes ≡ 512 * length numbers → IsRecordOf (layout_of shape.format) shape.blocks stamp (entries_of numbers bytes)
+record_batch shape stamp numbers bytes sized rec size =
+    record_entries shape stamp numbers (entries_of numbers bytes) sized rec (sym (numbers_of_batch numbers bytes))
+    (sized_batch numbers bytes size)

@@ -58,8 +58,8 @@ sizes_sized sizes = record {
 }
 
 -- a dead log and its medium hold what a cut may leave
-pub dead_held : (log : LogValue) (view : View) (old new : State) → IsSound new → HoldsView log old view → new.size ≡ old.size → (view.ours ≡ true → LeavesOnly (MayLeave old.size log view) old new)
-    → HoldsView (died log) new view
+pub dead_held : (log : LogValue) (view : View) (old new : State) → IsSound new → HoldsView log old view → new.size ≡ old.size
+    → (view.ours ≡ true → LeavesOnly (MayLeave old.size log view) old new) → HoldsView (died log) new view
 dead_held log view old new sound hv same_size cuts = record {
   fits = omega (arith, same_size, hv.fits);
   durable = hv.durable;
@@ -68,21 +68,26 @@ dead_held log view old new sound hv same_size cuts = record {
   few = hv.few;
   sized = hv.sized;
   kept = λ live. cc live;
-  leaves = λ ours. subst (λ (n : ℕ). EachCut (MayLeave n log view) new) (sym same_size) (at_exit (MayLeave old.size log view) old new sound (cuts ours));
+  leaves = λ ours.
+      subst (λ (n : ℕ). EachCut (MayLeave n log view) new) (sym same_size) (at_exit (MayLeave old.size log view) old new sound (cuts ours));
   stores = λ live. cc live;
   guards = λ live ours. cc live;
 }
 
 -- where nothing is under way each image has the durable records of a live log, and none behind them
-pub rest_logged : (log : LogValue) (m : State) (view : View) → HoldsView log m view → log.dead ≡ false → view.ours ≡ true → log.steps_left ≡ 0 → EachCut (Logged log.shape log.head view.records view.array) m
+pub rest_logged : (log : LogValue) (m : State) (view : View) → HoldsView log m view → log.dead ≡ false → view.ours ≡ true
+    → log.steps_left ≡ 0 → EachCut (Logged log.shape log.head view.records view.array) m
 rest_logged log m view holds live ours no_steps image cut =
     let rests = ((holds.guards live ours).each image cut).rests no_steps in
-    rests_logged (layout_of log.shape.format) (laws_of log.shape.format) log.shape rests.keeps.super.some_slots image log.head view.records view.array holds.few rests
+    rests_logged (layout_of log.shape.format) (laws_of log.shape.format) log.shape rests.keeps.super.some_slots image log.head view.records
+    view.array holds.few rests
 
 -- so a cut leaves them
-pub durable_whole : (log : LogValue) (m : State) (view : View) → HoldsView log m view → log.dead ≡ false → view.ours ≡ true → log.steps_left ≡ 0 → EachCut (HasDurable m.size log view) m
+pub durable_whole : (log : LogValue) (m : State) (view : View) → HoldsView log m view → log.dead ≡ false → view.ours ≡ true
+    → log.steps_left ≡ 0 → EachCut (HasDurable m.size log view) m
 durable_whole log m view holds live ours no_steps image cut =
-    Logged-records m.size log.shape log.head view.records view.array image holds.fits (rest_logged log m view holds live ours no_steps image cut)
+    Logged-records m.size log.shape log.head view.records view.array image holds.fits
+    (rest_logged log m view holds live ours no_steps image cut)
 
 -- no count falls in a turn
 pub turn_moments : (turn : Turn) (old new : State) → IsSound old → MayTurn turn old new → LeavesOnly (λ _. Unit {0}) old new
@@ -92,26 +97,31 @@ turn_moments Flush old new sound adds = quiet_leaves (λ _. Unit {0}) old new so
 turn_moments (Head bytes) old new sound adds = weaker _ (λ _. Unit {0}) old new (λ image left. tt) adds.moments
 
 -- where no call is made the log holds what it held
-pub nothing_retired : (log : LogValue) (m : State) (view : View) → HoldsView log m view → HoldsView log m (view_retired (log.head - log.head) view)
+pub nothing_retired : (log : LogValue) (m : State) (view : View) → HoldsView log m view
+    → HoldsView log m (view_retired (log.head - log.head) view)
 nothing_retired log m view holds =
     let none : 0 ≡ log.head - log.head = omega arith in
     subst (λ (n : ℕ). HoldsView log m (view_retired n view)) none holds
 
-module _ (shape : Shape) (sized : IsSized shape) (head : ℕ) (waiting : List (List ℕ)) (turned : ℕ) (kept items : List ℕ) (writing : Option ℕ) (dead : Bool) (log : LogValue)
-    (shown : value_at shape head waiting turned kept items writing dead ≡ log) (live : log.dead ≡ false) (ring : IsRing shape waiting turned items writing)
-    (least : 1 ≤ head) (most : head + length waiting + begun_at writing < 2 ^ 63) where
+module _ (shape : Shape) (sized : IsSized shape) (head : ℕ) (waiting : List (List ℕ)) (turned : ℕ) (kept items : List ℕ)
+    (writing : Option ℕ) (dead : Bool) (log : LogValue) (shown : value_at shape head waiting turned kept items writing dead ≡ log)
+    (live : log.dead ≡ false) (ring : IsRing shape waiting turned items writing) (least : 1 ≤ head)
+    (most : head + length waiting + begun_at writing < 2 ^ 63) where
   dead_is : dead ≡ false
   dead_is = ap (λ (v : LogValue). v.dead) shown ∙ live
 
   -- a record under way has a stamp of its own
-  pub under_way_is : (made : ℕ) → writing ≡ Some made → IsRecord shape (head + length waiting) items × (made < steps_for shape.format (length items))
+  pub under_way_is : (made : ℕ) → writing ≡ Some made
+      → IsRecord shape (head + length waiting) items × (made < steps_for shape.format (length items))
   under_way_is made at =
-      let recorded : AreInside shape items × (made < steps_for shape.format (length items)) = subst (IsUnderWay shape items) at ring.record_under_way in
+      let recorded : AreInside shape items × (made < steps_for shape.format (length items)) =
+      subst (IsUnderWay shape items) at ring.record_under_way in
       let one : begun_at writing ≡ 1 = ap (λ (s : Option ℕ). begun_at s) at in
       (record { least = omega (arith, least); most = omega (arith, most, one); numbers_are = recorded.0 }, recorded.1)
 
   -- a record is under way
-  module _ (numbers bytes : List ℕ) (made : ℕ) (at : writing ≡ Some made) (named : numbers ≡ log.under_way) (size : length bytes ≡ 512 * length numbers) (stamp : ℕ) (stamp_is : stamp ≡ head + length waiting) where
+  module _ (numbers bytes : List ℕ) (made : ℕ) (at : writing ≡ Some made) (named : numbers ≡ log.under_way)
+      (size : length bytes ≡ 512 * length numbers) (stamp : ℕ) (stamp_is : stamp ≡ head + length waiting) where
     items_are : items ≡ numbers
     items_are = ap (λ (v : LogValue). v.under_way) shown ∙ sym named
 
@@ -124,7 +134,9 @@ module _ (shape : Shape) (sized : IsSized shape) (head : ℕ) (waiting : List (L
         ∙ shown
 
     recorded : IsRecord shape (head + length waiting) numbers × (made < steps_for shape.format (length numbers))
-    recorded = subst (λ (l : List ℕ). IsRecord shape (head + length waiting) l × (made < steps_for shape.format (length l))) items_are (under_way_is made at)
+    recorded =
+        subst (λ (l : List ℕ). IsRecord shape (head + length waiting) l × (made < steps_for shape.format (length l))) items_are
+        (under_way_is made at)
 
     -- it has a stamp of its own
     pub is_record : IsRecord shape (head + length waiting) numbers
@@ -133,8 +145,10 @@ module _ (shape : Shape) (sized : IsSized shape) (head : ℕ) (waiting : List (L
     room : length waiting < shape.slots
     room = omega (arith, ring.fits, ap (λ (s : Option ℕ). begun_at s) at)
 
-    module _ (old new : State) (sound : IsSound old) (call : Call) (result : Result (Unit {0}) MediumFault) (passes : Passes (fault_of call) result old new)
-        (next : IsNextCall (layout_of shape.format) shape stamp (entries_of numbers bytes) made call) (adds : MayAdd call old new) (view : View) (holds : HoldsView log old view) where
+    module _ (old new : State) (sound : IsSound old) (call : Call) (result : Result (Unit {0}) MediumFault)
+        (passes : Passes (fault_of call) result old new)
+        (next : IsNextCall (layout_of shape.format) shape stamp (entries_of numbers bytes) made call) (adds : MayAdd call old new)
+        (view : View) (holds : HoldsView log old view) where
       held_is : HoldsView (value_at shape head waiting turned kept numbers (Some made) false) old view
       held_is = subst (λ (v : LogValue). HoldsView v old view) (sym writing_is) holds
 
@@ -143,9 +157,11 @@ module _ (shape : Shape) (sized : IsSized shape) (head : ℕ) (waiting : List (L
 
       -- at each moment of a step a cut leaves what the log says
       pub step_cuts : view.ours ≡ true → LeavesOnly (MayLeave old.size log view) old new
-      step_cuts ours = one_call (MayLeave old.size log view) old new sound passes (holds.leaves ours)
+      step_cuts ours =
+          one_call (MayLeave old.size log view) old new sound passes (holds.leaves ours)
           (subst (λ (v : LogValue). EachCut (MayLeave old.size v view) new) writing_is
-          (step_leaves shape sized head waiting turned kept numbers bytes view is_record room size old made recorded.1 held_is new sound passes.size_stays call next_is adds ours))
+          (step_leaves shape sized head waiting turned kept numbers bytes view is_record room size old made recorded.1 held_is new
+          sound passes.size_stays call next_is adds ours))
 
       -- after a refused step the log is dead
       pub step_dead : IsSound new → HoldsView (died log) new view
@@ -153,25 +169,35 @@ module _ (shape : Shape) (sized : IsSized shape) (head : ℕ) (waiting : List (L
 
       module _ (entries : view.under_way ≡ entries_of numbers bytes) (done : IsDone call old new) where
         -- after a step that is not the last the log holds what it held
-        pub step_goes_on : made + 1 < steps_for shape.format (length numbers) → HoldsView (value_at shape head waiting turned kept items (Some (made + 1)) dead) new view
+        pub step_goes_on : made + 1 < steps_for shape.format (length numbers)
+            → HoldsView (value_at shape head waiting turned kept items (Some (made + 1)) dead) new view
         step_goes_on more =
             let after : HoldsView (value_at shape head waiting turned kept numbers (Some (made + 1)) false) new view =
-            step_held shape sized head waiting turned kept numbers bytes view is_record room size old made recorded.1 held_is new sound passes.size_stays entries call more next_is adds done in
+            step_held shape sized head waiting turned kept numbers bytes view is_record room size old made recorded.1 held_is new sound
+            passes.size_stays entries call more next_is adds done in
             subst (λ (d : Bool). HoldsView (value_at shape head waiting turned kept items (Some (made + 1)) d) new view) (sym dead_is)
-            (subst (λ (l : List ℕ). HoldsView (value_at shape head waiting turned kept l (Some (made + 1)) false) new view) (sym items_are) after)
+            (subst (λ (l : List ℕ). HoldsView (value_at shape head waiting turned kept l (Some (made + 1)) false) new view)
+            (sym items_are) after)
 
         -- after the last step it has one record more
-        pub step_durable : steps_for shape.format (length numbers) ≤ made + 1 → HoldsView (value_at shape head (waiting ++ items ∷ []) turned kept [] None dead) new (with_record view)
+        pub step_durable : steps_for shape.format (length numbers) ≤ made + 1
+            → HoldsView (value_at shape head (waiting ++ items ∷ []) turned kept [] None dead) new (with_record view)
         step_durable last =
             let after : HoldsView (value_at shape head (waiting ++ numbers ∷ []) turned kept [] None false) new (with_record view) =
-            step_last shape sized head waiting turned kept numbers bytes view is_record room size old made recorded.1 held_is new sound passes.size_stays call last ring.oldest next_is done in
-            subst (λ (d : Bool). HoldsView (value_at shape head (waiting ++ items ∷ []) turned kept [] None d) new (with_record view)) (sym dead_is)
-            (subst (λ (l : List ℕ). HoldsView (value_at shape head (waiting ++ l ∷ []) turned kept [] None false) new (with_record view)) (sym items_are) after)
+            step_last shape sized head waiting turned kept numbers bytes view is_record room size old made recorded.1 held_is new sound
+            passes.size_stays call last ring.oldest next_is done in
+            subst (λ (d : Bool). HoldsView (value_at shape head (waiting ++ items ∷ []) turned kept [] None d) new (with_record view))
+            (sym dead_is)
+            (subst
+            (λ (l : List ℕ). HoldsView (value_at shape head (waiting ++ l ∷ []) turned kept [] None false) new (with_record view))
+            (sym items_are) after)
 
         -- the record is whole in each image then
         pub step_whole : steps_for shape.format (length numbers) ≤ made + 1 → view.ours ≡ true
             → EachCut (HasDurable new.size (value_at shape head (waiting ++ items ∷ []) turned kept [] None dead) (with_record view)) new
-        step_whole last ours = durable_whole (value_at shape head (waiting ++ items ∷ []) turned kept [] None dead) new (with_record view) (step_durable last) dead_is ours refl
+        step_whole last ours =
+            durable_whole (value_at shape head (waiting ++ items ∷ []) turned kept [] None dead) new (with_record view) (step_durable last)
+            dead_is ours refl
 
   -- a record waits
   module _ (numbers : List ℕ) (newer : List (List ℕ)) (waits : waiting ≡ numbers ∷ newer) where
@@ -184,17 +210,23 @@ module _ (shape : Shape) (sized : IsSized shape) (head : ℕ) (waiting : List (L
     ring_is : IsRing shape (numbers ∷ newer) turned items writing
     ring_is = subst (λ (l : List (List ℕ)). IsRing shape l turned items writing) waits ring
 
-    under_is : (made : ℕ) → writing ≡ Some made → IsRecord shape (head + length (numbers ∷ newer)) items × (made < steps_for shape.format (length items))
-    under_is made at = subst (λ (l : List (List ℕ)). IsRecord shape (head + length l) items × (made < steps_for shape.format (length items))) waits (under_way_is made at)
+    under_is : (made : ℕ) → writing ≡ Some made
+        → IsRecord shape (head + length (numbers ∷ newer)) items × (made < steps_for shape.format (length items))
+    under_is made at =
+        subst (λ (l : List (List ℕ)). IsRecord shape (head + length l) items × (made < steps_for shape.format (length items))) waits
+        (under_way_is made at)
 
-    module _ (old new : State) (sound : IsSound old) (turn : Turn) (next : IsNextTurn shape head numbers kept turned turn) (adds : MayTurn turn old new) (view : View) (holds : HoldsView log old view) where
+    module _ (old new : State) (sound : IsSound old) (turn : Turn) (next : IsNextTurn shape head numbers kept turned turn)
+        (adds : MayTurn turn old new) (view : View) (holds : HoldsView log old view) where
       waiting_held : HoldsView (value_at shape head (numbers ∷ newer) turned kept items writing false) old view
       waiting_held = subst (λ (v : LogValue). HoldsView v old view) (sym waiting_is) holds
 
       -- at each moment of a retire step a cut leaves what the log says
       pub turn_cuts : view.ours ≡ true → LeavesOnly (MayLeave old.size log view) old new
-      turn_cuts ours = subst (λ (v : LogValue). LeavesOnly (MayLeave old.size v view) old new) waiting_is
-          (turn_leaves shape sized head numbers newer turned kept items writing view ring_is.each ring_is.fits ring_is.oldest under_is old sound waiting_held new turn next adds ours)
+      turn_cuts ours =
+          subst (λ (v : LogValue). LeavesOnly (MayLeave old.size v view) old new) waiting_is
+          (turn_leaves shape sized head numbers newer turned kept items writing view ring_is.each ring_is.fits ring_is.oldest under_is
+          old sound waiting_held new turn next adds ours)
 
       module _ (same_size : new.size ≡ old.size) where
         -- after a refused retire step the log is dead
@@ -203,35 +235,54 @@ module _ (shape : Shape) (sized : IsSized shape) (head : ℕ) (waiting : List (L
 
         module _ (done : IsTurned turn old new) (after : List ℕ) (keeps : after ≡ kept_by turn old kept) where
           -- after a retire step that is not the last the log holds what it held
-          pub turn_more : turned ≤ turns_home shape.format (length numbers) → HoldsView (value_at shape head waiting (turned + 1) after items writing dead) new (view_retired (head - log.head) view)
+          pub turn_more : turned ≤ turns_home shape.format (length numbers)
+              → HoldsView (value_at shape head waiting (turned + 1) after items writing dead) new (view_retired (head - log.head) view)
           turn_more more =
               let head_is : head ≡ log.head = ap (λ (l : LogValue). l.head) shown in
               let none : 0 ≡ head - log.head = omega (arith, head_is) in
-              subst (λ (n : ℕ). HoldsView (value_at shape head waiting (turned + 1) after items writing dead) new (view_retired n view)) none
+              subst (λ (n : ℕ). HoldsView (value_at shape head waiting (turned + 1) after items writing dead) new (view_retired n view))
+              none
               (subst (λ (d : Bool). HoldsView (value_at shape head waiting (turned + 1) after items writing d) new view) (sym dead_is)
-              (subst (λ (l : List (List ℕ)). HoldsView (value_at shape head l (turned + 1) after items writing false) new view) (sym waits)
-              (subst (λ (k : List ℕ). HoldsView (value_at shape head (numbers ∷ newer) (turned + 1) k items writing false) new view) (sym keeps)
-              (turn_held shape sized head numbers newer turned kept items writing view ring_is.each ring_is.fits ring_is.oldest under_is old sound waiting_held new same_size turn more next adds done))))
+              (subst (λ (l : List (List ℕ)). HoldsView (value_at shape head l (turned + 1) after items writing false) new view)
+              (sym waits)
+              (subst
+              (λ (k : List ℕ).
+              HoldsView (value_at shape head (numbers ∷ newer) (turned + 1) k items writing false) new view)
+              (sym keeps)
+              (turn_held shape sized head numbers newer turned kept items writing view ring_is.each ring_is.fits
+              ring_is.oldest under_is old sound waiting_held new same_size turn more next adds done))))
 
           -- after the last one it has one record less
           pub turn_retires : (left : List (List ℕ)) → turns_home shape.format (length numbers) < turned → left ≡ newer
-              → HoldsView (value_at shape (head + 1) left 0 (replicate 512 0) items writing dead) new (view_retired (head + 1 - log.head) view)
+              → HoldsView (value_at shape (head + 1) left 0 (replicate 512 0) items writing dead) new
+              (view_retired (head + 1 - log.head) view)
           turn_retires left last fewer =
               let head_is : head ≡ log.head = ap (λ (l : LogValue). l.head) shown in
               let one : 1 ≡ head + 1 - log.head = omega (arith, head_is) in
-              subst (λ (n : ℕ). HoldsView (value_at shape (head + 1) left 0 (replicate 512 0) items writing dead) new (view_retired n view)) one
-              (subst (λ (d : Bool). HoldsView (value_at shape (head + 1) left 0 (replicate 512 0) items writing d) new (view_retired 1 view)) (sym dead_is)
-              (subst (λ (l : List (List ℕ)). HoldsView (value_at shape (head + 1) l 0 (replicate 512 0) items writing false) new (view_retired 1 view)) (sym fewer)
-              (turn_last shape sized head numbers newer turned kept items writing view ring_is.each ring_is.fits ring_is.oldest under_is old sound waiting_held new same_size turn last next adds done)))
+              subst (λ (n : ℕ). HoldsView (value_at shape (head + 1) left 0 (replicate 512 0) items writing dead) new (view_retired n view))
+              one
+              (subst
+              (λ (d : Bool).
+              HoldsView (value_at shape (head + 1) left 0 (replicate 512 0) items writing d) new (view_retired 1 view))
+              (sym dead_is)
+              (subst
+              (λ (l : List (List ℕ)).
+              HoldsView (value_at shape (head + 1) l 0 (replicate 512 0) items writing false) new (view_retired 1 view))
+              (sym fewer)
+              (turn_last shape sized head numbers newer turned kept items writing view ring_is.each ring_is.fits ring_is.oldest
+              under_is old sound waiting_held new same_size turn last next adds done)))
 
   -- a copy is a block of a whole record, and has the bytes of its block
   pub copy_read : (m : State) (view : View) → HoldsView log m view → (block slot place : ℕ) → (copy : IsNewestCopy log block slot place)
-      → (place < length (get_or view.records copy.age [])) × IsWhole log.shape m.content (log.head + copy.age) (get_or view.records copy.age []) × (block_of (get_or view.records copy.age []) place ≡ view.array block)
+      → (place < length (get_or view.records copy.age []))
+      × IsWhole log.shape m.content (log.head + copy.age) (get_or view.records copy.age [])
+      × (block_of (get_or view.records copy.age []) place ≡ view.array block)
   copy_read m view holds block slot place copy =
       let waiting_is : waiting ≡ log.waiting = ap (λ (v : LogValue). v.waiting) shown in
       let each : All (AreInside shape) log.waiting = subst (λ (l : List (List ℕ)). All (AreInside shape) l) waiting_is ring.each in
       let blocks_are : shape.blocks ≡ log.shape.blocks = ap (λ (v : LogValue). v.shape.blocks) shown in
-      let below : block < log.shape.blocks = omega (arith, (each copy.age [] copy.waits).inside place 0 copy.inside, copy.named, blocks_are) in
+      let below : block < log.shape.blocks =
+      omega (arith, (each copy.age [] copy.waits).inside place 0 copy.inside, copy.named, blocks_are) in
       copy_is log m view holds live block slot place below (λ j waits. (each j [] waits).rising) copy
 
 -- calls that wrote nothing leave what the log and its medium hold
@@ -244,12 +295,17 @@ quiet_held log view old new quiet holds = record {
   few = holds.few;
   sized = holds.sized;
   kept = holds.kept;
-  leaves = λ ours. subst (λ (n : ℕ). EachCut (MayLeave n log view) new) (sym quiet.size_stays) (shrunk (MayLeave old.size log view) old new quiet.sets_shrink (holds.leaves ours));
+  leaves = λ ours. subst (λ (n : ℕ). EachCut (MayLeave n log view) new) (sym quiet.size_stays)
+      (shrunk (MayLeave old.size log view) old new quiet.sets_shrink (holds.leaves ours));
   stores = λ live.
       let s = holds.stores live in record {
         laid = record {
-          whole = λ j below. let w = s.laid.whole j below in record { fit = w.fit; least = w.least; below = w.below; there = λ p less. quiet.content_stays _ ∙ w.there p less };
-          blocks = λ b below. with_records-same view.records (home_of log.shape new.content) (home_of log.shape old.content) b (quiet.content_stays (first_home log.shape + b)) ∙ s.laid.blocks b below;
+          whole = λ j below.
+              let w = s.laid.whole j below in
+              record { fit = w.fit; least = w.least; below = w.below; there = λ p less. quiet.content_stays _ ∙ w.there p less };
+          blocks = λ b below. with_records-same view.records (home_of log.shape new.content) (home_of log.shape old.content) b
+              (quiet.content_stays (first_home log.shape + b))
+              ∙ s.laid.blocks b below;
         };
         written = λ left p low small. quiet.content_stays _ ∙ s.written left p low small;
         copied = λ i low high. quiet.content_stays _ ∙ s.copied i low high;

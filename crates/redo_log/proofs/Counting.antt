@@ -76,7 +76,8 @@ module _ (e parts : ℕ) (late : e < parts) where
       (cases_lt e made)
 
   -- the early flush
-  pub early_written : (made : ℕ) → 0 < e → made ≡ e → (written_at e made ≡ e) × (written_at e (made + 1) ≡ e) × (flushed_at e (made + 1) ≡ e)
+  pub early_written : (made : ℕ) → 0 < e → made ≡ e
+      → (written_at e made ≡ e) × (written_at e (made + 1) ≡ e) × (flushed_at e (made + 1) ≡ e)
   early_written made some is = (
     omega (arith, written_soon e made (omega (arith, is)), is),
     omega (arith, written_late e (made + 1) (omega (arith, is)), flush_some e some, is),
@@ -84,7 +85,8 @@ module _ (e parts : ℕ) (late : e < parts) where
   )
 
   -- a part is written
-  pub part_written : (made : ℕ) → ¬ ((0 < e) × (made ≡ e)) → (written_at e (made + 1) ≡ written_at e made + 1) × (flushed_at e (made + 1) ≡ flushed_at e made)
+  pub part_written : (made : ℕ) → ¬ ((0 < e) × (made ≡ e))
+      → (written_at e (made + 1) ≡ written_at e made + 1) × (flushed_at e (made + 1) ≡ flushed_at e made)
   part_written made not = elim (cases_lt made e) [
     | inl soon ↦ (
       omega (arith, written_soon e made (omega (arith, soon)), written_soon e (made + 1) (omega (arith, soon))),
@@ -139,7 +141,8 @@ pub none_home : (format : LogFormat) → homed_at format 0 ≡ 0
 none_home One = refl
 none_home Two = omega arith
 
-pub all_home : (format : LogFormat) (n turned : ℕ) → turns_home format n ≤ turned → turned < turns_home format n + 2 → n ≤ homed_at format turned
+pub all_home : (format : LogFormat) (n turned : ℕ) → turns_home format n ≤ turned → turned < turns_home format n + 2
+    → n ≤ homed_at format turned
 all_home One n turned all below = all
 all_home Two n turned all below = omega (arith, all, below)
 

@@ -1,5 +1,6 @@
 -- That an index has room for a record more, and what it is then.
-use Rattle.std.proofs.Common.{◌≡◌, ◌≢◌, inl, inr, ⊎_elim, ℕ, suc, zero, ◌+◌, ◌-◌, ◌*◌, ◌/◌, ◌%◌, ◌<◌, ◌≤◌, List, [], ◌∷◌, ◌++◌, length, get_or, eqb, Some, None, Option, refl, sym, ◌∙◌, ap, arith}
+use Rattle.std.proofs.Common.{◌≡◌, ◌≢◌, inl, inr, ⊎_elim, ℕ, suc, zero, ◌+◌, ◌-◌, ◌*◌, ◌/◌, ◌%◌, ◌<◌, ◌≤◌, List, [], ◌∷◌, ◌++◌, length}
+use Rattle.std.proofs.Common.{get_or, eqb, Some, None, Option, refl, sym, ◌∙◌, ap, arith}
 use Rattle.std.specs.Prelude.{Bool, true, false, ◌==◌, if◌then◌else◌, slice_index, map, MatchOption}
 use Rattle.std.specs.List.{AllByRecursion, IsDistinct, list_any}
 use Rattle.std.proofs.lemmas.Bool.{cases_eq, cases_lt}
@@ -26,7 +27,10 @@ all_other x (y ∷ xs) other = (differ (other 0 (omega arith)), all_other x xs (
 distinct : (xs : List ℕ) → ((i j : ℕ) → i < j → j < length xs → get_or xs i 0 ≢ get_or xs j 0) → IsDistinct eqb xs
 unfolding IsDistinct
 distinct [] apart = tt
-distinct (x ∷ xs) apart = (all_other x xs (λ j below. apart 0 (suc j) (omega arith) (omega arith)), distinct xs (λ i j less below. apart (suc i) (suc j) (omega arith) (omega arith)))
+distinct (x ∷ xs) apart = (
+  all_other x xs (λ j below. apart 0 (suc j) (omega arith) (omega arith)),
+  distinct xs (λ i j less below. apart (suc i) (suc j) (omega arith) (omega arith)),
+)
 
 below_all : (xs : List ℕ) (n : ℕ) → ((i : ℕ) → i < length xs → get_or xs i 0 < n) → (q : ℕ) → list_any (eqb q) xs ≡ true → q < n
 below_all [] n each q some = cc some
@@ -38,7 +42,8 @@ below_all (x ∷ xs) n each q some = elim (cases_eq q x) [
     rest : q ≢ x → list_any (eqb q) xs ≡ true
     rest not = grind (arith, nat_tests, some, not)
 
-few_apart : (xs : List ℕ) (n : ℕ) → ((i : ℕ) → i < length xs → get_or xs i 0 < n) → ((i j : ℕ) → i < j → j < length xs → get_or xs i 0 ≢ get_or xs j 0) → length xs ≤ n
+few_apart : (xs : List ℕ) (n : ℕ) → ((i : ℕ) → i < length xs → get_or xs i 0 < n)
+    → ((i j : ℕ) → i < j → j < length xs → get_or xs i 0 ≢ get_or xs j 0) → length xs ≤ n
 few_apart xs n each apart = length-le_from_distinct_below xs n (distinct xs apart) (below_all xs n each)
 
 -- two ages below the number of slots with one slot are one
@@ -87,9 +92,10 @@ one_sum most a b i j low high same = (
   sym (mod-mul-add a most i low) ∙ (ap (λ (n : ℕ). n % most) same ∙ mod-mul-add b most j high),
 )
 
-module _ (slots stamp most : ℕ) (records : List (List ℕ)) (index : List Copied) (is : IsIndex slots stamp records index) (free : length records < slots)
-    (small : (age : ℕ) → age < length records → length (get_or records age []) ≤ most) where
-  newest_at : (i : ℕ) → i < length index → IsNewest slots stamp records (block_at index i) ((get_or index i blank).slot, (get_or index i blank).place)
+module _ (slots stamp most : ℕ) (records : List (List ℕ)) (index : List Copied) (is : IsIndex slots stamp records index)
+    (free : length records < slots) (small : (age : ℕ) → age < length records → length (get_or records age []) ≤ most) where
+  newest_at : (i : ℕ) → i < length index
+      → IsNewest slots stamp records (block_at index i) ((get_or index i blank).slot, (get_or index i blank).place)
   newest_at i below = newest_is slots stamp records (block_at index i) ((get_or index i blank).slot, (get_or index i blank).place)
       (sym (is.looks (block_at index i)) ∙ look_found index is.sorted i (block_at index i) below refl)
 
@@ -103,7 +109,8 @@ module _ (slots stamp most : ℕ) (records : List (List ℕ)) (index : List Copi
   taken : (i : ℕ) → i < length index → (get_or index i blank).slot ≢ spare
   taken i below same =
       let n = newest_at i below in
-      let age : n.age ≡ length records = same_age slots stamp n.age (length records) (omega (arith, n.waits, free)) free (sym n.slot_is ∙ same) in
+      let age : n.age ≡ length records =
+      same_age slots stamp n.age (length records) (omega (arith, n.waits, free)) free (sym n.slot_is ∙ same) in
       omega (arith, age, n.waits)
 
   near : (i : ℕ) → i < length index → (get_or index i blank).place < most
@@ -122,7 +129,12 @@ module _ (slots stamp most : ℕ) (records : List (List ℕ)) (index : List Copi
       let at = code_is i below in
       let n = newest_at i at.1 in
       let inside : (get_or index i blank).slot < slots = omega (arith, n.slot_is, mod_below (stamp + n.age) slots (omega (arith, free))) in
-      omega (arith, at.0, mul-add-lt (row slots spare spare_inside (get_or index i blank).slot) most (get_or index i blank).place (slots - 1) (row_below slots spare spare_inside (get_or index i blank).slot inside (taken i at.1)) (near i at.1))
+      omega (
+        arith,
+        at.0,
+        mul-add-lt (row slots spare spare_inside (get_or index i blank).slot) most (get_or index i blank).place (slots - 1)
+            (row_below slots spare spare_inside (get_or index i blank).slot inside (taken i at.1)) (near i at.1),
+      )
 
   codes_apart : (i j : ℕ) → i < j → j < length (map code index) → get_or (map code index) i 0 ≢ get_or (map code index) j 0
   codes_apart i j less below same =
@@ -130,12 +142,18 @@ module _ (slots stamp most : ℕ) (records : List (List ℕ)) (index : List Copi
       let first = code_is i (omega (arith, less, below)) in
       let a = newest_at i first.1 in
       let b = newest_at j at.1 in
-      let both = one_sum most (row slots spare spare_inside (get_or index i blank).slot) (row slots spare spare_inside (get_or index j blank).slot) (get_or index i blank).place (get_or index j blank).place
+      let both = one_sum most (row slots spare spare_inside (get_or index i blank).slot)
+      (row slots spare spare_inside (get_or index j blank).slot) (get_or index i blank).place (get_or index j blank).place
       (near i first.1) (near j at.1) (sym first.0 ∙ (same ∙ at.0)) in
-      let slot : (get_or index i blank).slot ≡ (get_or index j blank).slot = rows_apart slots spare spare_inside (get_or index i blank).slot (get_or index j blank).slot (taken i first.1) (taken j at.1) both.0 in
-      let age : a.age ≡ b.age = same_age slots stamp a.age b.age (omega (arith, a.waits, free)) (omega (arith, b.waits, free)) (sym a.slot_is ∙ (slot ∙ b.slot_is)) in
-      let block : block_at index i ≡ block_at index j = sym a.named ∙ ap (λ (n : ℕ). slice_index (get_or records n []) (get_or index i blank).place) age
-      ∙ ap (λ (p : ℕ). slice_index (get_or records b.age []) p) both.1 ∙ b.named in
+      let slot : (get_or index i blank).slot ≡ (get_or index j blank).slot =
+      rows_apart slots spare spare_inside (get_or index i blank).slot (get_or index j blank).slot (taken i first.1) (taken j at.1)
+      both.0 in
+      let age : a.age ≡ b.age = same_age slots stamp a.age b.age (omega (arith, a.waits, free)) (omega (arith, b.waits, free))
+      (sym a.slot_is ∙ (slot ∙ b.slot_is)) in
+      let block : block_at index i ≡ block_at index j = sym a.named
+      ∙ ap (λ (n : ℕ). slice_index (get_or records n []) (get_or index i blank).place) age
+      ∙ ap (λ (p : ℕ). slice_index (get_or records b.age []) p) both.1
+      ∙ b.named in
       omega (arith, is.sorted i j less at.1, block)
 
   index_few : length index ≤ most * (slots - 1)
@@ -161,16 +179,19 @@ find_is log block (Some copy) is =
     record { age = n.age; waits = n.waits; slot_is = n.slot_is; inside = n.inside; named = n.named; newest = n.newest }
 
 -- the index with the copies of a record behind the others
-pub index_more : (slots stamp : ℕ) (records : List (List ℕ)) (numbers : List ℕ) (old new : List Copied) → IsIndex slots stamp records old → IsSorted new
-    → ((b : ℕ) → look new b ≡ with_copies ((stamp + length records) % slots) 0 numbers (look old) b) → IsIndex slots stamp (records ++ numbers ∷ []) new
+pub index_more : (slots stamp : ℕ) (records : List (List ℕ)) (numbers : List ℕ) (old new : List Copied) → IsIndex slots stamp records old
+    → IsSorted new → ((b : ℕ) → look new b ≡ with_copies ((stamp + length records) % slots) 0 numbers (look old) b)
+    → IsIndex slots stamp (records ++ numbers ∷ []) new
 index_more slots stamp records numbers old new is sorted looks = record {
   sorted = sorted;
-  looks = λ b. looks b ∙ with_copies-same ((stamp + length records) % slots) 0 numbers (look old) (copies_of slots stamp records no_copies) b (is.looks b)
+  looks = λ b. looks b
+      ∙ with_copies-same ((stamp + length records) % slots) 0 numbers (look old) (copies_of slots stamp records no_copies) b (is.looks b)
       ∙ sym (copies_of-more slots stamp records numbers no_copies b);
 }
 
 -- the index without the copies of the oldest record
-pub index_fewer : (slots stamp : ℕ) (numbers : List ℕ) (newer : List (List ℕ)) (old new : List Copied) → IsIndex slots stamp (numbers ∷ newer) old → length (numbers ∷ newer) ≤ slots → IsSorted new
+pub index_fewer : (slots stamp : ℕ) (numbers : List ℕ) (newer : List (List ℕ)) (old new : List Copied)
+    → IsIndex slots stamp (numbers ∷ newer) old → length (numbers ∷ newer) ≤ slots → IsSorted new
     → ((b : ℕ) → look new b ≡ outside (stamp % slots) (look old b)) → IsIndex slots (stamp + 1) newer new
 index_fewer slots stamp numbers newer old new is few sorted looks = record {
   sorted = sorted;

@@ -15,15 +15,19 @@ use Rattle.redo_log.specs.Value.{LogValue, IsNewestCopy, HasNoCopy}
 use Rattle.redo_log.specs.Held.{View, HoldsView}
 
 -- a block that a record does not name is that of the array
-with_blocks-none : (entries : List Entry) (a : Array) (b : ℕ) → ((i : ℕ) → i < length entries → (get_or entries i (0, [])).0 ≢ b) → with_blocks entries a b ≡ a b
+with_blocks-none : (entries : List Entry) (a : Array) (b : ℕ) → ((i : ℕ) → i < length entries → (get_or entries i (0, [])).0 ≢ b)
+    → with_blocks entries a b ≡ a b
 with_blocks-none [] a b none = refl
-with_blocks-none (e ∷ entries) a b none = ap (λ (t : Bool). if t then e.1 else with_blocks entries a b) no ∙ with_blocks-none entries a b (λ i below. none (suc i) (omega arith))
+with_blocks-none (e ∷ entries) a b none =
+    ap (λ (t : Bool). if t then e.1 else with_blocks entries a b) no
+    ∙ with_blocks-none entries a b (λ i below. none (suc i) (omega arith))
   where
     no : (e.0 == b) ≡ false
     no = let not : e.0 ≢ b = none 0 (omega arith) in grind (arith, nat_tests)
 
 -- a block that a record names first at this place is the one there
-with_blocks-at : (entries : List Entry) (a : Array) (i : ℕ) → i < length entries → ((j : ℕ) → j < i → (get_or entries j (0, [])).0 ≢ (get_or entries i (0, [])).0)
+with_blocks-at : (entries : List Entry) (a : Array) (i : ℕ) → i < length entries
+    → ((j : ℕ) → j < i → (get_or entries j (0, [])).0 ≢ (get_or entries i (0, [])).0)
     → with_blocks entries a (get_or entries i (0, [])).0 ≡ (get_or entries i (0, [])).1
 with_blocks-at [] a i below first = absurd (omega arith)
 with_blocks-at (e ∷ entries) a zero below first = ap (λ (t : Bool). if t then e.1 else with_blocks entries a e.0) yes
@@ -32,22 +36,25 @@ with_blocks-at (e ∷ entries) a zero below first = ap (λ (t : Bool). if t then
     yes = grind (arith, nat_tests)
 with_blocks-at (e ∷ entries) a (suc i) below first =
     let b = (get_or entries i (0, [])).0 in
-    ap (λ (t : Bool). if t then e.1 else with_blocks entries a b) no ∙ with_blocks-at entries a i (omega arith) (λ j less. first (suc j) (omega arith))
+    ap (λ (t : Bool). if t then e.1 else with_blocks entries a b) no
+    ∙ with_blocks-at entries a i (omega arith) (λ j less. first (suc j) (omega arith))
   where
     no : (e.0 == (get_or entries i (0, [])).0) ≡ false
     no = let not : e.0 ≢ (get_or entries i (0, [])).0 = first 0 (omega arith) in grind (arith, nat_tests)
 
 -- no record names the block
 abbrev NamesNone : List (List Entry) → ℕ → Type 0
-NamesNone records b = (j : ℕ) → j < length records → (i : ℕ) → i < length (get_or records j []) → (get_or (get_or records j []) i (0, [])).0 ≢ b
+NamesNone records b =
+    (j : ℕ) → j < length records → (i : ℕ) → i < length (get_or records j []) → (get_or (get_or records j []) i (0, [])).0 ≢ b
 
 with_records-none : (records : List (List Entry)) (a : Array) (b : ℕ) → NamesNone records b → with_records records a b ≡ a b
 with_records-none [] a b none = refl
-with_records-none (r ∷ records) a b none = with_records-none records (with_blocks r a) b (λ j below. none (suc j) (omega arith)) ∙ with_blocks-none r a b (none 0 (omega arith))
+with_records-none (r ∷ records) a b none =
+    with_records-none records (with_blocks r a) b (λ j below. none (suc j) (omega arith)) ∙ with_blocks-none r a b (none 0 (omega arith))
 
 -- the newest record that names the block gives it
-with_records-at : (records : List (List Entry)) (a : Array) (b age i : ℕ) → age < length records → i < length (get_or records age []) → (get_or (get_or records age []) i (0, [])).0 ≡ b
-    → ((j : ℕ) → j < i → (get_or (get_or records age []) j (0, [])).0 ≢ b)
+with_records-at : (records : List (List Entry)) (a : Array) (b age i : ℕ) → age < length records → i < length (get_or records age [])
+    → (get_or (get_or records age []) i (0, [])).0 ≡ b → ((j : ℕ) → j < i → (get_or (get_or records age []) j (0, [])).0 ≢ b)
     → ((j : ℕ) → age < j → j < length records → (k : ℕ) → k < length (get_or records j []) → (get_or (get_or records j []) k (0, [])).0 ≢ b)
     → with_records records a b ≡ (get_or (get_or records age []) i (0, [])).1
 with_records-at [] a b age i waits below is first newest = absurd (omega arith)
@@ -55,19 +62,22 @@ with_records-at (r ∷ records) a b zero i waits below is first newest =
     with_records-none records (with_blocks r a) b (λ j inside. newest (suc j) (omega arith) (omega arith))
     ∙ ap (with_blocks r a) (sym is) ∙ with_blocks-at r a i below (λ j less e. first j less (e ∙ is))
 with_records-at (r ∷ records) a b (suc age) i waits below is first newest =
-    with_records-at records (with_blocks r a) b age i (omega arith) below is first (λ j later inside. newest (suc j) (omega arith) (omega arith))
+    with_records-at records (with_blocks r a) b age i (omega arith) below is first
+    (λ j later inside. newest (suc j) (omega arith) (omega arith))
 
 -- the numbers of the j-th record
 numbers_at : (records : List (List Entry)) (j : ℕ) → get_or (map (λ r. numbers_of r) records) j [] ≡ numbers_of (get_or records j [])
 numbers_at records j = let f : List Entry → List ℕ = λ r. numbers_of r in get_or-map f records j []
 
 -- a number that a record's list doesn't contain names none of its blocks
-unnamed : (entries : List Entry) (numbers : List ℕ) (b : ℕ) → numbers ≡ numbers_of entries → ¬ Contains numbers b → (i : ℕ) → i < length entries → (get_or entries i (0, [])).0 ≢ b
+unnamed : (entries : List Entry) (numbers : List ℕ) (b : ℕ) → numbers ≡ numbers_of entries → ¬ Contains numbers b → (i : ℕ)
+    → i < length entries → (get_or entries i (0, [])).0 ≢ b
 unnamed entries numbers b is none i below e =
     let f : Entry → ℕ = λ e. e.0 in
     let inside : i < length (numbers_of entries) = omega (arith, length-map entries f) in
     let named : get_or (numbers_of entries) i 0 ≡ b = get_or-map f entries i (0, []) ∙ e in
-    none (subst (λ (l : List ℕ). Contains l b) (sym is) (subst (Contains (numbers_of entries)) named (Contains-get_or (numbers_of entries) i 0 inside)))
+    none (subst (λ (l : List ℕ). Contains l b) (sym is)
+    (subst (Contains (numbers_of entries)) named (Contains-get_or (numbers_of entries) i 0 inside)))
 
 module _ (log : LogValue) (m : State) (view : View) (holds : HoldsView log m view) (live : log.dead ≡ false) where
   -- the block numbers of a record
@@ -75,29 +85,40 @@ module _ (log : LogValue) (m : State) (view : View) (holds : HoldsView log m vie
   record_is j = ap (λ (l : List (List ℕ)). get_or l j []) holds.durable ∙ numbers_at view.records j
 
   as_many : length log.waiting ≡ length view.records
-  as_many = let f : List Entry → List ℕ = λ r. numbers_of r in omega (arith, ap (λ (l : List (List ℕ)). length l) holds.durable, length-map view.records f)
+  as_many =
+      let f : List Entry → List ℕ = λ r. numbers_of r in
+      omega (arith, ap (λ (l : List (List ℕ)). length l) holds.durable, length-map view.records f)
 
   -- a block without a logged copy is read at home
   pub home_is : (b : ℕ) → b < log.shape.blocks → HasNoCopy log b → m.content (first_home log.shape + b) ≡ view.array b
   home_is b below none =
-      sym (with_records-none view.records (home_of log.shape m.content) b (λ j waits. unnamed (get_or view.records j []) (get_or log.waiting j []) b (record_is j) (none j (omega (arith, as_many)))))
+      sym (with_records-none view.records (home_of log.shape m.content) b
+      (λ j waits. unnamed (get_or view.records j []) (get_or log.waiting j []) b (record_is j) (none j (omega (arith, as_many)))))
       ∙ (holds.stores live).laid.blocks b below
 
   -- the newest copy of a block is in a whole record, and has its bytes
-  pub copy_is : (b slot place : ℕ) → b < log.shape.blocks → ((j : ℕ) → j < length log.waiting → IsRising (get_or log.waiting j [])) → (copy : IsNewestCopy log b slot place)
-      → (place < length (get_or view.records copy.age [])) × IsWhole log.shape m.content (log.head + copy.age) (get_or view.records copy.age []) × (block_of (get_or view.records copy.age []) place ≡ view.array b)
+  pub copy_is : (b slot place : ℕ) → b < log.shape.blocks → ((j : ℕ) → j < length log.waiting → IsRising (get_or log.waiting j []))
+      → (copy : IsNewestCopy log b slot place)
+      → (place < length (get_or view.records copy.age []))
+      × IsWhole log.shape m.content (log.head + copy.age) (get_or view.records copy.age [])
+      × (block_of (get_or view.records copy.age []) place ≡ view.array b)
   copy_is b slot place below rising copy =
       let f : Entry → ℕ = λ e. e.0 in
       let entries = get_or view.records copy.age [] in
       let numbers = get_or log.waiting copy.age [] in
       let waits : copy.age < length view.records = omega (arith, copy.waits, as_many) in
-      let long : length numbers ≡ length entries = omega (arith, ap (λ (l : List ℕ). length l) (record_is copy.age), length-map entries f) in
+      let long : length numbers ≡ length entries =
+      omega (arith, ap (λ (l : List ℕ). length l) (record_is copy.age), length-map entries f) in
       let inside : place < length entries = omega (arith, copy.inside) in
-      let number : (i : ℕ) → get_or numbers i 0 ≡ (get_or entries i (0, [])).0 = λ i. ap (λ (l : List ℕ). get_or l i 0) (record_is copy.age) ∙ get_or-map f entries i (0, []) in
-      let first : (j : ℕ) → j < place → (get_or entries j (0, [])).0 ≢ b = λ j less e. omega (arith, rising copy.age copy.waits j place less copy.inside, number j, e, copy.named) in (
+      let number : (i : ℕ) → get_or numbers i 0 ≡ (get_or entries i (0, [])).0 = λ i.
+      ap (λ (l : List ℕ). get_or l i 0) (record_is copy.age) ∙ get_or-map f entries i (0, []) in
+      let first : (j : ℕ) → j < place → (get_or entries j (0, [])).0 ≢ b = λ j less e.
+      omega (arith, rising copy.age copy.waits j place less copy.inside, number j, e, copy.named) in (
         inside,
         (holds.stores live).laid.whole copy.age waits,
-        sym (with_records-at view.records (home_of log.shape m.content) b copy.age place waits inside (sym (number place) ∙ copy.named) first
-            (λ j later waiting. unnamed (get_or view.records j []) (get_or log.waiting j []) b (record_is j) (copy.newest j later (omega (arith, as_many)))))
+        sym (with_records-at view.records (home_of log.shape m.content) b copy.age place waits inside (sym (number place) ∙ copy.named)
+            first
+            (λ j later waiting. unnamed (get_or view.records j []) (get_or log.waiting j []) b (record_is j)
+            (copy.newest j later (omega (arith, as_many)))))
             ∙ (holds.stores live).laid.blocks b below,
       )

@@ -1,5 +1,6 @@
 -- What a store on top of a log cites.
-use Rattle.std.proofs.Common.{◌≡◌, ◌⊎◌, inl, inr, ⊎_elim, ℕ, ◌+◌, ◌<◌, ◌≤◌, List, [], ◌∷◌, ◌++◌, length, drop, refl, sym, ◌∙◌, ap, subst, arith, length-append}
+use Rattle.std.proofs.Common.{◌≡◌, ◌⊎◌, inl, inr, ⊎_elim, ℕ, ◌+◌, ◌<◌, ◌≤◌, List, [], ◌∷◌, ◌++◌, length, drop, refl, sym, ◌∙◌, ap, subst}
+use Rattle.std.proofs.Common.{arith, length-append}
 use Rattle.std.specs.Prelude.{Bool, true}
 use Rattle.medium.specs.Medium.{State, Image}
 use Rattle.medium.specs.Moments.{EachCut}
@@ -16,7 +17,8 @@ use Rattle.redo_log.specs.Value.{LogValue, HasRoom, steps_of, retire_steps_of, b
 use Rattle.redo_log.specs.Batch.{IsBatch}
 use Rattle.redo_log.specs.Logged.{IsFresh, AreHome}
 use Rattle.redo_log.specs.Stages.{homed_at, IsRead}
-use Rattle.redo_log.specs.Held.{View, resting_view, with_begun, image_view, written_of, flushed_of, made_of, turned_of, oldest_of, MayLeave, stamps_of, HoldsView}
+use Rattle.redo_log.specs.Held.{View, resting_view, with_begun, image_view, written_of, flushed_of, made_of, turned_of, oldest_of, MayLeave}
+use Rattle.redo_log.specs.Held.{stamps_of, HoldsView}
 use Rattle.redo_log.proofs.Counting.{none_written, steps_some}
 use Rattle.redo_log.proofs.Keeping.{Logged-records}
 use Rattle.redo_log.proofs.Turning.{all_read}
@@ -24,8 +26,9 @@ pub use Rattle.redo_log.proofs.Closing.{quiet_held, durable_whole, rest_logged}
 pub use Rattle.redo_log.proofs.Finding.{home_is, copy_is}
 
 -- a new log holds a medium whose blocks are at home and whose log is fresh
-pub idle_holds : (shape : Shape) (next : ℕ) (array : Array) (ours : Bool) (m : State) → sectors_of shape ≤ m.size → ((b : ℕ) → b < shape.blocks → m.content (first_home shape + b) ≡ array b)
-    → (ours ≡ true → EachCut (IsFresh shape next array) m) → HoldsView (idle_from shape next) m (resting_view array ours)
+pub idle_holds : (shape : Shape) (next : ℕ) (array : Array) (ours : Bool) (m : State) → sectors_of shape ≤ m.size
+    → ((b : ℕ) → b < shape.blocks → m.content (first_home shape + b) ≡ array b) → (ours ≡ true → EachCut (IsFresh shape next array) m)
+    → HoldsView (idle_from shape next) m (resting_view array ours)
 idle_holds shape next array ours m fits home fresh = record {
   fits = fits;
   durable = refl;
@@ -36,7 +39,9 @@ idle_holds shape next array ours m fits home fresh = record {
   kept = λ live. all_read shape.format next [] (turned_of (idle_from shape next)) _ (omega arith);
   leaves = λ is image cut.
       let rests = fresh is image cut in
-      inl (Logged-records m.size shape next [] array image fits (rests_logged (layout_of shape.format) (laws_of shape.format) shape rests.keeps.super.some_slots image next [] array (omega arith) rests));
+      inl (Logged-records m.size shape next [] array image fits
+      (rests_logged (layout_of shape.format) (laws_of shape.format) shape rests.keeps.super.some_slots image next [] array (omega arith)
+      rests));
   stores = λ live. record {
     laid = record { whole = λ j below. absurd (omega arith); blocks = home };
     written = λ none. absurd (omega (arith, none));
@@ -67,34 +72,38 @@ died_holds log m view holds = record {
 pub may_leave_ours : (size : ℕ) (log : LogValue) (view : View) (image : Image) → MayLeave size log view image
     → IsOurs size log.shape image view.array (log.head + length view.records + 1)
     ⊎ ((0 < log.steps_left) × IsOurs size log.shape image (with_blocks view.under_way view.array) (log.head + length view.records + 2))
-may_leave_ours size log view image found = ⊎_elim
-    (λ rest. inl rest.ours)
+may_leave_ours size log view image found =
+    ⊎_elim (λ rest. inl rest.ours)
     (λ more. ⊎_elim
     (λ both.
-    let longer : log.head + length (view.records ++ view.under_way ∷ []) + 1 ≡ log.head + length view.records + 2 = omega (arith, length-append view.records (view.under_way ∷ [])) in
+    let longer : log.head + length (view.records ++ view.under_way ∷ []) + 1 ≡ log.head + length view.records + 2 =
+    omega (arith, length-append view.records (view.under_way ∷ [])) in
     inr (both.0, subst (IsOurs size log.shape image (with_blocks view.under_way view.array)) longer both.2.ours))
-    (λ less. inl (subst (IsOurs size log.shape image view.array) (same_stamp view.records less.0) less.2.ours))
-    more)
-    found
+    (λ less. inl (subst (IsOurs size log.shape image view.array) (same_stamp view.records less.0) less.2.ours)) more) found
   where
-    same_stamp : (records : List (List Entry)) → 0 < length records → log.head + 1 + length (drop 1 records) + 1 ≡ log.head + length records + 1
+    same_stamp : (records : List (List Entry)) → 0 < length records
+        → log.head + 1 + length (drop 1 records) + 1 ≡ log.head + length records + 1
     same_stamp [] some = absurd (omega arith)
     same_stamp (r ∷ records) some = omega arith
 
 -- a record is begun in a log with room
-pub begun_holds : (log : LogValue) (m : State) (view : View) (numbers bytes : List ℕ) → HoldsView log m view → HasRoom log → IsBatch log.shape numbers bytes
-    → HoldsView (begun numbers log) m (with_begun (entries_of numbers bytes) view)
+pub begun_holds : (log : LogValue) (m : State) (view : View) (numbers bytes : List ℕ) → HoldsView log m view → HasRoom log
+    → IsBatch log.shape numbers bytes → HoldsView (begun numbers log) m (with_begun (entries_of numbers bytes) view)
 begun_holds log m view numbers bytes holds room batch =
     let many : length (entries_of numbers bytes) ≡ length numbers = length_of_batch numbers bytes in
-    let none : retire_steps_of log.shape.format log.under_way ≡ 0 = ap (λ (l : List ℕ). retire_steps_of log.shape.format l) room.none_under_way in
+    let none : retire_steps_of log.shape.format log.under_way ≡ 0 =
+    ap (λ (l : List ℕ). retire_steps_of log.shape.format l) room.none_under_way in
     let behind : behind_oldest (begun numbers log) ≡ behind_oldest log + retire_steps_of log.shape.format numbers = omega (arith, none) in
     let same : of_oldest log ≡ of_oldest (begun numbers log) = omega (arith, behind) in
     let turned : turned_of log ≡ turned_of (begun numbers log) = omega (arith, same) in
     let none_made : made_of (begun numbers log) ≡ 0 = omega arith in
     let early : ℕ = (layout_of log.shape.format).early (length (entries_of numbers bytes)) in
-    let w : written_of log.shape (with_begun (entries_of numbers bytes) view) (made_of (begun numbers log)) ≡ 0 = ap (λ (k : ℕ). written_of log.shape (with_begun (entries_of numbers bytes) view) k) none_made ∙ (none_written early).0 in
-    let f : flushed_of log.shape (with_begun (entries_of numbers bytes) view) (made_of (begun numbers log)) ≡ 0 = ap (λ (k : ℕ). flushed_of log.shape (with_begun (entries_of numbers bytes) view) k) none_made ∙ (none_written early).1 in
-    let few : length (entries_of numbers bytes) ≤ (layout_of log.shape.format).most = omega (arith, many, batch.few, most_is log.shape.format) in
+    let w : written_of log.shape (with_begun (entries_of numbers bytes) view) (made_of (begun numbers log)) ≡ 0 =
+    ap (λ (k : ℕ). written_of log.shape (with_begun (entries_of numbers bytes) view) k) none_made ∙ (none_written early).0 in
+    let f : flushed_of log.shape (with_begun (entries_of numbers bytes) view) (made_of (begun numbers log)) ≡ 0 =
+    ap (λ (k : ℕ). flushed_of log.shape (with_begun (entries_of numbers bytes) view) k) none_made ∙ (none_written early).1 in
+    let few : length (entries_of numbers bytes) ≤ (layout_of log.shape.format).most =
+    omega (arith, many, batch.few, most_is log.shape.format) in
     record {
       fits = holds.fits;
       durable = holds.durable;
@@ -103,21 +112,33 @@ begun_holds log m view numbers bytes holds room batch =
       few = holds.few;
       sized = sized_batch numbers bytes batch.size;
       kept = λ live. subst (λ (t : ℕ). IsRead log.shape.format log.head (oldest_of view) t log.kept) turned (holds.kept live);
-      leaves = λ ours image cut. ⊎_elim (λ rest. inl rest) (λ other. ⊎_elim (λ both. absurd (omega (arith, both.0, room.no_steps))) (λ less. inr (inr (less.0, omega (arith, less.1, behind), less.2))) other) (holds.leaves ours image cut);
+      leaves = λ ours image cut. ⊎_elim (λ rest. inl rest)
+          (λ other. ⊎_elim (λ both. absurd (omega (arith, both.0, room.no_steps)))
+          (λ less. inr (inr (less.0, omega (arith, less.1, behind), less.2))) other)
+          (holds.leaves ours image cut);
       stores = λ live. record {
         laid = (holds.stores live).laid;
         written = λ left p low small. absurd (omega (arith, low, w));
-        copied = subst (λ (t : ℕ). AreHome log.shape (oldest_of view) (homed_at log.shape.format t) m.content) turned (holds.stores live).copied;
+        copied =
+            subst (λ (t : ℕ). AreHome log.shape (oldest_of view) (homed_at log.shape.format t) m.content) turned (holds.stores live).copied;
       };
       guards = λ live ours. record {
         each = λ image cut.
             let rests = ((holds.guards live ours).each image cut).rests room.no_steps in
             record {
               rests = λ none. absurd (some_steps (omega (arith, none)));
-              guarded = λ _. subst (λ (k : ℕ). Guarded (layout_of log.shape.format) (image_view log.shape log.head (with_begun (entries_of numbers bytes) view)) k (flushed_of log.shape (with_begun (entries_of numbers bytes) view) (made_of (begun numbers log))) image) (sym w)
-                  (subst (λ (d : ℕ). Guarded (layout_of log.shape.format) (image_view log.shape log.head (with_begun (entries_of numbers bytes) view)) 0 d image) (sym f)
-                  (rests_begun (layout_of log.shape.format) (laws_of log.shape.format) (image_view log.shape log.head (with_begun (entries_of numbers bytes) view)) rests.keeps.super.some_slots few image
-                  (record { keeps = rests.keeps; carries = rests.carries })));
+              guarded = λ _. subst
+                  (λ (k : ℕ). Guarded (layout_of log.shape.format)
+                  (image_view log.shape log.head (with_begun (entries_of numbers bytes) view)) k
+                  (flushed_of log.shape (with_begun (entries_of numbers bytes) view) (made_of (begun numbers log))) image)
+                  (sym w)
+                  (subst
+                  (λ (d : ℕ). Guarded (layout_of log.shape.format)
+                  (image_view log.shape log.head (with_begun (entries_of numbers bytes) view)) 0 d image)
+                  (sym f)
+                  (rests_begun (layout_of log.shape.format) (laws_of log.shape.format)
+                  (image_view log.shape log.head (with_begun (entries_of numbers bytes) view)) rests.keeps.super.some_slots few
+                  image (record { keeps = rests.keeps; carries = rests.carries })));
             };
         homed = λ is. (holds.guards live ours).homed (omega (arith, is, same));
       };

@@ -1,5 +1,6 @@
 -- Each turn that retires the oldest durable record: what the log and its medium hold after it.
-use Rattle.std.proofs.Common.{◌≡◌, ◌≢◌, ◌⊎◌, inl, inr, ⊎_elim, ℕ, ◌+◌, ◌-◌, ◌<◌, ◌≤◌, List, [], ◌∷◌, length, get_or, drop, refl, sym, ◌∙◌, ap, subst, arith}
+use Rattle.std.proofs.Common.{◌≡◌, ◌≢◌, ◌⊎◌, inl, inr, ⊎_elim, ℕ, ◌+◌, ◌-◌, ◌<◌, ◌≤◌, List, [], ◌∷◌, length, get_or, drop, refl, sym, ◌∙◌}
+use Rattle.std.proofs.Common.{ap, subst, arith}
 use Rattle.std.specs.Prelude.{All, replicate, map, true, false, Option, Some, None}
 use Rattle.std.proofs.lemmas.Bool.{cases_eq, cases_lt}
 use Rattle.std.proofs.lemmas.List.{length-map}
@@ -26,18 +27,21 @@ use Rattle.redo_log.proofs.Batching.{count_of, record_entries}
 use Rattle.redo_log.proofs.Counting.{steps_are, one_left, all_home}
 use Rattle.redo_log.proofs.Keeping.{Logged-records}
 use Rattle.redo_log.proofs.Storing.{drop-length, Stores-stays, Stores-turned, home_stores, head_stores}
-use Rattle.redo_log.proofs.Guarding.{safe_either, Guards-quiet, Guards-turned, home_each, homed_guards, head_each, head_guards, slots_less, past_records}
+use Rattle.redo_log.proofs.Guarding.{safe_either, Guards-quiet, Guards-turned, home_each, homed_guards, head_each, head_guards, slots_less}
+use Rattle.redo_log.proofs.Guarding.{past_records}
 use Rattle.redo_log.proofs.Stepping.{turned_at, of_oldest_is, turned_of_is, guards_leave}
 use Rattle.redo_log.proofs.Turning.{BringsHome, none_read, all_read, brings_home}
 use Rattle.log_image.proofs.Formats.{laws_of}
 
 -- without the oldest record its block numbers are gone too
-fewer_numbers : (records : List (List Entry)) (numbers : List ℕ) (newer : List (List ℕ)) → numbers ∷ newer ≡ map (λ r. numbers_of r) records → newer ≡ map (λ r. numbers_of r) (drop 1 records)
+fewer_numbers : (records : List (List Entry)) (numbers : List ℕ) (newer : List (List ℕ)) → numbers ∷ newer ≡ map (λ r. numbers_of r) records
+    → newer ≡ map (λ r. numbers_of r) (drop 1 records)
 fewer_numbers [] numbers newer is = absurd (cc is)
 fewer_numbers (r ∷ records) numbers newer is = cc is
 
 -- the next record has come nowhere yet
-nothing_home : (format : LogFormat) (newer : List (List ℕ)) (i count : ℕ) → count ≡ length (get_or newer 0 []) → i < homed_at format (turned_at format newer 0) → i < count → i < homed_at format 0
+nothing_home : (format : LogFormat) (newer : List (List ℕ)) (i count : ℕ) → count ≡ length (get_or newer 0 [])
+    → i < homed_at format (turned_at format newer 0) → i < count → i < homed_at format 0
 nothing_home format [] i count many low high = absurd (omega (arith, high, many))
 nothing_home format (n ∷ newer) i count many low high =
     let none : turned_at format (n ∷ newer) 0 ≡ 0 = omega arith in
@@ -47,15 +51,21 @@ not_homed : (format : LogFormat) (newer : List (List ℕ)) → oldest_at format 
 not_homed format [] e = absurd (omega (arith, e))
 not_homed format (n ∷ newer) e = absurd (omega (arith, e))
 
-next_read : (format : LogFormat) (newer : List (List ℕ)) (stamp : ℕ) (entries : List Entry) (kept : List ℕ) → length entries ≡ length (get_or newer 0 []) → IsRead format stamp entries (turned_at format newer 0) kept
-next_read format [] stamp entries kept many = all_read format stamp entries (turned_at format [] 0) kept (let e : turns_home format (length entries) ≡ turns_home format 0 = ap (λ (n : ℕ). turns_home format n) many in omega (arith, e))
+next_read : (format : LogFormat) (newer : List (List ℕ)) (stamp : ℕ) (entries : List Entry) (kept : List ℕ)
+    → length entries ≡ length (get_or newer 0 []) → IsRead format stamp entries (turned_at format newer 0) kept
+next_read format [] stamp entries kept many =
+    all_read format stamp entries (turned_at format [] 0) kept
+    (let e : turns_home format (length entries) ≡ turns_home format 0 = ap (λ (n : ℕ). turns_home format n) many in omega (arith, e))
 next_read format (n ∷ newer) stamp entries kept many =
     let none : 0 ≡ turned_at format (n ∷ newer) 0 = omega arith in
     subst (λ (t : ℕ). IsRead format stamp entries t kept) none (none_read format stamp entries kept)
 
-module _ (shape : Shape) (sized : IsSized shape) (head : ℕ) (numbers : List ℕ) (newer : List (List ℕ)) (turned : ℕ) (kept under_way : List ℕ) (writing : Option ℕ) (view : View)
-    (each : All (AreInside shape) (numbers ∷ newer)) (fits_slots : length (numbers ∷ newer) + begun_at writing ≤ shape.slots) (so_far : turned < turns_home shape.format (length numbers) + 2)
-    (under : (made : ℕ) → writing ≡ Some made → IsRecord shape (head + length (numbers ∷ newer)) under_way × (made < steps_for shape.format (length under_way))) where
+module _ (shape : Shape) (sized : IsSized shape) (head : ℕ) (numbers : List ℕ) (newer : List (List ℕ)) (turned : ℕ)
+    (kept under_way : List ℕ) (writing : Option ℕ) (view : View) (each : All (AreInside shape) (numbers ∷ newer))
+    (fits_slots : length (numbers ∷ newer) + begun_at writing ≤ shape.slots)
+    (so_far : turned < turns_home shape.format (length numbers) + 2)
+    (under : (made : ℕ) → writing ≡ Some made
+    → IsRecord shape (head + length (numbers ∷ newer)) under_way × (made < steps_for shape.format (length under_way))) where
   abbrev L : Layout
   L = layout_of shape.format
 
@@ -85,19 +95,25 @@ module _ (shape : Shape) (sized : IsSized shape) (head : ℕ) (numbers : List �
   first = each 0 [] (omega arith)
 
   -- where a record is under way its steps are these
-  begun_or_not : (w : Option ℕ) → writing ≡ w → (steps_at shape.format (length under_way) w ≡ 0) ⊎ ((m : ℕ) × (writing ≡ Some m) × (steps_at shape.format (length under_way) w ≡ steps_for shape.format (length under_way) - m))
+  begun_or_not : (w : Option ℕ) → writing ≡ w
+      → (steps_at shape.format (length under_way) w ≡ 0)
+      ⊎ ((m : ℕ) × (writing ≡ Some m) × (steps_at shape.format (length under_way) w ≡ steps_for shape.format (length under_way) - m))
   begun_or_not None is = inl refl
   begun_or_not (Some m) is = inr (m, is, refl)
 
   module _ (old : State) (sound : IsSound old) (hv : HoldsView (waiting_log turned kept) old view) where
     many : length newer + 1 ≡ length view.records
-    many = let f : List Entry → List ℕ = λ r. numbers_of r in omega (arith, ap (λ (l : List (List ℕ)). length l) hv.durable, length-map view.records f)
+    many =
+        let f : List Entry → List ℕ = λ r. numbers_of r in
+        omega (arith, ap (λ (l : List (List ℕ)). length l) hv.durable, length-map view.records f)
 
     waits : 0 < length view.records
     waits = omega (arith, many)
 
     numbers_are : numbers ≡ numbers_of (get_or view.records 0 [])
-    numbers_are = let f : List Entry → List ℕ = λ r. numbers_of r in ap (λ (l : List (List ℕ)). get_or l 0 []) hv.durable ∙ get_or-map f view.records 0 []
+    numbers_are =
+        let f : List Entry → List ℕ = λ r. numbers_of r in
+        ap (λ (l : List (List ℕ)). get_or l 0 []) hv.durable ∙ get_or-map f view.records 0 []
 
     count : length numbers ≡ length (get_or view.records 0 [])
     count = count_of numbers (get_or view.records 0 []) numbers_are
@@ -131,14 +147,17 @@ module _ (shape : Shape) (sized : IsSized shape) (head : ℕ) (numbers : List �
     few_under_way some = (slots some).under_way.fit.few
 
     -- once all of it is written one step is left at most
-    short : (layout_of shape.format).parts (length view.under_way) ≤ written_of shape view made → steps_at shape.format (length under_way) writing ≤ 2
+    short : (layout_of shape.format).parts (length view.under_way) ≤ written_of shape view made
+        → steps_at shape.format (length under_way) writing ≤ 2
     short all = elim (begun_or_not writing refl) [
       | inl none ↦ omega (arith, none)
       | inr begun ↦
           let u = under begun.0 begun.1 in
-          let all_steps : steps_for shape.format (length under_way) ≡ L.parts (length view.under_way) + 1 + _ = ap (λ (k : ℕ). steps_for shape.format k) under_count ∙ steps_are shape.format (length view.under_way) in
+          let all_steps : steps_for shape.format (length under_way) ≡ L.parts (length view.under_way) + 1 + _ =
+          ap (λ (k : ℕ). steps_for shape.format k) under_count ∙ steps_are shape.format (length view.under_way) in
           let m_is : made ≡ begun.0 = omega (arith, begun.2, u.1) in
-          let one = one_left (L.early (length view.under_way)) (L.parts (length view.under_way)) ((laws_of shape.format).last_is_late (length view.under_way)) begun.0
+          let one = one_left (L.early (length view.under_way)) (L.parts (length view.under_way))
+          ((laws_of shape.format).last_is_late (length view.under_way)) begun.0
           (subst (λ (m : ℕ). L.parts (length view.under_way) ≤ written_of shape view m) m_is all) in
           omega (arith, begun.2, all_steps, one)
     ]
@@ -150,17 +169,24 @@ module _ (shape : Shape) (sized : IsSized shape) (head : ℕ) (numbers : List �
     stored = subst (λ (t : ℕ). Stores shape head view steps made t old.content) turned_is (hv.stores refl)
 
     guarded : view.ours ≡ true → Guards shape head view steps made (left turned) old
-    guarded ours = subst (λ (r : ℕ). Guards shape head view steps made r old) (of_oldest_is shape head (numbers ∷ newer) turned kept under_way writing false) (hv.guards refl ours)
+    guarded ours =
+        subst (λ (r : ℕ). Guards shape head view steps made r old)
+        (of_oldest_is shape head (numbers ∷ newer) turned kept under_way writing false) (hv.guards refl ours)
 
     read : IsRead shape.format head (get_or view.records 0 []) turned kept
     read = subst (λ (t : ℕ). IsRead shape.format head (get_or view.records 0 []) t kept) turned_is (hv.kept refl)
 
     whole : IsWhole shape old.content head (get_or view.records 0 [])
-    whole = let none : head + 0 ≡ head = omega arith in subst (λ (s : ℕ). IsWhole shape old.content s (get_or view.records 0 [])) none (stored.laid.whole 0 waits)
+    whole =
+        let none : head + 0 ≡ head = omega arith in
+        subst (λ (s : ℕ). IsWhole shape old.content s (get_or view.records 0 [])) none (stored.laid.whole 0 waits)
 
     -- what the next turn does, where not all is home
-    brings : (turn : Turn) → turned < turns_home shape.format (length numbers) → IsNextTurn shape head numbers kept turned turn → BringsHome shape.format shape old.content head (get_or view.records 0 []) turned kept turn
-    brings turn below next = brings_home shape old.content head (get_or view.records 0 []) numbers numbers_are shape.format turned kept turn whole (omega (arith, below, home_is)) read (next.home below)
+    brings : (turn : Turn) → turned < turns_home shape.format (length numbers) → IsNextTurn shape head numbers kept turned turn
+        → BringsHome shape.format shape old.content head (get_or view.records 0 []) turned kept turn
+    brings turn below next =
+        brings_home shape old.content head (get_or view.records 0 []) numbers numbers_are shape.format turned kept turn whole
+        (omega (arith, below, home_is)) read (next.home below)
 
     -- with the record under way or without it a cut may leave the image
     safe_leaves : (image : Image) → Safe shape head view steps made image → MayLeave old.size (waiting_log turned kept) view image
@@ -171,12 +197,13 @@ module _ (shape : Shape) (sized : IsSized shape) (head : ℕ) (numbers : List �
 
     module _ (new : State) where
       -- a record that still waits
-      held : (same_size : new.size ≡ old.size) (t : ℕ) (k : List ℕ) → t < turns_home shape.format (length numbers) + 2 → IsRead shape.format head (get_or view.records 0 []) t k
-          → Stores shape head view steps made t new.content → (view.ours ≡ true → Guards shape head view steps made (left t) new)
-          → HoldsView (waiting_log t k) new view
+      held : (same_size : new.size ≡ old.size) (t : ℕ) (k : List ℕ) → t < turns_home shape.format (length numbers) + 2
+          → IsRead shape.format head (get_or view.records 0 []) t k → Stores shape head view steps made t new.content
+          → (view.ours ≡ true → Guards shape head view steps made (left t) new) → HoldsView (waiting_log t k) new view
       held same_size t k below r s g =
           let oldest_is = of_oldest_is shape head (numbers ∷ newer) t k under_way writing false in
-          let t_is : turned_of (waiting_log t k) ≡ t = turned_of_is shape head (numbers ∷ newer) t k under_way writing false ∙ (omega (arith, below)) in
+          let t_is : turned_of (waiting_log t k) ≡ t =
+          turned_of_is shape head (numbers ∷ newer) t k under_way writing false ∙ (omega (arith, below)) in
           let fits : sectors_of shape ≤ new.size = omega (arith, same_size, hv.fits) in
           record {
             fits = fits;
@@ -192,41 +219,51 @@ module _ (shape : Shape) (sized : IsSized shape) (head : ℕ) (numbers : List �
           }
 
       -- a turn before the flush
-      home_leaves : (turn : Turn) → BringsHome shape.format shape old.content head (get_or view.records 0 []) turned kept turn → MayTurn turn old new → view.ours ≡ true
-          → LeavesOnly (MayLeave old.size (waiting_log turned kept) view) old new
-      home_leaves (Load from) does adds ours = quiet_leaves (MayLeave old.size (waiting_log turned kept) view) old new sound (hv.leaves ours) adds
+      home_leaves : (turn : Turn) → BringsHome shape.format shape old.content head (get_or view.records 0 []) turned kept turn
+          → MayTurn turn old new → view.ours ≡ true → LeavesOnly (MayLeave old.size (waiting_log turned kept) view) old new
+      home_leaves (Load from) does adds ours =
+          quiet_leaves (MayLeave old.size (waiting_log turned kept) view) old new sound (hv.leaves ours) adds
       home_leaves (Copy from to begin) does adds ours =
           let bytes : List ℕ = begun_with begin (old.content from) in
           let gained : State = record old { may_leave = gaining to (begun_with begin (old.content from)) old.may_leave } in
           moments_have (MayLeave old.size (waiting_log turned kept) view) to (begun_with begin (old.content from)) old new adds
           (λ image cut. safe_leaves image
-          (home_each shape sized head view old gained sound steps made slots to (begun_with begin (old.content from)) (λ s c left. left) (homed_at shape.format turned) waits does.below does.at (guarded ours).each image cut))
+          (home_each shape sized head view old gained sound steps made slots to (begun_with begin (old.content from))
+          (λ s c left. left) (homed_at shape.format turned) waits does.below does.at (guarded ours).each image cut))
       home_leaves Flush does adds ours = absurd does
       home_leaves (Head bytes) does adds ours = absurd does
 
-      flush_leaves : (turn : Turn) → IsFlushTurn turn → MayTurn turn old new → view.ours ≡ true → LeavesOnly (MayLeave old.size (waiting_log turned kept) view) old new
+      flush_leaves : (turn : Turn) → IsFlushTurn turn → MayTurn turn old new → view.ours ≡ true
+          → LeavesOnly (MayLeave old.size (waiting_log turned kept) view) old new
       flush_leaves (Load from) is adds ours = absurd is
       flush_leaves (Copy from to begin) is adds ours = absurd is
       flush_leaves Flush is adds ours = quiet_leaves (MayLeave old.size (waiting_log turned kept) view) old new sound (hv.leaves ours) adds
       flush_leaves (Head bytes) is adds ours = absurd is
 
-      head_leaves : (turn : Turn) → turned ≡ turns_home shape.format (length numbers) + 1 → IsHeadTurn (head + 1) turn → MayTurn turn old new → view.ours ≡ true
-          → LeavesOnly (MayLeave old.size (waiting_log turned kept) view) old new
+      head_leaves : (turn : Turn) → turned ≡ turns_home shape.format (length numbers) + 1 → IsHeadTurn (head + 1) turn
+          → MayTurn turn old new → view.ours ≡ true → LeavesOnly (MayLeave old.size (waiting_log turned kept) view) old new
       head_leaves (Load from) last is adds ours = absurd is
       head_leaves (Copy from to begin) last is adds ours = absurd is
       head_leaves Flush last is adds ours = absurd is
       head_leaves (Head bytes) last is adds ours =
           let gained : State = record old { may_leave = gaining 1 bytes old.may_leave } in
           let one : left turned ≡ 1 = omega (arith, last) in
-          let last_one : of_oldest (waiting_log turned kept) ≡ 1 = of_oldest_is shape head (numbers ∷ newer) turned kept under_way writing false ∙ one in
+          let last_one : of_oldest (waiting_log turned kept) ≡ 1 =
+          of_oldest_is shape head (numbers ∷ newer) turned kept under_way writing false ∙ one in
           moments_have (MayLeave old.size (waiting_log turned kept) view) 1 bytes old new adds
-          (λ image cut. ⊎_elim
-          (safe_leaves image)
+          (λ image cut. ⊎_elim (safe_leaves image)
           (λ past. ⊎_elim
-          (λ rest. inr (inr (waits, omega (arith, last_one), Logged-records old.size shape (head + 1) (drop 1 view.records) view.array image hv.fits rest)))
+          (λ rest. inr (inr (
+            waits,
+            omega (arith, last_one),
+            Logged-records old.size shape (head + 1) (drop 1 view.records) view.array image hv.fits rest,
+          )))
           (λ both. inr (inl (both.0, short both.1, past_records old.size shape head view image hv.fits waits past.1 both.2)))
-          (safe_either shape sized (head + 1) (view_retired 1 view) steps made image (λ some. slots_less shape head view waits (slots some)) (omega (arith, hv.few, drop-length view.records waits)) past.0))
-          (head_each shape sized head view old gained sound steps made slots bytes waits is (λ s c left. left) (subst (λ (r : ℕ). Guards shape head view steps made r old) one (guarded ours)) image cut))
+          (safe_either shape sized (head + 1) (view_retired 1 view) steps made image
+          (λ some. slots_less shape head view waits (slots some)) (omega (arith, hv.few, drop-length view.records waits))
+          past.0))
+          (head_each shape sized head view old gained sound steps made slots bytes waits is (λ s c left. left)
+          (subst (λ (r : ℕ). Guards shape head view steps made r old) one (guarded ours)) image cut))
 
       -- at each moment of the next turn a cut leaves what it might leave before, and with the new head the same array
       pub turn_leaves : (turn : Turn) → IsNextTurn shape head numbers kept turned turn → MayTurn turn old new → view.ours ≡ true
@@ -235,45 +272,62 @@ module _ (shape : Shape) (sized : IsSized shape) (head : ℕ) (numbers : List �
         | inl below ↦ home_leaves turn (brings turn below next) adds ours
         | inr all ↦ elim (cases_eq turned (turns_home shape.format (length numbers))) [
           | inl is ↦ flush_leaves turn (next.flush is) adds ours
-          | inr not ↦ let last : turned ≡ turns_home shape.format (length numbers) + 1 = omega (arith, all, not, so_far) in head_leaves turn last (next.head last) adds ours
+          | inr not ↦
+              let last : turned ≡ turns_home shape.format (length numbers) + 1 = omega (arith, all, not, so_far) in
+              head_leaves turn last (next.head last) adds ours
         ]
       ]
 
       module _ (same_size : new.size ≡ old.size) where
-        home_held : (turn : Turn) → turned < turns_home shape.format (length numbers) → BringsHome shape.format shape old.content head (get_or view.records 0 []) turned kept turn → MayTurn turn old new → IsTurned turn old new
-            → HoldsView (waiting_log (turned + 1) (kept_by turn old kept)) new view
-        home_held (Load from) below does adds wrote = held same_size (turned + 1) (old.content from) (omega (arith, below)) does.1
+        home_held : (turn : Turn) → turned < turns_home shape.format (length numbers)
+            → BringsHome shape.format shape old.content head (get_or view.records 0 []) turned kept turn → MayTurn turn old new
+            → IsTurned turn old new → HoldsView (waiting_log (turned + 1) (kept_by turn old kept)) new view
+        home_held (Load from) below does adds wrote =
+            held same_size (turned + 1) (old.content from) (omega (arith, below)) does.1
             (Stores-turned shape sized head view steps made turned (turned + 1) new.content (λ i low high. omega (arith, low, does.0))
-            (Stores-stays shape sized head view steps steps made made turned old.content new.content wrote (λ some. some) (omega arith) stored))
-            (λ ours. Guards-turned shape sized head view steps made (left turned) (left (turned + 1)) new (λ e. omega (arith, e, below)) (Guards-quiet shape sized head view steps made (left turned) old new adds (guarded ours)))
-        home_held (Copy from to begin) below does adds wrote = held same_size (turned + 1) kept (omega (arith, below)) does.read
-            (home_stores shape sized head view steps made turned old.content new.content to (begun_with begin (old.content from)) wrote (homed_at shape.format turned) few_under_way waits rising refl does.more does.below does.at does.bytes stored)
+            (Stores-stays shape sized head view steps steps made made turned old.content new.content wrote (λ some. some)
+            (omega arith) stored))
+            (λ ours. Guards-turned shape sized head view steps made (left turned) (left (turned + 1)) new (λ e. omega (arith, e, below))
+            (Guards-quiet shape sized head view steps made (left turned) old new adds (guarded ours)))
+        home_held (Copy from to begin) below does adds wrote =
+            held same_size (turned + 1) kept (omega (arith, below)) does.read
+            (home_stores shape sized head view steps made turned old.content new.content to (begun_with begin (old.content from)) wrote
+            (homed_at shape.format turned) few_under_way waits rising refl does.more does.below does.at does.bytes stored)
             (λ ours. record {
-              each = home_each shape sized head view old new sound steps made slots to (begun_with begin (old.content from)) adds.sets (homed_at shape.format turned) waits does.below does.at (guarded ours).each;
+              each = home_each shape sized head view old new sound steps made slots to (begun_with begin (old.content from)) adds.sets
+                  (homed_at shape.format turned) waits does.below does.at (guarded ours).each;
               homed = λ e. absurd (omega (arith, e, below));
             })
         home_held Flush below does adds wrote = absurd does
         home_held (Head bytes) below does adds wrote = absurd does
 
         -- the blocks are flushed at home
-        flush_held : (turn : Turn) → turned ≡ turns_home shape.format (length numbers) → IsFlushTurn turn → IsTurned turn old new → HoldsView (waiting_log (turned + 1) (kept_by turn old kept)) new view
+        flush_held : (turn : Turn) → turned ≡ turns_home shape.format (length numbers) → IsFlushTurn turn → IsTurned turn old new
+            → HoldsView (waiting_log (turned + 1) (kept_by turn old kept)) new view
         flush_held (Load from) all is wrote = absurd is
         flush_held (Copy from to begin) all is wrote = absurd is
         flush_held Flush all is wrote =
-            let s = Stores-stays shape sized head view steps steps made made turned old.content new.content wrote.0 (λ some. some) (omega arith) stored in
-            let there : length (get_or view.records 0 []) ≤ homed_at shape.format turned = all_home shape.format (length (get_or view.records 0 [])) turned (omega (arith, all, home_is)) (omega (arith, so_far, home_is)) in
+            let s = Stores-stays shape sized head view steps steps made made turned old.content new.content wrote.0 (λ some. some)
+            (omega arith) stored in
+            let there : length (get_or view.records 0 []) ≤ homed_at shape.format turned =
+            all_home shape.format (length (get_or view.records 0 [])) turned (omega (arith, all, home_is))
+            (omega (arith, so_far, home_is)) in
             held same_size (turned + 1) kept (omega (arith, all))
             (all_read shape.format head (get_or view.records 0 []) (turned + 1) kept (omega (arith, all, home_is)))
-            (Stores-turned shape sized head view steps made turned (turned + 1) new.content (λ i low high. omega (arith, high, there)) s)
-            (λ ours. homed_guards shape sized head view old new sound steps made (left turned) (left (turned + 1)) (homed_at shape.format turned) wrote.1 there stored.copied (guarded ours))
+            (Stores-turned shape sized head view steps made turned (turned + 1) new.content (λ i low high. omega (arith, high, there))
+            s)
+            (λ ours. homed_guards shape sized head view old new sound steps made (left turned) (left (turned + 1))
+            (homed_at shape.format turned) wrote.1 there stored.copied (guarded ours))
         flush_held (Head bytes) all is wrote = absurd is
 
         -- after a turn that is not the last the log and its medium hold the same view
-        pub turn_held : (turn : Turn) → turned ≤ turns_home shape.format (length numbers) → IsNextTurn shape head numbers kept turned turn → MayTurn turn old new → IsTurned turn old new
-            → HoldsView (waiting_log (turned + 1) (kept_by turn old kept)) new view
+        pub turn_held : (turn : Turn) → turned ≤ turns_home shape.format (length numbers) → IsNextTurn shape head numbers kept turned turn
+            → MayTurn turn old new → IsTurned turn old new → HoldsView (waiting_log (turned + 1) (kept_by turn old kept)) new view
         turn_held turn more next adds wrote = elim (cases_lt turned (turns_home shape.format (length numbers))) [
           | inl below ↦ home_held turn below (brings turn below next) adds wrote
-          | inr all ↦ let is : turned ≡ turns_home shape.format (length numbers) = omega (arith, all, more) in flush_held turn is (next.flush is) wrote
+          | inr all ↦
+              let is : turned ≡ turns_home shape.format (length numbers) = omega (arith, all, more) in
+              flush_held turn is (next.flush is) wrote
         ]
 
         -- the log after the last turn, with one record less
@@ -281,8 +335,8 @@ module _ (shape : Shape) (sized : IsSized shape) (head : ℕ) (numbers : List �
         retired_log k = value_at shape (head + 1) newer 0 k under_way writing false
 
         -- the head goes past the record
-        head_held : (turn : Turn) → turned ≡ turns_home shape.format (length numbers) + 1 → IsHeadTurn (head + 1) turn → MayTurn turn old new → IsTurned turn old new
-            → HoldsView (retired_log (replicate 512 0)) new (view_retired 1 view)
+        head_held : (turn : Turn) → turned ≡ turns_home shape.format (length numbers) + 1 → IsHeadTurn (head + 1) turn
+            → MayTurn turn old new → IsTurned turn old new → HoldsView (retired_log (replicate 512 0)) new (view_retired 1 view)
         head_held (Load from) last is adds wrote = absurd is
         head_held (Copy from to begin) last is adds wrote = absurd is
         head_held Flush last is adds wrote = absurd is
@@ -293,16 +347,23 @@ module _ (shape : Shape) (sized : IsSized shape) (head : ℕ) (numbers : List �
             let after : ℕ = oldest_at shape.format newer 0 in
             let oldest_is = of_oldest_is shape (head + 1) newer 0 (replicate 512 0) under_way writing false in
             let t_is = turned_of_is shape (head + 1) newer 0 (replicate 512 0) under_way writing false in
-            let second : get_or newer 0 [] ≡ numbers_of (get_or (drop 1 view.records) 0 []) = ap (λ (l : List (List ℕ)). get_or l 0 []) durable ∙ get_or-map f (drop 1 view.records) 0 [] in
-            let long : length (get_or newer 0 []) ≡ length (get_or (drop 1 view.records) 0 []) = count_of (get_or newer 0 []) (get_or (drop 1 view.records) 0 []) second in
-            let there : length (get_or view.records 0 []) ≤ homed_at shape.format turned = all_home shape.format (length (get_or view.records 0 [])) turned (omega (arith, last, home_is)) (omega (arith, so_far, home_is)) in
+            let second : get_or newer 0 [] ≡ numbers_of (get_or (drop 1 view.records) 0 []) =
+            ap (λ (l : List (List ℕ)). get_or l 0 []) durable ∙ get_or-map f (drop 1 view.records) 0 [] in
+            let long : length (get_or newer 0 []) ≡ length (get_or (drop 1 view.records) 0 []) =
+            count_of (get_or newer 0 []) (get_or (drop 1 view.records) 0 []) second in
+            let there : length (get_or view.records 0 []) ≤ homed_at shape.format turned =
+            all_home shape.format (length (get_or view.records 0 [])) turned (omega (arith, last, home_is))
+            (omega (arith, so_far, home_is)) in
             let one : left turned ≡ 1 = omega (arith, last) in
             let fewer : length view.records ≡ length (drop 1 view.records) + 1 = drop-length view.records waits in
             let stores : Stores shape (head + 1) (view_retired 1 view) steps made (turned_at shape.format newer 0) new.content =
-            Stores-turned shape sized (head + 1) (view_retired 1 view) steps made 0 (turned_at shape.format newer 0) new.content (λ i low high. nothing_home shape.format newer i (length (get_or (drop 1 view.records) 0 [])) (sym long) low high)
+            Stores-turned shape sized (head + 1) (view_retired 1 view) steps made 0 (turned_at shape.format newer 0) new.content
+            (λ i low high. nothing_home shape.format newer i (length (get_or (drop 1 view.records) 0 [])) (sym long) low high)
             (head_stores shape sized head view steps made turned old.content new.content bytes wrote.0 waits there stored) in
-            let guards : view.ours ≡ true → Guards shape (head + 1) (view_retired 1 view) steps made (oldest_at shape.format newer 0) new = λ ours.
-            head_guards shape sized head view old new sound steps made slots bytes waits is (oldest_at shape.format newer 0) (not_homed shape.format newer) wrote.0 wrote.1 (subst (λ (r : ℕ). Guards shape head view steps made r old) one (guarded ours)) in
+            let guards : view.ours ≡ true → Guards shape (head + 1) (view_retired 1 view) steps made (oldest_at shape.format newer 0) new =
+            λ ours. head_guards shape sized head view old new sound steps made slots bytes waits is (oldest_at shape.format newer 0)
+            (not_homed shape.format newer) wrote.0 wrote.1
+            (subst (λ (r : ℕ). Guards shape head view steps made r old) one (guarded ours)) in
             record {
               fits = fits;
               durable = durable;
@@ -310,14 +371,19 @@ module _ (shape : Shape) (sized : IsSized shape) (head : ℕ) (numbers : List �
               next = omega (arith, hv.next, many, fewer);
               few = omega (arith, hv.few, fewer);
               sized = hv.sized;
-              kept = λ live. subst (λ (x : ℕ). IsRead shape.format (head + 1) (get_or (drop 1 view.records) 0 []) x (replicate 512 0)) (sym t_is) (next_read shape.format newer (head + 1) (get_or (drop 1 view.records) 0 []) (replicate 512 0) (sym long));
-              leaves = λ ours. guards_leave new.size (retired_log (replicate 512 0)) (view_retired 1 view) new made (oldest_at shape.format newer 0) fits sized (omega (arith, hv.few, fewer)) (λ some. slots_less shape head view waits (slots some)) short (guards ours);
+              kept = λ live. subst (λ (x : ℕ). IsRead shape.format (head + 1) (get_or (drop 1 view.records) 0 []) x (replicate 512 0))
+                  (sym t_is) (next_read shape.format newer (head + 1) (get_or (drop 1 view.records) 0 []) (replicate 512 0) (sym long));
+              leaves = λ ours. guards_leave new.size (retired_log (replicate 512 0)) (view_retired 1 view) new made
+                  (oldest_at shape.format newer 0) fits sized (omega (arith, hv.few, fewer))
+                  (λ some. slots_less shape head view waits (slots some)) short (guards ours);
               stores = λ live. subst (λ (x : ℕ). Stores shape (head + 1) (view_retired 1 view) steps made x new.content) (sym t_is) stores;
-              guards = λ live ours. subst (λ (x : ℕ). Guards shape (head + 1) (view_retired 1 view) steps made x new) (sym oldest_is) (guards ours);
+              guards = λ live ours.
+                  subst (λ (x : ℕ). Guards shape (head + 1) (view_retired 1 view) steps made x new) (sym oldest_is) (guards ours);
             }
 
         -- after the last turn they hold the one without the record
-        pub turn_last : (turn : Turn) → turns_home shape.format (length numbers) < turned → IsNextTurn shape head numbers kept turned turn → MayTurn turn old new → IsTurned turn old new
+        pub turn_last : (turn : Turn) → turns_home shape.format (length numbers) < turned → IsNextTurn shape head numbers kept turned turn
+            → MayTurn turn old new → IsTurned turn old new
             → HoldsView (value_at shape (head + 1) newer 0 (replicate 512 0) under_way writing false) new (view_retired 1 view)
         turn_last turn past next adds wrote =
             let last : turned ≡ turns_home shape.format (length numbers) + 1 = omega (arith, past, so_far) in

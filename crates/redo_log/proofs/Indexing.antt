@@ -1,5 +1,6 @@
 -- What a search finds among entries that are sorted by block, and what is left of them without a slot.
-use Rattle.std.proofs.Common.{◌≡◌, ◌≢◌, ◌⊎◌, inl, inr, ℕ, zero, suc, ◌+◌, ◌<◌, ◌≤◌, List, [], ◌∷◌, length, get_or, if◌then◌else◌, Some, None, Result, Ok, Err, IfOk, IfErr, refl, sym, ◌∙◌, ap, subst, arith}
+use Rattle.std.proofs.Common.{◌≡◌, ◌≢◌, ◌⊎◌, inl, inr, ℕ, zero, suc, ◌+◌, ◌<◌, ◌≤◌, List, [], ◌∷◌, length, get_or, if◌then◌else◌, Some}
+use Rattle.std.proofs.Common.{None, Result, Ok, Err, IfOk, IfErr, refl, sym, ◌∙◌, ap, subst, arith}
 use Rattle.std.specs.Prelude.{◌==◌, Bool, true, false}
 use Rattle.std.specs.List.{filter}
 use Rattle.std.specs.List.Sorted.{IsSearchInRange, IsBinarySearchResult, IsNonDecreasingBy}
@@ -24,12 +25,15 @@ none_in_tail c index block i none j less = none (suc j) (omega arith)
 
 pub look-absent : (index : List Copied) (block : ℕ) → NoneBefore index block (length index) → look index block ≡ None
 look-absent [] block none = refl
-look-absent (c ∷ index) block none = grind (arith, nat_tests, none 0 (omega arith), look-absent index block (none_in_tail c index block _ none))
+look-absent (c ∷ index) block none =
+    grind (arith, nat_tests, none 0 (omega arith), look-absent index block (none_in_tail c index block _ none))
 
-pub look-present : (index : List Copied) (block i : ℕ) → i < length index → block_at index i ≡ block → NoneBefore index block i → look index block ≡ Some ((get_or index i blank).slot, (get_or index i blank).place)
+pub look-present : (index : List Copied) (block i : ℕ) → i < length index → block_at index i ≡ block → NoneBefore index block i
+    → look index block ≡ Some ((get_or index i blank).slot, (get_or index i blank).place)
 look-present [] block i below is none = absurd (omega (arith, below))
 look-present (c ∷ index) block zero below is none = grind (arith, nat_tests, is)
-look-present (c ∷ index) block (suc i) below is none = grind (arith, nat_tests, none 0 (omega arith), look-present index block i (omega arith) is (none_in_tail c index block i none))
+look-present (c ∷ index) block (suc i) below is none =
+    grind (arith, nat_tests, none 0 (omega arith), look-present index block i (omega arith) is (none_in_tail c index block i none))
 
 module _ (index : List Copied) (sorted : IsSorted index) (block : ℕ) where
   -- the comparisons with the block rise along the list, as a binary search asks
@@ -52,7 +56,8 @@ module _ (index : List Copied) (sorted : IsSorted index) (block : ℕ) where
   }
 
 -- the block is found at its place
-pub look_found : (index : List Copied) → IsSorted index → (at block : ℕ) → at < length index → block_at index at ≡ block → look index block ≡ Some ((get_or index at blank).slot, (get_or index at blank).place)
+pub look_found : (index : List Copied) → IsSorted index → (at block : ℕ) → at < length index → block_at index at ≡ block
+    → look index block ≡ Some ((get_or index at blank).slot, (get_or index at blank).place)
 look_found index sorted at block below is = look-present index block at below is (λ j lt same. omega (arith, sorted j at lt below, is))
 
 -- and not where there is a gap
@@ -103,7 +108,9 @@ module _ (slot : ℕ) where
   above_filter least (c ∷ index) above =
       let rest = above_filter least index (λ i below. above (suc i) (omega arith)) in
       elim (decided (is_outside c)) [
-        | inl stays ↦ subst (IsAbove least) (sym (filter_yes c index stays)) (above_cons least c (filter is_outside index) (above zero (omega arith)) rest)
+        | inl stays ↦
+            subst (IsAbove least) (sym (filter_yes c index stays))
+            (above_cons least c (filter is_outside index) (above zero (omega arith)) rest)
         | inr goes ↦ subst (IsAbove least) (sym (filter_no c index goes)) rest
       ]
 
@@ -113,7 +120,9 @@ module _ (slot : ℕ) where
   sorted_filter (c ∷ index) sorted =
       let rest = sorted_filter index (sorted_tail c index sorted) in
       elim (decided (is_outside c)) [
-        | inl stays ↦ subst IsSorted (sym (filter_yes c index stays)) (sorted_cons c (filter is_outside index) (above_filter (c.block + 1) index (above_tail c index sorted)) rest)
+        | inl stays ↦
+            subst IsSorted (sym (filter_yes c index stays))
+            (sorted_cons c (filter is_outside index) (above_filter (c.block + 1) index (above_tail c index sorted)) rest)
         | inr goes ↦ subst IsSorted (sym (filter_no c index goes)) rest
       ]
 
@@ -133,11 +142,13 @@ module _ (slot : ℕ) where
             ap (λ (l : List Copied). look l b) (filter_yes c index stays) ∙ kept there rest (cases_eq c.block b)
       ]
     where
-      dropped : c.slot ≡ slot → look (filter is_outside index) b ≡ outside slot (look index b) → (c.block ≡ b → look (filter is_outside index) b ≡ None) → (c.block ≡ b) ⊎ (c.block ≢ b)
+      dropped : c.slot ≡ slot → look (filter is_outside index) b ≡ outside slot (look index b)
+          → (c.block ≡ b → look (filter is_outside index) b ≡ None) → (c.block ≡ b) ⊎ (c.block ≢ b)
           → look (filter is_outside index) b ≡ outside slot (look (c ∷ index) b)
       dropped here rest gone (inl same) = gone same ∙ grind (arith, nat_tests, same, here)
       dropped here rest gone (inr not) = rest ∙ grind (arith, nat_tests, not)
 
-      kept : c.slot ≢ slot → look (filter is_outside index) b ≡ outside slot (look index b) → (c.block ≡ b) ⊎ (c.block ≢ b) → look (c ∷ filter is_outside index) b ≡ outside slot (look (c ∷ index) b)
+      kept : c.slot ≢ slot → look (filter is_outside index) b ≡ outside slot (look index b) → (c.block ≡ b) ⊎ (c.block ≢ b)
+          → look (c ∷ filter is_outside index) b ≡ outside slot (look (c ∷ index) b)
       kept there rest (inl same) = grind (arith, nat_tests, same, there)
       kept there rest (inr not) = grind (arith, nat_tests, not, rest)

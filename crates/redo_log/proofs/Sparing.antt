@@ -19,4 +19,5 @@ call_spares shape log old new same call within spares = subst (λ (s : Shape). S
 -- a turn writes to the blocks at home or to the head
 pub turn_spares : (shape : Shape) (log : LogValue) (old new : State) → shape ≡ log.shape → (turn : Turn) → IsInside (sectors_of shape) turn
     → ((first : ℕ) → IsInside first turn → SparesFrom first old new) → SparesFrom (sectors_of log.shape) old new
-turn_spares shape log old new same turn inside spares = subst (λ (s : Shape). SparesFrom (sectors_of s) old new) same (spares (sectors_of shape) inside)
+turn_spares shape log old new same turn inside spares =
+    subst (λ (s : Shape). SparesFrom (sectors_of s) old new) same (spares (sectors_of shape) inside)

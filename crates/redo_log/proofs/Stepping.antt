@@ -1,5 +1,6 @@
 -- Each step of the record under way: what the log and its medium hold after it.
-use Rattle.std.proofs.Common.{◌≡◌, ◌⊎◌, inl, inr, ⊎_elim, ℕ, ◌+◌, ◌*◌, ◌-◌, ◌<◌, ◌≤◌, List, [], ◌∷◌, ◌++◌, length, get_or, refl, sym, ◌∙◌, ap, subst, arith, length-append}
+use Rattle.std.proofs.Common.{◌≡◌, ◌⊎◌, inl, inr, ⊎_elim, ℕ, ◌+◌, ◌*◌, ◌-◌, ◌<◌, ◌≤◌, List, [], ◌∷◌, ◌++◌, length, get_or, refl, sym, ◌∙◌}
+use Rattle.std.proofs.Common.{ap, subst, arith, length-append}
 use Rattle.std.specs.Prelude.{Bool, map, true, false, Option, Some, None}
 use Rattle.std.proofs.lemmas.Bool.{cases_eq, cases_lt}
 use Rattle.std.proofs.lemmas.List.{length-map, map-append}
@@ -20,7 +21,8 @@ use Rattle.redo_log.specs.declared.call.Call.TheVariants.{Write, Flush}
 use Rattle.redo_log.specs.Value.{LogValue, steps_for, turns_home, of_oldest}
 use Rattle.redo_log.specs.Stages.{value_at, oldest_at, written_at, flush_of, IsRecord, IsOldest, IsRead, IsSized}
 use Rattle.redo_log.specs.Calls.{MayAdd, IsDone, IsNextCall, IsFlush, IsFlushDue, IsWriteOf}
-use Rattle.redo_log.specs.Held.{View, with_record, image_view, oldest_of, written_of, made_of, turned_of, MayLeave, Stores, Guards, HoldsView}
+use Rattle.redo_log.specs.Held.{View, with_record, image_view, oldest_of, written_of, made_of, turned_of, MayLeave, Stores, Guards}
+use Rattle.redo_log.specs.Held.{HoldsView}
 use Rattle.redo_log.proofs.Counting.{steps_are, due_or_not, last_call, not_last, one_left, early_written, part_written}
 use Rattle.redo_log.proofs.Keeping.{Logged-records}
 use Rattle.redo_log.proofs.Batching.{count_of, record_entries, record_batch}
@@ -29,7 +31,8 @@ use Rattle.redo_log.proofs.Guarding.{IsEither, safe_either, other_each, last_eac
 use Rattle.redo_log.proofs.Turning.{none_read}
 
 -- what guards a log says what a cut may leave
-pub guards_leave : (size : ℕ) (log : LogValue) (view : View) (m : State) (made retire : ℕ) → sectors_of log.shape ≤ size → IsSized log.shape → length view.records ≤ log.shape.slots
+pub guards_leave : (size : ℕ) (log : LogValue) (view : View) (m : State) (made retire : ℕ) → sectors_of log.shape ≤ size → IsSized log.shape
+    → length view.records ≤ log.shape.slots
     → (0 < log.steps_left → HasSlots (layout_of log.shape.format) (image_view log.shape log.head view))
     → ((layout_of log.shape.format).parts (length view.under_way) ≤ written_of log.shape view made → log.steps_left ≤ 2)
     → Guards log.shape log.head view log.steps_left made retire m → EachCut (MayLeave size log view) m
@@ -39,43 +42,49 @@ guards_leave size log view m made retire fits sized few slots short g image cut 
     (safe_either log.shape sized log.head view log.steps_left made image slots few (g.each image cut))
 
 -- the durable records have these block numbers, and the one that was under way too
-durable_numbers : (records : List (List Entry)) (entries : List Entry) (waiting : List (List ℕ)) (numbers : List ℕ) → waiting ≡ map (λ r. numbers_of r) records → numbers ≡ numbers_of entries
+durable_numbers : (records : List (List Entry)) (entries : List Entry) (waiting : List (List ℕ)) (numbers : List ℕ)
+    → waiting ≡ map (λ r. numbers_of r) records → numbers ≡ numbers_of entries
     → waiting ++ numbers ∷ [] ≡ map (λ r. numbers_of r) (records ++ entries ∷ [])
 durable_numbers records entries waiting numbers is one =
     let f : List Entry → List ℕ = λ r. numbers_of r in
-    ap (λ (l : List (List ℕ)). l ++ numbers ∷ []) is ∙ ap (λ (l : List ℕ). map f records ++ l ∷ []) one ∙ sym (map-append f records (entries ∷ []))
+    ap (λ (l : List (List ℕ)). l ++ numbers ∷ []) is
+    ∙ ap (λ (l : List ℕ). map f records ++ l ∷ []) one
+    ∙ sym (map-append f records (entries ∷ []))
 
 -- how many turns of the oldest record are made
 abbrev pub turned_at : LogFormat → List (List ℕ) → ℕ → ℕ
 turned_at format waiting turned = turns_home format (length (get_or waiting 0 [])) + 2 - oldest_at format waiting turned
 
 -- what the oldest record still needs is what the log says of it
-pub of_oldest_is : (shape : Shape) (head : ℕ) (waiting : List (List ℕ)) (turned : ℕ) (kept numbers : List ℕ) (writing : Option ℕ) (dead : Bool)
-    → of_oldest (value_at shape head waiting turned kept numbers writing dead) ≡ oldest_at shape.format waiting turned
+pub of_oldest_is : (shape : Shape) (head : ℕ) (waiting : List (List ℕ)) (turned : ℕ) (kept numbers : List ℕ) (writing : Option ℕ)
+    (dead : Bool) → of_oldest (value_at shape head waiting turned kept numbers writing dead) ≡ oldest_at shape.format waiting turned
 of_oldest_is shape head waiting turned kept numbers writing dead = omega arith
 
-pub turned_of_is : (shape : Shape) (head : ℕ) (waiting : List (List ℕ)) (turned : ℕ) (kept numbers : List ℕ) (writing : Option ℕ) (dead : Bool)
-    → turned_of (value_at shape head waiting turned kept numbers writing dead) ≡ turned_at shape.format waiting turned
+pub turned_of_is : (shape : Shape) (head : ℕ) (waiting : List (List ℕ)) (turned : ℕ) (kept numbers : List ℕ) (writing : Option ℕ)
+    (dead : Bool) → turned_of (value_at shape head waiting turned kept numbers writing dead) ≡ turned_at shape.format waiting turned
 turned_of_is shape head waiting turned kept numbers writing dead =
-    ap (λ (left : ℕ). turns_home shape.format (length (get_or waiting 0 [])) + 2 - left) (of_oldest_is shape head waiting turned kept numbers writing dead)
+    ap (λ (left : ℕ). turns_home shape.format (length (get_or waiting 0 [])) + 2 - left)
+    (of_oldest_is shape head waiting turned kept numbers writing dead)
 
-pub made_of_is : (shape : Shape) (head : ℕ) (waiting : List (List ℕ)) (turned : ℕ) (kept numbers : List ℕ) (made : ℕ) (dead : Bool) → made < steps_for shape.format (length numbers)
-    → made_of (value_at shape head waiting turned kept numbers (Some made) dead) ≡ made
+pub made_of_is : (shape : Shape) (head : ℕ) (waiting : List (List ℕ)) (turned : ℕ) (kept numbers : List ℕ) (made : ℕ) (dead : Bool)
+    → made < steps_for shape.format (length numbers) → made_of (value_at shape head waiting turned kept numbers (Some made) dead) ≡ made
 made_of_is shape head waiting turned kept numbers made dead below = omega (arith, below)
 
 -- with one more the oldest stays the oldest
 oldest_more : (format : LogFormat) (waiting : List (List ℕ)) (turned : ℕ) (numbers : List ℕ) → 0 < length waiting
-    → (oldest_at format (waiting ++ numbers ∷ []) turned ≡ oldest_at format waiting turned) × (turned_at format (waiting ++ numbers ∷ []) turned ≡ turned_at format waiting turned)
+    → (oldest_at format (waiting ++ numbers ∷ []) turned ≡ oldest_at format waiting turned)
+    × (turned_at format (waiting ++ numbers ∷ []) turned ≡ turned_at format waiting turned)
 oldest_more format [] turned numbers some = absurd (omega arith)
 oldest_more format (n ∷ waiting) turned numbers some = (refl, refl)
 
-oldest_alone : (format : LogFormat) (waiting : List (List ℕ)) (turned : ℕ) (numbers : List ℕ) → IsOldest format waiting turned → length waiting ≡ 0
-    → (1 < oldest_at format (waiting ++ numbers ∷ []) turned) × (turned_at format (waiting ++ numbers ∷ []) turned ≡ 0)
+oldest_alone : (format : LogFormat) (waiting : List (List ℕ)) (turned : ℕ) (numbers : List ℕ) → IsOldest format waiting turned
+    → length waiting ≡ 0 → (1 < oldest_at format (waiting ++ numbers ∷ []) turned) × (turned_at format (waiting ++ numbers ∷ []) turned ≡ 0)
 oldest_alone format [] turned numbers is none = (omega (arith, is), omega (arith, is))
 oldest_alone format (n ∷ waiting) turned numbers is none = absurd (omega arith)
 
-module _ (shape : Shape) (sized : IsSized shape) (head : ℕ) (waiting : List (List ℕ)) (turned : ℕ) (kept numbers bytes : List ℕ) (view : View) (rec : IsRecord shape (head + length waiting) numbers)
-    (room : length waiting < shape.slots) (size : length bytes ≡ 512 * length numbers) where
+module _ (shape : Shape) (sized : IsSized shape) (head : ℕ) (waiting : List (List ℕ)) (turned : ℕ) (kept numbers bytes : List ℕ)
+    (view : View) (rec : IsRecord shape (head + length waiting) numbers) (room : length waiting < shape.slots)
+    (size : length bytes ≡ 512 * length numbers) where
   abbrev L : Layout
   L = layout_of shape.format
 
@@ -106,7 +115,8 @@ module _ (shape : Shape) (sized : IsSized shape) (head : ℕ) (waiting : List (L
   abbrev steps : ℕ → ℕ
   steps made = steps_for shape.format (length numbers) - made
 
-  module _ (old : State) (made : ℕ) (below : made < steps_for shape.format (length numbers)) (hv : HoldsView (writing_log made) old view) where
+  module _ (old : State) (made : ℕ) (below : made < steps_for shape.format (length numbers))
+      (hv : HoldsView (writing_log made) old view) where
     many : length waiting ≡ length view.records
     many = let f : List Entry → List ℕ = λ r. numbers_of r in ap (λ (l : List (List ℕ)). length l) hv.durable ∙ length-map view.records f
 
@@ -134,80 +144,110 @@ module _ (shape : Shape) (sized : IsSized shape) (head : ℕ) (waiting : List (L
     other_count = length_of_batch numbers bytes ∙ count
 
     -- the steps are those of the layout
-    all_steps : steps_for shape.format (length numbers) ≡ (layout_of shape.format).parts (length view.under_way) + 1 + flush_of ((layout_of shape.format).early (length view.under_way))
+    all_steps : steps_for shape.format (length numbers)
+        ≡ (layout_of shape.format).parts (length view.under_way) + 1 + flush_of ((layout_of shape.format).early (length view.under_way))
     all_steps = ap (λ (k : ℕ). steps_for shape.format k) count ∙ steps_are shape.format (length view.under_way)
 
     late : (layout_of shape.format).early (length view.under_way) < (layout_of shape.format).parts (length view.under_way)
     late = laws.last_is_late (length view.under_way)
 
     stored : Stores shape head view (steps made) made done old.content
-    stored = subst (λ (t : ℕ). Stores shape head view (steps made) made t old.content) (turned_of_is shape head waiting turned kept numbers (Some made) false)
-        (subst (λ (k : ℕ). Stores shape head view (steps made) k (turned_of (writing_log made)) old.content) (made_of_is shape head waiting turned kept numbers made false below) (hv.stores refl))
+    stored =
+        subst (λ (t : ℕ). Stores shape head view (steps made) made t old.content)
+        (turned_of_is shape head waiting turned kept numbers (Some made) false)
+        (subst (λ (k : ℕ). Stores shape head view (steps made) k (turned_of (writing_log made)) old.content)
+        (made_of_is shape head waiting turned kept numbers made false below) (hv.stores refl))
 
     guarded : view.ours ≡ true → Guards shape head view (steps made) made left old
-    guarded ours = subst (λ (r : ℕ). Guards shape head view (steps made) made r old) (of_oldest_is shape head waiting turned kept numbers (Some made) false)
-        (subst (λ (k : ℕ). Guards shape head view (steps made) k (of_oldest (writing_log made)) old) (made_of_is shape head waiting turned kept numbers made false below) (hv.guards refl ours))
+    guarded ours =
+        subst (λ (r : ℕ). Guards shape head view (steps made) made r old)
+        (of_oldest_is shape head waiting turned kept numbers (Some made) false)
+        (subst (λ (k : ℕ). Guards shape head view (steps made) k (of_oldest (writing_log made)) old)
+        (made_of_is shape head waiting turned kept numbers made false below) (hv.guards refl ours))
 
     read : IsRead shape.format head (oldest_of view) done kept
-    read = subst (λ (t : ℕ). IsRead shape.format head (oldest_of view) t kept) (turned_of_is shape head waiting turned kept numbers (Some made) false) (hv.kept refl)
+    read =
+        subst (λ (t : ℕ). IsRead shape.format head (oldest_of view) t kept)
+        (turned_of_is shape head waiting turned kept numbers (Some made) false) (hv.kept refl)
 
     -- the next call, by the count of the record under way
     next_is : (call : Call) → IsNextCall (layout_of shape.format) shape (head + length waiting) (entries_of numbers bytes) made call
         → (IsFlushDue (layout_of shape.format) (length view.under_way) made → IsFlush call)
         × (¬ IsFlushDue (layout_of shape.format) (length view.under_way) made
-        → IsWriteOf (part_at (layout_of shape.format) shape (head + length view.records) (length view.under_way) (written_of shape view made)) ((layout_of shape.format).part (head + length view.records) (entries_of numbers bytes) (written_of shape view made)) call)
+        → IsWriteOf
+        (part_at (layout_of shape.format) shape (head + length view.records) (length view.under_way)
+        (written_of shape view made))
+        ((layout_of shape.format).part (head + length view.records) (entries_of numbers bytes) (written_of shape view made))
+        call)
     next_is call next =
-        let P : ℕ → Type 0 = λ (k : ℕ). (IsFlushDue L k made → IsFlush call) × (¬ IsFlushDue L k made → IsWriteOf (part_at L shape stamp k (written_at (L.early k) made)) (L.part stamp other (written_at (L.early k) made)) call) in
+        let P : ℕ → Type 0 = λ (k : ℕ). (IsFlushDue L k made → IsFlush call)
+        × (¬ IsFlushDue L k made
+        → IsWriteOf (part_at L shape stamp k (written_at (L.early k) made)) (L.part stamp other (written_at (L.early k) made))
+        call) in
         subst P other_count (subst (λ (s : ℕ). IsNextCall L shape s other made call) stamp_is next)
 
     -- what a cut leaves of a log with so many steps
-    either_leaves : (image : _) → (all : ℕ) → steps made ≤ all + 1 → (L.parts n ≤ written_of shape view (made + 1) → all ≤ 1) → IsEither shape sized head view (made + 1) image → MayLeave old.size (writing_log made) view image
-    either_leaves image all more short either = ⊎_elim
-        (λ rest. inl (Logged-records old.size shape head view.records view.array image hv.fits rest))
-        (λ both. inr (inl (omega (arith, below), omega (arith, more, short both.0), Logged-records old.size shape head _ _ image hv.fits both.1)))
-        either
+    either_leaves : (image : _) → (all : ℕ) → steps made ≤ all + 1 → (L.parts n ≤ written_of shape view (made + 1) → all ≤ 1)
+        → IsEither shape sized head view (made + 1) image → MayLeave old.size (writing_log made) view image
+    either_leaves image all more short either =
+        ⊎_elim (λ rest. inl (Logged-records old.size shape head view.records view.array image hv.fits rest))
+        (λ both. inr (inl (
+          omega (arith, below),
+          omega (arith, more, short both.0),
+          Logged-records old.size shape head _ _ image hv.fits both.1,
+        ))) either
 
     module _ (new : State) (sound : IsSound old) (same_size : new.size ≡ old.size) where
-      flush_leaves : (call : Call) → IsFlush call → MayAdd call old new → view.ours ≡ true → EachCut (MayLeave old.size (writing_log made) view) new
+      flush_leaves : (call : Call) → IsFlush call → MayAdd call old new → view.ours ≡ true
+          → EachCut (MayLeave old.size (writing_log made) view) new
       flush_leaves (Write place sector) is adds ours = absurd is
       flush_leaves Flush is adds ours = shrunk (MayLeave old.size (writing_log made) view) old new adds (hv.leaves ours)
 
-      write_leaves : (call : Call) → written_of shape view made < L.parts n → ¬ IsFlushDue L n made → IsWriteOf (part_at L shape stamp n (written_of shape view made)) (L.part stamp other (written_of shape view made)) call → MayAdd call old new → view.ours ≡ true
-          → EachCut (MayLeave old.size (writing_log made) view) new
+      write_leaves : (call : Call) → written_of shape view made < L.parts n → ¬ IsFlushDue L n made
+          → IsWriteOf (part_at L shape stamp n (written_of shape view made)) (L.part stamp other (written_of shape view made)) call
+          → MayAdd call old new → view.ours ≡ true → EachCut (MayLeave old.size (writing_log made) view) new
       write_leaves Flush small not is adds ours image cut = absurd is
       write_leaves (Write place sector) small not is adds ours image cut = elim (cases_lt (written_of shape view made + 1) (L.parts n)) [
-        | inl early ↦ inl (Logged-records old.size shape head view.records view.array image hv.fits
-            (other_each shape sized head view old new sound slots (steps made) made (written_of shape view made) (omega (arith, below)) refl small place sector adds is.0
-            other other_is other_count is.1 early (guarded ours).each image cut))
+        | inl early ↦
+            inl (Logged-records old.size shape head view.records view.array image hv.fits
+            (other_each shape sized head view old new sound slots (steps made) made (written_of shape view made) (omega (arith, below))
+            refl small place sector adds is.0 other other_is other_count is.1 early (guarded ours).each image cut))
         | inr last ↦
-            let mine : sector ≡ L.part stamp view.under_way (written_of shape view made) = is.1 ∙ last_same (written_of shape view made) small last in
+            let mine : sector ≡ L.part stamp view.under_way (written_of shape view made) =
+            is.1 ∙ last_same (written_of shape view made) small last in
             let after = part_written (L.early n) (L.parts n) late made (λ early. not (inl early)) in
-            either_leaves image (steps (made + 1)) (omega arith) (λ all. omega (arith, one_left (L.early n) (L.parts n) late (made + 1) all, all_steps))
-            (last_each shape sized head view old new sound slots (steps made) made (written_of shape view made) (omega (arith, below)) refl small place sector adds is.0
-            mine after.0 after.1 (guarded ours).each image cut)
+            either_leaves image (steps (made + 1)) (omega arith)
+            (λ all. omega (arith, one_left (L.early n) (L.parts n) late (made + 1) all, all_steps))
+            (last_each shape sized head view old new sound slots (steps made) made (written_of shape view made) (omega (arith, below))
+            refl small place sector adds is.0 mine after.0 after.1 (guarded ours).each image cut)
       ]
         where
           last_same : (k : ℕ) → k < L.parts n → L.parts n ≤ k + 1 → L.part stamp other k ≡ L.part stamp view.under_way k
           last_same k low high =
               let k_is : k ≡ L.parts n - 1 = omega (arith, low, high) in
               let k_other : k ≡ L.parts (length other) - 1 = k_is ∙ ap (λ (m : ℕ). L.parts m - 1) (sym other_count) in
-              ap (λ (p : ℕ). L.part stamp other p) k_other ∙ (laws.last_part stamp other view.under_way other_count ∙ ap (λ (p : ℕ). L.part stamp view.under_way p) (sym k_is))
+              ap (λ (p : ℕ). L.part stamp other p) k_other
+              ∙ (laws.last_part stamp other view.under_way other_count ∙ ap (λ (p : ℕ). L.part stamp view.under_way p) (sym k_is))
 
       -- after the next call a cut leaves what it might leave before, and with the last part the record
-      pub step_leaves : (call : Call) → IsNextCall (layout_of shape.format) shape (head + length waiting) (entries_of numbers bytes) made call → MayAdd call old new → view.ours ≡ true
-          → EachCut (MayLeave old.size (writing_log made) view) new
+      pub step_leaves : (call : Call)
+          → IsNextCall (layout_of shape.format) shape (head + length waiting) (entries_of numbers bytes) made call → MayAdd call old new
+          → view.ours ≡ true → EachCut (MayLeave old.size (writing_log made) view) new
       step_leaves call next adds ours = elim (due_or_not L n made) [
         | inl due ↦ flush_leaves call ((next_is call next).0 due) adds ours
-        | inr not ↦ write_leaves call (some_left not (cases_lt (written_of shape view made) (L.parts n))) not ((next_is call next).1 not) adds ours
+        | inr not ↦
+            write_leaves call (some_left not (cases_lt (written_of shape view made) (L.parts n))) not ((next_is call next).1 not) adds ours
       ]
         where
-          some_left : ¬ IsFlushDue L n made → (written_of shape view made < L.parts n) ⊎ (L.parts n ≤ written_of shape view made) → written_of shape view made < L.parts n
+          some_left : ¬ IsFlushDue L n made → (written_of shape view made < L.parts n) ⊎ (L.parts n ≤ written_of shape view made)
+              → written_of shape view made < L.parts n
           some_left not (inl less) = less
           some_left not (inr all) = absurd (not (inr all))
 
       module _ (named : view.under_way ≡ entries_of numbers bytes) where
         -- a record that is still under way
-        held : (more : made + 1 < steps_for shape.format (length numbers)) → Stores shape head view (steps (made + 1)) (made + 1) done new.content
+        held : (more : made + 1 < steps_for shape.format (length numbers))
+            → Stores shape head view (steps (made + 1)) (made + 1) done new.content
             → (view.ours ≡ true → Guards shape head view (steps (made + 1)) (made + 1) left new)
             → HoldsView (writing_log (made + 1)) new view
         held more s g =
@@ -215,9 +255,11 @@ module _ (shape : Shape) (sized : IsSized shape) (head : ℕ) (waiting : List (L
             let turned_is = turned_of_is shape head waiting turned kept numbers (Some (made + 1)) false in
             let made_is = made_of_is shape head waiting turned kept numbers (made + 1) false more in
             let fits : sectors_of shape ≤ new.size = omega (arith, same_size, hv.fits) in
-            let guards : view.ours ≡ true → Guards shape head view (steps (made + 1)) (made_of (writing_log (made + 1))) (of_oldest (writing_log (made + 1))) new = λ ours.
-            subst (λ (r : ℕ). Guards shape head view (steps (made + 1)) (made_of (writing_log (made + 1))) r new) (sym oldest_is)
-            (subst (λ (k : ℕ). Guards shape head view (steps (made + 1)) k left new) (sym made_is) (g ours)) in
+            let guards : view.ours ≡ true
+            → Guards shape head view (steps (made + 1)) (made_of (writing_log (made + 1))) (of_oldest (writing_log (made + 1)))
+            new =
+            λ ours. subst (λ (r : ℕ). Guards shape head view (steps (made + 1)) (made_of (writing_log (made + 1))) r new)
+            (sym oldest_is) (subst (λ (k : ℕ). Guards shape head view (steps (made + 1)) k left new) (sym made_is) (g ours)) in
             record {
               fits = fits;
               durable = hv.durable;
@@ -228,36 +270,48 @@ module _ (shape : Shape) (sized : IsSized shape) (head : ℕ) (waiting : List (L
               kept = λ live. subst (λ (t : ℕ). IsRead shape.format head (oldest_of view) t kept) (sym turned_is) read;
               leaves = λ ours. guards_leave new.size (writing_log (made + 1)) view new (made + 1) left fits sized hv.few (λ _. slots)
                   (λ all. omega (arith, one_left (L.early n) (L.parts n) late (made + 1) all, all_steps)) (g ours);
-              stores = λ live. subst (λ (t : ℕ). Stores shape head view (steps (made + 1)) (made_of (writing_log (made + 1))) t new.content) (sym turned_is)
-                  (subst (λ (k : ℕ). Stores shape head view (steps (made + 1)) k done new.content) (sym made_is) s);
+              stores = λ live. subst (λ (t : ℕ). Stores shape head view (steps (made + 1)) (made_of (writing_log (made + 1))) t new.content)
+                  (sym turned_is) (subst (λ (k : ℕ). Stores shape head view (steps (made + 1)) k done new.content) (sym made_is) s);
               guards = λ live ours. guards ours;
             }
 
         -- the early parts are flushed
-        flush_held : (call : Call) → made + 1 < steps_for shape.format (length numbers) → IsFlushDue L n made → IsFlush call → IsDone call old new → HoldsView (writing_log (made + 1)) new view
+        flush_held : (call : Call) → made + 1 < steps_for shape.format (length numbers) → IsFlushDue L n made → IsFlush call
+            → IsDone call old new → HoldsView (writing_log (made + 1)) new view
         flush_held (Write place sector) more due is wrote = absurd is
-        flush_held Flush more (inr all) is wrote = absurd (omega (arith, all, not_last (L.early n) (L.parts n) late made (omega (arith, more, all_steps))))
+        flush_held Flush more (inr all) is wrote =
+            absurd (omega (arith, all, not_last (L.early n) (L.parts n) late made (omega (arith, more, all_steps))))
         flush_held Flush more (inl early) is wrote =
             let after = early_written (L.early n) (L.parts n) late made early.0 early.1 in
-            held more (Stores-stays shape sized head view (steps made) (steps (made + 1)) made (made + 1) done old.content new.content wrote.0 (λ _. omega (arith, below)) (omega (arith, after.0, after.1)) stored)
-            (λ ours. flush_guards shape sized head view old new sound (steps made) (steps (made + 1)) made left done (L.early n) (omega (arith, below)) (omega (arith, more)) after.0 after.1 after.2 slots wrote.1 stored (guarded ours))
+            held more
+            (Stores-stays shape sized head view (steps made) (steps (made + 1)) made (made + 1) done old.content new.content wrote.0
+            (λ _. omega (arith, below)) (omega (arith, after.0, after.1)) stored)
+            (λ ours. flush_guards shape sized head view old new sound (steps made) (steps (made + 1)) made left done (L.early n)
+            (omega (arith, below)) (omega (arith, more)) after.0 after.1 after.2 slots wrote.1 stored (guarded ours))
 
         -- the next part is written
-        part_held : (call : Call) → made + 1 < steps_for shape.format (length numbers) → ¬ IsFlushDue L n made → IsWriteOf (part_at L shape stamp n (written_of shape view made)) (L.part stamp other (written_of shape view made)) call
+        part_held : (call : Call) → made + 1 < steps_for shape.format (length numbers) → ¬ IsFlushDue L n made
+            → IsWriteOf (part_at L shape stamp n (written_of shape view made)) (L.part stamp other (written_of shape view made)) call
             → MayAdd call old new → IsDone call old new → HoldsView (writing_log (made + 1)) new view
         part_held Flush more not is adds wrote = absurd is
         part_held (Write place sector) more not is adds wrote =
-            let small : written_of shape view made < L.parts n = not_last (L.early n) (L.parts n) late made (omega (arith, more, all_steps)) in
-            let mine : sector ≡ L.part stamp view.under_way (written_of shape view made) = is.1 ∙ ap (λ (l : List Entry). L.part stamp l (written_of shape view made)) (sym named) in
+            let small : written_of shape view made < L.parts n =
+            not_last (L.early n) (L.parts n) late made (omega (arith, more, all_steps)) in
+            let mine : sector ≡ L.part stamp view.under_way (written_of shape view made) =
+            is.1 ∙ ap (λ (l : List Entry). L.part stamp l (written_of shape view made)) (sym named) in
             let after = part_written (L.early n) (L.parts n) late made (λ early. not (inl early)) in
-            held more (part_stores shape sized head view (steps made) (steps (made + 1)) made done (written_of shape view made) old.content new.content place sector wrote (omega (arith, many, room)) slots.under_way.fit.few
-            (λ _. omega (arith, below)) refl after.0 small is.0 mine stored)
-            (λ ours. part_guards shape sized head view old new sound slots (steps made) made (written_of shape view made) (omega (arith, below)) refl small place sector adds is.0
-            mine after.0 after.1 (steps (made + 1)) left (omega (arith, more)) (guarded ours))
+            held more
+            (part_stores shape sized head view (steps made) (steps (made + 1)) made done (written_of shape view made) old.content
+            new.content place sector wrote (omega (arith, many, room)) slots.under_way.fit.few (λ _. omega (arith, below)) refl
+            after.0 small is.0 mine stored)
+            (λ ours. part_guards shape sized head view old new sound slots (steps made) made (written_of shape view made)
+            (omega (arith, below)) refl small place sector adds is.0 mine after.0 after.1 (steps (made + 1)) left
+            (omega (arith, more)) (guarded ours))
 
         -- after a call that is not the last the log and its medium hold the same view
-        pub step_held : (call : Call) → made + 1 < steps_for shape.format (length numbers) → IsNextCall (layout_of shape.format) shape (head + length waiting) (entries_of numbers bytes) made call
-            → MayAdd call old new → IsDone call old new → HoldsView (writing_log (made + 1)) new view
+        pub step_held : (call : Call) → made + 1 < steps_for shape.format (length numbers)
+            → IsNextCall (layout_of shape.format) shape (head + length waiting) (entries_of numbers bytes) made call → MayAdd call old new
+            → IsDone call old new → HoldsView (writing_log (made + 1)) new view
         step_held call more next adds wrote = elim (due_or_not L n made) [
           | inl due ↦ flush_held call more due ((next_is call next).0 due) wrote
           | inr not ↦ part_held call more not ((next_is call next).1 not) adds wrote
@@ -268,7 +322,8 @@ module _ (shape : Shape) (sized : IsSized shape) (head : ℕ) (waiting : List (L
       durable_log = value_at shape head (waiting ++ numbers ∷ []) turned kept [] None false
 
       -- all is flushed
-      durable_held : (call : Call) → L.parts n ≤ written_of shape view made → IsOldest shape.format waiting turned → IsFlush call → IsDone call old new → HoldsView durable_log new (with_record view)
+      durable_held : (call : Call) → L.parts n ≤ written_of shape view made → IsOldest shape.format waiting turned → IsFlush call
+          → IsDone call old new → HoldsView durable_log new (with_record view)
       durable_held (Write place sector) all oldest is wrote = absurd is
       durable_held Flush all oldest is wrote =
           let after : ℕ = oldest_at shape.format (waiting ++ numbers ∷ []) turned in
@@ -276,20 +331,34 @@ module _ (shape : Shape) (sized : IsSized shape) (head : ℕ) (waiting : List (L
           let oldest_is = of_oldest_is shape head (waiting ++ numbers ∷ []) turned kept [] None false in
           let turned_is = turned_of_is shape head (waiting ++ numbers ∷ []) turned kept [] None false in
           let fits : sectors_of shape ≤ new.size = omega (arith, same_size, hv.fits) in
-          let longer : length (view.records ++ view.under_way ∷ []) ≡ length view.records + 1 = length-append view.records (view.under_way ∷ []) in
-          let alone : length view.records ≡ 0 → (1 < oldest_at shape.format (waiting ++ numbers ∷ []) turned) × (turned_at shape.format (waiting ++ numbers ∷ []) turned ≡ 0) = λ none. oldest_alone shape.format waiting turned numbers oldest (omega (arith, none, many)) in
-          let waits : 0 < length view.records → (oldest_at shape.format (waiting ++ numbers ∷ []) turned ≡ left) × (turned_at shape.format (waiting ++ numbers ∷ []) turned ≡ done) = λ some. oldest_more shape.format waiting turned numbers (omega (arith, some, many)) in
+          let longer : length (view.records ++ view.under_way ∷ []) ≡ length view.records + 1 =
+          length-append view.records (view.under_way ∷ []) in
+          let alone : length view.records ≡ 0
+          → (1 < oldest_at shape.format (waiting ++ numbers ∷ []) turned)
+          × (turned_at shape.format (waiting ++ numbers ∷ []) turned ≡ 0) =
+          λ none. oldest_alone shape.format waiting turned numbers oldest (omega (arith, none, many)) in
+          let waits : 0 < length view.records
+          → (oldest_at shape.format (waiting ++ numbers ∷ []) turned ≡ left)
+          × (turned_at shape.format (waiting ++ numbers ∷ []) turned ≡ done) =
+          λ some. oldest_more shape.format waiting turned numbers (omega (arith, some, many)) in
           let made_then : ℕ = made_of durable_log in
-          let stores : Stores shape head (with_record view) 0 made_then (turned_at shape.format (waiting ++ numbers ∷ []) turned) new.content =
-          Stores-rest (durable_stores shape sized head view (steps made) made done (turned_at shape.format (waiting ++ numbers ∷ []) turned) new.content (omega (arith, below)) slots.under_way all
+          let stores : Stores shape head (with_record view) 0 made_then (turned_at shape.format (waiting ++ numbers ∷ []) turned)
+          new.content =
+          Stores-rest (durable_stores shape sized head view (steps made) made done
+          (turned_at shape.format (waiting ++ numbers ∷ []) turned) new.content (omega (arith, below)) slots.under_way all
           (λ none. (alone none).1) (λ some. (waits some).1)
-          (Stores-stays shape sized head view (steps made) (steps made) made made done old.content new.content wrote.0 (λ some. some) (omega arith) stored)) in
-          let one_less : oldest_at shape.format (waiting ++ numbers ∷ []) turned ≡ 1 → (0 < length view.records) × (left ≡ 1) = λ one. elim (cases_eq (length view.records) 0) [
+          (Stores-stays shape sized head view (steps made) (steps made) made made done old.content new.content wrote.0
+          (λ some. some) (omega arith) stored)) in
+          let one_less : oldest_at shape.format (waiting ++ numbers ∷ []) turned ≡ 1 → (0 < length view.records) × (left ≡ 1) =
+          λ one. elim (cases_eq (length view.records) 0) [
             | inl none ↦ absurd (omega (arith, one, (alone none).0))
             | inr some ↦ let w : 0 < length view.records = omega (arith, some) in (w, sym (waits w).0 ∙ one)
           ] in
-          let guards : view.ours ≡ true → Guards shape head (with_record view) 0 made_then (oldest_at shape.format (waiting ++ numbers ∷ []) turned) new = λ ours.
-          durable_guards shape sized head view old new sound (steps made) made made_then done left (oldest_at shape.format (waiting ++ numbers ∷ []) turned) (omega (arith, below)) all one_less slots wrote.1 stored (guarded ours) in
+          let guards : view.ours ≡ true
+          → Guards shape head (with_record view) 0 made_then (oldest_at shape.format (waiting ++ numbers ∷ []) turned) new =
+          λ ours. durable_guards shape sized head view old new sound (steps made) made made_then done left
+          (oldest_at shape.format (waiting ++ numbers ∷ []) turned) (omega (arith, below)) all one_less slots wrote.1 stored
+          (guarded ours) in
           record {
             fits = fits;
             durable = durable_numbers view.records view.under_way waiting numbers hv.durable hv.under_way;
@@ -297,25 +366,33 @@ module _ (shape : Shape) (sized : IsSized shape) (head : ℕ) (waiting : List (L
             next = omega (arith, many, length-append waiting (numbers ∷ []), longer);
             few = omega (arith, many, room, longer);
             sized = λ j d none. absurd (omega (arith, none));
-            kept = λ live. subst (λ (t : ℕ). IsRead shape.format head (oldest_of (with_record view)) t kept) (sym turned_is) (elim (cases_eq (length view.records) 0) [
-              | inl none ↦ subst (λ (t : ℕ). IsRead shape.format head (oldest_of (with_record view)) t kept) (sym (alone none).1) (none_read shape.format head _ kept)
-              | inr some ↦
-                  let w : 0 < length view.records = omega (arith, some) in
-                  subst (λ (t : ℕ). IsRead shape.format head (oldest_of (with_record view)) t kept) (sym (waits w).1)
-                  (subst (λ (r : List Entry). IsRead shape.format head r done kept) (sym (oldest-append view.records view.under_way w)) read)
-            ]);
-            leaves = λ ours. guards_leave new.size durable_log (with_record view) new made_then (oldest_at shape.format (waiting ++ numbers ∷ []) turned) fits sized (omega (arith, many, room, longer)) (λ some. absurd (omega (arith, some)))
-                (λ _. omega arith) (guards ours);
+            kept = λ live. subst (λ (t : ℕ). IsRead shape.format head (oldest_of (with_record view)) t kept) (sym turned_is)
+                (elim (cases_eq (length view.records) 0) [
+                  | inl none ↦
+                      subst (λ (t : ℕ). IsRead shape.format head (oldest_of (with_record view)) t kept) (sym (alone none).1)
+                      (none_read shape.format head _ kept)
+                  | inr some ↦
+                      let w : 0 < length view.records = omega (arith, some) in
+                      subst (λ (t : ℕ). IsRead shape.format head (oldest_of (with_record view)) t kept) (sym (waits w).1)
+                      (subst (λ (r : List Entry). IsRead shape.format head r done kept)
+                      (sym (oldest-append view.records view.under_way w)) read)
+                ]);
+            leaves = λ ours. guards_leave new.size durable_log (with_record view) new made_then
+                (oldest_at shape.format (waiting ++ numbers ∷ []) turned) fits sized (omega (arith, many, room, longer))
+                (λ some. absurd (omega (arith, some))) (λ _. omega arith) (guards ours);
             stores = λ live. subst (λ (t : ℕ). Stores shape head (with_record view) 0 made_then t new.content) (sym turned_is) stores;
             guards = λ live ours. subst (λ (r : ℕ). Guards shape head (with_record view) 0 made_then r new) (sym oldest_is) (guards ours);
           }
         where
-          Stores-rest : {made_then turns : ℕ} → Stores shape head (with_record view) 0 0 turns new.content → Stores shape head (with_record view) 0 made_then turns new.content
+          Stores-rest : {made_then turns : ℕ} → Stores shape head (with_record view) 0 0 turns new.content
+              → Stores shape head (with_record view) 0 made_then turns new.content
           Stores-rest s = record { laid = s.laid; written = λ none. absurd (omega (arith, none)); copied = s.copied }
 
       -- after the last call they hold the one with the record
-      pub step_last : (call : Call) → steps_for shape.format (length numbers) ≤ made + 1 → IsOldest shape.format waiting turned → IsNextCall (layout_of shape.format) shape (head + length waiting) (entries_of numbers bytes) made call
-          → IsDone call old new → HoldsView (value_at shape head (waiting ++ numbers ∷ []) turned kept [] None false) new (with_record view)
+      pub step_last : (call : Call) → steps_for shape.format (length numbers) ≤ made + 1 → IsOldest shape.format waiting turned
+          → IsNextCall (layout_of shape.format) shape (head + length waiting) (entries_of numbers bytes) made call → IsDone call old new
+          → HoldsView (value_at shape head (waiting ++ numbers ∷ []) turned kept [] None false) new (with_record view)
       step_last call last oldest next wrote =
-          let all : L.parts n ≤ written_of shape view made = last_call (L.early n) (L.parts n) late made (omega (arith, below, all_steps)) (omega (arith, last, all_steps)) in
+          let all : L.parts n ≤ written_of shape view made =
+          last_call (L.early n) (L.parts n) late made (omega (arith, below, all_steps)) (omega (arith, last, all_steps)) in
           durable_held call all oldest ((next_is call next).0 (inr all)) wrote

@@ -1,5 +1,6 @@
 -- What a medium stores of a log, after each call of a record's life.
-use Rattle.std.proofs.Common.{◌≡◌, inl, inr, ℕ, ◌+◌, ◌*◌, ◌%◌, ◌<◌, ◌≤◌, List, [], ◌∷◌, ◌++◌, length, get_or, drop, refl, sym, ◌∙◌, ap, subst, arith}
+use Rattle.std.proofs.Common.{◌≡◌, inl, inr, ℕ, ◌+◌, ◌*◌, ◌%◌, ◌<◌, ◌≤◌, List, [], ◌∷◌, ◌++◌, length, get_or, drop, refl, sym, ◌∙◌, ap}
+use Rattle.std.proofs.Common.{subst, arith}
 use Rattle.std.proofs.lemmas.Bool.{cases_eq}
 use Rattle.medium.specs.Medium.{Image, Stays, Holds}
 use Rattle.log_layout.specs.Places.{Shape, first_home}
@@ -17,7 +18,8 @@ use Rattle.redo_log.proofs.Counting.{none_home}
 use Rattle.redo_log.proofs.Laying.{before_home, AreHome-log, Laid-slot, Laid-home, AreHome-write, Laid-oldest, Laid-stays, Laid-more}
 
 -- the oldest record stays the oldest where there is one
-pub oldest-append : (records : List (List Entry)) (entries : List Entry) → 0 < length records → get_or (records ++ entries ∷ []) 0 [] ≡ get_or records 0 []
+pub oldest-append : (records : List (List Entry)) (entries : List Entry) → 0 < length records
+    → get_or (records ++ entries ∷ []) 0 [] ≡ get_or records 0 []
 oldest-append [] entries some = absurd (omega arith)
 oldest-append (r ∷ records) entries some = refl
 
@@ -42,8 +44,9 @@ module _ (shape : Shape) (sized : IsSized shape) (head : ℕ) (view : View) wher
   at p = 2 + L.slot_sectors * (stamp % shape.slots) + L.offset n p
 
   -- the same content, where no more of the record under way is written
-  pub Stores-stays : (steps less made next turned : ℕ) (old new : Image) → Stays old new → (0 < less → 0 < steps) → written_of shape view next ≤ written_of shape view made
-      → Stores shape head view steps made turned old → Stores shape head view less next turned new
+  pub Stores-stays : (steps less made next turned : ℕ) (old new : Image) → Stays old new → (0 < less → 0 < steps)
+      → written_of shape view next ≤ written_of shape view made → Stores shape head view steps made turned old
+      → Stores shape head view less next turned new
   Stores-stays steps less made next turned old new stays some no_more s = record {
     laid = Laid-stays shape sized old new stays head view.records view.array s.laid;
     written = λ left p low small. stays _ ∙ s.written (some left) p (omega (arith, low, no_more)) small;
@@ -51,7 +54,8 @@ module _ (shape : Shape) (sized : IsSized shape) (head : ℕ) (view : View) wher
   }
 
   -- no more of the oldest record is home
-  pub Stores-turned : (steps made turned next : ℕ) (content : Image) → ((i : ℕ) → i < homed_at shape.format next → i < length (get_or view.records 0 []) → i < homed_at shape.format turned)
+  pub Stores-turned : (steps made turned next : ℕ) (content : Image)
+      → ((i : ℕ) → i < homed_at shape.format next → i < length (get_or view.records 0 []) → i < homed_at shape.format turned)
       → Stores shape head view steps made turned content → Stores shape head view steps made next content
   Stores-turned steps made turned next content no_more s = record {
     laid = s.laid;
@@ -60,11 +64,15 @@ module _ (shape : Shape) (sized : IsSized shape) (head : ℕ) (view : View) wher
   }
 
   -- the next part is written
-  pub part_stores : (steps less made turned k : ℕ) (old new : Image) (place : ℕ) (bytes : List ℕ) → Holds place bytes old new → length view.records < shape.slots → length view.under_way ≤ (layout_of shape.format).most
-      → (0 < less → 0 < steps) → k ≡ written_of shape view made → written_of shape view (made + 1) ≡ k + 1 → k < (layout_of shape.format).parts (length view.under_way)
-      → place ≡ 2 + (layout_of shape.format).slot_sectors * ((head + length view.records) % shape.slots) + (layout_of shape.format).offset (length view.under_way) k
-      → bytes ≡ (layout_of shape.format).part (head + length view.records) view.under_way k
-      → Stores shape head view steps made turned old → Stores shape head view less (made + 1) turned new
+  pub part_stores : (steps less made turned k : ℕ) (old new : Image) (place : ℕ) (bytes : List ℕ) → Holds place bytes old new
+      → length view.records < shape.slots → length view.under_way ≤ (layout_of shape.format).most → (0 < less → 0 < steps)
+      → k ≡ written_of shape view made → written_of shape view (made + 1) ≡ k + 1
+      → k < (layout_of shape.format).parts (length view.under_way)
+      → place
+      ≡ 2 + (layout_of shape.format).slot_sectors * ((head + length view.records) % shape.slots)
+      + (layout_of shape.format).offset (length view.under_way) k
+      → bytes ≡ (layout_of shape.format).part (head + length view.records) view.under_way k → Stores shape head view steps made turned old
+      → Stores shape head view less (made + 1) turned new
   part_stores steps less made turned k old new place bytes write room few some here more below place_is is s =
       let small : L.offset n k < L.slot_sectors = (laws_of shape.format).inside n k few below in
       record {
@@ -74,17 +82,20 @@ module _ (shape : Shape) (sized : IsSized shape) (head : ℕ) (view : View) wher
           | inr not ↦ write.elsewhere (at p) (λ e. not ((laws_of shape.format).apart n p k few inside below (omega (arith, e, place_is))))
               ∙ s.written (some left) p (omega (arith, low, more, here, not)) inside
         ];
-        copied = AreHome-log shape sized old new place bytes write _ _ (omega (arith, place_is, before_home shape sized stamp (L.offset n k) small)) s.copied;
+        copied = AreHome-log shape sized old new place bytes write _ _
+            (omega (arith, place_is, before_home shape sized stamp (L.offset n k) small)) s.copied;
       }
 
   -- the record under way is durable, and where it is the only one nothing of it is home
-  pub durable_stores : (steps made turned after : ℕ) (content : Image) → 0 < steps → IsRecordOf (layout_of shape.format) shape.blocks (head + length view.records) view.under_way
-      → (layout_of shape.format).parts (length view.under_way) ≤ written_of shape view made
-      → (length view.records ≡ 0 → after ≡ 0) → (0 < length view.records → after ≡ turned)
-      → Stores shape head view steps made turned content → Stores shape head (with_record view) 0 0 after content
+  pub durable_stores : (steps made turned after : ℕ) (content : Image) → 0 < steps
+      → IsRecordOf (layout_of shape.format) shape.blocks (head + length view.records) view.under_way
+      → (layout_of shape.format).parts (length view.under_way) ≤ written_of shape view made → (length view.records ≡ 0 → after ≡ 0)
+      → (0 < length view.records → after ≡ turned) → Stores shape head view steps made turned content
+      → Stores shape head (with_record view) 0 0 after content
   durable_stores steps made turned after content left is all alone more s = record {
     laid = Laid-more shape content head view.records view.under_way view.array
-        (record { fit = is.fit; least = is.least; below = is.below; there = λ p less. s.written left p (omega (arith, less, all)) less }) s.laid;
+        (record { fit = is.fit; least = is.least; below = is.below; there = λ p less. s.written left p (omega (arith, less, all)) less })
+        s.laid;
     written = λ none. absurd (omega arith);
     copied = elim (cases_eq (length view.records) 0) [
       | inl none ↦
@@ -99,24 +110,33 @@ module _ (shape : Shape) (sized : IsSized shape) (head : ℕ) (view : View) wher
   }
 
   -- a block of the oldest record is written home
-  pub home_stores : (steps made turned : ℕ) (old new : Image) (place : ℕ) (bytes : List ℕ) (write : Holds place bytes old new) (i : ℕ) → (0 < steps → length view.under_way ≤ (layout_of shape.format).most)
-      → 0 < length view.records → IsRising (numbers_of (get_or view.records 0 [])) → i ≡ homed_at shape.format turned → homed_at shape.format (turned + 1) ≡ i + 1 → i < length (get_or view.records 0 [])
-      → place ≡ first_home shape + (get_or (get_or view.records 0 []) i (0, [])).0 → bytes ≡ (get_or (get_or view.records 0 []) i (0, [])).1
-      → Stores shape head view steps made turned old → Stores shape head view steps made (turned + 1) new
+  pub home_stores : (steps made turned : ℕ) (old new : Image) (place : ℕ) (bytes : List ℕ) (write : Holds place bytes old new) (i : ℕ)
+      → (0 < steps → length view.under_way ≤ (layout_of shape.format).most) → 0 < length view.records
+      → IsRising (numbers_of (get_or view.records 0 [])) → i ≡ homed_at shape.format turned → homed_at shape.format (turned + 1) ≡ i + 1
+      → i < length (get_or view.records 0 []) → place ≡ first_home shape + (get_or (get_or view.records 0 []) i (0, [])).0
+      → bytes ≡ (get_or (get_or view.records 0 []) i (0, [])).1 → Stores shape head view steps made turned old
+      → Stores shape head view steps made (turned + 1) new
   home_stores steps made turned old new place bytes write i few waits rising here more below place_is is s = record {
-    laid = Laid-home shape sized old new place bytes write head view.records view.array (get_or (get_or view.records 0 []) i (0, [])).0 place_is (records-hide view.records 0 i waits below) s.laid;
-    written = λ left p low small. write.elsewhere (at p) (λ e. omega (arith, e, place_is, before_home shape sized stamp (L.offset n p) ((laws_of shape.format).inside n p (few left) small))) ∙ s.written left p low small;
-    copied = λ j low high. AreHome-write shape sized old new place bytes write (get_or view.records 0 []) i rising below place_is is (λ k less inside. s.copied k (omega (arith, less, here)) inside) j (omega (arith, low, more)) high;
+    laid = Laid-home shape sized old new place bytes write head view.records view.array (get_or (get_or view.records 0 []) i (0, [])).0
+        place_is (records-hide view.records 0 i waits below) s.laid;
+    written = λ left p low small. write.elsewhere (at p)
+        (λ e. omega (arith, e, place_is, before_home shape sized stamp (L.offset n p) ((laws_of shape.format).inside n p (few left) small)))
+        ∙ s.written left p low small;
+    copied = λ j low high. AreHome-write shape sized old new place bytes write (get_or view.records 0 []) i rising below place_is is
+        (λ k less inside. s.copied k (omega (arith, less, here)) inside) j (omega (arith, low, more)) high;
   }
 
   -- the head goes past the oldest record, and nothing of the next one is home
-  pub head_stores : (steps made turned : ℕ) (old new : Image) (bytes : List ℕ) → Holds 1 bytes old new → 0 < length view.records → length (get_or view.records 0 []) ≤ homed_at shape.format turned
-      → Stores shape head view steps made turned old → Stores shape (head + 1) (view_retired 1 view) steps made 0 new
+  pub head_stores : (steps made turned : ℕ) (old new : Image) (bytes : List ℕ) → Holds 1 bytes old new → 0 < length view.records
+      → length (get_or view.records 0 []) ≤ homed_at shape.format turned → Stores shape head view steps made turned old
+      → Stores shape (head + 1) (view_retired 1 view) steps made 0 new
   head_stores steps made turned old new bytes write waits all s =
       let same : head + length view.records ≡ head + 1 + length (drop 1 view.records) = omega (arith, drop-length view.records waits) in
       record {
-        laid = Laid-oldest shape sized old new bytes write head view.records view.array waits (λ i low high. s.copied i (omega (arith, low, all)) high) s.laid;
-        written = λ left p low small. subst (λ (t : ℕ). new (2 + L.slot_sectors * (t % shape.slots) + L.offset n p) ≡ L.part t view.under_way p) same
+        laid = Laid-oldest shape sized old new bytes write head view.records view.array waits
+            (λ i low high. s.copied i (omega (arith, low, all)) high) s.laid;
+        written = λ left p low small. subst
+            (λ (t : ℕ). new (2 + L.slot_sectors * (t % shape.slots) + L.offset n p) ≡ L.part t view.under_way p) same
             (write.elsewhere (at p) (λ e. omega arith) ∙ s.written left p low small);
         copied = λ i low high. absurd (omega (arith, low, none_home shape.format));
       }

@@ -1,4 +1,4 @@
-// The calls of a medium that write a record, one after the other.
+//! The calls of a medium that write a record, one after the other.
 ghost use Rattle.std.specs.Prelude.{◌≡◌, ◌⊎◌, ℕ, ◌≤◌, ◌<◌, ◌*◌, ◌+◌, length, OnOk, IsTrue, ◌↔◌};
 ghost use Rattle.medium.specs.Medium.{Passes};
 ghost use Rattle.medium.specs.Moments.{SparesFrom};

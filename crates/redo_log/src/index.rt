@@ -1,4 +1,4 @@
-// Where the newest logged copy of each block stands: entries that are sorted by block.
+//! Where the newest logged copy of each block stands: entries that are sorted by block.
 ghost use Rattle.std.specs.Prelude.{◌≡◌, ℕ, ◌+◌, ◌^◌, ◌<◌, ◌≤◌, length, take, vec_capacity};
 ghost use Rattle.std.specs.Prelude.{All, IfOk, IfErr};
 ghost use Rattle.std.specs.List.{remove_range};

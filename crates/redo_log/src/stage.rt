@@ -1,4 +1,4 @@
-// How many steps and turns a record takes.
+//! How many steps and turns a record takes.
 ghost use Rattle.std.specs.Prelude.{◌≡◌, ◌≤◌};
 ghost use Rattle.redo_log.specs.Value.{steps_for, turns_home};
 

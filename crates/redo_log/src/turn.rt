@@ -1,4 +1,4 @@
-// The turns that retire a durable record, one after the other.
+//! The turns that retire a durable record, one after the other.
 ghost use Rattle.std.specs.Prelude.{◌≡◌, ℕ, ◌≤◌, ◌<◌, ◌+◌, ◌*◌, length, slice_index, slice_range};
 ghost use Rattle.std.specs.Prelude.{OnOk, is_ok, if◌then◌else◌};
 ghost use Rattle.medium.specs.Medium.{Holds, Only};

@@ -4,7 +4,8 @@ use Rattle.redo_log.proofs.Counting.{flush_some, flush_none, written_soon, writt
 use Rattle.redo_log.proofs.call.written_at.Goals as goal
 
 pub returns-then-early-made : goal.returns-then-early-made
-returns-then-early-made c = omega (arith, written_late c.args.early c.args.made c.if-early-made.true, flush_some c.args.early c.if-early-gt0.true)
+returns-then-early-made c =
+    omega (arith, written_late c.args.early c.args.made c.if-early-made.true, flush_some c.args.early c.if-early-gt0.true)
 
 pub returns-else-early-gt0 : goal.returns-else-early-gt0
 returns-else-early-gt0 c = ⊎_elim

@@ -8,10 +8,12 @@ use Rattle.redo_log.proofs.index.drop_slot.Goals as goal
 
 pub returns-clause-sorted : goal.returns-clause-sorted
 returns-clause-sorted c =
-    let kept = filter_same _ (is_outside c.args.slot) _ (λ x b g called. (grind (arith, nat_tests, called), search rules)) _ _ c.retain.ensures.filtered in
+    let kept = filter_same _ (is_outside c.args.slot) _ (λ x b g called. (grind (arith, nat_tests, called), search rules)) _ _
+    c.retain.ensures.filtered in
     subst IsSorted (sym kept) (sorted_filter c.args.slot c.args.index.now.items c.requires.sorted)
 
 pub returns-clause-looks : goal.returns-clause-looks
 returns-clause-looks c b =
-    let kept = filter_same _ (is_outside c.args.slot) _ (λ x b g called. (grind (arith, nat_tests, called), search rules)) _ _ c.retain.ensures.filtered in
+    let kept = filter_same _ (is_outside c.args.slot) _ (λ x b g called. (grind (arith, nat_tests, called), search rules)) _ _
+    c.retain.ensures.filtered in
     ap (λ (l : List Copied). look l b) kept ∙ look_filter c.args.slot c.args.index.now.items c.requires.sorted b

@@ -8,4 +8,7 @@ returns-clause-adds g c =
     let old = g.M.Medium.state c.args.m.now in
     let mid = g.M.Medium.state c.read.new.self in
     let new = g.M.Medium.state c.write.new.self in
-    quiet_write c.args.to (begun_with c.args.first.now (old.content c.args.from)) c.put_first.new.sector old mid new (g.met.M.Medium.sound c.args.m.now) (c.put_first.ensures ∙ ap (λ (l : List ℕ). begun_with c.args.first.now l) c.in_ok-read.ensures.ok) c.read.ensures.passes c.read.ensures.sets c.write.ensures.passes c.write.ensures.sets
+    quiet_write c.args.to (begun_with c.args.first.now (old.content c.args.from)) c.put_first.new.sector old mid new
+    (g.met.M.Medium.sound c.args.m.now)
+    (c.put_first.ensures ∙ ap (λ (l : List ℕ). begun_with c.args.first.now l) c.in_ok-read.ensures.ok) c.read.ensures.passes
+    c.read.ensures.sets c.write.ensures.passes c.write.ensures.sets

@@ -12,7 +12,15 @@ returns-clause-device c = subst (λ (m : Mirror). (new : Mirror) → ComesAfter 
 
 room_for : (old new : Mirror) → ComesAfter old new → HasRoomFor old new
 room_for old new follows few = elim (cases_lt (of_all old.story.refused) (of_all new.story.refused)) [
-  | inl more ↦ absurd (omega (arith, few, follows.refuses more, follows.room_stays, length-append old.story.asked follows.since, ap (λ (l : List (Option DeviceCall)). length l) follows.asked))
+  | inl more ↦
+      absurd (omega (
+        arith,
+        few,
+        follows.refuses more,
+        follows.room_stays,
+        length-append old.story.asked follows.since,
+        ap (λ (l : List (Option DeviceCall)). length l) follows.asked,
+      ))
   | inr none ↦ omega (arith, none, follows.failures_stay)
 ]
 

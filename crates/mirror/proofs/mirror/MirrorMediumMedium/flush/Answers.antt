@@ -2,7 +2,8 @@ use Rattle.std.proofs.Common.{length, ◌≤◌, ◌≡◌, ℕ, List, true, ref
 use Rattle.mirror.specs.declared.call.DeviceCall.TheVariants.{Flush}
 use Rattle.mirror.specs.Story.{Told, given, are_whole, refused}
 use Rattle.mirror.specs.Mirror.{Mirror, device_of}
-use Rattle.mirror.proofs.Asked.{told_on, given_on, passes_refused, content_refused, sets_refused, follows_refused, passes_given, content_given, sets_given, follows_given}
+use Rattle.mirror.proofs.Asked.{told_on, given_on, passes_refused, content_refused, sets_refused, follows_refused, passes_given}
+use Rattle.mirror.proofs.Asked.{content_given, sets_given, follows_given}
 use Rattle.mirror.specs.MirrorLaws.{is_sound}
 use Rattle.mirror.proofs.Kept.{kept_quiet, kept_given}
 use Rattle.mirror.proofs.mirror.MirrorMediumMedium.flush.Goals as goal
@@ -15,37 +16,55 @@ invariant_of-self c = kept_quiet c.self.inside _ c.self.invariant refl refl refl
 })
 
 pub returns-then-len-self-clause-sets : goal.returns-then-len-self-clause-sets
-returns-then-len-self-clause-sets c = sets_refused c.args.self.now _ Flush (told_on (λ t. refused t Flush) _ c.args.self.now _ c.refused-self-inside.ensures c.self.view_is)
+returns-then-len-self-clause-sets c =
+    sets_refused c.args.self.now _ Flush (told_on (λ t. refused t Flush) _ c.args.self.now _ c.refused-self-inside.ensures c.self.view_is)
 
 pub returns-then-len-self-clause-passes : goal.returns-then-len-self-clause-passes
-returns-then-len-self-clause-passes c = passes_refused c.args.self.now _ (Flush) (told_on (λ t. refused t (Flush)) _ c.args.self.now _ c.refused-self-inside.ensures c.self.view_is)
+returns-then-len-self-clause-passes c =
+    passes_refused c.args.self.now _ (Flush)
+    (told_on (λ t. refused t (Flush)) _ c.args.self.now _ c.refused-self-inside.ensures c.self.view_is)
 
 pub returns-then-len-self-clause-follows : goal.returns-then-len-self-clause-follows
-returns-then-len-self-clause-follows c = follows_refused c.args.self.now _ (Flush) (told_on (λ t. refused t (Flush)) _ c.args.self.now _ c.refused-self-inside.ensures c.self.view_is)
+returns-then-len-self-clause-follows c =
+    follows_refused c.args.self.now _ (Flush)
+    (told_on (λ t. refused t (Flush)) _ c.args.self.now _ c.refused-self-inside.ensures c.self.view_is)
     (subst (λ (m : Mirror). m.room ≤ length m.outbox) c.self.view_is (omega (arith, c.self.inside.outbox.ok.0)))
 
 pub returns-clause-passes : goal.returns-clause-passes
-returns-clause-passes c = passes_given c.args.self.now _ (Flush) (given_on (Flush) _ c.args.self.now _ _ c.gave-self-inside.ensures c.push_back_reserved.ensures.items c.self.view_is)
+returns-clause-passes c =
+    passes_given c.args.self.now _ (Flush)
+    (given_on (Flush) _ c.args.self.now _ _ c.gave-self-inside.ensures c.push_back_reserved.ensures.items c.self.view_is)
     (subst (λ (m : Mirror). are_whole (given m.story.asked) ≡ true) c.self.view_is c.self.invariant.well_formed.whole_writes) refl
 
 pub returns-clause-follows : goal.returns-clause-follows
-returns-clause-follows c = follows_given c.args.self.now _ (Flush) (given_on (Flush) _ c.args.self.now _ _ c.gave-self-inside.ensures c.push_back_reserved.ensures.items c.self.view_is)
+returns-clause-follows c =
+    follows_given c.args.self.now _ (Flush)
+    (given_on (Flush) _ c.args.self.now _ _ c.gave-self-inside.ensures c.push_back_reserved.ensures.items c.self.view_is)
 
 pub returns-then-len-self-clause-content : goal.returns-then-len-self-clause-content
-returns-then-len-self-clause-content c = content_refused c.args.self.now _ Flush (told_on (λ t. refused t Flush) _ c.args.self.now _ c.refused-self-inside.ensures c.self.view_is)
+returns-then-len-self-clause-content c =
+    content_refused c.args.self.now _ Flush
+    (told_on (λ t. refused t Flush) _ c.args.self.now _ c.refused-self-inside.ensures c.self.view_is)
 
 pub invariant_of-self-2 : goal.invariant_of-self-2
-invariant_of-self-2 c = kept_given c.self.inside _ c.self.invariant Flush c.gave-self-inside.ensures c.push_back_reserved.ensures.items c.push_back_reserved.ensures.capacity refl
-    (omega (arith, c.self.inside.outbox.ok.0)) refl c.self.invariant.mirrors refl
+invariant_of-self-2 c =
+    kept_given c.self.inside _ c.self.invariant Flush c.gave-self-inside.ensures c.push_back_reserved.ensures.items
+    c.push_back_reserved.ensures.capacity refl (omega (arith, c.self.inside.outbox.ok.0)) refl c.self.invariant.mirrors refl
 
 pub returns-clause-content : goal.returns-clause-content
-returns-clause-content c = content_given c.args.self.now _ Flush (given_on Flush _ c.args.self.now _ _ c.gave-self-inside.ensures c.push_back_reserved.ensures.items c.self.view_is)
+returns-clause-content c =
+    content_given c.args.self.now _ Flush
+    (given_on Flush _ c.args.self.now _ _ c.gave-self-inside.ensures c.push_back_reserved.ensures.items c.self.view_is)
 
 pub returns-clause-ok : goal.returns-clause-ok
-returns-clause-ok c = sets_given c.args.self.now _ Flush (given_on Flush _ c.args.self.now _ _ c.gave-self-inside.ensures c.push_back_reserved.ensures.items c.self.view_is)
+returns-clause-ok c =
+    sets_given c.args.self.now _ Flush
+    (given_on Flush _ c.args.self.now _ _ c.gave-self-inside.ensures c.push_back_reserved.ensures.items c.self.view_is)
 
 pub returns-clause-sets : goal.returns-clause-sets
 returns-clause-sets c s bytes left =
     subst (λ (b : List ℕ). (device_of c.args.self.now.story).may_leave s b)
-    (sym (sets_given c.args.self.now _ Flush (given_on Flush _ c.args.self.now _ _ c.gave-self-inside.ensures c.push_back_reserved.ensures.items c.self.view_is) s bytes left))
+    (sym (sets_given c.args.self.now _ Flush
+    (given_on Flush _ c.args.self.now _ _ c.gave-self-inside.ensures c.push_back_reserved.ensures.items c.self.view_is) s bytes
+    left))
     ((is_sound c.args.self.now).holds_content s)

@@ -12,5 +12,10 @@ use Rattle.redo_log.proofs.log.Log.find.Goals as goal
 pub returns : goal.returns
 returns c =
     let i = c.self.inside in
-    subst (λ (v : LogValue). MatchOption c.newest.result (HasNoCopy v c.args.block) (λ copy. IsNewestCopy v c.args.block copy.0 copy.1)) c.self.view_is
-    (find_is (value_at (shape_of i.sizes) i.head (lists_of i.waiting.items) i.turned i.kept i.under_way.items i.made i.dead) c.args.block c.newest.result (c.newest.ensures ∙ ap (λ (l : List Copied). look l c.args.block) c.deref.ensures.value ∙ c.self.invariant.index_is.looks c.args.block))
+    subst (λ (v : LogValue). MatchOption c.newest.result (HasNoCopy v c.args.block) (λ copy. IsNewestCopy v c.args.block copy.0 copy.1))
+    c.self.view_is
+    (find_is (value_at (shape_of i.sizes) i.head (lists_of i.waiting.items) i.turned i.kept i.under_way.items i.made i.dead)
+    c.args.block c.newest.result
+    (c.newest.ensures
+    ∙ ap (λ (l : List Copied). look l c.args.block) c.deref.ensures.value
+    ∙ c.self.invariant.index_is.looks c.args.block))

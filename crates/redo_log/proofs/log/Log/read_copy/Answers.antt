@@ -23,16 +23,21 @@ returns-clause-ok g c view block holds copy =
     let shape_is : c.args.self.now.shape ≡ shape_of i.sizes = ap (λ (v : LogValue). v.shape) (sym c.self.view_is) in
     let slots_are : c.args.self.now.shape.slots ≡ i.sizes.slots = ap (λ (s : Shape). s.slots) shape_is in
     let most = c.self.invariant.most in
-    let there = copy_read (shape_of i.sizes) (sizes_sized i.sizes) i.head (lists_of i.waiting.items) i.turned i.kept i.under_way.items i.made i.dead c.args.self.now c.self.view_is c.requires.live c.self.invariant.ring
-    c.self.invariant.least (omega (arith, c.self.invariant.most, many i.waiting.items)) old view holds block c.args.slot c.args.place copy in
+    let there = copy_read (shape_of i.sizes) (sizes_sized i.sizes) i.head (lists_of i.waiting.items) i.turned i.kept i.under_way.items
+    i.made i.dead c.args.self.now c.self.view_is c.requires.live c.self.invariant.ring c.self.invariant.least
+    (omega (arith, c.self.invariant.most, many i.waiting.items)) old view holds block c.args.slot c.args.place copy in
     on_ok_weaker c.read_copy.result (λ read. read ∙ there.2)
-    (c.read_copy.ensures.ok (c.args.self.now.head + copy.age) (get_or view.records copy.age []) (copy.slot_is ∙ ap (λ (n : ℕ). (c.args.self.now.head + copy.age) % n) slots_are) there.0
-    (subst (λ (s : Shape). IsWhole s old.content (c.args.self.now.head + copy.age) (get_or view.records copy.age [])) shape_is there.1))
+    (c.read_copy.ensures.ok (c.args.self.now.head + copy.age) (get_or view.records copy.age [])
+    (copy.slot_is ∙ ap (λ (n : ℕ). (c.args.self.now.head + copy.age) % n) slots_are) there.0
+    (subst (λ (s : Shape). IsWhole s old.content (c.args.self.now.head + copy.age) (get_or view.records copy.age [])) shape_is
+    there.1))
 
 pub returns-clause-holds : goal.returns-clause-holds
-returns-clause-holds g c view holds = quiet_held c.args.self.now view (g.M.Medium.state c.args.m.now) (g.M.Medium.state c.read_copy.new.m) c.read_copy.ensures.quiet holds
+returns-clause-holds g c view holds =
+    quiet_held c.args.self.now view (g.M.Medium.state c.args.m.now) (g.M.Medium.state c.read_copy.new.m) c.read_copy.ensures.quiet holds
 
 pub returns-clause-cuts : goal.returns-clause-cuts
 returns-clause-cuts g c view holds ours =
     let old = g.M.Medium.state c.args.m.now in
-    quiet_leaves (MayLeave old.size c.args.self.now view) old (g.M.Medium.state c.read_copy.new.m) (g.met.M.Medium.sound c.args.m.now) (holds.leaves ours) c.read_copy.ensures.quiet
+    quiet_leaves (MayLeave old.size c.args.self.now view) old (g.M.Medium.state c.read_copy.new.m) (g.met.M.Medium.sound c.args.m.now)
+    (holds.leaves ours) c.read_copy.ensures.quiet

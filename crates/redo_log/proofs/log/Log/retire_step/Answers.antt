@@ -24,13 +24,17 @@ many : (records : List (ArrayVec ℕ)) → length (lists_of records) ≡ length 
 many records = let f : ArrayVec ℕ → List ℕ = λ r. r.items in length-map records f
 
 pub returns-in_default-clause-cuts : goal.returns-in_default-clause-cuts
-returns-in_default-clause-cuts g c view holds ours = started (MayLeave (g.M.Medium.state c.args.m.now).size c.args.self.now view) (g.M.Medium.state c.args.m.now) (g.met.M.Medium.sound c.args.m.now) (holds.leaves ours)
+returns-in_default-clause-cuts g c view holds ours =
+    started (MayLeave (g.M.Medium.state c.args.m.now).size c.args.self.now view) (g.M.Medium.state c.args.m.now)
+    (g.met.M.Medium.sound c.args.m.now) (holds.leaves ours)
 
 pub returns-in_default-clause-moments : goal.returns-in_default-clause-moments
-returns-in_default-clause-moments g c = started (λ _. Unit {0}) (g.M.Medium.state c.args.m.now) (g.met.M.Medium.sound c.args.m.now) (λ image cut. tt)
+returns-in_default-clause-moments g c =
+    started (λ _. Unit {0}) (g.M.Medium.state c.args.m.now) (g.met.M.Medium.sound c.args.m.now) (λ image cut. tt)
 
 -- the oldest record stands first
-waits_is : (records : List (ArrayVec ℕ)) (first : ArrayVec ℕ) (numbers : List ℕ) → 0 < length records → first ≡ slice_index_or records 0 first → numbers ≡ first.items → lists_of records ≡ numbers ∷ lists_of (drop 1 records)
+waits_is : (records : List (ArrayVec ℕ)) (first : ArrayVec ℕ) (numbers : List ℕ) → 0 < length records
+    → first ≡ slice_index_or records 0 first → numbers ≡ first.items → lists_of records ≡ numbers ∷ lists_of (drop 1 records)
 waits_is records first numbers some is same = front_is records first some is ∙ ap (λ (l : List ℕ). l ∷ lists_of (drop 1 records)) (sym same)
 
 -- the bytes that are kept after a call
@@ -41,99 +45,141 @@ pub next_turn-turn-requires-clause-record : goal.next_turn-turn-requires-clause-
 next_turn-turn-requires-clause-record g c =
     let i = c.self.inside in
     let some : 0 < length i.waiting.items = search rules in
-    let waits = waits_is i.waiting.items c.in-Some.oldest.now c.as_slice-numbers.result.now some c.in-Some.ensures.lookup c.as_slice-numbers.ensures.value in
-    let numbers : AreInside (shape_of i.sizes) c.as_slice-numbers.result.now = (subst (λ (l : List (List ℕ)). All (AreInside (shape_of i.sizes)) l) waits c.self.invariant.ring.each) 0 [] (omega arith) in
+    let waits = waits_is i.waiting.items c.in-Some.oldest.now c.as_slice-numbers.result.now some c.in-Some.ensures.lookup
+    c.as_slice-numbers.ensures.value in
+    let numbers : AreInside (shape_of i.sizes) c.as_slice-numbers.result.now =
+    (subst (λ (l : List (List ℕ)). All (AreInside (shape_of i.sizes)) l) waits c.self.invariant.ring.each) 0 [] (omega arith) in
     record { least = c.self.invariant.least; most = omega (arith, some, c.self.invariant.most); numbers_are = numbers }
 
 pub returns-then-is_err-clause-holds : goal.returns-then-is_err-clause-holds
 returns-then-is_err-clause-holds g c view holds =
     let i = c.self.inside in
     let some : 0 < length i.waiting.items = search rules in
-    let waits = waits_is i.waiting.items c.in-Some.oldest.now c.as_slice-numbers.result.now some c.in-Some.ensures.lookup c.as_slice-numbers.ensures.value in
-    let dead = turn_dead (shape_of i.sizes) (sizes_sized i.sizes) i.head (lists_of i.waiting.items) i.turned i.kept i.under_way.items i.made i.dead c.args.self.now c.self.view_is c.requires.live c.self.invariant.ring
-    c.self.invariant.least (omega (arith, c.self.invariant.most, many i.waiting.items)) c.as_slice-numbers.result.now (lists_of (drop 1 i.waiting.items)) waits
-    (g.M.Medium.state c.args.m.now) (g.M.Medium.state c.make.new.m) (g.met.M.Medium.sound c.args.m.now) c.next_turn-turn.result c.next_turn-turn.ensures.next c.make.ensures.adds view holds c.make.ensures.size (g.met.M.Medium.sound c.make.new.m) in
-    let keeps = kept_is _ false c.make.new.kept (kept_by c.next_turn-turn.result (g.M.Medium.state c.args.m.now) i.kept) i.kept c.make.ensures.keeps (err_here c.make.result (sym c.is_err.ensures.value ∙ c.if-is_err.true)) in
-    subst (λ (k : List ℕ). HoldsView (died (value_at (shape_of i.sizes) i.head (lists_of i.waiting.items) i.turned k i.under_way.items i.made i.dead)) (g.M.Medium.state c.make.new.m) view) (sym keeps)
-    (subst (λ (v : LogValue). HoldsView (died v) (g.M.Medium.state c.make.new.m) view) (sym c.self.view_is) dead)
+    let waits = waits_is i.waiting.items c.in-Some.oldest.now c.as_slice-numbers.result.now some c.in-Some.ensures.lookup
+    c.as_slice-numbers.ensures.value in
+    let dead = turn_dead (shape_of i.sizes) (sizes_sized i.sizes) i.head (lists_of i.waiting.items) i.turned i.kept i.under_way.items i.made
+    i.dead c.args.self.now c.self.view_is c.requires.live c.self.invariant.ring c.self.invariant.least
+    (omega (arith, c.self.invariant.most, many i.waiting.items)) c.as_slice-numbers.result.now (lists_of (drop 1 i.waiting.items)) waits
+    (g.M.Medium.state c.args.m.now) (g.M.Medium.state c.make.new.m) (g.met.M.Medium.sound c.args.m.now) c.next_turn-turn.result
+    c.next_turn-turn.ensures.next c.make.ensures.adds view holds c.make.ensures.size (g.met.M.Medium.sound c.make.new.m) in
+    let keeps = kept_is _ false c.make.new.kept (kept_by c.next_turn-turn.result (g.M.Medium.state c.args.m.now) i.kept) i.kept
+    c.make.ensures.keeps (err_here c.make.result (sym c.is_err.ensures.value ∙ c.if-is_err.true)) in
+    subst
+    (λ (k : List ℕ). HoldsView
+    (died (value_at (shape_of i.sizes) i.head (lists_of i.waiting.items) i.turned k i.under_way.items i.made i.dead))
+    (g.M.Medium.state c.make.new.m) view)
+    (sym keeps) (subst (λ (v : LogValue). HoldsView (died v) (g.M.Medium.state c.make.new.m) view) (sym c.self.view_is) dead)
 
 pub returns-then-is_err-clause-cuts : goal.returns-then-is_err-clause-cuts
 returns-then-is_err-clause-cuts g c view holds ours =
     let i = c.self.inside in
     let some : 0 < length i.waiting.items = search rules in
-    let waits = waits_is i.waiting.items c.in-Some.oldest.now c.as_slice-numbers.result.now some c.in-Some.ensures.lookup c.as_slice-numbers.ensures.value in
-    turn_cuts (shape_of i.sizes) (sizes_sized i.sizes) i.head (lists_of i.waiting.items) i.turned i.kept i.under_way.items i.made i.dead c.args.self.now c.self.view_is c.requires.live c.self.invariant.ring
-    c.self.invariant.least (omega (arith, c.self.invariant.most, many i.waiting.items)) c.as_slice-numbers.result.now (lists_of (drop 1 i.waiting.items)) waits
-    (g.M.Medium.state c.args.m.now) (g.M.Medium.state c.make.new.m) (g.met.M.Medium.sound c.args.m.now) c.next_turn-turn.result c.next_turn-turn.ensures.next c.make.ensures.adds view holds ours
+    let waits = waits_is i.waiting.items c.in-Some.oldest.now c.as_slice-numbers.result.now some c.in-Some.ensures.lookup
+    c.as_slice-numbers.ensures.value in
+    turn_cuts (shape_of i.sizes) (sizes_sized i.sizes) i.head (lists_of i.waiting.items) i.turned i.kept i.under_way.items i.made i.dead
+    c.args.self.now c.self.view_is c.requires.live c.self.invariant.ring c.self.invariant.least
+    (omega (arith, c.self.invariant.most, many i.waiting.items)) c.as_slice-numbers.result.now (lists_of (drop 1 i.waiting.items)) waits
+    (g.M.Medium.state c.args.m.now) (g.M.Medium.state c.make.new.m) (g.met.M.Medium.sound c.args.m.now) c.next_turn-turn.result
+    c.next_turn-turn.ensures.next c.make.ensures.adds view holds ours
 
 pub returns-then-is_err-clause-moments : goal.returns-then-is_err-clause-moments
-returns-then-is_err-clause-moments g c = turn_moments c.next_turn-turn.result (g.M.Medium.state c.args.m.now) (g.M.Medium.state c.make.new.m) (g.met.M.Medium.sound c.args.m.now) c.make.ensures.adds
+returns-then-is_err-clause-moments g c =
+    turn_moments c.next_turn-turn.result (g.M.Medium.state c.args.m.now) (g.M.Medium.state c.make.new.m) (g.met.M.Medium.sound c.args.m.now)
+    c.make.ensures.adds
 
 pub returns-then-is_err-clause-spares : goal.returns-then-is_err-clause-spares
-returns-then-is_err-clause-spares g c = turn_spares (shape_of c.self.inside.sizes) c.args.self.now (g.M.Medium.state c.args.m.now) (g.M.Medium.state c.make.new.m) (ap (λ (v : LogValue). v.shape) c.self.view_is) c.next_turn-turn.result c.next_turn-turn.ensures.inside c.make.ensures.spares
+returns-then-is_err-clause-spares g c =
+    turn_spares (shape_of c.self.inside.sizes) c.args.self.now (g.M.Medium.state c.args.m.now) (g.M.Medium.state c.make.new.m)
+    (ap (λ (v : LogValue). v.shape) c.self.view_is) c.next_turn-turn.result c.next_turn-turn.ensures.inside c.make.ensures.spares
 
 pub returns-then-self-home-clause-cuts : goal.returns-then-self-home-clause-cuts
 returns-then-self-home-clause-cuts g c view holds ours =
     let i = c.self.inside in
     let some : 0 < length i.waiting.items = search rules in
-    let waits = waits_is i.waiting.items c.in-Some.oldest.now c.as_slice-numbers.result.now some c.in-Some.ensures.lookup c.as_slice-numbers.ensures.value in
-    turn_cuts (shape_of i.sizes) (sizes_sized i.sizes) i.head (lists_of i.waiting.items) i.turned i.kept i.under_way.items i.made i.dead c.args.self.now c.self.view_is c.requires.live c.self.invariant.ring
-    c.self.invariant.least (omega (arith, c.self.invariant.most, many i.waiting.items)) c.as_slice-numbers.result.now (lists_of (drop 1 i.waiting.items)) waits
-    (g.M.Medium.state c.args.m.now) (g.M.Medium.state c.make.new.m) (g.met.M.Medium.sound c.args.m.now) c.next_turn-turn.result c.next_turn-turn.ensures.next c.make.ensures.adds view holds ours
+    let waits = waits_is i.waiting.items c.in-Some.oldest.now c.as_slice-numbers.result.now some c.in-Some.ensures.lookup
+    c.as_slice-numbers.ensures.value in
+    turn_cuts (shape_of i.sizes) (sizes_sized i.sizes) i.head (lists_of i.waiting.items) i.turned i.kept i.under_way.items i.made i.dead
+    c.args.self.now c.self.view_is c.requires.live c.self.invariant.ring c.self.invariant.least
+    (omega (arith, c.self.invariant.most, many i.waiting.items)) c.as_slice-numbers.result.now (lists_of (drop 1 i.waiting.items)) waits
+    (g.M.Medium.state c.args.m.now) (g.M.Medium.state c.make.new.m) (g.met.M.Medium.sound c.args.m.now) c.next_turn-turn.result
+    c.next_turn-turn.ensures.next c.make.ensures.adds view holds ours
 
 pub returns-then-self-home-clause-moments : goal.returns-then-self-home-clause-moments
-returns-then-self-home-clause-moments g c = turn_moments c.next_turn-turn.result (g.M.Medium.state c.args.m.now) (g.M.Medium.state c.make.new.m) (g.met.M.Medium.sound c.args.m.now) c.make.ensures.adds
+returns-then-self-home-clause-moments g c =
+    turn_moments c.next_turn-turn.result (g.M.Medium.state c.args.m.now) (g.M.Medium.state c.make.new.m) (g.met.M.Medium.sound c.args.m.now)
+    c.make.ensures.adds
 
 pub returns-then-self-home-clause-spares : goal.returns-then-self-home-clause-spares
-returns-then-self-home-clause-spares g c = turn_spares (shape_of c.self.inside.sizes) c.args.self.now (g.M.Medium.state c.args.m.now) (g.M.Medium.state c.make.new.m) (ap (λ (v : LogValue). v.shape) c.self.view_is) c.next_turn-turn.result c.next_turn-turn.ensures.inside c.make.ensures.spares
+returns-then-self-home-clause-spares g c =
+    turn_spares (shape_of c.self.inside.sizes) c.args.self.now (g.M.Medium.state c.args.m.now) (g.M.Medium.state c.make.new.m)
+    (ap (λ (v : LogValue). v.shape) c.self.view_is) c.next_turn-turn.result c.next_turn-turn.ensures.inside c.make.ensures.spares
 
 pub returns-clause-cuts : goal.returns-clause-cuts
 returns-clause-cuts g c view holds ours =
     let i = c.self.inside in
     let some : 0 < length i.waiting.items = search rules in
-    let waits = waits_is i.waiting.items c.in-Some.oldest.now c.as_slice-numbers.result.now some c.in-Some.ensures.lookup c.as_slice-numbers.ensures.value in
-    turn_cuts (shape_of i.sizes) (sizes_sized i.sizes) i.head (lists_of i.waiting.items) i.turned i.kept i.under_way.items i.made i.dead c.args.self.now c.self.view_is c.requires.live c.self.invariant.ring
-    c.self.invariant.least (omega (arith, c.self.invariant.most, many i.waiting.items)) c.as_slice-numbers.result.now (lists_of (drop 1 i.waiting.items)) waits
-    (g.M.Medium.state c.args.m.now) (g.M.Medium.state c.make.new.m) (g.met.M.Medium.sound c.args.m.now) c.next_turn-turn.result c.next_turn-turn.ensures.next c.make.ensures.adds view holds ours
+    let waits = waits_is i.waiting.items c.in-Some.oldest.now c.as_slice-numbers.result.now some c.in-Some.ensures.lookup
+    c.as_slice-numbers.ensures.value in
+    turn_cuts (shape_of i.sizes) (sizes_sized i.sizes) i.head (lists_of i.waiting.items) i.turned i.kept i.under_way.items i.made i.dead
+    c.args.self.now c.self.view_is c.requires.live c.self.invariant.ring c.self.invariant.least
+    (omega (arith, c.self.invariant.most, many i.waiting.items)) c.as_slice-numbers.result.now (lists_of (drop 1 i.waiting.items)) waits
+    (g.M.Medium.state c.args.m.now) (g.M.Medium.state c.make.new.m) (g.met.M.Medium.sound c.args.m.now) c.next_turn-turn.result
+    c.next_turn-turn.ensures.next c.make.ensures.adds view holds ours
 
 pub returns-clause-moments : goal.returns-clause-moments
-returns-clause-moments g c = turn_moments c.next_turn-turn.result (g.M.Medium.state c.args.m.now) (g.M.Medium.state c.make.new.m) (g.met.M.Medium.sound c.args.m.now) c.make.ensures.adds
+returns-clause-moments g c =
+    turn_moments c.next_turn-turn.result (g.M.Medium.state c.args.m.now) (g.M.Medium.state c.make.new.m) (g.met.M.Medium.sound c.args.m.now)
+    c.make.ensures.adds
 
 pub returns-clause-spares : goal.returns-clause-spares
-returns-clause-spares g c = turn_spares (shape_of c.self.inside.sizes) c.args.self.now (g.M.Medium.state c.args.m.now) (g.M.Medium.state c.make.new.m) (ap (λ (v : LogValue). v.shape) c.self.view_is) c.next_turn-turn.result c.next_turn-turn.ensures.inside c.make.ensures.spares
+returns-clause-spares g c =
+    turn_spares (shape_of c.self.inside.sizes) c.args.self.now (g.M.Medium.state c.args.m.now) (g.M.Medium.state c.make.new.m)
+    (ap (λ (v : LogValue). v.shape) c.self.view_is) c.next_turn-turn.result c.next_turn-turn.ensures.inside c.make.ensures.spares
 
 pub returns-then-self-home-clause-holds : goal.returns-then-self-home-clause-holds
 returns-then-self-home-clause-holds g c view holds =
     let i = c.self.inside in
     let some : 0 < length i.waiting.items = search rules in
-    let waits = waits_is i.waiting.items c.in-Some.oldest.now c.as_slice-numbers.result.now some c.in-Some.ensures.lookup c.as_slice-numbers.ensures.value in
-    let long : length c.in-Some.oldest.now.items ≡ length c.as_slice-numbers.result.now = ap (λ (l : List ℕ). length l) (sym c.as_slice-numbers.ensures.value) in
-    let home : c.turns_home-home.result ≡ turns_home i.sizes.format (length c.as_slice-numbers.result.now) = c.turns_home-home.ensures ∙ ap (λ (n : ℕ). turns_home i.sizes.format n) (c.len.ensures.value ∙ long) in
-    turn_more (shape_of i.sizes) (sizes_sized i.sizes) i.head (lists_of i.waiting.items) i.turned i.kept i.under_way.items i.made i.dead c.args.self.now c.self.view_is c.requires.live c.self.invariant.ring
-    c.self.invariant.least (omega (arith, c.self.invariant.most, many i.waiting.items)) c.as_slice-numbers.result.now (lists_of (drop 1 i.waiting.items)) waits
-    (g.M.Medium.state c.args.m.now) (g.M.Medium.state c.make.new.m) (g.met.M.Medium.sound c.args.m.now) c.next_turn-turn.result c.next_turn-turn.ensures.next c.make.ensures.adds view holds c.make.ensures.size
+    let waits = waits_is i.waiting.items c.in-Some.oldest.now c.as_slice-numbers.result.now some c.in-Some.ensures.lookup
+    c.as_slice-numbers.ensures.value in
+    let long : length c.in-Some.oldest.now.items ≡ length c.as_slice-numbers.result.now =
+    ap (λ (l : List ℕ). length l) (sym c.as_slice-numbers.ensures.value) in
+    let home : c.turns_home-home.result ≡ turns_home i.sizes.format (length c.as_slice-numbers.result.now) =
+    c.turns_home-home.ensures ∙ ap (λ (n : ℕ). turns_home i.sizes.format n) (c.len.ensures.value ∙ long) in
+    turn_more (shape_of i.sizes) (sizes_sized i.sizes) i.head (lists_of i.waiting.items) i.turned i.kept i.under_way.items i.made i.dead
+    c.args.self.now c.self.view_is c.requires.live c.self.invariant.ring c.self.invariant.least
+    (omega (arith, c.self.invariant.most, many i.waiting.items)) c.as_slice-numbers.result.now (lists_of (drop 1 i.waiting.items)) waits
+    (g.M.Medium.state c.args.m.now) (g.M.Medium.state c.make.new.m) (g.met.M.Medium.sound c.args.m.now) c.next_turn-turn.result
+    c.next_turn-turn.ensures.next c.make.ensures.adds view holds c.make.ensures.size
     (on_ok_here c.make.result (sym c.is_err.ensures.value ∙ c.if-is_err.false) c.make.ensures.done) c.make.new.kept
-    (kept_is _ true c.make.new.kept (kept_by c.next_turn-turn.result (g.M.Medium.state c.args.m.now) i.kept) i.kept c.make.ensures.keeps (ok_here c.make.result (sym c.is_err.ensures.value ∙ c.if-is_err.false)))
+    (kept_is _ true c.make.new.kept (kept_by c.next_turn-turn.result (g.M.Medium.state c.args.m.now) i.kept) i.kept c.make.ensures.keeps
+    (ok_here c.make.result (sym c.is_err.ensures.value ∙ c.if-is_err.false)))
     (omega (arith, c.if-self-home.true, home))
 
 pub invariant_of-self-2 : goal.invariant_of-self-2
 invariant_of-self-2 g c =
     let i = c.self.inside in
     let some : 0 < length i.waiting.items = search rules in
-    let waits = waits_is i.waiting.items c.in-Some.oldest.now c.as_slice-numbers.result.now some c.in-Some.ensures.lookup c.as_slice-numbers.ensures.value in
-    let fewer : length c.pop_front.new.self.items ≡ length i.waiting.items - 1 = ap (λ (l : List (ArrayVec ℕ)). length l) c.pop_front.ensures.rest ∙ length-drop 1 i.waiting.items in
+    let waits = waits_is i.waiting.items c.in-Some.oldest.now c.as_slice-numbers.result.now some c.in-Some.ensures.lookup
+    c.as_slice-numbers.ensures.value in
+    let fewer : length c.pop_front.new.self.items ≡ length i.waiting.items - 1 =
+    ap (λ (l : List (ArrayVec ℕ)). length l) c.pop_front.ensures.rest ∙ length-drop 1 i.waiting.items in
     record {
       least = omega arith;
       most = omega (arith, c.self.invariant.most, fewer, some);
       room = omega (arith, c.self.invariant.room, c.pop_front.ensures.capacity);
       index_room = omega (arith, c.self.invariant.index_room, c.drop_slot.ensures.capacity);
-      index_is = subst (λ (l : List (ArrayVec ℕ)). IsIndex i.sizes.slots (i.head + 1) (lists_of l) c.drop_slot.new.index.items) (sym c.pop_front.ensures.rest)
-          (index_fewer i.sizes.slots i.head c.as_slice-numbers.result.now (lists_of (drop 1 i.waiting.items)) i.index.items c.drop_slot.new.index.items
+      index_is = subst (λ (l : List (ArrayVec ℕ)). IsIndex i.sizes.slots (i.head + 1) (lists_of l) c.drop_slot.new.index.items)
+          (sym c.pop_front.ensures.rest)
+          (index_fewer i.sizes.slots i.head c.as_slice-numbers.result.now (lists_of (drop 1 i.waiting.items)) i.index.items
+          c.drop_slot.new.index.items
           (subst (λ (l : List (List ℕ)). IsIndex i.sizes.slots i.head l i.index.items) waits c.self.invariant.index_is)
           (omega (arith, c.self.invariant.ring.fits, ap (λ (l : List (List ℕ)). length l) waits)) c.drop_slot.ensures.sorted
           (λ b. c.drop_slot.ensures.looks b ∙ ap (λ (n : ℕ). outside n (look i.index.items b)) c.slot_of.ensures));
-      ring = subst (λ (l : List (ArrayVec ℕ)). IsRing (shape_of i.sizes) (lists_of l) 0 i.under_way.items i.made) (sym c.pop_front.ensures.rest)
-          (ring_retired (shape_of i.sizes) c.as_slice-numbers.result.now (lists_of (drop 1 i.waiting.items)) i.turned i.under_way.items i.made
+      ring = subst (λ (l : List (ArrayVec ℕ)). IsRing (shape_of i.sizes) (lists_of l) 0 i.under_way.items i.made)
+          (sym c.pop_front.ensures.rest)
+          (ring_retired (shape_of i.sizes) c.as_slice-numbers.result.now (lists_of (drop 1 i.waiting.items)) i.turned i.under_way.items
+          i.made
           (subst (λ (l : List (List ℕ)). IsRing (shape_of i.sizes) l i.turned i.under_way.items i.made) waits c.self.invariant.ring));
     }
 
@@ -141,28 +187,53 @@ pub returns-clause-ok : goal.returns-clause-ok
 returns-clause-ok g c left =
     let i = c.self.inside in
     let some : 0 < length i.waiting.items = search rules in
-    let waits = waits_is i.waiting.items c.in-Some.oldest.now c.as_slice-numbers.result.now some c.in-Some.ensures.lookup c.as_slice-numbers.ensures.value in
-    let long : length c.in-Some.oldest.now.items ≡ length c.as_slice-numbers.result.now = ap (λ (l : List ℕ). length l) (sym c.as_slice-numbers.ensures.value) in
-    let home : c.turns_home-home.result ≡ turns_home i.sizes.format (length c.as_slice-numbers.result.now) = c.turns_home-home.ensures ∙ ap (λ (n : ℕ). turns_home i.sizes.format n) (c.len.ensures.value ∙ long) in
+    let waits = waits_is i.waiting.items c.in-Some.oldest.now c.as_slice-numbers.result.now some c.in-Some.ensures.lookup
+    c.as_slice-numbers.ensures.value in
+    let long : length c.in-Some.oldest.now.items ≡ length c.as_slice-numbers.result.now =
+    ap (λ (l : List ℕ). length l) (sym c.as_slice-numbers.ensures.value) in
+    let home : c.turns_home-home.result ≡ turns_home i.sizes.format (length c.as_slice-numbers.result.now) =
+    c.turns_home-home.ensures ∙ ap (λ (n : ℕ). turns_home i.sizes.format n) (c.len.ensures.value ∙ long) in
     let shape = shape_of i.sizes in
-    let oldest : i.turned < turns_home i.sizes.format (length c.as_slice-numbers.result.now) + 2 = (subst (λ (l : List (List ℕ)). IsRing (shape_of i.sizes) l i.turned i.under_way.items i.made) waits c.self.invariant.ring).oldest in
-    let each : All (AreInside (shape_of i.sizes)) (lists_of (drop 1 i.waiting.items)) = λ j d below. (subst (λ (l : List (List ℕ)). All (AreInside (shape_of i.sizes)) l) waits c.self.invariant.ring.each) (suc j) d (omega arith) in
-    let last = retired_last (shape_of i.sizes) i.head c.as_slice-numbers.result.now (lists_of (drop 1 i.waiting.items)) i.turned i.kept i.under_way.items i.made i.dead each (omega (arith, oldest, c.if-self-home.false, home)) in
-    subst (λ (v : LogValue). IsRetireStepped v (value_at (shape_of i.sizes) (i.head + 1) (lists_of c.pop_front.new.self.items) 0 (replicate 512 0) i.under_way.items i.made i.dead)) c.self.view_is
-    (subst (λ (l : List (ArrayVec ℕ)). IsRetireStepped (value_at (shape_of i.sizes) i.head (lists_of i.waiting.items) i.turned i.kept i.under_way.items i.made i.dead) (value_at (shape_of i.sizes) (i.head + 1) (lists_of l) 0 (replicate 512 0) i.under_way.items i.made i.dead)) (sym c.pop_front.ensures.rest)
-    (subst (λ (l : List (List ℕ)). IsRetireStepped (value_at (shape_of i.sizes) i.head l i.turned i.kept i.under_way.items i.made i.dead) (value_at (shape_of i.sizes) (i.head + 1) (lists_of (drop 1 i.waiting.items)) 0 (replicate 512 0) i.under_way.items i.made i.dead)) (sym waits) last))
+    let oldest : i.turned < turns_home i.sizes.format (length c.as_slice-numbers.result.now) + 2 =
+    (subst (λ (l : List (List ℕ)). IsRing (shape_of i.sizes) l i.turned i.under_way.items i.made) waits c.self.invariant.ring).oldest in
+    let each : All (AreInside (shape_of i.sizes)) (lists_of (drop 1 i.waiting.items)) = λ j d below.
+    (subst (λ (l : List (List ℕ)). All (AreInside (shape_of i.sizes)) l) waits c.self.invariant.ring.each) (suc j) d (omega arith) in
+    let last = retired_last (shape_of i.sizes) i.head c.as_slice-numbers.result.now (lists_of (drop 1 i.waiting.items)) i.turned i.kept
+    i.under_way.items i.made i.dead each (omega (arith, oldest, c.if-self-home.false, home)) in
+    subst
+    (λ (v : LogValue). IsRetireStepped v
+    (value_at (shape_of i.sizes) (i.head + 1) (lists_of c.pop_front.new.self.items) 0 (replicate 512 0) i.under_way.items i.made
+    i.dead))
+    c.self.view_is
+    (subst
+    (λ (l : List (ArrayVec ℕ)). IsRetireStepped
+    (value_at (shape_of i.sizes) i.head (lists_of i.waiting.items) i.turned i.kept i.under_way.items i.made i.dead)
+    (value_at (shape_of i.sizes) (i.head + 1) (lists_of l) 0 (replicate 512 0) i.under_way.items i.made i.dead))
+    (sym c.pop_front.ensures.rest)
+    (subst
+    (λ (l : List (List ℕ)). IsRetireStepped
+    (value_at (shape_of i.sizes) i.head l i.turned i.kept i.under_way.items i.made i.dead)
+    (value_at (shape_of i.sizes) (i.head + 1) (lists_of (drop 1 i.waiting.items)) 0 (replicate 512 0) i.under_way.items
+    i.made i.dead))
+    (sym waits) last))
 
 pub returns-clause-holds : goal.returns-clause-holds
 returns-clause-holds g c view holds =
     let i = c.self.inside in
     let some : 0 < length i.waiting.items = search rules in
-    let waits = waits_is i.waiting.items c.in-Some.oldest.now c.as_slice-numbers.result.now some c.in-Some.ensures.lookup c.as_slice-numbers.ensures.value in
-    let long : length c.in-Some.oldest.now.items ≡ length c.as_slice-numbers.result.now = ap (λ (l : List ℕ). length l) (sym c.as_slice-numbers.ensures.value) in
-    let home : c.turns_home-home.result ≡ turns_home i.sizes.format (length c.as_slice-numbers.result.now) = c.turns_home-home.ensures ∙ ap (λ (n : ℕ). turns_home i.sizes.format n) (c.len.ensures.value ∙ long) in
-    turn_retires (shape_of i.sizes) (sizes_sized i.sizes) i.head (lists_of i.waiting.items) i.turned i.kept i.under_way.items i.made i.dead c.args.self.now c.self.view_is c.requires.live c.self.invariant.ring
-    c.self.invariant.least (omega (arith, c.self.invariant.most, many i.waiting.items)) c.as_slice-numbers.result.now (lists_of (drop 1 i.waiting.items)) waits
-    (g.M.Medium.state c.args.m.now) (g.M.Medium.state c.make.new.m) (g.met.M.Medium.sound c.args.m.now) c.next_turn-turn.result c.next_turn-turn.ensures.next c.make.ensures.adds view holds c.make.ensures.size
+    let waits = waits_is i.waiting.items c.in-Some.oldest.now c.as_slice-numbers.result.now some c.in-Some.ensures.lookup
+    c.as_slice-numbers.ensures.value in
+    let long : length c.in-Some.oldest.now.items ≡ length c.as_slice-numbers.result.now =
+    ap (λ (l : List ℕ). length l) (sym c.as_slice-numbers.ensures.value) in
+    let home : c.turns_home-home.result ≡ turns_home i.sizes.format (length c.as_slice-numbers.result.now) =
+    c.turns_home-home.ensures ∙ ap (λ (n : ℕ). turns_home i.sizes.format n) (c.len.ensures.value ∙ long) in
+    turn_retires (shape_of i.sizes) (sizes_sized i.sizes) i.head (lists_of i.waiting.items) i.turned i.kept i.under_way.items i.made i.dead
+    c.args.self.now c.self.view_is c.requires.live c.self.invariant.ring c.self.invariant.least
+    (omega (arith, c.self.invariant.most, many i.waiting.items)) c.as_slice-numbers.result.now (lists_of (drop 1 i.waiting.items)) waits
+    (g.M.Medium.state c.args.m.now) (g.M.Medium.state c.make.new.m) (g.met.M.Medium.sound c.args.m.now) c.next_turn-turn.result
+    c.next_turn-turn.ensures.next c.make.ensures.adds view holds c.make.ensures.size
     (on_ok_here c.make.result (sym c.is_err.ensures.value ∙ c.if-is_err.false) c.make.ensures.done) c.make.new.kept
-    (kept_is _ true c.make.new.kept (kept_by c.next_turn-turn.result (g.M.Medium.state c.args.m.now) i.kept) i.kept c.make.ensures.keeps (ok_here c.make.result (sym c.is_err.ensures.value ∙ c.if-is_err.false)))
+    (kept_is _ true c.make.new.kept (kept_by c.next_turn-turn.result (g.M.Medium.state c.args.m.now) i.kept) i.kept c.make.ensures.keeps
+    (ok_here c.make.result (sym c.is_err.ensures.value ∙ c.if-is_err.false)))
     (lists_of c.pop_front.new.self.items) (omega (arith, c.if-self-home.false, home))
     (ap (λ (l : List (ArrayVec ℕ)). lists_of l) c.pop_front.ensures.rest)

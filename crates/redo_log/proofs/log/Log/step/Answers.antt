@@ -23,139 +23,183 @@ many records = let f : ArrayVec ℕ → List ℕ = λ r. r.items in length-map r
 pub returns-then-is_err-clause-holds : goal.returns-then-is_err-clause-holds
 returns-then-is_err-clause-holds g c view holds entries =
     let i = c.self.inside in
-    let dead = step_dead (shape_of i.sizes) (sizes_sized i.sizes) i.head (lists_of i.waiting.items) i.turned i.kept i.under_way.items i.made i.dead c.args.self.now c.self.view_is c.requires.live c.self.invariant.ring
-    c.self.invariant.least (omega (arith, c.self.invariant.most, many i.waiting.items)) c.args.numbers.now c.args.bytes.now c.in-Some.made c.in-Some.is c.requires.numbers c.requires.bytes
-    (i.head + c.len.result) (omega (arith, c.len.ensures, many i.waiting.items))
-    (g.M.Medium.state c.args.m.now) (g.M.Medium.state c.make.new.m) (g.met.M.Medium.sound c.args.m.now) c.next_call-call.result c.make.result c.make.ensures.passes
-    c.next_call-call.ensures.next c.make.ensures.adds view holds (g.met.M.Medium.sound c.make.new.m) in
+    let dead = step_dead (shape_of i.sizes) (sizes_sized i.sizes) i.head (lists_of i.waiting.items) i.turned i.kept i.under_way.items i.made
+    i.dead c.args.self.now c.self.view_is c.requires.live c.self.invariant.ring c.self.invariant.least
+    (omega (arith, c.self.invariant.most, many i.waiting.items)) c.args.numbers.now c.args.bytes.now c.in-Some.made c.in-Some.is
+    c.requires.numbers c.requires.bytes (i.head + c.len.result) (omega (arith, c.len.ensures, many i.waiting.items))
+    (g.M.Medium.state c.args.m.now) (g.M.Medium.state c.make.new.m) (g.met.M.Medium.sound c.args.m.now) c.next_call-call.result
+    c.make.result c.make.ensures.passes c.next_call-call.ensures.next c.make.ensures.adds view holds
+    (g.met.M.Medium.sound c.make.new.m) in
     subst (λ (v : LogValue). HoldsView (died v) (g.M.Medium.state c.make.new.m) view) (sym c.self.view_is) dead
 
 pub returns-then-is_err-clause-cuts : goal.returns-then-is_err-clause-cuts
 returns-then-is_err-clause-cuts g c view holds ours =
     let i = c.self.inside in
-    step_cuts (shape_of i.sizes) (sizes_sized i.sizes) i.head (lists_of i.waiting.items) i.turned i.kept i.under_way.items i.made i.dead c.args.self.now c.self.view_is c.requires.live c.self.invariant.ring
-    c.self.invariant.least (omega (arith, c.self.invariant.most, many i.waiting.items)) c.args.numbers.now c.args.bytes.now c.in-Some.made c.in-Some.is c.requires.numbers c.requires.bytes
-    (i.head + c.len.result) (omega (arith, c.len.ensures, many i.waiting.items))
-    (g.M.Medium.state c.args.m.now) (g.M.Medium.state c.make.new.m) (g.met.M.Medium.sound c.args.m.now) c.next_call-call.result c.make.result c.make.ensures.passes
-    c.next_call-call.ensures.next c.make.ensures.adds view holds ours
+    step_cuts (shape_of i.sizes) (sizes_sized i.sizes) i.head (lists_of i.waiting.items) i.turned i.kept i.under_way.items i.made i.dead
+    c.args.self.now c.self.view_is c.requires.live c.self.invariant.ring c.self.invariant.least
+    (omega (arith, c.self.invariant.most, many i.waiting.items)) c.args.numbers.now c.args.bytes.now c.in-Some.made c.in-Some.is
+    c.requires.numbers c.requires.bytes (i.head + c.len.result) (omega (arith, c.len.ensures, many i.waiting.items))
+    (g.M.Medium.state c.args.m.now) (g.M.Medium.state c.make.new.m) (g.met.M.Medium.sound c.args.m.now) c.next_call-call.result
+    c.make.result c.make.ensures.passes c.next_call-call.ensures.next c.make.ensures.adds view holds ours
 
 pub returns-then-is_err-clause-moments : goal.returns-then-is_err-clause-moments
-returns-then-is_err-clause-moments g c = one_call (λ _. Unit {0}) (g.M.Medium.state c.args.m.now) (g.M.Medium.state c.make.new.m) (g.met.M.Medium.sound c.args.m.now) c.make.ensures.passes (λ image cut. tt) (λ image cut. tt)
+returns-then-is_err-clause-moments g c =
+    one_call (λ _. Unit {0}) (g.M.Medium.state c.args.m.now) (g.M.Medium.state c.make.new.m) (g.met.M.Medium.sound c.args.m.now)
+    c.make.ensures.passes (λ image cut. tt) (λ image cut. tt)
 
 pub returns-then-is_err-clause-spares : goal.returns-then-is_err-clause-spares
-returns-then-is_err-clause-spares g c = call_spares (shape_of c.self.inside.sizes) c.args.self.now (g.M.Medium.state c.args.m.now) (g.M.Medium.state c.make.new.m) (ap (λ (v : LogValue). v.shape) c.self.view_is) c.next_call-call.result c.next_call-call.ensures.inside c.make.ensures.spares
+returns-then-is_err-clause-spares g c =
+    call_spares (shape_of c.self.inside.sizes) c.args.self.now (g.M.Medium.state c.args.m.now) (g.M.Medium.state c.make.new.m)
+    (ap (λ (v : LogValue). v.shape) c.self.view_is) c.next_call-call.result c.next_call-call.ensures.inside c.make.ensures.spares
 
 pub returns-then-made-steps_for-clause-cuts : goal.returns-then-made-steps_for-clause-cuts
 returns-then-made-steps_for-clause-cuts g c view holds ours =
     let i = c.self.inside in
-    step_cuts (shape_of i.sizes) (sizes_sized i.sizes) i.head (lists_of i.waiting.items) i.turned i.kept i.under_way.items i.made i.dead c.args.self.now c.self.view_is c.requires.live c.self.invariant.ring
-    c.self.invariant.least (omega (arith, c.self.invariant.most, many i.waiting.items)) c.args.numbers.now c.args.bytes.now c.in-Some.made c.in-Some.is c.requires.numbers c.requires.bytes
-    (i.head + c.len.result) (omega (arith, c.len.ensures, many i.waiting.items))
-    (g.M.Medium.state c.args.m.now) (g.M.Medium.state c.make.new.m) (g.met.M.Medium.sound c.args.m.now) c.next_call-call.result c.make.result c.make.ensures.passes
-    c.next_call-call.ensures.next c.make.ensures.adds view holds ours
+    step_cuts (shape_of i.sizes) (sizes_sized i.sizes) i.head (lists_of i.waiting.items) i.turned i.kept i.under_way.items i.made i.dead
+    c.args.self.now c.self.view_is c.requires.live c.self.invariant.ring c.self.invariant.least
+    (omega (arith, c.self.invariant.most, many i.waiting.items)) c.args.numbers.now c.args.bytes.now c.in-Some.made c.in-Some.is
+    c.requires.numbers c.requires.bytes (i.head + c.len.result) (omega (arith, c.len.ensures, many i.waiting.items))
+    (g.M.Medium.state c.args.m.now) (g.M.Medium.state c.make.new.m) (g.met.M.Medium.sound c.args.m.now) c.next_call-call.result
+    c.make.result c.make.ensures.passes c.next_call-call.ensures.next c.make.ensures.adds view holds ours
 
 pub returns-then-made-steps_for-clause-moments : goal.returns-then-made-steps_for-clause-moments
-returns-then-made-steps_for-clause-moments g c = one_call (λ _. Unit {0}) (g.M.Medium.state c.args.m.now) (g.M.Medium.state c.make.new.m) (g.met.M.Medium.sound c.args.m.now) c.make.ensures.passes (λ image cut. tt) (λ image cut. tt)
+returns-then-made-steps_for-clause-moments g c =
+    one_call (λ _. Unit {0}) (g.M.Medium.state c.args.m.now) (g.M.Medium.state c.make.new.m) (g.met.M.Medium.sound c.args.m.now)
+    c.make.ensures.passes (λ image cut. tt) (λ image cut. tt)
 
 pub returns-then-made-steps_for-clause-spares : goal.returns-then-made-steps_for-clause-spares
-returns-then-made-steps_for-clause-spares g c = call_spares (shape_of c.self.inside.sizes) c.args.self.now (g.M.Medium.state c.args.m.now) (g.M.Medium.state c.make.new.m) (ap (λ (v : LogValue). v.shape) c.self.view_is) c.next_call-call.result c.next_call-call.ensures.inside c.make.ensures.spares
+returns-then-made-steps_for-clause-spares g c =
+    call_spares (shape_of c.self.inside.sizes) c.args.self.now (g.M.Medium.state c.args.m.now) (g.M.Medium.state c.make.new.m)
+    (ap (λ (v : LogValue). v.shape) c.self.view_is) c.next_call-call.result c.next_call-call.ensures.inside c.make.ensures.spares
 
 pub returns-clause-cuts : goal.returns-clause-cuts
 returns-clause-cuts g c view holds ours =
     let i = c.self.inside in
-    step_cuts (shape_of i.sizes) (sizes_sized i.sizes) i.head (lists_of i.waiting.items) i.turned i.kept i.under_way.items i.made i.dead c.args.self.now c.self.view_is c.requires.live c.self.invariant.ring
-    c.self.invariant.least (omega (arith, c.self.invariant.most, many i.waiting.items)) c.args.numbers.now c.args.bytes.now c.in-Some.made c.in-Some.is c.requires.numbers c.requires.bytes
-    (i.head + c.len.result) (omega (arith, c.len.ensures, many i.waiting.items))
-    (g.M.Medium.state c.args.m.now) (g.M.Medium.state c.make.new.m) (g.met.M.Medium.sound c.args.m.now) c.next_call-call.result c.make.result c.make.ensures.passes
-    c.next_call-call.ensures.next c.make.ensures.adds view holds ours
+    step_cuts (shape_of i.sizes) (sizes_sized i.sizes) i.head (lists_of i.waiting.items) i.turned i.kept i.under_way.items i.made i.dead
+    c.args.self.now c.self.view_is c.requires.live c.self.invariant.ring c.self.invariant.least
+    (omega (arith, c.self.invariant.most, many i.waiting.items)) c.args.numbers.now c.args.bytes.now c.in-Some.made c.in-Some.is
+    c.requires.numbers c.requires.bytes (i.head + c.len.result) (omega (arith, c.len.ensures, many i.waiting.items))
+    (g.M.Medium.state c.args.m.now) (g.M.Medium.state c.make.new.m) (g.met.M.Medium.sound c.args.m.now) c.next_call-call.result
+    c.make.result c.make.ensures.passes c.next_call-call.ensures.next c.make.ensures.adds view holds ours
 
 pub returns-clause-moments : goal.returns-clause-moments
-returns-clause-moments g c = one_call (λ _. Unit {0}) (g.M.Medium.state c.args.m.now) (g.M.Medium.state c.make.new.m) (g.met.M.Medium.sound c.args.m.now) c.make.ensures.passes (λ image cut. tt) (λ image cut. tt)
+returns-clause-moments g c =
+    one_call (λ _. Unit {0}) (g.M.Medium.state c.args.m.now) (g.M.Medium.state c.make.new.m) (g.met.M.Medium.sound c.args.m.now)
+    c.make.ensures.passes (λ image cut. tt) (λ image cut. tt)
 
 pub returns-clause-spares : goal.returns-clause-spares
-returns-clause-spares g c = call_spares (shape_of c.self.inside.sizes) c.args.self.now (g.M.Medium.state c.args.m.now) (g.M.Medium.state c.make.new.m) (ap (λ (v : LogValue). v.shape) c.self.view_is) c.next_call-call.result c.next_call-call.ensures.inside c.make.ensures.spares
+returns-clause-spares g c =
+    call_spares (shape_of c.self.inside.sizes) c.args.self.now (g.M.Medium.state c.args.m.now) (g.M.Medium.state c.make.new.m)
+    (ap (λ (v : LogValue). v.shape) c.self.view_is) c.next_call-call.result c.next_call-call.ensures.inside c.make.ensures.spares
 
 pub returns-then-made-steps_for-clause-holds : goal.returns-then-made-steps_for-clause-holds
 returns-then-made-steps_for-clause-holds g c view holds entries =
     let i = c.self.inside in
-    step_goes_on (shape_of i.sizes) (sizes_sized i.sizes) i.head (lists_of i.waiting.items) i.turned i.kept i.under_way.items i.made i.dead c.args.self.now c.self.view_is c.requires.live c.self.invariant.ring
-    c.self.invariant.least (omega (arith, c.self.invariant.most, many i.waiting.items)) c.args.numbers.now c.args.bytes.now c.in-Some.made c.in-Some.is c.requires.numbers c.requires.bytes
-    (i.head + c.len.result) (omega (arith, c.len.ensures, many i.waiting.items))
-    (g.M.Medium.state c.args.m.now) (g.M.Medium.state c.make.new.m) (g.met.M.Medium.sound c.args.m.now) c.next_call-call.result c.make.result c.make.ensures.passes
-    c.next_call-call.ensures.next c.make.ensures.adds view holds entries
+    step_goes_on (shape_of i.sizes) (sizes_sized i.sizes) i.head (lists_of i.waiting.items) i.turned i.kept i.under_way.items i.made i.dead
+    c.args.self.now c.self.view_is c.requires.live c.self.invariant.ring c.self.invariant.least
+    (omega (arith, c.self.invariant.most, many i.waiting.items)) c.args.numbers.now c.args.bytes.now c.in-Some.made c.in-Some.is
+    c.requires.numbers c.requires.bytes (i.head + c.len.result) (omega (arith, c.len.ensures, many i.waiting.items))
+    (g.M.Medium.state c.args.m.now) (g.M.Medium.state c.make.new.m) (g.met.M.Medium.sound c.args.m.now) c.next_call-call.result
+    c.make.result c.make.ensures.passes c.next_call-call.ensures.next c.make.ensures.adds view holds entries
     (on_ok_here c.make.result (sym c.is_err.ensures.value ∙ c.if-is_err.false) c.make.ensures.done)
     (omega (arith, c.if-made-steps_for.true, c.steps_for.ensures))
 
 -- the durable records after the last step
-after_is : (records after : List (ArrayVec ℕ)) (old taken : ArrayVec ℕ) → after ≡ records ++ taken ∷ [] → taken ≡ old → lists_of after ≡ lists_of records ++ old.items ∷ []
-after_is records after old taken is same = ap (λ (l : List (ArrayVec ℕ)). lists_of l) is ∙ (lists_more records taken ∙ ap (λ (x : ArrayVec ℕ). lists_of records ++ x.items ∷ []) same)
+after_is : (records after : List (ArrayVec ℕ)) (old taken : ArrayVec ℕ) → after ≡ records ++ taken ∷ [] → taken ≡ old
+    → lists_of after ≡ lists_of records ++ old.items ∷ []
+after_is records after old taken is same =
+    ap (λ (l : List (ArrayVec ℕ)). lists_of l) is
+    ∙ (lists_more records taken ∙ ap (λ (x : ArrayVec ℕ). lists_of records ++ x.items ∷ []) same)
 
 pub returns-clause-holds : goal.returns-clause-holds
 returns-clause-holds g c view holds entries =
     let i = c.self.inside in
     let new = g.M.Medium.state c.make.new.m in
-    let waiting = after_is i.waiting.items c.push_back_reserved.new.self.items i.under_way c.take.result c.push_back_reserved.ensures.items c.take.ensures.value in
-    let after = step_durable (shape_of i.sizes) (sizes_sized i.sizes) i.head (lists_of i.waiting.items) i.turned i.kept i.under_way.items i.made i.dead c.args.self.now c.self.view_is c.requires.live c.self.invariant.ring
-    c.self.invariant.least (omega (arith, c.self.invariant.most, many i.waiting.items)) c.args.numbers.now c.args.bytes.now c.in-Some.made c.in-Some.is c.requires.numbers c.requires.bytes
-    (i.head + c.len.result) (omega (arith, c.len.ensures, many i.waiting.items))
-    (g.M.Medium.state c.args.m.now) (g.M.Medium.state c.make.new.m) (g.met.M.Medium.sound c.args.m.now) c.next_call-call.result c.make.result c.make.ensures.passes
-    c.next_call-call.ensures.next c.make.ensures.adds view holds entries
+    let waiting = after_is i.waiting.items c.push_back_reserved.new.self.items i.under_way c.take.result c.push_back_reserved.ensures.items
+    c.take.ensures.value in
+    let after = step_durable (shape_of i.sizes) (sizes_sized i.sizes) i.head (lists_of i.waiting.items) i.turned i.kept i.under_way.items
+    i.made i.dead c.args.self.now c.self.view_is c.requires.live c.self.invariant.ring c.self.invariant.least
+    (omega (arith, c.self.invariant.most, many i.waiting.items)) c.args.numbers.now c.args.bytes.now c.in-Some.made c.in-Some.is
+    c.requires.numbers c.requires.bytes (i.head + c.len.result) (omega (arith, c.len.ensures, many i.waiting.items))
+    (g.M.Medium.state c.args.m.now) (g.M.Medium.state c.make.new.m) (g.met.M.Medium.sound c.args.m.now) c.next_call-call.result
+    c.make.result c.make.ensures.passes c.next_call-call.ensures.next c.make.ensures.adds view holds entries
     (on_ok_here c.make.result (sym c.is_err.ensures.value ∙ c.if-is_err.false) c.make.ensures.done)
     (omega (arith, c.if-made-steps_for.false, c.steps_for.ensures)) in
-    subst (λ (l : List ℕ). HoldsView (value_at (shape_of i.sizes) i.head (lists_of c.push_back_reserved.new.self.items) i.turned i.kept l None i.dead) new (with_record view)) (sym c.take.ensures.after)
-    (subst (λ (l : List (List ℕ)). HoldsView (value_at (shape_of i.sizes) i.head l i.turned i.kept [] None i.dead) new (with_record view)) (sym waiting) after)
+    subst
+    (λ (l : List ℕ). HoldsView
+    (value_at (shape_of i.sizes) i.head (lists_of c.push_back_reserved.new.self.items) i.turned i.kept l None i.dead) new
+    (with_record view))
+    (sym c.take.ensures.after)
+    (subst
+    (λ (l : List (List ℕ)). HoldsView (value_at (shape_of i.sizes) i.head l i.turned i.kept [] None i.dead) new (with_record view))
+    (sym waiting) after)
 
 pub returns-clause-durable : goal.returns-clause-durable
 returns-clause-durable g c view holds entries ours answers =
     let i = c.self.inside in
-    step_whole (shape_of i.sizes) (sizes_sized i.sizes) i.head (lists_of i.waiting.items) i.turned i.kept i.under_way.items i.made i.dead c.args.self.now c.self.view_is c.requires.live c.self.invariant.ring
-    c.self.invariant.least (omega (arith, c.self.invariant.most, many i.waiting.items)) c.args.numbers.now c.args.bytes.now c.in-Some.made c.in-Some.is c.requires.numbers c.requires.bytes
-    (i.head + c.len.result) (omega (arith, c.len.ensures, many i.waiting.items))
-    (g.M.Medium.state c.args.m.now) (g.M.Medium.state c.make.new.m) (g.met.M.Medium.sound c.args.m.now) c.next_call-call.result c.make.result c.make.ensures.passes
-    c.next_call-call.ensures.next c.make.ensures.adds view holds entries
+    step_whole (shape_of i.sizes) (sizes_sized i.sizes) i.head (lists_of i.waiting.items) i.turned i.kept i.under_way.items i.made i.dead
+    c.args.self.now c.self.view_is c.requires.live c.self.invariant.ring c.self.invariant.least
+    (omega (arith, c.self.invariant.most, many i.waiting.items)) c.args.numbers.now c.args.bytes.now c.in-Some.made c.in-Some.is
+    c.requires.numbers c.requires.bytes (i.head + c.len.result) (omega (arith, c.len.ensures, many i.waiting.items))
+    (g.M.Medium.state c.args.m.now) (g.M.Medium.state c.make.new.m) (g.met.M.Medium.sound c.args.m.now) c.next_call-call.result
+    c.make.result c.make.ensures.passes c.next_call-call.ensures.next c.make.ensures.adds view holds entries
     (on_ok_here c.make.result (sym c.is_err.ensures.value ∙ c.if-is_err.false) c.make.ensures.done)
     (omega (arith, c.if-made-steps_for.false, c.steps_for.ensures)) ours
 
 pub invariant_of-self-2 : goal.invariant_of-self-2
 invariant_of-self-2 g c =
     let i = c.self.inside in
-    let waiting = after_is i.waiting.items c.push_back_reserved.new.self.items i.under_way c.take.result c.push_back_reserved.ensures.items c.take.ensures.value in
+    let waiting = after_is i.waiting.items c.push_back_reserved.new.self.items i.under_way c.take.result c.push_back_reserved.ensures.items
+    c.take.ensures.value in
     let numbers : c.args.numbers.now ≡ i.under_way.items = c.requires.numbers ∙ ap (λ (v : LogValue). v.under_way) (sym c.self.view_is) in
     let stamp : i.head + c.len.result ≡ i.head + length (lists_of i.waiting.items) = omega (arith, c.len.ensures, many i.waiting.items) in
     let one : begun_at i.made ≡ 1 = ap (λ (w : Option ℕ). begun_at w) c.in-Some.is in
     let was : IsRing (shape_of i.sizes) (lists_of i.waiting.items) i.turned i.under_way.items (Some c.in-Some.made) =
-    subst (λ (w : Option ℕ). IsRing (shape_of i.sizes) (lists_of i.waiting.items) i.turned i.under_way.items w) c.in-Some.is c.self.invariant.ring in
+    subst (λ (w : Option ℕ). IsRing (shape_of i.sizes) (lists_of i.waiting.items) i.turned i.under_way.items w) c.in-Some.is
+    c.self.invariant.ring in
     let ring = ring_durable (shape_of i.sizes) (lists_of i.waiting.items) i.turned i.under_way.items c.in-Some.made was in
     record {
       least = c.self.invariant.least;
-      most = omega (arith, c.self.invariant.most, one, many i.waiting.items, many c.push_back_reserved.new.self.items, ap (λ (l : List (List ℕ)). length l) waiting, length-append (lists_of i.waiting.items) (i.under_way.items ∷ []));
+      most = omega (
+        arith,
+        c.self.invariant.most,
+        one,
+        many i.waiting.items,
+        many c.push_back_reserved.new.self.items,
+        ap (λ (l : List (List ℕ)). length l) waiting,
+        length-append (lists_of i.waiting.items) (i.under_way.items ∷ []),
+      );
       room = omega (arith, c.self.invariant.room, c.push_back_reserved.ensures.capacity);
       index_room = omega (arith, c.self.invariant.index_room, c.enter_record.ensures.capacity);
       index_is = subst (λ (l : List (List ℕ)). IsIndex i.sizes.slots i.head l c.enter_record.new.index.items) (sym waiting)
-          (index_more i.sizes.slots i.head (lists_of i.waiting.items) i.under_way.items i.index.items c.enter_record.new.index.items c.self.invariant.index_is c.enter_record.ensures.sorted
-          (λ b. c.enter_record.ensures.looks b ∙ (ap (λ (l : List ℕ). with_copies c.slot_of.result 0 l (look i.index.items) b) numbers
-          ∙ ap (λ (n : ℕ). with_copies n 0 i.under_way.items (look i.index.items) b) (c.slot_of.ensures ∙ ap (λ (n : ℕ). n % i.sizes.slots) stamp))));
-      ring = subst (λ (l : List ℕ). IsRing (shape_of i.sizes) (lists_of c.push_back_reserved.new.self.items) i.turned l None) (sym c.take.ensures.after)
-          (subst (λ (l : List (List ℕ)). IsRing (shape_of i.sizes) l i.turned [] None) (sym waiting) ring);
+          (index_more i.sizes.slots i.head (lists_of i.waiting.items) i.under_way.items i.index.items c.enter_record.new.index.items
+          c.self.invariant.index_is c.enter_record.ensures.sorted
+          (λ b. c.enter_record.ensures.looks b
+          ∙ (ap (λ (l : List ℕ). with_copies c.slot_of.result 0 l (look i.index.items) b) numbers
+          ∙ ap (λ (n : ℕ). with_copies n 0 i.under_way.items (look i.index.items) b)
+          (c.slot_of.ensures ∙ ap (λ (n : ℕ). n % i.sizes.slots) stamp))));
+      ring = subst (λ (l : List ℕ). IsRing (shape_of i.sizes) (lists_of c.push_back_reserved.new.self.items) i.turned l None)
+          (sym c.take.ensures.after) (subst (λ (l : List (List ℕ)). IsRing (shape_of i.sizes) l i.turned [] None) (sym waiting) ring);
     }
 
 -- the block numbers of the record under way
-numbers_inside : (shape : Shape) (waiting : List (List ℕ)) (turned : ℕ) (under_way numbers : List ℕ) (made : Option ℕ) (m : ℕ) → IsRing shape waiting turned under_way made → made ≡ Some m
-    → numbers ≡ under_way → AreInside shape numbers
+numbers_inside : (shape : Shape) (waiting : List (List ℕ)) (turned : ℕ) (under_way numbers : List ℕ) (made : Option ℕ) (m : ℕ)
+    → IsRing shape waiting turned under_way made → made ≡ Some m → numbers ≡ under_way → AreInside shape numbers
 numbers_inside shape waiting turned under_way numbers made m ring is same =
     subst (AreInside shape) (sym same) ((subst (λ (o : Option ℕ). IsUnderWay shape under_way o) is ring.record_under_way).0)
 
 pub enter_record-requires-clause-rising : goal.enter_record-requires-clause-rising
 enter_record-requires-clause-rising g c =
     let i = c.self.inside in
-    (numbers_inside (shape_of i.sizes) (lists_of i.waiting.items) i.turned i.under_way.items c.args.numbers.now i.made c.in-Some.made c.self.invariant.ring c.in-Some.is
-    (c.requires.numbers ∙ ap (λ (v : LogValue). v.under_way) (sym c.self.view_is))).rising
+    (numbers_inside (shape_of i.sizes) (lists_of i.waiting.items) i.turned i.under_way.items c.args.numbers.now i.made c.in-Some.made
+    c.self.invariant.ring c.in-Some.is (c.requires.numbers ∙ ap (λ (v : LogValue). v.under_way) (sym c.self.view_is))).rising
 
 pub enter_record-requires-clause-fits : goal.enter_record-requires-clause-fits
 enter_record-requires-clause-fits g c =
     let i = c.self.inside in
-    let inside = numbers_inside (shape_of i.sizes) (lists_of i.waiting.items) i.turned i.under_way.items c.args.numbers.now i.made c.in-Some.made c.self.invariant.ring c.in-Some.is
-    (c.requires.numbers ∙ ap (λ (v : LogValue). v.under_way) (sym c.self.view_is)) in
+    let inside = numbers_inside (shape_of i.sizes) (lists_of i.waiting.items) i.turned i.under_way.items c.args.numbers.now i.made
+    c.in-Some.made c.self.invariant.ring c.in-Some.is (c.requires.numbers ∙ ap (λ (v : LogValue). v.under_way) (sym c.self.view_is)) in
     let one : begun_at i.made ≡ 1 = ap (λ (w : Option ℕ). begun_at w) c.in-Some.is in
-    record_room i.sizes.slots i.head (limit_of i.sizes.format) (lists_of i.waiting.items) i.index.items c.self.invariant.index_is (omega (arith, c.self.invariant.ring.fits, one))
-    (λ age below. (c.self.invariant.ring.each age [] below).few) (vec_capacity i.index) (length c.args.numbers.now) inside.few c.self.invariant.index_room
+    record_room i.sizes.slots i.head (limit_of i.sizes.format) (lists_of i.waiting.items) i.index.items c.self.invariant.index_is
+    (omega (arith, c.self.invariant.ring.fits, one)) (λ age below. (c.self.invariant.ring.each age [] below).few) (vec_capacity i.index)
+    (length c.args.numbers.now) inside.few c.self.invariant.index_room
