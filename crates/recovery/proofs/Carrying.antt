@@ -13,7 +13,8 @@ use Rattle.log_image.proofs.Formats.{laws_of}
 
 module _ (L : Layout) (laws : Laws L) (shape : Shape) (image : Image) where
   -- a whole record carries its stamp in its last sector
-  last_carries : (stamp : ℕ) (es : List Entry) → IsWholeIn L shape image stamp es → L.carries (L.slot_sectors - 1) stamp (image (slot_at L shape stamp + (L.slot_sectors - 1)))
+  last_carries : (stamp : ℕ) (es : List Entry) → IsWholeIn L shape image stamp es
+      → L.carries (L.slot_sectors - 1) stamp (image (slot_at L shape stamp + (L.slot_sectors - 1)))
   last_carries stamp es w =
       let n : ℕ = length es in
       let p : ℕ = L.parts (length es) - 1 in
@@ -24,29 +25,37 @@ module _ (L : Layout) (laws : Laws L) (shape : Shape) (image : Image) where
       let o : L.offset (length es) (L.parts (length es) - 1) ≡ L.slot_sectors - 1 = laws.last (length es) in
       let carried : L.carries (L.offset (length es) (L.parts (length es) - 1)) stamp (L.part stamp es (L.parts (length es) - 1)) =
       ⊎_elim (λ early. absurd (omega (arith, early, late))) (λ c. c)
-      (laws.carries shape.blocks stamp es (L.parts (length es) - 1) (record { fit = w.fit; least = w.least; below = w.below }) inside) in
-      let here : L.carries (L.offset (length es) (L.parts (length es) - 1)) stamp (image (slot_at L shape stamp + L.offset (length es) (L.parts (length es) - 1))) =
+      (laws.carries shape.blocks stamp es (L.parts (length es) - 1) (record { fit = w.fit; least = w.least; below = w.below })
+      inside) in
+      let here : L.carries (L.offset (length es) (L.parts (length es) - 1)) stamp
+      (image (slot_at L shape stamp + L.offset (length es) (L.parts (length es) - 1))) =
       subst (L.carries (L.offset (length es) (L.parts (length es) - 1)) stamp) (sym there) carried in
       subst (λ (x : ℕ). L.carries x stamp (image (slot_at L shape stamp + x))) o here
 
   -- so its stamp is below the end of all that are carried
-  carried_in : (stamp end : ℕ) (es : List Entry) → 1 ≤ shape.slots → IsWholeIn L shape image stamp es → CarriesBelowIn L shape image end → stamp < end
+  carried_in : (stamp end : ℕ) (es : List Entry) → 1 ≤ shape.slots → IsWholeIn L shape image stamp es → CarriesBelowIn L shape image end
+      → stamp < end
   carried_in stamp end es some w below =
       let inside = laws.inside 0 0 (omega arith) (laws.some_parts 0) in
-      below (stamp % shape.slots) (L.slot_sectors - 1) stamp (mod_below stamp shape.slots some) (omega (arith, inside)) (last_carries stamp es w)
+      below (stamp % shape.slots) (L.slot_sectors - 1) stamp (mod_below stamp shape.slots some) (omega (arith, inside))
+      (last_carries stamp es w)
 
   -- a log of zeros carries nothing from stamp 1 on
-  zeros_below : (end : ℕ) → 1 ≤ end → ((x : ℕ) → 2 ≤ x → x < 2 + L.slot_sectors * shape.slots → image x ≡ replicate 512 0) → CarriesBelowIn L shape image end
+  zeros_below : (end : ℕ) → 1 ≤ end → ((x : ℕ) → 2 ≤ x → x < 2 + L.slot_sectors * shape.slots → image x ≡ replicate 512 0)
+      → CarriesBelowIn L shape image end
   zeros_below end some zeros slot o stamp low small carries =
       let inside = in_log L.slot_sectors slot shape.slots o low small in
       let none = laws.zeros o stamp (subst (L.carries o stamp) (zeros (2 + L.slot_sectors * slot + o) (omega arith) inside) carries) in
       omega (arith, none, some)
 
-pub carried_whole : (shape : Shape) (image : Image) (stamp end : ℕ) → 1 ≤ shape.slots → HasWhole shape image stamp → CarriesBelow shape image end → stamp < end
-carried_whole shape image stamp end some w below = carried_in (layout_of shape.format) (laws_of shape.format) shape image stamp end w.0 some w.1 below
+pub carried_whole : (shape : Shape) (image : Image) (stamp end : ℕ) → 1 ≤ shape.slots → HasWhole shape image stamp
+    → CarriesBelow shape image end → stamp < end
+carried_whole shape image stamp end some w below =
+    carried_in (layout_of shape.format) (laws_of shape.format) shape image stamp end w.0 some w.1 below
 
 pub zeros_carry : (shape : Shape) (image : Image) (end : ℕ) → 1 ≤ end
-    → ((x : ℕ) → 2 ≤ x → x < 2 + (layout_of shape.format).slot_sectors * shape.slots → image x ≡ replicate 512 0) → CarriesBelow shape image end
+    → ((x : ℕ) → 2 ≤ x → x < 2 + (layout_of shape.format).slot_sectors * shape.slots → image x ≡ replicate 512 0)
+    → CarriesBelow shape image end
 zeros_carry shape image end some zeros = zeros_below (layout_of shape.format) (laws_of shape.format) shape image end some zeros
 
 -- what is below one stamp is below the next

@@ -1,7 +1,7 @@
 -- Why a recovery is refused, and what that rules out.
 use Rattle.std.proofs.Common.{◌≡◌, ◌∙◌, ◌<◌, ◌^◌, ℕ, Result, refl, sym, subst, arith}
 use Rattle.medium.specs.Medium.{State, Image, Passes}
-use Rattle.medium.specs.Moments.{IsQuiet}
+use Rattle.medium.specs.Moments.{LeavesOnly, IsQuiet}
 use Rattle.medium.specs.Blocks.{Array}
 use Rattle.medium.specs.declared.fault.MediumFault.{MediumFault}
 use Rattle.medium.specs.declared.fault.MediumFault.TheVariants as medium
@@ -14,24 +14,31 @@ use Rattle.log_layout.specs.Values.{shape_of}
 use Rattle.log_image.specs.ImageFaults as image
 use Rattle.log_image.proofs.StandingLaws.{StandsFor-one}
 use Rattle.log_image.proofs.FaultLaws.{HasFault-stands}
-use Rattle.recovery.specs.Causes.{IsRefusedCall, MakesReadsAlone, WritesNothing, IsCause, HasFewSlots, IsRefusalBy, IsDeviceFault}
+use Rattle.recovery.specs.Causes.{start_fault_of, IsRefusedCall, MakesReadsAlone, WritesNothing, IsCause}
+use Rattle.recovery.specs.Causes.{HasFewSlots, IsRefusalBy, IsDeviceFault}
 use Rattle.recovery.specs.Recovered.{IsRecoveredFrom}
 use Rattle.recovery.specs.declared.recovered.Recovered.{Recovered}
 use Rattle.recovery.specs.declared.start_fault.StartFault.{StartFault}
-use Rattle.recovery.specs.declared.start_fault.StartFault.TheVariants.{NoMemory, Read, Write, Flush, BadSuper, BadVersion, BadSize, BadHead, StampsUsedUp, LogTooSmall}
+use Rattle.recovery.specs.declared.start_fault.StartFault.TheVariants.{NoMemory, Read, Write, Flush, BadSuper, BadVersion, BadSize, BadHead}
+use Rattle.recovery.specs.declared.start_fault.StartFault.TheVariants.{StampsUsedUp, LogTooSmall}
 
-module _ (old mid new : State) {result : Result (Unit {0}) MediumFault} (flush : Passes medium.Flush result old mid) (quiet : IsQuiet old mid) (reads : MakesReadsAlone mid new) where
+module _ (old mid new : State) {result : Result (Unit {0}) MediumFault} (flush : Passes medium.Flush result old mid)
+    (quiet : IsQuiet old mid) (reads : MakesReadsAlone mid new) where
   same : mid.content ≡ old.content
   same = λ i s. quiet.content_stays s i
 
   fault_before : (fault : image.ImageFault) → image.HasFault mid.size mid.content fault → image.HasFault old.size old.content fault
-  fault_before fault h = subst (λ (n : ℕ). image.HasFault n old.content fault) quiet.size_stays (subst (λ (i : Image). image.HasFault mid.size i fault) same h)
+  fault_before fault h =
+      subst (λ (n : ℕ). image.HasFault n old.content fault) quiet.size_stays (subst (λ (i : Image). image.HasFault mid.size i fault) same h)
 
   none_left_before : image.HasNoStampLeft mid.size mid.content → image.HasNoStampLeft old.size old.content
-  none_left_before h = subst (λ (n : ℕ). image.HasNoStampLeft n old.content) quiet.size_stays (subst (λ (i : Image). image.HasNoStampLeft mid.size i) same h)
+  none_left_before h =
+      subst (λ (n : ℕ). image.HasNoStampLeft n old.content) quiet.size_stays (subst (λ (i : Image). image.HasNoStampLeft mid.size i) same h)
 
   refused_before : (kind : MediumFault) → IsRefusedCall mid new kind → IsRefusedCall old new kind
-  refused_before kind h = let stays = quiet.refused_stay kind in record { grew = omega (arith, quiet.failures_stay, h.grew); kind_grew = omega (arith, stays, h.kind_grew) }
+  refused_before kind h =
+      let stays = quiet.refused_stay kind in
+      record { grew = omega (arith, quiet.failures_stay, h.grew); kind_grew = omega (arith, stays, h.kind_grew) }
 
   wrote_nothing : IsQuiet mid new → WritesNothing old new
   wrote_nothing later = record {
@@ -41,13 +48,17 @@ module _ (old mid new : State) {result : Result (Unit {0}) MediumFault} (flush :
   }
 
   few_before : (least : ℕ) → HasFewSlots least mid.size mid.content → HasFewSlots least old.size old.content
-  few_before least h = subst (λ (n : ℕ). HasFewSlots least n old.content) quiet.size_stays (subst (λ (i : Image). HasFewSlots least mid.size i) same h)
+  few_before least h =
+      subst (λ (n : ℕ). HasFewSlots least n old.content) quiet.size_stays (subst (λ (i : Image). HasFewSlots least mid.size i) same h)
 
   pub few_after : (least : ℕ) → HasFewSlots least old.size old.content → HasFewSlots least mid.size mid.content
-  few_after least h = subst (λ (n : ℕ). HasFewSlots least n mid.content) (sym quiet.size_stays) (subst (λ (i : Image). HasFewSlots least old.size i) (sym same) h)
+  few_after least h =
+      subst (λ (n : ℕ). HasFewSlots least n mid.content) (sym quiet.size_stays)
+      (subst (λ (i : Image). HasFewSlots least old.size i) (sym same) h)
 
   -- a refusal by reads after a flush is one by both
-  pub refusal_before : (least : ℕ) (fault : StartFault) → IsRefusalBy least IsQuiet mid new fault → IsRefusalBy least WritesNothing old new fault
+  pub refusal_before : (least : ℕ) (fault : StartFault) → IsRefusalBy least IsQuiet mid new fault
+      → IsRefusalBy least WritesNothing old new fault
   refusal_before least NoMemory h = h
   refusal_before least Read h = refused_before medium.Read h
   refusal_before least Write h = refused_before medium.Write h
@@ -58,6 +69,19 @@ module _ (old mid new : State) {result : Result (Unit {0}) MediumFault} (flush :
   refusal_before least BadHead h = (fault_before image.BadHead h.0, wrote_nothing h.1)
   refusal_before least StampsUsedUp h = (λ few. h.0 (few_after least few), none_left_before h.1, wrote_nothing h.2)
   refusal_before least LogTooSmall h = (few_before least h.0, wrote_nothing h.1)
+
+-- a call that the medium refused after others refuses a start
+module _ (least : ℕ) (P : Image → Type 0) (old mid new : State) (left : LeavesOnly P old mid) where
+  later : (kind : MediumFault) → IsRefusedCall mid new kind → IsRefusedCall old new kind
+  later kind h = let stays = left.refused_stay kind in record {
+    grew = omega (arith, left.failures_stay, h.grew);
+    kind_grew = omega (arith, stays, h.kind_grew);
+  }
+
+  pub refused_later : (kind : MediumFault) → IsRefusedCall mid new kind → IsRefusalBy least WritesNothing old new (start_fault_of kind)
+  refused_later medium.Read h = later medium.Read h
+  refused_later medium.Write h = later medium.Write h
+  refused_later medium.Flush h = later medium.Flush h
 
 -- a start that asks for no slots is refused as a recovery is
 pub refusal_cause : (old new : State) (fault : StartFault) → IsRefusalBy 0 WritesNothing old new fault → IsCause old new fault
@@ -73,16 +97,21 @@ refusal_cause old new StampsUsedUp h = (h.1, h.2)
 refusal_cause old new LogTooSmall h = let few = h.0.few in omega (arith, few)
 
 -- contents that stand for something, with a stamp left and enough slots, are refused by the device
-pub served_slots : (least : ℕ) (old new : State) (fault : StartFault) → IsRefusalBy least WritesNothing old new fault → (shape : Shape) (array : Array) (next : ℕ) → StandsFor old.size shape old.content array next
-    → next < 2 ^ 63 → (¬ HasFewSlots least old.size old.content) → IsDeviceFault fault
+pub served_slots : (least : ℕ) (old new : State) (fault : StartFault) → IsRefusalBy least WritesNothing old new fault
+    → (shape : Shape) (array : Array) (next : ℕ) → StandsFor old.size shape old.content array next → next < 2 ^ 63
+    → (¬ HasFewSlots least old.size old.content) → IsDeviceFault fault
 served_slots least old new NoMemory h shape array next s left some = absurd h
 served_slots least old new Read h shape array next s left some = (medium.Read, refl)
 served_slots least old new Write h shape array next s left some = (medium.Write, refl)
 served_slots least old new Flush h shape array next s left some = (medium.Flush, refl)
-served_slots least old new BadSuper h shape array next s left some = absurd (HasFault-stands old.size old.content image.BadSuper h.0 (shape, array, next, s))
-served_slots least old new BadVersion h shape array next s left some = absurd (HasFault-stands old.size old.content image.BadVersion h.0 (shape, array, next, s))
-served_slots least old new BadSize h shape array next s left some = absurd (HasFault-stands old.size old.content image.BadSize h.0 (shape, array, next, s))
-served_slots least old new BadHead h shape array next s left some = absurd (HasFault-stands old.size old.content image.BadHead h.0 (shape, array, next, s))
+served_slots least old new BadSuper h shape array next s left some =
+    absurd (HasFault-stands old.size old.content image.BadSuper h.0 (shape, array, next, s))
+served_slots least old new BadVersion h shape array next s left some =
+    absurd (HasFault-stands old.size old.content image.BadVersion h.0 (shape, array, next, s))
+served_slots least old new BadSize h shape array next s left some =
+    absurd (HasFault-stands old.size old.content image.BadSize h.0 (shape, array, next, s))
+served_slots least old new BadHead h shape array next s left some =
+    absurd (HasFault-stands old.size old.content image.BadHead h.0 (shape, array, next, s))
 served_slots least old new LogTooSmall h shape array next s left some = absurd (some h.0)
 served_slots least old new StampsUsedUp h shape array next s left some =
     let w = h.1 in
@@ -92,7 +121,8 @@ served_slots least old new StampsUsedUp h shape array next s left some =
     absurd (omega (arith, same, past, left))
 
 -- contents with a fault are never recovered
-pub faulty : (old new : State) (answer : Recovered) (fault : image.ImageFault) → image.HasFault old.size old.content fault → ¬ IsRecoveredFrom old new answer
+pub faulty : (old new : State) (answer : Recovered) (fault : image.ImageFault) → image.HasFault old.size old.content fault
+    → ¬ IsRecoveredFrom old new answer
 faulty old new answer fault h r = HasFault-stands old.size old.content fault h (shape_of answer.sizes, r.array, answer.next, r.stood)
 
 -- nor are those with no stamp left
@@ -105,7 +135,8 @@ used_up old new answer h r =
     omega (arith, same, past, left)
 
 -- an image with this super has few slots only where the super has
-pub enough_slots : (least size : ℕ) (shape : Shape) (content : Image) → image.HasShape size shape content → (¬ ((shape.format ≡ One) × (shape.slots < least))) → ¬ HasFewSlots least size content
+pub enough_slots : (least size : ℕ) (shape : Shape) (content : Image) → image.HasShape size shape content
+    → (¬ ((shape.format ≡ One) × (shape.slots < least))) → ¬ HasFewSlots least size content
 enough_slots least size shape content has not few =
     let same : few.shape ≡ shape = IsSuper-one few.shape shape (content 0) few.has.super has.super in
     not (subst (λ (s : Shape). (s.format ≡ One) × (s.slots < least)) same (few.one, few.few))

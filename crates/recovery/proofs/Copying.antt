@@ -1,12 +1,14 @@
 -- What a cut leaves while records are copied home, and what home then holds.
-use Rattle.std.proofs.Common.{◌≡◌, inl, inr, ⊎_elim, ℕ, zero, suc, ◌+◌, ◌*◌, ◌<◌, ◌≤◌, List, [], ◌∷◌, ◌++◌, length, take, get_or, refl, sym, ◌∙◌, ap, subst, arith, Result}
+use Rattle.std.proofs.Common.{◌≡◌, inl, inr, ⊎_elim, ℕ, zero, suc, ◌+◌, ◌*◌, ◌<◌, ◌≤◌, List, [], ◌∷◌, ◌++◌, length, take, get_or, refl, sym}
+use Rattle.std.proofs.Common.{◌∙◌, ap, subst, arith, Result}
 use Rattle.std.proofs.Math.ListN.{get_or-map}
 use Rattle.std.proofs.lemmas.Bool.{cases_eq}
 use Rattle.std.proofs.lemmas.List.{length-map}
 use Rattle.medium.specs.Medium.{State, Image, Sets, CutLeaves, Within, Gains, Passes, IsSound}
 use Rattle.medium.specs.Moments.{StaysWithin, IsQuiet}
 use Rattle.medium.specs.declared.fault.MediumFault.{MediumFault}
-use Rattle.medium.proofs.Moments.{started_within, goes_on_within, joined_same, weaker, at_exit, quiet_leaves, updated, updated_here, updated_elsewhere}
+use Rattle.medium.proofs.Moments.{started_within, goes_on_within, joined_same, weaker, at_exit, quiet_leaves, updated, updated_here}
+use Rattle.medium.proofs.Moments.{updated_elsewhere}
 use Rattle.log_layout.specs.declared.log_format.LogFormat.{LogFormat}
 use Rattle.log_layout.specs.Places.{Shape, first_home, sectors_of, IsFirstHome}
 use Rattle.log_image.specs.Record.{Entry, numbers_of, block_of, with_blocks, with_records, home_of, Agree}
@@ -22,16 +24,20 @@ pub none_copied : (places : ℕ → Type 0) (m : State) → IsSound m → StaysW
 none_copied places m sound = started_within (freed_at places m.may_leave) m sound (λ s c left. inl left)
 
 -- calls that wrote nothing
-pub quiet_within : (places : ℕ → Type 0) (old new : State) → IsSound old → IsQuiet old new → StaysWithin (freed_at places old.may_leave) old new
-quiet_within places old new sound quiet = quiet_leaves (CutLeaves (freed_at places old.may_leave)) old new sound (λ image cut s. inl (cut s)) quiet
+pub quiet_within : (places : ℕ → Type 0) (old new : State) → IsSound old → IsQuiet old new
+    → StaysWithin (freed_at places old.may_leave) old new
+quiet_within places old new sound quiet =
+    quiet_leaves (CutLeaves (freed_at places old.may_leave)) old new sound (λ image cut s. inl (cut s)) quiet
 
 -- a read and a write
-pub sector_copied : (place : ℕ) (bytes : List ℕ) (old mid new : State) {first second : MediumFault} {one two : Result (Unit {0}) MediumFault} → IsSound old
-    → Passes first one old mid → Within mid.may_leave old.may_leave → Passes second two mid new → Gains place bytes mid.may_leave new.may_leave
+pub sector_copied : (place : ℕ) (bytes : List ℕ) (old mid new : State) {first second : MediumFault}
+    {one two : Result (Unit {0}) MediumFault} → IsSound old → Passes first one old mid → Within mid.may_leave old.may_leave
+    → Passes second two mid new → Gains place bytes mid.may_leave new.may_leave
     → StaysWithin (freed_at (λ x. x ≡ place) old.may_leave) old new
 sector_copied place bytes old mid new {first} {second} {one} {two} sound read within wrote gains =
-    goes_on_within bound old mid new (goes_on_within bound old old mid (started_within bound old sound (λ s c left. inl left)) read (λ s c left. inl (within s c left))) wrote
-    (λ s c left. ⊎_elim (λ was. inl (within s c was)) (λ here. inr here.0) (gains s c left))
+    goes_on_within bound old mid new
+    (goes_on_within bound old old mid (started_within bound old sound (λ s c left. inl left)) read (λ s c left. inl (within s c left)))
+    wrote (λ s c left. ⊎_elim (λ was. inl (within s c was)) (λ here. inr here.0) (gains s c left))
   where
     bound : Sets
     bound = freed_at (λ x. x ≡ place) old.may_leave
@@ -43,22 +49,27 @@ sets_within bound old new sound within s c left =
   where
     cut : CutLeaves new.may_leave (updated new.content s c)
     cut t = elim (cases_eq t s) [
-      | inl is ↦ let P : ℕ → Type 0 = λ u. new.may_leave u c in subst (new.may_leave t) (sym (updated_here new.content s c t is)) (subst P (sym is) left)
+      | inl is ↦
+          let P : ℕ → Type 0 = λ u. new.may_leave u c in
+          subst (new.may_leave t) (sym (updated_here new.content s c t is)) (subst P (sym is) left)
       | inr not ↦ subst (new.may_leave t) (sym (updated_elsewhere new.content s c t not)) (sound.holds_content t)
     ]
 
 -- copies, and then others
-pub copies_joined : (some more all : ℕ → Type 0) (old mid new : State) → IsSound mid → ((x : ℕ) → some x → all x) → ((x : ℕ) → more x → all x)
-    → StaysWithin (freed_at some old.may_leave) old mid → StaysWithin (freed_at more mid.may_leave) mid new → StaysWithin (freed_at all old.may_leave) old new
+pub copies_joined : (some more all : ℕ → Type 0) (old mid new : State) → IsSound mid → ((x : ℕ) → some x → all x)
+    → ((x : ℕ) → more x → all x) → StaysWithin (freed_at some old.may_leave) old mid → StaysWithin (freed_at more mid.may_leave) mid new
+    → StaysWithin (freed_at all old.may_leave) old new
 copies_joined some more all old mid new sound f g first second =
     let sets = sets_within (freed_at some old.may_leave) old mid sound first in
     joined_same (CutLeaves (freed_at all old.may_leave)) old mid new
-    (weaker (CutLeaves (freed_at some old.may_leave)) (CutLeaves (freed_at all old.may_leave)) old mid (λ image cut s. ⊎_elim inl (λ p. inr (f s p)) (cut s)) first)
+    (weaker (CutLeaves (freed_at some old.may_leave)) (CutLeaves (freed_at all old.may_leave)) old mid
+    (λ image cut s. ⊎_elim inl (λ p. inr (f s p)) (cut s)) first)
     (weaker (CutLeaves (freed_at more mid.may_leave)) (CutLeaves (freed_at all old.may_leave)) mid new
     (λ image cut s. ⊎_elim (λ was. ⊎_elim inl (λ p. inr (f s p)) (sets s (image s) was)) (λ p. inr (g s p)) (cut s)) second)
 
 -- the i-th number is that of the i-th block
-pub number_of : (entries : List Entry) (numbers : List ℕ) (i : ℕ) → numbers ≡ numbers_of entries → get_or numbers i 0 ≡ (get_or entries i (0, [])).0
+pub number_of : (entries : List Entry) (numbers : List ℕ) (i : ℕ) → numbers ≡ numbers_of entries
+    → get_or numbers i 0 ≡ (get_or entries i (0, [])).0
 number_of entries numbers i names =
     let f : Entry → ℕ = λ e. e.0 in
     ap (λ (l : List ℕ). get_or l i 0) names ∙ get_or-map f entries i (0, [])
@@ -67,10 +78,11 @@ pub long_as : (entries : List Entry) (numbers : List ℕ) → numbers ≡ number
 long_as entries numbers names = let f : Entry → ℕ = λ e. e.0 in ap (λ (l : List ℕ). length l) names ∙ length-map entries f
 
 -- where one of a record's blocks is at home in the sector, it is so of each that is whole
-pub home_in_whole : (shape : Shape) (image : Image) (stamp : ℕ) (entries : List Entry) (x : ℕ) → IsWhole shape image stamp entries → IsHomeInRecord shape image stamp x
-    → IsHomeOf shape (numbers_of entries) x
+pub home_in_whole : (shape : Shape) (image : Image) (stamp : ℕ) (entries : List Entry) (x : ℕ) → IsWhole shape image stamp entries
+    → IsHomeInRecord shape image stamp x → IsHomeOf shape (numbers_of entries) x
 home_in_whole shape image stamp entries x whole home =
-    subst (λ (es : List Entry). IsHomeOf shape (numbers_of es) x) (IsWhole-one (layout_of shape.format) (laws_of shape.format) shape image stamp home.0 entries home.1 whole) home.2
+    subst (λ (es : List Entry). IsHomeOf shape (numbers_of es) x)
+    (IsWhole-one (layout_of shape.format) (laws_of shape.format) shape image stamp home.0 entries home.1 whole) home.2
 
 -- after the copies of a record home is as if its blocks were laid over it
 pub record_home : (shape : Shape) (old new : Image) (stamp : ℕ) (entries : List Entry) → IsWhole shape old stamp entries
@@ -89,7 +101,8 @@ record_home shape old new stamp entries whole copied elsewhere b =
     b
 
 -- the log ends before home
-pub log_ends : (shape : Shape) → IsFirstHome shape.format shape.slots shape.home → 2 + (layout_of shape.format).slot_sectors * shape.slots ≤ first_home shape
+pub log_ends : (shape : Shape) → IsFirstHome shape.format shape.slots shape.home
+    → 2 + (layout_of shape.format).slot_sectors * shape.slots ≤ first_home shape
 log_ends shape home = let same = ap (λ (n : ℕ). n * shape.slots) (sectors_are shape.format) in omega (arith, same, home.0)
 
 -- so does each slot of it
@@ -99,15 +112,19 @@ in_slot shape stamp x some home below =
     omega (arith, slot_inside (layout_of shape.format) (laws_of shape.format) shape stamp some, log_ends shape home)
 
 -- a slot is the same in images with the same log
-pub slot_same : (shape : Shape) (p q : Image) (stamp : ℕ) → 1 ≤ shape.slots → IsFirstHome shape.format shape.slots shape.home → ((x : ℕ) → x < first_home shape → p x ≡ q x)
-    → Agree (slot_at (layout_of shape.format) shape stamp) (slot_at (layout_of shape.format) shape stamp + (layout_of shape.format).slot_sectors) p q
+pub slot_same : (shape : Shape) (p q : Image) (stamp : ℕ) → 1 ≤ shape.slots → IsFirstHome shape.format shape.slots shape.home
+    → ((x : ℕ) → x < first_home shape → p x ≡ q x)
+    → Agree (slot_at (layout_of shape.format) shape stamp)
+    (slot_at (layout_of shape.format) shape stamp + (layout_of shape.format).slot_sectors) p q
 slot_same shape p q stamp some home log x low high = log x (in_slot shape stamp x some home high)
 
 -- so is the record in it
-pub whole_same : (shape : Shape) (before image : Image) (stamp : ℕ) (entries : List Entry) → 1 ≤ shape.slots → IsFirstHome shape.format shape.slots shape.home
-    → ((y : ℕ) → y < first_home shape → image y ≡ before y) → IsWhole shape before stamp entries → IsWhole shape image stamp entries
+pub whole_same : (shape : Shape) (before image : Image) (stamp : ℕ) (entries : List Entry) → 1 ≤ shape.slots
+    → IsFirstHome shape.format shape.slots shape.home → ((y : ℕ) → y < first_home shape → image y ≡ before y)
+    → IsWhole shape before stamp entries → IsWhole shape image stamp entries
 whole_same shape before image stamp entries some home log w =
-    IsWhole-same (layout_of shape.format) (laws_of shape.format) shape before image stamp entries (slot_same shape image before stamp some home log) w
+    IsWhole-same (layout_of shape.format) (laws_of shape.format) shape before image stamp entries
+    (slot_same shape image before stamp some home log) w
 
 -- home is behind the log
 pub not_in_log : (shape : Shape) (image : Image) (head count x : ℕ) → x < first_home shape → ¬ IsHomeInRecords shape image head count x
@@ -124,7 +141,8 @@ not_behind shape image head count x past home =
 -- the same record is in each image with the same log
 pub home_same : (shape : Shape) (before image : Image) (stamp x : ℕ) → 1 ≤ shape.slots → IsFirstHome shape.format shape.slots shape.home
     → ((y : ℕ) → y < first_home shape → image y ≡ before y) → IsHomeInRecord shape before stamp x → IsHomeInRecord shape image stamp x
-home_same shape before image stamp x some first log home = (home.0, whole_same shape before image stamp home.0 some first log home.1, home.2)
+home_same shape before image stamp x some first log home =
+    (home.0, whole_same shape before image stamp home.0 some first log home.1, home.2)
 
 take_suc : (j : ℕ) (records : List (List Entry)) → j < length records → take (suc j) records ≡ take j records ++ get_or records j [] ∷ []
 take_suc j [] below = absurd (omega arith)
@@ -152,4 +170,6 @@ copy_calls-append format (r ∷ records) entries = let more = copy_calls-append 
 -- one more record copied
 pub copy_calls-more : (format : LogFormat) (j : ℕ) (records : List (List Entry)) → j < length records
     → copy_calls format (take (j + 1) records) ≡ copy_calls format (take j records) + calls_of format (length (get_or records j []))
-copy_calls-more format j records below = ap (λ (l : List (List Entry)). copy_calls format l) (take_more j records below) ∙ copy_calls-append format (take j records) (get_or records j [])
+copy_calls-more format j records below =
+    ap (λ (l : List (List Entry)). copy_calls format l) (take_more j records below)
+    ∙ copy_calls-append format (take j records) (get_or records j [])

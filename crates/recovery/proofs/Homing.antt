@@ -1,5 +1,6 @@
 -- The blocks that a descriptor of a whole record names are the record's.
-use Rattle.std.proofs.Common.{◌≡◌, ℕ, ◌+◌, ◌*◌, ◌-◌, ◌%◌, ◌<◌, ◌≤◌, List, [], ◌++◌, length, get_or, take, drop, refl, sym, ◌∙◌, ap, subst, arith}
+use Rattle.std.proofs.Common.{◌≡◌, ℕ, ◌+◌, ◌*◌, ◌-◌, ◌%◌, ◌<◌, ◌≤◌, List, [], ◌++◌, length, get_or, take, drop, refl, sym, ◌∙◌, ap, subst}
+use Rattle.std.proofs.Common.{arith}
 use Rattle.std.specs.Prelude.{All, min, Option, Some, None, IsSomeAnd}
 use Rattle.std.proofs.Math.ListN.{get_or-map}
 use Rattle.std.proofs.lemmas.Nat.{mod_below}
@@ -39,9 +40,10 @@ pub record StandsIn (shape : Shape) (image : Image) (stamp slot : ℕ) (es : Lis
   pub home : IsFirstHome shape.format shape.slots shape.home
   pub whole : IsWhole shape image stamp es
 
-pub stands : (sizes : Super) (image : Image) (stamp slot : ℕ) → sizes.format ≡ Two → slot ≡ stamp % sizes.slots → (es : List Entry) → IsWhole (shape_of sizes) image stamp es
-    → StandsIn (shape_of sizes) image stamp slot es
-stands sizes image stamp slot two where_is es whole = record { two = two; where_is = where_is; some = sizes.some_slots; home = sizes.home_is; whole = whole }
+pub stands : (sizes : Super) (image : Image) (stamp slot : ℕ) → sizes.format ≡ Two → slot ≡ stamp % sizes.slots → (es : List Entry)
+    → IsWhole (shape_of sizes) image stamp es → StandsIn (shape_of sizes) image stamp slot es
+stands sizes image stamp slot two where_is es whole =
+    record { two = two; where_is = where_is; some = sizes.some_slots; home = sizes.home_is; whole = whole }
 
 -- these are the block numbers and the first bytes of descriptor j
 pub record Names (es : List Entry) (j : ℕ) (numbers : List ℕ) (firsts : List (List ℕ)) : Type 0 where
@@ -57,7 +59,9 @@ module _ {shape : Shape} {image : Image} {stamp slot : ℕ} {es : List Entry} (r
 
   -- its commit
   committed : IsCommitTwo stamp (length es) (image (2 + 249 * slot + 248))
-  committed = subst (λ (k : ℕ). IsCommitTwo stamp (length es) (image (2 + 249 * k + 248))) (sym r.where_is) (commit_whole shape image stamp es as_whole)
+  committed =
+      subst (λ (k : ℕ). IsCommitTwo stamp (length es) (image (2 + 249 * k + 248))) (sym r.where_is)
+      (commit_whole shape image stamp es as_whole)
 
   module _ {o : Option ℕ} (all : (k : ℕ) → IsCommitTwo stamp k (image (2 + 249 * slot + 248)) → IsSomeAnd o (λ m. m ≡ k)) where
     pub counted : {n : ℕ} → o ≡ Some n → n ≡ length es
@@ -74,18 +78,22 @@ module _ {shape : Shape} {image : Image} {stamp slot : ℕ} {es : List Entry} (r
       omega (arith, ends, r.where_is, is, small)
 
   -- descriptor j, in each image that is the same elsewhere
-  module _ (now : Image) (n j : ℕ) (many : n ≡ length es) (below : j < descriptors_of n) (elsewhere : (x : ℕ) → ¬ IsHomeInRecord shape image stamp x → now x ≡ image x) where
+  module _ (now : Image) (n j : ℕ) (many : n ≡ length es) (below : j < descriptors_of n)
+      (elsewhere : (x : ℕ) → ¬ IsHomeInRecord shape image stamp x → now x ≡ image x) where
     abbrev Its : Descriptor2 → Type 0
     Its d = (d.numbers.items ≡ numbers_of (chunk_of es j)) × (d.firsts.items ≡ firsts_of (chunk_of es j))
 
     described : IsDescriptorTwo stamp n j (numbers_of (chunk_of es j)) (firsts_of (chunk_of es j)) (now (2 + 249 * slot + j))
     described =
         let same = elsewhere (2 + 249 * slot + j) (in_front j (omega (arith, many, below, few))) in
-        subst (λ (k : ℕ). IsDescriptorTwo stamp k j (numbers_of (chunk_of es j)) (firsts_of (chunk_of es j)) (now (2 + 249 * slot + j))) (sym many)
-        (subst (IsDescriptorTwo stamp (length es) j (numbers_of (chunk_of es j)) (firsts_of (chunk_of es j))) (sym (same ∙ ap (λ (k : ℕ). image (2 + 249 * k + j)) r.where_is))
+        subst (λ (k : ℕ). IsDescriptorTwo stamp k j (numbers_of (chunk_of es j)) (firsts_of (chunk_of es j)) (now (2 + 249 * slot + j)))
+        (sym many)
+        (subst (IsDescriptorTwo stamp (length es) j (numbers_of (chunk_of es j)) (firsts_of (chunk_of es j)))
+        (sym (same ∙ ap (λ (k : ℕ). image (2 + 249 * k + j)) r.where_is))
         (descriptor_whole shape image stamp es as_whole j (omega (arith, many, below))))
 
-    module _ {o : Option Descriptor2} (all : (numbers : List ℕ) (firsts : List (List ℕ)) → IsDescriptorTwo stamp n j numbers firsts (now (2 + 249 * slot + j))
+    module _ {o : Option Descriptor2}
+        (all : (numbers : List ℕ) (firsts : List (List ℕ)) → IsDescriptorTwo stamp n j numbers firsts (now (2 + 249 * slot + j))
         → IsSomeAnd o (λ d. (d.numbers.items ≡ numbers) × (d.firsts.items ≡ firsts))) where
       pub named : {d : Descriptor2} → o ≡ Some d → Names es j d.numbers.items d.firsts.items
       named is =
@@ -99,11 +107,13 @@ module _ {shape : Shape} {image : Image} {stamp slot : ℕ} {es : List Entry} (r
     -- entry e is that of block 30 j + e
     entry : (e : ℕ) → e < length numbers → get_or (chunk_of es j) e (0, []) ≡ get_or es (30 * j + e) (0, [])
     entry e below =
-        get_or-take 30 (drop (30 * j) es) e (0, []) (omega (arith, below, long_as (chunk_of es j) numbers names.numbers_are, length-take 30 (drop (30 * j) es)))
+        get_or-take 30 (drop (30 * j) es) e (0, [])
+        (omega (arith, below, long_as (chunk_of es j) numbers names.numbers_are, length-take 30 (drop (30 * j) es)))
         ∙ get_or-drop (30 * j) es e (0, [])
 
     pub length_named : length numbers ≡ min 30 (length es - 30 * j)
-    length_named = omega (arith, long_as (chunk_of es j) numbers names.numbers_are, length-take 30 (drop (30 * j) es), length-drop (30 * j) es)
+    length_named =
+        omega (arith, long_as (chunk_of es j) numbers names.numbers_are, length-take 30 (drop (30 * j) es), length-drop (30 * j) es)
 
     number_named : (e : ℕ) → e < length numbers → get_or numbers e 0 ≡ (get_or es (30 * j + e) (0, [])).0
     number_named e below = number_of (chunk_of es j) numbers e names.numbers_are ∙ ap (λ (x : Entry). x.0) (entry e below)
@@ -111,17 +121,21 @@ module _ {shape : Shape} {image : Image} {stamp slot : ℕ} {es : List Entry} (r
     pub inside_named : All (λ b. b < shape.blocks) numbers
     inside_named =
         let P : ℕ → Type 0 = λ b. b < shape.blocks in
-        subst (All P) (sym (names.numbers_are ∙ numbers_of_chunk es j)) (All-take P 30 (drop (30 * j) (numbers_of es)) (All-drop P (30 * j) (numbers_of es) r.whole.fit.inside))
+        subst (All P) (sym (names.numbers_are ∙ numbers_of_chunk es j))
+        (All-take P 30 (drop (30 * j) (numbers_of es)) (All-drop P (30 * j) (numbers_of es) r.whole.fit.inside))
 
     -- its first bytes and its data place make the block
-    block_named : (e : ℕ) → e < length numbers → get_or firsts e [] ++ drop 8 (image (2 + 249 * slot + (8 + (30 * j + e)))) ≡ block_of es (30 * j + e)
+    block_named : (e : ℕ) → e < length numbers
+        → get_or firsts e [] ++ drop 8 (image (2 + 249 * slot + (8 + (30 * j + e)))) ≡ block_of es (30 * j + e)
     block_named e below =
         let i : ℕ = 30 * j + e in
         let first : Entry → List ℕ = λ x. take 8 x.1 in
         let place : image (2 + 249 * slot + (8 + (30 * j + e))) ≡ place_bytes stamp (block_of es (30 * j + e)) =
-        ap (λ (k : ℕ). image (2 + 249 * k + (8 + (30 * j + e)))) r.where_is ∙ place_there shape image stamp es as_whole i (omega (arith, length_named, below)) in
+        ap (λ (k : ℕ). image (2 + 249 * k + (8 + (30 * j + e)))) r.where_is
+        ∙ place_there shape image stamp es as_whole i (omega (arith, length_named, below)) in
         ap (λ (l : List (List ℕ)). get_or l e [] ++ drop 8 (image (2 + 249 * slot + (8 + i)))) names.firsts_are
-        ∙ ap (λ (l : List ℕ). l ++ drop 8 (image (2 + 249 * slot + (8 + i)))) (get_or-map first (chunk_of es j) e (0, []) ∙ ap first (entry e below))
+        ∙ ap (λ (l : List ℕ). l ++ drop 8 (image (2 + 249 * slot + (8 + i))))
+        (get_or-map first (chunk_of es j) e (0, []) ∙ ap first (entry e below))
         ∙ ap (λ (l : List ℕ). take 8 (block_of es i) ++ drop 8 l) place
         ∙ ap (λ (l : List ℕ). take 8 (block_of es i) ++ l) (place_rest stamp (block_of es i))
         ∙ two_parts (block_of es i)
@@ -130,19 +144,36 @@ module _ {shape : Shape} {image : Image} {stamp slot : ℕ} {es : List Entry} (r
     pub home_named : (x : ℕ) → IsHomeOf shape numbers x → IsHomeInRecord shape image stamp x
     home_named x home =
         let i : ℕ = 30 * j + home.0 in
-        let number : get_or (numbers_of es) (30 * j + home.0) 0 ≡ get_or numbers home.0 0 = number_of es (numbers_of es) i refl ∙ sym (number_named home.0 home.1) in
-        (es, r.whole, (i, omega (arith, home.1, length_named, long_as es (numbers_of es) refl), home.2 ∙ ap (λ (k : ℕ). first_home shape + k) (sym number)))
+        let number : get_or (numbers_of es) (30 * j + home.0) 0 ≡ get_or numbers home.0 0 =
+        number_of es (numbers_of es) i refl ∙ sym (number_named home.0 home.1) in (
+          es,
+          r.whole,
+          (
+            i,
+            omega (arith, home.1, length_named, long_as es (numbers_of es) refl),
+            home.2 ∙ ap (λ (k : ℕ). first_home shape + k) (sym number),
+          ),
+        )
 
     -- the blocks before these are at home elsewhere
     pub apart : (i : ℕ) → i < 30 * j → ¬ IsHomeOf shape numbers (first_home shape + (get_or es i (0, [])).0)
     apart i less home =
         let is = home.2 in
-        let up = r.whole.fit.rising i (30 * j + home.0) (omega arith) (omega (arith, home.1, length_named, long_as es (numbers_of es) refl)) in
-        omega (arith, up, is, number_named home.0 home.1, number_of es (numbers_of es) i refl, number_of es (numbers_of es) (30 * j + home.0) refl)
+        let up =
+        r.whole.fit.rising i (30 * j + home.0) (omega arith) (omega (arith, home.1, length_named, long_as es (numbers_of es) refl)) in
+        omega (
+          arith,
+          up,
+          is,
+          number_named home.0 home.1,
+          number_of es (numbers_of es) i refl,
+          number_of es (numbers_of es) (30 * j + home.0) refl,
+        )
 
     -- once these are copied, from an image that is the same elsewhere
     pub copied_here : (from to : Image) (index : ℕ) → index ≡ j → ((x : ℕ) → ¬ IsHomeInRecord shape image stamp x → from x ≡ image x)
-        → ((e : ℕ) → e < length numbers → to (first_home shape + get_or numbers e 0) ≡ get_or firsts e [] ++ drop 8 (from (2 + 249 * slot + (8 + (30 * index + e)))))
+        → ((e : ℕ) → e < length numbers
+        → to (first_home shape + get_or numbers e 0) ≡ get_or firsts e [] ++ drop 8 (from (2 + 249 * slot + (8 + (30 * index + e)))))
         → (i : ℕ) → i < length es → 30 * j ≤ i → i < 30 * (j + 1) → to (first_home shape + (get_or es i (0, [])).0) ≡ block_of es i
     copied_here from to index here elsewhere copied i inside least most =
         let e : ℕ = i - 30 * j in

@@ -12,5 +12,6 @@ pub mod Sparing
 pub mod Making
 pub mod Trying
 pub mod Homing
+pub mod Leaving
 pub mod Migrating
 pub mod Naming

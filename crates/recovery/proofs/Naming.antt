@@ -17,18 +17,23 @@ module _ (j : ℕ) (numbers more : List ℕ) (long : length numbers ≡ 30 * j) 
   last few = ap (λ (l : List ℕ). take 30 l) (drop_at numbers more (30 * j) long) ∙ take_all 30 more few
 
   -- are those of one descriptor more
-  pub described_more : (image : Image) (at stamp count : ℕ) (firsts : List (List ℕ)) → IsDescriptorTwo stamp count j more firsts (image (at + j))
+  pub described_more : (image : Image) (at stamp count : ℕ) (firsts : List (List ℕ))
+      → IsDescriptorTwo stamp count j more firsts (image (at + j))
       → ((k : ℕ) → k < j → (fs : List (List ℕ)) × IsDescriptorTwo stamp count k (take 30 (drop (30 * k) numbers)) fs (image (at + k)))
-      → (k : ℕ) → k < j + 1 → (fs : List (List ℕ)) × IsDescriptorTwo stamp count k (take 30 (drop (30 * k) (numbers ++ more))) fs (image (at + k))
+      → (k : ℕ) → k < j + 1
+      → (fs : List (List ℕ)) × IsDescriptorTwo stamp count k (take 30 (drop (30 * k) (numbers ++ more))) fs (image (at + k))
   described_more image at stamp count firsts is all k below = elim (cases_eq k j) [
     | inl same ↦
-        let here : take 30 (drop (30 * k) (numbers ++ more)) ≡ more = ap (λ (i : ℕ). take 30 (drop (30 * i) (numbers ++ more))) same ∙ last (omega (arith, is.entries.many)) in (
+        let here : take 30 (drop (30 * k) (numbers ++ more)) ≡ more =
+        ap (λ (i : ℕ). take 30 (drop (30 * i) (numbers ++ more))) same ∙ last (omega (arith, is.entries.many)) in (
           firsts,
           subst (λ (ns : List ℕ). IsDescriptorTwo stamp count k ns firsts (image (at + k))) (sym here)
               (subst (λ (i : ℕ). IsDescriptorTwo stamp count i more firsts (image (at + i))) (sym same) is),
         )
     | inr other ↦
         let less : k < j = omega arith in
-        let was = all k less in
-        ((all k less).0, subst (λ (ns : List ℕ). IsDescriptorTwo stamp count k ns (all k less).0 (image (at + k))) (sym (before k less)) (all k less).1)
+        let was = all k less in (
+          (all k less).0,
+          subst (λ (ns : List ℕ). IsDescriptorTwo stamp count k ns (all k less).0 (image (at + k))) (sym (before k less)) (all k less).1,
+        )
   ]

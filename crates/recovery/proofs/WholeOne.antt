@@ -14,22 +14,28 @@ use Rattle.log_image.specs.Record.{entries_in}
 use Rattle.log_image.specs.Layout.{AreEntries, IsWholeIn}
 use Rattle.log_image.specs.Format1.{format1, offset1, part1}
 use Rattle.log_image.specs.Formats.{layout_of, IsWhole}
-use Rattle.log_image.proofs.Format1Laws.{Kind, Described, Placed, Committed, kind_of, offset_early, offset_commit, part_descriptor, part_place, part_commit, commit_of}
+use Rattle.log_image.proofs.Format1Laws.{Kind, Described, Placed, Committed, kind_of, offset_early, offset_commit, part_descriptor}
+use Rattle.log_image.proofs.Format1Laws.{part_place, part_commit, commit_of}
 use Rattle.log_image.proofs.ReadingOne.{numbers_of-entries_in, length-entries_in, bytes_of-entries_in}
 
 -- a record of format 1, as one of that layout
-pub as_one : (shape : Shape) (image : Image) (stamp : ℕ) (es : List Entry) → shape.format ≡ One → IsWhole shape image stamp es → IsWholeIn format1 shape image stamp es
+pub as_one : (shape : Shape) (image : Image) (stamp : ℕ) (es : List Entry) → shape.format ≡ One → IsWhole shape image stamp es
+    → IsWholeIn format1 shape image stamp es
 as_one shape image stamp es is w = subst (λ (f : LogFormat). IsWholeIn (layout_of f) shape image stamp es) is w
 
-pub of_one : (shape : Shape) (image : Image) (stamp : ℕ) (es : List Entry) → shape.format ≡ One → IsWholeIn format1 shape image stamp es → IsWhole shape image stamp es
+pub of_one : (shape : Shape) (image : Image) (stamp : ℕ) (es : List Entry) → shape.format ≡ One → IsWholeIn format1 shape image stamp es
+    → IsWhole shape image stamp es
 of_one shape image stamp es is w = subst (λ (f : LogFormat). IsWholeIn (layout_of f) shape image stamp es) (sym is) w
 
 -- a slot ends before home
-pub slot_one : (shape : Shape) (slot : ℕ) → shape.format ≡ One → IsFirstHome shape.format shape.slots shape.home → slot < shape.slots → 2 + 50 * slot + 50 ≤ first_home shape
+pub slot_one : (shape : Shape) (slot : ℕ) → shape.format ≡ One → IsFirstHome shape.format shape.slots shape.home → slot < shape.slots
+    → 2 + 50 * slot + 50 ≤ first_home shape
 slot_one shape slot is home low = let same = ap (λ (f : LogFormat). slot_sectors_of f * shape.slots) is in omega (arith, same, home.0)
 
-module _ (shape : Shape) (image : Image) (stamp : ℕ) (numbers : List ℕ) (described : IsDescriptor stamp numbers (image (2 + 50 * (stamp % shape.slots))))
-    (committed : IsCommit stamp (length numbers) (image (2 + 50 * (stamp % shape.slots) + 49))) (below_all : All (λ b. b < shape.blocks) numbers)
+module _ (shape : Shape) (image : Image) (stamp : ℕ) (numbers : List ℕ)
+    (described : IsDescriptor stamp numbers (image (2 + 50 * (stamp % shape.slots))))
+    (committed : IsCommit stamp (length numbers) (image (2 + 50 * (stamp % shape.slots) + 49)))
+    (below_all : All (λ b. b < shape.blocks) numbers)
     (sized : (i : ℕ) → i < length numbers → length (image (2 + 50 * (stamp % shape.slots) + 1 + i)) ≡ 512) where
   abbrev at : ℕ
   at = 2 + 50 * (stamp % shape.slots)
@@ -72,7 +78,8 @@ module _ (shape : Shape) (image : Image) (stamp : ℕ) (numbers : List ℕ) (des
   whole_in = record { fit = entries; least = described.least; below = described.most; there = λ p below. there p (kind_of (length es) p) }
 
 -- the commit of a whole record
-pub commit_there : (shape : Shape) (image : Image) (stamp : ℕ) (es : List Entry) → IsWholeIn format1 shape image stamp es → IsCommit stamp (length (numbers_of es)) (image (2 + 50 * (stamp % shape.slots) + 49))
+pub commit_there : (shape : Shape) (image : Image) (stamp : ℕ) (es : List Entry) → IsWholeIn format1 shape image stamp es
+    → IsCommit stamp (length (numbers_of es)) (image (2 + 50 * (stamp % shape.slots) + 49))
 commit_there shape image stamp es w =
     let f : Entry → ℕ = λ e. e.0 in
     let n : ℕ = length es in
@@ -80,5 +87,7 @@ commit_there shape image stamp es w =
     let o = offset_commit (length es) (length es + 1) (omega arith) in
     subst (λ (k : ℕ). IsCommit stamp k (image (2 + 50 * (stamp % shape.slots) + 49))) many
     (subst (IsCommit stamp (length es))
-    (sym (ap (λ (x : ℕ). image (2 + 50 * (stamp % shape.slots) + x)) (sym o) ∙ w.there (length es + 1) (omega arith) ∙ part_commit stamp es (length es + 1) (omega arith)))
+    (sym (ap (λ (x : ℕ). image (2 + 50 * (stamp % shape.slots) + x)) (sym o)
+    ∙ w.there (length es + 1) (omega arith)
+    ∙ part_commit stamp es (length es + 1) (omega arith)))
     (commit_of shape.blocks stamp es (record { fit = w.fit; least = w.least; below = w.below })))

@@ -24,14 +24,17 @@ untrue e = absurd (no e)
     no e = cc
 
 -- a record of format 2, as one of that layout
-pub as_two : (shape : Shape) (image : Image) (stamp : ℕ) (es : List Entry) → shape.format ≡ Two → IsWhole shape image stamp es → IsWholeIn format2 shape image stamp es
+pub as_two : (shape : Shape) (image : Image) (stamp : ℕ) (es : List Entry) → shape.format ≡ Two → IsWhole shape image stamp es
+    → IsWholeIn format2 shape image stamp es
 as_two shape image stamp es is w = subst (λ (f : LogFormat). IsWholeIn (layout_of f) shape image stamp es) is w
 
-pub of_two : (shape : Shape) (image : Image) (stamp : ℕ) (es : List Entry) → shape.format ≡ Two → IsWholeIn format2 shape image stamp es → IsWhole shape image stamp es
+pub of_two : (shape : Shape) (image : Image) (stamp : ℕ) (es : List Entry) → shape.format ≡ Two → IsWholeIn format2 shape image stamp es
+    → IsWhole shape image stamp es
 of_two shape image stamp es is w = subst (λ (f : LogFormat). IsWholeIn (layout_of f) shape image stamp es) (sym is) w
 
 -- a slot ends before home
-pub slot_two : (shape : Shape) (slot : ℕ) → shape.format ≡ Two → IsFirstHome shape.format shape.slots shape.home → slot < shape.slots → 2 + 249 * slot + 249 ≤ first_home shape
+pub slot_two : (shape : Shape) (slot : ℕ) → shape.format ≡ Two → IsFirstHome shape.format shape.slots shape.home → slot < shape.slots
+    → 2 + 249 * slot + 249 ≤ first_home shape
 slot_two shape slot is home low = let same = ap (λ (f : LogFormat). slot_sectors_of f * shape.slots) is in omega (arith, same, home.0)
 
 -- what the sectors of a slot say, all together
@@ -47,13 +50,13 @@ pub two_whole : (shape : Shape) (image : Image) (stamp slot : ℕ) (numbers : Li
 two_whole shape image stamp slot numbers is where_is sized says rising inside = (
   record_in image (2 + 249 * slot),
   of_two shape image stamp (record_in image (2 + 249 * slot)) is
-      (whole_two image (2 + 249 * slot) stamp numbers says.committed says.described says.placed (λ i below. sized (8 + i) (omega (arith, below, says.committed.few)))
-      shape (ap (λ (k : ℕ). 2 + 249 * k) where_is) rising inside),
+      (whole_two image (2 + 249 * slot) stamp numbers says.committed says.described says.placed
+      (λ i below. sized (8 + i) (omega (arith, below, says.committed.few))) shape (ap (λ (k : ℕ). 2 + 249 * k) where_is) rising inside),
 )
 
 -- a slot with a whole record says so
-pub two_says : (shape : Shape) (image : Image) (stamp slot : ℕ) (es : List Entry) → shape.format ≡ Two → slot ≡ stamp % shape.slots → IsWhole shape image stamp es
-    → SlotSays image slot stamp (numbers_of es)
+pub two_says : (shape : Shape) (image : Image) (stamp slot : ℕ) (es : List Entry) → shape.format ≡ Two → slot ≡ stamp % shape.slots
+    → IsWhole shape image stamp es → SlotSays image slot stamp (numbers_of es)
 two_says shape image stamp slot es is where_is w =
     let f : Entry → ℕ = λ e. e.0 in
     let v = as_two shape image stamp es is w in
@@ -63,9 +66,10 @@ two_says shape image stamp slot es is where_is w =
       committed = subst (λ (n : ℕ). IsCommitTwo stamp n (image (at + 248))) long (commit_whole shape image stamp es v);
       described = λ j below. (
         firsts_of (chunk_of es j),
-        subst (λ (n : ℕ). IsDescriptorTwo stamp n j (take 30 (drop (30 * j) (numbers_of es))) (firsts_of (chunk_of es j)) (image (at + j))) long
-            (subst (λ (ns : List ℕ). IsDescriptorTwo stamp (length es) j ns (firsts_of (chunk_of es j)) (image (at + j))) (numbers_of_chunk es j)
-            (descriptor_whole shape image stamp es v j (omega (arith, below, long)))),
+        subst (λ (n : ℕ). IsDescriptorTwo stamp n j (take 30 (drop (30 * j) (numbers_of es))) (firsts_of (chunk_of es j)) (image (at + j)))
+            long
+            (subst (λ (ns : List ℕ). IsDescriptorTwo stamp (length es) j ns (firsts_of (chunk_of es j)) (image (at + j)))
+            (numbers_of_chunk es j) (descriptor_whole shape image stamp es v j (omega (arith, below, long)))),
       );
       placed = λ i below. place_whole shape image stamp es v i (omega (arith, below, long));
     })

@@ -16,7 +16,8 @@ pub zeros_ours : (size : ℕ) (shape : Shape) (image : Image) → sectors_of sha
     → ((x : ℕ) → 2 ≤ x → x < sectors_of shape → image x ≡ replicate 512 0) → IsOurs size shape image (λ b. replicate 512 0) 2
 zeros_ours size shape image fits super head zeros =
     let ends = log_ends shape super.home_is in
-    let none : CarriesBelow shape image 1 = zeros_carry shape image 1 (omega arith) (λ x low high. zeros x low (omega (arith, ends, high))) in
+    let none : CarriesBelow shape image 1 =
+    zeros_carry shape image 1 (omega arith) (λ x low high. zeros x low (omega (arith, ends, high))) in
     record {
       stands = record {
         fits = fits;
@@ -38,4 +39,5 @@ zeros_ours size shape image fits super head zeros =
 -- a super written last over a head and zeros
 pub formatted : (shape : Shape) (m : State) → sectors_of shape ≤ m.size → IsFlushed m → IsSuper shape (m.content 0) → IsHead 1 (m.content 1)
     → ((x : ℕ) → 2 ≤ x → x < sectors_of shape → m.content x ≡ replicate 512 0) → IsFormatted shape m
-formatted shape m fits flushed super head zeros = record { flushed = flushed; super = super; head = head; zeros = zeros; ours = zeros_ours m.size shape m.content fits super head zeros }
+formatted shape m fits flushed super head zeros =
+    record { flushed = flushed; super = super; head = head; zeros = zeros; ours = zeros_ours m.size shape m.content fits super head zeros }

@@ -1,13 +1,13 @@
 -- The sectors that are written, and what a cut leaves of them.
 use Rattle.std.specs.Prelude.{◌≡◌, ◌≢◌, ◌⊎◌, ℕ, ◌+◌, ◌*◌, ◌<◌, ◌≤◌, List, [], ◌∷◌, length}
-use Rattle.std.specs.Prelude.{slice_index, replicate}
-use Rattle.medium.specs.Medium.{Image, Sets, CutLeaves, Holds}
+use Rattle.std.specs.Prelude.{slice_index, get_or, replicate}
+use Rattle.medium.specs.Medium.{State, Image, Sets, CutLeaves, Holds}
 use Rattle.log_layout.specs.declared.log_format.LogFormat.{LogFormat}
 use Rattle.log_layout.specs.declared.log_format.LogFormat.TheVariants.{One, Two}
 use Rattle.log_layout.specs.Places.{Shape, first_home}
 use Rattle.log_layout.specs.Sectors.{IsHead}
 use Rattle.log_layout.specs.SectorsTwo.{descriptors_of}
-use Rattle.log_image.specs.Record.{Entry, numbers_of}
+use Rattle.log_image.specs.Record.{Entry, numbers_of, block_of, with_records, home_of}
 use Rattle.log_image.specs.Formats.{IsWhole}
 
 -- what a cut may leave, and in these sectors anything
@@ -53,6 +53,18 @@ calls_of Two n = 1 + descriptors_of n + 2 * n
 abbrev pub copy_calls : LogFormat → List (List Entry) → ℕ
 copy_calls format [] = 0
 copy_calls format (entries ∷ records) = calls_of format (length entries) + copy_calls format records
+
+-- the blocks of a record are at home, by as many calls as it takes
+pub record IsCopied (shape : Shape) (entries : List Entry) (old new : State) : Type 0 where
+  pub home : (i : ℕ) → i < length entries
+      → new.content (first_home shape + (get_or entries i (0, [])).0) ≡ block_of entries i
+  pub exact : new.calls ≡ old.calls + calls_of shape.format (length entries)
+
+-- so for records one after the other
+pub record AreCopied (shape : Shape) (records : List (List Entry)) (old new : State) : Type 0 where
+  pub home : (b : ℕ) → new.content (first_home shape + b)
+      ≡ with_records records (home_of shape old.content) b
+  pub exact : new.calls ≡ old.calls + copy_calls shape.format records
 
 -- how many calls they are for a record at most
 abbrev pub most_calls_of : LogFormat → ℕ

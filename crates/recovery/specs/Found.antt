@@ -1,10 +1,14 @@
 -- What recovery finds before its first write.
-use Rattle.std.specs.Prelude.{ℕ, ◌+◌, ◌^◌, ◌<◌}
-use Rattle.medium.specs.Medium.{Image}
+use Rattle.std.specs.Prelude.{ℕ, ◌+◌, ◌*◌, ◌^◌, ◌<◌, ◌≤◌, min}
+use Rattle.medium.specs.Medium.{State, Image}
+use Rattle.medium.specs.Moments.{IsQuiet}
+use Rattle.log_layout.specs.Places.{Shape}
 use Rattle.log_layout.specs.Values.{shape_of}
 use Rattle.log_layout.specs.Sectors.{IsHead}
 use Rattle.log_image.specs.Standing.{IsCount}
 use Rattle.log_image.specs.ImageFaults.{HasShape}
+use Rattle.recovery.specs.Causes.{HasFewSlots, MakesReadsAlone}
+use Rattle.recovery.specs.Copies.{AreTries, most_reads_of}
 use Rattle.recovery.specs.declared.found.Found.{Found}
 
 -- the image of a medium of so many sectors has none of the faults, and this is what it has
@@ -13,3 +17,20 @@ pub record IsFound (size : ℕ) (image : Image) (found : Found) : Type 0 where
   pub head : IsHead found.head (image 1)
   pub count : IsCount (shape_of found.sizes) image found.head found.count
   pub stamp_left : found.head + found.count + 1 < 2 ^ 63
+
+-- A survey that asks for so many slots of a log of format 1 found this. It read the super, the head
+-- and what shows for each stamp that is tried whether its record is whole.
+pub record IsSurvey (least : ℕ) (old new : State) (found : Found) : Type 0 where
+  pub is : IsFound old.size old.content found
+  pub room : ¬ HasFewSlots least old.size old.content
+  pub exact : AreTries found.sizes.format (min (found.count + 1) found.sizes.slots)
+      (old.calls + 2) new.calls
+
+-- A survey only reads: the super, the head and 64 slots at most, whatever the image, and of slots
+-- of its format where it has a super.
+pub record SurveysAtMost (old new : State) : Type 0 where
+  pub quiet : IsQuiet old new
+  pub reads : MakesReadsAlone old new
+  pub calls : new.calls ≤ old.calls + 2 + 249 * 64
+  pub most : (shape : Shape) → HasShape old.size shape old.content
+      → new.calls ≤ old.calls + 2 + most_reads_of shape.format * 64

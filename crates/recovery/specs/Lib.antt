@@ -1,4 +1,5 @@
 pub mod Causes
+pub mod Calls
 pub mod Found
 pub mod Copies
 pub mod Recovered

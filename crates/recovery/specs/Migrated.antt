@@ -9,7 +9,7 @@ use Rattle.log_layout.specs.Places.{Shape, first_home, sectors_of, migrated}
 use Rattle.log_layout.specs.Sectors.{IsSuper, IsHead}
 use Rattle.log_layout.specs.Values.{shape_of}
 use Rattle.log_image.specs.Standing.{StandsFor, IsOurs}
-use Rattle.recovery.specs.Causes.{HasFewSlots, WritesNothing, IsRefusalBy}
+use Rattle.recovery.specs.Causes.{HasFewSlots, WritesNothing, IsRefusalBy, IsDeviceFault}
 use Rattle.recovery.specs.Copies.{copy_calls, AreTries}
 use Rattle.recovery.specs.Recovered.{IsRecoveredFrom, IsFresh, SparesTheRest}
 use Rattle.recovery.specs.Recovered.{IsOursForSome, IsOursWithNext}
@@ -33,10 +33,22 @@ pub record IsMadeTwo (shape : Shape) (next : ℕ) (m : State) : Type 0 where
   pub head : IsHead next (m.content 1)
   pub zeros : (x : ℕ) → 2 ≤ x → x < first_home shape → m.content x ≡ replicate 512 0
 
+-- The answer tells what was made of an image of format 1 with these sizes and this next stamp.
+pub record IsMadeOf (found : Recovered) (new : State) (answer : Recovered) : Type 0 where
+  pub sizes_are : shape_of answer.sizes ≡ migrated (shape_of found.sizes)
+  pub next_is : answer.next ≡ found.next
+  pub made : IsMadeTwo (shape_of found.sizes) found.next new
+
 -- no record waits in the image, which is of the format that it had or of format 2
 abbrev pub IsFreshInEither : Shape → Array → ℕ → Image → Type 0
 IsFreshInEither shape array next image =
     IsFresh shape array next image ⊎ IsFresh (migrated shape) array next image
+
+-- What the making of format 2 leaves at each moment of it, good or refused.
+pub record MakingLeaves (shape : Shape) (next : ℕ) (old new : State) : Type 0 where
+  pub cuts : (array : Array) → IsFresh shape array next old.content
+      → LeavesOnly (IsFreshInEither shape array next) old new
+  pub spares : SparesFrom (first_home shape) old new
 
 -- The answer is what contents of format 1 stood for, with a stamp left for the next record, and the
 -- sizes of format 2. They have become format 2, with the head at that stamp and the array at home,
@@ -65,6 +77,14 @@ IsMigrationBy false old new answer = (answer.sizes.format ≡ Two) × IsRecovere
 abbrev pub IsMigrationCause : State → State → StartFault → Type 0
 IsMigrationCause old new fault = IsRefusalBy 5 WritesNothing old new fault
 
+-- Why a migration is refused. Contents that stand for something, with a stamp left and a log that
+-- is no small one, are refused by the device alone.
+pub record IsMigrationRefusal (old new : State) (fault : StartFault) : Type 0 where
+  pub cause : IsMigrationCause old new fault
+  pub served : (shape : Shape) (array : Array) (next : ℕ)
+      → StandsFor old.size shape old.content array next → next < 2 ^ 63
+      → (¬ HasSmallLog old.size old.content) → IsDeviceFault fault
+
 -- The image is ours for this array, in the format that it had, with this next stamp or the one
 -- behind it, or in format 2 in place of format 1, with the one behind it.
 abbrev pub IsOursInEither : ℕ → Shape → Array → ℕ → Image → Type 0
@@ -81,7 +101,7 @@ pub record StandsInEither (old : State) (image : Image) : Type 0 where
   pub was : IsOurs old.size shape before array next
   pub is : IsOursInEither old.size shape array next image
 
--- What a migration leaves at each moment of it, good or refused.
+-- What a migration leaves at each moment of it, good or refused, and how many calls it makes.
 pub record MigrationLeaves (old new : State) : Type 0 where
   -- Where every image is ours, a cut leaves one that is ours for one of the arrays.
   pub cuts : EachCut (IsOursForSome old.size) old → LeavesOnly (StandsInEither old) old new
@@ -93,3 +113,6 @@ pub record MigrationLeaves (old new : State) : Type 0 where
   pub spares : SparesTheRest old new
   -- nothing is written where the log is too small
   pub small : HasSmallLog old.size old.content → SparesFrom 0 old new
+  -- Whatever the image: no count falls, and the size stays.
+  pub moments : LeavesOnly (λ _. Unit {0}) old new
+  pub calls : new.calls ≤ old.calls + 6 + 738 * 64

@@ -1,7 +1,7 @@
 -- What recovery answers, and what it leaves.
-use Rattle.std.specs.Prelude.{◌≡◌, ◌≢◌, ◌⊎◌, ℕ, ◌+◌, ◌^◌, ◌<◌, ◌≤◌, length, min}
+use Rattle.std.specs.Prelude.{◌≡◌, ◌≢◌, ◌⊎◌, ℕ, ◌+◌, ◌*◌, ◌^◌, ◌<◌, ◌≤◌, length, min}
 use Rattle.medium.specs.Medium.{State, Image, CutLeaves}
-use Rattle.medium.specs.Moments.{IsFlushed, SparesFrom}
+use Rattle.medium.specs.Moments.{EachCut, IsFlushed, LeavesOnly, SparesFrom}
 use Rattle.medium.specs.Blocks.{Array}
 use Rattle.log_layout.specs.Places.{Shape, first_home, sectors_of}
 use Rattle.log_layout.specs.Values.{shape_of}
@@ -9,8 +9,10 @@ use Rattle.log_layout.specs.Sectors.{IsSuper, IsHead}
 use Rattle.log_image.specs.Formats.{CarriesBelow}
 use Rattle.log_image.specs.Standing.{StandsFor, IsOurs}
 use Rattle.log_image.specs.ImageFaults.{HasShape}
-use Rattle.recovery.specs.Copies.{copy_calls, AreTries}
+use Rattle.recovery.specs.Causes.{HasFewSlots, IsCause, IsDeviceFault}
+use Rattle.recovery.specs.Copies.{copy_calls, most_start_of, AreTries}
 use Rattle.recovery.specs.declared.recovered.Recovered.{Recovered}
+use Rattle.recovery.specs.declared.start_fault.StartFault.{StartFault}
 
 -- The answer is what the contents stood for, with a stamp left for the next record. They are
 -- flushed, with the head at that stamp and the array at home, and every other sector is as it was.
@@ -66,3 +68,37 @@ pub record SparesTheRest (old new : State) : Type 0 where
       → SparesFrom (sectors_of shape) old new
   pub unserved : ((shape : Shape) (array : Array) (next : ℕ)
       → StandsFor old.size shape old.content array next → 2 ^ 63 ≤ next) → SparesFrom 0 old new
+
+-- What a recovery leaves at each moment of it, good or refused, and how many calls it makes.
+pub record RecoveryLeaves (old new : State) : Type 0 where
+  -- Where every image is ours, a cut at any moment leaves one that is ours for one of the arrays.
+  pub cuts : EachCut (IsOursForSome old.size) old → LeavesOnly (StandsForOneOf old) old new
+  -- From the first good flush on it is that of the contents. A second call follows a good one only.
+  pub after_flush : (shape : Shape) (array : Array) (next : ℕ)
+      → IsOurs old.size shape old.content array next → old.calls + 2 ≤ new.calls
+      → (image : Image) → new.left_since (old.calls + 1) image
+      → IsOursWithNext old.size shape array next image
+  pub spares : SparesTheRest old new
+  -- Whatever the image: no count falls, and the size stays.
+  pub moments : LeavesOnly (λ _. Unit {0}) old new
+  -- Whatever the image, and where it has a super of a format.
+  pub calls : new.calls ≤ old.calls + 6 + 738 * 64
+  pub most : (shape : Shape) → HasShape old.size shape old.content
+      → new.calls ≤ old.calls + 6 + most_start_of shape.format * 64
+
+-- Why a recovery is refused. Contents that stand for something with a stamp left are refused by the
+-- device alone.
+pub record IsRecoveryRefusal (old new : State) (fault : StartFault) : Type 0 where
+  pub cause : IsCause old new fault
+  pub served : (shape : Shape) (array : Array) (next : ℕ)
+      → StandsFor old.size shape old.content array next → next < 2 ^ 63 → IsDeviceFault fault
+
+-- a recovery that asks for so many slots of a log of format 1 found as many
+pub record IsRecoveredAtLeast (least : ℕ) (old new : State) (answer : Recovered) : Type 0 where
+  pub from : IsRecoveredFrom old new answer
+  pub room : ¬ HasFewSlots least old.size old.content
+
+-- so at each moment: nothing is written where there are fewer
+pub record LeavesAtLeast (least : ℕ) (old new : State) : Type 0 where
+  pub all : RecoveryLeaves old new
+  pub small : HasFewSlots least old.size old.content → SparesFrom 0 old new

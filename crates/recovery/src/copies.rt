@@ -1,12 +1,11 @@
 //! The copying of the whole records home.
-ghost use Rattle.std.specs.Prelude.{◌≡◌, ◌≢◌, ◌<◌, ◌≤◌, ◌+◌, ◌*◌, ◌^◌, List, ℕ, OnOk, IfErr, length, [], ◌++◌, get_or, drop};
-ghost use Rattle.medium.specs.Moments.{StaysWithin};
-ghost use Rattle.log_layout.specs.Places.{first_home, sectors_of};
+ghost use Rattle.std.specs.Prelude.{◌≡◌, ◌<◌, ◌≤◌, ◌+◌, ◌*◌, ◌^◌, List, ℕ, OnOk, length, [], ◌++◌, get_or, drop};
+ghost use Rattle.log_layout.specs.Places.{sectors_of};
 ghost use Rattle.log_layout.specs.Values.{shape_of};
-ghost use Rattle.log_image.specs.Record.{Entry, block_of, with_records, home_of};
+ghost use Rattle.log_image.specs.Record.{Entry};
 ghost use Rattle.log_image.specs.Formats.{IsWhole, HasWhole};
-ghost use Rattle.recovery.specs.Causes.{IsRefusedCall};
-ghost use Rattle.recovery.specs.Copies.{freed_at, calls_of, copy_calls, most_calls_of, IsHomeInRecord, IsHomeInRecords};
+ghost use Rattle.recovery.specs.Calls.{CopiesPass, CopiesAllPass};
+ghost use Rattle.recovery.specs.Copies.{most_calls_of, IsHomeInRecord, IsHomeInRecords, IsCopied, AreCopied};
 
 use crate::found::Found;
 use crate::{copies_one, copies_two};
@@ -25,12 +24,7 @@ pub(crate) fn copy_sector<M: Medium>(
     requires few { length first.now ≤ 512 }
     ensures done { OnOk result ((M.state m.new).content to
         ≡ first.now ++ drop (length first.now) ((M.state m.old).content from)) }
-    ensures elsewhere { (x : ℕ) → x ≢ to → (M.state m.new).content x ≡ (M.state m.old).content x }
-    ensures within { StaysWithin (freed_at (λ x. x ≡ to) (M.state m.old).may_leave)
-        (M.state m.old) (M.state m.new) }
-    ensures calls { (M.state m.new).calls ≤ (M.state m.old).calls + 2 }
-    ensures exact { OnOk result ((M.state m.new).calls ≡ (M.state m.old).calls + 2) }
-    ensures cause { IfErr result (IsRefusedCall (M.state m.old) (M.state m.new)) }
+    ensures copies { CopiesAllPass (λ x. x ≡ to) 2 (M.state m.old) (M.state m.new) result }
     ensures follows { M.follows m.old m.new }
 {
     let mut sector = [0; 512];
@@ -45,21 +39,11 @@ fn copy_record<M: Medium>(m: &mut M, sizes: &Super, stamp: u64) -> Result<(), Me
     requires whole { HasWhole (shape_of sizes.now) (M.state m.old).content stamp }
     ensures done { (entries : List Entry)
         → IsWhole (shape_of sizes.now) (M.state m.old).content stamp entries
-        → OnOk result ((i : ℕ) → i < length entries → (M.state m.new).content
-        (first_home (shape_of sizes.now) + (get_or entries i (0, [])).0) ≡ block_of entries i) }
-    ensures elsewhere { (x : ℕ)
-        → ¬ IsHomeInRecord (shape_of sizes.now) (M.state m.old).content stamp x
-        → (M.state m.new).content x ≡ (M.state m.old).content x }
-    ensures within { StaysWithin
-        (freed_at (IsHomeInRecord (shape_of sizes.now) (M.state m.old).content stamp)
-        (M.state m.old).may_leave) (M.state m.old) (M.state m.new) }
-    ensures calls { (M.state m.new).calls
-        ≤ (M.state m.old).calls + most_calls_of sizes.now.format }
-    ensures exact { (entries : List Entry)
-        → IsWhole (shape_of sizes.now) (M.state m.old).content stamp entries
-        → OnOk result ((M.state m.new).calls
-        ≡ (M.state m.old).calls + calls_of sizes.now.format (length entries)) }
-    ensures cause { IfErr result (IsRefusedCall (M.state m.old) (M.state m.new)) }
+        → OnOk result
+        (IsCopied (shape_of sizes.now) entries (M.state m.old) (M.state m.new)) }
+    ensures copies { CopiesPass
+        (IsHomeInRecord (shape_of sizes.now) (M.state m.old).content stamp)
+        (most_calls_of sizes.now.format) (M.state m.old) (M.state m.new) result }
     ensures follows { M.follows m.old m.new }
 {
     match sizes.format {
@@ -74,27 +58,15 @@ pub(crate) fn copy_records<M: Medium>(m: &mut M, found: &Found) -> Result<(), Me
     requires stamps { found.now.head + found.now.count < 2 ^ 63 }
     requires whole { (j : ℕ) → j < found.now.count → HasWhole (shape_of found.now.sizes)
         (M.state m.old).content (found.now.head + j) }
-    ensures home { (records : List (List Entry)) → found.now.count ≡ length records
+    ensures done { (records : List (List Entry)) → found.now.count ≡ length records
         → ((k : ℕ) → k < length records → IsWhole (shape_of found.now.sizes)
         (M.state m.old).content (found.now.head + k) (get_or records k []))
-        → OnOk result ((b : ℕ) → (M.state m.new).content (first_home (shape_of found.now.sizes) + b)
-        ≡ with_records records
-        (home_of (shape_of found.now.sizes) (M.state m.old).content) b) }
-    ensures elsewhere { (x : ℕ) → ¬ IsHomeInRecords (shape_of found.now.sizes)
-        (M.state m.old).content found.now.head found.now.count x
-        → (M.state m.new).content x ≡ (M.state m.old).content x }
-    ensures within { StaysWithin
-        (freed_at (IsHomeInRecords (shape_of found.now.sizes) (M.state m.old).content
-        found.now.head found.now.count) (M.state m.old).may_leave)
-        (M.state m.old) (M.state m.new) }
-    ensures calls { (M.state m.new).calls
-        ≤ (M.state m.old).calls + most_calls_of found.now.sizes.format * found.now.count }
-    ensures exact { (records : List (List Entry)) → found.now.count ≡ length records
-        → ((k : ℕ) → k < length records → IsWhole (shape_of found.now.sizes)
-        (M.state m.old).content (found.now.head + k) (get_or records k []))
-        → OnOk result ((M.state m.new).calls
-        ≡ (M.state m.old).calls + copy_calls found.now.sizes.format records) }
-    ensures cause { IfErr result (IsRefusedCall (M.state m.old) (M.state m.new)) }
+        → OnOk result
+        (AreCopied (shape_of found.now.sizes) records (M.state m.old) (M.state m.new)) }
+    ensures copies { CopiesPass (IsHomeInRecords (shape_of found.now.sizes)
+        (M.state m.old).content found.now.head found.now.count)
+        (most_calls_of found.now.sizes.format * found.now.count)
+        (M.state m.old) (M.state m.new) result }
     ensures follows { M.follows m.old m.new }
 {
     for j in 0..found.count {

@@ -1,14 +1,13 @@
 //! The copying of a whole record home, in format 1.
-ghost use Rattle.std.specs.Prelude.{◌≡◌, ◌<◌, ◌≤◌, ◌+◌, ◌*◌, List, ℕ, OnOk, IfErr, [], length, slice_index, get_or, All};
-ghost use Rattle.medium.specs.Moments.{StaysWithin};
+ghost use Rattle.std.specs.Prelude.{◌≡◌, ◌<◌, ◌≤◌, ◌+◌, ◌*◌, List, ℕ, OnOk, length, slice_index, All};
 ghost use Rattle.log_layout.specs.declared.log_format.LogFormat.TheVariants.{One};
 ghost use Rattle.log_layout.specs.Places.{first_home, sectors_of};
 ghost use Rattle.log_layout.specs.Sectors.{IsRising};
 ghost use Rattle.log_layout.specs.Values.{shape_of};
-ghost use Rattle.log_image.specs.Record.{Entry, block_of};
+ghost use Rattle.log_image.specs.Record.{Entry};
 ghost use Rattle.log_image.specs.Formats.{IsWhole, HasWhole};
-ghost use Rattle.recovery.specs.Causes.{IsRefusedCall};
-ghost use Rattle.recovery.specs.Copies.{freed_at, IsHomeOf, IsHomeInRecord};
+ghost use Rattle.recovery.specs.Calls.{CopiesPass, CopiesAllPass};
+ghost use Rattle.recovery.specs.Copies.{IsHomeOf, IsHomeInRecord, IsCopied};
 
 use crate::copies::copy_sector;
 use crate::record_one::read_record;
@@ -31,15 +30,8 @@ fn copy_blocks<M: Medium>(
     ensures done { OnOk result ((i : ℕ) → i < length numbers.now
         → (M.state m.new).content (first_home (shape_of sizes.now) + slice_index numbers.now i)
         ≡ (M.state m.old).content (2 + 50 * slot + 1 + i)) }
-    ensures elsewhere { (x : ℕ) → ¬ IsHomeOf (shape_of sizes.now) numbers.now x
-        → (M.state m.new).content x ≡ (M.state m.old).content x }
-    ensures within { StaysWithin
-        (freed_at (IsHomeOf (shape_of sizes.now) numbers.now) (M.state m.old).may_leave)
-        (M.state m.old) (M.state m.new) }
-    ensures calls { (M.state m.new).calls ≤ (M.state m.old).calls + 2 * length numbers.now }
-    ensures exact { OnOk result ((M.state m.new).calls
-        ≡ (M.state m.old).calls + 2 * length numbers.now) }
-    ensures cause { IfErr result (IsRefusedCall (M.state m.old) (M.state m.new)) }
+    ensures copies { CopiesAllPass (IsHomeOf (shape_of sizes.now) numbers.now)
+        (2 * length numbers.now) (M.state m.old) (M.state m.new) result }
     ensures follows { M.follows m.old m.new }
 {
     for i in 0..numbers.len() {
@@ -64,19 +56,11 @@ pub(crate) fn copy_record<M: Medium>(
     requires whole { HasWhole (shape_of sizes.now) (M.state m.old).content stamp }
     ensures done { (entries : List Entry)
         → IsWhole (shape_of sizes.now) (M.state m.old).content stamp entries
-        → OnOk result ((i : ℕ) → i < length entries → (M.state m.new).content
-        (first_home (shape_of sizes.now) + (get_or entries i (0, [])).0) ≡ block_of entries i) }
-    ensures elsewhere { (x : ℕ)
-        → ¬ IsHomeInRecord (shape_of sizes.now) (M.state m.old).content stamp x
-        → (M.state m.new).content x ≡ (M.state m.old).content x }
-    ensures within { StaysWithin
-        (freed_at (IsHomeInRecord (shape_of sizes.now) (M.state m.old).content stamp)
-        (M.state m.old).may_leave) (M.state m.old) (M.state m.new) }
-    ensures calls { (M.state m.new).calls ≤ (M.state m.old).calls + 98 }
-    ensures exact { (entries : List Entry)
-        → IsWhole (shape_of sizes.now) (M.state m.old).content stamp entries
-        → OnOk result ((M.state m.new).calls ≡ (M.state m.old).calls + (2 + 2 * length entries)) }
-    ensures cause { IfErr result (IsRefusedCall (M.state m.old) (M.state m.new)) }
+        → OnOk result
+        (IsCopied (shape_of sizes.now) entries (M.state m.old) (M.state m.new)) }
+    ensures copies { CopiesPass
+        (IsHomeInRecord (shape_of sizes.now) (M.state m.old).content stamp) 98
+        (M.state m.old) (M.state m.new) result }
     ensures follows { M.follows m.old m.new }
 {
     match read_record(m, sizes, stamp)? {

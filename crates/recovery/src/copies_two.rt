@@ -1,14 +1,12 @@
 //! The copying of a whole record home, in format 2.
-ghost use Rattle.std.specs.Prelude.{◌≡◌, ◌<◌, ◌≤◌, ◌+◌, ◌*◌, List, ℕ, OnOk, IfErr, [], ◌++◌, length, slice_index, get_or, drop, All};
-ghost use Rattle.medium.specs.Moments.{StaysWithin};
+ghost use Rattle.std.specs.Prelude.{◌≡◌, ◌<◌, ◌≤◌, ◌+◌, ◌*◌, List, ℕ, OnOk, [], ◌++◌, length, slice_index, get_or, drop, All};
 ghost use Rattle.log_layout.specs.declared.log_format.LogFormat.TheVariants.{Two};
 ghost use Rattle.log_layout.specs.Places.{first_home, sectors_of};
-ghost use Rattle.log_layout.specs.SectorsTwo.{descriptors_of};
 ghost use Rattle.log_layout.specs.Values.{shape_of};
-ghost use Rattle.log_image.specs.Record.{Entry, block_of};
+ghost use Rattle.log_image.specs.Record.{Entry};
 ghost use Rattle.log_image.specs.Formats.{IsWhole, HasWhole};
-ghost use Rattle.recovery.specs.Causes.{IsRefusedCall};
-ghost use Rattle.recovery.specs.Copies.{freed_at, IsHomeOf, IsHomeInRecord};
+ghost use Rattle.recovery.specs.Calls.{CopiesPass, CopiesAllPass};
+ghost use Rattle.recovery.specs.Copies.{IsHomeOf, IsHomeInRecord, IsCopied};
 
 use crate::copies::copy_sector;
 use crate::record_two::{ENTRIES, data_place, read_count, read_descriptor};
@@ -31,17 +29,8 @@ fn copy_named<M: Medium>(
         + slice_index descriptor.now.numbers.items e)
         ≡ get_or descriptor.now.firsts.items e [] ++ drop 8 ((M.state m.old).content
         (2 + 249 * slot + (8 + (30 * descriptor.now.index + e))))) }
-    ensures elsewhere { (x : ℕ)
-        → ¬ IsHomeOf (shape_of sizes.now) descriptor.now.numbers.items x
-        → (M.state m.new).content x ≡ (M.state m.old).content x }
-    ensures within { StaysWithin (freed_at (IsHomeOf (shape_of sizes.now)
-        descriptor.now.numbers.items) (M.state m.old).may_leave)
-        (M.state m.old) (M.state m.new) }
-    ensures calls { (M.state m.new).calls
-        ≤ (M.state m.old).calls + 2 * length descriptor.now.numbers.items }
-    ensures exact { OnOk result ((M.state m.new).calls
-        ≡ (M.state m.old).calls + 2 * length descriptor.now.numbers.items) }
-    ensures cause { IfErr result (IsRefusedCall (M.state m.old) (M.state m.new)) }
+    ensures copies { CopiesAllPass (IsHomeOf (shape_of sizes.now) descriptor.now.numbers.items)
+        (2 * length descriptor.now.numbers.items) (M.state m.old) (M.state m.new) result }
     ensures follows { M.follows m.old m.new }
 {
     for e in 0..descriptor.numbers.len() {
@@ -66,20 +55,11 @@ pub(crate) fn copy_record<M: Medium>(
     requires whole { HasWhole (shape_of sizes.now) (M.state m.old).content stamp }
     ensures done { (entries : List Entry)
         → IsWhole (shape_of sizes.now) (M.state m.old).content stamp entries
-        → OnOk result ((i : ℕ) → i < length entries → (M.state m.new).content
-        (first_home (shape_of sizes.now) + (get_or entries i (0, [])).0) ≡ block_of entries i) }
-    ensures elsewhere { (x : ℕ)
-        → ¬ IsHomeInRecord (shape_of sizes.now) (M.state m.old).content stamp x
-        → (M.state m.new).content x ≡ (M.state m.old).content x }
-    ensures within { StaysWithin
-        (freed_at (IsHomeInRecord (shape_of sizes.now) (M.state m.old).content stamp)
-        (M.state m.old).may_leave) (M.state m.old) (M.state m.new) }
-    ensures calls { (M.state m.new).calls ≤ (M.state m.old).calls + 489 }
-    ensures exact { (entries : List Entry)
-        → IsWhole (shape_of sizes.now) (M.state m.old).content stamp entries
-        → OnOk result ((M.state m.new).calls ≡ (M.state m.old).calls
-        + (1 + descriptors_of (length entries) + 2 * length entries)) }
-    ensures cause { IfErr result (IsRefusedCall (M.state m.old) (M.state m.new)) }
+        → OnOk result
+        (IsCopied (shape_of sizes.now) entries (M.state m.old) (M.state m.new)) }
+    ensures copies { CopiesPass
+        (IsHomeInRecord (shape_of sizes.now) (M.state m.old).content stamp) 489
+        (M.state m.old) (M.state m.new) result }
     ensures follows { M.follows m.old m.new }
 {
     let slot = slot_of(stamp, sizes.slots);

@@ -3,6 +3,7 @@ ghost use Rattle.std.specs.Prelude.{◌≡◌, ◌<◌, ◌≤◌, ◌+◌, ◌*
 ghost use Rattle.log_layout.specs.declared.log_format.LogFormat.TheVariants.{One, Two};
 ghost use Rattle.log_layout.specs.Places.{new_shape, sectors_of};
 ghost use Rattle.log_layout.specs.Values.{shape_of};
+ghost use Rattle.recovery.specs.Calls.{CallsUpTo};
 ghost use Rattle.recovery.specs.Formatted.{AreSizes, IsFormatted, FormatLeaves, IsFormatCause};
 
 use crate::FormatFault;
@@ -33,11 +34,8 @@ fn write_image<M: Medium>(m: &mut M, sizes: &Super) -> Result<(), MediumFault>
     requires { sectors_of (shape_of sizes.now) ≤ (M.state m.old).size }
     ensures done { OnOk result (IsFormatted (shape_of sizes.now) (M.state m.new)) }
     ensures leaves { FormatLeaves (shape_of sizes.now) (M.state m.old) (M.state m.new) }
-    ensures size { (M.state m.new).size ≡ (M.state m.old).size }
-    ensures calls { OnOk result ((M.state m.new).calls
-        ≡ (M.state m.old).calls + sectors_of (shape_of sizes.now) + 5) }
-    ensures most { (M.state m.new).calls
-        ≤ (M.state m.old).calls + sectors_of (shape_of sizes.now) + 5 }
+    ensures calls { CallsUpTo (sectors_of (shape_of sizes.now) + 5)
+        (M.state m.old) (M.state m.new) result }
     ensures cause { OnErr result ((M.state m.old).failures < (M.state m.new).failures) }
     ensures follows { M.follows m.old m.new }
 {
@@ -52,15 +50,12 @@ fn make<M: Medium>(m: &mut M, format: LogFormat, blocks: u64, slots: u64) -> Res
     ensures ok { let shape = new_shape format blocks slots in
         OnOk result (IsFormatted shape (M.state m.new)) }
     ensures err { let shape = new_shape format blocks slots in
-        IfErr result (IsFormatCause shape (M.state m.old) (M.state m.new)) }
-    ensures untouched { IfErr result (λ fault. fault ≡ FormatFault.BadSize → m.new ≡ m.old) }
+        IfErr result (λ fault. IsFormatCause shape (M.state m.old) (M.state m.new) fault
+        × (fault ≡ FormatFault.BadSize → m.new ≡ m.old)) }
     ensures leaves { let shape = new_shape format blocks slots in
         FormatLeaves shape (M.state m.old) (M.state m.new) }
-    ensures size { (M.state m.new).size ≡ (M.state m.old).size }
     ensures calls { let shape = new_shape format blocks slots in
-        OnOk result ((M.state m.new).calls ≡ (M.state m.old).calls + sectors_of shape + 5) }
-    ensures most { let shape = new_shape format blocks slots in
-        (M.state m.new).calls ≤ (M.state m.old).calls + sectors_of shape + 5 }
+        CallsUpTo (sectors_of shape + 5) (M.state m.old) (M.state m.new) result }
     ensures follows { M.follows m.old m.new }
 {
     let sizes = sizes_of(format, m.sectors(), blocks, slots).ok_or(FormatFault::BadSize)?;
@@ -76,15 +71,13 @@ fn make<M: Medium>(m: &mut M, format: LogFormat, blocks: u64, slots: u64) -> Res
 pub fn format<M: Medium>(m: &mut M, blocks: u64, slots: u64) -> Result<(), FormatFault>
     ensures ok { let shape = new_shape One blocks slots in
         OnOk result (IsFormatted shape (M.state m.new)) }
+    // A size that is out of its limits is refused before any call.
     ensures err { let shape = new_shape One blocks slots in
-        IfErr result (IsFormatCause shape (M.state m.old) (M.state m.new)) }
-    ensures untouched { IfErr result (λ fault. fault ≡ FormatFault.BadSize → m.new ≡ m.old) }
+        IfErr result (λ fault. IsFormatCause shape (M.state m.old) (M.state m.new) fault
+        × (fault ≡ FormatFault.BadSize → m.new ≡ m.old)) }
     ensures leaves { let shape = new_shape One blocks slots in
         FormatLeaves shape (M.state m.old) (M.state m.new) }
-    ensures size { (M.state m.new).size ≡ (M.state m.old).size }
-    ensures calls { OnOk result ((M.state m.new).calls
-        ≡ (M.state m.old).calls + 7 + 50 * slots + blocks) }
-    ensures most { (M.state m.new).calls ≤ (M.state m.old).calls + 7 + 50 * slots + blocks }
+    ensures calls { CallsUpTo (7 + 50 * slots + blocks) (M.state m.old) (M.state m.new) result }
     ensures follows { M.follows m.old m.new }
 {
     make(m, LogFormat::One, blocks, slots)
@@ -97,15 +90,13 @@ pub fn format<M: Medium>(m: &mut M, blocks: u64, slots: u64) -> Result<(), Forma
 pub fn format2<M: Medium>(m: &mut M, blocks: u64, slots: u64) -> Result<(), FormatFault>
     ensures ok { let shape = new_shape Two blocks slots in
         OnOk result (IsFormatted shape (M.state m.new)) }
+    // A size that is out of its limits is refused before any call.
     ensures err { let shape = new_shape Two blocks slots in
-        IfErr result (IsFormatCause shape (M.state m.old) (M.state m.new)) }
-    ensures untouched { IfErr result (λ fault. fault ≡ FormatFault.BadSize → m.new ≡ m.old) }
+        IfErr result (λ fault. IsFormatCause shape (M.state m.old) (M.state m.new) fault
+        × (fault ≡ FormatFault.BadSize → m.new ≡ m.old)) }
     ensures leaves { let shape = new_shape Two blocks slots in
         FormatLeaves shape (M.state m.old) (M.state m.new) }
-    ensures size { (M.state m.new).size ≡ (M.state m.old).size }
-    ensures calls { OnOk result ((M.state m.new).calls
-        ≡ (M.state m.old).calls + 7 + 249 * slots + blocks) }
-    ensures most { (M.state m.new).calls ≤ (M.state m.old).calls + 7 + 249 * slots + blocks }
+    ensures calls { CallsUpTo (7 + 249 * slots + blocks) (M.state m.old) (M.state m.new) result }
     ensures follows { M.follows m.old m.new }
 {
     make(m, LogFormat::Two, blocks, slots)

@@ -1,13 +1,14 @@
 //! The migration of an image of format 1 to format 2.
-ghost use Rattle.std.specs.Prelude.{◌≡◌, ◌<◌, ◌≤◌, ◌+◌, ◌*◌, ◌^◌, ℕ, OnOk, IfOk, IfErr};
-ghost use Rattle.medium.specs.Moments.{EachCut, IsFlushed, LeavesOnly, SparesFrom};
+ghost use Rattle.std.specs.Prelude.{◌<◌, ◌≤◌, ◌+◌, ◌*◌, ◌^◌, ℕ, IfOk, IfErr};
+ghost use Rattle.medium.specs.Moments.{EachCut, IsFlushed};
 ghost use Rattle.medium.specs.Blocks.{Array};
-ghost use Rattle.log_layout.specs.Places.{Shape, first_home, sectors_of, migrated};
+ghost use Rattle.log_layout.specs.Places.{Shape, sectors_of};
 ghost use Rattle.log_layout.specs.Values.{shape_of};
-ghost use Rattle.log_image.specs.Standing.{StandsFor, IsOurs};
-ghost use Rattle.recovery.specs.Causes.{IsDeviceFault, IsRefusedCall};
+ghost use Rattle.log_image.specs.Standing.{IsOurs};
+ghost use Rattle.recovery.specs.Calls.{CallsUpTo};
+ghost use Rattle.recovery.specs.Causes.{IsRefusedCall};
 ghost use Rattle.recovery.specs.Recovered.{IsFresh};
-ghost use Rattle.recovery.specs.Migrated.{CanMigrate, HasSmallLog, IsMadeTwo, IsMigrationBy, IsMigrationCause, IsFreshInEither, MigrationLeaves};
+ghost use Rattle.recovery.specs.Migrated.{CanMigrate, IsMadeOf, IsMigrationBy, IsMigrationRefusal, MakingLeaves, MigrationLeaves};
 
 use crate::new_head::move_head;
 use crate::recovery::recover_at_least;
@@ -31,18 +32,11 @@ pub fn migrate<M: Medium>(m: &mut M) -> Result<(Recovered, bool), StartFault>
         → IsOurs (M.state m.old).size shape (M.state m.old).content array next
         → IfOk result (λ answer.
         EachCut (IsFresh (shape_of answer.0.sizes) array next) (M.state m.new)) }
-    ensures err { IfErr result (IsMigrationCause (M.state m.old) (M.state m.new)) }
     // Contents that stand for something, with a stamp left and a log that is no small one, are
     // refused by the device alone.
-    ensures served { (shape : Shape) (array : Array) (next : ℕ)
-        → StandsFor (M.state m.old).size shape (M.state m.old).content array next → next < 2 ^ 63
-        → (¬ HasSmallLog (M.state m.old).size (M.state m.old).content)
-        → IfErr result IsDeviceFault }
+    ensures err { IfErr result (IsMigrationRefusal (M.state m.old) (M.state m.new)) }
     // At each moment, good or refused.
     ensures leaves { MigrationLeaves (M.state m.old) (M.state m.new) }
-    // Whatever the image: no count falls, and the size stays.
-    ensures moments { LeavesOnly (λ _. Unit {0}) (M.state m.old) (M.state m.new) }
-    ensures calls { (M.state m.new).calls ≤ (M.state m.old).calls + 6 + 738 * 64 }
     ensures follows { M.follows m.old m.new }
 {
     let found = recover_at_least(m, 5)?;
@@ -60,20 +54,11 @@ fn make_two<M: Medium>(m: &mut M, found: &Recovered) -> Result<Recovered, Medium
     requires flushed { IsFlushed (M.state m.old) }
     requires least { 1 ≤ found.now.next }
     requires most { found.now.next < 2 ^ 63 }
-    ensures answer { IfOk result (λ made.
-        (shape_of made.sizes ≡ migrated (shape_of found.now.sizes))
-        × (made.next ≡ found.now.next)) }
-    ensures made { OnOk result
-        (IsMadeTwo (shape_of found.now.sizes) found.now.next (M.state m.new)) }
-    ensures leaves { (array : Array)
-        → IsFresh (shape_of found.now.sizes) array found.now.next (M.state m.old).content
-        → LeavesOnly (IsFreshInEither (shape_of found.now.sizes) array found.now.next)
+    ensures ok { IfOk result (IsMadeOf found.now (M.state m.new)) }
+    ensures leaves { MakingLeaves (shape_of found.now.sizes) found.now.next
         (M.state m.old) (M.state m.new) }
-    ensures spares { SparesFrom (first_home (shape_of found.now.sizes))
-        (M.state m.old) (M.state m.new) }
-    ensures exact { OnOk result
-        ((M.state m.new).calls ≡ (M.state m.old).calls + 50 * found.now.sizes.slots + 5) }
-    ensures calls { (M.state m.new).calls ≤ (M.state m.old).calls + 50 * found.now.sizes.slots + 5 }
+    ensures calls { CallsUpTo (50 * found.now.sizes.slots + 5)
+        (M.state m.old) (M.state m.new) result }
     ensures cause { IfErr result (IsRefusedCall (M.state m.old) (M.state m.new)) }
     ensures follows { M.follows m.old m.new }
 {

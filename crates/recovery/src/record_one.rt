@@ -1,12 +1,11 @@
 //! The record of a stamp, in format 1.
-ghost use Rattle.std.specs.Prelude.{◌≡◌, ◌≤◌, ◌+◌, List, OnOk, IfOk, IfErr, IfSome, IsSomeAnd};
-ghost use Rattle.medium.specs.Moments.{IsQuiet};
+ghost use Rattle.std.specs.Prelude.{◌≡◌, ◌≤◌, List, IfOk, IfSome, IsSomeAnd};
 ghost use Rattle.log_layout.specs.declared.log_format.LogFormat.TheVariants.{One};
 ghost use Rattle.log_layout.specs.Places.{sectors_of};
 ghost use Rattle.log_layout.specs.Values.{shape_of};
 ghost use Rattle.log_image.specs.Record.{Entry, numbers_of};
 ghost use Rattle.log_image.specs.Formats.{IsWhole};
-ghost use Rattle.recovery.specs.Causes.{IsRefusedCall, MakesReadsAlone};
+ghost use Rattle.recovery.specs.Calls.{ReadsAllPass};
 
 use log_layout::{Descriptor, Super, commit_place, place_of, slot_of, whole_record};
 use medium::{Medium, MediumFault};
@@ -19,11 +18,7 @@ pub(crate) fn read_record<M: Medium>(
 ) -> Result<Option<Descriptor>, MediumFault>
     requires format { sizes.now.format ≡ One }
     requires fits { sectors_of (shape_of sizes.now) ≤ (M.state m.old).size }
-    ensures quiet { IsQuiet (M.state m.old) (M.state m.new) }
-    ensures reads { MakesReadsAlone (M.state m.old) (M.state m.new) }
-    ensures calls { (M.state m.new).calls ≤ (M.state m.old).calls + 2 }
-    ensures exact { OnOk result ((M.state m.new).calls ≡ (M.state m.old).calls + 2) }
-    ensures cause { IfErr result (IsRefusedCall (M.state m.old) (M.state m.new)) }
+    ensures passes { ReadsAllPass 2 (M.state m.old) (M.state m.new) result }
     ensures some { IfOk result (λ found. IfSome found (λ d. (entries : List Entry)
         × IsWhole (shape_of sizes.now) (M.state m.old).content stamp entries
         × (d.numbers.items ≡ numbers_of entries))) }

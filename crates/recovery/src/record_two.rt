@@ -1,6 +1,5 @@
 //! Whether the record of a stamp is whole, in format 2.
-ghost use Rattle.std.specs.Prelude.{◌≡◌, ◌≤◌, ◌<◌, ◌+◌, ◌*◌, ℕ, List, length, All, OnOk, IfOk, IfErr, IfSome, IsSomeAnd, IsTrue, ◌↔◌};
-ghost use Rattle.medium.specs.Moments.{IsQuiet};
+ghost use Rattle.std.specs.Prelude.{◌≡◌, ◌≤◌, ◌<◌, ◌+◌, ◌*◌, ℕ, List, length, All, IfOk, IfSome, IsSomeAnd, IsTrue, ◌↔◌};
 ghost use Rattle.log_layout.specs.declared.log_format.LogFormat.TheVariants.{Two};
 ghost use Rattle.log_layout.specs.Places.{sectors_of};
 ghost use Rattle.log_layout.specs.Sectors.{IsRising};
@@ -8,7 +7,7 @@ ghost use Rattle.log_layout.specs.SectorsTwo.{IsDescriptorTwo, IsCommitTwo};
 ghost use Rattle.log_layout.specs.Values.{shape_of};
 ghost use Rattle.log_image.specs.Formats.{HasWhole};
 ghost use Rattle.log_image.specs.SlotTwo.{HasDescriptors, HasPlaces};
-ghost use Rattle.recovery.specs.Causes.{IsRefusedCall, MakesReadsAlone};
+ghost use Rattle.recovery.specs.Calls.{ReadsPass, ReadsAllPass};
 
 use arrayvec::ArrayVec;
 use log_layout::{Commit2, Descriptor2, Super, are_rising, is_data2, place_of2, slot_of};
@@ -40,11 +39,7 @@ pub(crate) fn read_count<M: Medium>(
 ) -> Result<Option<u64>, MediumFault>
     requires slot { slot < 64 }
     requires inside { 2 + 249 * slot + 249 ≤ (M.state m.old).size }
-    ensures quiet { IsQuiet (M.state m.old) (M.state m.new) }
-    ensures reads { MakesReadsAlone (M.state m.old) (M.state m.new) }
-    ensures calls { (M.state m.new).calls ≤ (M.state m.old).calls + 1 }
-    ensures exact { OnOk result ((M.state m.new).calls ≡ (M.state m.old).calls + 1) }
-    ensures cause { IfErr result (IsRefusedCall (M.state m.old) (M.state m.new)) }
+    ensures passes { ReadsAllPass 1 (M.state m.old) (M.state m.new) result }
     ensures some { IfOk result (λ found. IfSome found (λ count.
         IsCommitTwo stamp count ((M.state m.old).content (2 + 249 * slot + 248)))) }
     ensures all { (n : ℕ) → IsCommitTwo stamp n ((M.state m.old).content (2 + 249 * slot + 248))
@@ -70,11 +65,7 @@ pub(crate) fn read_descriptor<M: Medium>(
     requires slot { slot < 64 }
     requires few { j < 8 }
     requires inside { 2 + 249 * slot + 249 ≤ (M.state m.old).size }
-    ensures quiet { IsQuiet (M.state m.old) (M.state m.new) }
-    ensures reads { MakesReadsAlone (M.state m.old) (M.state m.new) }
-    ensures calls { (M.state m.new).calls ≤ (M.state m.old).calls + 1 }
-    ensures exact { OnOk result ((M.state m.new).calls ≡ (M.state m.old).calls + 1) }
-    ensures cause { IfErr result (IsRefusedCall (M.state m.old) (M.state m.new)) }
+    ensures passes { ReadsAllPass 1 (M.state m.old) (M.state m.new) result }
     ensures some { IfOk result (λ found. IfSome found (λ d. (d.index ≡ j)
         × IsDescriptorTwo stamp count j d.numbers.items d.firsts.items
         ((M.state m.old).content (2 + 249 * slot + j)))) }
@@ -105,10 +96,7 @@ fn read_numbers<M: Medium>(
     requires slot { slot < 64 }
     requires few { count ≤ 240 }
     requires inside { 2 + 249 * slot + 249 ≤ (M.state m.old).size }
-    ensures quiet { IsQuiet (M.state m.old) (M.state m.new) }
-    ensures reads { MakesReadsAlone (M.state m.old) (M.state m.new) }
-    ensures calls { (M.state m.new).calls ≤ (M.state m.old).calls + 8 }
-    ensures cause { IfErr result (IsRefusedCall (M.state m.old) (M.state m.new)) }
+    ensures passes { ReadsPass 8 (M.state m.old) (M.state m.new) result }
     ensures some { IfOk result (λ found. IfSome found (λ read. (length read.items ≡ count)
         × HasDescriptors (M.state m.old).content (2 + 249 * slot) stamp read.items)) }
     ensures all { (numbers : List ℕ) → length numbers ≡ count
@@ -140,10 +128,7 @@ fn are_stamped<M: Medium>(m: &mut M, slot: u64, stamp: u64, count: u64) -> Resul
     requires slot { slot < 64 }
     requires few { count ≤ 240 }
     requires inside { 2 + 249 * slot + 249 ≤ (M.state m.old).size }
-    ensures quiet { IsQuiet (M.state m.old) (M.state m.new) }
-    ensures reads { MakesReadsAlone (M.state m.old) (M.state m.new) }
-    ensures calls { (M.state m.new).calls ≤ (M.state m.old).calls + count }
-    ensures cause { IfErr result (IsRefusedCall (M.state m.old) (M.state m.new)) }
+    ensures passes { ReadsPass count (M.state m.old) (M.state m.new) result }
     ensures stamped { IfOk result (λ good. IsTrue good
         ↔ HasPlaces (M.state m.old).content (2 + 249 * slot) stamp count) }
     ensures follows { M.follows m.old m.new }
@@ -162,10 +147,7 @@ fn are_stamped<M: Medium>(m: &mut M, slot: u64, stamp: u64, count: u64) -> Resul
 pub(crate) fn is_whole<M: Medium>(m: &mut M, sizes: &Super, stamp: u64) -> Result<bool, MediumFault>
     requires format { sizes.now.format ≡ Two }
     requires fits { sectors_of (shape_of sizes.now) ≤ (M.state m.old).size }
-    ensures quiet { IsQuiet (M.state m.old) (M.state m.new) }
-    ensures reads { MakesReadsAlone (M.state m.old) (M.state m.new) }
-    ensures calls { (M.state m.new).calls ≤ (M.state m.old).calls + 249 }
-    ensures cause { IfErr result (IsRefusedCall (M.state m.old) (M.state m.new)) }
+    ensures passes { ReadsPass 249 (M.state m.old) (M.state m.new) result }
     ensures whole { IfOk result (λ whole. IsTrue whole
         ↔ HasWhole (shape_of sizes.now) (M.state m.old).content stamp) }
     ensures follows { M.follows m.old m.new }

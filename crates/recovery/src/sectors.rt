@@ -1,9 +1,9 @@
 //! Sectors that are written at once, and not through the log.
-ghost use Rattle.std.specs.Prelude.{◌≡◌, ◌≢◌, ◌<◌, ◌≤◌, ◌+◌, ◌-◌, ℕ, OnOk, IfErr, replicate};
+ghost use Rattle.std.specs.Prelude.{◌≡◌, ◌<◌, ◌≤◌, ◌-◌, ℕ, OnOk, replicate};
 ghost use Rattle.medium.specs.Medium.{Holds};
-ghost use Rattle.medium.specs.Moments.{IsFlushed, LeavesOnly, StaysWithin};
-ghost use Rattle.recovery.specs.Causes.{IsRefusedCall};
-ghost use Rattle.recovery.specs.Copies.{cleared_at, WithOrWithout, IsBetween};
+ghost use Rattle.medium.specs.Moments.{IsFlushed};
+ghost use Rattle.recovery.specs.Calls.{WritesAllPass, ClearsAllPass};
+ghost use Rattle.recovery.specs.Copies.{WithOrWithout, IsBetween};
 
 use medium::{Medium, MediumFault};
 
@@ -13,14 +13,8 @@ pub(crate) fn clear<M: Medium>(m: &mut M, from: u64, end: u64) -> Result<(), Med
     requires some { from ≤ end }
     ensures zeros { OnOk result ((x : ℕ) → from ≤ x → x < end
         → (M.state m.new).content x ≡ replicate 512 0) }
-    ensures elsewhere { (x : ℕ) → ¬ IsBetween from end x
-        → (M.state m.new).content x ≡ (M.state m.old).content x }
-    ensures within { StaysWithin (cleared_at (IsBetween from end) (M.state m.old).may_leave)
-        (M.state m.old) (M.state m.new) }
-    ensures size { (M.state m.new).size ≡ (M.state m.old).size }
-    ensures calls { OnOk result ((M.state m.new).calls ≡ (M.state m.old).calls + (end - from)) }
-    ensures most { (M.state m.new).calls ≤ (M.state m.old).calls + (end - from) }
-    ensures cause { IfErr result (IsRefusedCall (M.state m.old) (M.state m.new)) }
+    ensures clears { ClearsAllPass (IsBetween from end) (end - from)
+        (M.state m.old) (M.state m.new) result }
     ensures follows { M.follows m.old m.new }
 {
     for sector in from..end {
@@ -39,14 +33,9 @@ pub(crate) fn write_through<M: Medium>(
     ensures done { OnOk result
         (Holds place sector.now (M.state m.old).content (M.state m.new).content
         × IsFlushed (M.state m.new)) }
-    ensures elsewhere { (x : ℕ) → x ≢ place
-        → (M.state m.new).content x ≡ (M.state m.old).content x }
-    ensures moments { LeavesOnly (WithOrWithout place sector.now (M.state m.old).may_leave)
-        (M.state m.old) (M.state m.new) }
-    ensures size { (M.state m.new).size ≡ (M.state m.old).size }
-    ensures calls { OnOk result ((M.state m.new).calls ≡ (M.state m.old).calls + 2) }
-    ensures most { (M.state m.new).calls ≤ (M.state m.old).calls + 2 }
-    ensures cause { IfErr result (IsRefusedCall (M.state m.old) (M.state m.new)) }
+    ensures writes { WritesAllPass (λ x. x ≡ place)
+        (WithOrWithout place sector.now (M.state m.old).may_leave) 2
+        (M.state m.old) (M.state m.new) result }
     ensures follows { M.follows m.old m.new }
 {
     m.write(place, sector)?;

@@ -2,14 +2,15 @@
 ghost use Rattle.std.specs.Prelude.{◌≡◌, ◌<◌, ◌≤◌, ◌+◌, ◌*◌, ◌^◌, ℕ, OnOk, IfOk, IfErr, min, IsTrue, ◌↔◌};
 ghost use Rattle.medium.specs.Moments.{IsQuiet};
 ghost use Rattle.log_layout.specs.declared.log_format.LogFormat.TheVariants.{One};
-ghost use Rattle.log_layout.specs.Places.{Shape, sectors_of};
+ghost use Rattle.log_layout.specs.Places.{sectors_of};
 ghost use Rattle.log_layout.specs.Values.{shape_of};
 ghost use Rattle.log_image.specs.Formats.{HasWhole};
 ghost use Rattle.log_image.specs.Standing.{IsCount};
 ghost use Rattle.log_image.specs.ImageFaults.{HasShape};
-ghost use Rattle.recovery.specs.Causes.{IsRefusedCall, IsRefusalBy, HasFewSlots, MakesReadsAlone};
+ghost use Rattle.recovery.specs.Calls.{ReadsUpTo, ReadsPass};
+ghost use Rattle.recovery.specs.Causes.{IsRefusalBy};
 ghost use Rattle.recovery.specs.Copies.{AreTries, most_reads_of};
-ghost use Rattle.recovery.specs.Found.{IsFound};
+ghost use Rattle.recovery.specs.Found.{IsSurvey, SurveysAtMost};
 
 use crate::found::Found;
 use crate::record_one::read_record;
@@ -20,13 +21,10 @@ use medium::{Medium, MediumFault};
 // Whether the record of a stamp is whole.
 fn is_whole<M: Medium>(m: &mut M, sizes: &Super, stamp: u64) -> Result<bool, MediumFault>
     requires { sectors_of (shape_of sizes.now) ≤ (M.state m.old).size }
-    ensures quiet { IsQuiet (M.state m.old) (M.state m.new) }
-    ensures reads { MakesReadsAlone (M.state m.old) (M.state m.new) }
-    ensures calls { (M.state m.new).calls
-        ≤ (M.state m.old).calls + most_reads_of sizes.now.format }
+    ensures passes { ReadsPass (most_reads_of sizes.now.format)
+        (M.state m.old) (M.state m.new) result }
     ensures exact { OnOk result
         (AreTries sizes.now.format 1 (M.state m.old).calls (M.state m.new).calls) }
-    ensures cause { IfErr result (IsRefusedCall (M.state m.old) (M.state m.new)) }
     ensures whole { IfOk result (λ whole. IsTrue whole
         ↔ HasWhole (shape_of sizes.now) (M.state m.old).content stamp) }
     ensures follows { M.follows m.old m.new }
@@ -41,13 +39,10 @@ fn is_whole<M: Medium>(m: &mut M, sizes: &Super, stamp: u64) -> Result<bool, Med
 fn count_whole<M: Medium>(m: &mut M, sizes: &Super, head: u64) -> Result<u64, MediumFault>
     requires fits { sectors_of (shape_of sizes.now) ≤ (M.state m.old).size }
     requires head { head < 2 ^ 63 }
-    ensures quiet { IsQuiet (M.state m.old) (M.state m.new) }
-    ensures reads { MakesReadsAlone (M.state m.old) (M.state m.new) }
-    ensures calls { (M.state m.new).calls
-        ≤ (M.state m.old).calls + most_reads_of sizes.now.format * sizes.now.slots }
+    ensures passes { ReadsPass (most_reads_of sizes.now.format * sizes.now.slots)
+        (M.state m.old) (M.state m.new) result }
     ensures exact { IfOk result (λ count. AreTries sizes.now.format
         (min (count + 1) sizes.now.slots) (M.state m.old).calls (M.state m.new).calls) }
-    ensures cause { IfErr result (IsRefusedCall (M.state m.old) (M.state m.new)) }
     ensures count { IfOk result (IsCount (shape_of sizes.now) (M.state m.old).content head) }
     ensures follows { M.follows m.old m.new }
 {
@@ -61,10 +56,7 @@ fn count_whole<M: Medium>(m: &mut M, sizes: &Super, head: u64) -> Result<u64, Me
 
 // Reads the super.
 fn read_super<M: Medium>(m: &mut M) -> Result<Super, StartFault>
-    ensures quiet { IsQuiet (M.state m.old) (M.state m.new) }
-    ensures reads { MakesReadsAlone (M.state m.old) (M.state m.new) }
-    ensures calls { (M.state m.new).calls ≤ (M.state m.old).calls + 1 }
-    ensures exact { OnOk result ((M.state m.new).calls ≡ (M.state m.old).calls + 1) }
+    ensures reads { ReadsUpTo 1 (M.state m.old) (M.state m.new) result }
     // It is none that the rest of the image decides.
     ensures err { (least : ℕ)
         → IfErr result (IsRefusalBy least IsQuiet (M.state m.old) (M.state m.new)) }
@@ -105,18 +97,9 @@ fn has_few_slots(sizes: &Super, least: u64) -> bool
 /// Reads all that recovery has to know before its first write. A log of format 1 with fewer slots
 /// than these is too small.
 pub(crate) fn inspect<M: Medium>(m: &mut M, least: u64) -> Result<Found, StartFault>
-    ensures quiet { IsQuiet (M.state m.old) (M.state m.new) }
-    ensures reads { MakesReadsAlone (M.state m.old) (M.state m.new) }
-    ensures calls { (M.state m.new).calls ≤ (M.state m.old).calls + 2 + 249 * 64 }
-    ensures most { (shape : Shape) → HasShape (M.state m.old).size shape (M.state m.old).content
-        → (M.state m.new).calls ≤ (M.state m.old).calls + 2 + most_reads_of shape.format * 64 }
-    ensures exact { IfOk result (λ found. AreTries found.sizes.format
-        (min (found.count + 1) found.sizes.slots) ((M.state m.old).calls + 2)
-        (M.state m.new).calls) }
+    ensures reads { SurveysAtMost (M.state m.old) (M.state m.new) }
+    ensures ok { IfOk result (IsSurvey least (M.state m.old) (M.state m.new)) }
     ensures err { IfErr result (IsRefusalBy least IsQuiet (M.state m.old) (M.state m.new)) }
-    ensures room { OnOk result
-        (¬ HasFewSlots least (M.state m.old).size (M.state m.old).content) }
-    ensures ok { IfOk result (IsFound (M.state m.old).size (M.state m.old).content) }
     ensures follows { M.follows m.old m.new }
 {
     let sizes = read_super(m)?;

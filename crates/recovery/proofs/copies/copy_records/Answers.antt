@@ -1,12 +1,13 @@
-use Rattle.std.proofs.Common.{◌≡◌, ◌∙◌, ◌+◌, ◌<◌, List, ℕ, [], length, get_or, refl, sym, ap, arith}
+use Rattle.std.proofs.Common.{◌≡◌, ◌∙◌, ◌+◌, ◌<◌, List, ℕ, [], length, get_or, refl, sym, ap, arith, rules}
 use Rattle.std.proofs.lemmas.List.{take_all}
 use Rattle.log_layout.specs.Places.{first_home}
 use Rattle.log_layout.specs.Values.{shape_of}
 use Rattle.log_image.specs.Record.{Entry, with_records, home_of}
 use Rattle.log_image.specs.Formats.{IsWhole}
 use Rattle.recovery.specs.Copies.{copy_calls, IsHomeInRecord, IsHomeInRecords}
-use Rattle.recovery.proofs.Copying.{none_copied, copies_joined, record_home, one_more_home, not_in_log, whole_same, home_same, copy_calls-more}
-use Rattle.recovery.proofs.Trying.{no_calls, most_more}
+use Rattle.recovery.proofs.Copying.{none_copied, copies_joined, record_home, one_more_home, not_in_log, whole_same, home_same}
+use Rattle.recovery.proofs.Copying.{copy_calls-more}
+use Rattle.recovery.proofs.Trying.{no_calls, most_more, most_stays}
 use Rattle.recovery.proofs.copies.copy_records.Goals as goal
 
 pub copy_record-requires-clause-fits : goal.copy_record-requires-clause-fits
@@ -29,33 +30,40 @@ pub loop-j-init : goal.loop-j-init
 loop-j-init g c = record {
   home = λ records count whole b. refl;
   elsewhere = λ x not. refl;
-  within = none_copied (IsHomeInRecords (shape_of c.args.found.now.sizes) (g.M.Medium.state c.args.m.now).content c.args.found.now.head c.args.found.now.count) (g.M.Medium.state c.args.m.now) (g.met.M.Medium.sound c.args.m.now);
+  within = none_copied
+      (IsHomeInRecords (shape_of c.args.found.now.sizes) (g.M.Medium.state c.args.m.now).content c.args.found.now.head
+      c.args.found.now.count)
+      (g.M.Medium.state c.args.m.now) (g.met.M.Medium.sound c.args.m.now);
   calls = no_calls c.args.found.now.sizes.format (g.M.Medium.state c.args.m.now).calls;
   exact = λ records count whole. omega arith;
   follows = g.met.M.Medium.follows_itself c.args.m.now;
 }
 
-pub returns-in_err-copy_record-clause-within : goal.returns-in_err-copy_record-clause-within
-returns-in_err-copy_record-clause-within g c =
+pub returns-in_err-copy_record-clause-copies : goal.returns-in_err-copy_record-clause-copies
+returns-in_err-copy_record-clause-copies g c =
     let found = c.args.found.now in
     let shape = shape_of found.sizes in
     let old = g.M.Medium.state c.args.m.now in
     let mid = g.M.Medium.state c.loop-j.m in
+    let new = g.M.Medium.state c.copy_record.new.m in
+    let j = c.loop-j.j in
     let inv = c.loop-j.invariant in
-    let log : (y : ℕ) → y < first_home shape → mid.content y ≡ old.content y = λ y below. inv.elsewhere y (not_in_log shape old.content found.head found.count y below) in
-    copies_joined (IsHomeInRecords shape old.content found.head found.count) (IsHomeInRecord shape mid.content (found.head + c.loop-j.j)) (IsHomeInRecords shape old.content found.head found.count)
-    old mid (g.M.Medium.state c.copy_record.new.m) (g.met.M.Medium.sound c.loop-j.m) (λ x h. h)
-    (λ x h. (c.loop-j.j, c.loop-j-test.true, home_same shape mid.content old.content (found.head + c.loop-j.j) x found.sizes.some_slots found.sizes.home_is (λ y below. sym (log y below)) h)) inv.within c.copy_record.ensures.within
-
-pub returns-in_err-copy_record-clause-elsewhere : goal.returns-in_err-copy_record-clause-elsewhere
-returns-in_err-copy_record-clause-elsewhere g c x not =
-    let found = c.args.found.now in
-    let shape = shape_of found.sizes in
-    let old = g.M.Medium.state c.args.m.now in
-    let mid = g.M.Medium.state c.loop-j.m in
-    let inv = c.loop-j.invariant in
-    let log : (y : ℕ) → y < first_home shape → mid.content y ≡ old.content y = λ y below. inv.elsewhere y (not_in_log shape old.content found.head found.count y below) in
-    c.copy_record.ensures.elsewhere x (λ h. not (c.loop-j.j, c.loop-j-test.true, home_same shape mid.content old.content (found.head + c.loop-j.j) x found.sizes.some_slots found.sizes.home_is (λ y below. sym (log y below)) h)) ∙ inv.elsewhere x not
+    let inside = c.loop-j-test.true in
+    let log : (y : ℕ) → y < first_home shape → mid.content y ≡ old.content y =
+    λ y below. inv.elsewhere y (not_in_log shape old.content found.head found.count y below) in
+    let P : ℕ → Type 0 = IsHomeInRecords (shape_of c.args.found.now.sizes) old.content c.args.found.now.head c.args.found.now.count in
+    let one : (x : ℕ) → IsHomeInRecord shape mid.content (found.head + j) x → P x = λ x h.
+    let back : (y : ℕ) → y < first_home shape → old.content y ≡ mid.content y = λ y below. sym (log y below) in
+    (j, inside, home_same shape mid.content old.content (found.head + j) x found.sizes.some_slots found.sizes.home_is back h) in
+    let copies = c.copy_record.ensures.copies in
+    let most = most_more found.sizes.format j old.calls mid.calls new.calls inv.calls copies.calls in
+    record {
+      elsewhere = λ x not. copies.elsewhere x (λ h. not (one x h)) ∙ inv.elsewhere x not;
+      moments = copies_joined P (IsHomeInRecord shape mid.content (found.head + j)) P old mid new (g.met.M.Medium.sound c.loop-j.m)
+          (λ x h. h) one inv.within copies.moments;
+      calls = most_stays found.sizes.format (j + 1) found.count old.calls new.calls (omega arith) most;
+      cause = search rules;
+    }
 
 pub loop-j-preserved : goal.loop-j-preserved
 loop-j-preserved g c =
@@ -67,36 +75,45 @@ loop-j-preserved g c =
     let inv = c.loop-j.invariant in
     let j = c.loop-j.j in
     let inside = c.loop-j-test.true in
-    let log : (y : ℕ) → y < first_home shape → mid.content y ≡ old.content y = λ y below. inv.elsewhere y (not_in_log shape old.content found.head found.count y below) in
+    let log : (y : ℕ) → y < first_home shape → mid.content y ≡ old.content y = λ y below.
+    inv.elsewhere y (not_in_log shape old.content found.head found.count y below) in
+    let P : ℕ → Type 0 = IsHomeInRecords (shape_of c.args.found.now.sizes) old.content c.args.found.now.head c.args.found.now.count in
+    let one : (x : ℕ) → IsHomeInRecord shape mid.content (found.head + j) x → P x = λ x h.
+    let back : (y : ℕ) → y < first_home shape → old.content y ≡ mid.content y = λ y below. sym (log y below) in
+    (j, inside, home_same shape mid.content old.content (found.head + j) x found.sizes.some_slots found.sizes.home_is back h) in
+    let copies = c.copy_record.ensures.copies in
     record {
       home = λ records count whole.
           let short : j < length records = omega (arith, inside, count) in
           let here : IsWhole shape mid.content (found.head + j) (get_or records j []) =
-          whole_same shape old.content mid.content (found.head + j) (get_or records j []) found.sizes.some_slots found.sizes.home_is log (whole j short) in
+          whole_same shape old.content mid.content (found.head + j) (get_or records j []) found.sizes.some_slots found.sizes.home_is log
+          (whole j short) in
           one_more_home shape old.content mid.content new.content records j short (inv.home records count whole)
-          (record_home shape mid.content new.content (found.head + j) (get_or records j []) here (c.in_ok-copy_record.ensures.done (get_or records j []) here) c.copy_record.ensures.elsewhere);
-      elsewhere = λ x not. c.copy_record.ensures.elsewhere x (λ h. not (j, inside, home_same shape mid.content old.content (found.head + j) x found.sizes.some_slots found.sizes.home_is (λ y below. sym (log y below)) h)) ∙ inv.elsewhere x not;
-      within = copies_joined (IsHomeInRecords shape old.content found.head found.count) (IsHomeInRecord shape mid.content (found.head + j)) (IsHomeInRecords shape old.content found.head found.count)
-          old mid new (g.met.M.Medium.sound c.loop-j.m) (λ x h. h)
-          (λ x h. (j, inside, home_same shape mid.content old.content (found.head + j) x found.sizes.some_slots found.sizes.home_is (λ y below. sym (log y below)) h)) inv.within c.copy_record.ensures.within;
-      calls = most_more found.sizes.format j old.calls mid.calls new.calls inv.calls c.copy_record.ensures.calls;
+          (record_home shape mid.content new.content (found.head + j) (get_or records j []) here
+          (c.in_ok-copy_record.ensures.done (get_or records j []) here).home copies.elsewhere);
+      elsewhere = λ x not. copies.elsewhere x (λ h. not (one x h)) ∙ inv.elsewhere x not;
+      within = copies_joined P (IsHomeInRecord shape mid.content (found.head + j)) P old mid new (g.met.M.Medium.sound c.loop-j.m)
+          (λ x h. h) one inv.within copies.moments;
+      calls = most_more found.sizes.format j old.calls mid.calls new.calls inv.calls copies.calls;
       exact = λ records count whole.
           let short : j < length records = omega (arith, inside, count) in
           let here : IsWhole shape mid.content (found.head + j) (get_or records j []) =
-          whole_same shape old.content mid.content (found.head + j) (get_or records j []) found.sizes.some_slots found.sizes.home_is log (whole j short) in
+          whole_same shape old.content mid.content (found.head + j) (get_or records j []) found.sizes.some_slots found.sizes.home_is log
+          (whole j short) in
           let before = inv.exact records count whole in
-          let made = c.in_ok-copy_record.ensures.exact (get_or records j []) here in
+          let made = (c.in_ok-copy_record.ensures.done (get_or records j []) here).exact in
           let more = copy_calls-more found.sizes.format j records short in
           omega (arith, before, made, more);
       follows = g.met.M.Medium.follows_through c.args.m.now c.loop-j.m c.copy_record.new.m inv.follows c.copy_record.ensures.follows;
     }
 
-pub returns-clause-home : goal.returns-clause-home
-returns-clause-home g c records count whole b =
-    c.loop-j.invariant.home records count whole b
-    ∙ ap (λ (l : List (List Entry)). with_records l (home_of (shape_of c.args.found.now.sizes) (g.M.Medium.state c.args.m.now).content) b) (take_all c.loop-j.j records (omega (arith, c.loop-j-test.false)))
-
-pub returns-clause-exact : goal.returns-clause-exact
-returns-clause-exact g c records count whole =
-    c.loop-j.invariant.exact records count whole
-    ∙ ap (λ (l : List (List Entry)). (g.M.Medium.state c.args.m.now).calls + copy_calls c.args.found.now.sizes.format l) (take_all c.loop-j.j records (omega (arith, c.loop-j-test.false)))
+pub returns-clause-done : goal.returns-clause-done
+returns-clause-done g c records count whole =
+    let old = g.M.Medium.state c.args.m.now in
+    let shape = shape_of c.args.found.now.sizes in
+    let inv = c.loop-j.invariant in
+    let all = take_all c.loop-j.j records (omega (arith, c.loop-j-test.false)) in
+    record {
+      home = λ b. inv.home records count whole b ∙ ap (λ (l : List (List Entry)). with_records l (home_of shape old.content) b) all;
+      exact = inv.exact records count whole ∙ ap (λ (l : List (List Entry)). old.calls + copy_calls shape.format l) all;
+    }

@@ -1,11 +1,18 @@
-use Rattle.std.proofs.Common.{◌++◌, length, drop}
+use Rattle.std.proofs.Common.{ℕ, List, ◌++◌, length, drop, rules}
 use Rattle.recovery.proofs.Copying.{sector_copied}
 use Rattle.recovery.proofs.copies.copy_sector.Goals as goal
 
-pub returns-clause-within : goal.returns-clause-within
-returns-clause-within g c =
+pub returns-clause-copies : goal.returns-clause-copies
+returns-clause-copies g c =
     let old = g.M.Medium.state c.args.m.now in
     let mid = g.M.Medium.state c.read.new.self in
     let new = g.M.Medium.state c.write.new.self in
-    sector_copied c.args.to (c.copy_from_slice.new.self ++ drop (length c.args.first.now) c.read.new.to) old mid new (g.met.M.Medium.sound c.args.m.now)
-    c.read.ensures.passes c.read.ensures.sets c.write.ensures.passes c.write.ensures.sets
+    let bytes : List ℕ = c.copy_from_slice.new.self ++ drop (length c.args.first.now) c.read.new.to in
+    record {
+      elsewhere = search rules;
+      moments = sector_copied c.args.to bytes old mid new (g.met.M.Medium.sound c.args.m.now)
+          c.read.ensures.passes c.read.ensures.sets c.write.ensures.passes c.write.ensures.sets;
+      calls = search rules;
+      exact = search rules;
+      cause = search rules;
+    }

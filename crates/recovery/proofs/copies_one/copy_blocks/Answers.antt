@@ -1,4 +1,4 @@
-use Rattle.std.proofs.Common.{◌≡◌, inl, inr, ◌∙◌, ◌+◌, ◌*◌, ℕ, get_or, refl, sym, ap, arith}
+use Rattle.std.proofs.Common.{◌≡◌, ◌≢◌, inl, inr, ◌∙◌, ◌+◌, ◌*◌, ℕ, get_or, refl, sym, ap, arith, rules}
 use Rattle.std.proofs.lemmas.Bool.{cases_eq}
 use Rattle.log_layout.specs.Places.{first_home}
 use Rattle.log_layout.specs.Values.{shape_of}
@@ -23,20 +23,28 @@ pub loop-i-init : goal.loop-i-init
 loop-i-init g c = record {
   copied = λ k below. absurd (omega arith);
   elsewhere = λ x not. refl;
-  within = none_copied (IsHomeOf (shape_of c.args.sizes.now) c.args.numbers.now) (g.M.Medium.state c.args.m.now) (g.met.M.Medium.sound c.args.m.now);
+  within = none_copied (IsHomeOf (shape_of c.args.sizes.now) c.args.numbers.now) (g.M.Medium.state c.args.m.now)
+      (g.met.M.Medium.sound c.args.m.now);
   calls = omega arith;
   follows = g.met.M.Medium.follows_itself c.args.m.now;
 }
 
-pub returns-in_err-copy_sector-clause-within : goal.returns-in_err-copy_sector-clause-within
-returns-in_err-copy_sector-clause-within g c =
-    copies_joined (IsHomeOf (shape_of c.args.sizes.now) c.args.numbers.now) (λ x. x ≡ c.home_of.result) (IsHomeOf (shape_of c.args.sizes.now) c.args.numbers.now)
-    (g.M.Medium.state c.args.m.now) (g.M.Medium.state c.loop-i.m) (g.M.Medium.state c.copy_sector.new.m) (g.met.M.Medium.sound c.loop-i.m)
-    (λ x h. h) (λ x e. (c.loop-i.i, c.loop-i-test.true, e ∙ c.home_of.ensures)) c.loop-i.invariant.within c.copy_sector.ensures.within
-
-pub returns-in_err-copy_sector-clause-elsewhere : goal.returns-in_err-copy_sector-clause-elsewhere
-returns-in_err-copy_sector-clause-elsewhere g c x not =
-    c.copy_sector.ensures.elsewhere x (λ e. not (c.loop-i.i, c.loop-i-test.true, e ∙ c.home_of.ensures)) ∙ c.loop-i.invariant.elsewhere x not
+pub returns-in_err-copy_sector-clause-copies : goal.returns-in_err-copy_sector-clause-copies
+returns-in_err-copy_sector-clause-copies g c =
+    let old = g.M.Medium.state c.args.m.now in
+    let mid = g.M.Medium.state c.loop-i.m in
+    let P : ℕ → Type 0 = IsHomeOf (shape_of c.args.sizes.now) c.args.numbers.now in
+    let inv = c.loop-i.invariant in
+    let inside = c.loop-i-test.true in
+    let copies = c.copy_sector.ensures.copies in
+    record {
+      elsewhere = λ x not. copies.elsewhere x (λ e. not (c.loop-i.i, inside, e ∙ c.home_of.ensures)) ∙ inv.elsewhere x not;
+      moments = copies_joined P (λ x. x ≡ c.home_of.result) P old mid (g.M.Medium.state c.copy_sector.new.m)
+          (g.met.M.Medium.sound c.loop-i.m) (λ x h. h) (λ x e. (c.loop-i.i, inside, e ∙ c.home_of.ensures)) inv.within copies.moments;
+      calls = omega (arith, inv.calls, copies.calls, inside);
+      exact = search rules;
+      cause = search rules;
+    }
 
 pub loop-i-preserved : goal.loop-i-preserved
 loop-i-preserved g c =
@@ -55,16 +63,21 @@ loop-i-preserved g c =
     record {
       copied = λ k below. elim (cases_eq k i) [
         | inl same ↦
-            ap (λ (j : ℕ). new.content (first_home shape + get_or ns j 0)) same ∙ ap new.content (sym to) ∙ c.in_ok-copy_sector.ensures.done ∙ ap mid.content from
+            ap (λ (j : ℕ). new.content (first_home shape + get_or ns j 0)) same
+            ∙ ap new.content (sym to)
+            ∙ c.in_ok-copy_sector.ensures.done
+            ∙ ap mid.content from
             ∙ inv.elsewhere (2 + 50 * c.args.slot + 1 + i) (λ h. let is = h.2 in omega (arith, is, ends, few, inside))
             ∙ ap (λ (j : ℕ). old.content (2 + 50 * c.args.slot + 1 + j)) (sym same)
         | inr other ↦
             let up = c.requires.rising k i (omega arith) inside in
-            c.copy_sector.ensures.elsewhere (first_home shape + get_or ns k 0) (λ e. omega (arith, e, to, up)) ∙ inv.copied k (omega arith)
+            let apart : first_home shape + get_or ns k 0 ≢ c.home_of.result = λ e. omega (arith, e, to, up) in
+            c.copy_sector.ensures.copies.elsewhere (first_home shape + get_or ns k 0) apart ∙ inv.copied k (omega arith)
       ];
-      elsewhere = λ x not. c.copy_sector.ensures.elsewhere x (λ e. not (i, inside, e ∙ to)) ∙ inv.elsewhere x not;
-      within = copies_joined (IsHomeOf shape ns) (λ x. x ≡ c.home_of.result) (IsHomeOf shape ns) old mid new (g.met.M.Medium.sound c.loop-i.m)
-          (λ x h. h) (λ x e. (i, inside, e ∙ to)) inv.within c.copy_sector.ensures.within;
-      calls = omega (arith, inv.calls, c.in_ok-copy_sector.ensures.exact);
+      elsewhere = λ x not. c.copy_sector.ensures.copies.elsewhere x (λ e. not (i, inside, e ∙ to)) ∙ inv.elsewhere x not;
+      within =
+          copies_joined (IsHomeOf shape ns) (λ x. x ≡ c.home_of.result) (IsHomeOf shape ns) old mid new (g.met.M.Medium.sound c.loop-i.m)
+          (λ x h. h) (λ x e. (i, inside, e ∙ to)) inv.within c.copy_sector.ensures.copies.moments;
+      calls = omega (arith, inv.calls, c.in_ok-copy_sector.ensures.copies.exact);
       follows = g.met.M.Medium.follows_through c.args.m.now c.loop-i.m c.copy_sector.new.m inv.follows c.copy_sector.ensures.follows;
     }

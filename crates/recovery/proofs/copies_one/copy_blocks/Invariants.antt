@@ -7,9 +7,12 @@ use Rattle.recovery.proofs.copies_one.copy_blocks.Given as goal
 
 abbrev pub invariant-loop-i : goal.invariant-loop-i
 invariant-loop-i g l = record {
-  copied : (k : ℕ) → k < l.i → (g.M.Medium.state l.m).content (first_home (shape_of l.sizes) + get_or l.numbers k 0) ≡ (g.M.Medium.state l.fn.m).content (2 + 50 * l.slot + 1 + k);
+  copied : (k : ℕ) → k < l.i
+      → (g.M.Medium.state l.m).content (first_home (shape_of l.sizes) + get_or l.numbers k 0)
+      ≡ (g.M.Medium.state l.fn.m).content (2 + 50 * l.slot + 1 + k);
   elsewhere : (x : ℕ) → ¬ IsHomeOf (shape_of l.sizes) l.numbers x → (g.M.Medium.state l.m).content x ≡ (g.M.Medium.state l.fn.m).content x;
-  within : StaysWithin (freed_at (IsHomeOf (shape_of l.sizes) l.numbers) (g.M.Medium.state l.fn.m).may_leave) (g.M.Medium.state l.fn.m) (g.M.Medium.state l.m);
+  within : StaysWithin (freed_at (IsHomeOf (shape_of l.sizes) l.numbers) (g.M.Medium.state l.fn.m).may_leave) (g.M.Medium.state l.fn.m)
+      (g.M.Medium.state l.m);
   calls : (g.M.Medium.state l.m).calls ≡ (g.M.Medium.state l.fn.m).calls + 2 * l.i;
   follows : g.M.Medium.follows l.fn.m l.m;
 }

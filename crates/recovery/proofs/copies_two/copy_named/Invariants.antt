@@ -7,10 +7,14 @@ use Rattle.recovery.proofs.copies_two.copy_named.Given as goal
 
 abbrev pub invariant-loop-e : goal.invariant-loop-e
 invariant-loop-e g l = record {
-  copied : (k : ℕ) → k < l.e → (g.M.Medium.state l.m).content (first_home (shape_of l.sizes) + get_or l.descriptor.numbers.items k 0)
-      ≡ get_or l.descriptor.firsts.items k [] ++ drop 8 ((g.M.Medium.state l.fn.m).content (2 + 249 * l.slot + (8 + (30 * l.descriptor.index + k))));
-  elsewhere : (x : ℕ) → ¬ IsHomeOf (shape_of l.sizes) l.descriptor.numbers.items x → (g.M.Medium.state l.m).content x ≡ (g.M.Medium.state l.fn.m).content x;
-  within : StaysWithin (freed_at (IsHomeOf (shape_of l.sizes) l.descriptor.numbers.items) (g.M.Medium.state l.fn.m).may_leave) (g.M.Medium.state l.fn.m) (g.M.Medium.state l.m);
+  copied : (k : ℕ) → k < l.e
+      → (g.M.Medium.state l.m).content (first_home (shape_of l.sizes) + get_or l.descriptor.numbers.items k 0)
+      ≡ get_or l.descriptor.firsts.items k []
+      ++ drop 8 ((g.M.Medium.state l.fn.m).content (2 + 249 * l.slot + (8 + (30 * l.descriptor.index + k))));
+  elsewhere : (x : ℕ) → ¬ IsHomeOf (shape_of l.sizes) l.descriptor.numbers.items x
+      → (g.M.Medium.state l.m).content x ≡ (g.M.Medium.state l.fn.m).content x;
+  within : StaysWithin (freed_at (IsHomeOf (shape_of l.sizes) l.descriptor.numbers.items) (g.M.Medium.state l.fn.m).may_leave)
+      (g.M.Medium.state l.fn.m) (g.M.Medium.state l.m);
   calls : (g.M.Medium.state l.m).calls ≡ (g.M.Medium.state l.fn.m).calls + 2 * l.e;
   follows : g.M.Medium.follows l.fn.m l.m;
 }

@@ -11,111 +11,109 @@ use Rattle.recovery.proofs.Migrating.{wiped_leaves, headed_leaves, made_leaves}
 use Rattle.recovery.proofs.migration.make_two.Goals as goal
 
 pub returns-in_err-clear-clause-leaves : goal.returns-in_err-clear-clause-leaves
-returns-in_err-clear-clause-leaves g c array fresh =
+returns-in_err-clear-clause-leaves g c =
     let shape = shape_of c.args.found.now.sizes in
     let next = c.args.found.now.next in
     let old = g.M.Medium.state c.args.m.now in
     let cleared = g.M.Medium.state c.clear.new.m in
     let sound_cleared = g.met.M.Medium.sound c.clear.new.m in
+    let clears = c.clear.ensures.clears in
+    let home = c.migrated-sizes.result.home in
     let same : c.migrated-sizes.result.home ≡ c.args.found.now.sizes.home = ap (λ (s : Shape). s.home) c.migrated-sizes.ensures in
-    let within = subst (λ (n : ℕ). StaysWithin (cleared_at (IsBetween 2 n) old.may_leave) old cleared) same c.clear.ensures.within in
-    wiped_leaves shape array next old cleared c.requires.least c.requires.flushed fresh sound_cleared within
+    let within = subst (λ (n : ℕ). StaysWithin (cleared_at (IsBetween 2 n) old.may_leave) old cleared) same clears.moments in
+    let spared = clear_spares 2 home old cleared sound_cleared clears.elsewhere clears.moments in
+    let wiped = subst (λ (n : ℕ). SparesFrom n old cleared) same spared in
+    record {
+      cuts = λ array fresh. wiped_leaves shape array next old cleared c.requires.least c.requires.flushed fresh sound_cleared within;
+      spares = wiped;
+    }
 
 pub returns-in_err-move_head-clause-leaves : goal.returns-in_err-move_head-clause-leaves
-returns-in_err-move_head-clause-leaves g c array fresh =
+returns-in_err-move_head-clause-leaves g c =
     let shape = shape_of c.args.found.now.sizes in
     let next = c.args.found.now.next in
     let old = g.M.Medium.state c.args.m.now in
     let cleared = g.M.Medium.state c.clear.new.m in
     let sound_cleared = g.met.M.Medium.sound c.clear.new.m in
+    let clears = c.clear.ensures.clears in
+    let home = c.migrated-sizes.result.home in
     let same : c.migrated-sizes.result.home ≡ c.args.found.now.sizes.home = ap (λ (s : Shape). s.home) c.migrated-sizes.ensures in
-    let within = subst (λ (n : ℕ). StaysWithin (cleared_at (IsBetween 2 n) old.may_leave) old cleared) same c.clear.ensures.within in
+    let within = subst (λ (n : ℕ). StaysWithin (cleared_at (IsBetween 2 n) old.may_leave) old cleared) same clears.moments in
+    let spared = clear_spares 2 home old cleared sound_cleared clears.elsewhere clears.moments in
+    let wiped = subst (λ (n : ℕ). SparesFrom n old cleared) same spared in
     let headed = g.M.Medium.state c.move_head.new.m in
-    headed_leaves shape array next old cleared c.requires.least c.requires.flushed fresh sound_cleared within headed c.move_head.ensures.moments
+    let moves = c.move_head.ensures.moves in
+    let ends = log_ends shape c.args.found.now.sizes.home_is in
+    let behind = spared_behind 2 shape.home cleared headed (omega (arith, ends)) moves.spares in
+    let moved = spared_joined shape.home old cleared headed wiped behind in
+    record {
+      cuts = λ array fresh. headed_leaves shape array next old cleared c.requires.least c.requires.flushed fresh sound_cleared within
+          headed moves.moments;
+      spares = moved;
+    }
 
 pub returns-in_err-write_through-clause-leaves : goal.returns-in_err-write_through-clause-leaves
-returns-in_err-write_through-clause-leaves g c array fresh =
+returns-in_err-write_through-clause-leaves g c =
     let shape = shape_of c.args.found.now.sizes in
     let next = c.args.found.now.next in
     let old = g.M.Medium.state c.args.m.now in
     let cleared = g.M.Medium.state c.clear.new.m in
     let sound_cleared = g.met.M.Medium.sound c.clear.new.m in
+    let clears = c.clear.ensures.clears in
+    let home = c.migrated-sizes.result.home in
     let same : c.migrated-sizes.result.home ≡ c.args.found.now.sizes.home = ap (λ (s : Shape). s.home) c.migrated-sizes.ensures in
-    let within = subst (λ (n : ℕ). StaysWithin (cleared_at (IsBetween 2 n) old.may_leave) old cleared) same c.clear.ensures.within in
+    let within = subst (λ (n : ℕ). StaysWithin (cleared_at (IsBetween 2 n) old.may_leave) old cleared) same clears.moments in
+    let spared = clear_spares 2 home old cleared sound_cleared clears.elsewhere clears.moments in
+    let wiped = subst (λ (n : ℕ). SparesFrom n old cleared) same spared in
     let headed = g.M.Medium.state c.move_head.new.m in
+    let moves = c.move_head.ensures.moves in
+    let ends = log_ends shape c.args.found.now.sizes.home_is in
+    let behind = spared_behind 2 shape.home cleared headed (omega (arith, ends)) moves.spares in
+    let moved = spared_joined shape.home old cleared headed wiped behind in
     let new = g.M.Medium.state c.write_through.new.m in
-    made_leaves shape array next old cleared c.requires.least c.requires.flushed fresh sound_cleared within headed c.move_head.ensures.moments new c.encode.result (g.met.M.Medium.sound c.move_head.new.m) c.in_ok-move_head.ensures.flushed
-    (λ x low high. c.in_ok-move_head.ensures.moved.elsewhere x (λ e. omega (arith, low, e)) ∙ c.in_ok-clear.ensures.zeros x low (omega (arith, high, same)))
-    (subst (λ (s : Shape). IsSuper s c.encode.result) c.migrated-sizes.ensures c.encode.ensures) c.write_through.ensures.moments
+    let sound_headed = g.met.M.Medium.sound c.move_head.new.m in
+    let last = c.write_through.ensures.writes in
+    let head = c.in_ok-move_head.ensures in
+    let zeros = c.in_ok-clear.ensures.zeros in
+    let super = subst (λ (s : Shape). IsSuper s c.encode.result) c.migrated-sizes.ensures c.encode.ensures in
+    record {
+      cuts = λ array fresh. made_leaves shape array next old cleared c.requires.least c.requires.flushed fresh sound_cleared within
+          headed moves.moments new c.encode.result sound_headed head.done.1
+          (λ x low high. head.done.0.elsewhere x (λ e. omega (arith, low, e)) ∙ zeros x low (omega (arith, high, same))) super last.moments;
+      spares = spared_joined shape.home old headed new moved
+          (through_spares shape.home 0 c.encode.result headed new (omega (arith, ends)) (g.met.M.Medium.sound c.write_through.new.m)
+          last.elsewhere last.moments);
+    }
 
 pub returns-clause-leaves : goal.returns-clause-leaves
-returns-clause-leaves g c array fresh =
+returns-clause-leaves g c =
     let shape = shape_of c.args.found.now.sizes in
     let next = c.args.found.now.next in
     let old = g.M.Medium.state c.args.m.now in
     let cleared = g.M.Medium.state c.clear.new.m in
     let sound_cleared = g.met.M.Medium.sound c.clear.new.m in
+    let clears = c.clear.ensures.clears in
+    let home = c.migrated-sizes.result.home in
     let same : c.migrated-sizes.result.home ≡ c.args.found.now.sizes.home = ap (λ (s : Shape). s.home) c.migrated-sizes.ensures in
-    let within = subst (λ (n : ℕ). StaysWithin (cleared_at (IsBetween 2 n) old.may_leave) old cleared) same c.clear.ensures.within in
+    let within = subst (λ (n : ℕ). StaysWithin (cleared_at (IsBetween 2 n) old.may_leave) old cleared) same clears.moments in
+    let spared = clear_spares 2 home old cleared sound_cleared clears.elsewhere clears.moments in
+    let wiped = subst (λ (n : ℕ). SparesFrom n old cleared) same spared in
     let headed = g.M.Medium.state c.move_head.new.m in
-    let new = g.M.Medium.state c.write_through.new.m in
-    made_leaves shape array next old cleared c.requires.least c.requires.flushed fresh sound_cleared within headed c.move_head.ensures.moments new c.encode.result (g.met.M.Medium.sound c.move_head.new.m) c.in_ok-move_head.ensures.flushed
-    (λ x low high. c.in_ok-move_head.ensures.moved.elsewhere x (λ e. omega (arith, low, e)) ∙ c.in_ok-clear.ensures.zeros x low (omega (arith, high, same)))
-    (subst (λ (s : Shape). IsSuper s c.encode.result) c.migrated-sizes.ensures c.encode.ensures) c.write_through.ensures.moments
-
-pub returns-in_err-clear-clause-spares : goal.returns-in_err-clear-clause-spares
-returns-in_err-clear-clause-spares g c =
-    let shape = shape_of c.args.found.now.sizes in
-    let next = c.args.found.now.next in
-    let old = g.M.Medium.state c.args.m.now in
-    let cleared = g.M.Medium.state c.clear.new.m in
-    let sound_cleared = g.met.M.Medium.sound c.clear.new.m in
-    let same : c.migrated-sizes.result.home ≡ c.args.found.now.sizes.home = ap (λ (s : Shape). s.home) c.migrated-sizes.ensures in
-    let wiped = subst (λ (n : ℕ). SparesFrom n old cleared) same (clear_spares 2 c.migrated-sizes.result.home old cleared sound_cleared c.clear.ensures.elsewhere c.clear.ensures.within) in
-    wiped
-
-pub returns-in_err-move_head-clause-spares : goal.returns-in_err-move_head-clause-spares
-returns-in_err-move_head-clause-spares g c =
-    let shape = shape_of c.args.found.now.sizes in
-    let next = c.args.found.now.next in
-    let old = g.M.Medium.state c.args.m.now in
-    let cleared = g.M.Medium.state c.clear.new.m in
-    let sound_cleared = g.met.M.Medium.sound c.clear.new.m in
-    let same : c.migrated-sizes.result.home ≡ c.args.found.now.sizes.home = ap (λ (s : Shape). s.home) c.migrated-sizes.ensures in
-    let wiped = subst (λ (n : ℕ). SparesFrom n old cleared) same (clear_spares 2 c.migrated-sizes.result.home old cleared sound_cleared c.clear.ensures.elsewhere c.clear.ensures.within) in
-    let headed = g.M.Medium.state c.move_head.new.m in
+    let moves = c.move_head.ensures.moves in
     let ends = log_ends shape c.args.found.now.sizes.home_is in
-    let moved = spared_joined shape.home old cleared headed wiped (spared_behind 2 shape.home cleared headed (omega (arith, ends)) c.move_head.ensures.spares) in
-    moved
-
-pub returns-in_err-write_through-clause-spares : goal.returns-in_err-write_through-clause-spares
-returns-in_err-write_through-clause-spares g c =
-    let shape = shape_of c.args.found.now.sizes in
-    let next = c.args.found.now.next in
-    let old = g.M.Medium.state c.args.m.now in
-    let cleared = g.M.Medium.state c.clear.new.m in
-    let sound_cleared = g.met.M.Medium.sound c.clear.new.m in
-    let same : c.migrated-sizes.result.home ≡ c.args.found.now.sizes.home = ap (λ (s : Shape). s.home) c.migrated-sizes.ensures in
-    let wiped = subst (λ (n : ℕ). SparesFrom n old cleared) same (clear_spares 2 c.migrated-sizes.result.home old cleared sound_cleared c.clear.ensures.elsewhere c.clear.ensures.within) in
-    let headed = g.M.Medium.state c.move_head.new.m in
-    let ends = log_ends shape c.args.found.now.sizes.home_is in
-    let moved = spared_joined shape.home old cleared headed wiped (spared_behind 2 shape.home cleared headed (omega (arith, ends)) c.move_head.ensures.spares) in
+    let behind = spared_behind 2 shape.home cleared headed (omega (arith, ends)) moves.spares in
+    let moved = spared_joined shape.home old cleared headed wiped behind in
     let new = g.M.Medium.state c.write_through.new.m in
-    spared_joined shape.home old headed new moved
-    (through_spares shape.home 0 c.encode.result headed new (omega (arith, ends)) (g.met.M.Medium.sound c.write_through.new.m) c.write_through.ensures.elsewhere c.write_through.ensures.moments)
-
-pub returns-clause-spares : goal.returns-clause-spares
-returns-clause-spares g c =
-    let shape = shape_of c.args.found.now.sizes in
-    let next = c.args.found.now.next in
-    let old = g.M.Medium.state c.args.m.now in
-    let cleared = g.M.Medium.state c.clear.new.m in
-    let sound_cleared = g.met.M.Medium.sound c.clear.new.m in
-    let same : c.migrated-sizes.result.home ≡ c.args.found.now.sizes.home = ap (λ (s : Shape). s.home) c.migrated-sizes.ensures in
-    let wiped = subst (λ (n : ℕ). SparesFrom n old cleared) same (clear_spares 2 c.migrated-sizes.result.home old cleared sound_cleared c.clear.ensures.elsewhere c.clear.ensures.within) in
-    let headed = g.M.Medium.state c.move_head.new.m in
-    let ends = log_ends shape c.args.found.now.sizes.home_is in
-    let moved = spared_joined shape.home old cleared headed wiped (spared_behind 2 shape.home cleared headed (omega (arith, ends)) c.move_head.ensures.spares) in
-    let new = g.M.Medium.state c.write_through.new.m in
-    spared_joined shape.home old headed new moved
-    (through_spares shape.home 0 c.encode.result headed new (omega (arith, ends)) (g.met.M.Medium.sound c.write_through.new.m) c.write_through.ensures.elsewhere c.write_through.ensures.moments)
+    let sound_headed = g.met.M.Medium.sound c.move_head.new.m in
+    let last = c.write_through.ensures.writes in
+    let head = c.in_ok-move_head.ensures in
+    let zeros = c.in_ok-clear.ensures.zeros in
+    let super = subst (λ (s : Shape). IsSuper s c.encode.result) c.migrated-sizes.ensures c.encode.ensures in
+    record {
+      cuts = λ array fresh. made_leaves shape array next old cleared c.requires.least c.requires.flushed fresh sound_cleared within
+          headed moves.moments new c.encode.result sound_headed head.done.1
+          (λ x low high. head.done.0.elsewhere x (λ e. omega (arith, low, e)) ∙ zeros x low (omega (arith, high, same))) super last.moments;
+      spares = spared_joined shape.home old headed new moved
+          (through_spares shape.home 0 c.encode.result headed new (omega (arith, ends)) (g.met.M.Medium.sound c.write_through.new.m)
+          last.elsewhere last.moments);
+    }

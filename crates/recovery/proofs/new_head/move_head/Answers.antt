@@ -1,47 +1,62 @@
-use Rattle.std.proofs.Common.{ℕ, subst}
+use Rattle.std.proofs.Common.{ℕ, inr, subst, arith, rules}
 use Rattle.log_layout.specs.Sectors.{IsHead}
-use Rattle.std.proofs.Common.{inr, arith}
 use Rattle.medium.proofs.Sparing.{spared_silent, spared_write, spared_joined}
 use Rattle.recovery.proofs.Moving.{head_written, head_flushed}
 use Rattle.recovery.proofs.new_head.move_head.Goals as goal
 
-pub returns-in_err-write-clause-moments : goal.returns-in_err-write-clause-moments
-returns-in_err-write-clause-moments g c =
+pub returns-in_err-flush-clause-moves : goal.returns-in_err-flush-clause-moves
+returns-in_err-flush-clause-moves g c =
+    let old = g.M.Medium.state c.args.m.now in
+    let mid = g.M.Medium.state c.flush.new.self in
+    let first = c.flush.ensures in
+    record {
+      moments = search rules;
+      spares = spared_silent 2 old mid (g.met.M.Medium.sound c.args.m.now) first.passes first.content first.sets;
+      calls = omega (arith, first.passes.calls_are);
+      exact = search rules;
+      cause = search rules;
+    }
+
+pub returns-in_err-write-clause-moves : goal.returns-in_err-write-clause-moves
+returns-in_err-write-clause-moves g c =
     let old = g.M.Medium.state c.args.m.now in
     let mid = g.M.Medium.state c.flush.new.self in
     let new = g.M.Medium.state c.write.new.self in
+    let sound = g.met.M.Medium.sound c.args.m.now in
+    let sound_mid = g.met.M.Medium.sound c.flush.new.self in
+    let first = c.flush.ensures in
+    let second = c.write.ensures in
     let head = subst (λ (n : ℕ). IsHead n c.encode.result) c.new.ensures c.encode.ensures in
-    head_written c.args.stamp c.encode.result old mid new head (g.met.M.Medium.sound c.args.m.now) (g.met.M.Medium.sound c.flush.new.self)
-    c.flush.ensures.passes c.flush.ensures.sets c.in_ok-flush.ensures.ok c.write.ensures.passes c.write.ensures.sets
+    record {
+      moments = head_written c.args.stamp c.encode.result old mid new head sound sound_mid first.passes first.sets c.in_ok-flush.ensures.ok
+          second.passes second.sets;
+      spares = spared_joined 2 old mid new (spared_silent 2 old mid sound first.passes first.content first.sets)
+          (spared_write 2 mid new 1 c.encode.result sound_mid (omega arith) second.passes second.sets c.in_err-write.ensures.err);
+      calls = omega (arith, first.passes.calls_are, second.passes.calls_are);
+      exact = search rules;
+      cause = search rules;
+    }
 
-pub returns-clause-moments : goal.returns-clause-moments
-returns-clause-moments g c =
+pub returns-clause-moves : goal.returns-clause-moves
+returns-clause-moves g c =
     let old = g.M.Medium.state c.args.m.now in
     let mid = g.M.Medium.state c.flush.new.self in
     let written = g.M.Medium.state c.write.new.self in
     let new = g.M.Medium.state c.flush-2.new.self in
+    let sound = g.met.M.Medium.sound c.args.m.now in
+    let sound_mid = g.met.M.Medium.sound c.flush.new.self in
+    let sound_written = g.met.M.Medium.sound c.write.new.self in
+    let first = c.flush.ensures in
+    let second = c.write.ensures in
+    let third = c.flush-2.ensures in
     let head = subst (λ (n : ℕ). IsHead n c.encode.result) c.new.ensures c.encode.ensures in
-    head_flushed c.args.stamp c.encode.result old mid written new head (g.met.M.Medium.sound c.args.m.now) (g.met.M.Medium.sound c.flush.new.self)
-    c.flush.ensures.passes c.flush.ensures.sets c.in_ok-flush.ensures.ok c.write.ensures.passes c.write.ensures.sets c.flush-2.ensures.passes c.flush-2.ensures.sets
-
-pub returns-in_err-flush-clause-spares : goal.returns-in_err-flush-clause-spares
-returns-in_err-flush-clause-spares g c = spared_silent 2 (g.M.Medium.state c.args.m.now) (g.M.Medium.state c.flush.new.self) (g.met.M.Medium.sound c.args.m.now) c.flush.ensures.passes c.flush.ensures.content c.flush.ensures.sets
-
-pub returns-in_err-write-clause-spares : goal.returns-in_err-write-clause-spares
-returns-in_err-write-clause-spares g c =
-    let old = g.M.Medium.state c.args.m.now in
-    let mid = g.M.Medium.state c.flush.new.self in
-    let new = g.M.Medium.state c.write.new.self in
-    spared_joined 2 old mid new (spared_silent 2 old mid (g.met.M.Medium.sound c.args.m.now) c.flush.ensures.passes c.flush.ensures.content c.flush.ensures.sets)
-    (spared_write 2 mid new 1 c.encode.result (g.met.M.Medium.sound c.flush.new.self) (omega arith) c.write.ensures.passes c.write.ensures.sets c.in_err-write.ensures.err)
-
-pub returns-clause-spares : goal.returns-clause-spares
-returns-clause-spares g c =
-    let old = g.M.Medium.state c.args.m.now in
-    let mid = g.M.Medium.state c.flush.new.self in
-    let written = g.M.Medium.state c.write.new.self in
-    let new = g.M.Medium.state c.flush-2.new.self in
-    spared_joined 2 old written new
-    (spared_joined 2 old mid written (spared_silent 2 old mid (g.met.M.Medium.sound c.args.m.now) c.flush.ensures.passes c.flush.ensures.content c.flush.ensures.sets)
-    (spared_write 2 mid written 1 c.encode.result (g.met.M.Medium.sound c.flush.new.self) (omega arith) c.write.ensures.passes c.write.ensures.sets (inr c.in_ok-write.ensures.ok)))
-    (spared_silent 2 written new (g.met.M.Medium.sound c.write.new.self) c.flush-2.ensures.passes c.flush-2.ensures.content c.flush-2.ensures.sets)
+    let before = spared_joined 2 old mid written (spared_silent 2 old mid sound first.passes first.content first.sets)
+    (spared_write 2 mid written 1 c.encode.result sound_mid (omega arith) second.passes second.sets (inr c.in_ok-write.ensures.ok)) in
+    record {
+      moments = head_flushed c.args.stamp c.encode.result old mid written new head sound sound_mid first.passes first.sets
+          c.in_ok-flush.ensures.ok second.passes second.sets third.passes third.sets;
+      spares = spared_joined 2 old written new before (spared_silent 2 written new sound_written third.passes third.content third.sets);
+      calls = omega (arith, first.passes.calls_are, second.passes.calls_are, third.passes.calls_are);
+      exact = search rules;
+      cause = search rules;
+    }

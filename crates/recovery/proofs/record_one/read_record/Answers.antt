@@ -16,14 +16,18 @@ IfSome_from (Some x) p q r f = f x p q r
 pub read-requires : goal.read-requires
 read-requires g c =
     let slots = c.args.sizes.now.slots in
-    let low : c.args.stamp % c.args.sizes.now.slots < c.args.sizes.now.slots = mod_below c.args.stamp c.args.sizes.now.slots c.args.sizes.now.some_slots in
-    let ends = slot_one (shape_of c.args.sizes.now) (c.args.stamp % c.args.sizes.now.slots) c.requires.format c.args.sizes.now.home_is low in
+    let low : c.args.stamp % c.args.sizes.now.slots < c.args.sizes.now.slots =
+    mod_below c.args.stamp c.args.sizes.now.slots c.args.sizes.now.some_slots in
+    let ends =
+    slot_one (shape_of c.args.sizes.now) (c.args.stamp % c.args.sizes.now.slots) c.requires.format c.args.sizes.now.home_is low in
     omega (arith, ends, c.requires.fits, c.place_of.ensures, c.slot_of-slot.ensures)
 
 pub read-requires-2 : goal.read-requires-2
 read-requires-2 g c =
-    let low : c.args.stamp % c.args.sizes.now.slots < c.args.sizes.now.slots = mod_below c.args.stamp c.args.sizes.now.slots c.args.sizes.now.some_slots in
-    let ends = slot_one (shape_of c.args.sizes.now) (c.args.stamp % c.args.sizes.now.slots) c.requires.format c.args.sizes.now.home_is low in
+    let low : c.args.stamp % c.args.sizes.now.slots < c.args.sizes.now.slots =
+    mod_below c.args.stamp c.args.sizes.now.slots c.args.sizes.now.some_slots in
+    let ends =
+    slot_one (shape_of c.args.sizes.now) (c.args.stamp % c.args.sizes.now.slots) c.requires.format c.args.sizes.now.home_is low in
     let size = c.read.ensures.passes.size_stays in
     omega (arith, ends, c.requires.fits, c.commit_place.ensures, c.slot_of-slot.ensures, size)
 
@@ -37,19 +41,23 @@ returns-clause-some g c =
     let first : c.place_of.result ≡ at = c.place_of.ensures ∙ ap (λ (k : ℕ). 2 + 50 * k) slot in
     let last : c.commit_place.result ≡ at + 49 = c.commit_place.ensures ∙ ap (λ (k : ℕ). 2 + 50 * k + 49) slot in
     let exact = c.whole_record.ensures in
-    let low : c.args.stamp % c.args.sizes.now.slots < c.args.sizes.now.slots = mod_below c.args.stamp c.args.sizes.now.slots c.args.sizes.now.some_slots in
+    let low : c.args.stamp % c.args.sizes.now.slots < c.args.sizes.now.slots =
+    mod_below c.args.stamp c.args.sizes.now.slots c.args.sizes.now.some_slots in
     let ends = slot_one shape (c.args.stamp % c.args.sizes.now.slots) c.requires.format c.args.sizes.now.home_is low in
     let fits = c.requires.fits in
     let sound = g.met.M.Medium.sound c.args.m.now in
-    IfSome_from c.whole_record.result exact.some exact.ended exact.inside (λ d described ended inside.
+    IfSome_from c.whole_record.result exact.some exact.ended exact.inside
+    (λ d described ended inside.
     let few = d.block_numbers.few in (
       entries_in old.content (at + 1) d.numbers.items,
       of_one shape old.content c.args.stamp (entries_in old.content (at + 1) d.numbers.items) c.requires.format
           (whole_in shape old.content c.args.stamp d.numbers.items
           (subst (IsDescriptor c.args.stamp d.numbers.items) (c.in_ok-read.ensures.ok ∙ ap old.content first) described)
-          (subst (IsCommit c.args.stamp (length d.numbers.items)) (c.in_ok-read-2.ensures.ok ∙ ap mid.content last ∙ c.read.ensures.content (at + 49)) ended)
+          (subst (IsCommit c.args.stamp (length d.numbers.items))
+          (c.in_ok-read-2.ensures.ok ∙ ap mid.content last ∙ c.read.ensures.content (at + 49)) ended)
           inside
-          (λ i below. sound.sized (at + 1 + i) (old.content (at + 1 + i)) (omega (arith, ends, fits, few, below)) (sound.holds_content (at + 1 + i)))),
+          (λ i below. sound.sized (at + 1 + i) (old.content (at + 1 + i)) (omega (arith, ends, fits, few, below))
+          (sound.holds_content (at + 1 + i)))),
       sym (numbers_of-entries_in old.content (at + 1) d.numbers.items),
     ))
 
@@ -64,6 +72,8 @@ returns-clause-all g c entries whole =
     let last : c.commit_place.result ≡ at + 49 = c.commit_place.ensures ∙ ap (λ (k : ℕ). 2 + 50 * k + 49) slot in
     let w = as_one shape old.content c.args.stamp entries c.requires.format whole in
     c.whole_record.ensures.all (numbers_of entries)
-    (subst (IsDescriptor c.args.stamp (numbers_of entries)) (sym (c.in_ok-read.ensures.ok ∙ ap old.content first)) (descriptor_there shape old.content c.args.stamp entries w))
-    (subst (IsCommit c.args.stamp (length (numbers_of entries))) (sym (c.in_ok-read-2.ensures.ok ∙ ap mid.content last ∙ c.read.ensures.content (at + 49))) (commit_there shape old.content c.args.stamp entries w))
-    w.fit.inside
+    (subst (IsDescriptor c.args.stamp (numbers_of entries)) (sym (c.in_ok-read.ensures.ok ∙ ap old.content first))
+    (descriptor_there shape old.content c.args.stamp entries w))
+    (subst (IsCommit c.args.stamp (length (numbers_of entries)))
+    (sym (c.in_ok-read-2.ensures.ok ∙ ap mid.content last ∙ c.read.ensures.content (at + 49)))
+    (commit_there shape old.content c.args.stamp entries w)) w.fit.inside

@@ -1,4 +1,4 @@
-use Rattle.std.proofs.Common.{◌≡◌, ◌∙◌, ◌+◌, ◌*◌, ◌%◌, ◌<◌, ℕ, List, sym, subst, arith}
+use Rattle.std.proofs.Common.{◌≡◌, ◌∙◌, ◌+◌, ◌*◌, ◌%◌, ◌<◌, ℕ, List, sym, subst, arith, rules}
 use Rattle.std.specs.Prelude.{length, IfSome, IsSomeAnd, All}
 use Rattle.std.proofs.lemmas.Nat.{mod_below}
 use Rattle.std.proofs.lemmas.Result.{IfOk-weaker}
@@ -16,8 +16,10 @@ pub returns-in_default-clause-whole : goal.returns-in_default-clause-whole
 returns-in_default-clause-whole g c = (
   untrue,
   λ h.
-      let says = two_says (shape_of c.args.sizes.now) (g.M.Medium.state c.args.m.now).content c.args.stamp c.slot_of-slot.result h.0 c.requires.format c.slot_of-slot.ensures h.1 in
-      absurd (subst (λ o. IsSomeAnd o (λ k. k ≡ length (numbers_of h.0))) c.in_default.is (c.in_ok-count.ensures.all (length (numbers_of h.0)) says.committed)),
+      let says = two_says (shape_of c.args.sizes.now) (g.M.Medium.state c.args.m.now).content c.args.stamp c.slot_of-slot.result h.0
+      c.requires.format c.slot_of-slot.ensures h.1 in
+      absurd (subst (λ o. IsSomeAnd o (λ k. k ≡ length (numbers_of h.0))) c.in_default.is
+      (c.in_ok-count.ensures.all (length (numbers_of h.0)) says.committed)),
 )
 
 pub returns-in_default-2-clause-whole : goal.returns-in_default-2-clause-whole
@@ -27,16 +29,27 @@ returns-in_default-2-clause-whole g c = (
       let at : ℕ = 2 + 249 * c.slot_of-slot.result in
       let old = g.M.Medium.state c.args.m.now in
       let ns : List ℕ = numbers_of h.0 in
-      let same : (g.M.Medium.state c.read_count.new.m).content ≡ old.content = λ i s. c.read_count.ensures.quiet.content_stays s i in
-      let says = two_says (shape_of c.args.sizes.now) old.content c.args.stamp c.slot_of-slot.result h.0 c.requires.format c.slot_of-slot.ensures h.1 in
+      let same : (g.M.Medium.state c.read_count.new.m).content ≡ old.content = λ i s. c.read_count.ensures.passes.quiet.content_stays s i in
+      let says = two_says (shape_of c.args.sizes.now) old.content c.args.stamp c.slot_of-slot.result h.0 c.requires.format
+      c.slot_of-slot.ensures h.1 in
       let count = subst (λ o. IsSomeAnd o (λ k. k ≡ length ns)) c.in-Some.is (c.in_ok-count.ensures.all (length ns) says.committed) in
       absurd (subst (λ o. IsSomeAnd o (λ read. read.items ≡ ns)) c.in_default-2.is
       (c.in_ok-numbers.ensures.all ns (sym count) (subst (λ (i : Image). HasDescriptors i at c.args.stamp ns) (sym same) says.described))),
 )
 
-pub returns-then-not-are_blocks-clause-quiet : goal.returns-then-not-are_blocks-clause-quiet
-returns-then-not-are_blocks-clause-quiet g c =
-    quiet_joined (g.M.Medium.state c.args.m.now) (g.M.Medium.state c.read_count.new.m) (g.M.Medium.state c.read_numbers.new.m) c.read_count.ensures.quiet c.read_numbers.ensures.quiet
+pub returns-then-not-are_blocks-clause-passes : goal.returns-then-not-are_blocks-clause-passes
+returns-then-not-are_blocks-clause-passes g c =
+    let old = g.M.Medium.state c.args.m.now in
+    let counted = g.M.Medium.state c.read_count.new.m in
+    let read = g.M.Medium.state c.read_numbers.new.m in
+    let first = c.read_count.ensures.passes in
+    let second = c.read_numbers.ensures.passes in
+    record {
+      quiet = quiet_joined old counted read first.quiet second.quiet;
+      reads = λ kind other. second.reads kind other ∙ first.reads kind other;
+      calls = omega (arith, first.calls, second.calls);
+      cause = tt;
+    }
 
 pub returns-then-not-are_blocks-clause-whole : goal.returns-then-not-are_blocks-clause-whole
 returns-then-not-are_blocks-clause-whole g c = (
@@ -45,8 +58,9 @@ returns-then-not-are_blocks-clause-whole g c = (
       let at : ℕ = 2 + 249 * c.slot_of-slot.result in
       let old = g.M.Medium.state c.args.m.now in
       let ns : List ℕ = numbers_of h.0 in
-      let same : (g.M.Medium.state c.read_count.new.m).content ≡ old.content = λ i s. c.read_count.ensures.quiet.content_stays s i in
-      let says = two_says (shape_of c.args.sizes.now) old.content c.args.stamp c.slot_of-slot.result h.0 c.requires.format c.slot_of-slot.ensures h.1 in
+      let same : (g.M.Medium.state c.read_count.new.m).content ≡ old.content = λ i s. c.read_count.ensures.passes.quiet.content_stays s i in
+      let says = two_says (shape_of c.args.sizes.now) old.content c.args.stamp c.slot_of-slot.result h.0 c.requires.format
+      c.slot_of-slot.ensures h.1 in
       let count = subst (λ o. IsSomeAnd o (λ k. k ≡ length ns)) c.in-Some.is (c.in_ok-count.ensures.all (length ns) says.committed) in
       let numbers = subst (λ o. IsSomeAnd o (λ read. read.items ≡ ns)) c.in-Some-2.is
       (c.in_ok-numbers.ensures.all ns (sym count) (subst (λ (i : Image). HasDescriptors i at c.args.stamp ns) (sym same) says.described)) in
@@ -55,15 +69,30 @@ returns-then-not-are_blocks-clause-whole g c = (
       (subst IsRising (sym read) h.1.fit.rising, subst (All (λ (b : ℕ). b < c.args.sizes.now.blocks)) (sym read) h.1.fit.inside),
 )
 
-pub returns-clause-quiet : goal.returns-clause-quiet
-returns-clause-quiet g c =
+pub returns-clause-passes : goal.returns-clause-passes
+returns-clause-passes g c =
     let old = g.M.Medium.state c.args.m.now in
     let counted = g.M.Medium.state c.read_count.new.m in
     let read = g.M.Medium.state c.read_numbers.new.m in
-    quiet_joined old read (g.M.Medium.state c.are_stamped.new.m) (quiet_joined old counted read c.read_count.ensures.quiet c.read_numbers.ensures.quiet) c.are_stamped.ensures.quiet
+    let first = c.read_count.ensures.passes in
+    let second = c.read_numbers.ensures.passes in
+    let third = c.are_stamped.ensures.passes in
+    let before = quiet_joined old counted read first.quiet second.quiet in
+    let at : ℕ = 2 + 249 * c.slot_of-slot.result in
+    let committed = subst (λ o. IfSome o (λ count. IsCommitTwo c.args.stamp count (old.content (at + 248)))) c.in-Some.is
+    c.in_ok-count.ensures.some in
+    let few = committed.few in
+    record {
+      quiet = quiet_joined old read (g.M.Medium.state c.are_stamped.new.m) before third.quiet;
+      reads = λ kind other. third.reads kind other ∙ second.reads kind other ∙ first.reads kind other;
+      calls = omega (arith, first.calls, second.calls, third.calls, few);
+      cause = search rules;
+    }
 
 pub returns-clause-whole : goal.returns-clause-whole
-returns-clause-whole g c = IfOk-weaker c.are_stamped.result _ _ (λ good exact.
+returns-clause-whole g c =
+    IfOk-weaker c.are_stamped.result _ _
+    (λ good exact.
     let slot = c.slot_of-slot.result in
     let at : ℕ = 2 + 249 * c.slot_of-slot.result in
     let s = c.args.stamp in
@@ -71,28 +100,39 @@ returns-clause-whole g c = IfOk-weaker c.are_stamped.result _ _ (λ good exact.
     let old = g.M.Medium.state c.args.m.now in
     let counted = g.M.Medium.state c.read_count.new.m in
     let read = g.M.Medium.state c.read_numbers.new.m in
-    let first : counted.content ≡ old.content = λ i s. c.read_count.ensures.quiet.content_stays s i in
-    let second : read.content ≡ old.content = λ i s. (c.read_numbers.ensures.quiet.content_stays s ∙ c.read_count.ensures.quiet.content_stays s) i in
+    let first : counted.content ≡ old.content = λ i s. c.read_count.ensures.passes.quiet.content_stays s i in
+    let later = c.read_numbers.ensures.passes.quiet in
+    let second : read.content ≡ old.content = λ i s.
+    (later.content_stays s ∙ c.read_count.ensures.passes.quiet.content_stays s) i in
     let n = c.in-Some.count in
     let ns = c.in-Some-2.numbers.items in
-    let committed = subst (λ o. IfSome o (λ count. IsCommitTwo s count (old.content (at + 248)))) c.in-Some.is c.in_ok-count.ensures.some in
-    let named = subst (λ o. IfSome o (λ r. (length r.items ≡ n) × HasDescriptors counted.content at s r.items)) c.in-Some-2.is c.in_ok-numbers.ensures.some in
+    let committed =
+    subst (λ o. IfSome o (λ count. IsCommitTwo s count (old.content (at + 248)))) c.in-Some.is c.in_ok-count.ensures.some in
+    let named = subst (λ o. IfSome o (λ r. (length r.items ≡ n) × HasDescriptors counted.content at s r.items)) c.in-Some-2.is
+    c.in_ok-numbers.ensures.some in
     let blocks = c.are_blocks.ensures.0 c.if-not-are_blocks.false in
     let sound = g.met.M.Medium.sound c.args.m.now in
-    let low : s % c.args.sizes.now.slots < c.args.sizes.now.slots = mod_below s c.args.sizes.now.slots c.args.sizes.now.some_slots in
+    let low : s % c.args.sizes.now.slots < c.args.sizes.now.slots =
+    mod_below s c.args.sizes.now.slots c.args.sizes.now.some_slots in
     let ends = slot_two shape (s % c.args.sizes.now.slots) c.requires.format c.args.sizes.now.home_is low in
     let where_is = c.slot_of-slot.ensures in
     let fits = c.requires.fits in (
       λ yes_it_is. two_whole shape old.content s slot ns c.requires.format where_is
-          (λ x below. sound.sized (at + x) (old.content (at + x)) (omega (arith, ends, fits, where_is, below)) (sound.holds_content (at + x)))
+          (λ x below. sound.sized (at + x) (old.content (at + x)) (omega (arith, ends, fits, where_is, below))
+          (sound.holds_content (at + x)))
           (record {
             committed = subst (λ (k : ℕ). IsCommitTwo s k (old.content (at + 248))) (sym named.0) committed;
             described = subst (λ (i : Image). HasDescriptors i at s ns) first named.1;
-            placed = subst (λ (k : ℕ). HasPlaces old.content at s k) (sym named.0) (subst (λ (i : Image). HasPlaces i at s n) second (exact.0 yes_it_is));
+            placed = subst (λ (k : ℕ). HasPlaces old.content at s k) (sym named.0)
+                (subst (λ (i : Image). HasPlaces i at s n) second (exact.0 yes_it_is));
           })
-          (subst IsRising c.deref.ensures.0 blocks.0) (subst (All (λ (b : ℕ). b < c.args.sizes.now.blocks)) c.deref.ensures.0 blocks.1),
+          (subst IsRising c.deref.ensures.0 blocks.0)
+          (subst (All (λ (b : ℕ). b < c.args.sizes.now.blocks)) c.deref.ensures.0 blocks.1),
       λ h.
           let says = two_says shape old.content s slot h.0 c.requires.format where_is h.1 in
-          let count = subst (λ o. IsSomeAnd o (λ k. k ≡ length (numbers_of h.0))) c.in-Some.is (c.in_ok-count.ensures.all (length (numbers_of h.0)) says.committed) in
-          exact.1 (subst (λ (k : ℕ). HasPlaces read.content at s k) (sym count) (subst (λ (i : Image). HasPlaces i at s (length (numbers_of h.0))) (sym second) says.placed)),
-    )) c.are_stamped.ensures.stamped
+          let count = subst (λ o. IsSomeAnd o (λ k. k ≡ length (numbers_of h.0))) c.in-Some.is
+          (c.in_ok-count.ensures.all (length (numbers_of h.0)) says.committed) in
+          exact.1 (subst (λ (k : ℕ). HasPlaces read.content at s k) (sym count)
+          (subst (λ (i : Image). HasPlaces i at s (length (numbers_of h.0))) (sym second) says.placed)),
+    ))
+    c.are_stamped.ensures.stamped

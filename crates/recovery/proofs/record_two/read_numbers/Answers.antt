@@ -18,7 +18,8 @@ returns-in_default-clause-all g c numbers long has =
     let same = c.loop-j.invariant.quiet.content_stays (at + j) in
     let is = subst (λ (n : ℕ). IsDescriptorTwo s n j ns fs ((g.M.Medium.state c.loop-j.m).content (at + j))) long
     (subst (λ (bytes : List ℕ). IsDescriptorTwo s (length numbers) j ns fs bytes) (sym same) (has j here).1) in
-    absurd (subst (λ o. IsSomeAnd o (λ d. (d.numbers.items ≡ ns) × (d.firsts.items ≡ fs))) c.in_default.is (c.in_ok-found.ensures.all ns fs is))
+    absurd (subst (λ o. IsSomeAnd o (λ d. (d.numbers.items ≡ ns) × (d.firsts.items ≡ fs))) c.in_default.is
+    (c.in_ok-found.ensures.all ns fs is))
 
 pub loop-j-preserved : goal.loop-j-preserved
 loop-j-preserved g c =
@@ -34,28 +35,37 @@ loop-j-preserved g c =
     let ns = c.loop-j.numbers.items in
     let d = c.in-Some.found in
     let same = inv.quiet.content_stays (at + j) in
-    let some = subst (λ o. IfSome o (λ d. (d.index ≡ j) × IsDescriptorTwo s n j d.numbers.items d.firsts.items (mid.content (at + j)))) c.in-Some.is c.in_ok-found.ensures.some in
+    let some = subst (λ o. IfSome o (λ d. (d.index ≡ j) × IsDescriptorTwo s n j d.numbers.items d.firsts.items (mid.content (at + j))))
+    c.in-Some.is c.in_ok-found.ensures.some in
     let is = subst (λ (bytes : List ℕ). IsDescriptorTwo s n j d.numbers.items d.firsts.items bytes) same some.1 in
-    let more : c.try_extend_from_slice.new.self.items ≡ ns ++ d.numbers.items = c.in-Ok.ensures.ok ∙ ap (λ (l : List ℕ). ns ++ l) c.deref.ensures.0 in
+    let more : c.try_extend_from_slice.new.self.items ≡ ns ++ d.numbers.items =
+    c.in-Ok.ensures.ok ∙ ap (λ (l : List ℕ). ns ++ l) c.deref.ensures.0 in
     let full : length ns ≡ 30 * j = omega (arith, inv.long, below, c.div_ceil-j-end.ensures) in
     record {
-      quiet = quiet_joined old mid new inv.quiet c.read_descriptor.ensures.quiet;
-      reads = λ kind other. c.read_descriptor.ensures.reads kind other ∙ inv.reads kind other;
-      calls = omega (arith, inv.calls, c.in_ok-found.ensures.exact);
+      quiet = quiet_joined old mid new inv.quiet c.read_descriptor.ensures.passes.quiet;
+      reads = λ kind other. c.read_descriptor.ensures.passes.reads kind other ∙ inv.reads kind other;
+      calls = omega (arith, inv.calls, c.in_ok-found.ensures.passes.exact);
       long = ap (λ (l : List ℕ). length l) more ∙ omega (arith, length-append ns d.numbers.items, is.entries.many, full);
-      described = subst (λ (l : List ℕ). (k : ℕ) → k < j + 1 → (fs : List (List ℕ)) × IsDescriptorTwo s n k (take 30 (drop (30 * k) l)) fs (old.content (at + k))) (sym more)
-          (described_more j ns d.numbers.items full old.content at s n d.firsts.items is inv.described);
+      described = subst
+          (λ (l : List ℕ).
+          (k : ℕ) → k < j + 1 → (fs : List (List ℕ)) × IsDescriptorTwo s n k (take 30 (drop (30 * k) l)) fs (old.content (at + k)))
+          (sym more) (described_more j ns d.numbers.items full old.content at s n d.firsts.items is inv.described);
       all = λ numbers long has.
           let here : j < descriptors_of (length numbers) = omega (arith, c.div_ceil-j-end.ensures, below, long) in
           let part : List ℕ = take 30 (drop (30 * j) numbers) in
           let fs = (has j here).0 in
           let there = subst (λ (k : ℕ). IsDescriptorTwo s k j part fs (mid.content (at + j))) long
           (subst (λ (bytes : List ℕ). IsDescriptorTwo s (length numbers) j part fs bytes) (sym same) (has j here).1) in
-          let found = subst (λ o. IsSomeAnd o (λ d. (d.numbers.items ≡ part) × (d.firsts.items ≡ fs))) c.in-Some.is (c.in_ok-found.ensures.all part fs there) in
+          let found = subst (λ o. IsSomeAnd o (λ d. (d.numbers.items ≡ part) × (d.firsts.items ≡ fs))) c.in-Some.is
+          (c.in_ok-found.ensures.all part fs there) in
           let next : 30 * j + 30 ≡ 30 * (j + 1) = omega arith in
-          more ∙ ap (λ (l : List ℕ). l ++ d.numbers.items) (inv.all numbers long has) ∙ ap (λ (l : List ℕ). take (30 * j) numbers ++ l) found.0
-          ∙ sym (take-add (30 * j) 30 numbers) ∙ ap (λ (k : ℕ). take k numbers) next;
-      follows = g.met.M.Medium.follows_through c.args.m.now c.loop-j.m c.read_descriptor.new.m inv.follows c.read_descriptor.ensures.follows;
+          more
+          ∙ ap (λ (l : List ℕ). l ++ d.numbers.items) (inv.all numbers long has)
+          ∙ ap (λ (l : List ℕ). take (30 * j) numbers ++ l) found.0
+          ∙ sym (take-add (30 * j) 30 numbers)
+          ∙ ap (λ (k : ℕ). take k numbers) next;
+      follows =
+          g.met.M.Medium.follows_through c.args.m.now c.loop-j.m c.read_descriptor.new.m inv.follows c.read_descriptor.ensures.follows;
     }
 
 pub returns-clause-some : goal.returns-clause-some
@@ -66,6 +76,11 @@ returns-clause-some g c =
     let long : length c.loop-j.numbers.items ≡ c.args.count = omega (arith, inv.long, over, c.div_ceil-j-end.ensures) in (
       long,
       λ j below.
-          let was = inv.described j (omega (arith, below, long, over, c.div_ceil-j-end.ensures)) in
-          (was.0, subst (λ (k : ℕ). IsDescriptorTwo c.args.stamp k j (take 30 (drop (30 * j) c.loop-j.numbers.items)) was.0 ((g.M.Medium.state c.args.m.now).content (2 + 249 * c.args.slot + j))) (sym long) was.1),
+          let was = inv.described j (omega (arith, below, long, over, c.div_ceil-j-end.ensures)) in (
+            was.0,
+            subst
+                (λ (k : ℕ). IsDescriptorTwo c.args.stamp k j (take 30 (drop (30 * j) c.loop-j.numbers.items)) was.0
+                ((g.M.Medium.state c.args.m.now).content (2 + 249 * c.args.slot + j)))
+                (sym long) was.1,
+          ),
     )

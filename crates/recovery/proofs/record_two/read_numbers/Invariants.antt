@@ -12,8 +12,10 @@ invariant-loop-j g l = record {
   reads : MakesReadsAlone (g.M.Medium.state l.fn.m) (g.M.Medium.state l.m);
   calls : (g.M.Medium.state l.m).calls ≡ (g.M.Medium.state l.fn.m).calls + l.j;
   long : length l.numbers.items ≡ min (30 * l.j) l.count;
-  described : (k : ℕ) → k < l.j → (firsts : List (List ℕ))
-      × IsDescriptorTwo l.stamp l.count k (take 30 (drop (30 * k) l.numbers.items)) firsts ((g.M.Medium.state l.fn.m).content (2 + 249 * l.slot + k));
+  described : (k : ℕ) → k < l.j
+      → (firsts : List (List ℕ))
+      × IsDescriptorTwo l.stamp l.count k (take 30 (drop (30 * k) l.numbers.items)) firsts
+      ((g.M.Medium.state l.fn.m).content (2 + 249 * l.slot + k));
   all : (numbers : List ℕ) → length numbers ≡ l.count → HasDescriptors (g.M.Medium.state l.fn.m).content (2 + 249 * l.slot) l.stamp numbers
       → l.numbers.items ≡ take (30 * l.j) numbers;
   follows : g.M.Medium.follows l.fn.m l.m;

@@ -1,16 +1,14 @@
 use Rattle.std.proofs.lemmas.Result.{IfErr-weaker}
-use Rattle.recovery.specs.Causes.{IsCause, IsDeviceFault, IsRefusalBy, WritesNothing}
+use Rattle.recovery.specs.Causes.{IsRefusalBy, WritesNothing}
+use Rattle.recovery.specs.Recovered.{IsRecoveryRefusal}
 use Rattle.recovery.proofs.Causes.{refusal_cause, no_few, served_slots}
 use Rattle.recovery.proofs.recovery.recover.Goals as goal
 
 pub returns-clause-err : goal.returns-clause-err
-returns-clause-err g c = IfErr-weaker c.recover_at_least.result
-    (IsRefusalBy 0 WritesNothing (g.M.Medium.state c.args.m.now) (g.M.Medium.state c.recover_at_least.new.m))
-    (IsCause (g.M.Medium.state c.args.m.now) (g.M.Medium.state c.recover_at_least.new.m))
-    (λ fault h. refusal_cause (g.M.Medium.state c.args.m.now) (g.M.Medium.state c.recover_at_least.new.m) fault h) c.recover_at_least.ensures.err
-
-pub returns-clause-served : goal.returns-clause-served
-returns-clause-served g c shape array next s left = IfErr-weaker c.recover_at_least.result
-    (IsRefusalBy 0 WritesNothing (g.M.Medium.state c.args.m.now) (g.M.Medium.state c.recover_at_least.new.m)) IsDeviceFault
-    (λ fault h. served_slots 0 (g.M.Medium.state c.args.m.now) (g.M.Medium.state c.recover_at_least.new.m) fault h shape array next s left
-    (λ few. no_few (g.M.Medium.state c.args.m.now) few)) c.recover_at_least.ensures.err
+returns-clause-err g c =
+    let old = g.M.Medium.state c.args.m.now in
+    let new = g.M.Medium.state c.recover_at_least.new.m in
+    IfErr-weaker c.recover_at_least.result (IsRefusalBy 0 WritesNothing old new) (IsRecoveryRefusal old new) (λ fault h. record {
+      cause = refusal_cause old new fault h;
+      served = λ shape array next s left. served_slots 0 old new fault h shape array next s left (λ few. no_few old few);
+    }) c.recover_at_least.ensures.err

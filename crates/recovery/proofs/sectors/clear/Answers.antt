@@ -1,16 +1,28 @@
-use Rattle.std.proofs.Common.{inl, inr, ◌∙◌, ap, arith}
+use Rattle.std.proofs.Common.{◌≡◌, inl, inr, ⊎_elim, ◌∙◌, ap, arith, rules}
 use Rattle.std.proofs.lemmas.Bool.{cases_eq}
 use Rattle.recovery.specs.Copies.{IsBetween}
 use Rattle.recovery.proofs.Making.{one_more_cleared}
 use Rattle.recovery.proofs.sectors.clear.Goals as goal
 
-pub returns-in_err-write-clause-within : goal.returns-in_err-write-clause-within
-returns-in_err-write-clause-within g c =
+pub returns-in_err-write-clause-clears : goal.returns-in_err-write-clause-clears
+returns-in_err-write-clause-clears g c =
     let old = g.M.Medium.state c.args.m.now in
     let mid = g.M.Medium.state c.loop-sector.m in
     let new = g.M.Medium.state c.write.new.self in
-    one_more_cleared (IsBetween c.args.from c.args.end) c.loop-sector.sector old mid new (g.met.M.Medium.sound c.loop-sector.m)
-    (omega (arith, c.loop-sector.auto.sector), omega (arith, c.loop-sector-test.true)) c.loop-sector.invariant.within c.write.ensures.passes c.write.ensures.sets
+    let inv = c.loop-sector.invariant in
+    let past = c.loop-sector.auto.sector in
+    let inside = c.loop-sector-test.true in
+    let wrote = c.write.ensures in
+    record {
+      elsewhere = λ x not.
+          let apart = λ (e : x ≡ c.loop-sector.sector). not (omega (arith, e, past), omega (arith, e, inside)) in
+          ⊎_elim (λ stays. stays x) (λ holds. holds.elsewhere x apart) c.in_err-write.ensures.err ∙ inv.elsewhere x not;
+      moments = one_more_cleared (IsBetween c.args.from c.args.end) c.loop-sector.sector old mid new (g.met.M.Medium.sound c.loop-sector.m)
+          (omega (arith, past), omega (arith, inside)) inv.within wrote.passes wrote.sets;
+      calls = omega (arith, wrote.passes.calls_are, inv.calls, past, inside);
+      exact = search rules;
+      cause = search rules;
+    }
 
 pub loop-sector-preserved : goal.loop-sector-preserved
 loop-sector-preserved g c =

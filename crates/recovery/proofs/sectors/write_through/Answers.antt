@@ -1,11 +1,32 @@
+use Rattle.std.proofs.Common.{⊎_elim, ◌∙◌, arith, rules}
 use Rattle.recovery.proofs.Making.{sector_written, sector_flushed}
 use Rattle.recovery.proofs.sectors.write_through.Goals as goal
 
-pub returns-in_err-write-clause-moments : goal.returns-in_err-write-clause-moments
-returns-in_err-write-clause-moments g c =
-    sector_written c.args.place c.args.sector.now (g.M.Medium.state c.args.m.now) (g.M.Medium.state c.write.new.self) (g.met.M.Medium.sound c.args.m.now) c.write.ensures.passes c.write.ensures.sets
+pub returns-in_err-write-clause-writes : goal.returns-in_err-write-clause-writes
+returns-in_err-write-clause-writes g c =
+    let old = g.M.Medium.state c.args.m.now in
+    let new = g.M.Medium.state c.write.new.self in
+    let wrote = c.write.ensures in
+    record {
+      elsewhere = λ x not. ⊎_elim (λ stays. stays x) (λ holds. holds.elsewhere x not) c.in_err-write.ensures.err;
+      moments = sector_written c.args.place c.args.sector.now old new (g.met.M.Medium.sound c.args.m.now) wrote.passes wrote.sets;
+      calls = omega (arith, wrote.passes.calls_are);
+      exact = search rules;
+      cause = search rules;
+    }
 
-pub returns-clause-moments : goal.returns-clause-moments
-returns-clause-moments g c =
-    sector_flushed c.args.place c.args.sector.now (g.M.Medium.state c.args.m.now) (g.M.Medium.state c.write.new.self) (g.M.Medium.state c.flush.new.self) (g.met.M.Medium.sound c.args.m.now)
-    c.write.ensures.passes c.write.ensures.sets c.flush.ensures.passes c.flush.ensures.sets
+pub returns-clause-writes : goal.returns-clause-writes
+returns-clause-writes g c =
+    let old = g.M.Medium.state c.args.m.now in
+    let written = g.M.Medium.state c.write.new.self in
+    let new = g.M.Medium.state c.flush.new.self in
+    let wrote = c.write.ensures in
+    let flushed = c.flush.ensures in
+    record {
+      elsewhere = λ x not. flushed.content x ∙ c.in_ok-write.ensures.ok.elsewhere x not;
+      moments = sector_flushed c.args.place c.args.sector.now old written new (g.met.M.Medium.sound c.args.m.now)
+          wrote.passes wrote.sets flushed.passes flushed.sets;
+      calls = omega (arith, wrote.passes.calls_are, flushed.passes.calls_are);
+      exact = search rules;
+      cause = search rules;
+    }

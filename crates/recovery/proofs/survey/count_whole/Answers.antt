@@ -27,8 +27,8 @@ loop-j-preserved g c =
     let here : HasWhole shape mid.content (c.args.head + j) = c.in_ok-is_whole.ensures.whole.0 c.if-not-branch.false in
     let there = has_whole_same shape mid.content old.content (c.args.head + j) (λ x. sym (inv.quiet.content_stays x)) here in
     record {
-      quiet = quiet_joined old mid new inv.quiet c.is_whole.ensures.quiet;
-      reads = λ kind other. c.is_whole.ensures.reads kind other ∙ inv.reads kind other;
+      quiet = quiet_joined old mid new inv.quiet c.is_whole.ensures.passes.quiet;
+      reads = λ kind other. c.is_whole.ensures.passes.reads kind other ∙ inv.reads kind other;
       tries = tries_joined c.args.sizes.now.format j 1 old.calls mid.calls new.calls inv.tries c.in_ok-is_whole.ensures.exact;
       whole = λ k below. elim (cases_eq j k) [
         | inl is ↦ subst (λ n. HasWhole shape old.content (c.args.head + n)) is there

@@ -1,4 +1,4 @@
-use Rattle.std.proofs.Common.{◌∙◌, ◌+◌, sym, subst, arith}
+use Rattle.std.proofs.Common.{◌∙◌, ◌+◌, sym, subst, arith, rules}
 use Rattle.std.proofs.lemmas.Result.{err_from_is_err_and}
 use Rattle.medium.proofs.Moments.{quiet_call, quiet_joined}
 use Rattle.log_layout.specs.Values.{shape_of}
@@ -14,12 +14,18 @@ returns-then-head-count-clause-ok g c =
     let shape = shape_of c.in_ok-sizes.sizes in
     let old = g.M.Medium.state c.args.m.now in
     let mid = g.M.Medium.state c.read.new.self in
+    let quiet = c.read_super.ensures.reads.quiet in
     record {
-      shape = c.in_ok-sizes.ensures.ok;
-      head = subst (IsHead c.in-Some.head.stamp) (c.in_ok-read.ensures.ok ∙ c.read_super.ensures.quiet.content_stays 1) c.in-Some.ensures.some;
-      count = IsCount-same shape mid.content old.content c.in-Some.head.stamp c.in_ok-count.count
-          (λ x. sym (c.read_super.ensures.quiet.content_stays x) ∙ sym (c.read.ensures.content x)) c.in_ok-count.ensures.count;
-      stamp_left = omega (arith, c.if-head-count.true);
+      is = record {
+        shape = c.in_ok-sizes.ensures.ok;
+        head = subst (IsHead c.in-Some.head.stamp) (c.in_ok-read.ensures.ok ∙ quiet.content_stays 1) c.in-Some.ensures.some;
+        count = IsCount-same shape mid.content old.content c.in-Some.head.stamp c.in_ok-count.count
+            (λ x. sym (quiet.content_stays x) ∙ sym (c.read.ensures.content x)) c.in_ok-count.ensures.count;
+        stamp_left = omega (arith, c.if-head-count.true);
+      };
+      room = enough_slots c.args.least old.size shape old.content c.in_ok-sizes.ensures.ok
+          (λ both. let is = c.if-has_few_slots.ensures.1 both in absurd (cc is));
+      exact = search rules;
     }
 
 pub returns-else-head-count-clause-err : goal.returns-else-head-count-clause-err
@@ -29,71 +35,75 @@ returns-else-head-count-clause-err g c =
     let seen = g.M.Medium.state c.read_super.new.m in
     let mid = g.M.Medium.state c.read.new.self in
     let new = g.M.Medium.state c.count_whole.new.m in
-    let head = subst (IsHead c.in-Some.head.stamp) (c.in_ok-read.ensures.ok ∙ c.read_super.ensures.quiet.content_stays 1) c.in-Some.ensures.some in
+    let first = c.read_super.ensures.reads.quiet in
+    let head = subst (IsHead c.in-Some.head.stamp) (c.in_ok-read.ensures.ok ∙ first.content_stays 1) c.in-Some.ensures.some in
+    let second = quiet_call seen mid c.read.ensures.passes c.read.ensures.content c.read.ensures.sets in
     let count = IsCount-same shape mid.content old.content c.in-Some.head.stamp c.in_ok-count.count
-    (λ x. sym (c.read_super.ensures.quiet.content_stays x) ∙ sym (c.read.ensures.content x)) c.in_ok-count.ensures.count in
-    let s = count_stands old.size shape old.content c.in-Some.head.stamp c.in_ok-count.count c.in_ok-sizes.ensures.ok.fits c.in_ok-sizes.ensures.ok.super head count in (
+    (λ x. sym (c.read_super.ensures.reads.quiet.content_stays x) ∙ sym (c.read.ensures.content x)) c.in_ok-count.ensures.count in
+    let s = count_stands old.size shape old.content c.in-Some.head.stamp c.in_ok-count.count c.in_ok-sizes.ensures.ok.fits
+    c.in_ok-sizes.ensures.ok.super head count in (
       enough_slots c.args.least old.size (shape_of c.in_ok-sizes.sizes) old.content c.in_ok-sizes.ensures.ok
           (λ both. let is = c.if-has_few_slots.ensures.1 both in absurd (cc is)),
       (shape, s.array, c.in-Some.head.stamp + c.in_ok-count.count + 1, s.stands, omega (arith, c.if-head-count.false)),
-      quiet_joined old mid new (quiet_joined old seen mid c.read_super.ensures.quiet (quiet_call seen mid c.read.ensures.passes c.read.ensures.content c.read.ensures.sets)) c.count_whole.ensures.quiet,
+      quiet_joined old mid new (quiet_joined old seen mid first second) c.count_whole.ensures.passes.quiet,
     )
 
-pub returns-then-head-count-clause-quiet : goal.returns-then-head-count-clause-quiet
-returns-then-head-count-clause-quiet g c =
+pub returns-in_err-count-clause-reads : goal.returns-in_err-count-clause-reads
+returns-in_err-count-clause-reads g c =
     let old = g.M.Medium.state c.args.m.now in
     let first = g.M.Medium.state c.read_super.new.m in
     let second = g.M.Medium.state c.read.new.self in
     let last = g.M.Medium.state c.count_whole.new.m in
     let read = quiet_call first second c.read.ensures.passes c.read.ensures.content c.read.ensures.sets in
-    quiet_joined old first last c.read_super.ensures.quiet
-    (quiet_joined first second last read c.count_whole.ensures.quiet)
+    let sizes = c.in_ok-sizes.sizes in
+    let few = c.in_ok-sizes.sizes.most_slots in
+    let rest = c.count_whole.ensures.passes in
+    record {
+      quiet = quiet_joined old first last c.read_super.ensures.reads.quiet (quiet_joined first second last read rest.quiet);
+      reads = search rules;
+      calls = search rules;
+      most = λ shape has. most_found shape (shape_of sizes) sizes.slots old.calls second.calls last.calls
+          (IsSuper-one shape (shape_of sizes) (old.content 0) has.super c.in_ok-sizes.ensures.ok.super) few
+          (omega (arith, c.read_super.ensures.reads.calls, c.read.ensures.passes.calls_are)) rest.calls;
+    }
 
-pub returns-else-head-count-clause-quiet : goal.returns-else-head-count-clause-quiet
-returns-else-head-count-clause-quiet g c =
+pub returns-then-head-count-clause-reads : goal.returns-then-head-count-clause-reads
+returns-then-head-count-clause-reads g c =
     let old = g.M.Medium.state c.args.m.now in
     let first = g.M.Medium.state c.read_super.new.m in
     let second = g.M.Medium.state c.read.new.self in
     let last = g.M.Medium.state c.count_whole.new.m in
     let read = quiet_call first second c.read.ensures.passes c.read.ensures.content c.read.ensures.sets in
-    quiet_joined old first last c.read_super.ensures.quiet
-    (quiet_joined first second last read c.count_whole.ensures.quiet)
-
-pub returns-in_err-count-clause-most : goal.returns-in_err-count-clause-most
-returns-in_err-count-clause-most g c shape has =
     let sizes = c.in_ok-sizes.sizes in
-    let old = g.M.Medium.state c.args.m.now in
-    let mid = g.M.Medium.state c.read.new.self in
     let few = c.in_ok-sizes.sizes.most_slots in
-    most_found shape (shape_of sizes) sizes.slots old.calls mid.calls (g.M.Medium.state c.count_whole.new.m).calls
-    (IsSuper-one shape (shape_of sizes) (old.content 0) has.super c.in_ok-sizes.ensures.ok.super) few
-    (omega (arith, c.read_super.ensures.calls, c.read.ensures.passes.calls_are)) c.count_whole.ensures.calls
+    let rest = c.count_whole.ensures.passes in
+    record {
+      quiet = quiet_joined old first last c.read_super.ensures.reads.quiet (quiet_joined first second last read rest.quiet);
+      reads = search rules;
+      calls = search rules;
+      most = λ shape has. most_found shape (shape_of sizes) sizes.slots old.calls second.calls last.calls
+          (IsSuper-one shape (shape_of sizes) (old.content 0) has.super c.in_ok-sizes.ensures.ok.super) few
+          (omega (arith, c.read_super.ensures.reads.calls, c.read.ensures.passes.calls_are)) rest.calls;
+    }
 
-pub returns-then-head-count-clause-most : goal.returns-then-head-count-clause-most
-returns-then-head-count-clause-most g c shape has =
+pub returns-else-head-count-clause-reads : goal.returns-else-head-count-clause-reads
+returns-else-head-count-clause-reads g c =
+    let old = g.M.Medium.state c.args.m.now in
+    let first = g.M.Medium.state c.read_super.new.m in
+    let second = g.M.Medium.state c.read.new.self in
+    let last = g.M.Medium.state c.count_whole.new.m in
+    let read = quiet_call first second c.read.ensures.passes c.read.ensures.content c.read.ensures.sets in
     let sizes = c.in_ok-sizes.sizes in
-    let old = g.M.Medium.state c.args.m.now in
-    let mid = g.M.Medium.state c.read.new.self in
     let few = c.in_ok-sizes.sizes.most_slots in
-    most_found shape (shape_of sizes) sizes.slots old.calls mid.calls (g.M.Medium.state c.count_whole.new.m).calls
-    (IsSuper-one shape (shape_of sizes) (old.content 0) has.super c.in_ok-sizes.ensures.ok.super) few
-    (omega (arith, c.read_super.ensures.calls, c.read.ensures.passes.calls_are)) c.count_whole.ensures.calls
-
-pub returns-else-head-count-clause-most : goal.returns-else-head-count-clause-most
-returns-else-head-count-clause-most g c shape has =
-    let sizes = c.in_ok-sizes.sizes in
-    let old = g.M.Medium.state c.args.m.now in
-    let mid = g.M.Medium.state c.read.new.self in
-    let few = c.in_ok-sizes.sizes.most_slots in
-    most_found shape (shape_of sizes) sizes.slots old.calls mid.calls (g.M.Medium.state c.count_whole.new.m).calls
-    (IsSuper-one shape (shape_of sizes) (old.content 0) has.super c.in_ok-sizes.ensures.ok.super) few
-    (omega (arith, c.read_super.ensures.calls, c.read.ensures.passes.calls_are)) c.count_whole.ensures.calls
-
-pub returns-then-head-count-clause-room : goal.returns-then-head-count-clause-room
-returns-then-head-count-clause-room g c =
-    let old = g.M.Medium.state c.args.m.now in
-    enough_slots c.args.least old.size (shape_of c.in_ok-sizes.sizes) old.content c.in_ok-sizes.ensures.ok
-    (λ both. let is = c.if-has_few_slots.ensures.1 both in absurd (cc is))
+    let rest = c.count_whole.ensures.passes in
+    record {
+      quiet = quiet_joined old first last c.read_super.ensures.reads.quiet (quiet_joined first second last read rest.quiet);
+      reads = search rules;
+      calls = search rules;
+      most = λ shape has. most_found shape (shape_of sizes) sizes.slots old.calls second.calls last.calls
+          (IsSuper-one shape (shape_of sizes) (old.content 0) has.super c.in_ok-sizes.ensures.ok.super) few
+          (omega (arith, c.read_super.ensures.reads.calls, c.read.ensures.passes.calls_are)) rest.calls;
+    }
 
 pub returns-in_err-sizes-clause-err : goal.returns-in_err-sizes-clause-err
 returns-in_err-sizes-clause-err g c =
