@@ -16,8 +16,8 @@ pub record IsTurning (start places : List ℕ) (began row : List (List ℕ)) (i 
   pub settled : (k : ℕ) → k < length start → get_or start k 0 ≡ k → get_or (set places i hole) k 0 ≡ k
 
 -- the block of the i-th number is taken aside
-pub begins : (places : List ℕ) (row : List (List ℕ)) (i hole : ℕ) (aside : List ℕ) → ArePlaces places → hole ≡ get_or places i 0 → aside ≡ get_or row hole []
-    → IsTurning places places row row i hole aside
+pub begins : (places : List ℕ) (row : List (List ℕ)) (i hole : ℕ) (aside : List ℕ) → ArePlaces places → hole ≡ get_or places i 0
+    → aside ≡ get_or row hole [] → IsTurning places places row row i hole aside
 begins places row i hole aside are hole_is aside_is =
     let back : set places i hole ≡ places = ap (λ (v : ℕ). set places i v) hole_is ∙ set-get_or places i 0 in
     let back_row : set row hole aside ≡ row = ap (λ (v : List ℕ). set row hole v) aside_is ∙ set-get_or row hole [] in
@@ -30,16 +30,17 @@ begins places row i hole aside are hole_is aside_is =
     }
 
 -- the hole is among the places
-pub hole_among : (start places : List ℕ) (began row : List (List ℕ)) (i hole : ℕ) (aside : List ℕ) → IsTurning start places began row i hole aside
-    → i < length places → hole < length places
+pub hole_among : (start places : List ℕ) (began row : List (List ℕ)) (i hole : ℕ) (aside : List ℕ)
+    → IsTurning start places began row i hole aside → i < length places → hole < length places
 hole_among start places began row i hole aside turning inside =
     let l : length (set places i hole) ≡ length places = length-set places i hole in
     let e : get_or (set places i hole) i 0 ≡ hole = get_or-set_same places i hole 0 inside in
     let h : get_or (set places i hole) i 0 < length (set places i hole) = turning.are.inside i (omega (arith, l, inside)) in
     omega (arith, h, e, l)
 
-module _ (start places : List ℕ) (began row : List (List ℕ)) (i hole next : ℕ) (aside block : List ℕ) (turning : IsTurning start places began row i hole aside)
-    (inside : i < length places) (room : length places ≤ length row) (off : hole ≢ i) (next_is : next ≡ get_or places hole 0) (block_is : block ≡ get_or row next []) where
+module _ (start places : List ℕ) (began row : List (List ℕ)) (i hole next : ℕ) (aside block : List ℕ)
+    (turning : IsTurning start places began row i hole aside) (inside : i < length places) (room : length places ≤ length row)
+    (off : hole ≢ i) (next_is : next ≡ get_or places hole 0) (block_is : block ≡ get_or row next []) where
   -- the places and the row, were the block in the hole
   abbrev whole : List ℕ
   whole = set places i hole
@@ -115,8 +116,8 @@ module _ (start places : List ℕ) (began row : List (List ℕ)) (i hole next : 
         turning.are room_full inside_whole hole_is next_is_whole off swaps swaps_row;
     settled = λ k lt own.
         let l : length whole ≡ length places = long in
-        stays whole (set (set places hole hole) i next) full (set (set row hole block) next aside) i hole next
-        turning.are room_full inside_whole hole_is next_is_whole off swaps swaps_row k (omega (arith, l, lt, turning.as_long)) (turning.settled k lt own);
+        stays whole (set (set places hole hole) i next) full (set (set row hole block) next aside) i hole next turning.are room_full
+        inside_whole hole_is next_is_whole off swaps swaps_row k (omega (arith, l, lt, turning.as_long)) (turning.settled k lt own);
   }
 
   pub one_more : astray 0 (set (set places hole hole) i next) + 2 ≡ astray 0 (set places i hole) + away i next

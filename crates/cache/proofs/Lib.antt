@@ -1,4 +1,5 @@
 pub mod Arrays
+pub mod Columns
 pub mod Cycles
 pub mod Edits
 pub mod Halving
@@ -6,5 +7,7 @@ pub mod Kept
 pub mod Maps
 pub mod Neighbours
 pub mod Pairs
+pub mod Powers
 pub mod Ranges
 pub mod Swaps
+pub mod Windows

@@ -1,5 +1,6 @@
 -- What one swap along a cycle makes of places and of the blocks at them.
-use Rattle.std.proofs.Common.{◌≡◌, ◌≢◌, inl, inr, ◌⊎◌, ℕ, zero, suc, ◌+◌, ◌<◌, ◌≤◌, List, [], ◌∷◌, length, get_or, take, set, refl, sym, ◌∙◌, ap, arith}
+use Rattle.std.proofs.Common.{◌≡◌, ◌≢◌, inl, inr, ◌⊎◌, ℕ, zero, suc, ◌+◌, ◌<◌, ◌≤◌, List, [], ◌∷◌, length, get_or, take, set, refl, sym}
+use Rattle.std.proofs.Common.{◌∙◌, ap, arith}
 use Rattle.std.specs.List.{swap}
 use Rattle.std.proofs.lemmas.Bool.{cases_eq}
 use Rattle.std.proofs.lemmas.Bool.Decides.{nat_tests}
@@ -9,14 +10,16 @@ use Rattle.std.proofs.lemmas.List.Edits.{swap_is, swapped_from_swap, length-swap
 use Rattle.cache.specs.Order.{gathered, ArePlaces, AreInOrder, away, astray}
 
 -- the block at the k-th place
-pub gathered_at : (places : List ℕ) (row : List (List ℕ)) (k : ℕ) → k < length places → get_or (gathered places row) k [] ≡ get_or row (get_or places k 0) []
+pub gathered_at : (places : List ℕ) (row : List (List ℕ)) (k : ℕ) → k < length places
+    → get_or (gathered places row) k [] ≡ get_or row (get_or places k 0) []
 gathered_at places row k lt = get_or-map (λ (p : ℕ). get_or row p []) places k 0 [] lt
 
 pub length-gathered : (places : List ℕ) (row : List (List ℕ)) → length (gathered places row) ≡ length places
 length-gathered places row = simp length-map
 
 -- blocks in order are the first of the row
-pub gathered_in_order : (places : List ℕ) (row : List (List ℕ)) → AreInOrder places → length places ≤ length row → gathered places row ≡ take (length places) row
+pub gathered_in_order : (places : List ℕ) (row : List (List ℕ)) → AreInOrder places → length places ≤ length row
+    → gathered places row ≡ take (length places) row
 gathered_in_order places row order room =
     let long : length (take (length places) row) ≡ length places = length-take-le (length places) row room in
     let long' : length (gathered places row) ≡ length places = length-gathered places row in
@@ -27,14 +30,16 @@ gathered_in_order places row order room =
     ∙ sym (get_or-take (length places) row k [] inside))
 
 -- one place set: what was away from there no longer counts, and what is, does
-astray_set : (s : ℕ) (places : List ℕ) (j v : ℕ) → j < length places → astray s (set places j v) + away (s + j) (get_or places j 0) ≡ astray s places + away (s + j) v
+astray_set : (s : ℕ) (places : List ℕ) (j v : ℕ) → j < length places
+    → astray s (set places j v) + away (s + j) (get_or places j 0) ≡ astray s places + away (s + j) v
 astray_set s [] j v lt = absurd (omega (arith, lt))
 astray_set s (p ∷ places) zero v lt =
     let here : s + 0 ≡ s = omega arith in
     rw here (omega arith)
 astray_set s (p ∷ places) (suc j) v lt =
     let next : s + suc j ≡ suc s + j = omega arith in
-    let more : astray (suc s) (set places j v) + away (suc s + j) (get_or places j 0) ≡ astray (suc s) places + away (suc s + j) v = astray_set (suc s) places j v (omega (arith, lt)) in
+    let more : astray (suc s) (set places j v) + away (suc s + j) (get_or places j 0) ≡ astray (suc s) places + away (suc s + j) v =
+    astray_set (suc s) places j v (omega (arith, lt)) in
     rw next (omega (arith, more))
 
 pub away_same : (i p : ℕ) → p ≡ i → away i p ≡ 0
@@ -48,9 +53,13 @@ away_most i p = grind (arith, nat_tests)
 
 pub astray_most : (s : ℕ) (places : List ℕ) → astray s places ≤ length places
 astray_most s [] = omega arith
-astray_most s (p ∷ places) = let one : away s p ≤ 1 = away_most s p in let more : astray (suc s) places ≤ length places = astray_most (suc s) places in omega (arith, one, more)
+astray_most s (p ∷ places) =
+    let one : away s p ≤ 1 = away_most s p in
+    let more : astray (suc s) places ≤ length places = astray_most (suc s) places in omega (arith, one, more)
 
-module _ (places new : List ℕ) (row row' : List (List ℕ)) (i own taken : ℕ) (are : ArePlaces places) (room : length places ≤ length row) (inside : i < length places) (own_is : own ≡ get_or places i 0) (taken_is : taken ≡ get_or places own 0) (off : own ≢ i) (new_is : new ≡ swap places i own) (row_is : row' ≡ swap row own taken) where
+module _ (places new : List ℕ) (row row' : List (List ℕ)) (i own taken : ℕ) (are : ArePlaces places) (room : length places ≤ length row)
+    (inside : i < length places) (own_is : own ≡ get_or places i 0) (taken_is : taken ≡ get_or places own 0) (off : own ≢ i)
+    (new_is : new ≡ swap places i own) (row_is : row' ≡ swap row own taken) where
   own_inside : own < length places
   own_inside = let h : get_or places i 0 < length places = are.inside i inside in omega (arith, h, own_is)
 
@@ -74,22 +83,39 @@ module _ (places new : List ℕ) (row row' : List (List ℕ)) (i own taken : ℕ
   at_other k ni nw = (swapped_from_swap places new i own 0 inside own_inside new_is).2 k ni nw
 
   block_own : get_or row' own [] ≡ get_or row taken []
-  block_own = (swapped_from_swap row row' own taken [] (let h : own < length places = own_inside in omega (arith, h)) (let h : taken < length places = taken_inside in omega (arith, h)) row_is).0
+  block_own =
+      (swapped_from_swap row row' own taken [] (let h : own < length places = own_inside in omega (arith, h))
+      (let h : taken < length places = taken_inside in omega (arith, h)) row_is).0
 
   block_taken : get_or row' taken [] ≡ get_or row own []
-  block_taken = (swapped_from_swap row row' own taken [] (let h : own < length places = own_inside in omega (arith, h)) (let h : taken < length places = taken_inside in omega (arith, h)) row_is).1
+  block_taken =
+      (swapped_from_swap row row' own taken [] (let h : own < length places = own_inside in omega (arith, h))
+      (let h : taken < length places = taken_inside in omega (arith, h)) row_is).1
 
   block_other : (k : ℕ) → k ≢ own → k ≢ taken → get_or row' k [] ≡ get_or row k []
-  block_other = (swapped_from_swap row row' own taken [] (let h : own < length places = own_inside in omega (arith, h)) (let h : taken < length places = taken_inside in omega (arith, h)) row_is).2
+  block_other =
+      (swapped_from_swap row row' own taken [] (let h : own < length places = own_inside in omega (arith, h))
+      (let h : taken < length places = taken_inside in omega (arith, h)) row_is).2
 
   block_same : (k : ℕ) → k < length places → get_or row' (get_or new k 0) [] ≡ get_or row (get_or places k 0) []
   block_same k lt = elim (cases_eq k own) [
-    | inl e ↦ ap (λ (j : ℕ). get_or row' (get_or new j 0) []) e ∙ ap (λ (j : ℕ). get_or row' j []) at_own ∙ block_own ∙ ap (λ (j : ℕ). get_or row j []) taken_is ∙ ap (λ (j : ℕ). get_or row (get_or places j 0) []) (sym e)
+    | inl e ↦
+        ap (λ (j : ℕ). get_or row' (get_or new j 0) []) e
+        ∙ ap (λ (j : ℕ). get_or row' j []) at_own
+        ∙ block_own
+        ∙ ap (λ (j : ℕ). get_or row j []) taken_is
+        ∙ ap (λ (j : ℕ). get_or row (get_or places j 0) []) (sym e)
     | inr nw ↦ elim (cases_eq k i) [
-      | inl e ↦ ap (λ (j : ℕ). get_or row' (get_or new j 0) []) e ∙ ap (λ (j : ℕ). get_or row' j []) at_i ∙ block_taken ∙ ap (λ (j : ℕ). get_or row j []) own_is ∙ ap (λ (j : ℕ). get_or row (get_or places j 0) []) (sym e)
+      | inl e ↦
+          ap (λ (j : ℕ). get_or row' (get_or new j 0) []) e
+          ∙ ap (λ (j : ℕ). get_or row' j []) at_i
+          ∙ block_taken
+          ∙ ap (λ (j : ℕ). get_or row j []) own_is
+          ∙ ap (λ (j : ℕ). get_or row (get_or places j 0) []) (sym e)
       | inr ni ↦
           ap (λ (j : ℕ). get_or row' j []) (at_other k ni nw)
-          ∙ block_other (get_or places k 0) (λ e. ni (are.distinct k i lt inside (e ∙ own_is))) (λ e. nw (are.distinct k own lt own_inside (e ∙ taken_is)))
+          ∙ block_other (get_or places k 0) (λ e. ni (are.distinct k i lt inside (e ∙ own_is)))
+          (λ e. nw (are.distinct k own lt own_inside (e ∙ taken_is)))
     ]
   ]
 
@@ -105,15 +131,25 @@ module _ (places new : List ℕ) (row row' : List (List ℕ)) (i own taken : ℕ
 
   new_inside : (k : ℕ) → k < length places → get_or new k 0 < length places
   new_inside k lt = elim (cases_eq k own) [
-    | inl e ↦ let h : get_or new own 0 ≡ own = at_own in let f : get_or new k 0 ≡ get_or new own 0 = ap (λ (j : ℕ). get_or new j 0) e in let g : own < length places = own_inside in omega (arith, h, f, g)
+    | inl e ↦
+        let h : get_or new own 0 ≡ own = at_own in
+        let f : get_or new k 0 ≡ get_or new own 0 = ap (λ (j : ℕ). get_or new j 0) e in
+        let g : own < length places = own_inside in omega (arith, h, f, g)
     | inr nw ↦ elim (cases_eq k i) [
-      | inl e ↦ let h : get_or new i 0 ≡ taken = at_i in let f : get_or new k 0 ≡ get_or new i 0 = ap (λ (j : ℕ). get_or new j 0) e in let g : taken < length places = taken_inside in omega (arith, h, f, g)
-      | inr ni ↦ let h : get_or new k 0 ≡ get_or places k 0 = at_other k ni nw in let g : get_or places k 0 < length places = are.inside k lt in omega (arith, h, g)
+      | inl e ↦
+          let h : get_or new i 0 ≡ taken = at_i in
+          let f : get_or new k 0 ≡ get_or new i 0 = ap (λ (j : ℕ). get_or new j 0) e in
+          let g : taken < length places = taken_inside in omega (arith, h, f, g)
+      | inr ni ↦
+          let h : get_or new k 0 ≡ get_or places k 0 = at_other k ni nw in
+          let g : get_or places k 0 < length places = are.inside k lt in omega (arith, h, g)
     ]
   ]
 
   -- where the k-th place stood
-  from : (k : ℕ) → k < length places → (j : ℕ) × (j < length places) × (get_or new k 0 ≡ get_or places j 0) × (((k ≡ own) × (j ≡ i)) ⊎ (((k ≡ i) × (j ≡ own)) ⊎ ((k ≢ i) × (k ≢ own) × (j ≡ k))))
+  from : (k : ℕ) → k < length places
+      → (j : ℕ) × (j < length places) × (get_or new k 0 ≡ get_or places j 0)
+      × (((k ≡ own) × (j ≡ i)) ⊎ (((k ≡ i) × (j ≡ own)) ⊎ ((k ≢ i) × (k ≢ own) × (j ≡ k))))
   from k lt = elim (cases_eq k own) [
     | inl e ↦ (i, inside, ap (λ (j : ℕ). get_or new j 0) e ∙ at_own ∙ own_is, inl (e, refl))
     | inr nw ↦ elim (cases_eq k i) [
@@ -175,15 +211,20 @@ module _ (places new : List ℕ) (row row' : List (List ℕ)) (i own taken : ℕ
   pub falls : astray 0 new + 2 ≡ astray 0 places + away i taken
   falls =
       let first : List ℕ = set places i taken in
-      let is : new ≡ set first own own = new_is ∙ sym (swap_is places i own 0 inside own_inside)
-      ∙ ap (λ (v : ℕ). set (set places i v) own (get_or places i 0)) (sym taken_is) ∙ ap (λ (v : ℕ). set (set places i taken) own v) (sym own_is) in
-      let e1 : astray 0 first + away (0 + i) (get_or places i 0) ≡ astray 0 places + away (0 + i) taken = astray_set 0 places i taken inside in
+      let is : new ≡ set first own own = new_is
+      ∙ sym (swap_is places i own 0 inside own_inside)
+      ∙ ap (λ (v : ℕ). set (set places i v) own (get_or places i 0)) (sym taken_is)
+      ∙ ap (λ (v : ℕ). set (set places i taken) own v) (sym own_is) in
+      let e1 : astray 0 first + away (0 + i) (get_or places i 0) ≡ astray 0 places + away (0 + i) taken =
+      astray_set 0 places i taken inside in
       let long : length first ≡ length places = length-set places i taken in
       let lt : own < length places = own_inside in
-      let e2 : astray 0 (set first own own) + away (0 + own) (get_or first own 0) ≡ astray 0 first + away (0 + own) own = astray_set 0 first own own (omega (arith, long, lt)) in
+      let e2 : astray 0 (set first own own) + away (0 + own) (get_or first own 0) ≡ astray 0 first + away (0 + own) own =
+      astray_set 0 first own own (omega (arith, long, lt)) in
       let there : get_or first own 0 ≡ taken = get_or-set_other places i own taken 0 off ∙ sym taken_is in
       let a1 : away (0 + i) (get_or places i 0) ≡ 1 = away_other (0 + i) (get_or places i 0) (λ e. off (own_is ∙ e ∙ omega arith)) in
-      let a3 : away (0 + own) (get_or first own 0) ≡ 1 = away_other (0 + own) (get_or first own 0) (λ e. taken_off (sym there ∙ e ∙ omega arith)) in
+      let a3 : away (0 + own) (get_or first own 0) ≡ 1 =
+      away_other (0 + own) (get_or first own 0) (λ e. taken_off (sym there ∙ e ∙ omega arith)) in
       let a4 : away (0 + own) own ≡ 0 = away_same (0 + own) own (omega arith) in
       let same : 0 + i ≡ i = omega arith in
       let a2 : away (0 + i) taken ≡ away i taken = ap (λ (k : ℕ). away k taken) same in

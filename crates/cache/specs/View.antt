@@ -1,6 +1,7 @@
 -- How a batch is kept.
 use Rattle.std.specs.Prelude.{◌≡◌, ◌≤◌, ◌^◌, length, vec_capacity}
 use Rattle.cache.specs.Entries.{Entries}
+use Rattle.cache.specs.Index.{numbers_of, places_of, entries_of, IsCentred}
 use Rattle.cache.specs.Order.{gathered, ArePlaces, AreInOrder}
 use Rattle.cache.specs.Places.{ArePaired, joined}
 use Rattle.cache.specs.declared.parts.Parts.{Parts}
@@ -8,21 +9,23 @@ use Rattle.cache.specs.declared.parts.Parts.{Parts}
 abbrev pub view_of : Parts → Entries
 view_of parts = record {
   room = parts.room;
-  numbers = parts.numbers.items;
-  bytes = joined (gathered parts.places.items parts.row.items);
+  numbers = numbers_of (entries_of parts.index);
+  bytes = joined (gathered (places_of (entries_of parts.index)) parts.row.items);
 }
 
 pub record IsKept (parts : Parts) : Type 0 where
-  pub paired : ArePaired parts.numbers.items (gathered parts.places.items parts.row.items)
-  pub placed : ArePlaces parts.places.items
-  pub within : length parts.numbers.items ≤ parts.room
-  pub reserved : parts.room ≤ vec_capacity parts.numbers
-  pub reserved_places : parts.room ≤ vec_capacity parts.places
-  -- a place has 16 bits
+  pub paired : ArePaired (numbers_of (entries_of parts.index))
+      (gathered (places_of (entries_of parts.index)) parts.row.items)
+  pub placed : ArePlaces (places_of (entries_of parts.index))
+  pub within : length (numbers_of (entries_of parts.index)) ≤ parts.room
+  pub centred : IsCentred parts.index parts.room
+  pub reserved_numbers : parts.room ≤ vec_capacity parts.numbers
+  -- a place has no more than 16 bits
   pub narrow : parts.room ≤ 2 ^ 16
   pub whole_row : length parts.row.items ≡ parts.room
 
--- the blocks lie in the order of their numbers
+-- the blocks lie in the order of their numbers, which are told
 pub record IsArranged (parts : Parts) : Type 0 where
   pub kept : IsKept parts
-  pub in_order : AreInOrder parts.places.items
+  pub in_order : AreInOrder (places_of (entries_of parts.index))
+  pub told : parts.numbers.items ≡ numbers_of (entries_of parts.index)

@@ -1,52 +1,81 @@
-// Putting the blocks of a row into the order of their numbers.
+//! Putting the blocks of a row into the order of their numbers.
 ghost use Rattle.std.specs.Prelude.{◌≡◌, ◌≢◌, ◌+◌, ◌<◌, ◌≤◌, ℕ, [], length};
-ghost use Rattle.std.specs.Prelude.{slice_index, slice_index_or, slice_set};
+ghost use Rattle.std.specs.Prelude.{slice_index, slice_index_or, slice_set, slice_range};
+ghost use Rattle.cache.specs.Index.{numbers_of, places_of};
 ghost use Rattle.cache.specs.Order.{gathered, ArePlaces, AreInOrder, astray};
 
 use crate::counter::Steps;
-use crate::entry::BLOCK;
+use crate::entry::{BLOCK, Entry, row_place, set_row_place};
 
-// Puts the blocks at the places into the order of the places. It follows the cycles of the places:
-// one block of each cycle waits aside, and then each moves once. Blocks past the places stay.
-pub(crate) fn arrange_row(row: &mut [[u8; BLOCK]], places: &mut [u16], moves: &mut Steps)
-    requires places { ArePlaces places.old }
-    requires room { length places.old ≤ length row.old }
-    ensures gathered { gathered places.new row.new ≡ gathered places.old row.old }
-    ensures in_order { AreInOrder places.new }
-    ensures few { moves.new.count ≤ moves.old.count + length places.old }
+// Puts the blocks of the entries into the order of the entries. It follows the cycles of their
+// places: one block of each cycle waits aside, and then each moves once. Blocks past them stay.
+fn arrange_row(row: &mut [[u8; BLOCK]], entries: &mut [Entry], moves: &mut Steps)
+    requires places { ArePlaces (places_of entries.old) }
+    requires room { length (places_of entries.old) ≤ length row.old }
+    ensures gathered { gathered (places_of entries.new) row.new
+        ≡ gathered (places_of entries.old) row.old }
+    ensures in_order { AreInOrder (places_of entries.new) }
+    ensures numbers { numbers_of entries.new ≡ numbers_of entries.old }
+    ensures few { moves.new.count ≤ moves.old.count + length (places_of entries.old) }
 {
-    for i in 0..places.len() {
-        if places[i] as usize != i {
-            turn_cycle(row, places, i, moves);
+    for i in 0..entries.len() {
+        if row_place(entries, i) as usize != i {
+            turn_cycle(row, entries, i, moves);
         }
     }
 }
 
+/// The same for the entries of an index, which stand from the start up to the end of its cells.
+pub(crate) fn arrange_cells(
+    row: &mut [[u8; BLOCK]],
+    cells: &mut [Entry],
+    start: usize,
+    end: usize,
+    moves: &mut Steps,
+)
+    requires ordered { start ≤ end }
+    requires inside { end ≤ length cells.old }
+    requires places { ArePlaces (places_of (slice_range cells.old start end)) }
+    requires room { length (places_of (slice_range cells.old start end)) ≤ length row.old }
+    ensures gathered { gathered (places_of (slice_range cells.new start end)) row.new
+        ≡ gathered (places_of (slice_range cells.old start end)) row.old }
+    ensures in_order { AreInOrder (places_of (slice_range cells.new start end)) }
+    ensures numbers { numbers_of (slice_range cells.new start end)
+        ≡ numbers_of (slice_range cells.old start end) }
+    ensures few { moves.new.count
+        ≤ moves.old.count + length (places_of (slice_range cells.old start end)) }
+{
+    arrange_row(row, &mut cells[start..end], moves);
+}
+
 // Moves each block of a cycle to its own place: that of the i-th number, and those that stand where
 // the others belong.
-fn turn_cycle(row: &mut [[u8; BLOCK]], places: &mut [u16], i: usize, moves: &mut Steps)
-    requires places { ArePlaces places.old }
-    requires room { length places.old ≤ length row.old }
-    requires inside { i < length places.old }
-    requires astray { slice_index places.old i ≢ i }
-    ensures gathered { gathered places.new row.new ≡ gathered places.old row.old }
-    ensures places { ArePlaces places.new }
-    ensures own { slice_index places.new i ≡ i }
-    ensures settled_stay { (k : ℕ) → k < length places.old → slice_index places.old k ≡ k
-        → slice_index places.new k ≡ k }
-    ensures few { moves.new.count + astray 0 places.new ≤ moves.old.count + astray 0 places.old }
+fn turn_cycle(row: &mut [[u8; BLOCK]], entries: &mut [Entry], i: usize, moves: &mut Steps)
+    requires places { ArePlaces (places_of entries.old) }
+    requires room { length (places_of entries.old) ≤ length row.old }
+    requires inside { i < length (places_of entries.old) }
+    requires astray { slice_index (places_of entries.old) i ≢ i }
+    ensures gathered { gathered (places_of entries.new) row.new
+        ≡ gathered (places_of entries.old) row.old }
+    ensures places { ArePlaces (places_of entries.new) }
+    ensures own { slice_index (places_of entries.new) i ≡ i }
+    ensures settled_stay { (k : ℕ) → k < length (places_of entries.old)
+        → slice_index (places_of entries.old) k ≡ k → slice_index (places_of entries.new) k ≡ k }
+    ensures numbers { numbers_of entries.new ≡ numbers_of entries.old }
+    ensures few { moves.new.count + astray 0 (places_of entries.new)
+        ≤ moves.old.count + astray 0 (places_of entries.old) }
 {
-    let mut hole = places[i];
+    let mut hole = row_place(entries, i);
     let aside = row[hole as usize];
     while hole as usize != i {
-        let next = places[hole as usize];
+        let next = row_place(entries, hole as usize);
         move_block(row, next as usize, hole as usize);
-        places[hole as usize] = hole;
+        set_row_place(entries, hole as usize, hole);
         moves.add_one();
         hole = next;
     }
     row[i] = aside;
-    places[i] = hole;
+    set_row_place(entries, i, hole);
     moves.add_one();
 }
 

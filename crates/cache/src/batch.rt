@@ -1,4 +1,4 @@
-// A bounded map from block numbers to blocks.
+//! A bounded map from block numbers to blocks.
 ghost use Rattle.std.specs.Prelude.{◌≡◌, ◌⊎◌, ◌↔◌, ◌+◌, ◌*◌, ◌/◌, ◌%◌, ◌^◌, ◌<◌, ◌≤◌, ℕ, [], length, slice_index};
 ghost use Rattle.std.specs.Prelude.{Some, None, IsTrue, IfOk, IfErr, IfSome, IsNone};
 ghost use Rattle.cache.specs.Blocks.{IsRising, with_range, InRange, Listed, absent, unlisted};
@@ -52,22 +52,14 @@ impl Batch {
     pub fn len(&self) -> usize
         ensures { result ≡ length self.now.numbers }
     {
-        self.parts.numbers.len()
+        self.parts.index.entries().len()
     }
 
     /// Whether there is no block.
     pub fn is_empty(&self) -> bool
         ensures { IsTrue result ↔ (self.now.numbers ≡ []) }
     {
-        self.parts.numbers.is_empty()
-    }
-
-    /// The numbers of the blocks, which rise.
-    pub fn numbers(&self) -> &[u64]
-        ensures value { result.now ≡ self.now.numbers }
-        ensures well_formed { IsWellFormed self.now }
-    {
-        &self.parts.numbers
+        self.parts.index.entries().is_empty()
     }
 
     /// The number of the entry at a place, which is one step to read.
@@ -77,7 +69,7 @@ impl Batch {
         ensures rising { IsRising self.now.numbers }
         ensures step { steps.new.count ≡ steps.old.count + 1 }
     {
-        read_number(&self.parts.numbers, place, steps)
+        read_number(self.parts.index.entries(), place, steps)
     }
 
     /// The place of a block's entry. It takes at most as many steps as the number of entries has
@@ -91,7 +83,7 @@ impl Batch {
         ensures missing { IfErr result (WouldStandAt self.now.numbers block) }
         ensures few { GrowsWithinDigits (length self.now.numbers) steps.old.count steps.new.count }
     {
-        search_among(&self.parts.numbers, block, steps)
+        search_among(self.parts.index.entries(), block, steps)
     }
 
     /// The 512 bytes of a block, where it is there.
@@ -105,21 +97,23 @@ impl Batch {
 
     /// Whether there is room for so many blocks from the address on, of which those that are there
     /// already take no more. The range ends at 2^31 or before.
+    #[inline]
     pub fn fits(&self, address: u64, count: usize) -> bool
         requires { address + count ≤ 2 ^ 31 }
         ensures { IsTrue result ↔ Fits self.now address count }
     {
-        let numbers = &self.parts.numbers;
-        let free = self.parts.room - numbers.len();
+        let entries = self.parts.index.entries();
+        let free = self.parts.room - entries.len();
         if count <= free {
             return true;
         }
-        let present = place_of(numbers, address + count as u64) - place_of(numbers, address);
+        let present = place_of(entries, address + count as u64) - place_of(entries, address);
         count - present <= free
     }
 
     /// Puts blocks at the numbers from the address on, each in place of the one that was there.
     /// The bytes are whole blocks of 512 bytes, at least one, which fit.
+    #[inline]
     pub fn put(&mut self, address: u64, bytes: &[u8])
         requires some { 512 ≤ length bytes.now }
         requires whole { length bytes.now % 512 ≡ 0 }
@@ -134,7 +128,7 @@ impl Batch {
         ensures room_stays { self.new.room ≡ self.old.room }
         ensures well_formed { IsWellFormed self.new }
     {
-        let mut place = place_of(&self.parts.numbers, address);
+        let mut place = place_of(self.parts.index.entries(), address);
         for i in 0..bytes.len() / BLOCK {
             let at = i * BLOCK;
             place = self.put_block(place, address + i as u64, &bytes[at..at + BLOCK]);
@@ -160,13 +154,14 @@ impl Batch {
 
     // Puts one block where the place of its number is known, and gives the place of the next number.
     fn put_block(&mut self, place: usize, number: u64, block: &[u8]) -> usize
+        requires small { number < 2 ^ 31 }
         requires place { HasPlace self.old.numbers number place }
         requires size { length block.now ≡ 512 }
         requires room { length self.old.numbers + absent self.old.numbers number ≤ self.old.room }
         ensures put { PutsBlock number block.now self.old self.new }
         ensures next { HasPlace self.new.numbers (number + 1) result }
     {
-        self.parts.put(place, number, block);
+        self.parts.put(place, number as u32, block);
         place + 1
     }
 }

@@ -1,4 +1,4 @@
-// Why no batch was made.
+//! Why no batch was made.
 use thiserror::Error;
 
 /// Why no batch was made.

@@ -1,9 +1,8 @@
-// A batch whose blocks lie in the order of their numbers.
+//! A batch whose blocks lie in the order of their numbers.
 ghost use Rattle.std.specs.Prelude.{◌≡◌, ◌↔◌, [], length, Some, None};
 ghost use Rattle.std.specs.Prelude.{IsTrue, IfOk, IfSome, IsNone};
 ghost use Rattle.cache.specs.Entries.{IsWellFormed, map_of};
-ghost use Rattle.cache.specs.Order.{AreInOrder};
-ghost use Rattle.cache.specs.View.{view_of, IsKept};
+ghost use Rattle.cache.specs.View.{view_of, IsKept, IsArranged};
 
 use crate::BatchError;
 use crate::parts::Parts;
@@ -83,10 +82,9 @@ impl Frozen {
         self.parts.clear();
     }
 
-    // Takes parts whose blocks are in order, and leaves its own in their stead.
+    /// Takes parts whose blocks are in order, and leaves its own in their stead.
     pub(crate) fn trade(&mut self, parts: &mut Parts)
-        requires kept { IsKept parts.old }
-        requires in_order { AreInOrder parts.old.places.items }
+        requires { IsArranged parts.old }
         ensures took { self.new ≡ view_of parts.old }
         ensures gave { view_of parts.new ≡ self.old }
         ensures kept { IsKept parts.new }

@@ -9,6 +9,7 @@ mod batch_error;
 mod counter;
 mod entry;
 mod frozen;
+mod index;
 mod parts;
 mod place;
 

@@ -1,109 +1,121 @@
-// What a batch is made of, in whichever order its blocks lie.
-ghost use Rattle.std.specs.Prelude.{◌≡◌, ◌↔◌, ◌+◌, ◌≤◌, [], length, Some, None};
+//! What a batch is made of, in whichever order its blocks lie.
+ghost use Rattle.std.specs.Prelude.{◌≡◌, ◌↔◌, ◌+◌, ◌≤◌, [], length, Some, None, vec_capacity};
 ghost use Rattle.std.specs.Prelude.{IfOk, IfSome, IsNone};
 ghost use Rattle.cache.specs.Blocks.{absent};
 ghost use Rattle.cache.specs.Entries.{PutsBlock, map_of};
-ghost use Rattle.cache.specs.Order.{AreInOrder};
+ghost use Rattle.cache.specs.Index.{numbers_of, entries_of};
 ghost use Rattle.cache.specs.Places.{HasPlace};
-ghost use Rattle.cache.specs.View.{view_of, IsKept};
+ghost use Rattle.cache.specs.View.{view_of, IsKept, IsArranged};
 
 use crate::BatchError;
-use crate::arrange::arrange_row;
+use crate::arrange::arrange_cells;
 use crate::counter::Steps;
-use crate::entry::{BLOCK, put_entry};
+use crate::entry::{BLOCK, Entry, number_of, put_entry, row_place};
+use crate::index::Index;
 use crate::place::find;
 use std::alloc::Global;
 
-// A place in the row has 16 bits.
+// A place in the row has no more than 16 bits.
 const MOST_ROOM: usize = 65_536;
 
 // The numbers of a batch, and their blocks.
 #[derive(Drop)]
 pub(crate) struct Parts {
-    // They rise.
-    pub(crate) numbers: Vec<u64>,
-    // For each number the place of its block in the row: each place below their count once.
-    pub(crate) places: Vec<u16>,
-    // As long as the room: the first blocks are those of the numbers, in the order in which they
+    // Its numbers rise, and each place below their count is that of one of them.
+    pub(crate) index: Index,
+    // As long as the room: the first blocks are those of the entries, in the order in which they
     // came or were last arranged, and the others are free.
     pub(crate) row: Vec<[u8; BLOCK]>,
     pub(crate) room: usize,
+    // Those of the entries where the batch is frozen, and else without a meaning.
+    pub(crate) numbers: Vec<u64>,
 }
 
 impl Parts {
-    // No blocks, with room for so many.
+    /// No blocks, with room for so many.
     pub(crate) fn new(alloc: Global, room: usize) -> Result<Parts, BatchError>
-        ensures kept { IfOk result IsKept }
-        ensures in_order { IfOk result (λ parts. AreInOrder parts.places.items) }
+        ensures arranged { IfOk result IsArranged }
         ensures value { IfOk result
             (λ parts. view_of parts ≡ record { room = room; numbers = []; bytes = [] }) }
     {
         if room > MOST_ROOM {
             return Err(BatchError::NoMemory);
         }
+        let index = Index::new(alloc, room).map_err(|_| BatchError::NoMemory)?;
         let numbers = Vec::with_capacity(alloc, room).map_err(|_| BatchError::NoMemory)?;
-        let places = Vec::with_capacity(alloc, room).map_err(|_| BatchError::NoMemory)?;
         let row = vec![in alloc; [0; BLOCK]; room].map_err(|_| BatchError::NoMemory)?;
         Ok(Parts {
-            numbers,
-            places,
+            index,
             row,
             room,
+            numbers,
         })
     }
 
-    // The 512 bytes of a block, where it is there.
+    /// The 512 bytes of a block, where it is there.
     pub(crate) fn get(&self, block: u64) -> Option<&[u8]>
         requires { IsKept self.now }
         ensures some { IfSome result (λ bytes. map_of (view_of self.now) block ≡ Some bytes.now) }
         ensures size { IfSome result (λ bytes. length bytes.now ≡ 512) }
         ensures none { IsNone result ↔ (map_of (view_of self.now) block ≡ None) }
     {
-        match find(&self.numbers, block) {
-            Ok(place) => Some(&self.row[self.places[place] as usize]),
+        let entries = self.index.entries();
+        match find(entries, block) {
+            Ok(place) => Some(&self.row[row_place(entries, place) as usize]),
             Err(_) => None,
         }
     }
 
-    // Puts one block where the place of its number is known.
-    pub(crate) fn put(&mut self, place: usize, number: u64, block: &[u8])
+    /// Puts one block where the place of its number is known.
+    pub(crate) fn put(&mut self, place: usize, number: u32, block: &[u8])
         requires kept { IsKept self.old }
-        requires place { HasPlace self.old.numbers.items number place }
+        requires place { HasPlace (numbers_of (entries_of self.old.index)) number place }
         requires size { length block.now ≡ 512 }
-        requires room { length self.old.numbers.items + absent self.old.numbers.items number
-            ≤ self.old.room }
+        requires room { length (numbers_of (entries_of self.old.index))
+            + absent (numbers_of (entries_of self.old.index)) number ≤ self.old.room }
         ensures kept { IsKept self.new }
         ensures put { PutsBlock number block.now (view_of self.old) (view_of self.new) }
-        ensures next { HasPlace self.new.numbers.items (number + 1) (place + 1) }
+        ensures next { HasPlace (numbers_of (entries_of self.new.index)) (number + 1) (place + 1) }
     {
-        put_entry(
-            &mut self.numbers,
-            &mut self.places,
-            &mut self.row,
-            place,
-            number,
-            block,
-        );
+        put_entry(&mut self.index, &mut self.row, place, number, block);
     }
 
-    // Puts the blocks into the order of their numbers.
+    /// Puts the blocks into the order of their numbers, and tells these.
     pub(crate) fn arrange(&mut self)
         requires { IsKept self.old }
-        ensures kept { IsKept self.new }
-        ensures in_order { AreInOrder self.new.places.items }
+        ensures arranged { IsArranged self.new }
         ensures value { view_of self.new ≡ view_of self.old }
     {
-        arrange_row(&mut self.row, &mut self.places, &mut Steps::new());
+        let (start, end) = (self.index.start, self.index.end);
+        arrange_cells(
+            &mut self.row,
+            &mut self.index.cells,
+            start,
+            end,
+            &mut Steps::new(),
+        );
+        tell_numbers(&mut self.numbers, self.index.entries());
     }
 
-    // Forgets all blocks. The room stays.
+    /// Forgets all blocks. The room stays.
     pub(crate) fn clear(&mut self)
         requires { IsKept self.old }
-        ensures kept { IsKept self.new }
-        ensures in_order { AreInOrder self.new.places.items }
+        ensures arranged { IsArranged self.new }
         ensures value { view_of self.new ≡ record (view_of self.old) { numbers = []; bytes = [] } }
     {
+        self.index.clear(self.room);
         self.numbers.clear();
-        self.places.clear();
+    }
+}
+
+// Makes the numbers those of the entries, within the capacity.
+fn tell_numbers(numbers: &mut Vec<u64>, entries: &[Entry])
+    requires { length (numbers_of entries.now) ≤ vec_capacity numbers.old }
+    ensures items { numbers.new.items ≡ numbers_of entries.now }
+    ensures capacity { vec_capacity numbers.new ≡ vec_capacity numbers.old }
+{
+    numbers.clear();
+    for i in 0..entries.len() {
+        numbers.push_reserved(number_of(entries, i));
     }
 }

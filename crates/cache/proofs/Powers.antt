@@ -1,0 +1,143 @@
+-- A search among as many places as a power of two, which halves them at each step.
+use Rattle.std.proofs.Common.{◌≡◌, ◌⊎◌, inl, inr, ℕ, zero, suc, ◌+◌, ◌-◌, ◌*◌, ◌/◌, ◌^◌, ◌<◌, ◌≤◌, List, length, get_or, refl, ap, ◌∙◌}
+use Rattle.std.proofs.Common.{arith}
+use Rattle.std.proofs.lemmas.Bool.{cases_lt}
+use Rattle.std.proofs.lemmas.Nat.{pow_pos}
+use Rattle.std.proofs.Math.Nat.{pow-suc, pow-le-pow_right}
+use Rattle.cache.specs.Blocks.{IsRising}
+use Rattle.cache.specs.Digits.{GrowsWithinDigits}
+use Rattle.cache.specs.Places.{HasPlace}
+use Rattle.cache.proofs.Halving.{smaller, not_smaller, smaller_power, digits_of}
+
+-- The place is one of a power of two from `low` on, of which this is the half, after so many steps.
+pub record IsHalving (numbers : List ℕ) (block low half taken : ℕ) : Type 0 where
+  pub power : ℕ
+  pub half_is : half ≡ 2 ^ power / 2
+  pub inside : low + 2 ^ power ≤ length numbers + 1
+  pub before : (k : ℕ) → k < low → get_or numbers k 0 < block
+  pub here : low + 2 ^ power - 1 < length numbers → block ≤ get_or numbers (low + 2 ^ power - 1) 0
+  pub few : (digits : ℕ) → length numbers < 2 ^ digits → taken + power ≤ digits
+
+-- a power that a word of 64 bits can hold
+no_more : (power digits : ℕ) → power ≤ digits → 2 ^ power ≤ 2 ^ digits
+no_more power digits le = pow-le-pow_right (omega arith) le
+
+pub power_in_word : (power : ℕ) → power < 64 → 2 ^ power ≤ 2 ^ 63
+power_in_word power lt = no_more power 63 (omega (arith, lt))
+
+-- where something is left to halve, the half is a power of two as well
+half_of : (power half : ℕ) → half ≡ 2 ^ power / 2 → 0 < half → (fewer : ℕ) × (power ≡ suc fewer) × (half ≡ 2 ^ fewer)
+half_of zero half is some = absurd (omega (arith, is, some))
+half_of (suc fewer) half is some =
+    let double : 2 ^ suc fewer ≡ 2 ^ fewer * 2 = pow-suc 2 fewer in
+    (fewer, refl, omega (arith, double, is))
+
+-- where nothing is, one place is left
+one_left : (power : ℕ) → 0 ≡ 2 ^ power / 2 → 2 ^ power ≡ 1
+one_left zero is = refl
+one_left (suc fewer) is =
+    let double : 2 ^ suc fewer ≡ 2 ^ fewer * 2 = pow-suc 2 fewer in
+    let some : 0 < 2 ^ fewer = pow_pos fewer in
+    absurd (omega (arith, double, is, some))
+
+module _ (numbers : List ℕ) (block low half taken more : ℕ) (halving : IsHalving numbers block low half taken) (some : 0 < half)
+    (next : more ≡ suc taken) where
+  found : (fewer : ℕ) × (halving.power ≡ suc fewer) × (half ≡ 2 ^ fewer)
+  found = half_of halving.power half halving.half_is some
+
+  double : 2 ^ halving.power ≡ half * 2
+  double =
+      let f = found in
+      let is : half ≡ 2 ^ f.0 = f.2 in
+      let twice : 2 ^ halving.power ≡ 2 ^ f.0 * 2 = ap (λ (n : ℕ). 2 ^ n) f.1 ∙ pow-suc 2 f.0 in
+      omega (arith, is, twice)
+
+  -- the number in the middle is within
+  pub middle_inside : low + half - 1 < length numbers
+  middle_inside = let d : 2 ^ halving.power ≡ half * 2 = double in omega (arith, d, halving.inside, some)
+
+  -- the place is in the lower half
+  pub lower : block ≤ get_or numbers (low + half - 1) 0 → IsHalving numbers block low (half / 2) more
+  lower least =
+      let f = found in
+      let is : half ≡ 2 ^ f.0 = f.2 in
+      let d : 2 ^ halving.power ≡ half * 2 = double in
+      let at : get_or numbers (low + 2 ^ f.0 - 1) 0 ≡ get_or numbers (low + half - 1) 0 =
+      ap (λ (i : ℕ). get_or numbers i 0) (omega (arith, is)) in
+      record {
+        power = f.0;
+        half_is = ap (λ (n : ℕ). n / 2) is;
+        inside = omega (arith, d, is, halving.inside);
+        before = halving.before;
+        here = λ lt. omega (arith, at, least);
+        few = λ digits lt. let h : taken + halving.power ≤ digits = halving.few digits lt in omega (arith, h, f.1, next);
+      }
+
+  -- the place is in the upper half
+  pub upper : IsRising numbers → get_or numbers (low + half - 1) 0 < block → IsHalving numbers block (low + half) (half / 2) more
+  upper rising less =
+      let f = found in
+      let is : half ≡ 2 ^ f.0 = f.2 in
+      let d : 2 ^ halving.power ≡ half * 2 = double in
+      let last : low + half + 2 ^ f.0 - 1 ≡ low + 2 ^ halving.power - 1 = omega (arith, d, is) in
+      let at : get_or numbers (low + half + 2 ^ f.0 - 1) 0 ≡ get_or numbers (low + 2 ^ halving.power - 1) 0 =
+      ap (λ (i : ℕ). get_or numbers i 0) last in
+      record {
+        power = f.0;
+        half_is = ap (λ (n : ℕ). n / 2) is;
+        inside = omega (arith, d, is, halving.inside);
+        before = λ k lt. smaller numbers (low + half - 1) block rising (middle_inside) less k (omega (arith, lt, some));
+        here = λ lt.
+            let h : block ≤ get_or numbers (low + 2 ^ halving.power - 1) 0 = halving.here (omega (arith, lt, last)) in omega (arith, h, at);
+        few = λ digits lt. let h : taken + halving.power ≤ digits = halving.few digits lt in omega (arith, h, f.1, next);
+      }
+
+-- the first step, which leaves a power of two
+pub begins : (numbers : List ℕ) (block low spare power half taken : ℕ) → IsRising numbers → half ≡ 2 ^ power / 2
+    → 2 ^ power ≤ length numbers + 1 → length numbers + 1 < 2 * 2 ^ power → spare ≡ length numbers + 1 - 2 ^ power
+    → (low ≡ spare) ⊎ ((low ≡ 0) × (block ≤ get_or numbers (spare - 1) 0)) → ((k : ℕ) → k < low → get_or numbers k 0 < block) → taken ≤ 1
+    → (spare ≡ 0 → taken ≡ 0) → IsHalving numbers block low half taken
+begins numbers block low spare power half taken rising half_is most least spare_is cases before one none = record {
+  power = power;
+  half_is = half_is;
+  inside = elim cases [ inl e ↦ omega (arith, e, spare_is, most) | inr e ↦ omega (arith, e.0, most) ];
+  before = before;
+  here = λ lt. elim cases [
+    | inl e ↦ absurd (omega (arith, e, spare_is, most, lt))
+    | inr e ↦ elim (cases_lt 0 spare) [
+      | inl some ↦
+          let from : spare - 1 ≤ low + 2 ^ power - 1 = omega (arith, e.0, spare_is, least) in
+          not_smaller numbers (spare - 1) (low + 2 ^ power - 1) block rising e.1 from lt
+      | inr le ↦ absurd (omega (arith, e.0, spare_is, most, lt, le))
+    ]
+  ];
+  few = λ digits lt. elim (cases_lt 0 spare) [
+    | inl some ↦ let less : power < digits = smaller_power power digits (omega (arith, lt, some, spare_is)) in omega (arith, less, one)
+    | inr le ↦
+        let zero_steps : taken ≡ 0 = none (omega (arith, le)) in
+        let double : 2 ^ suc digits ≡ 2 ^ digits * 2 = pow-suc 2 digits in
+        let less : power < suc digits = smaller_power power (suc digits) (omega (arith, lt, le, spare_is, most, double)) in
+        omega (arith, less, zero_steps)
+  ];
+}
+
+-- one place is left, which is that of the number
+pub ends : (numbers : List ℕ) (block low taken : ℕ) → IsHalving numbers block low 0 taken → HasPlace numbers block low
+ends numbers block low taken halving =
+    let one : 2 ^ halving.power ≡ 1 = one_left halving.power halving.half_is in
+    let last : low + 2 ^ halving.power - 1 ≡ low = omega (arith, one) in
+    let at : get_or numbers (low + 2 ^ halving.power - 1) 0 ≡ get_or numbers low 0 = ap (λ (i : ℕ). get_or numbers i 0) last in
+    record {
+      inside = omega (arith, halving.inside, one);
+      before = halving.before;
+      here = λ lt.
+          let h : block ≤ get_or numbers (low + 2 ^ halving.power - 1) 0 = halving.here (omega (arith, lt, last)) in omega (arith, h, at);
+    }
+
+-- as many steps as binary digits, at most
+pub within_power : (numbers : List ℕ) (block low half old new : ℕ) → old ≤ new → IsHalving numbers block low half (new - old)
+    → GrowsWithinDigits (length numbers) old new
+within_power numbers block low half old new grows halving =
+    let digits = digits_of (length numbers) in
+    let few : new - old + halving.power ≤ digits.0 = halving.few digits.0 digits.1.below in
+    record { digits = digits.0; has = digits.1; grows = grows; within = omega (arith, grows, few) }

@@ -1,0 +1,63 @@
+-- The entries of an index among its cells.
+use Rattle.std.proofs.Common.{◌≡◌, inl, inr, ℕ, ◌+◌, ◌-◌, ◌<◌, ◌≤◌, List, get_or, length, drop, ap, sym, ◌∙◌, arith}
+use Rattle.std.specs.Prelude.{slice_range}
+use Rattle.std.specs.List.{insert}
+use Rattle.std.proofs.lemmas.Bool.{cases_lt}
+use Rattle.std.proofs.lemmas.List.{ext_get_or, get_or-take, get_or-drop, length-take-le, length-drop}
+use Rattle.std.proofs.lemmas.List.Edits.{length-insert, get_or-insert_below, get_or-insert_at, get_or-insert_above}
+use Rattle.cache.specs.Index.{no_entry, entries_of, IsCentred}
+use Rattle.cache.specs.declared.entry.Entry.{Entry}
+use Rattle.cache.specs.declared.index.Index.{Index}
+
+pub length-window : (cells : List Entry) (start end : ℕ) → start ≤ end → end ≤ length cells
+    → length (slice_range cells start end) ≡ end - start
+length-window cells start end ordered inside =
+    let rest : length (drop start cells) ≡ length cells - start = length-drop start cells in
+    length-take-le (end - start) (drop start cells) (omega (arith, rest, ordered, inside))
+
+pub window_at : (cells : List Entry) (start end k : ℕ) → k < end - start
+    → get_or (slice_range cells start end) k no_entry ≡ get_or cells (start + k) no_entry
+window_at cells start end k lt = get_or-take (end - start) (drop start cells) k no_entry lt ∙ get_or-drop start cells k no_entry
+
+-- Where the cells before a place and those behind it are those of before, one cell apart, and the entry stands between them, it was
+-- inserted there.
+pub window_insert : (old new : List Entry) (start end first last at : ℕ) (x : Entry) → start ≤ end → end ≤ length old → at ≤ end - start
+    → last ≡ first + (end - start) + 1 → last ≤ length new
+    → ((k : ℕ) → k < at → get_or new (first + k) no_entry ≡ get_or old (start + k) no_entry)
+    → get_or new (first + at) no_entry ≡ x
+    → ((k : ℕ) → at ≤ k → k < end - start → get_or new (first + (k + 1)) no_entry ≡ get_or old (start + k) no_entry)
+    → slice_range new first last ≡ insert (slice_range old start end) at x
+window_insert old new start end first last at x ordered inside place last_is room before here behind =
+    let was : List Entry = slice_range old start end in
+    let is : List Entry = slice_range new first last in
+    let long : length was ≡ end - start = length-window old start end ordered inside in
+    let long' : length is ≡ last - first = length-window new first last (omega (arith, last_is)) room in
+    let within : at ≤ length was = omega (arith, long, place) in
+    let longer : length (insert was at x) ≡ length was + 1 = length-insert was at x within in
+    ext_get_or no_entry is (insert was at x) (omega (arith, long, long', longer, last_is))
+    (λ k lt. window_at new first last k (omega (arith, lt, long')) ∙ elim (cases_lt k at) [
+      | inl below ↦
+          before k below
+          ∙ sym (window_at old start end k (omega (arith, below, place)))
+          ∙ sym (get_or-insert_below was at x no_entry k below within)
+      | inr past ↦ elim (cases_lt at k) [
+        | inl above ↦
+            let e : k ≡ (k - 1) + 1 = omega (arith, above) in
+            let lt' : k - 1 < end - start = omega (arith, lt, long', last_is, above) in
+            ap (λ (j : ℕ). get_or new (first + j) no_entry) e
+            ∙ behind (k - 1) (omega (arith, above)) lt'
+            ∙ sym (window_at old start end (k - 1) lt')
+            ∙ sym (get_or-insert_above was at x no_entry (k - 1) (omega (arith, above)) within)
+            ∙ ap (λ (j : ℕ). get_or (insert was at x) j no_entry) (sym e)
+        | inr le ↦
+            let e : k ≡ at = omega (arith, past, le) in
+            ap (λ (j : ℕ). get_or new (first + j) no_entry) e ∙ here ∙ sym (get_or-insert_at was at x no_entry within)
+            ∙ ap (λ (j : ℕ). get_or (insert was at x) j no_entry) (sym e)
+      ]
+    ])
+
+-- as many as lie between the ends
+pub length-entries : (index : Index) (room : ℕ) → IsCentred index room → length (entries_of index) ≡ index.end - index.start
+length-entries index room centred =
+    length-window index.cells.items index.start index.end (omega (arith, centred.low, centred.high))
+    (omega (arith, centred.low, centred.within, centred.wide))

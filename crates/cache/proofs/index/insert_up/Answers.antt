@@ -1,0 +1,30 @@
+use Rattle.std.proofs.Common.{◌≡◌, ℕ, ◌+◌, ◌-◌, List, get_or, set, length, ap, ◌∙◌, arith}
+use Rattle.std.proofs.lemmas.List.{get_or-set_other, get_or-set_same}
+use Rattle.std.proofs.Math.ListN.{length-set}
+use Rattle.cache.specs.Index.{no_entry}
+use Rattle.cache.specs.declared.entry.Entry.{Entry}
+use Rattle.cache.proofs.Windows.{window_insert}
+use Rattle.cache.proofs.index.insert_up.Goals as goal
+
+pub returns : goal.returns
+returns c =
+    let old : List Entry = c.args.cells.now in
+    let mid : List Entry = c.slide_up.new.cells in
+    let start : ℕ = c.args.start in
+    let to : ℕ = start + c.args.at in
+    let x : Entry = c.args.entry in
+    let same : length mid ≡ length old = c.slide_up.auto.cells in
+    let long : length (set mid to x) ≡ length mid = length-set mid to x in
+    window_insert old (set mid to x) start c.args.end start (c.args.end + 1) c.args.at x c.requires.ordered
+    (omega (arith, c.requires.inside)) c.requires.place (omega (arith, c.requires.ordered))
+    (omega (arith, same, long, c.requires.inside))
+    (λ k lt. get_or-set_other mid to (start + k) x no_entry (λ e. omega (arith, e, lt))
+    ∙ c.slide_up.ensures.before (start + k) (omega (arith, lt)))
+    (get_or-set_same mid to x no_entry (omega (arith, same, c.requires.ordered, c.requires.place, c.requires.inside)))
+    (λ k ge lt.
+    let e : start + (k + 1) ≡ start + c.args.at + 1 + (k - c.args.at) = omega (arith, ge) in
+    let f : start + c.args.at + (k - c.args.at) ≡ start + k = omega (arith, ge) in
+    get_or-set_other mid to (start + (k + 1)) x no_entry (λ e. omega (arith, e, ge))
+    ∙ ap (λ (j : ℕ). get_or mid j no_entry) e
+    ∙ c.slide_up.ensures.moved (k - c.args.at) (omega (arith, ge, lt))
+    ∙ ap (λ (j : ℕ). get_or old j no_entry) f)
