@@ -19,10 +19,12 @@ itself n = grind (arith, nat_tests)
 listed_at : (numbers : List ℕ) (k d : ℕ) → k < length numbers → Listed numbers (get_or numbers k d)
 listed_at [] k d below = absurd (omega (arith, below))
 listed_at (n ∷ numbers) zero d below = ap (λ (t : Bool). if t then true else is_listed numbers n) (itself n)
-listed_at (n ∷ numbers) (suc k) d below = or_else (n == get_or numbers k d) (is_listed numbers (get_or numbers k d)) (listed_at numbers k d (omega (arith, below)))
+listed_at (n ∷ numbers) (suc k) d below =
+    or_else (n == get_or numbers k d) (is_listed numbers (get_or numbers k d)) (listed_at numbers k d (omega (arith, below)))
 
 -- a batch that holds blocks can be logged
-pub is_batch : (shape : Shape) (batch : Entries) → IsBatchOf shape batch → 0 < length batch.numbers → IsBatch shape batch.numbers batch.bytes
+pub is_batch : (shape : Shape) (batch : Entries) → IsBatchOf shape batch → 0 < length batch.numbers
+    → IsBatch shape batch.numbers batch.bytes
 is_batch shape batch kept some = record {
   some = some;
   few = omega (arith, kept.well_formed.within, kept.room);

@@ -1,5 +1,6 @@
 -- How many calls of the medium a read makes.
-use Rattle.std.proofs.Common.{◌≡◌, ◌≢◌, ◌≤◌, ◌<◌, inl, inr, ℕ, zero, suc, ◌+◌, ◌*◌, ◌∙◌, ap, refl, sym, arith, add-one, Bool, true, false, List, [], ◌∷◌, length, get_or, Option, Some, None}
+use Rattle.std.proofs.Common.{◌≡◌, ◌≢◌, ◌≤◌, ◌<◌, inl, inr, ℕ, zero, suc, ◌+◌, ◌*◌, ◌∙◌, ap, refl, sym, arith, add-one, Bool, true, false}
+use Rattle.std.proofs.Common.{List, [], ◌∷◌, length, get_or, Option, Some, None}
 use Rattle.std.specs.Prelude.{if◌then◌else◌, ◌==◌, is_some, Contains}
 use Rattle.std.proofs.lemmas.Bool.{false≢true, cases_eq}
 use Rattle.std.proofs.lemmas.Bool.Decides.{nat_tests}
@@ -46,14 +47,16 @@ pub reads_frozen : (s : Cached) (b : ℕ) (bytes : List ℕ) → map_of s.frozen
 reads_frozen s b bytes is =
     let rest : ℕ = if is_listed s.frozen.numbers b then 0 else durable_reads s.log b in
     choose_zero (is_listed s.active.numbers b) rest
-    (ap (λ (t : Bool). if t then 0 else durable_reads s.log b) (listed_is s.frozen.numbers s.frozen.bytes b ∙ ap (λ (o : Option (List ℕ)). is_some o) is))
+    (ap (λ (t : Bool). if t then 0 else durable_reads s.log b)
+    (listed_is s.frozen.numbers s.frozen.bytes b ∙ ap (λ (o : Option (List ℕ)). is_some o) is))
 
 -- each other block takes the calls of its copy
 pub reads_copy : (s : Cached) (b : ℕ) → map_of s.active b ≡ None → map_of s.frozen b ≡ None → block_reads s b ≡ durable_reads s.log b
 reads_copy s b active frozen =
     let rest : ℕ = if is_listed s.frozen.numbers b then 0 else durable_reads s.log b in
     ap (λ (t : Bool). if t then 0 else rest) (listed_is s.active.numbers s.active.bytes b ∙ ap (λ (o : Option (List ℕ)). is_some o) active)
-    ∙ ap (λ (t : Bool). if t then 0 else durable_reads s.log b) (listed_is s.frozen.numbers s.frozen.bytes b ∙ ap (λ (o : Option (List ℕ)). is_some o) frozen)
+    ∙ ap (λ (t : Bool). if t then 0 else durable_reads s.log b)
+    (listed_is s.frozen.numbers s.frozen.bytes b ∙ ap (λ (o : Option (List ℕ)). is_some o) frozen)
 
 chosen : (t x : Bool) → t ≡ true → (if t then true else x) ≡ true
 chosen true x e = refl
@@ -68,7 +71,8 @@ neither true x e f = absurd (false≢true (sym e))
 neither false x e f = f
 
 -- a record that has the block
-logged_at : (records : List (List ℕ)) (age place b : ℕ) → age < length records → place < length (get_or records age []) → get_or (get_or records age []) place 0 ≡ b → is_logged records b ≡ true
+logged_at : (records : List (List ℕ)) (age place b : ℕ) → age < length records → place < length (get_or records age [])
+    → get_or (get_or records age []) place 0 ≡ b → is_logged records b ≡ true
 logged_at [] age place b waits inside named = absurd (omega (arith, waits))
 logged_at (r ∷ records) zero place b waits inside named = chosen (is_listed r b) (is_logged records b) (listed_at r place b inside named)
 logged_at (r ∷ records) (suc age) place b waits inside named =
@@ -76,10 +80,12 @@ logged_at (r ∷ records) (suc age) place b waits inside named =
     ∙ passed (is_listed r b)
 
 -- no record has it
-not_logged : (records : List (List ℕ)) (b : ℕ) → ((age : ℕ) → age < length records → is_listed (get_or records age []) b ≡ false) → is_logged records b ≡ false
+not_logged : (records : List (List ℕ)) (b : ℕ) → ((age : ℕ) → age < length records → is_listed (get_or records age []) b ≡ false)
+    → is_logged records b ≡ false
 not_logged [] b none = refl
 not_logged (r ∷ records) b none =
-    neither (is_listed r b) (is_logged records b) (none zero (omega arith)) (not_logged records b (λ age waits. none (suc age) (omega (arith, waits))))
+    neither (is_listed r b) (is_logged records b) (none zero (omega arith))
+    (not_logged records b (λ age waits. none (suc age) (omega (arith, waits))))
 
 different : (n b : ℕ) → n ≢ b → (n == b) ≡ false
 different n b not = grind (arith, nat_tests, not)
@@ -94,9 +100,11 @@ unlisted_is (n ∷ numbers) b none = elim (cases_eq n b) [
 ]
 
 -- the newest logged copy of a block takes the calls of a copy
-pub reads_logged : (log : LogValue) (b slot place : ℕ) → IsNewestCopy log b slot place → durable_reads log b ≡ copy_reads_of log.shape.format
+pub reads_logged : (log : LogValue) (b slot place : ℕ) → IsNewestCopy log b slot place
+    → durable_reads log b ≡ copy_reads_of log.shape.format
 reads_logged log b slot place copy =
-    ap (λ (t : Bool). if t then copy_reads_of log.shape.format else 1) (logged_at log.waiting copy.age place b copy.waits copy.inside copy.named)
+    ap (λ (t : Bool). if t then copy_reads_of log.shape.format else 1)
+    (logged_at log.waiting copy.age place b copy.waits copy.inside copy.named)
 
 -- and a block at home takes one
 pub reads_home : (log : LogValue) (b : ℕ) → HasNoCopy log b → durable_reads log b ≡ 1
@@ -136,6 +144,7 @@ reads_few s address (suc count) =
     let few : durable_reads s.log address ≤ copy_reads_of s.log.shape.format =
     below_chosen (is_logged s.log.waiting address) (copy_reads_of s.log.shape.format) (some_copy_reads s.log.shape.format) in
     let one : block_reads s address ≤ most_reads s =
-    below_either (is_listed s.active.numbers address) (is_listed s.frozen.numbers address) (durable_reads s.log address) (copy_reads_of s.log.shape.format) few in
+    below_either (is_listed s.active.numbers address) (is_listed s.frozen.numbers address) (durable_reads s.log address)
+    (copy_reads_of s.log.shape.format) few in
     let more : most_reads s * (count + 1) ≡ most_reads s * count + most_reads s = omega arith in
     omega (arith, one, reads_few s (address + 1) count, more)

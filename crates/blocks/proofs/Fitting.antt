@@ -1,5 +1,6 @@
 -- How the books that a store fits go on from turn to turn.
-use Rattle.std.proofs.Common.{◌≡◌, ◌≤◌, ◌<◌, ℕ, ◌+◌, ◌*◌, ◌-◌, ⊎_elim, arith, ◌∙◌, sym, ap, subst, refl, Bool, true, false, Option, Some, List, [], ◌∷◌, ◌++◌, length, take, drop, length-append}
+use Rattle.std.proofs.Common.{◌≡◌, ◌≤◌, ◌<◌, ℕ, ◌+◌, ◌*◌, ◌-◌, ⊎_elim, arith, ◌∙◌, sym, ap, subst, refl, Bool, true, false, Option, Some}
+use Rattle.std.proofs.Common.{List, [], ◌∷◌, ◌++◌, length, take, drop, length-append}
 use Rattle.std.specs.Prelude.{if◌then◌else◌, ◌==◌, nat_le, get_or, slice_range, unwrap_or}
 use Rattle.std.proofs.lemmas.List.{take-append-le, length-map, drop-drop}
 use Rattle.std.proofs.Math.Seq.{take-length}
@@ -41,7 +42,8 @@ pub first_all : (book : Book) → after_first (length book.writes) book ≡ arra
 first_all book = ap (after book.opening) (take-length book.writes)
 
 -- one test for both
-both : (t : Bool) (x y z d : List ℕ) (o : Option (List ℕ)) → x ≡ y → z ≡ unwrap_or o d → (if t then x else z) ≡ unwrap_or (if t then Some y else o) d
+both : (t : Bool) (x y z d : List ℕ) (o : Option (List ℕ)) → x ≡ y → z ≡ unwrap_or o d
+    → (if t then x else z) ≡ unwrap_or (if t then Some y else o) d
 both true x y z d o here there = here
 both false x y z d o here there = there
 
@@ -52,16 +54,20 @@ range_is bytes i =
     ap (λ (n : ℕ). take n (drop (512 * i) bytes)) size
 
 -- the blocks of a batch, as a record has them from the i-th on
-entries_over : (i : ℕ) (numbers bytes : List ℕ) (a : Array) (b : ℕ) → with_blocks (entries_from i numbers bytes) a b ≡ over (blocks_of numbers (drop (512 * i) bytes)) a b
+entries_over : (i : ℕ) (numbers bytes : List ℕ) (a : Array) (b : ℕ)
+    → with_blocks (entries_from i numbers bytes) a b ≡ over (blocks_of numbers (drop (512 * i) bytes)) a b
 entries_over i [] bytes a b = refl
 entries_over i (n ∷ numbers) bytes a b =
     let next : 512 * i + 512 ≡ 512 * (i + 1) = omega arith in
-    both (n == b) (slice_range bytes (512 * i) (512 * i + 512)) (take 512 (drop (512 * i) bytes)) (with_blocks (entries_from (i + 1) numbers bytes) a b) (a b) (blocks_of numbers (drop 512 (drop (512 * i) bytes)) b)
+    both (n == b) (slice_range bytes (512 * i) (512 * i + 512)) (take 512 (drop (512 * i) bytes))
+    (with_blocks (entries_from (i + 1) numbers bytes) a b) (a b) (blocks_of numbers (drop 512 (drop (512 * i) bytes)) b)
     (range_is bytes i)
-    (entries_over (i + 1) numbers bytes a b ∙ ap (λ (l : List ℕ). over (blocks_of numbers l) a b) (sym (drop-drop 512 (512 * i) bytes ∙ ap (λ (k : ℕ). drop k bytes) next)))
+    (entries_over (i + 1) numbers bytes a b
+    ∙ ap (λ (l : List ℕ). over (blocks_of numbers l) a b) (sym (drop-drop 512 (512 * i) bytes ∙ ap (λ (k : ℕ). drop k bytes) next)))
 
 -- a record's blocks laid over an array are the batch over it
-pub with_entries : (numbers bytes : List ℕ) (a : Array) (b : ℕ) → with_blocks (entries_of numbers bytes) a b ≡ over (blocks_of numbers bytes) a b
+pub with_entries : (numbers bytes : List ℕ) (a : Array) (b : ℕ)
+    → with_blocks (entries_of numbers bytes) a b ≡ over (blocks_of numbers bytes) a b
 with_entries numbers bytes a b = entries_over 0 numbers bytes a b
 
 -- an empty batch changes no array
@@ -100,7 +106,8 @@ no_steps_for most [] some e = refl
 no_steps_for most (n ∷ numbers) some e = absurd (omega (arith, some, e))
 
 -- an image that is ours for an array is ours for one with the same blocks
-pub ours_same : (size : ℕ) (shape : Shape) (image : Image) (a c : Array) (next : ℕ) → Same shape.blocks a c → IsOurs size shape image a next → IsOurs size shape image c next
+pub ours_same : (size : ℕ) (shape : Shape) (image : Image) (a c : Array) (next : ℕ) → Same shape.blocks a c → IsOurs size shape image a next
+    → IsOurs size shape image c next
 ours_same size shape image a c next same ours = record {
   stands = record {
     fits = ours.stands.fits;
@@ -120,14 +127,16 @@ ours_same size shape image a c next same ours = record {
 }
 
 -- it stands so for that array
-pub stands_as : (size blocks : ℕ) (shape : Shape) (image : Image) (a c : Array) (next : ℕ) → shape.blocks ≡ blocks → Same blocks a c → IsOurs size shape image a next → StandsAs size blocks image c next
+pub stands_as : (size blocks : ℕ) (shape : Shape) (image : Image) (a c : Array) (next : ℕ) → shape.blocks ≡ blocks → Same blocks a c
+    → IsOurs size shape image a next → StandsAs size blocks image c next
 stands_as size blocks shape image a c next is same ours =
     (shape, is, ours_same size shape image a c next (subst (λ n. Same n a c) (sym is) same) ours)
 
 -- the log goes on, with the same array and the same record under way
 pub moves : (m m' : State) (s : Cached) (book : Book) (log' : LogValue) (view' : View) (f : FitsBook m s book) → HoldsView log' m' view'
     → view'.array ≡ f.view.array → view'.under_way ≡ f.view.under_way → view'.ours ≡ f.view.ours → log'.shape ≡ s.log.shape
-    → log'.head + length log'.waiting ≡ s.log.head + length s.log.waiting → log'.steps_left ≤ s.log.steps_left → FitsBook m' (record s { log = log' }) book
+    → log'.head + length log'.waiting ≡ s.log.head + length s.log.waiting → log'.steps_left ≤ s.log.steps_left
+    → FitsBook m' (record s { log = log' }) book
 moves m m' s book log' view' f holds array under_way ours shape stamp fewer = record {
   view = view';
   holds = holds;
@@ -147,8 +156,8 @@ moves m m' s book log' view' f holds array under_way ours shape stamp fewer = re
 }
 
 -- the frozen batch is begun
-pub begins : (m : State) (s : Cached) (book : Book) (f : FitsBook m s book) → HasRoom s.log → IsBatch s.log.shape s.frozen.numbers s.frozen.bytes
-    → FitsBook m (record s { log = begun s.frozen.numbers s.log }) book
+pub begins : (m : State) (s : Cached) (book : Book) (f : FitsBook m s book) → HasRoom s.log
+    → IsBatch s.log.shape s.frozen.numbers s.frozen.bytes → FitsBook m (record s { log = begun s.frozen.numbers s.log }) book
 begins m s book f room batch = record {
   view = with_begun (entries_of s.frozen.numbers s.frozen.bytes) f.view;
   holds = begun_holds s.log m f.view s.frozen.numbers s.frozen.bytes f.holds room batch;
@@ -168,11 +177,14 @@ begins m s book f room batch = record {
 }
 
 -- the record under way becomes durable, and the frozen batch is emptied
-pub becomes_durable : (m m' : State) (s : Cached) (book : Book) (log' : LogValue) (none : Entries) (f : FitsBook m s book) → 0 < s.log.steps_left → none.numbers ≡ []
-    → HoldsView log' m' (with_record f.view) → log'.shape ≡ s.log.shape → log'.head ≡ s.log.head → length log'.waiting ≡ length s.log.waiting + 1 → log'.steps_left ≡ 0
+pub becomes_durable : (m m' : State) (s : Cached) (book : Book) (log' : LogValue) (none : Entries) (f : FitsBook m s book)
+    → 0 < s.log.steps_left → none.numbers ≡ [] → HoldsView log' m' (with_record f.view) → log'.shape ≡ s.log.shape → log'.head ≡ s.log.head
+    → length log'.waiting ≡ length s.log.waiting + 1 → log'.steps_left ≡ 0
     → FitsBook m' (record { log = log'; active = s.active; frozen = none }) book
 becomes_durable m m' s book log' none f some empty holds shape head longer done =
-    let array : (b : ℕ) → with_blocks f.view.under_way f.view.array b ≡ over (map_of s.frozen) f.view.array b = λ b. ap (λ (l : List Entry). with_blocks l f.view.array b) (f.under_way some) ∙ with_entries s.frozen.numbers s.frozen.bytes f.view.array b in
+    let array : (b : ℕ) → with_blocks f.view.under_way f.view.array b ≡ over (map_of s.frozen) f.view.array b =
+    λ b. ap (λ (l : List Entry). with_blocks l f.view.array b) (f.under_way some)
+    ∙ with_entries s.frozen.numbers s.frozen.bytes f.view.array b in
     let durable : Array = with_blocks f.view.under_way f.view.array in
     let no_frozen : (a : Array) (b : ℕ) → over (map_of none) a b ≡ a b = over_none none.numbers none.bytes empty in
     record {
@@ -188,16 +200,20 @@ becomes_durable m m' s book log' none f some empty holds shape head longer done 
       accepted = f.accepted;
       floor = λ b below. array b ∙ f.middle b below;
       middle = λ b below. no_frozen durable b ∙ (array b ∙ f.middle b below);
-      now = λ b below. over_same (map_of s.active) (over (map_of none) durable) (over (map_of s.frozen) f.view.array) b (no_frozen durable b ∙ array b) ∙ f.now b below;
+      now = λ b below. over_same (map_of s.active) (over (map_of none) durable) (over (map_of s.frozen) f.view.array) b
+          (no_frozen durable b ∙ array b)
+          ∙ f.now b below;
       stamps = omega (arith, f.stamps, f.some some, head, longer, wants_none none.numbers empty);
       ours = f.ours;
     }
 
 -- the active batch is frozen in place of an empty one
-pub freezes : (m : State) (s : Cached) (book : Book) → s.log.steps_left ≡ 0 → s.frozen.numbers ≡ [] → FitsBook m s book → FitsBook m (record s { active = s.frozen; frozen = s.active }) book
+pub freezes : (m : State) (s : Cached) (book : Book) → s.log.steps_left ≡ 0 → s.frozen.numbers ≡ [] → FitsBook m s book
+    → FitsBook m (record s { active = s.frozen; frozen = s.active }) book
 freezes m s book idle empty f =
     let none : (a : Array) (b : ℕ) → over (map_of s.frozen) a b ≡ a b = over_none s.frozen.numbers s.frozen.bytes empty in
-    let now : (b : ℕ) → b < book.blocks → over (map_of s.active) f.view.array b ≡ array_of book b = λ b below. sym (over_same (map_of s.active) (over (map_of s.frozen) f.view.array) f.view.array b (none f.view.array b)) ∙ f.now b below in
+    let now : (b : ℕ) → b < book.blocks → over (map_of s.active) f.view.array b ≡ array_of book b = λ b below.
+    sym (over_same (map_of s.active) (over (map_of s.frozen) f.view.array) f.view.array b (none f.view.array b)) ∙ f.now b below in
     record {
       view = f.view;
       holds = f.holds;
@@ -219,7 +235,8 @@ freezes m s book idle empty f =
 -- the active batch takes a write
 pub appends : (m : State) (s : Cached) (book : Book) (more : Entries) (address : ℕ) (bytes : List ℕ) (count : ℕ)
     → ((b : ℕ) → map_of more b ≡ with_range (map_of s.active) address count bytes b) → FitsBook m s book
-    → (let w : Write = record { address = address; blocks = chunks count bytes } in FitsBook m (record s { active = more }) (with_write book w))
+    → (let w : Write = record { address = address; blocks = chunks count bytes } in
+    FitsBook m (record s { active = more }) (with_write book w))
 appends m s book more address bytes count put f =
     let w : Write = record { address = address; blocks = chunks count bytes } in
     let longer : length (book.writes ++ w ∷ []) ≡ length book.writes + 1 = length-append book.writes (w ∷ []) in
@@ -235,21 +252,25 @@ appends m s book more address bytes count put f =
       promises = f.promises;
       rises = f.rises;
       accepted = omega (arith, f.accepted, longer);
-      floor = λ b below. f.floor b below ∙ ap (λ (a : Array). a b) (sym (first_same book w f.floor_count (omega (arith, f.rises, f.accepted))));
+      floor = λ b below.
+          f.floor b below ∙ ap (λ (a : Array). a b) (sym (first_same book w f.floor_count (omega (arith, f.rises, f.accepted))));
       middle = λ b below. f.middle b below ∙ ap (λ (a : Array). a b) (sym (first_same book w f.middle_count f.accepted));
       now = λ b below. over_put s.active more middle address count bytes put b
-          ∙ (apply_same w (over (map_of s.active) middle) (array_of book) b (f.now b below) ∙ ap (λ (a : Array). a b) (sym (after_last book.opening book.writes w)));
+          ∙ (apply_same w (over (map_of s.active) middle) (array_of book) b (f.now b below)
+          ∙ ap (λ (a : Array). a b) (sym (after_last book.opening book.writes w)));
       stamps = omega (arith, f.stamps, longer, wants_most more.numbers);
       ours = f.ours;
     }
 
 -- with both batches empty everything is durable
-pub settles : (m : State) (s : Cached) (book : Book) → s.frozen.numbers ≡ [] → s.active.numbers ≡ [] → FitsBook m s book → FitsBook m s (promised book)
+pub settles : (m : State) (s : Cached) (book : Book) → s.frozen.numbers ≡ [] → s.active.numbers ≡ [] → FitsBook m s book
+    → FitsBook m s (promised book)
 settles m s book no_frozen no_active f =
     let frozen : (a : Array) (b : ℕ) → over (map_of s.frozen) a b ≡ a b = over_none s.frozen.numbers s.frozen.bytes no_frozen in
     let active : (a : Array) (b : ℕ) → over (map_of s.active) a b ≡ a b = over_none s.active.numbers s.active.bytes no_active in
     let durable : (b : ℕ) → b < book.blocks → f.view.array b ≡ after_first (length book.writes) book b = λ b below.
-    sym (active (over (map_of s.frozen) f.view.array) b ∙ frozen f.view.array b) ∙ (f.now b below ∙ ap (λ (a : Array). a b) (sym (first_all book))) in
+    sym (active (over (map_of s.frozen) f.view.array) b ∙ frozen f.view.array b)
+    ∙ (f.now b below ∙ ap (λ (a : Array). a b) (sym (first_all book))) in
     record {
       view = f.view;
       holds = f.holds;
@@ -269,10 +290,12 @@ settles m s book no_frozen no_active f =
     }
 
 -- what a cut may leave of the log may be found
-pub finds : (m : State) (s : Cached) (book : Book) (f : FitsBook m s book) (image : Image) → MayLeave m.size s.log f.view image → MayFind m.size book image
+pub finds : (m : State) (s : Cached) (book : Book) (f : FitsBook m s book) (image : Image) → MayLeave m.size s.log f.view image
+    → MayFind m.size book image
 finds m s book f image left =
     let g : List Entry → List ℕ = λ r. numbers_of r in
-    let as_many : length s.log.waiting ≡ length f.view.records = ap (λ (l : List (List ℕ)). length l) f.holds.durable ∙ length-map f.view.records g in
+    let as_many : length s.log.waiting ≡ length f.view.records =
+    ap (λ (l : List (List ℕ)). length l) f.holds.durable ∙ length-map f.view.records g in
     let stamp : ℕ = s.log.head + length f.view.records in
     ⊎_elim
     (λ durable. record {
@@ -280,7 +303,8 @@ finds m s book f image left =
       next = stamp + 1;
       promises = f.promises;
       accepted = omega (arith, f.rises, f.accepted);
-      stands = stands_as m.size book.blocks s.log.shape image f.view.array (after_first f.floor_count book) (stamp + 1) f.blocks f.floor durable;
+      stands = stands_as m.size book.blocks s.log.shape image f.view.array (after_first f.floor_count book) (stamp + 1) f.blocks f.floor
+          durable;
       bound = omega (arith, f.stamps, as_many);
     })
     (λ whole. record {
@@ -288,8 +312,10 @@ finds m s book f image left =
       next = stamp + 2;
       promises = omega (arith, f.promises, f.rises);
       accepted = f.accepted;
-      stands = stands_as m.size book.blocks s.log.shape image (with_blocks f.view.under_way f.view.array) (after_first f.middle_count book) (stamp + 2) f.blocks
-          (λ b below. ap (λ (l : List Entry). with_blocks l f.view.array b) (f.under_way whole.0) ∙ (with_entries s.frozen.numbers s.frozen.bytes f.view.array b ∙ f.middle b below)) whole.1;
+      stands = stands_as m.size book.blocks s.log.shape image (with_blocks f.view.under_way f.view.array)
+          (after_first f.middle_count book) (stamp + 2) f.blocks
+          (λ b below. ap (λ (l : List Entry). with_blocks l f.view.array b) (f.under_way whole.0)
+          ∙ (with_entries s.frozen.numbers s.frozen.bytes f.view.array b ∙ f.middle b below)) whole.1;
       bound = omega (arith, f.stamps, as_many, f.some whole.0);
     })
     (may_leave_ours m.size s.log f.view image left)

@@ -28,7 +28,8 @@ limit_of_one : (before : State) (limit : ℕ) → EachCut (HasLimit before.size 
     → HasLimit before.size limit image
 limit_of_one before limit has image is =
     let was = has is.before is.allowed in
-    let one = StandsFor-one before.size before.size was.shape is.shape is.before was.array is.array was.next is.next was.stands is.was.stands in
+    let one =
+    StandsFor-one before.size before.size was.shape is.shape is.before was.array is.array was.next is.next was.stands is.was.stands in
     let limit_is : limit ≡ limit_of is.shape.format = was.limit_is ∙ ap (λ (s : Shape). limit_of s.format) one.0 in
     ⊎_elim
     (λ here. record { shape = is.shape; array = is.array; next = is.next; stands = here.stands; limit_is = limit_is })

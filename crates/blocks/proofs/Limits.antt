@@ -42,9 +42,12 @@ has_limits size sizes s writing kept =
       active_fits = omega (arith, kept.active.well_formed.within, kept.active.room);
       few_steps = few format (slots_of s) s.log.steps_left s.log.retire_steps_left
           (waiting s.log.steps_left (steps_for (batch_steps s) s.frozen.numbers)) (steps_for (batch_steps s) s.active.numbers)
-          kept.few_steps
-          kept.few_retire_steps
-          (omega (arith, waiting_most s.log.steps_left (steps_for (batch_steps s) s.frozen.numbers), steps_for_most (batch_steps s) s.frozen.numbers))
+          kept.few_steps kept.few_retire_steps
+          (omega (
+            arith,
+            waiting_most s.log.steps_left (steps_for (batch_steps s) s.frozen.numbers),
+            steps_for_most (batch_steps s) s.frozen.numbers,
+          ))
           (steps_for_most (batch_steps s) s.active.numbers);
     }
 

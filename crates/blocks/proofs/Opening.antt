@@ -1,5 +1,6 @@
 -- What is known of an image by the books for which it stands.
-use Rattle.std.proofs.Common.{◌≡◌, ◌≤◌, ◌<◌, ◌^◌, ℕ, ◌+◌, ⊎_elim, arith, ◌∙◌, sym, ap, subst, refl, Bool, true, false, Option, None, Some, List, [], ◌∷◌, take}
+use Rattle.std.proofs.Common.{◌≡◌, ◌≤◌, ◌<◌, ◌^◌, ℕ, ◌+◌, ⊎_elim, arith, ◌∙◌, sym, ap, subst, refl, Bool, true, false, Option, None, Some}
+use Rattle.std.proofs.Common.{List, [], ◌∷◌, take}
 use Rattle.std.proofs.lemmas.Bool.{false≢true}
 use Rattle.medium.specs.Medium.{State, Image, IsSound}
 use Rattle.medium.specs.Moments.{EachCut, IsFlushed, LeavesOnly}
@@ -13,7 +14,8 @@ use Rattle.log_image.proofs.FaultLaws.{HasFault-stands}
 use Rattle.recovery.specs.Causes.{IsCause}
 use Rattle.recovery.specs.Recovered.{IsOursForSome, StandsForOneOf}
 use Rattle.recovery.specs.declared.start_fault.StartFault.{StartFault}
-use Rattle.recovery.specs.declared.start_fault.StartFault.TheVariants.{NoMemory, Read, Write as WriteFault, Flush, BadSuper, BadVersion, BadSize, BadHead, StampsUsedUp, LogTooSmall}
+use Rattle.recovery.specs.declared.start_fault.StartFault.TheVariants.{NoMemory, Read, Write as WriteFault, Flush, BadSuper, BadVersion}
+use Rattle.recovery.specs.declared.start_fault.StartFault.TheVariants.{BadSize, BadHead, StampsUsedUp, LogTooSmall}
 use Rattle.blocks.specs.Book.{Book, Same, after_first, opened, with_write}
 use Rattle.blocks.specs.Finding.{StandsAs, MayFind, FoundWith}
 use Rattle.blocks.specs.StoreValue.{Cached, layout_of, blocks_of, FitsBook}
@@ -32,7 +34,8 @@ may_find_ours : (size : ℕ) (book : Book) (image : Image) → MayFind size book
 may_find_ours size book image m = (m.stands.0, after_first m.count book, m.next, m.stands.2)
 
 -- what may be found of a book is ours
-pub found_ours : (size : ℕ) (book : Book) (write : Option Write) (image : Image) → FoundWith size book write image → IsOursForSome size image
+pub found_ours : (size : ℕ) (book : Book) (write : Option Write) (image : Image) → FoundWith size book write image
+    → IsOursForSome size image
 found_ours size book None image m = may_find_ours size book image m
 found_ours size book (Some w) image m = ⊎_elim (may_find_ours size book image) (may_find_ours size (with_write book w) image) m
 
@@ -47,7 +50,8 @@ ours_for_opening size book image there is =
     (stands_as size book.blocks is.0 image is.1 book.opening is.2 blocks_same arrays is.3)
 
 -- it stands for the opening of each book for which it is ours, and so for something
-pub stands_for_opening : (size : ℕ) (book : Book) (image : Image) → StandsAs size book.blocks image book.opening book.stamp → StandsForOpening size book image
+pub stands_for_opening : (size : ℕ) (book : Book) (image : Image) → StandsAs size book.blocks image book.opening book.stamp
+    → StandsForOpening size book image
 stands_for_opening size book image is = (is.0, is.1, is.2.stands)
 
 pub stands_for_some : (size : ℕ) (book : Book) (image : Image) → StandsForOpening size book image → Stands size image
@@ -56,7 +60,8 @@ stands_for_some size book image there = (there.0, book.opening, book.stamp, ther
 -- ---- a start that is good
 
 -- what fits a book fits one that opened with the same blocks
-reopened : (m : State) (s : Cached) (book : Book) (c : Array) → Same book.blocks book.opening c → FitsBook m s book → FitsBook m s (record book { opening = c })
+reopened : (m : State) (s : Cached) (book : Book) (c : Array) → Same book.blocks book.opening c → FitsBook m s book
+    → FitsBook m s (record book { opening = c })
 reopened m s book c same f = record {
   view = f.view;
   holds = f.holds;
@@ -80,7 +85,8 @@ pub serves : (before after : State) (s : Cached) (array : Array) (next : ℕ) �
     → ((ours : Bool) → (ours ≡ true → EachCut (IsOursForSome before.size) before) → FitsBook after s (opened (blocks_of s) array next ours))
     → (book : Book) → OpensOn before book → FitsBook after s book
 serves before after s array next stood fits book on =
-    let one = StandsFor-one before.size before.size (layout_of s) on.stands.0 before.content array book.opening next book.stamp stood on.stands.2 in
+    let one = StandsFor-one before.size before.size (layout_of s) on.stands.0 before.content array book.opening next book.stamp stood
+    on.stands.2 in
     let f : FitsBook after s (opened (blocks_of s) book.opening next book.ours) =
     reopened after s (opened (blocks_of s) array next book.ours) book.opening one.2 (fits book.ours on.ours) in
     subst (FitsBook after s) (sym on.opens)
@@ -120,7 +126,8 @@ module _ (before after : State) (sound : IsSound after) (size_stays : after.size
       let was : IsOurs before.size one.shape before.content one.array one.next =
       subst (λ (i : Image). IsOurs before.size one.shape i one.array one.next)
       (only_image before.content before.may_leave flushed one.before one.allowed) one.was in
-      let same = StandsFor-one before.size before.size on.stands.0 one.shape before.content book.opening one.array book.stamp one.next on.stands.2 was.stands in
+      let same = StandsFor-one before.size before.size on.stands.0 one.shape before.content book.opening one.array book.stamp one.next
+      on.stands.2 was.stands in
       let blocks_same : one.shape.blocks ≡ book.blocks = sym (ap (λ (x : Shape). x.blocks) same.0) ∙ on.stands.1 in
       let arrays : Same book.blocks book.opening one.array = subst (λ (n : ℕ). Same n book.opening one.array) on.stands.1 same.2 in
       let stamps : book.stamp ≡ one.next = same.1 in
@@ -140,12 +147,14 @@ module _ (before after : State) (book : Book) (on : OpensOn before book) where
 
   used_up : image.HasNoStampLeft before.size before.content → 2 ^ 63 ≤ book.stamp
   used_up (shape, array, next, stood, past) =
-      let same = StandsFor-one before.size before.size shape on.stands.0 before.content array book.opening next book.stamp stood on.stands.2 in
+      let same =
+      StandsFor-one before.size before.size shape on.stands.0 before.content array book.opening next book.stamp stood on.stands.2 in
       let stamps : next ≡ book.stamp = same.1 in
       omega (arith, stamps, past)
 
   -- what is not want of memory is a cause of the recovery
-  cause_of : {A : Type 0} (fault : StartFault) → (IsCause before after fault → A) → (fault ≡ NoMemory → A) → IsStartCause before after fault → A
+  cause_of : {A : Type 0} (fault : StartFault) → (IsCause before after fault → A) → (fault ≡ NoMemory → A) → IsStartCause before after fault
+      → A
   cause_of fault recovery memory cause = ⊎_elim recovery (λ e. memory e.0) cause
 
   -- contents that stand for a book have no fault but that their stamps may be used up

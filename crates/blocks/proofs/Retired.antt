@@ -74,32 +74,36 @@ still_kept before after sizes s log' writing same idle r k = record {
   ring = let slots = ap (λ (shape : Shape). shape.slots) r.shape in omega (arith, k.ring, r.next, r.head, slots);
   some = λ some. k.some (omega (arith, some, r.steps));
   few_steps = let most = ap (λ (shape : Shape). most_steps shape.format) r.shape in omega (arith, k.few_steps, r.steps, most);
-  few_retire_steps = let most = ap (λ (shape : Shape). most_retire_steps shape.format * shape.slots) r.shape in omega (arith, k.few_retire_steps, r.retire, most);
+  few_retire_steps =
+      let most = ap (λ (shape : Shape). most_retire_steps shape.format * shape.slots) r.shape in
+      omega (arith, k.few_retire_steps, r.retire, most);
   owes = λ some. absurd (omega (arith, some, r.steps, idle));
 }
 
 -- and where the log died
 pub died_kept : (before after : ℕ) (sizes : Super) (s : Cached) (log' : LogValue) (writing : Bool) → after ≡ before → log' ≡ died s.log
     → IsKept before sizes s writing → IsKept after sizes (record s { log = log' }) writing
-died_kept before after sizes s log' writing same is k = subst (λ (l : LogValue). IsKept after sizes (record s { log = l }) writing) (sym is) (record {
-  shape = k.shape;
-  fits = omega (arith, k.fits, same);
-  active = k.active;
-  frozen = k.frozen;
-  writes = λ live w. absurd (false≢true (sym live));
-  rests = λ live w. absurd (false≢true (sym live));
-  under_way = λ live some. absurd (false≢true (sym live));
-  none_under_way = λ live none. absurd (false≢true (sym live));
-  ring = k.ring;
-  some = k.some;
-  few_steps = k.few_steps;
-  few_retire_steps = k.few_retire_steps;
-  owes = k.owes;
-})
+died_kept before after sizes s log' writing same is k =
+    subst (λ (l : LogValue). IsKept after sizes (record s { log = l }) writing) (sym is) (record {
+      shape = k.shape;
+      fits = omega (arith, k.fits, same);
+      active = k.active;
+      frozen = k.frozen;
+      writes = λ live w. absurd (false≢true (sym live));
+      rests = λ live w. absurd (false≢true (sym live));
+      under_way = λ live some. absurd (false≢true (sym live));
+      none_under_way = λ live none. absurd (false≢true (sym live));
+      ring = k.ring;
+      some = k.some;
+      few_steps = k.few_steps;
+      few_retire_steps = k.few_retire_steps;
+      owes = k.owes;
+    })
 
 -- a step that was made is one of retiring
-pub is_retiring : (before after : State) (s : Cached) (log' : LogValue) → (s.log.waiting ≡ [] → (log' ≡ s.log) × IsUnchanged before after) → after.calls ≤ before.calls + 2 → s.log.dead ≡ false
-    → after.failures ≡ before.failures → (0 < length s.log.waiting → IsRetireStepped s.log log') → IsRetiring before after s (record s { log = log' })
+pub is_retiring : (before after : State) (s : Cached) (log' : LogValue) → (s.log.waiting ≡ [] → (log' ≡ s.log) × IsUnchanged before after)
+    → after.calls ≤ before.calls + 2 → s.log.dead ≡ false → after.failures ≡ before.failures
+    → (0 < length s.log.waiting → IsRetireStepped s.log log') → IsRetiring before after s (record s { log = log' })
 is_retiring before after s log' none two live failures some =
     let kept = retained s.log log' (λ e. (none e).0) some in
     record {
@@ -112,8 +116,9 @@ is_retiring before after s log' none two live failures some =
     }
 
 -- a refused one is too, and the log is dead then
-pub is_dying : (before after : State) (s : Cached) (log' : LogValue) → (s.log.waiting ≡ [] → (log' ≡ s.log) × IsUnchanged before after) → after.calls ≤ before.calls + 2
-    → after.failures ≡ before.failures + 1 → log' ≡ died s.log → IsRetiring before after s (record s { log = log' })
+pub is_dying : (before after : State) (s : Cached) (log' : LogValue) → (s.log.waiting ≡ [] → (log' ≡ s.log) × IsUnchanged before after)
+    → after.calls ≤ before.calls + 2 → after.failures ≡ before.failures + 1 → log' ≡ died s.log → IsRetiring before after s
+    (record s { log = log' })
 is_dying before after s log' none two failures is = record {
   none_waits = λ e. (ap (λ (l : LogValue). record s { log = l }) (none e).0, (none e).1);
   two_calls = two;

@@ -14,8 +14,8 @@ abbrev pub OneAtMost : LogValue → LogValue → Type 0
 OneAtMost old new = (new.head ≡ old.head) ⊎ ((new.head ≡ old.head + 1) × (new.next - new.head < new.shape.slots))
 
 -- a log without room comes one retire step further
-pub one_at_most : (old mid new : LogValue) → (HasRoom mid → ⊥) → mid.under_way ≡ [] → mid.steps_left ≡ 0 → mid.next ≤ mid.head + mid.shape.slots → 1 ≤ mid.shape.slots
-    → IsRetireStepped mid new → OneAtMost old mid → OneAtMost old new
+pub one_at_most : (old mid new : LogValue) → (HasRoom mid → ⊥) → mid.under_way ≡ [] → mid.steps_left ≡ 0
+    → mid.next ≤ mid.head + mid.shape.slots → 1 ≤ mid.shape.slots → IsRetireStepped mid new → OneAtMost old mid → OneAtMost old new
 one_at_most old mid new full under_way idle ring slots stepped so_far = ⊎_elim
     (λ same. ⊎_elim
     (λ more. inl (ap (λ (l : LogValue). l.head) (stepped.more more) ∙ same))
@@ -42,22 +42,24 @@ RetiresOldest old new = (new ≡ record old { retire_steps_left = new.retire_ste
 -- one retire step more, of a log without room
 pub retires_more : (old mid new : LogValue) → (HasRoom mid → ⊥) → mid.under_way ≡ [] → mid.steps_left ≡ 0 → IsRetireStepped mid new
     → OneAtMost old mid → RetiresOldest old mid → RetiresOldest old new
-retires_more old mid new full under_way idle stepped one so_far = ⊎_elim
+retires_more old mid new full under_way idle stepped one so_far =
+    ⊎_elim
     (λ same. ⊎_elim
     (λ more.
     let is = stepped.more more in
     let all = is ∙ ap (λ (l : LogValue). record l { retire_steps_left = mid.retire_steps_left - 1; kept = new.kept }) same in
-    inl (all ∙ ap (λ (n : ℕ). record old { retire_steps_left = n; kept = new.kept }) (sym (ap (λ (l : LogValue). l.retire_steps_left) all))))
-    (λ few.
-    let is = stepped.last (omega (arith, few, stepped.some)) in
-    inr (is ∙ ap (λ (l : LogValue). oldest_retired l) same))
+    inl (all
+    ∙ ap (λ (n : ℕ). record old { retire_steps_left = n; kept = new.kept })
+    (sym (ap (λ (l : LogValue). l.retire_steps_left) all))))
+    (λ few. let is = stepped.last (omega (arith, few, stepped.some)) in inr (is ∙ ap (λ (l : LogValue). oldest_retired l) same))
     (cases_lt (behind_oldest mid + 1) mid.retire_steps_left))
     (λ retired. absurd (⊎_elim
     (λ (stays : mid.head ≡ old.head). let h = ap (λ (l : LogValue). l.head) retired in let e : ⊥ = omega (arith, h, stays) in e)
-    (λ (freed : (mid.head ≡ old.head + 1) × (mid.next - mid.head < mid.shape.slots)).
-    full (record { none_under_way = under_way; no_steps = idle; free = freed.1 }))
-    one))
-    so_far
+    (λ (freed : (mid.head ≡ old.head + 1) × (mid.next - mid.head < mid.shape.slots)). full (record {
+      none_under_way = under_way;
+      no_steps = idle;
+      free = freed.1;
+    })) one)) so_far
 
 -- a log in which a slot is free, or none is
 pub free_or_full : (log : LogValue) (b : Bool) → nat_lt (log.next - log.head) log.shape.slots ≡ b

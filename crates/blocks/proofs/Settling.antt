@@ -32,20 +32,29 @@ module _ (m : State) (s : Cached) (live : is_dead s ≡ false) (none : steps_lef
   durable : (book : Book) (f : FitsBook m s book) (b : ℕ) → b < book.blocks → f.view.array b ≡ array_of book b
   durable book f b below =
       let batches = nothing_left s none in
-      sym (over_none s.active.numbers s.active.bytes batches.1 (over (map_of s.frozen) f.view.array) b ∙ over_none s.frozen.numbers s.frozen.bytes batches.0 f.view.array b) ∙ f.now b below
+      sym (over_none s.active.numbers s.active.bytes batches.1 (over (map_of s.frozen) f.view.array) b
+      ∙ over_none s.frozen.numbers s.frozen.bytes batches.0 f.view.array b)
+      ∙ f.now b below
 
   no_records : (book : Book) (f : FitsBook m s book) → f.view.records ≡ []
   no_records book f =
       let g : List Entry → List ℕ = λ r. numbers_of r in
-      none_of f.view.records (omega (arith, length-map f.view.records g, ap (λ (l : List (List ℕ)). length l) f.holds.durable, ap (λ (l : List (List ℕ)). length l) empty))
+      none_of f.view.records
+      (omega (
+        arith,
+        length-map f.view.records g,
+        ap (λ (l : List (List ℕ)). length l) f.holds.durable,
+        ap (λ (l : List (List ℕ)). length l) empty,
+      ))
 
   at_home : (book : Book) → FitsBook m s book → IsAtHome (layout_of s) book m.content
   at_home book f b below =
-      home_is s.log m f.view f.holds live b (omega (arith, below, f.blocks)) (λ age waits. absurd (omega (arith, waits, ap (λ (l : List (List ℕ)). length l) empty)))
+      home_is s.log m f.view f.holds live b (omega (arith, below, f.blocks))
+      (λ age waits. absurd (omega (arith, waits, ap (λ (l : List (List ℕ)). length l) empty)))
       ∙ durable book f b below
 
-  left_home : (book : Book) (f : FitsBook m s book) (b : ℕ) → b < book.blocks → (image : Image) → Keeps s.log.shape image s.log.head f.view.records f.view.array
-      → home_of s.log.shape image b ≡ array_of book b
+  left_home : (book : Book) (f : FitsBook m s book) (b : ℕ) → b < book.blocks → (image : Image)
+      → Keeps s.log.shape image s.log.head f.view.records f.view.array → home_of s.log.shape image b ≡ array_of book b
   left_home book f b below image keeps =
       sym (home_alone f.view.records (home_of s.log.shape image) b (no_records book f))
       ∙ (keeps.blocks b (omega (arith, below, f.blocks)) ∙ durable book f b below)
@@ -82,7 +91,8 @@ pub owes_none : (log : LogValue) → Owes log → log.under_way ≡ [] → log.w
 owes_none log owes under_way empty = owes.none_waits empty ∙ ap (λ (l : List ℕ). retire_steps_of log.shape.format l) under_way
 
 -- no step is left where no record is under way, none is owed, and both batches are empty
-pub none_left : (s : Cached) → s.log.steps_left ≡ 0 → s.log.retire_steps_left ≡ 0 → s.frozen.numbers ≡ [] → s.active.numbers ≡ [] → steps_left s ≡ 0
+pub none_left : (s : Cached) → s.log.steps_left ≡ 0 → s.log.retire_steps_left ≡ 0 → s.frozen.numbers ≡ [] → s.active.numbers ≡ []
+    → steps_left s ≡ 0
 none_left s idle owed frozen active =
     omega (
       arith,

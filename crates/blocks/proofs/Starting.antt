@@ -27,7 +27,8 @@ use Rattle.blocks.specs.Started.{IsStarted}
 use Rattle.blocks.proofs.Opening.{serves, opens_on}
 
 -- the log of an image that was recovered is fresh
-fresh_log : (shape : Shape) (array : Array) (next : ℕ) (image : Image) → recovered.IsFresh shape array next image → IsFresh shape next array image
+fresh_log : (shape : Shape) (array : Array) (next : ℕ) (image : Image) → recovered.IsFresh shape array next image
+    → IsFresh shape next array image
 fresh_log shape array next image f = record {
   keeps = record { super = f.super; head_is = f.head; whole = λ j below. absurd (omega arith); blocks = f.home };
   carries = λ slot o stamp low small c. omega (arith, f.carries slot o stamp low small c);
@@ -42,7 +43,8 @@ abbrev pub started : Shape → ℕ → Cached
 started shape next = record { log = idle_from shape next; active = empty_batch shape.format; frozen = empty_batch shape.format }
 
 -- it is kept as every store is
-pub started_kept : (size : ℕ) (sizes : Super) (next : ℕ) → sectors_of (shape_of sizes) ≤ size → IsKept size sizes (started (shape_of sizes) next) false
+pub started_kept : (size : ℕ) (sizes : Super) (next : ℕ) → sectors_of (shape_of sizes) ≤ size
+    → IsKept size sizes (started (shape_of sizes) next) false
 started_kept size sizes next fits = record {
   shape = refl;
   fits = fits;
@@ -87,13 +89,16 @@ opens shape array next ours m holds = record {
   ours = refl;
 }
 
-module _ (before after : State) (answer : Recovered) (from : IsRecoveredFrom before after answer) (sound : IsSound before) (size_stays : after.size ≡ before.size)
-    (fresh : (shape : Shape) (array : Array) (next : ℕ) → IsOurs before.size shape before.content array next → EachCut (recovered.IsFresh shape array next) after) where
+module _ (before after : State) (answer : Recovered) (from : IsRecoveredFrom before after answer) (sound : IsSound before)
+    (size_stays : after.size ≡ before.size)
+    (fresh : (shape : Shape) (array : Array) (next : ℕ) → IsOurs before.size shape before.content array next
+    → EachCut (recovered.IsFresh shape array next) after) where
   -- where the contents were ours for some array, they were ours for the one that is served
   was_ours : EachCut (IsOursForSome before.size) before → IsOurs before.size (shape_of answer.sizes) before.content from.array answer.next
   was_ours each =
       let e = each before.content sound.holds_content in
-      let one = StandsFor-one before.size before.size (shape_of answer.sizes) e.0 before.content from.array e.1 answer.next e.2 from.stood e.3.stands in
+      let one = StandsFor-one before.size before.size (shape_of answer.sizes) e.0 before.content from.array e.1 answer.next e.2 from.stood
+      e.3.stands in
       let carries = subst (λ (s : Shape). CarriesBelow s before.content e.2) (sym one.0) e.3.carries in
       record {
         stands = from.stood;
@@ -101,9 +106,12 @@ module _ (before after : State) (answer : Recovered) (from : IsRecoveredFrom bef
       }
 
   -- the log and the medium hold the array, and under the premise what a cut may leave
-  rests : (ours : Bool) → (ours ≡ true → EachCut (IsOursForSome before.size) before) → HoldsView (idle_from (shape_of answer.sizes) answer.next) after (resting_view from.array ours)
-  rests ours premise = idle_holds (shape_of answer.sizes) answer.next from.array ours after (omega (arith, from.stood.fits, size_stays)) from.home
-      (λ is image cut. fresh_log (shape_of answer.sizes) from.array answer.next image (fresh (shape_of answer.sizes) from.array answer.next (was_ours (premise is)) image cut))
+  rests : (ours : Bool) → (ours ≡ true → EachCut (IsOursForSome before.size) before)
+      → HoldsView (idle_from (shape_of answer.sizes) answer.next) after (resting_view from.array ours)
+  rests ours premise =
+      idle_holds (shape_of answer.sizes) answer.next from.array ours after (omega (arith, from.stood.fits, size_stays)) from.home
+      (λ is image cut. fresh_log (shape_of answer.sizes) from.array answer.next image
+      (fresh (shape_of answer.sizes) from.array answer.next (was_ours (premise is)) image cut))
 
   abbrev fits : (ours : Bool) → (ours ≡ true → EachCut (IsOursForSome before.size) before)
       → FitsBook after (started (shape_of answer.sizes) answer.next) (opened answer.sizes.blocks from.array answer.next ours)

@@ -1,12 +1,14 @@
 -- The order of the background work: what one step of it does.
-use Rattle.std.specs.Prelude.{◌≡◌, ◌+◌, ◌-◌, ◌^◌, ◌≤◌, ◌<◌, true, false, [], length}
+use Rattle.std.specs.Prelude.{◌≡◌, ◌⊎◌, ◌+◌, ◌-◌, ◌^◌, ◌≤◌, ◌<◌, true, false, [], length}
+use Rattle.std.specs.Prelude.{Result, Ok}
 use Rattle.medium.specs.Medium.{State}
 use Rattle.medium.specs.Moments.{IsUnchanged}
 use Rattle.cache.specs.Entries.{Entries}
 use Rattle.redo_log.specs.Value.{HasRoom, begun, died, IsStepped, IsRetireStepped}
 use Rattle.redo_log.specs.declared.progress.Progress.{Progress}
 use Rattle.redo_log.specs.declared.progress.Progress.TheVariants.{More, Durable}
-use Rattle.blocks.specs.StoreValue.{Cached, is_dead, unwritten}
+use Rattle.blocks.specs.declared.fault.StoreFault.{StoreFault}
+use Rattle.blocks.specs.StoreValue.{Cached, StoreValue, is_dead, unwritten, steps_left}
 
 -- The medium refused one call, and the log is dead. The batches are as they were.
 pub record HasDied (before after : State) (old new : Cached) : Type 0 where
@@ -30,6 +32,30 @@ pub record IsRecordStep (before after : State) (old new : Cached) : Type 0 where
   pub live : is_dead new ≡ false
       → (after.failures ≡ before.failures) × (progress : Progress) × HasGoneOn progress old new
   pub dies : is_dead new ≡ true → HasDied before after old new
+
+-- Told that more steps are needed, some are left; told durable, none is, and the batch is empty.
+pub record TellsProgress (result : Result Progress StoreFault) (new : Cached) : Type 0 where
+  pub more : result ≡ Ok More → 0 < new.log.steps_left
+  pub durable : result ≡ Ok Durable → (new.log.steps_left ≡ 0) × (new.frozen.numbers ≡ [])
+
+-- A step of the record under way leaves fewer of them, and that record has to be retired later. No
+-- record is retired, and the active batch stays.
+pub record WritesOn (old new : Cached) : Type 0 where
+  pub falls : is_dead new ≡ false → steps_left new < steps_left old
+  pub waits : 0 < new.log.retire_steps_left
+  pub head : new.log.head ≡ old.log.head
+  pub active : new.active ≡ old.active
+
+-- The record of the frozen batch is begun, which leaves fewer steps, or, where no stamp is left for
+-- it, the log is dead. No record is retired, and both batches stay.
+pub record BeginsFrozen (old new : Cached) : Type 0 where
+  pub live : is_dead new ≡ false
+      → (old.log.next < 2 ^ 63 - 1) × (new.log ≡ begun old.frozen.numbers old.log)
+  pub dies : is_dead new ≡ true → (old.log.next ≡ 2 ^ 63 - 1) × (new.log ≡ died old.log)
+  pub falls : is_dead new ≡ false → steps_left new < steps_left old
+  pub head : new.log.head ≡ old.log.head
+  pub active : new.active ≡ old.active
+  pub frozen : new.frozen ≡ old.frozen
 
 -- The frozen batch comes first: the batches stay as they are. Where it is empty the active batch
 -- takes its place.
@@ -58,6 +84,14 @@ pub record IsRetiring (before after : State) (old new : Cached) : Type 0 where
       → (after.failures ≡ before.failures) × IsRetireStepped old.log new.log
   pub dies : is_dead new ≡ true → HasDied before after old new
 
+-- Where no record waits a step of retiring does nothing, and else it leaves fewer. No record is
+-- under way.
+pub record CountsRetired {M : Type 0} (old new : StoreValue M) : Type 0 where
+  pub none : old.cached.log.waiting ≡ [] → new ≡ old
+  pub falls : 0 < length old.cached.log.waiting → is_dead new.cached ≡ false
+      → steps_left new.cached < steps_left old.cached
+  pub idle : new.cached.log.steps_left ≡ 0
+
 -- a record may be begun: none is under way, the log has room, and a batch holds blocks
 abbrev pub MayBegin : Cached → Type 0
 MayBegin s = HasRoom s.log × (0 < unwritten s)
@@ -70,3 +104,14 @@ pub record IsBackgroundStep (before after : State) (old new : Cached) : Type 0 w
   pub begins : is_dead old ≡ false → MayBegin old → IsBeginning before after old new
   pub retires : is_dead old ≡ false → old.log.steps_left ≡ 0 → ¬ MayBegin old
       → IsRetiring before after old new
+
+-- a step of a live store leaves fewer of them, where there was one
+abbrev pub LeavesFewer : Cached → Cached → Type 0
+LeavesFewer old new =
+    is_dead new ≡ false → (steps_left new < steps_left old) ⊎ (steps_left old ≡ 0)
+
+-- each step leaves fewer of them, and where none is left, or the store is dead, nothing happens
+pub record CountsDown {M : Type 0} (old new : StoreValue M) : Type 0 where
+  pub left : LeavesFewer old.cached new.cached
+  pub rests : steps_left old.cached ≡ 0 → new ≡ old
+  pub dead : is_dead old.cached ≡ true → new ≡ old

@@ -1,11 +1,13 @@
--- How many calls of the medium a read of a store makes, and what a good write does to the batches.
+-- How many calls of the medium a read of a store makes, and what a write does to the batches.
 use Rattle.std.specs.Prelude.{◌≡◌, ℕ, ◌+◌, zero, suc, Bool, true, false, List, [], ◌∷◌}
-use Rattle.std.specs.Prelude.{if◌then◌else◌}
+use Rattle.std.specs.Prelude.{◌≤◌, if◌then◌else◌, Result, OnOk}
+use Rattle.medium.specs.Medium.{State}
 use Rattle.cache.specs.Blocks.{is_listed}
 pub use Rattle.log_image.specs.Copies.{copy_reads_of}
 use Rattle.redo_log.specs.Value.{LogValue}
 use Rattle.blocks.specs.Retiring.{finished}
-use Rattle.blocks.specs.StoreValue.{Cached, layout_of, FitsBeside, transfer_limit}
+use Rattle.blocks.specs.StoreValue.{Cached, layout_of, FitsBeside, TakesRange, transfer_limit}
+use Rattle.blocks.specs.StoreValue.{active_of, batch_steps, steps_left}
 
 -- one of these records has this block
 abbrev pub is_logged : List (List ℕ) → ℕ → Bool
@@ -32,6 +34,14 @@ abbrev pub reads_of : Cached → ℕ → ℕ → ℕ
 reads_of s address zero = 0
 reads_of s address (suc count) = block_reads s address + reads_of s (address + 1) count
 
+-- A read makes so many calls at most, whatever becomes of it, and exactly so many where it is good.
+-- They are never more than a bound that does not look into the log.
+pub record CostsReads {A E : Type 0} (result : Result A E) (most count : ℕ) (before after : State)
+    : Type 0 where
+  pub calls : after.calls ≤ before.calls + most
+  pub reads : after.calls ≤ before.calls + count
+  pub exactly : OnOk result (after.calls ≡ before.calls + count)
+
 -- A good write whose range fits beside the active batch changes that batch alone. After any other
 -- the frozen batch is what the active one was, and the log is that with the batch before it
 -- durable: nothing else is written, or retired but for room.
@@ -40,3 +50,19 @@ pub record TurnsBatches (old new : Cached) (address count : ℕ) : Type 0 where
       → (new.frozen ≡ old.frozen) × (new.log ≡ old.log)
   pub alone : ¬ FitsBeside (transfer_limit old) old.active.numbers address count
       → (new.frozen ≡ old.active) × (new.log ≡ finished old.frozen.numbers old.log)
+
+-- where a write of so many blocks from this address on is good: the batch that takes it, and the
+-- batches before that
+pub record WritesRange {A E : Type 0} (result : Result A E) (address count : ℕ) (old new : Cached)
+    : Type 0 where
+  pub active : OnOk result
+      (TakesRange (transfer_limit old) (active_of old) address count (active_of new))
+  pub batches : OnOk result (TurnsBatches old new address count)
+
+-- The active batch takes the range, for which one more is to become a record at most. The log and
+-- the frozen batch stay.
+pub record AppendsRange (address count : ℕ) (old new : Cached) : Type 0 where
+  pub log : new.log ≡ old.log
+  pub frozen : new.frozen ≡ old.frozen
+  pub one_more : steps_left new ≤ steps_left old + batch_steps old
+  pub active : TakesRange (transfer_limit old) (active_of old) address count (active_of new)

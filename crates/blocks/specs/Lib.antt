@@ -4,9 +4,11 @@ pub mod StoreValue
 pub mod Opening
 pub mod Limit
 pub mod Turns
+pub mod Passing
 pub mod Started
 pub mod Kept
 pub mod Background
 pub mod Settled
 pub mod Calls
 pub mod Retiring
+pub mod Finishing

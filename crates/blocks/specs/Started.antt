@@ -9,6 +9,7 @@ use Rattle.log_image.specs.ImageFaults.{HasShape}
 use Rattle.recovery.specs.Causes.{IsCause}
 use Rattle.recovery.specs.Copies.{most_start_of}
 use Rattle.recovery.specs.Recovered.{IsRecoveredFrom, IsOursForSome, IsOursWithNext, StandsForOneOf}
+use Rattle.recovery.specs.Recovered.{SparesTheRest}
 use Rattle.recovery.specs.declared.recovered.Recovered.{Recovered}
 use Rattle.recovery.specs.declared.start_fault.StartFault.{StartFault}
 use Rattle.recovery.specs.declared.start_fault.StartFault.TheVariants.{NoMemory}
@@ -69,3 +70,19 @@ pub record StartLeaves (before after : State) : Type 0 where
       → EachCut (MayFind after.size book) after
   -- whatever the image, no count falls, the size stays, and the calls are bounded
   pub bounded : IsBounded before after
+
+-- What a start leaves of its medium at each moment, whether it is good or refused.
+pub record LeavesMedium {M : Type 0} (state : M → State) (Follows : M → M → Type 0) (old new : M)
+    : Type 0 where
+  pub cuts : EachCut (IsOursForSome (state old).size) (state old)
+      → LeavesOnly (StandsForOneOf (state old)) (state old) (state new)
+  -- From the first good flush on it is the array of the contents. A second call follows a good one
+  -- only.
+  pub after_flush : (shape : Shape) (array : Array) (next : ℕ)
+      → IsOurs (state old).size shape (state old).content array next
+      → IsOursSince (IsOursWithNext (state old).size shape array next) (state old) (state new)
+  -- whatever the image, no count falls, the size stays, and the calls are bounded
+  pub moments : IsBounded (state old) (state new)
+  -- the sectors behind the image are spared, whatever becomes of the start
+  pub spares : SparesTheRest (state old) (state new)
+  pub follows : Follows old new

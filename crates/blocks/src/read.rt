@@ -1,12 +1,11 @@
-// How blocks are read.
-ghost use Rattle.std.specs.Prelude.{◌≡◌, ◌≤◌, ◌<◌, ◌+◌, ◌*◌, ◌/◌, true, false, length};
-ghost use Rattle.std.specs.Prelude.{OnOk, IfErr, OnErr};
-ghost use Rattle.medium.specs.Moments.{IsQuiet};
+//! How blocks are read.
+ghost use Rattle.std.specs.Prelude.{◌≡◌, ◌<◌, ◌*◌, ◌/◌, false, length, OnOk, IfErr, OnErr};
 ghost use Rattle.medium.specs.declared.fault.MediumFault.TheVariants as medium_fault;
 ghost use Rattle.blocks.specs.Book.{Book, IsTransfer, array_of, blocks_at};
 ghost use Rattle.blocks.specs.StoreValue.{blocks_of, transfer_limit, is_dead, FitsBook};
 ghost use Rattle.blocks.specs.Turns.{IsTurn, IsReadCause};
-ghost use Rattle.blocks.specs.Calls.{durable_reads, block_reads, reads_of};
+ghost use Rattle.blocks.specs.Passing.{KeepsStore, RefusesRead};
+ghost use Rattle.blocks.specs.Calls.{durable_reads, block_reads, reads_of, CostsReads};
 
 use crate::store::BLOCK;
 use crate::{Store, StoreFault};
@@ -25,23 +24,14 @@ impl<M: Medium> Store<M> {
             address (length to.old) }
         ensures ok { (book : Book) → FitsBook (M.state self.old.medium) self.old.cached book
             → OnOk result (to.new ≡ blocks_at (array_of book) address (length to.old / 512)) }
-        ensures err { IfErr result (λ fault. IsReadCause (M.state self.old.medium)
-            (M.state self.new.medium) self.old.cached fault) }
-        ensures dead { is_dead self.old.cached ≡ true
-            → (result ≡ Err StoreFault.Dead) × (self.new ≡ self.old) }
-        ensures stays { self.new.cached ≡ self.old.cached }
-        ensures quiet { IsQuiet (M.state self.old.medium) (M.state self.new.medium) }
+        ensures refuses { RefusesRead M.state result self.old self.new }
+        ensures keeps { KeepsStore M.state M.follows self.old self.new }
         ensures turn { IsTurn (M.state self.old.medium) (M.state self.new.medium)
             self.old.cached self.new.cached }
-        ensures calls { (M.state self.new.medium).calls
-            ≤ (M.state self.old.medium).calls + 2 * (length to.old / 512) }
         // It reads no block twice, and makes no call for a block that a batch has.
-        ensures reads { (M.state self.new.medium).calls ≤ (M.state self.old.medium).calls
-            + reads_of self.old.cached address (length to.old / 512) }
-        ensures exactly { OnOk result ((M.state self.new.medium).calls
-            ≡ (M.state self.old.medium).calls
-            + reads_of self.old.cached address (length to.old / 512)) }
-        ensures follows { M.follows self.old.medium self.new.medium }
+        ensures cost { CostsReads result (2 * (length to.old / 512))
+            (reads_of self.old.cached address (length to.old / 512))
+            (M.state self.old.medium) (M.state self.new.medium) }
     {
         if self.log.is_dead() {
             return Err(StoreFault::Dead);
@@ -62,14 +52,9 @@ impl<M: Medium> Store<M> {
             → OnOk result (to.new ≡ array_of book block) }
         ensures err { IfErr result (λ fault. IsReadCause (M.state self.old.medium)
             (M.state self.new.medium) self.old.cached fault) }
-        ensures stays { self.new.cached ≡ self.old.cached }
-        ensures quiet { IsQuiet (M.state self.old.medium) (M.state self.new.medium) }
-        ensures calls { (M.state self.new.medium).calls ≤ (M.state self.old.medium).calls + 2 }
-        ensures reads { (M.state self.new.medium).calls
-            ≤ (M.state self.old.medium).calls + block_reads self.old.cached block }
-        ensures exactly { OnOk result ((M.state self.new.medium).calls
-            ≡ (M.state self.old.medium).calls + block_reads self.old.cached block) }
-        ensures follows { M.follows self.old.medium self.new.medium }
+        ensures keeps { KeepsStore M.state M.follows self.old self.new }
+        ensures cost { CostsReads result 2 (block_reads self.old.cached block)
+            (M.state self.old.medium) (M.state self.new.medium) }
     {
         if let Some(bytes) = self.active.get(block) {
             to.copy_from_slice(bytes);
@@ -99,13 +84,9 @@ impl<M: Medium> Store<M> {
             < (M.state self.new.medium).failures)
             × ((M.state self.old.medium).refused medium_fault.Read
             < (M.state self.new.medium).refused medium_fault.Read)) }
-        ensures stays { self.new.cached ≡ self.old.cached }
-        ensures quiet { IsQuiet (M.state self.old.medium) (M.state self.new.medium) }
-        ensures calls { (M.state self.new.medium).calls
-            ≤ (M.state self.old.medium).calls + durable_reads self.old.cached.log block }
-        ensures exactly { OnOk result ((M.state self.new.medium).calls
-            ≡ (M.state self.old.medium).calls + durable_reads self.old.cached.log block) }
-        ensures follows { M.follows self.old.medium self.new.medium }
+        ensures keeps { KeepsStore M.state M.follows self.old self.new }
+        ensures cost { CostsReads result 2 (durable_reads self.old.cached.log block)
+            (M.state self.old.medium) (M.state self.new.medium) }
     {
         match self.log.find(block) {
             Some((slot, place)) => self.log.read_copy(&mut self.medium, slot, place, to),

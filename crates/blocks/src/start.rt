@@ -1,16 +1,13 @@
-// How a store starts.
+//! How a store starts.
 ghost use Rattle.std.specs.Prelude.{◌≡◌, ◌⊎◌, ◌<◌, ◌≤◌, ◌^◌, ℕ, []};
 ghost use Rattle.std.specs.Prelude.{IfOk, IfErr, MatchResult};
-ghost use Rattle.medium.specs.Moments.{EachCut, LeavesOnly};
 ghost use Rattle.medium.specs.Blocks.{Array};
 ghost use Rattle.log_layout.specs.Places.{Shape, limit_of};
-ghost use Rattle.log_image.specs.Standing.{StandsFor, IsOurs};
+ghost use Rattle.log_image.specs.Standing.{StandsFor};
 ghost use Rattle.log_layout.specs.Values.{shape_of};
 ghost use Rattle.redo_log.specs.Value.{idle_from};
 ghost use Rattle.recovery.specs.Causes.{IsDeviceFault};
-ghost use Rattle.recovery.specs.Recovered.{IsOursForSome, IsOursWithNext, StandsForOneOf};
-ghost use Rattle.recovery.specs.Recovered.{SparesTheRest};
-ghost use Rattle.blocks.specs.Started.{IsStarted, IsStartCause, IsOursSince, IsBounded};
+ghost use Rattle.blocks.specs.Started.{IsStarted, IsStartCause, LeavesMedium};
 
 use crate::{StartError, Store};
 use cache::{Batch, Frozen};
@@ -75,32 +72,9 @@ impl<M: Medium> Store<M> {
             → next < 2 ^ 63
             → IfErr result (λ error. IsDeviceFault error.fault
             ⊎ (error.fault ≡ StartFault.NoMemory)) }
-        ensures cuts { EachCut (IsOursForSome (M.state medium).size) (M.state medium)
-            → MatchResult result
-            (λ store. LeavesOnly (StandsForOneOf (M.state medium))
-            (M.state medium) (M.state store.medium))
-            (λ error. LeavesOnly (StandsForOneOf (M.state medium))
-            (M.state medium) (M.state error.medium)) }
-        // From the first good flush on it is the array of the contents. A second call follows a
-        // good one only.
-        ensures after_flush { (shape : Shape) (array : Array) (next : ℕ)
-            → IsOurs (M.state medium).size shape (M.state medium).content array next
-            → MatchResult result
-            (λ store. IsOursSince (IsOursWithNext (M.state medium).size shape array next)
-            (M.state medium) (M.state store.medium))
-            (λ error. IsOursSince (IsOursWithNext (M.state medium).size shape array next)
-            (M.state medium) (M.state error.medium)) }
-        // Whatever the image: no count falls, the size stays, and the calls are bounded.
-        ensures moments { MatchResult result
-            (λ store. IsBounded (M.state medium) (M.state store.medium))
-            (λ error. IsBounded (M.state medium) (M.state error.medium)) }
-        // The sectors behind the image are spared, whatever becomes of the start.
-        ensures spares { MatchResult result
-            (λ store. SparesTheRest (M.state medium) (M.state store.medium))
-            (λ error. SparesTheRest (M.state medium) (M.state error.medium)) }
-        ensures follows { MatchResult result
-            (λ store. M.follows medium store.medium)
-            (λ error. M.follows medium error.medium) }
+        ensures leaves { MatchResult result
+            (λ store. LeavesMedium M.state M.follows medium store.medium)
+            (λ error. LeavesMedium M.state M.follows medium error.medium) }
     {
         let mut medium = medium;
         let recovered = match recover(&mut medium) {

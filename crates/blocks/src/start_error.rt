@@ -1,4 +1,4 @@
-// Why a store did not start.
+//! Why a store did not start.
 use medium::Medium;
 use recovery::StartFault;
 

@@ -1,12 +1,12 @@
-// What a store is made of.
+//! What a store is made of.
 ghost use Rattle.std.specs.Prelude.{◌≡◌, ◌↔◌, ◌<◌, ◌≤◌, ℕ, true, false, IsTrue};
-ghost use Rattle.medium.specs.Moments.{EachCut, IsUnchanged};
+ghost use Rattle.medium.specs.Moments.{EachCut};
 ghost use Rattle.blocks.specs.Book.{Book};
 ghost use Rattle.blocks.specs.Finding.{MayFind};
 ghost use Rattle.blocks.specs.StoreValue.{blocks_of, transfer_limit, is_dead, steps_left};
 ghost use Rattle.blocks.specs.StoreValue.{HasLimits, FitsBook};
 ghost use Rattle.blocks.specs.Settled.{IsSettled};
-ghost use Rattle.blocks.specs.Turns.{IsTurn};
+ghost use Rattle.blocks.specs.Passing.{IsUntouched};
 
 use cache::{Batch, Frozen};
 use log_layout::Super;
@@ -116,10 +116,7 @@ impl<M: Switch> Store<M> {
     /// Arms a fuse of the medium.
     pub fn fuse(&mut self, writes: u64)
         ensures fused { M.fused writes self.old.medium self.new.medium }
-        ensures unchanged { IsUnchanged (M.state self.old.medium) (M.state self.new.medium) }
-        ensures cached { self.new.cached ≡ self.old.cached }
-        ensures turn { IsTurn (M.state self.old.medium) (M.state self.new.medium)
-            self.old.cached self.new.cached }
+        ensures untouched { IsUntouched M.state self.old self.new }
     {
         self.medium.fuse(writes);
     }
@@ -129,10 +126,7 @@ impl<M: Switch> Store<M> {
         requires { 0 < call }
         ensures failing { M.failing call self.old.medium self.new.medium }
         ensures follows { M.follows self.old.medium self.new.medium }
-        ensures unchanged { IsUnchanged (M.state self.old.medium) (M.state self.new.medium) }
-        ensures cached { self.new.cached ≡ self.old.cached }
-        ensures turn { IsTurn (M.state self.old.medium) (M.state self.new.medium)
-            self.old.cached self.new.cached }
+        ensures untouched { IsUntouched M.state self.old self.new }
     {
         self.medium.fail(call);
     }
@@ -142,10 +136,7 @@ impl<M: Outlet> Store<M> {
     /// Lets go of the call that the medium's device is to carry out next, if there is one.
     pub fn give(&mut self)
         ensures given { M.given self.old.medium self.new.medium }
-        ensures unchanged { IsUnchanged (M.state self.old.medium) (M.state self.new.medium) }
-        ensures cached { self.new.cached ≡ self.old.cached }
-        ensures turn { IsTurn (M.state self.old.medium) (M.state self.new.medium)
-            self.old.cached self.new.cached }
+        ensures untouched { IsUntouched M.state self.old self.new }
     {
         self.medium.give();
     }

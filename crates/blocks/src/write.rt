@@ -1,11 +1,12 @@
-// How writes are accepted.
+//! How writes are accepted.
 ghost use Rattle.std.specs.Prelude.{◌≡◌, ◌≤◌, ◌+◌, ◌*◌, ◌/◌, true, false, length};
-ghost use Rattle.std.specs.Prelude.{OnOk, IsOk, MatchResult, is_ok};
+ghost use Rattle.std.specs.Prelude.{OnOk, IsOk, is_ok};
 ghost use Rattle.blocks.specs.Book.{IsTransfer, write_of};
 ghost use Rattle.blocks.specs.StoreValue.{blocks_of, transfer_limit, is_dead, active_of};
-ghost use Rattle.blocks.specs.StoreValue.{batch_steps, steps_left, FitsBeside, TakesRange};
+ghost use Rattle.blocks.specs.StoreValue.{batch_steps, steps_left, FitsBeside};
 ghost use Rattle.blocks.specs.Turns.{IsWriteTurn};
-ghost use Rattle.blocks.specs.Calls.{TurnsBatches};
+ghost use Rattle.blocks.specs.Passing.{Passes, KeepsMedium, Answers};
+ghost use Rattle.blocks.specs.Calls.{WritesRange, AppendsRange};
 
 use crate::store::BLOCK;
 use crate::{Store, StoreFault};
@@ -25,27 +26,19 @@ impl<M: Medium> Store<M> {
     pub fn write(&mut self, address: u64, bytes: &[u8]) -> Result<(), StoreFault>
         requires { IsTransfer (transfer_limit self.old.cached) (blocks_of self.old.cached)
             address (length bytes.now) }
-        ensures turn { IsWriteTurn (write_of address bytes.now) (is_ok result)
-            (M.state self.old.medium) (M.state self.new.medium) self.old.cached self.new.cached }
-        ensures answer { MatchResult result (λ _. is_dead self.new.cached ≡ false)
-            (λ fault. (fault ≡ StoreFault.Dead) × (is_dead self.new.cached ≡ true)) }
-        ensures dead { is_dead self.old.cached ≡ true → self.new ≡ self.old }
-        ensures active { OnOk result (TakesRange (transfer_limit self.old.cached)
-            (active_of self.old.cached) address (length bytes.now / 512)
-            (active_of self.new.cached)) }
+        ensures passes { Passes M.state M.follows (IsWriteTurn (write_of address bytes.now)
+            (is_ok result)) (2 * steps_left self.old.cached) self.old self.new }
+        ensures answers { Answers result self.old self.new }
+        ensures batches { WritesRange result address (length bytes.now / 512)
+            self.old.cached self.new.cached }
         ensures quiet { FitsBeside (transfer_limit self.old.cached) (active_of self.old.cached)
             address (length bytes.now / 512)
             → (self.new.medium ≡ self.old.medium)
             × (is_dead self.old.cached ≡ false → IsOk result) }
-        ensures calls { (M.state self.new.medium).calls
-            ≤ (M.state self.old.medium).calls + 2 * steps_left self.old.cached }
         // One batch more is to become a record.
         ensures paid { OnOk result ((M.state self.new.medium).calls + 2 * steps_left self.new.cached
             ≤ (M.state self.old.medium).calls + 2 * steps_left self.old.cached
             + 2 * batch_steps self.old.cached) }
-        ensures batches { OnOk result (TurnsBatches self.old.cached self.new.cached
-            address (length bytes.now / 512)) }
-        ensures follows { M.follows self.old.medium self.new.medium }
     {
         if self.is_dead() {
             return Err(StoreFault::Dead);
@@ -66,15 +59,10 @@ impl<M: Medium> Store<M> {
             address (length bytes.now) }
         requires fits { FitsBeside (transfer_limit self.old.cached) (active_of self.old.cached)
             address (length bytes.now / 512) }
-        ensures turn { IsWriteTurn (write_of address bytes.now) true
-            (M.state self.old.medium) (M.state self.new.medium) self.old.cached self.new.cached }
-        ensures medium { self.new.medium ≡ self.old.medium }
-        ensures log { self.new.cached.log ≡ self.old.cached.log }
-        ensures frozen { self.new.cached.frozen ≡ self.old.cached.frozen }
-        ensures one_more { steps_left self.new.cached
-            ≤ steps_left self.old.cached + batch_steps self.old.cached }
-        ensures active { TakesRange (transfer_limit self.old.cached) (active_of self.old.cached)
-            address (length bytes.now / 512) (active_of self.new.cached) }
+        ensures keeps { KeepsMedium M.state (IsWriteTurn (write_of address bytes.now) true)
+            self.old self.new }
+        ensures batch { AppendsRange address (length bytes.now / 512)
+            self.old.cached self.new.cached }
     {
         self.active.put(address, bytes);
     }

@@ -1,8 +1,14 @@
-use Rattle.std.proofs.Common.{◌/◌, length}
+use Rattle.std.proofs.Common.{◌/◌, length, rules}
 use Rattle.blocks.proofs.Stepping.{appends_write}
 use Rattle.blocks.proofs.store.Store.append.Goals as goal
 
-pub returns-clause-turn : goal.returns-clause-turn
-returns-clause-turn g c =
-    let m = c.self.inside.medium in
-    rw (← c.self.view_is) (appends_write (g.M.Medium.state m) (g.met.M.Medium.sound m) _ c.put.new.self c.args.address c.args.bytes.now (length c.args.bytes.now / 512) c.put.ensures.map)
+pub returns-clause-keeps : goal.returns-clause-keeps
+returns-clause-keeps g c = record {
+  turn =
+      let m = c.self.inside.medium in
+      let count = length c.args.bytes.now / 512 in
+      rw (← c.self.view_is)
+      (appends_write (g.M.Medium.state m) (g.met.M.Medium.sound m) _ c.put.new.self
+      c.args.address c.args.bytes.now count c.put.ensures.map);
+  medium = search rules;
+}

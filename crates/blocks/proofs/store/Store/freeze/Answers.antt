@@ -1,8 +1,13 @@
+use Rattle.std.proofs.Common.{rules}
 use Rattle.blocks.proofs.Stepping.{freezes_active}
 use Rattle.blocks.proofs.store.Store.freeze.Goals as goal
 
-pub returns-clause-turn : goal.returns-clause-turn
-returns-clause-turn g c =
-    let m = c.self.inside.medium in
-    rw (← c.self.view_is, c.freeze.ensures.thawed, c.freeze.ensures.froze)
-    (freezes_active (g.M.Medium.state m) (g.met.M.Medium.sound m) _ (rw (← c.self.view_is) at c.requires.idle) (rw (← c.self.view_is) at c.requires.empty))
+pub returns-clause-keeps : goal.returns-clause-keeps
+returns-clause-keeps g c = record {
+  turn =
+      let m = c.self.inside.medium in
+      rw (← c.self.view_is, c.freeze.ensures.thawed, c.freeze.ensures.froze)
+      (freezes_active (g.M.Medium.state m) (g.met.M.Medium.sound m) _
+      (rw (← c.self.view_is) at c.requires.idle) (rw (← c.self.view_is) at c.requires.empty));
+  medium = search rules;
+}

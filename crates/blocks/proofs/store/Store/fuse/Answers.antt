@@ -1,6 +1,13 @@
+use Rattle.std.proofs.Common.{rules}
 use Rattle.medium.proofs.Moments.{unchanged_quiet}
 use Rattle.blocks.proofs.Turning.{quiet_turn}
 use Rattle.blocks.proofs.store.Store.fuse.Goals as goal
 
-pub returns-clause-turn : goal.returns-clause-turn
-returns-clause-turn g c = rw (← c.self.view_is) (quiet_turn _ _ _ (g.met.M.Medium.sound c.self.inside.medium) (unchanged_quiet _ _ c.fuse.ensures.unchanged))
+pub returns-clause-untouched : goal.returns-clause-untouched
+returns-clause-untouched g c = record {
+  unchanged = search rules;
+  cached = search rules;
+  turn =
+      let quiet = unchanged_quiet _ _ c.fuse.ensures.unchanged in
+      rw (← c.self.view_is) (quiet_turn _ _ _ (g.met.M.Medium.sound c.self.inside.medium) quiet);
+}

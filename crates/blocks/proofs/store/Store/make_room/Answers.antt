@@ -1,7 +1,8 @@
-use Rattle.std.proofs.Common.{◌≡◌, ◌≤◌, refl, ◌∙◌, ap, sym, subst, inl, arith, false}
+use Rattle.std.proofs.Common.{◌≡◌, ◌≤◌, refl, ◌∙◌, ap, sym, subst, inl, arith, false, rules}
 use Rattle.std.proofs.lemmas.Bool.{false≢true}
 use Rattle.log_layout.specs.Places.{Shape}
 use Rattle.redo_log.specs.Value.{LogValue, HasRoom}
+use Rattle.blocks.specs.StoreValue.{Cached}
 use Rattle.blocks.proofs.Room.{one_at_most, most_one, retires_more, room_is_made}
 use Rattle.blocks.proofs.Turning.{turns, stays}
 use Rattle.blocks.proofs.Paying.{pays, pays_both, pays_step, must_retire}
@@ -25,15 +26,15 @@ loop-self-init g c = record {
 pub loop-self-smaller : goal.loop-self-smaller
 loop-self-smaller g c =
     let refused : c.has_room.result ≡ false = c.loop-self-test.true in
-    let left = must_retire (record { log = c.self.inside.log; active = c.self.inside.active; frozen = c.self.inside.frozen }) c.has_room.result refused
-    c.has_room.ensures.full c.has_room.ensures.always (rw (← c.self.view_is) at c.loop-self.invariant.idle) in
-    c.in_ok-retire.ensures.falls (rw (← c.self.view_is) left.0) c.in_ok-retire.ensures.answer
+    let left = must_retire (record { log = c.self.inside.log; active = c.self.inside.active; frozen = c.self.inside.frozen })
+    c.has_room.result refused c.has_room.ensures.full c.has_room.ensures.always (rw (← c.self.view_is) at c.loop-self.invariant.idle) in
+    c.in_ok-retire.ensures.counts.falls (rw (← c.self.view_is) left.0) c.in_ok-retire.ensures.answer
 
 pub loop-self-preserved : goal.loop-self-preserved
 loop-self-preserved g c =
     let refused : c.has_room.result ≡ false = c.loop-self-test.true in
-    let left = must_retire (record { log = c.self.inside.log; active = c.self.inside.active; frozen = c.self.inside.frozen }) c.has_room.result refused
-    c.has_room.ensures.full c.has_room.ensures.always (rw (← c.self.view_is) at c.loop-self.invariant.idle) in
+    let left = must_retire (record { log = c.self.inside.log; active = c.self.inside.active; frozen = c.self.inside.frozen })
+    c.has_room.result refused c.has_room.ensures.full c.has_room.ensures.always (rw (← c.self.view_is) at c.loop-self.invariant.idle) in
     let full : HasRoom c.self.inside.log → ⊥ = λ room. false≢true (sym refused ∙ c.has_room.ensures.room.1 room) in
     let kept = c.self.invariant in
     let live = rw (← c.self.view_is) at c.loop-self.invariant.live in
@@ -50,28 +51,59 @@ loop-self-preserved g c =
       retires = retires_more c.args.self.now.cached.log c.self.inside.log c.retire.new.self.cached.log full under_way idle
           (rw (← c.self.view_is) at stepped) (rw (← c.self.view_is) at c.loop-self.invariant.one)
           (rw (← c.self.view_is) at c.loop-self.invariant.retires);
-      turn = turns _ _ _ _ _ _ c.loop-self.invariant.turn c.retire.ensures.turn;
+      turn = turns _ _ _ _ _ _ c.loop-self.invariant.turn c.retire.ensures.passes.turn;
       paid = pays_both _ _ _ _ _ _ c.loop-self.invariant.paid c.loop-self.invariant.live
-          (pays_step (g.M.Medium.state c.loop-self.self.medium) (g.M.Medium.state c.retire.new.self.medium) c.loop-self.self.cached c.retire.new.self.cached
-          (rw (← c.self.view_is) left.1) c.retire.ensures.calls (c.retire.ensures.falls (rw (← c.self.view_is) left.0)));
+          (pays_step (g.M.Medium.state c.loop-self.self.medium) (g.M.Medium.state c.retire.new.self.medium) c.loop-self.self.cached
+          c.retire.new.self.cached (rw (← c.self.view_is) left.1) c.retire.ensures.passes.calls
+          (c.retire.ensures.counts.falls (rw (← c.self.view_is) left.0)));
       live = c.in_ok-retire.ensures.answer;
-      idle = c.retire.ensures.idle;
-      active = c.retire.ensures.active ∙ c.loop-self.invariant.active;
-      frozen = c.retire.ensures.frozen ∙ c.loop-self.invariant.frozen;
-      follows = g.met.M.Medium.follows_through _ _ _ c.loop-self.invariant.follows c.retire.ensures.follows;
+      idle = c.retire.ensures.counts.idle;
+      active = c.retire.ensures.retiring.active ∙ c.loop-self.invariant.active;
+      frozen = c.retire.ensures.retiring.frozen ∙ c.loop-self.invariant.frozen;
+      follows = g.met.M.Medium.follows_through _ _ _ c.loop-self.invariant.follows c.retire.ensures.passes.follows;
     }
 
-pub returns-in_err-retire-clause-turn : goal.returns-in_err-retire-clause-turn
-returns-in_err-retire-clause-turn g c = turns _ _ _ _ _ _ c.loop-self.invariant.turn c.retire.ensures.turn
-
-pub returns-clause-retires : goal.returns-clause-retires
-returns-clause-retires g c = record {
-  one = most_one c.args.self.now.cached.log c.loop-self.self.cached.log c.loop-self.invariant.one;
-  roomy = λ room. ap (λ (l : LogValue). l.head) (c.loop-self.invariant.stays room);
+pub returns-in_err-retire-clause-passes : goal.returns-in_err-retire-clause-passes
+returns-in_err-retire-clause-passes g c = record {
+  turn = turns _ _ _ _ _ _ c.loop-self.invariant.turn c.retire.ensures.passes.turn;
+  paid = search rules;
+  follows = search rules;
 }
 
-pub returns-clause-made : goal.returns-clause-made
-returns-clause-made g c =
-    let log_is = ap (λ v. v.cached.log) c.self.view_is in
-    let room : HasRoom c.loop-self.self.cached.log = subst (λ (log : LogValue). HasRoom log) log_is (c.has_room.ensures.room.0 c.loop-self-test.false) in
-    room_is_made c.args.self.now.cached.log c.loop-self.self.cached.log c.loop-self.invariant.stays room c.loop-self.invariant.retires
+pub returns-in_err-retire-clause-room : goal.returns-in_err-retire-clause-room
+returns-in_err-retire-clause-room g c = record {
+  retires =
+      let died = c.retire.ensures.retiring.dies c.in_err-retire.ensures.answer.1 in
+      let head = ap (λ (s : Cached). s.log.head) died.is in
+      let one = most_one c.args.self.now.cached.log c.loop-self.self.cached.log c.loop-self.invariant.one in
+      record {
+        one = omega (arith, head, one);
+        roomy = λ room. head ∙ ap (λ (l : LogValue). l.head) (c.loop-self.invariant.stays room);
+      };
+  room = search rules;
+  made = search rules;
+  quiet = λ room.
+      let refused : c.has_room.result ≡ false = c.loop-self-test.true in
+      let full : HasRoom c.self.inside.log → ⊥ = λ still. false≢true (sym refused ∙ c.has_room.ensures.room.1 still) in
+      let log_is = sym (c.loop-self.invariant.stays room) ∙ sym (ap (λ v. v.cached.log) c.self.view_is) in
+      absurd (full (subst (λ (log : LogValue). HasRoom log) log_is room));
+  active = search rules;
+  frozen = search rules;
+}
+
+pub returns-clause-room : goal.returns-clause-room
+returns-clause-room g c = record {
+  retires = record {
+    one = most_one c.args.self.now.cached.log c.loop-self.self.cached.log c.loop-self.invariant.one;
+    roomy = λ room. ap (λ (l : LogValue). l.head) (c.loop-self.invariant.stays room);
+  };
+  room = search rules;
+  made =
+      let log_is = ap (λ v. v.cached.log) c.self.view_is in
+      let room : HasRoom c.loop-self.self.cached.log =
+      subst (λ (log : LogValue). HasRoom log) log_is (c.has_room.ensures.room.0 c.loop-self-test.false) in
+      room_is_made c.args.self.now.cached.log c.loop-self.self.cached.log c.loop-self.invariant.stays room c.loop-self.invariant.retires;
+  quiet = search rules;
+  active = search rules;
+  frozen = search rules;
+}

@@ -1,4 +1,4 @@
-use Rattle.std.proofs.Common.{◌+◌, ◌-◌, ◌*◌, ◌/◌, length, ◌∙◌, ap, arith, subst, sym}
+use Rattle.std.proofs.Common.{◌≤◌, ◌+◌, ◌-◌, ◌*◌, ◌/◌, length, ◌∙◌, ap, arith, subst, sym, rules}
 use Rattle.log_layout.specs.Places.{Shape}
 use Rattle.medium.proofs.Moments.{quiet_start, quiet_joined}
 use Rattle.blocks.specs.Book.{array_of}
@@ -26,14 +26,17 @@ returns-in_err-read_block-clause-turn g c =
     let before = g.M.Medium.state c.args.self.now.medium in
     let mid = g.M.Medium.state c.loop-i.self.medium in
     let after = g.M.Medium.state c.read_block.new.self.medium in
-    let stays = c.read_block.ensures.stays ∙ c.loop-i.invariant.stays in
-    subst (IsTurn before after c.args.self.now.cached) (sym stays) (quiet_turn before after c.args.self.now.cached (g.met.M.Medium.sound c.args.self.now.medium) (quiet_joined before mid after c.loop-i.invariant.quiet c.read_block.ensures.quiet))
+    let stays = c.read_block.ensures.keeps.stays ∙ c.loop-i.invariant.stays in
+    let quiet = quiet_joined before mid after c.loop-i.invariant.quiet c.read_block.ensures.keeps.quiet in
+    let turn = quiet_turn before after c.args.self.now.cached (g.met.M.Medium.sound c.args.self.now.medium) quiet in
+    subst (IsTurn before after c.args.self.now.cached) (sym stays) turn
 
 pub returns-clause-turn : goal.returns-clause-turn
 returns-clause-turn g c =
     let before = g.M.Medium.state c.args.self.now.medium in
     let after = g.M.Medium.state c.loop-i.self.medium in
-    subst (IsTurn before after c.args.self.now.cached) (sym c.loop-i.invariant.stays) (quiet_turn before after c.args.self.now.cached (g.met.M.Medium.sound c.args.self.now.medium) c.loop-i.invariant.quiet)
+    subst (IsTurn before after c.args.self.now.cached) (sym c.loop-i.invariant.stays)
+    (quiet_turn before after c.args.self.now.cached (g.met.M.Medium.sound c.args.self.now.medium) c.loop-i.invariant.quiet)
 
 pub loop-i-preserved : goal.loop-i-preserved
 loop-i-preserved g c =
@@ -42,32 +45,43 @@ loop-i-preserved g c =
     let after = g.M.Medium.state c.read_block.new.self.medium in
     let now = quiet_turn before mid c.args.self.now.cached (g.met.M.Medium.sound c.args.self.now.medium) c.loop-i.invariant.quiet in
     record {
-      stays = c.read_block.ensures.stays ∙ c.loop-i.invariant.stays;
-      quiet = quiet_joined before mid after c.loop-i.invariant.quiet c.read_block.ensures.quiet;
-      calls = omega (arith, c.loop-i.invariant.calls, c.read_block.ensures.calls);
+      stays = c.read_block.ensures.keeps.stays ∙ c.loop-i.invariant.stays;
+      quiet = quiet_joined before mid after c.loop-i.invariant.quiet c.read_block.ensures.keeps.quiet;
+      calls = omega (arith, c.loop-i.invariant.calls, c.read_block.ensures.cost.calls);
       reads =
-          let one = c.in_ok-read_block.ensures.exactly in
+          let one = c.in_ok-read_block.ensures.cost.exactly in
           let same = ap (λ (s : Cached). block_reads s (c.args.address + c.loop-i.i)) c.loop-i.invariant.stays in
           omega (arith, c.loop-i.invariant.reads, one, same, reads_more c.args.self.now.cached c.args.address c.loop-i.i);
-      follows = g.met.M.Medium.follows_through c.args.self.now.medium c.loop-i.self.medium c.read_block.new.self.medium c.loop-i.invariant.follows c.read_block.ensures.follows;
+      follows = g.met.M.Medium.follows_through _ _ _ c.loop-i.invariant.follows c.read_block.ensures.keeps.follows;
       so_far = λ book fits.
-          let here : FitsBook mid c.loop-i.self.cached book = subst (λ (s : Cached). FitsBook mid s book) (sym c.loop-i.invariant.stays) (now.fits book fits) in
-          put_block (array_of book) c.args.address c.loop-i.i (c.loop-i.i * 512) (c.loop-i.i * 512 + 512 - c.loop-i.i * 512) (512 * (c.loop-i.i + 1)) c.loop-i.to c.read_block.new.to
-          (omega arith) (omega arith) (omega arith) (omega (arith, c.loop-i-test.true, c.loop-i.auto.to)) c.read_block.auto.to
-          (c.loop-i.invariant.so_far book fits) (c.in_ok-read_block.ensures.ok book here);
+          let here : FitsBook mid c.loop-i.self.cached book =
+          subst (λ (s : Cached). FitsBook mid s book) (sym c.loop-i.invariant.stays) (now.fits book fits) in
+          put_block (array_of book) c.args.address c.loop-i.i (c.loop-i.i * 512) (c.loop-i.i * 512 + 512 - c.loop-i.i * 512)
+          (512 * (c.loop-i.i + 1)) c.loop-i.to c.read_block.new.to (omega arith) (omega arith) (omega arith)
+          (omega (arith, c.loop-i-test.true, c.loop-i.auto.to)) c.read_block.auto.to (c.loop-i.invariant.so_far book fits)
+          (c.in_ok-read_block.ensures.ok book here);
     }
 
-pub returns-in_err-read_block-clause-reads : goal.returns-in_err-read_block-clause-reads
-returns-in_err-read_block-clause-reads g c =
-    let same = ap (λ (s : Cached). block_reads s (c.args.address + c.loop-i.i)) c.loop-i.invariant.stays in
-    omega (
-      arith,
-      c.loop-i.invariant.reads,
-      c.read_block.ensures.reads,
-      same,
-      reads_more c.args.self.now.cached c.args.address c.loop-i.i,
-      reads_within c.args.self.now.cached c.args.address (c.loop-i.i + 1) (length c.args.to.now / 512) (omega (arith, c.loop-i-test.true)),
-    )
+pub returns-in_err-read_block-clause-cost : goal.returns-in_err-read_block-clause-cost
+returns-in_err-read_block-clause-cost g c = record {
+  calls = search rules;
+  reads =
+      let same = ap (λ (s : Cached). block_reads s (c.args.address + c.loop-i.i)) c.loop-i.invariant.stays in
+      let more : c.loop-i.i + 1 ≤ length c.args.to.now / 512 = omega (arith, c.loop-i-test.true) in
+      omega (
+        arith,
+        c.loop-i.invariant.reads,
+        c.read_block.ensures.cost.reads,
+        same,
+        reads_more c.args.self.now.cached c.args.address c.loop-i.i,
+        reads_within c.args.self.now.cached c.args.address (c.loop-i.i + 1) (length c.args.to.now / 512) more,
+      );
+  exactly = search rules;
+}
 
-pub returns-in_err-read_block-clause-quiet : goal.returns-in_err-read_block-clause-quiet
-returns-in_err-read_block-clause-quiet g c = quiet_joined _ _ _ c.loop-i.invariant.quiet c.read_block.ensures.quiet
+pub returns-in_err-read_block-clause-keeps : goal.returns-in_err-read_block-clause-keeps
+returns-in_err-read_block-clause-keeps g c = record {
+  stays = search rules;
+  quiet = quiet_joined _ _ _ c.loop-i.invariant.quiet c.read_block.ensures.keeps.quiet;
+  follows = g.met.M.Medium.follows_through _ _ _ c.loop-i.invariant.follows c.read_block.ensures.keeps.follows;
+}

@@ -12,5 +12,6 @@ invariant-loop-i g l = record {
   calls : (g.M.Medium.state l.self.medium).calls ≤ (g.M.Medium.state l.fn.self.medium).calls + 2 * l.i;
   reads : (g.M.Medium.state l.self.medium).calls ≡ (g.M.Medium.state l.fn.self.medium).calls + reads_of l.fn.self.cached l.address l.i;
   follows : g.M.Medium.follows l.fn.self.medium l.self.medium;
-  so_far : (book : Book) → FitsBook (g.M.Medium.state l.fn.self.medium) l.fn.self.cached book → take (512 * l.i) l.to ≡ blocks_at (array_of book) l.address l.i;
+  so_far : (book : Book) → FitsBook (g.M.Medium.state l.fn.self.medium) l.fn.self.cached book
+      → take (512 * l.i) l.to ≡ blocks_at (array_of book) l.address l.i;
 }

@@ -4,43 +4,45 @@ use Rattle.log_layout.specs.Places.{Shape, first_home}
 use Rattle.redo_log.specs.Value.{LogValue, HasNoCopy}
 use Rattle.redo_log.proofs.Handing.{home_is}
 use Rattle.blocks.specs.Calls.{durable_reads}
-use Rattle.blocks.proofs.Counting.{reads_logged, reads_home}
+use Rattle.blocks.proofs.Counting.{reads_logged, reads_home, few_copy_reads}
 use Rattle.blocks.proofs.store.Store.read_durable.Goals as goal
 
 pub returns-in-None-clause-ok : goal.returns-in-None-clause-ok
 returns-in-None-clause-ok g c book fits =
     let log_is = ap (λ v. v.cached.log) c.self.view_is in
     let none = subst (λ (log : LogValue). HasNoCopy log c.args.block) log_is c.in-None.ensures in
-    let home = home_is c.args.self.now.cached.log (g.M.Medium.state c.args.self.now.medium) fits.view fits.holds c.requires.live c.args.block c.requires.inside none in
+    let home = home_is c.args.self.now.cached.log (g.M.Medium.state c.args.self.now.medium) fits.view fits.holds c.requires.live
+    c.args.block c.requires.inside none in
     let first = ap (λ (s : Shape). first_home s) c.self.invariant.shape in
     let same = ap (λ (log : LogValue). first_home log.shape) log_is in
-    let place : c.home_of.result ≡ first_home c.args.self.now.cached.log.shape + c.args.block = omega (arith, c.home_of.ensures, first, same) in
-    on_ok_weaker c.read.result (λ read. read ∙ (ap (λ v. (g.M.Medium.state v.medium).content c.home_of.result) c.self.view_is ∙ (ap (λ (s : ℕ). (g.M.Medium.state c.args.self.now.medium).content s) place ∙ home))) c.read.ensures.ok
+    let place : c.home_of.result ≡ first_home c.args.self.now.cached.log.shape + c.args.block =
+    omega (arith, c.home_of.ensures, first, same) in
+    on_ok_weaker c.read.result
+    (λ read. read
+    ∙ (ap (λ v. (g.M.Medium.state v.medium).content c.home_of.result) c.self.view_is
+    ∙ (ap (λ (s : ℕ). (g.M.Medium.state c.args.self.now.medium).content s) place ∙ home)))
+    c.read.ensures.ok
 
-pub returns-in-Some-clause-exactly : goal.returns-in-Some-clause-exactly
-returns-in-Some-clause-exactly g c =
+pub returns-in-Some-clause-cost : goal.returns-in-Some-clause-cost
+returns-in-Some-clause-cost g c =
     let log = ap (λ v. durable_reads v.cached.log c.args.block) c.self.view_is in
     let before = ap (λ v. (g.M.Medium.state v.medium).calls) c.self.view_is in
     let logged = reads_logged c.self.inside.log c.args.block c.in-Some.slot c.in-Some.place c.in-Some.ensures in
-    on_ok_weaker c.read_copy.result (λ all. omega (arith, all, log, before, logged)) c.read_copy.ensures.passes.all_calls
+    let few = few_copy_reads c.self.inside.log.shape.format in
+    record {
+      calls = omega (arith, c.read_copy.ensures.passes.few_calls, before, few);
+      reads = omega (arith, c.read_copy.ensures.passes.few_calls, log, before, logged);
+      exactly = on_ok_weaker c.read_copy.result (λ all. omega (arith, all, log, before, logged)) c.read_copy.ensures.passes.all_calls;
+    }
 
-pub returns-in-Some-clause-calls : goal.returns-in-Some-clause-calls
-returns-in-Some-clause-calls g c =
-    let log = ap (λ v. durable_reads v.cached.log c.args.block) c.self.view_is in
-    let before = ap (λ v. (g.M.Medium.state v.medium).calls) c.self.view_is in
-    let logged = reads_logged c.self.inside.log c.args.block c.in-Some.slot c.in-Some.place c.in-Some.ensures in
-    omega (arith, c.read_copy.ensures.passes.few_calls, log, before, logged)
-
-pub returns-in-None-clause-exactly : goal.returns-in-None-clause-exactly
-returns-in-None-clause-exactly g c =
-    let log = ap (λ v. durable_reads v.cached.log c.args.block) c.self.view_is in
-    let before = ap (λ v. (g.M.Medium.state v.medium).calls) c.self.view_is in
-    let home = reads_home c.self.inside.log c.args.block c.in-None.ensures in
-    on_ok_weaker c.read.result (λ _. omega (arith, c.read.ensures.passes.calls_are, log, before, home)) c.read.ensures.ok
-
-pub returns-in-None-clause-calls : goal.returns-in-None-clause-calls
-returns-in-None-clause-calls g c =
+pub returns-in-None-clause-cost : goal.returns-in-None-clause-cost
+returns-in-None-clause-cost g c =
     let log = ap (λ v. durable_reads v.cached.log c.args.block) c.self.view_is in
     let before = ap (λ v. (g.M.Medium.state v.medium).calls) c.self.view_is in
     let home = reads_home c.self.inside.log c.args.block c.in-None.ensures in
-    omega (arith, c.read.ensures.passes.calls_are, log, before, home)
+    let one = c.read.ensures.passes.calls_are in
+    record {
+      calls = omega (arith, one, before);
+      reads = omega (arith, one, log, before, home);
+      exactly = on_ok_weaker c.read.result (λ _. omega (arith, one, log, before, home)) c.read.ensures.ok;
+    }

@@ -1,4 +1,4 @@
-use Rattle.std.proofs.Common.{◌∙◌, arith, ap, sym, subst}
+use Rattle.std.proofs.Common.{◌∙◌, arith, ap, sym, subst, rules}
 use Rattle.std.proofs.lemmas.Bool.{false≢true}
 use Rattle.medium.specs.Moments.{IsUnchanged}
 use Rattle.medium.proofs.Moments.{unchanged}
@@ -16,7 +16,8 @@ invariant_of-self g c =
     elim c.match-retire_step.branch [
       | in-Ok w ↦ still_kept before after i.sizes _ c.retire_step.new.self i.writing w.in-Ok.ensures.size idle
           (retained _ c.retire_step.new.self (λ none. (w.in-Ok.ensures.none none).1) w.in-Ok.ensures.ok) c.self.invariant
-      | in-Err w ↦ died_kept before after i.sizes _ c.retire_step.new.self i.writing w.in-Err.ensures.size w.in-Err.ensures.err c.self.invariant
+      | in-Err w ↦
+          died_kept before after i.sizes _ c.retire_step.new.self i.writing w.in-Err.ensures.size w.in-Err.ensures.err c.self.invariant
     ]
 
 pub returns-clause-retiring : goal.returns-clause-retiring
@@ -26,22 +27,36 @@ returns-clause-retiring g c =
     let after = g.M.Medium.state c.retire_step.new.m in
     let live = ap (λ v. v.cached.log.dead) c.self.view_is ∙ c.requires.live in
     elim c.match-retire_step.branch [
-      | in-Ok w ↦ rw (← c.self.view_is)
+      | in-Ok w ↦
+          rw (← c.self.view_is)
           (is_retiring before after _ c.retire_step.new.self
-          (λ none. ((w.in-Ok.ensures.none none).1, subst (λ m. IsUnchanged (g.M.Medium.state c.self.inside.medium) (g.M.Medium.state m)) (sym (w.in-Ok.ensures.none none).2) (unchanged before)))
+          (λ none. (
+            (w.in-Ok.ensures.none none).1,
+            subst (λ m. IsUnchanged (g.M.Medium.state c.self.inside.medium) (g.M.Medium.state m))
+                (sym (w.in-Ok.ensures.none none).2) (unchanged before),
+          ))
           w.in-Ok.ensures.calls live w.in-Ok.ensures.failures w.in-Ok.ensures.ok)
       | in-Err w ↦ rw (← c.self.view_is)
           (is_dying before after _ c.retire_step.new.self (λ none. absurd (false≢true (w.in-Err.ensures.none none).0))
           w.in-Err.ensures.calls w.in-Err.ensures.failures w.in-Err.ensures.err)
     ]
 
-pub returns-clause-turn : goal.returns-clause-turn
-returns-clause-turn g c =
-    let before = g.M.Medium.state c.self.inside.medium in
-    let after = g.M.Medium.state c.retire_step.new.m in
-    elim c.match-retire_step.branch [
-      | in-Ok w ↦ rw (← c.self.view_is)
-          (retires before after _ c.retire_step.new.self (λ none. (w.in-Ok.ensures.none none).1) w.in-Ok.ensures.ok (omega (arith, w.in-Ok.ensures.failures)) w.in-Ok.ensures.size w.in-Ok.ensures.holds w.in-Ok.ensures.cuts w.in-Ok.ensures.spares)
-      | in-Err w ↦ rw (← c.self.view_is)
-          (dies before after _ c.retire_step.new.self w.in-Err.ensures.err (omega (arith, w.in-Err.ensures.failures)) w.in-Err.ensures.size (λ book f. w.in-Err.ensures.holds f.view f.holds) w.in-Err.ensures.cuts w.in-Err.ensures.spares)
-    ]
+pub returns-clause-passes : goal.returns-clause-passes
+returns-clause-passes g c = record {
+  turn =
+      let before = g.M.Medium.state c.self.inside.medium in
+      let after = g.M.Medium.state c.retire_step.new.m in
+      elim c.match-retire_step.branch [
+        | in-Ok w ↦
+            rw (← c.self.view_is)
+            (retires before after _ c.retire_step.new.self (λ none. (w.in-Ok.ensures.none none).1) w.in-Ok.ensures.ok
+            (omega (arith, w.in-Ok.ensures.failures)) w.in-Ok.ensures.size w.in-Ok.ensures.holds w.in-Ok.ensures.cuts
+            w.in-Ok.ensures.spares)
+        | in-Err w ↦
+            rw (← c.self.view_is)
+            (dies before after _ c.retire_step.new.self w.in-Err.ensures.err (omega (arith, w.in-Err.ensures.failures))
+            w.in-Err.ensures.size (λ book f. w.in-Err.ensures.holds f.view f.holds) w.in-Err.ensures.cuts w.in-Err.ensures.spares)
+      ];
+  calls = search rules;
+  follows = search rules;
+}

@@ -1,32 +1,48 @@
-use Rattle.std.proofs.Common.{ap, arith}
+use Rattle.std.proofs.Common.{ap, arith, rules}
 use Rattle.blocks.proofs.Stepping.{steps_on, steps_last, dies}
 use Rattle.blocks.proofs.store.Store.step.Goals as goal
 
-pub returns-in-Ok-More-clause-turn : goal.returns-in-Ok-More-clause-turn
-returns-in-Ok-More-clause-turn g c =
-    let called = c.in-Ok-More.ensures in
-    rw (← c.self.view_is)
-    (steps_on (g.M.Medium.state c.self.inside.medium) (g.M.Medium.state c.step.new.m) _ c.step.new.self
-    (rw c.in-Ok-More.field-0-is at called.ok) (omega (arith, called.failures)) called.size
-    (λ book f. rw c.in-Ok-More.field-0-is at
-    (called.holds f.view f.holds (rw (c.numbers-numbers.ensures.value, c.bytes.ensures.value) (f.under_way (rw (← c.self.view_is) at c.requires.under_way)))))
-    called.cuts called.spares)
+pub returns-in-Ok-More-clause-passes : goal.returns-in-Ok-More-clause-passes
+returns-in-Ok-More-clause-passes g c = record {
+  turn =
+      let called = c.in-Ok-More.ensures in
+      rw (← c.self.view_is)
+      (steps_on (g.M.Medium.state c.self.inside.medium) (g.M.Medium.state c.step.new.m) _ c.step.new.self
+      (rw c.in-Ok-More.field-0-is at called.ok) (omega (arith, called.failures)) called.size
+      (λ book f. rw c.in-Ok-More.field-0-is at
+      (called.holds f.view f.holds
+      (rw (c.numbers-numbers.ensures.value, c.bytes.ensures.value) (f.under_way (rw (← c.self.view_is) at c.requires.under_way)))))
+      called.cuts called.spares);
+  calls = search rules;
+  follows = search rules;
+}
 
-pub returns-in-Ok-Durable-clause-turn : goal.returns-in-Ok-Durable-clause-turn
-returns-in-Ok-Durable-clause-turn g c =
-    let called = c.in-Ok-Durable.ensures in
-    rw (← c.self.view_is)
-    (steps_last (g.M.Medium.state c.self.inside.medium) (g.M.Medium.state c.step.new.m) _ c.step.new.self c.clear.new.self
-    (rw c.in-Ok-Durable.field-0-is at called.ok) (ap (λ batch. batch.numbers) c.clear.ensures) (omega (arith, called.failures)) called.size
-    (λ book f. rw c.in-Ok-Durable.field-0-is at
-    (called.holds f.view f.holds (rw (c.numbers-numbers.ensures.value, c.bytes.ensures.value) (f.under_way (rw (← c.self.view_is) at c.requires.under_way)))))
-    called.cuts called.spares)
+pub returns-in-Ok-Durable-clause-passes : goal.returns-in-Ok-Durable-clause-passes
+returns-in-Ok-Durable-clause-passes g c = record {
+  turn =
+      let called = c.in-Ok-Durable.ensures in
+      rw (← c.self.view_is)
+      (steps_last (g.M.Medium.state c.self.inside.medium) (g.M.Medium.state c.step.new.m) _ c.step.new.self c.clear.new.self
+      (rw c.in-Ok-Durable.field-0-is at called.ok) (ap (λ batch. batch.numbers) c.clear.ensures)
+      (omega (arith, called.failures)) called.size
+      (λ book f. rw c.in-Ok-Durable.field-0-is at
+      (called.holds f.view f.holds
+      (rw (c.numbers-numbers.ensures.value, c.bytes.ensures.value) (f.under_way (rw (← c.self.view_is) at c.requires.under_way)))))
+      called.cuts called.spares);
+  calls = search rules;
+  follows = search rules;
+}
 
-pub returns-in-Err-clause-turn : goal.returns-in-Err-clause-turn
-returns-in-Err-clause-turn g c =
-    let called = c.in-Err.ensures in
-    rw (← c.self.view_is)
-    (dies (g.M.Medium.state c.self.inside.medium) (g.M.Medium.state c.step.new.m) _ c.step.new.self called.err
-    (omega (arith, called.failures)) called.size
-    (λ book f. called.holds f.view f.holds (rw (c.numbers-numbers.ensures.value, c.bytes.ensures.value) (f.under_way (rw (← c.self.view_is) at c.requires.under_way))))
-    called.cuts called.spares)
+pub returns-in-Err-clause-passes : goal.returns-in-Err-clause-passes
+returns-in-Err-clause-passes g c = record {
+  turn =
+      let called = c.in-Err.ensures in
+      rw (← c.self.view_is)
+      (dies (g.M.Medium.state c.self.inside.medium) (g.M.Medium.state c.step.new.m) _ c.step.new.self called.err
+      (omega (arith, called.failures)) called.size
+      (λ book f. called.holds f.view f.holds
+      (rw (c.numbers-numbers.ensures.value, c.bytes.ensures.value) (f.under_way (rw (← c.self.view_is) at c.requires.under_way))))
+      called.cuts called.spares);
+  calls = search rules;
+  follows = search rules;
+}

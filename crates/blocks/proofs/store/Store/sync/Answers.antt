@@ -1,4 +1,4 @@
-use Rattle.std.proofs.Common.{◌≡◌, ◌∙◌, ℕ, ap, sym, subst, arith, []}
+use Rattle.std.proofs.Common.{◌≡◌, ◌∙◌, ℕ, ap, sym, subst, arith, [], rules}
 use Rattle.std.proofs.lemmas.Result.{on_ok_weaker}
 use Rattle.cache.specs.Entries.{Entries}
 use Rattle.redo_log.specs.Value.{LogValue}
@@ -10,43 +10,59 @@ use Rattle.blocks.proofs.Fitting.{settles}
 use Rattle.blocks.proofs.Turning.{turns}
 use Rattle.blocks.proofs.store.Store.sync.Goals as goal
 
-pub returns-clause-turn : goal.returns-clause-turn
-returns-clause-turn g c = turns _ _ _ _ _ _ c.finish.ensures.turn (turns _ _ _ _ _ _ c.freeze.ensures.turn c.finish-2.ensures.turn)
+pub returns-clause-passes : goal.returns-clause-passes
+returns-clause-passes g c = record {
+  turn = turns _ _ _ _ _ _ c.finish.ensures.passes.turn (turns _ _ _ _ _ _ c.freeze.ensures.keeps.turn c.finish-2.ensures.passes.turn);
+  paid = search rules;
+  follows = search rules;
+}
 
 pub returns-clause-ok : goal.returns-clause-ok
 returns-clause-ok g c book fits =
     let active : c.finish-2.new.self.cached.active.numbers ≡ [] =
-    ap (λ batch. batch.numbers) c.finish-2.ensures.active ∙ ap (λ cached. cached.active.numbers) c.freeze.ensures.swapped ∙ c.in_ok-finish.ensures.done.1 in
-    on_ok_weaker c.finish-2.result (λ done. settles _ _ book done.1 active (c.finish-2.ensures.turn.fits book (c.freeze.ensures.turn.fits book (c.finish.ensures.turn.fits book fits)))) c.finish-2.ensures.done
+    ap (λ batch. batch.numbers) c.finish-2.ensures.batch.active
+    ∙ ap (λ cached. cached.active.numbers) c.freeze.ensures.swapped
+    ∙ c.in_ok-finish.ensures.batch.done.1 in
+    let half = c.freeze.ensures.keeps.turn.fits book (c.finish.ensures.passes.turn.fits book fits) in
+    let fitting = c.finish-2.ensures.passes.turn.fits book half in
+    on_ok_weaker c.finish-2.result (λ done. settles _ _ book done.1 active fitting) c.finish-2.ensures.batch.done
 
-pub returns-clause-finishes : goal.returns-clause-finishes
-returns-clause-finishes g c =
-    let old = c.args.self.now.cached in
-    let half = c.finish.new.self.cached in
-    let swapped = ap (λ (cached : Cached). finished cached.frozen.numbers cached.log) c.freeze.ensures.swapped in
-    let active = ap (λ (batch : Entries). finished batch.numbers half.log) c.finish.ensures.active in
-    let first = ap (λ (log : LogValue). finished old.active.numbers log) c.in_ok-finish.ensures.finishes in
-    on_ok_weaker c.finish-2.result (λ last. last ∙ swapped ∙ active ∙ first) c.finish-2.ensures.finishes
+pub returns-clause-batches : goal.returns-clause-batches
+returns-clause-batches g c = record {
+  active = search rules;
+  rests = search rules;
+  waits = search rules;
+  finishes =
+      let old = c.args.self.now.cached in
+      let half = c.finish.new.self.cached in
+      let swapped = ap (λ (cached : Cached). finished cached.frozen.numbers cached.log) c.freeze.ensures.swapped in
+      let active = ap (λ (batch : Entries). finished batch.numbers half.log) c.finish.ensures.batch.active in
+      let first = ap (λ (log : LogValue). finished old.active.numbers log) c.in_ok-finish.ensures.batch.finishes in
+      on_ok_weaker c.finish-2.result (λ last. last ∙ swapped ∙ active ∙ first) c.finish-2.ensures.batch.finishes;
+  retires = search rules;
+}
 
 pub returns-clause-exactly : goal.returns-clause-exactly
 returns-clause-exactly g c slots =
     let old = c.args.self.now.cached in
     let half = c.finish.new.self.cached in
-    let idle = c.in_ok-finish.ensures.done.0 in
-    let first = c.in_ok-finish.ensures.finishes in
-    let active = c.finish.ensures.active in
+    let idle = c.in_ok-finish.ensures.batch.done.0 in
+    let first = c.in_ok-finish.ensures.batch.finishes in
+    let active = c.finish.ensures.batch.active in
     let waits = waits_idle half.log.steps_left (wants old.active.numbers) idle in
     let left : HasSlots (wants old.active.numbers) half.log =
-    subst (λ (log : LogValue). HasSlots (wants old.active.numbers) log) (sym first) (slots_after old.frozen.numbers old.log (wants old.active.numbers) slots) in
+    subst (λ (log : LogValue). HasSlots (wants old.active.numbers) log) (sym first)
+    (slots_after old.frozen.numbers old.log (wants old.active.numbers) slots) in
     let for_next : HasSlots (to_begin old.active.numbers half.log) half.log = omega (arith, left, waits) in
     let of_half : HasSlots (to_begin half.active.numbers half.log) half.log =
     subst (λ (batch : Entries). HasSlots (to_begin batch.numbers half.log) half.log) (sym active) for_next in
-    let of_swapped = subst (λ (cached : Cached). HasSlots (to_begin cached.frozen.numbers cached.log) cached.log) (sym c.freeze.ensures.swapped) of_half in
+    let of_swapped = subst (λ (cached : Cached). HasSlots (to_begin cached.frozen.numbers cached.log) cached.log)
+    (sym c.freeze.ensures.swapped) of_half in
     let calls = ap (λ (cached : Cached). record_calls cached.frozen.numbers cached.log) c.freeze.ensures.swapped
     ∙ ap (λ (batch : Entries). record_calls batch.numbers half.log) active
     ∙ ap (λ (steps : ℕ). calls_from steps half.log.shape.format old.active.numbers) idle
-    ∙ ap (λ (shape : Shape). calls_from 0 shape.format old.active.numbers) c.finish.ensures.turn.goes_on.layout_stays in
-    let quiet = ap (λ m. (g.M.Medium.state m).calls) c.freeze.ensures.medium in
+    ∙ ap (λ (shape : Shape). calls_from 0 shape.format old.active.numbers) c.finish.ensures.passes.turn.goes_on.layout_stays in
+    let quiet = ap (λ m. (g.M.Medium.state m).calls) c.freeze.ensures.keeps.medium in
     let begin : HasSlots (to_begin old.frozen.numbers old.log) old.log = omega (arith, slots) in
     let before = c.in_ok-finish.ensures.exactly begin in
     on_ok_weaker c.finish-2.result (λ all. omega (arith, all, calls, quiet, before)) (c.finish-2.ensures.exactly of_swapped)

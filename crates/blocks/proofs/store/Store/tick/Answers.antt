@@ -1,5 +1,10 @@
+use Rattle.std.proofs.Common.{rules}
 use Rattle.blocks.proofs.Turning.{stays}
 use Rattle.blocks.proofs.store.Store.tick.Goals as goal
 
-pub returns-then-is_dead-clause-turn : goal.returns-then-is_dead-clause-turn
-returns-then-is_dead-clause-turn g c = stays _ _ (g.met.M.Medium.sound c.args.self.now.medium)
+pub returns-then-is_dead-clause-passes : goal.returns-then-is_dead-clause-passes
+returns-then-is_dead-clause-passes g c = record {
+  turn = stays _ _ (g.met.M.Medium.sound c.args.self.now.medium);
+  calls = search rules;
+  follows = search rules;
+}

@@ -8,9 +8,10 @@ pub returns-then-not-is_empty-clause-order : goal.returns-then-not-is_empty-clau
 returns-then-not-is_empty-clause-order g c =
     let live : is_dead c.args.self.now.cached ≡ false = c.requires.live in
     let log_is = ap (λ v. v.cached.log) c.self.view_is in
-    let idle : c.args.self.now.cached.log.steps_left ≡ 0 = subst (λ (log : LogValue). log.steps_left ≡ 0) log_is
-    (c.self.invariant.rests (rw (← c.self.view_is) at live) c.if-self.false) in
-    let room : HasRoom c.args.self.now.cached.log = subst (λ (log : LogValue). HasRoom log) log_is (c.has_room.ensures.room.0 c.if-has_room.true) in
+    let idle : c.args.self.now.cached.log.steps_left ≡ 0 =
+    subst (λ (log : LogValue). log.steps_left ≡ 0) log_is (c.self.invariant.rests (rw (← c.self.view_is) at live) c.if-self.false) in
+    let room : HasRoom c.args.self.now.cached.log =
+    subst (λ (log : LogValue). HasRoom log) log_is (c.has_room.ensures.room.0 c.if-has_room.true) in
     let some : 0 < unwritten c.args.self.now.cached = search rules in
     record {
       dead = λ dead. absurd (false≢true (sym live ∙ dead));

@@ -1,4 +1,4 @@
-use Rattle.std.proofs.Common.{◌≡◌, ◌∙◌, ◌/◌, ap, [], length, arith}
+use Rattle.std.proofs.Common.{◌≡◌, ◌∙◌, ◌/◌, ap, [], length, arith, rules}
 use Rattle.std.proofs.lemmas.Result.{err_from_is_err_and}
 use Rattle.log_layout.specs.Places.{Shape, limit_of}
 use Rattle.cache.proofs.Arrays.{unlisted_empty}
@@ -6,19 +6,35 @@ use Rattle.blocks.specs.StoreValue.{transfer_limit}
 use Rattle.blocks.proofs.Turning.{turns, stays, not_written, then_written}
 use Rattle.blocks.proofs.store.Store.write.Goals as goal
 
-pub returns-then-is_dead-clause-turn : goal.returns-then-is_dead-clause-turn
-returns-then-is_dead-clause-turn g c = not_written _ _ _ _ _ (stays _ _ (g.met.M.Medium.sound c.args.self.now.medium))
+pub returns-then-is_dead-clause-passes : goal.returns-then-is_dead-clause-passes
+returns-then-is_dead-clause-passes g c = record {
+  turn = not_written _ _ _ _ _ (stays _ _ (g.met.M.Medium.sound c.args.self.now.medium));
+  calls = search rules;
+  follows = search rules;
+}
 
-pub returns-in_err-finish-clause-turn : goal.returns-in_err-finish-clause-turn
-returns-in_err-finish-clause-turn g c =
-    let refused = err_from_is_err_and c.from_residual.result c.from_residual.ensures.1 in
-    rw refused.1 (not_written _ _ _ _ _ c.finish.ensures.turn)
+pub returns-in_err-finish-clause-passes : goal.returns-in_err-finish-clause-passes
+returns-in_err-finish-clause-passes g c = record {
+  turn =
+      let refused = err_from_is_err_and c.from_residual.result c.from_residual.ensures.1 in
+      rw refused.1 (not_written _ _ _ _ _ c.finish.ensures.passes.turn);
+  calls = search rules;
+  follows = search rules;
+}
 
 pub append-requires-2-clause-fits : goal.append-requires-2-clause-fits
 append-requires-2-clause-fits g c =
-    let active : c.freeze.new.self.cached.active.numbers ≡ [] = ap (λ cached. cached.active.numbers) c.freeze.ensures.swapped ∙ c.in_ok-finish.ensures.done.1 in
-    let limit = ap (λ cached. transfer_limit cached) c.freeze.ensures.swapped ∙ ap (λ (shape : Shape). limit_of shape.format) c.finish.ensures.turn.goes_on.layout_stays in
+    let active : c.freeze.new.self.cached.active.numbers ≡ [] =
+    ap (λ cached. cached.active.numbers) c.freeze.ensures.swapped ∙ c.in_ok-finish.ensures.batch.done.1 in
+    let limit = ap (λ cached. transfer_limit cached) c.freeze.ensures.swapped
+    ∙ ap (λ (shape : Shape). limit_of shape.format) c.finish.ensures.passes.turn.goes_on.layout_stays in
     rw active (omega (arith, unlisted_empty c.args.address (length c.args.bytes.now / 512), limit, c.requires.most))
 
-pub returns-clause-turn : goal.returns-clause-turn
-returns-clause-turn g c = then_written _ _ _ _ _ _ _ (turns _ _ _ _ _ _ c.finish.ensures.turn c.freeze.ensures.turn) c.append-2.ensures.turn
+pub returns-clause-passes : goal.returns-clause-passes
+returns-clause-passes g c = record {
+  turn =
+      let frozen = turns _ _ _ _ _ _ c.finish.ensures.passes.turn c.freeze.ensures.keeps.turn in
+      then_written _ _ _ _ _ _ _ frozen c.append-2.ensures.keeps.turn;
+  calls = search rules;
+  follows = search rules;
+}

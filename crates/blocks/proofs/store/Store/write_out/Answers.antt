@@ -1,4 +1,4 @@
-use Rattle.std.proofs.Common.{refl, ◌∙◌, arith, ap}
+use Rattle.std.proofs.Common.{refl, ◌∙◌, arith, ap, rules}
 use Rattle.std.specs.Prelude.{Ok}
 use Rattle.blocks.proofs.Room.{writes_more, writes_last}
 use Rattle.blocks.proofs.Writing.{one_less}
@@ -19,42 +19,56 @@ loop-init g c = record {
   follows = g.met.M.Medium.follows_itself c.args.self.now.medium;
 }
 
-pub returns-in_err-step-clause-turn : goal.returns-in_err-step-clause-turn
-returns-in_err-step-clause-turn g c = turns _ _ _ _ _ _ c.loop.invariant.turn c.step.ensures.turn
+pub returns-in_err-step-clause-passes : goal.returns-in_err-step-clause-passes
+returns-in_err-step-clause-passes g c = record {
+  turn = turns _ _ _ _ _ _ c.loop.invariant.turn c.step.ensures.passes.turn;
+  paid = search rules;
+  follows = search rules;
+}
 
 pub loop-preserved : goal.loop-preserved
 loop-preserved g c = record {
-  turn = turns _ _ _ _ _ _ c.loop.invariant.turn c.step.ensures.turn;
+  turn = turns _ _ _ _ _ _ c.loop.invariant.turn c.step.ensures.passes.turn;
   paid = pays_both _ _ _ _ _ _ c.loop.invariant.paid c.loop.invariant.live
       (pays_step (g.M.Medium.state c.loop.self.medium) (g.M.Medium.state c.step.new.self.medium) c.loop.self.cached c.step.new.self.cached
-      (omega (arith, c.loop.invariant.under_way)) (omega (arith, c.step.ensures.calls)) c.step.ensures.falls);
+      (omega (arith, c.loop.invariant.under_way)) (omega (arith, c.step.ensures.passes.calls)) c.step.ensures.writes.falls);
   live = c.in_ok-step.ensures.answer;
-  under_way = c.step.ensures.more (c.in_ok-step.was ∙ ap Ok c.in-More.is);
+  under_way = c.step.ensures.tells.more (c.in_ok-step.was ∙ ap Ok c.in-More.is);
   so_far =
       let gone = c.step.ensures.record_step.live c.in_ok-step.ensures.answer in
       writes_more c.args.self.now.cached.log c.loop.self.cached.log c.step.new.self.cached.log gone.1 gone.2.log
-      (c.step.ensures.more (c.in_ok-step.was ∙ ap Ok c.in-More.is)) c.loop.invariant.so_far;
+      (c.step.ensures.tells.more (c.in_ok-step.was ∙ ap Ok c.in-More.is)) c.loop.invariant.so_far;
   exactly =
       let gone = c.step.ensures.record_step.live c.in_ok-step.ensures.answer in
       let less = one_less gone.1 c.loop.self.cached.log c.step.new.self.cached.log gone.2.log in
       omega (arith, less, c.step.ensures.record_step.one_call, c.loop.invariant.exactly);
-  head = c.step.ensures.head ∙ c.loop.invariant.head;
-  active = c.step.ensures.active ∙ c.loop.invariant.active;
-  follows = g.met.M.Medium.follows_through _ _ _ c.loop.invariant.follows c.step.ensures.follows;
+  head = c.step.ensures.writes.head ∙ c.loop.invariant.head;
+  active = c.step.ensures.writes.active ∙ c.loop.invariant.active;
+  follows = g.met.M.Medium.follows_through _ _ _ c.loop.invariant.follows c.step.ensures.passes.follows;
 }
 
-pub returns-clause-turn : goal.returns-clause-turn
-returns-clause-turn g c = turns _ _ _ _ _ _ c.loop.invariant.turn c.step.ensures.turn
+pub returns-clause-passes : goal.returns-clause-passes
+returns-clause-passes g c = record {
+  turn = turns _ _ _ _ _ _ c.loop.invariant.turn c.step.ensures.passes.turn;
+  paid = search rules;
+  follows = search rules;
+}
 
-pub returns-clause-written : goal.returns-clause-written
-returns-clause-written g c =
-    let gone = c.step.ensures.record_step.live c.in_ok-step.ensures.answer in
-    writes_last c.args.self.now.cached.log c.loop.self.cached.log c.step.new.self.cached.log gone.1 gone.2.log
-    (c.step.ensures.durable (c.in_ok-step.was ∙ ap Ok c.in_default.is)).0 c.loop.invariant.so_far
+pub returns-clause-batch : goal.returns-clause-batch
+returns-clause-batch g c = record {
+  done = search rules;
+  written =
+      let gone = c.step.ensures.record_step.live c.in_ok-step.ensures.answer in
+      writes_last c.args.self.now.cached.log c.loop.self.cached.log c.step.new.self.cached.log gone.1 gone.2.log
+      (c.step.ensures.tells.durable (c.in_ok-step.was ∙ ap Ok c.in_default.is)).0 c.loop.invariant.so_far;
+  waits = search rules;
+  head = search rules;
+  active = search rules;
+}
 
 pub returns-clause-exactly : goal.returns-clause-exactly
 returns-clause-exactly g c =
     let gone = c.step.ensures.record_step.live c.in_ok-step.ensures.answer in
     let less = one_less gone.1 c.loop.self.cached.log c.step.new.self.cached.log gone.2.log in
-    let none = (c.step.ensures.durable (c.in_ok-step.was ∙ ap Ok c.in_default.is)).0 in
+    let none = (c.step.ensures.tells.durable (c.in_ok-step.was ∙ ap Ok c.in_default.is)).0 in
     omega (arith, less, none, c.step.ensures.record_step.one_call, c.loop.invariant.exactly)

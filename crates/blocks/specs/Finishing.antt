@@ -1,0 +1,56 @@
+-- What is durable after a call of a store that writes its batches out, and which records it retires
+-- for that.
+use Rattle.std.specs.Prelude.{◌≡◌, ◌+◌, ◌≤◌, ◌<◌, [], length, Result, OnOk}
+use Rattle.redo_log.specs.Value.{HasRoom}
+use Rattle.blocks.specs.declared.fault.StoreFault.{StoreFault}
+use Rattle.blocks.specs.StoreValue.{Cached, StoreValue, active_of, unwritten, steps_left}
+use Rattle.blocks.specs.Passing.{MayEmpty}
+use Rattle.blocks.specs.Retiring.{RetiresForRoom, finished, with_room, written_out}
+
+-- what a call of a store answers that gives nothing
+abbrev pub Answer : Type 0
+Answer = Result (Unit {0}) StoreFault
+
+-- Where Ok: the record under way is durable, and the frozen batch is empty. A record has to be
+-- retired later, none is, and the active batch stays.
+pub record WritesOut (result : Answer) (old new : Cached) : Type 0 where
+  pub done : OnOk result ((new.log.steps_left ≡ 0) × (new.frozen.numbers ≡ []))
+  pub written : OnOk result (new.log ≡ written_out old.log)
+  pub waits : 0 < new.log.retire_steps_left
+  pub head : new.log.head ≡ old.log.head
+  pub active : new.active ≡ old.active
+
+-- Where Ok the log has room: nothing is retired for it but the oldest record, and that only where
+-- there was none. Both batches stay.
+pub record MakesRoom {M : Type 0} (result : Answer) (old new : StoreValue M) : Type 0 where
+  pub retires : RetiresForRoom old.cached.log new.cached.log
+  pub room : OnOk result (HasRoom new.cached.log)
+  pub made : OnOk result (new.cached.log ≡ with_room old.cached.log)
+  pub quiet : HasRoom old.cached.log → new.medium ≡ old.medium
+  pub active : new.cached.active ≡ old.cached.active
+  pub frozen : new.cached.frozen ≡ old.cached.frozen
+
+-- Where Ok the frozen batch is durable and empty. Where it was empty nothing happens, and else the
+-- record that was written waits. The active batch stays.
+pub record FinishesFrozen {M : Type 0} (result : Answer) (old new : StoreValue M) : Type 0 where
+  pub done : OnOk result ((new.cached.log.steps_left ≡ 0) × (new.cached.frozen.numbers ≡ []))
+  pub rests : old.cached.frozen.numbers ≡ [] → new ≡ old
+  pub waits : 0 < length old.cached.frozen.numbers
+      → OnOk result (0 < new.cached.log.retire_steps_left)
+  pub finishes : OnOk result
+      (new.cached.log ≡ finished old.cached.frozen.numbers old.cached.log)
+  pub retires : RetiresForRoom old.cached.log new.cached.log
+  pub active : new.cached.active ≡ old.cached.active
+
+-- what both batches and the log become where each accepted write is made durable
+pub record FinishesBoth {M : Type 0} (result : Answer) (old new : StoreValue M) : Type 0 where
+  pub active : MayEmpty (active_of old.cached) (active_of new.cached)
+  -- Where nothing is to be written no call is made. The last record that is written waits.
+  pub rests : unwritten old.cached ≡ 0 → new.medium ≡ old.medium
+  pub waits : 0 < unwritten old.cached → OnOk result (0 < steps_left new.cached)
+  -- Where Ok: the record of each batch is written, and nothing is retired but the oldest record
+  -- before one that finds no slot free.
+  pub finishes : OnOk result (new.cached.log ≡ finished old.cached.active.numbers
+      (finished old.cached.frozen.numbers old.cached.log))
+  -- no record is retired but one for each batch, where the ring is full
+  pub retires : new.cached.log.head ≤ old.cached.log.head + 2

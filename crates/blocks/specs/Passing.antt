@@ -1,0 +1,69 @@
+-- What the calls of a store pass on of its medium and of the books that it fits, and how they
+-- answer.
+use Rattle.std.specs.Prelude.{◌≡◌, ◌⊎◌, ℕ, ◌+◌, ◌≤◌, true, false, List, []}
+use Rattle.std.specs.Prelude.{Result, Err, IfErr, MatchResult}
+use Rattle.medium.specs.Medium.{State}
+use Rattle.medium.specs.Moments.{IsQuiet, IsUnchanged}
+use Rattle.blocks.specs.declared.fault.StoreFault.{StoreFault}
+use Rattle.blocks.specs.declared.fault.StoreFault.TheVariants.{Dead}
+use Rattle.blocks.specs.StoreValue.{Cached, StoreValue, is_dead}
+use Rattle.blocks.specs.Turns.{IsTurn, IsReadCause, IsPaid}
+
+-- A call makes a turn of this kind, and so many calls of the medium at most. The medium comes after
+-- what it was, by calls alone.
+pub record Passes {M : Type 0} (state : M → State) (Follows : M → M → Type 0)
+    (Turn : State → State → Cached → Cached → Type 0) (most : ℕ) (old new : StoreValue M)
+    : Type 0 where
+  pub turn : Turn (state old.medium) (state new.medium) old.cached new.cached
+  pub calls : (state new.medium).calls ≤ (state old.medium).calls + most
+  pub follows : Follows old.medium new.medium
+
+-- A call makes a turn, and no more calls of the medium than the background steps that it takes off
+-- pay for. The medium comes after what it was, by calls alone.
+pub record PassesPaid {M : Type 0} (state : M → State) (Follows : M → M → Type 0)
+    (old new : StoreValue M) : Type 0 where
+  pub turn : IsTurn (state old.medium) (state new.medium) old.cached new.cached
+  pub paid : IsPaid (state old.medium) (state new.medium) old.cached new.cached
+  pub follows : Follows old.medium new.medium
+
+-- a call makes a turn of this kind, and leaves the medium as it is
+pub record KeepsMedium {M : Type 0} (state : M → State)
+    (Turn : State → State → Cached → Cached → Type 0) (old new : StoreValue M) : Type 0 where
+  pub turn : Turn (state old.medium) (state new.medium) old.cached new.cached
+  pub medium : new.medium ≡ old.medium
+
+-- a store that answers Ok is live, and one that answers Err is dead, and says so
+abbrev pub TellsLife : {A : Type 0} → Result A StoreFault → Cached → Type 0
+TellsLife result s =
+    MatchResult result (λ _. is_dead s ≡ false) (λ fault. (fault ≡ Dead) × (is_dead s ≡ true))
+
+-- A call writes nothing: what the store keeps stays, no content changes, and nothing else may be
+-- left by a cut. The medium comes after what it was, by calls alone.
+pub record KeepsStore {M : Type 0} (state : M → State) (Follows : M → M → Type 0)
+    (old new : StoreValue M) : Type 0 where
+  pub stays : new.cached ≡ old.cached
+  pub quiet : IsQuiet (state old.medium) (state new.medium)
+  pub follows : Follows old.medium new.medium
+
+-- A call is none of the medium: it changes no content, no set and no count of it, and nothing that
+-- the store keeps.
+pub record IsUntouched {M : Type 0} (state : M → State) (old new : StoreValue M) : Type 0 where
+  pub unchanged : IsUnchanged (state old.medium) (state new.medium)
+  pub cached : new.cached ≡ old.cached
+  pub turn : IsTurn (state old.medium) (state new.medium) old.cached new.cached
+
+-- why a read is refused: one of a dead store always is, and makes no call
+pub record RefusesRead {M A : Type 0} (state : M → State) (result : Result A StoreFault)
+    (old new : StoreValue M) : Type 0 where
+  pub err : IfErr result (IsReadCause (state old.medium) (state new.medium) old.cached)
+  pub dead : is_dead old.cached ≡ true → (result ≡ Err Dead) × (new ≡ old)
+
+-- whether a store is live it tells, and one that was dead makes no call, and stays as it is
+pub record Answers {M A : Type 0} (result : Result A StoreFault) (old new : StoreValue M)
+    : Type 0 where
+  pub answer : TellsLife result new.cached
+  pub dead : is_dead old.cached ≡ true → new ≡ old
+
+-- the batch that takes writes stays, or is emptied
+abbrev pub MayEmpty : List ℕ → List ℕ → Type 0
+MayEmpty old new = (new ≡ old) ⊎ (new ≡ [])
