@@ -1,3 +1,4 @@
+//! How a command descriptor block is decoded.
 ghost use Rattle.std.specs.Prelude.{◌≡◌, ◌<◌, ◌≤◌, ◌++◌, ℕ, List, IfErr, IfOk, length};
 ghost use Rattle.cdb.specs.declared.command.Command.{Command};
 ghost use Rattle.cdb.specs.Supported.{IsRefusal, IsSupported, command_size};

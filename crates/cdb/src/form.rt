@@ -1,3 +1,4 @@
+//! The form of a command descriptor block: its length, its control byte, its numbers.
 ghost use Rattle.std.specs.Prelude.{◌≡◌, ◌<◌, ◌≤◌, ◌+◌, OnOk, length};
 ghost use Rattle.cdb.specs.Judging.{judged};
 ghost use Rattle.cdb.specs.Table.{form_tests, number_at};

@@ -10,7 +10,8 @@ unfolding caching_page
 carries device true = refl
 carries device false = refl
 
-same_bit : (bit : Option Bool) (enabled : Bool) (answer : Result (Option Bool) Sense) → answer ≡ Ok bit → answer ≡ Ok (Some enabled) → bit ≡ Some enabled
+same_bit : (bit : Option Bool) (enabled : Bool) (answer : Result (Option Bool) Sense) → answer ≡ Ok bit → answer ≡ Ok (Some enabled)
+    → bit ≡ Some enabled
 same_bit bit enabled answer e h = cc
 
 -- so the bit that was read from such a list is the page's

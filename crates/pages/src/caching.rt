@@ -1,3 +1,4 @@
+//! The caching mode page, and the mode data that has it.
 ghost use Rattle.std.specs.Prelude.{◌≡◌, ℕ, Bool, ◌++◌, IfOk, OnOk, OnErr};
 ghost use Rattle.pages.specs.Mode.{mode_header, caching_page, mode_data, mode_sense_answer};
 ghost use Rattle.pages.specs.Mode.{mode_select_answer, selected_bit, CountsItself, Selects};
@@ -22,7 +23,7 @@ const ALL_PAGES: u8 = 0x3f;
 /// The device-specific parameter of a unit that serves DPO and FUA.
 const DPO_AND_FUA: u8 = 0x10;
 
-/// The caching mode page, with the write cache enabled or not (SBC-3, caching mode page).
+// The caching mode page, with the write cache enabled or not (SBC-3, caching mode page).
 #[tactic(auto, unfolding(crate::specs::Mode::caching_page))]
 fn caching_page(wce: bool) -> [u8; 20]
     ensures { result ≡ caching_page wce }
@@ -34,7 +35,7 @@ fn caching_page(wce: bool) -> [u8; 20]
     page
 }
 
-/// The caching mode page behind a mode parameter header that tells that FUA is served.
+// The caching mode page behind a mode parameter header that tells that FUA is served.
 #[tactic(auto, unfolding(crate::specs::Mode::caching_page))]
 fn mode_parameters(wce: bool) -> [u8; 24]
     ensures bytes { result ≡ mode_header 0x17 0x10 ++ caching_page wce }
@@ -75,7 +76,7 @@ pub fn mode_sense(
     Ok(to.len())
 }
 
-/// The bit WCE that a parameter list of MODE SELECT(6) carries; None where it has no page.
+// The bit WCE that a parameter list of MODE SELECT(6) carries; None where it has no page.
 fn selected_bit(list: &[u8]) -> Result<Option<bool>, Sense>
     ensures { result ≡ selected_bit list.now }
 {

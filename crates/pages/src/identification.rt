@@ -1,3 +1,4 @@
+//! The texts by which a disk is known, and the pages that tell them.
 ghost use Rattle.std.specs.Prelude.{◌≡◌, ◌↔◌, None, option_map, take, unwrap_or};
 ghost use Rattle.std.specs.Prelude.{All, Contains, IfSome, IsSome, IsTrue, SomeIff};
 ghost use Rattle.pages.specs.Identification.{Identification, IsPrintable, IsLegible};
@@ -45,7 +46,7 @@ impl Model for Identity {
     } };
 }
 
-/// Whether every byte is a printable ASCII character.
+// Whether every byte is a printable ASCII character.
 fn is_printable(text: &[u8]) -> bool
     ensures { IsTrue result ↔ All IsPrintable text.now }
 {
@@ -105,7 +106,7 @@ impl Identity {
         }
     }
 
-    /// Writes standard data, and answers their length.
+    // Writes standard data, and answers their length.
     #[tactic(auto, unfolding(crate::specs::Inquiry::standard_data))]
     fn standard_data(&self, to: &mut [u8; 64]) -> usize
         ensures size { result ≡ 36 }
@@ -119,7 +120,7 @@ impl Identity {
         append(to, end, &self.revision)
     }
 
-    /// Writes the unit serial number page, and answers its length.
+    // Writes the unit serial number page, and answers its length.
     #[tactic(auto, unfolding(crate::specs::Inquiry::unit_serial_number))]
     fn unit_serial_number(&self, to: &mut [u8; 64]) -> usize
         ensures size { result ≡ 16 }
@@ -131,7 +132,7 @@ impl Identity {
         append(to, end, &self.serial)
     }
 
-    /// Writes the device identification page, and answers its length.
+    // Writes the device identification page, and answers its length.
     #[tactic(auto, unfolding(crate::specs::Inquiry::device_identification))]
     fn device_identification(&self, to: &mut [u8; 64]) -> usize
         ensures size { result ≡ 44 }

@@ -1,3 +1,4 @@
+//! Standard INQUIRY data and the vital product data pages.
 ghost use Rattle.std.specs.Prelude.{◌≡◌, ◌+◌, ◌≤◌, ◌++◌, length, take};
 ghost use Rattle.pages.specs.Inquiry.{StaysFrom, told_size, supported_pages, block_limits};
 

@@ -1,5 +1,6 @@
 -- A write that a command appends is one, over as many bytes as were asked for.
-use Rattle.std.proofs.Common.{◌≡◌, ◌≢◌, ◌*◌, ◌/◌, ℕ, zero, suc, Bool, true, false, List, length, take, drop, Some, None, Result, Ok, Err, refl, ap, ◌∙◌, subst, arith}
+use Rattle.std.proofs.Common.{◌≡◌, ◌≢◌, ◌*◌, ◌/◌, ℕ, zero, suc, Bool, true, false, List, length, take, drop, Some, None, Result, Ok, Err}
+use Rattle.std.proofs.Common.{refl, ap, ◌∙◌, subst, arith}
 use Rattle.std.specs.Prelude.{if◌then◌else◌, ◌==◌, not, All}
 use Rattle.std.proofs.lemmas.Bool.{eqb-false}
 use Rattle.std.proofs.lemmas.Bool.Decides.{nat_tests}
@@ -13,7 +14,8 @@ use Rattle.cdb.specs.declared.command.Command.TheVariants as command
 use Rattle.cdb.specs.declared.command.Transfer.{Transfer}
 use Rattle.cdb.specs.Supported.{IsSupported, IsWithin}
 use Rattle.scsi_unit.specs.declared.intent.Intent.TheVariants as intent
-use Rattle.scsi_unit.specs.Rules.{UnitState, checked, moves, moves_after, takes, moves_blocks, write_after, write_of_command, some_write, write_by}
+use Rattle.scsi_unit.specs.Rules.{UnitState, checked, moves, moves_after, takes, moves_blocks, write_after, write_of_command, some_write}
+use Rattle.scsi_unit.specs.Rules.{write_by}
 use Rattle.scsi_unit.specs.Laws.{WritesAreWrites}
 use Rattle.scsi_unit.proofs.Intentions.{served_by, moved_by}
 
@@ -29,7 +31,8 @@ blocks_are address zero bytes size =
 blocks_are address (suc count) bytes size =
     let more : length bytes / 512 ≡ suc count = omega (arith, size) in
     let less : length (drop 512 bytes) / 512 ≡ count = omega (arith, size, length-drop 512 bytes) in
-    let rest : AreBlocks count (write_of address (drop 512 bytes)).blocks = blocks_are address count (drop 512 bytes) (omega (arith, size, length-drop 512 bytes)) in
+    let rest : AreBlocks count (write_of address (drop 512 bytes)).blocks =
+    blocks_are address count (drop 512 bytes) (omega (arith, size, length-drop 512 bytes)) in
     let tail = rw less at rest in
     rw more (record {
       count_is = ap (λ (n : ℕ). suc n) tail.count_is;
@@ -40,7 +43,8 @@ blocks_are address (suc count) bytes size =
 is_write_by : (blocks limit : ℕ) (transfer : Transfer) (taken : List ℕ) → IsWithin blocks limit transfer → transfer.count ≢ 0
     → length taken ≡ 512 * transfer.count → IsWrite blocks (write_by transfer taken)
 is_write_by blocks limit transfer taken within some size =
-    let are = blocks_are transfer.address transfer.count (take (512 * transfer.count) taken) (omega (arith, size, length-take (512 * transfer.count) taken)) in
+    let are = blocks_are transfer.address transfer.count (take (512 * transfer.count) taken)
+    (omega (arith, size, length-take (512 * transfer.count) taken)) in
     record {
       some = omega (arith, are.count_is, some);
       sized = are.sized;
@@ -62,7 +66,8 @@ some_at blocks limit transfer taken write true within so is =
     subst (λ (w : Write). IsWrite blocks w) same (is_write_by blocks limit transfer taken within (so refl).0 (so refl).1)
 some_at blocks limit transfer taken write false within so is = cc
 
-module _ (blocks limit : ℕ) (transfer : Transfer) (taken : List ℕ) (exact : (n : ℕ) → takes (512 * transfer.count) ≡ intent.Out n → length taken ≡ n) where
+module _ (blocks limit : ℕ) (transfer : Transfer) (taken : List ℕ)
+    (exact : (n : ℕ) → takes (512 * transfer.count) ≡ intent.Out n → length taken ≡ n) where
   some_not_zero : (zero : Bool) → (zero ≡ false → transfer.count ≢ 0) → not zero ≡ true → transfer.count ≢ 0
   some_not_zero true differ moved = cc
   some_not_zero false differ moved = differ refl
@@ -78,14 +83,17 @@ module _ (blocks limit : ℕ) (transfer : Transfer) (taken : List ℕ) (exact : 
 -- the write of a command that the unit serves
 written_by : (blocks limit : ℕ) (command : Command) (taken : List ℕ) (write : Write) → IsSupported blocks limit command
     → ((n : ℕ) → moves command ≡ intent.Out n → length taken ≡ n) → write_of_command command taken ≡ Some write → IsWrite blocks write
-written_by blocks limit (command.Write10 transfer) taken write served exact is = is_some_write blocks limit transfer taken exact write served is
-written_by blocks limit (command.Write16 transfer) taken write served exact is = is_some_write blocks limit transfer taken exact write served is
+written_by blocks limit (command.Write10 transfer) taken write served exact is =
+    is_some_write blocks limit transfer taken exact write served is
+written_by blocks limit (command.Write16 transfer) taken write served exact is =
+    is_some_write blocks limit transfer taken exact write served is
 written_by blocks limit command taken write served exact is = cc
 
 written_after : (unit : UnitState) (told : Result Command Sense) (taken : List ℕ) (write : Write)
     → ((command : Command) → told ≡ Ok command → IsSupported unit.book.blocks unit.limit command)
     → ((n : ℕ) → moves_after told ≡ intent.Out n → length taken ≡ n) → write_after told taken ≡ Some write → IsWrite unit.book.blocks write
-written_after unit (Ok command) taken write served exact is = written_by unit.book.blocks unit.limit command taken write (served command refl) exact is
+written_after unit (Ok command) taken write served exact is =
+    written_by unit.book.blocks unit.limit command taken write (served command refl) exact is
 written_after unit (Err sense) taken write served exact is = cc
 
 pub writes_are_writes : WritesAreWrites

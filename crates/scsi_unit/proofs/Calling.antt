@@ -25,7 +25,8 @@ stops_at false moves sync count reads before after moved calls = omega (arith, c
 pub read_stops : (transfer : Transfer) (cached : Cached) (before after : ℕ) → moves_blocks transfer ≡ true
     → after ≤ before + (if transfer.fua then calls_of_sync cached else 0) → after ≤ before + calls_of_read transfer cached
 read_stops transfer cached before after moved calls =
-    stops_at transfer.fua (moves_blocks transfer) (calls_of_sync cached) (most_reads cached * transfer.count) (reads_of cached transfer.address transfer.count) before after moved calls
+    stops_at transfer.fua (moves_blocks transfer) (calls_of_sync cached) (most_reads cached * transfer.count)
+    (reads_of cached transfer.address transfer.count) before after moved calls
 
 ends_at : (fua moves : Bool) (sync count reads now before mid after : ℕ) → moves ≡ true → mid ≤ before + (if fua then sync else 0)
     → (fua ≡ false → now ≡ reads) → now ≤ count → after ≤ mid + now
@@ -41,8 +42,8 @@ pub read_ends : (transfer : Transfer) (old half : Cached) (before mid after : �
     → after ≤ mid + reads_of half transfer.address transfer.count → after ≤ before + calls_of_read transfer old
 read_ends transfer old half before mid after moved calls same layout more =
     let few = ap (λ (shape : Shape). copy_reads_of shape.format * transfer.count) layout in
-    ends_at transfer.fua (moves_blocks transfer) (calls_of_sync old) (most_reads old * transfer.count) (reads_of old transfer.address transfer.count)
-    (reads_of half transfer.address transfer.count) before mid after moved calls
+    ends_at transfer.fua (moves_blocks transfer) (calls_of_sync old) (most_reads old * transfer.count)
+    (reads_of old transfer.address transfer.count) (reads_of half transfer.address transfer.count) before mid after moved calls
     (λ plain. ap (λ (s : Cached). reads_of s transfer.address transfer.count) (same plain))
     (omega (arith, few, reads_few half transfer.address transfer.count)) more
 
@@ -59,7 +60,8 @@ write_at false durable sync batch before after moved plain most = absurd (false�
 pub write_stops : (transfer : Transfer) (write_cache : Bool) (cached : Cached) (before after : ℕ) → moves_blocks transfer ≡ true
     → after ≤ before + calls_of_sync cached → after ≤ before + calls_of_write transfer write_cache cached
 write_stops transfer write_cache cached before after moved calls =
-    write_at (moves_blocks transfer) (transfer.fua || not write_cache) (calls_of_sync cached) (2 * batch_steps cached) before after moved (λ plain. calls) (omega (arith, calls))
+    write_at (moves_blocks transfer) (transfer.fua || not write_cache) (calls_of_sync cached) (2 * batch_steps cached) before after moved
+    (λ plain. calls) (omega (arith, calls))
 
 durable_if_most : (durable : Bool) (sync batch half before mid after : ℕ) → mid ≤ before + sync → mid + half ≤ before + sync + batch
     → after ≤ mid + (if durable then half else 0) → after ≤ before + (sync + batch)
@@ -79,7 +81,8 @@ pub write_ends : (transfer : Transfer) (write_cache : Bool) (old half : Cached) 
 write_ends transfer write_cache old half before mid after moved calls paid more =
     write_at (moves_blocks transfer) (transfer.fua || not write_cache) (calls_of_sync old) (2 * batch_steps old) before after moved
     (plain_if (transfer.fua || not write_cache) (calls_of_sync old) (calls_of_sync half) before mid after calls more)
-    (durable_if_most (transfer.fua || not write_cache) (calls_of_sync old) (2 * batch_steps old) (calls_of_sync half) before mid after calls paid more)
+    (durable_if_most (transfer.fua || not write_cache) (calls_of_sync old) (2 * batch_steps old) (calls_of_sync half) before mid after
+    calls paid more)
 
 -- what was told of a good call
 pub OnOk-at : {P : Type 0} (done : Result (Unit {0}) Sense) (value : Unit {0}) → done ≡ Ok value → OnOk done P → P

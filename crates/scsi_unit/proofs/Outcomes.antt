@@ -1,12 +1,14 @@
 -- What comes of a command, by the way that it went.
-use Rattle.std.proofs.Common.{◌≡◌, ◌⊎◌, inl, inr, ⊎_elim, ℕ, Bool, true, false, List, [], ◌∷◌, ◌++◌, length, Some, None, Option, Result, Ok, Err, refl, ap, sym, ◌∙◌, subst}
+use Rattle.std.proofs.Common.{◌≡◌, ◌⊎◌, inl, inr, ⊎_elim, ℕ, Bool, true, false, List, [], ◌∷◌, ◌++◌, length, Some, None, Option, Result, Ok}
+use Rattle.std.proofs.Common.{Err, refl, ap, sym, ◌∙◌, subst}
 use Rattle.std.specs.Prelude.{if◌then◌else◌, ◌&&◌}
 use Rattle.std.proofs.lemmas.Bool.{false≢true}
 use Rattle.medium.specs.Blocks.{Write}
 use Rattle.blocks.specs.Book.{Book, StampsOut}
 use Rattle.sense.specs.declared.codes.Sense.{Sense}
 use Rattle.cdb.specs.declared.command.Command.{Command}
-use Rattle.scsi_unit.specs.Rules.{UnitState, Effect, fails, effect_of, checked, write_after, write_of_command, with_progress, IsByTable, IsOutcome, needs_medium, intention}
+use Rattle.scsi_unit.specs.Rules.{UnitState, Effect, fails, effect_of, checked, write_after, write_of_command, with_progress, IsByTable}
+use Rattle.scsi_unit.specs.Rules.{IsOutcome, needs_medium, intention}
 use Rattle.sense.specs.Waiting.{after_failure}
 use Rattle.scsi_unit.specs.Laws.{IsFunction, IsSameLife, KeepsLimit, KeepsWrites, StaysFaulted, TicksOnly, is_promising}
 use Rattle.scsi_unit.specs.declared.intent.Intent.TheVariants as intent
@@ -72,8 +74,8 @@ progress_is None book = inl refl
 progress_is (Some write) book = inr (write, refl, refl)
 
 -- what holds after the table's line, after a read error, and after a write error, holds after each outcome
-by_cases : (P : UnitState → Type 0) (refused : Bool) (told : Result Command Sense) (taken : List ℕ) (old new : UnitState) (answer : Result (List ℕ) Sense)
-    → P (table_of told taken old).after
+by_cases : (P : UnitState → Type 0) (refused : Bool) (told : Result Command Sense) (taken : List ℕ) (old new : UnitState)
+    (answer : Result (List ℕ) Sense) → P (table_of told taken old).after
     → ((sense : Sense) → answer ≡ Err sense → P (fails sense old).after)
     → ((book : Book) (sense : Sense) → answer ≡ Err sense → (book ≡ old.book) ⊎ (book ≡ with_progress old.book (write_after told taken))
     → P (record old { book = book; kept = after_failure sense old.kept; faulted = true }))
@@ -104,13 +106,15 @@ good_outcome refused command taken sent old new outcome = ⊎_elim
 -- a command that fails leaves the promises
 failed_mark : (refused : Bool) (told : Result Command Sense) (taken : List ℕ) (old new : UnitState) (sense : Sense)
     → IsOutcome refused told taken old (Err sense) new → new.book.mark ≡ old.book.mark
-failed_mark refused (Ok command) taken old new sense outcome = ⊎_elim
-    (λ o. ap (λ (u : UnitState). u.book.mark) o.after ∙ ap (λ (b : Book). b.mark) ((leaves command taken old).bad sense (sym o.answered)))
-    (λ bad. ⊎_elim
-    (λ o. ap (λ (u : UnitState). u.book.mark) o.after)
-    (λ o. ap (λ (u : UnitState). u.book.mark) o.after ∙ either_book (λ (b : Book). b.mark ≡ old.book.mark) o.book old.book (with_progress old.book (write_of_command command taken)) refl (progress_mark (write_of_command command taken) old.book) o.accepted)
-    bad)
-    outcome
+failed_mark refused (Ok command) taken old new sense outcome =
+    ⊎_elim
+    (λ o.
+    ap (λ (u : UnitState). u.book.mark) o.after ∙ ap (λ (b : Book). b.mark) ((leaves command taken old).bad sense (sym o.answered)))
+    (λ bad. ⊎_elim (λ o. ap (λ (u : UnitState). u.book.mark) o.after)
+    (λ o. ap (λ (u : UnitState). u.book.mark) o.after
+    ∙ either_book (λ (b : Book). b.mark ≡ old.book.mark) o.book old.book
+    (with_progress old.book (write_of_command command taken)) refl (progress_mark (write_of_command command taken) old.book)
+    o.accepted) bad) outcome
 failed_mark refused (Err other) taken old new sense outcome = ap (λ (u : UnitState). u.book.mark) outcome.after
 
 -- the write of a good command is accepted
@@ -123,24 +127,26 @@ good_writes refused (Err sense) taken sent old new write is outcome = cc
 
 pub keeps_writes : KeepsWrites
 keeps_writes = record {
-  life = λ refused block taken old new answer outcome. let told = checked old block in
-      by_cases (λ u. IsSameLife old.book u.book) refused told taken old new answer
-      (table_leaves told taken old).1.life
+  life = λ refused block taken old new answer outcome.
+      let told = checked old block in
+      by_cases (λ u. IsSameLife old.book u.book) refused told taken old new answer (table_leaves told taken old).1.life
       (λ sense e. progress_life None old.book)
-      (λ book sense e which. either_book (IsSameLife old.book) book old.book (with_progress old.book (write_after told taken)) (progress_life None old.book) (progress_life (write_after told taken) old.book) which)
-      outcome;
-  writes = λ refused block taken old new answer outcome. let told = checked old block in
+      (λ book sense e which. either_book (IsSameLife old.book) book old.book (with_progress old.book (write_after told taken))
+      (progress_life None old.book) (progress_life (write_after told taken) old.book) which) outcome;
+  writes = λ refused block taken old new answer outcome.
+      let told = checked old block in
       by_cases (λ u. IsAppended (write_after told taken) old.book u.book) refused told taken old new answer
       (appended_is (write_after told taken) old.book (table_of told taken old).after.book (table_leaves told taken old).1.writes_are)
       (λ sense e. inl refl)
-      (λ book sense e which. either_book (IsAppended (write_after told taken) old.book) book old.book (with_progress old.book (write_after told taken)) (inl refl) (progress_is (write_after told taken) old.book) which)
-      outcome;
+      (λ book sense e which. either_book (IsAppended (write_after told taken) old.book) book old.book
+      (with_progress old.book (write_after told taken)) (inl refl) (progress_is (write_after told taken) old.book) which) outcome;
   mark = λ refused block taken sent old new command passed outcome.
       let o = subst (λ (t : Result Command Sense). IsOutcome refused t taken old (Ok sent) new) passed outcome in
       subst (λ (u : UnitState). u.book.mark ≡ (if is_promising command taken old then length u.book.writes else old.book.mark))
       (sym (good_outcome refused command taken sent old new o)) (leaves command taken old).mark_is;
   unpromised = λ refused block taken old new sense outcome. failed_mark refused (checked old block) taken old new sense outcome;
-  accepted = λ refused block taken sent old new write is outcome. good_writes refused (checked old block) taken sent old new write is outcome;
+  accepted = λ refused block taken sent old new write is outcome.
+      good_writes refused (checked old block) taken sent old new write is outcome;
 }
 
 -- ---- the most blocks of a transfer
@@ -165,19 +171,20 @@ faulted_outcome : (refused : Bool) (told : Result Command Sense) (taken : List �
 faulted_outcome refused (Ok command) taken old new answer served faulted outcome =
     let none = uses_no_blocks command taken old (served command refl) in
     ⊎_elim
-    (λ o. (ap (λ (u : UnitState). u.faulted) o.after ∙ (leaves command taken old).faulted_is ∙ faulted, ap (λ (u : UnitState). u.book) o.after ∙ none.book_is))
-    (λ bad. ⊎_elim
-    (λ o. absurd (false≢true (sym none.reads_none ∙ o.reads)))
-    (λ o. absurd (false≢true (sym none.writes_none ∙ o.writes)))
-    bad)
-    outcome
+    (λ o. (
+      ap (λ (u : UnitState). u.faulted) o.after ∙ (leaves command taken old).faulted_is ∙ faulted,
+      ap (λ (u : UnitState). u.book) o.after ∙ none.book_is,
+    ))
+    (λ bad. ⊎_elim (λ o. absurd (false≢true (sym none.reads_none ∙ o.reads)))
+    (λ o. absurd (false≢true (sym none.writes_none ∙ o.writes))) bad) outcome
 faulted_outcome refused (Err sense) taken old new answer served faulted outcome =
     (ap (λ (u : UnitState). u.faulted) outcome.after ∙ faulted, ap (λ (u : UnitState). u.book) outcome.after)
 
 pub stays_faulted : StaysFaulted
 stays_faulted = record {
   command = λ refused block taken old new answer faulted outcome. faulted_outcome refused (checked old block) taken old new answer
-      (λ command passed. subst (λ (b : Bool). (b && needs_medium command) ≡ false) faulted (passed_by old.book.blocks old.limit old.kept.attention old.faulted block command passed).1)
+      (λ command passed. subst (λ (b : Bool). (b && needs_medium command) ≡ false) faulted
+      (passed_by old.book.blocks old.limit old.kept.attention old.faulted block command passed).1)
       faulted outcome;
   tick = λ refused old new faulted ticked. ⊎_elim (λ same. same)
       (λ o. o.after ∙ ap (λ (f : Bool). record old { faulted = f }) (sym faulted)) ticked;

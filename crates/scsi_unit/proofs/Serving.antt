@@ -14,13 +14,21 @@ module _ {M : Type 0} (before after : State) (block taken : List ℕ) (old mid :
   pub serves : Performs before after (command_for old block) taken old answer mid
       → Serves before after block taken old answer (record mid { kept = settled_kept answer mid.kept })
   serves done = record {
-    line = λ book fits. let found = done.line book fits in (
-      found.0,
-      subst (λ (n : ℕ). IsOutcome (has_refused before after) (command_by n (unit_limit old) old.kept.attention (is_dead old.store.cached) block) taken (state_of old book) answer (settled answer (state_of mid found.0)))
-          fits.blocks found.1,
-      found.2,
-    );
-    cuts = λ book fits ours. subst (λ (n : ℕ). LeavesOnly (FoundWith before.size book (write_after (command_by n (unit_limit old) old.kept.attention (is_dead old.store.cached) block) taken)) before after)
+    line = λ book fits.
+        let found = done.line book fits in (
+          found.0,
+          subst
+              (λ (n : ℕ). IsOutcome (has_refused before after)
+              (command_by n (unit_limit old) old.kept.attention (is_dead old.store.cached) block) taken (state_of old book) answer
+              (settled answer (state_of mid found.0)))
+              fits.blocks found.1,
+          found.2,
+        );
+    cuts = λ book fits ours. subst
+        (λ (n : ℕ). LeavesOnly
+        (FoundWith before.size book
+        (write_after (command_by n (unit_limit old) old.kept.attention (is_dead old.store.cached) block) taken))
+        before after)
         fits.blocks (done.cuts book fits ours);
     failures_stay = done.failures_stay;
     size_stays = done.size_stays;

@@ -39,7 +39,8 @@ limit_as : {M : Type 0} {before after : State} (old : UnitValue M) (store : Stor
     → GoesOn before after old.store.cached store.cached
     → state_of (record old { store = store }) book ≡ record (state_of old book) { faulted = is_dead store.cached }
 limit_as old store book on =
-    ap (λ (n : ℕ). record (state_of old book) { limit = n; faulted = is_dead store.cached }) (limit_stays old.store.cached store.cached on.layout_stays)
+    ap (λ (n : ℕ). record (state_of old book) { limit = n; faulted = is_dead store.cached })
+    (limit_stays old.store.cached store.cached on.layout_stays)
 
 -- a step in the background
 pub ticks_line : {M : Type 0} (before after : State) (old : UnitValue M) (store : StoreValue M)
@@ -73,9 +74,10 @@ ticks_over before after old store turn step few left active = record {
   blocks_stay = turn.goes_on.blocks_stay;
   limit_stays = limit_stays old.store.cached store.cached turn.goes_on.layout_stays;
   others_stay = refl;
-  steady = λ block n out. steady_by (blocks_of old.store.cached) (unit_limit old) old.kept.attention (is_dead old.store.cached) (is_dead store.cached) block n
-      (died_or_not (is_dead old.store.cached) (is_dead store.cached) turn.goes_on.dead_stays)
-      (subst (λ (s : Shape). intention_by s.blocks (limit_of s.format) old.kept.attention (is_dead store.cached) block ≡ intent.Out n) turn.goes_on.layout_stays out);
+  steady = λ block n out. steady_by (blocks_of old.store.cached) (unit_limit old) old.kept.attention (is_dead old.store.cached)
+      (is_dead store.cached) block n (died_or_not (is_dead old.store.cached) (is_dead store.cached) turn.goes_on.dead_stays)
+      (subst (λ (s : Shape). intention_by s.blocks (limit_of s.format) old.kept.attention (is_dead store.cached) block ≡ intent.Out n)
+      turn.goes_on.layout_stays out);
   few = few;
   left = left;
   active = active;

@@ -1,4 +1,4 @@
-// The checks of a command, and what it is about to move.
+//! The checks of a command, and what it is about to move.
 ghost use Rattle.std.specs.Prelude.{◌≡◌, ◌<◌, ◌≤◌, ◌*◌, ℕ, List, length, unwrap_or, IfOk};
 ghost use Rattle.blocks.specs.StoreValue.{blocks_of, is_dead};
 ghost use Rattle.cdb.specs.Supported.{IsSupported};
@@ -53,7 +53,7 @@ fn needs_medium(command: &Command) -> bool
 }
 
 impl<M: Medium> Unit<M> {
-    // The command of a command block, or the sense with which it is refused.
+    /// The command of a command block, or the sense with which it is refused.
     #[tactic(auto, unfolding(crate::specs::Rules::command_by))]
     pub(crate) fn command(&self, block: &[u8]) -> Result<Command, Sense>
         requires { 0 < length block.now }
@@ -108,7 +108,7 @@ fn inquiry_size(identity: &Identity, page: Option<u8>) -> u32
     }
 }
 
-// What a command is about to move.
+/// What a command is about to move.
 pub(crate) fn moves(identity: &Identity, command: &Command) -> Intent
     requires { (n : ℕ) × (limit : ℕ) × (limit ≤ 240) × IsSupported n limit command.now }
     ensures { result ≡ moves command.now }

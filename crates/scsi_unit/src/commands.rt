@@ -1,4 +1,4 @@
-// Commands, each by its own function.
+//! Commands, each by its own function.
 ghost use Rattle.std.specs.Prelude.{◌≡◌, ◌<◌, ◌≤◌, ◌+◌, ◌*◌, ◌&&◌, ℕ, false, [], length, take, min};
 ghost use Rattle.std.specs.Prelude.{unwrap_or, IfOk, Ok};
 ghost use Rattle.blocks.specs.StoreValue.{blocks_of, is_dead};
@@ -58,7 +58,7 @@ fn capacity_16(n: u64) -> [u8; 32]
 }
 
 impl<M: Medium> Unit<M> {
-    // Performs the command of a command block, if it is not refused.
+    /// Performs the command of a command block, if it is not refused.
     pub(crate) fn perform_block(
         &mut self,
         block: &[u8],

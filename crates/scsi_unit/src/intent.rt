@@ -1,3 +1,4 @@
+//! What a command intends to move.
 use sense::Sense;
 
 /// What a command is about to move, before it is carried out. A number of bytes is never 0.

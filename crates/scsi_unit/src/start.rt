@@ -1,4 +1,4 @@
-// How a unit starts.
+//! How a unit starts.
 ghost use Rattle.std.specs.Prelude.{ℕ, IfOk, IfErr, MatchResult};
 ghost use Rattle.medium.specs.Moments.{EachCut, LeavesOnly};
 ghost use Rattle.blocks.specs.Started.{StartLeaves};

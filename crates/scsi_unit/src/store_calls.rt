@@ -1,4 +1,4 @@
-// The calls of the store that the unit makes.
+//! The calls of the store that the unit makes.
 ghost use Rattle.std.specs.Prelude.{◌≡◌, ◌⊎◌, ◌≤◌, ◌<◌, ◌+◌, ◌*◌, ℕ, true, false, [], length, take};
 ghost use Rattle.std.specs.Prelude.{IfOk, OnOk, IfErr, MatchResult, is_ok, if◌then◌else◌};
 ghost use Rattle.blocks.specs.Background.{IsBackgroundStep};
@@ -19,7 +19,7 @@ use cdb::Transfer;
 use medium::Medium;
 use sense::Sense;
 
-// Makes all accepted writes durable, where that is wanted.
+/// Makes all accepted writes durable, where that is wanted.
 pub(crate) fn make_durable<M: Medium>(store: &mut Store<M>, wanted: bool) -> Result<(), Sense>
     requires live { is_dead store.old.cached ≡ false }
     ensures turn { IsTurn (M.state store.old.medium) (M.state store.new.medium)
@@ -43,7 +43,7 @@ pub(crate) fn make_durable<M: Medium>(store: &mut Store<M>, wanted: bool) -> Res
     }
 }
 
-// Reads blocks to the front of a buffer.
+/// Reads blocks to the front of a buffer.
 pub(crate) fn read_blocks<M: Medium>(
     store: &mut Store<M>,
     transfer: Transfer,
@@ -74,7 +74,7 @@ pub(crate) fn read_blocks<M: Medium>(
     }
 }
 
-// Writes the blocks at the front of what was taken.
+/// Writes the blocks at the front of what was taken.
 pub(crate) fn write_blocks<M: Medium>(
     store: &mut Store<M>,
     transfer: Transfer,
@@ -111,7 +111,7 @@ pub(crate) fn write_blocks<M: Medium>(
         .map_err(|_| Sense::WRITE_ERROR)
 }
 
-// Makes a step in the background.
+/// Makes a step in the background.
 pub(crate) fn step<M: Medium>(store: &mut Store<M>)
     ensures turn { IsTurn (M.state store.old.medium) (M.state store.new.medium)
         store.old.cached store.new.cached }

@@ -1,4 +1,4 @@
-// The commands that use the store.
+//! The commands that use the store.
 ghost use Rattle.std.specs.Prelude.{◌≡◌, ◌≤◌, ◌+◌, ◌*◌, ℕ, false, List, length, Ok, IfOk};
 ghost use Rattle.blocks.specs.StoreValue.{blocks_of, is_dead};
 ghost use Rattle.cdb.specs.Supported.{IsWithin};
@@ -16,7 +16,7 @@ use pages::mode_select;
 use sense::Sense;
 
 impl<M: Medium> Unit<M> {
-    // READ: with FUA all accepted writes are made durable first.
+    /// READ: with FUA all accepted writes are made durable first.
     pub(crate) fn read(&mut self, transfer: Transfer, out: &mut [u8]) -> Result<usize, Sense>
         requires live { is_dead self.old.store.cached ≡ false }
         requires within { IsWithin (blocks_of self.old.store.cached) (unit_limit self.old)
@@ -39,7 +39,7 @@ impl<M: Medium> Unit<M> {
         read_blocks(&mut self.store, transfer, out)
     }
 
-    // WRITE: with FUA, or without the write cache, all accepted writes are made durable.
+    /// WRITE: with FUA, or without the write cache, all accepted writes are made durable.
     pub(crate) fn write(&mut self, transfer: Transfer, taken: &[u8]) -> Result<(), Sense>
         requires live { is_dead self.old.store.cached ≡ false }
         requires within { IsWithin (blocks_of self.old.store.cached) (unit_limit self.old)
@@ -63,7 +63,7 @@ impl<M: Medium> Unit<M> {
         make_durable(&mut self.store, through)
     }
 
-    // SYNCHRONIZE CACHE: all accepted writes are made durable.
+    /// SYNCHRONIZE CACHE: all accepted writes are made durable.
     pub(crate) fn synchronize(&mut self) -> Result<(), Sense>
         requires live { is_dead self.old.store.cached ≡ false }
         ensures performs { (range : BlockRange) (taken : List ℕ)
@@ -79,7 +79,7 @@ impl<M: Medium> Unit<M> {
         make_durable(&mut self.store, true)
     }
 
-    // MODE SELECT: WCE goes from 1 to 0 when all accepted writes are durable.
+    /// MODE SELECT: WCE goes from 1 to 0 when all accepted writes are durable.
     pub(crate) fn select(&mut self, list_len: u8, taken: &[u8]) -> Result<(), Sense>
         requires live { is_dead self.old.store.cached ≡ false }
         requires taken { list_len ≤ length taken.now }

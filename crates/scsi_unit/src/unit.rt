@@ -1,4 +1,4 @@
-// A unit over its store.
+//! A unit over its store.
 ghost use Rattle.std.specs.Prelude.{◌≡◌, ◌<◌, ◌≤◌, ◌+◌, ◌*◌, ℕ, List, None, false, true, length};
 ghost use Rattle.std.specs.Prelude.{◌↔◌, IfOk, IsTrue};
 ghost use Rattle.medium.specs.Moments.{EachCut, IsUnchanged};

@@ -1,3 +1,4 @@
+//! Sense keys and additional sense codes.
 ghost use Rattle.std.specs.Prelude.{◌≡◌, length, drop, slice_index};
 ghost use Rattle.sense.specs.Fixed.{fixed_sense};
 

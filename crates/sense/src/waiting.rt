@@ -1,3 +1,4 @@
+//! What waits for REQUEST SENSE.
 ghost use Rattle.std.specs.Prelude.{◌≡◌, None, true};
 ghost use Rattle.sense.specs.Waiting.{Waiting, after_failure, reported, after_report};
 

@@ -1,3 +1,4 @@
+//! Command block wrappers.
 ghost use Rattle.std.specs.Prelude.{◌≡◌, ◌↔◌, IsTrue, MatchResult, IfOk, OnErr, length};
 ghost use Rattle.wrappers.specs.Command.{
   Announces,
@@ -37,7 +38,7 @@ pub enum CbwFault {
 /// The flags where the bytes go to the host. All other bits of them are reserved.
 const DIRECTION_IN: u8 = 0x80;
 
-/// What the host announces by a transfer length and the flags.
+// What the host announces by a transfer length and the flags.
 fn announced(length: u32, flags: u8) -> Way
     ensures { Announces length flags result }
 {
@@ -50,7 +51,7 @@ fn announced(length: u32, flags: u8) -> Way
     }
 }
 
-/// Whether the fields are meaningful: no reserved flag, unit 0, a command block of 1 to 16 bytes.
+// Whether the fields are meaningful: no reserved flag, unit 0, a command block of 1 to 16 bytes.
 fn is_meaningful(packet: &[u8]) -> bool
     requires { length packet.now ≡ 31 }
     ensures { IsTrue result ↔ IsMeaningful packet.now }

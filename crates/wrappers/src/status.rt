@@ -1,3 +1,4 @@
+//! Command status wrappers.
 ghost use Rattle.std.specs.Prelude.{◌≡◌};
 ghost use Rattle.wrappers.specs.Status.{status_wrapper};
 

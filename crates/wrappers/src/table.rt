@@ -1,3 +1,4 @@
+//! The thirteen cases, and what comes of each.
 ghost use Rattle.std.specs.Prelude.{◌≡◌};
 ghost use Rattle.wrappers.specs.Cases.{
   IsCase,

@@ -17,6 +17,8 @@ returns-clause-serves g c =
     let answer = answer_of c.perform_block-answer.result out in
     let block = c.args.block.now in
     let taken = c.args.taken.now in
-    let performed = subst (λ (u : UnitValue g.row.M.Denot). Performs before (state u.store.medium) (command_for old block) taken old answer u) (sym c.self.view_is) c.perform_block-answer.ensures.performs in
-    subst (λ (k : Waiting). Serves before (state i.store.medium) block taken old answer (record seen { kept = k })) (sym (c.settle.ensures out))
-    (serves before (state i.store.medium) block taken old seen answer performed)
+    let performed = subst
+    (λ (u : UnitValue g.row.M.Denot). Performs before (state u.store.medium) (command_for old block) taken old answer u)
+    (sym c.self.view_is) c.perform_block-answer.ensures.performs in
+    subst (λ (k : Waiting). Serves before (state i.store.medium) block taken old answer (record seen { kept = k }))
+    (sym (c.settle.ensures out)) (serves before (state i.store.medium) block taken old seen answer performed)

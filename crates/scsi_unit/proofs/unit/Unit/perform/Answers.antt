@@ -9,7 +9,9 @@ use Rattle.scsi_unit.specs.Capacity.{capacity_10, capacity_16}
 use Rattle.pages.specs.Mode.{mode_data}
 use Rattle.blocks.specs.StoreValue.{blocks_of}
 use Rattle.scsi_unit.specs.Performing.{Performs, Spares, silent}
-use Rattle.scsi_unit.proofs.Performing.{takes_enough, sends_data, reports_sense, reads_16, writes_16, synchronizes_16, spares_reading_16, spares_synchronizing_16, answer_at, take-capacity_10, done_well, done_badly, spares_well, spares_badly}
+use Rattle.scsi_unit.proofs.Performing.{takes_enough, sends_data, reports_sense, reads_16, writes_16, synchronizes_16, spares_reading_16}
+use Rattle.scsi_unit.proofs.Performing.{spares_synchronizing_16, answer_at, take-capacity_10, done_well, done_badly, spares_well}
+use Rattle.scsi_unit.proofs.Performing.{spares_badly}
 use Rattle.scsi_unit.proofs.unit.Unit.perform.Goals as goal
 
 pub select-requires-clause-taken : goal.select-requires-clause-taken
@@ -32,14 +34,17 @@ returns-in-TestUnitReady-clause-performs g c =
     let unit = c.args.self.now in
     let m = g.M.Medium.state unit.store.medium in
     subst (λ (cmd : Command). Performs m m (Ok cmd) c.args.taken.now unit (Ok []) unit) (sym c.in-TestUnitReady.is)
-    (sends_data m (g.met.M.Medium.sound unit.store.medium) unit command.TestUnitReady c.args.taken.now (Ok []) [] refl refl (λ book fits. refl))
+    (sends_data m (g.met.M.Medium.sound unit.store.medium) unit command.TestUnitReady c.args.taken.now (Ok []) [] refl refl
+    (λ book fits. refl))
 
 pub returns-in-Inquiry-clause-performs : goal.returns-in-Inquiry-clause-performs
 returns-in-Inquiry-clause-performs g c =
     let unit = c.args.self.now in
     let m = g.M.Medium.state unit.store.medium in
-    subst (λ (cmd : Command). Performs m m (Ok cmd) c.args.taken.now unit (Ok (take c.inquire.result c.inquire.new.out)) unit) (sym c.in-Inquiry.is)
-    (sends_data m (g.met.M.Medium.sound unit.store.medium) unit (command.Inquiry c.in-Inquiry.page c.in-Inquiry.allocation) c.args.taken.now (Ok (take c.inquire.result c.inquire.new.out)) _ refl (ap Ok c.inquire.ensures.sent) (λ book fits. refl))
+    subst (λ (cmd : Command). Performs m m (Ok cmd) c.args.taken.now unit (Ok (take c.inquire.result c.inquire.new.out)) unit)
+    (sym c.in-Inquiry.is)
+    (sends_data m (g.met.M.Medium.sound unit.store.medium) unit (command.Inquiry c.in-Inquiry.page c.in-Inquiry.allocation)
+    c.args.taken.now (Ok (take c.inquire.result c.inquire.new.out)) _ refl (ap Ok c.inquire.ensures.sent) (λ book fits. refl))
 
 pub returns-in-RequestSense-clause-performs : goal.returns-in-RequestSense-clause-performs
 returns-in-RequestSense-clause-performs g c =
@@ -47,9 +52,14 @@ returns-in-RequestSense-clause-performs g c =
     let state = g.M.Medium.state in
     let m = state unit.store.medium in
     let told = take c.report.result c.report.new.out in
-    subst (λ (cmd : Command). Performs m (state c.report.new.self.store.medium) (Ok cmd) c.args.taken.now unit (Ok told) c.report.new.self) (sym c.in-RequestSense.is)
-    (subst (λ (u : UnitValue g.row.M.Denot). Performs m (state u.store.medium) (Ok (command.RequestSense c.in-RequestSense.allocation)) c.args.taken.now unit (Ok told) u) (sym c.report.ensures.left)
-    (reports_sense m (g.met.M.Medium.sound unit.store.medium) unit c.in-RequestSense.allocation c.args.taken.now told c.report.ensures.sent))
+    subst (λ (cmd : Command). Performs m (state c.report.new.self.store.medium) (Ok cmd) c.args.taken.now unit (Ok told) c.report.new.self)
+    (sym c.in-RequestSense.is)
+    (subst
+    (λ (u : UnitValue g.row.M.Denot). Performs m (state u.store.medium) (Ok (command.RequestSense c.in-RequestSense.allocation))
+    c.args.taken.now unit (Ok told) u)
+    (sym c.report.ensures.left)
+    (reports_sense m (g.met.M.Medium.sound unit.store.medium) unit c.in-RequestSense.allocation c.args.taken.now told
+    c.report.ensures.sent))
 
 pub returns-in-ModeSense-clause-performs : goal.returns-in-ModeSense-clause-performs
 returns-in-ModeSense-clause-performs g c =
@@ -57,9 +67,11 @@ returns-in-ModeSense-clause-performs g c =
     let m = g.M.Medium.state unit.store.medium in
     let told = answer_of c.sense_mode.result c.sense_mode.new.out in
     subst (λ (cmd : Command). Performs m m (Ok cmd) c.args.taken.now unit told unit) (sym c.in-ModeSense.is)
-    (sends_data m (g.met.M.Medium.sound unit.store.medium) unit (command.ModeSense c.in-ModeSense.control c.in-ModeSense.page c.in-ModeSense.subpage c.in-ModeSense.allocation) c.args.taken.now told
-    (take c.in-ModeSense.allocation (mode_data c.in-ModeSense.control unit.write_cache)) refl
-    (answer_at c.sense_mode.result _ c.sense_mode.new.out _ c.sense_mode.ensures.size c.sense_mode.ensures.sent) (λ book fits. refl))
+    (sends_data m (g.met.M.Medium.sound unit.store.medium) unit
+    (command.ModeSense c.in-ModeSense.control c.in-ModeSense.page c.in-ModeSense.subpage c.in-ModeSense.allocation) c.args.taken.now
+    told (take c.in-ModeSense.allocation (mode_data c.in-ModeSense.control unit.write_cache)) refl
+    (answer_at c.sense_mode.result _ c.sense_mode.new.out _ c.sense_mode.ensures.size c.sense_mode.ensures.sent)
+    (λ book fits. refl))
 
 pub returns-in-ReadCapacity10-clause-performs : goal.returns-in-ReadCapacity10-clause-performs
 returns-in-ReadCapacity10-clause-performs g c =
@@ -69,8 +81,12 @@ returns-in-ReadCapacity10-clause-performs g c =
     let n : c.blocks-in-ReadCapacity10.result ≡ blocks_of unit.store.cached =
     c.blocks-in-ReadCapacity10.ensures.is ∙ ap (λ (u : UnitValue g.row.M.Denot). blocks_of u.store.cached) c.self.view_is in
     subst (λ (cmd : Command). Performs m m (Ok cmd) c.args.taken.now unit (Ok told) unit) (sym c.in-ReadCapacity10.is)
-    (sends_data m (g.met.M.Medium.sound unit.store.medium) unit command.ReadCapacity10 c.args.taken.now (Ok told) (capacity_10 (blocks_of unit.store.cached)) refl
-    (ap Ok (c.send.ensures.sent ∙ ap (λ (bytes : List ℕ). take 8 bytes) (c.capacity_10-bytes.ensures ∙ ap capacity_10 n) ∙ take-capacity_10 (blocks_of unit.store.cached)))
+    (sends_data m (g.met.M.Medium.sound unit.store.medium) unit command.ReadCapacity10 c.args.taken.now (Ok told)
+    (capacity_10 (blocks_of unit.store.cached)) refl
+    (ap Ok
+    (c.send.ensures.sent
+    ∙ ap (λ (bytes : List ℕ). take 8 bytes) (c.capacity_10-bytes.ensures ∙ ap capacity_10 n)
+    ∙ take-capacity_10 (blocks_of unit.store.cached)))
     (λ book fits. ap (λ (n : ℕ). gives (capacity_10 n) (state_of unit book)) (sym fits.blocks)))
 
 pub returns-in-ReadCapacity16-clause-performs : goal.returns-in-ReadCapacity16-clause-performs
@@ -80,18 +96,24 @@ returns-in-ReadCapacity16-clause-performs g c =
     let allocation = c.in-ReadCapacity16.allocation in
     let told = take c.send-in-ReadCapacity16.result c.send-in-ReadCapacity16.new.out in
     let n : c.blocks-in-ReadCapacity16.result ≡ blocks_of unit.store.cached =
-    c.blocks-in-ReadCapacity16.ensures.is ∙ ap (λ (u : UnitValue g.row.M.Denot). blocks_of u.store.cached) c.self-in-ReadCapacity16.view_is in
+    c.blocks-in-ReadCapacity16.ensures.is
+    ∙ ap (λ (u : UnitValue g.row.M.Denot). blocks_of u.store.cached) c.self-in-ReadCapacity16.view_is in
     subst (λ (cmd : Command). Performs m m (Ok cmd) c.args.taken.now unit (Ok told) unit) (sym c.in-ReadCapacity16.is)
-    (sends_data m (g.met.M.Medium.sound unit.store.medium) unit (command.ReadCapacity16 allocation) c.args.taken.now (Ok told) (take allocation (capacity_16 (blocks_of unit.store.cached))) refl
-    (ap Ok (c.send-in-ReadCapacity16.ensures.sent ∙ ap (λ (bytes : List ℕ). take allocation bytes) (c.capacity_16.ensures ∙ ap capacity_16 n)))
+    (sends_data m (g.met.M.Medium.sound unit.store.medium) unit (command.ReadCapacity16 allocation) c.args.taken.now (Ok told)
+    (take allocation (capacity_16 (blocks_of unit.store.cached))) refl
+    (ap Ok
+    (c.send-in-ReadCapacity16.ensures.sent
+    ∙ ap (λ (bytes : List ℕ). take allocation bytes) (c.capacity_16.ensures ∙ ap capacity_16 n)))
     (λ book fits. ap (λ (n : ℕ). gives (take allocation (capacity_16 n)) (state_of unit book)) (sym fits.blocks)))
 
 pub returns-in-Read10-clause-performs : goal.returns-in-Read10-clause-performs
 returns-in-Read10-clause-performs g c =
     let state = g.M.Medium.state in
     let unit = c.args.self.now in
-    subst (λ (cmd : Command). Performs (state unit.store.medium) (state c.read.new.self.store.medium) (Ok cmd) c.args.taken.now unit (answer_of c.read.result c.read.new.out) c.read.new.self) (sym c.in-Read10.is)
-    (c.read.ensures.performs c.args.taken.now)
+    subst
+    (λ (cmd : Command). Performs (state unit.store.medium) (state c.read.new.self.store.medium) (Ok cmd) c.args.taken.now unit
+    (answer_of c.read.result c.read.new.out) c.read.new.self)
+    (sym c.in-Read10.is) (c.read.ensures.performs c.args.taken.now)
 
 pub returns-in-Read16-clause-performs : goal.returns-in-Read16-clause-performs
 returns-in-Read16-clause-performs g c =
@@ -99,8 +121,10 @@ returns-in-Read16-clause-performs g c =
     let unit = c.args.self.now in
     let after = c.read-in-Read16.new.self in
     let answer = answer_of c.read-in-Read16.result c.read-in-Read16.new.out in
-    subst (λ (cmd : Command). Performs (state unit.store.medium) (state after.store.medium) (Ok cmd) c.args.taken.now unit answer after) (sym c.in-Read16.is)
-    (reads_16 (state unit.store.medium) (state after.store.medium) c.in-Read16.transfer c.args.taken.now unit answer after (c.read-in-Read16.ensures.performs c.args.taken.now))
+    subst (λ (cmd : Command). Performs (state unit.store.medium) (state after.store.medium) (Ok cmd) c.args.taken.now unit answer after)
+    (sym c.in-Read16.is)
+    (reads_16 (state unit.store.medium) (state after.store.medium) c.in-Read16.transfer c.args.taken.now unit answer after
+    (c.read-in-Read16.ensures.performs c.args.taken.now))
 
 pub returns-in-Read16-clause-spares : goal.returns-in-Read16-clause-spares
 returns-in-Read16-clause-spares g c =
@@ -115,9 +139,12 @@ returns-in_ok-write-in-Write16-clause-performs g c =
     let state = g.M.Medium.state in
     let unit = c.args.self.now in
     let after = c.write-in-Write16.new.self in
-    subst (λ (cmd : Command). Performs (state unit.store.medium) (state after.store.medium) (Ok cmd) c.args.taken.now unit (Ok []) after) (sym c.in-Write16.is)
-    (done_well (state unit.store.medium) (state after.store.medium) (command.Write16 c.in-Write16.transfer) c.args.taken.now unit after c.write-in-Write16.result c.in_ok-write-in-Write16.field-0 c.in_ok-write-in-Write16.was
-    (writes_16 (state unit.store.medium) (state after.store.medium) c.in-Write16.transfer c.args.taken.now unit (silent c.write-in-Write16.result) after c.write-in-Write16.ensures.performs))
+    subst (λ (cmd : Command). Performs (state unit.store.medium) (state after.store.medium) (Ok cmd) c.args.taken.now unit (Ok []) after)
+    (sym c.in-Write16.is)
+    (done_well (state unit.store.medium) (state after.store.medium) (command.Write16 c.in-Write16.transfer) c.args.taken.now unit after
+    c.write-in-Write16.result c.in_ok-write-in-Write16.field-0 c.in_ok-write-in-Write16.was
+    (writes_16 (state unit.store.medium) (state after.store.medium) c.in-Write16.transfer c.args.taken.now unit
+    (silent c.write-in-Write16.result) after c.write-in-Write16.ensures.performs))
 
 pub returns-in_err-write-in-Write16-clause-performs : goal.returns-in_err-write-in-Write16-clause-performs
 returns-in_err-write-in-Write16-clause-performs g c =
@@ -125,27 +152,42 @@ returns-in_err-write-in-Write16-clause-performs g c =
     let state = g.M.Medium.state in
     let unit = c.args.self.now in
     let after = c.write-in-Write16.new.self in
-    subst (λ (cmd : Command). Performs (state unit.store.medium) (state after.store.medium) (Ok cmd) c.args.taken.now unit (answer_of c.from_residual-in_err-write-in-Write16.result c.args.out.now) after) (sym c.in-Write16.is)
-    (rw (p.1, p.2) (done_badly (state unit.store.medium) (state after.store.medium) (command.Write16 c.in-Write16.transfer) c.args.taken.now unit after c.write-in-Write16.result c.in_err-write-in-Write16.field-0.0 c.in_err-write-in-Write16.was
-    (writes_16 (state unit.store.medium) (state after.store.medium) c.in-Write16.transfer c.args.taken.now unit (silent c.write-in-Write16.result) after c.write-in-Write16.ensures.performs)))
+    subst
+    (λ (cmd : Command). Performs (state unit.store.medium) (state after.store.medium) (Ok cmd) c.args.taken.now unit
+    (answer_of c.from_residual-in_err-write-in-Write16.result c.args.out.now) after)
+    (sym c.in-Write16.is)
+    (rw (p.1, p.2)
+    (done_badly (state unit.store.medium) (state after.store.medium) (command.Write16 c.in-Write16.transfer) c.args.taken.now unit
+    after c.write-in-Write16.result c.in_err-write-in-Write16.field-0.0 c.in_err-write-in-Write16.was
+    (writes_16 (state unit.store.medium) (state after.store.medium) c.in-Write16.transfer c.args.taken.now unit
+    (silent c.write-in-Write16.result) after c.write-in-Write16.ensures.performs)))
 
 pub returns-in_ok-synchronize-in-SynchronizeCache10-clause-performs : goal.returns-in_ok-synchronize-in-SynchronizeCache10-clause-performs
 returns-in_ok-synchronize-in-SynchronizeCache10-clause-performs g c =
     let state = g.M.Medium.state in
     let unit = c.args.self.now in
     let after = c.synchronize.new.self in
-    subst (λ (cmd : Command). Performs (state unit.store.medium) (state after.store.medium) (Ok cmd) c.args.taken.now unit (Ok []) after) (sym c.in-SynchronizeCache10.is)
-    (done_well (state unit.store.medium) (state after.store.medium) (command.SynchronizeCache10 c.in-SynchronizeCache10.field-0) c.args.taken.now unit after c.synchronize.result c.in_ok-synchronize-in-SynchronizeCache10.field-0 c.in_ok-synchronize-in-SynchronizeCache10.was
-    (c.synchronize.ensures.performs c.in-SynchronizeCache10.field-0 c.args.taken.now))
+    subst (λ (cmd : Command). Performs (state unit.store.medium) (state after.store.medium) (Ok cmd) c.args.taken.now unit (Ok []) after)
+    (sym c.in-SynchronizeCache10.is)
+    (done_well (state unit.store.medium) (state after.store.medium) (command.SynchronizeCache10 c.in-SynchronizeCache10.field-0)
+    c.args.taken.now unit after c.synchronize.result c.in_ok-synchronize-in-SynchronizeCache10.field-0
+    c.in_ok-synchronize-in-SynchronizeCache10.was (c.synchronize.ensures.performs c.in-SynchronizeCache10.field-0 c.args.taken.now))
 
 pub returns-in_err-synchronize-in-SynchronizeCache10-clause-performs : goal.returns-in_err-synchronize-in-SynchronizeCache10-clause-performs
 returns-in_err-synchronize-in-SynchronizeCache10-clause-performs g c =
-    let p = err_from_is_err_and c.from_residual-in_err-synchronize-in-SynchronizeCache10.result c.from_residual-in_err-synchronize-in-SynchronizeCache10.ensures.1 in
+    let p = err_from_is_err_and c.from_residual-in_err-synchronize-in-SynchronizeCache10.result
+    c.from_residual-in_err-synchronize-in-SynchronizeCache10.ensures.1 in
     let state = g.M.Medium.state in
     let unit = c.args.self.now in
     let after = c.synchronize.new.self in
-    subst (λ (cmd : Command). Performs (state unit.store.medium) (state after.store.medium) (Ok cmd) c.args.taken.now unit (answer_of c.from_residual-in_err-synchronize-in-SynchronizeCache10.result c.args.out.now) after) (sym c.in-SynchronizeCache10.is)
-    (rw (p.1, p.2) (done_badly (state unit.store.medium) (state after.store.medium) (command.SynchronizeCache10 c.in-SynchronizeCache10.field-0) c.args.taken.now unit after c.synchronize.result c.in_err-synchronize-in-SynchronizeCache10.field-0.0 c.in_err-synchronize-in-SynchronizeCache10.was
+    subst
+    (λ (cmd : Command). Performs (state unit.store.medium) (state after.store.medium) (Ok cmd) c.args.taken.now unit
+    (answer_of c.from_residual-in_err-synchronize-in-SynchronizeCache10.result c.args.out.now) after)
+    (sym c.in-SynchronizeCache10.is)
+    (rw (p.1, p.2)
+    (done_badly (state unit.store.medium) (state after.store.medium) (command.SynchronizeCache10 c.in-SynchronizeCache10.field-0)
+    c.args.taken.now unit after c.synchronize.result c.in_err-synchronize-in-SynchronizeCache10.field-0.0
+    c.in_err-synchronize-in-SynchronizeCache10.was
     (c.synchronize.ensures.performs c.in-SynchronizeCache10.field-0 c.args.taken.now)))
 
 pub returns-in_ok-synchronize-in-SynchronizeCache16-clause-performs : goal.returns-in_ok-synchronize-in-SynchronizeCache16-clause-performs
@@ -153,33 +195,60 @@ returns-in_ok-synchronize-in-SynchronizeCache16-clause-performs g c =
     let state = g.M.Medium.state in
     let unit = c.args.self.now in
     let after = c.synchronize-in-SynchronizeCache16.new.self in
-    subst (λ (cmd : Command). Performs (state unit.store.medium) (state after.store.medium) (Ok cmd) c.args.taken.now unit (Ok []) after) (sym c.in-SynchronizeCache16.is)
-    (done_well (state unit.store.medium) (state after.store.medium) (command.SynchronizeCache16 c.in-SynchronizeCache16.field-0) c.args.taken.now unit after c.synchronize-in-SynchronizeCache16.result c.in_ok-synchronize-in-SynchronizeCache16.field-0 c.in_ok-synchronize-in-SynchronizeCache16.was
-    (synchronizes_16 (state unit.store.medium) (state after.store.medium) c.in-SynchronizeCache16.field-0 c.args.taken.now unit (silent c.synchronize-in-SynchronizeCache16.result) after (c.synchronize-in-SynchronizeCache16.ensures.performs c.in-SynchronizeCache16.field-0 c.args.taken.now)))
+    subst (λ (cmd : Command). Performs (state unit.store.medium) (state after.store.medium) (Ok cmd) c.args.taken.now unit (Ok []) after)
+    (sym c.in-SynchronizeCache16.is)
+    (done_well (state unit.store.medium) (state after.store.medium) (command.SynchronizeCache16 c.in-SynchronizeCache16.field-0)
+    c.args.taken.now unit after c.synchronize-in-SynchronizeCache16.result c.in_ok-synchronize-in-SynchronizeCache16.field-0
+    c.in_ok-synchronize-in-SynchronizeCache16.was
+    (synchronizes_16 (state unit.store.medium) (state after.store.medium) c.in-SynchronizeCache16.field-0 c.args.taken.now unit
+    (silent c.synchronize-in-SynchronizeCache16.result) after
+    (c.synchronize-in-SynchronizeCache16.ensures.performs c.in-SynchronizeCache16.field-0 c.args.taken.now)))
 
 pub returns-in_err-synchronize-in-SynchronizeCache16-clause-performs : goal.returns-in_err-synchronize-in-SynchronizeCache16-clause-performs
 returns-in_err-synchronize-in-SynchronizeCache16-clause-performs g c =
-    let p = err_from_is_err_and c.from_residual-in_err-synchronize-in-SynchronizeCache16.result c.from_residual-in_err-synchronize-in-SynchronizeCache16.ensures.1 in
+    let p = err_from_is_err_and c.from_residual-in_err-synchronize-in-SynchronizeCache16.result
+    c.from_residual-in_err-synchronize-in-SynchronizeCache16.ensures.1 in
     let state = g.M.Medium.state in
     let unit = c.args.self.now in
     let after = c.synchronize-in-SynchronizeCache16.new.self in
-    subst (λ (cmd : Command). Performs (state unit.store.medium) (state after.store.medium) (Ok cmd) c.args.taken.now unit (answer_of c.from_residual-in_err-synchronize-in-SynchronizeCache16.result c.args.out.now) after) (sym c.in-SynchronizeCache16.is)
-    (rw (p.1, p.2) (done_badly (state unit.store.medium) (state after.store.medium) (command.SynchronizeCache16 c.in-SynchronizeCache16.field-0) c.args.taken.now unit after c.synchronize-in-SynchronizeCache16.result c.in_err-synchronize-in-SynchronizeCache16.field-0.0 c.in_err-synchronize-in-SynchronizeCache16.was
-    (synchronizes_16 (state unit.store.medium) (state after.store.medium) c.in-SynchronizeCache16.field-0 c.args.taken.now unit (silent c.synchronize-in-SynchronizeCache16.result) after (c.synchronize-in-SynchronizeCache16.ensures.performs c.in-SynchronizeCache16.field-0 c.args.taken.now))))
+    subst
+    (λ (cmd : Command). Performs (state unit.store.medium) (state after.store.medium) (Ok cmd) c.args.taken.now unit
+    (answer_of c.from_residual-in_err-synchronize-in-SynchronizeCache16.result c.args.out.now) after)
+    (sym c.in-SynchronizeCache16.is)
+    (rw (p.1, p.2)
+    (done_badly (state unit.store.medium) (state after.store.medium) (command.SynchronizeCache16 c.in-SynchronizeCache16.field-0)
+    c.args.taken.now unit after c.synchronize-in-SynchronizeCache16.result c.in_err-synchronize-in-SynchronizeCache16.field-0.0
+    c.in_err-synchronize-in-SynchronizeCache16.was
+    (synchronizes_16 (state unit.store.medium) (state after.store.medium) c.in-SynchronizeCache16.field-0 c.args.taken.now unit
+    (silent c.synchronize-in-SynchronizeCache16.result) after
+    (c.synchronize-in-SynchronizeCache16.ensures.performs c.in-SynchronizeCache16.field-0 c.args.taken.now))))
 
 pub returns-in_ok-synchronize-in-SynchronizeCache16-clause-spares : goal.returns-in_ok-synchronize-in-SynchronizeCache16-clause-spares
 returns-in_ok-synchronize-in-SynchronizeCache16-clause-spares g c =
     let unit = c.args.self.now in
     let after = c.synchronize-in-SynchronizeCache16.new.self in
     subst (λ (cmd : Command). Spares (Ok cmd) c.args.taken.now unit (Ok []) after) (sym c.in-SynchronizeCache16.is)
-    (spares_well (command.SynchronizeCache16 c.in-SynchronizeCache16.field-0) c.args.taken.now unit after c.synchronize-in-SynchronizeCache16.result c.in_ok-synchronize-in-SynchronizeCache16.field-0 c.in_ok-synchronize-in-SynchronizeCache16.was
-    (spares_synchronizing_16 c.in-SynchronizeCache16.field-0 c.args.taken.now unit (silent c.synchronize-in-SynchronizeCache16.result) after (c.synchronize-in-SynchronizeCache16.ensures.spares c.in-SynchronizeCache16.field-0 c.args.taken.now)))
+    (spares_well (command.SynchronizeCache16 c.in-SynchronizeCache16.field-0) c.args.taken.now unit after
+    c.synchronize-in-SynchronizeCache16.result c.in_ok-synchronize-in-SynchronizeCache16.field-0
+    c.in_ok-synchronize-in-SynchronizeCache16.was
+    (spares_synchronizing_16 c.in-SynchronizeCache16.field-0 c.args.taken.now unit
+    (silent c.synchronize-in-SynchronizeCache16.result) after
+    (c.synchronize-in-SynchronizeCache16.ensures.spares c.in-SynchronizeCache16.field-0 c.args.taken.now)))
 
 pub returns-in_err-synchronize-in-SynchronizeCache16-clause-spares : goal.returns-in_err-synchronize-in-SynchronizeCache16-clause-spares
 returns-in_err-synchronize-in-SynchronizeCache16-clause-spares g c =
-    let p = err_from_is_err_and c.from_residual-in_err-synchronize-in-SynchronizeCache16.result c.from_residual-in_err-synchronize-in-SynchronizeCache16.ensures.1 in
+    let p = err_from_is_err_and c.from_residual-in_err-synchronize-in-SynchronizeCache16.result
+    c.from_residual-in_err-synchronize-in-SynchronizeCache16.ensures.1 in
     let unit = c.args.self.now in
     let after = c.synchronize-in-SynchronizeCache16.new.self in
-    subst (λ (cmd : Command). Spares (Ok cmd) c.args.taken.now unit (answer_of c.from_residual-in_err-synchronize-in-SynchronizeCache16.result c.args.out.now) after) (sym c.in-SynchronizeCache16.is)
-    (rw (p.1, p.2) (spares_badly (command.SynchronizeCache16 c.in-SynchronizeCache16.field-0) c.args.taken.now unit after c.synchronize-in-SynchronizeCache16.result c.in_err-synchronize-in-SynchronizeCache16.field-0.0 c.in_err-synchronize-in-SynchronizeCache16.was
-    (spares_synchronizing_16 c.in-SynchronizeCache16.field-0 c.args.taken.now unit (silent c.synchronize-in-SynchronizeCache16.result) after (c.synchronize-in-SynchronizeCache16.ensures.spares c.in-SynchronizeCache16.field-0 c.args.taken.now))))
+    subst
+    (λ (cmd : Command). Spares (Ok cmd) c.args.taken.now unit
+    (answer_of c.from_residual-in_err-synchronize-in-SynchronizeCache16.result c.args.out.now) after)
+    (sym c.in-SynchronizeCache16.is)
+    (rw (p.1, p.2)
+    (spares_badly (command.SynchronizeCache16 c.in-SynchronizeCache16.field-0) c.args.taken.now unit after
+    c.synchronize-in-SynchronizeCache16.result c.in_err-synchronize-in-SynchronizeCache16.field-0.0
+    c.in_err-synchronize-in-SynchronizeCache16.was
+    (spares_synchronizing_16 c.in-SynchronizeCache16.field-0 c.args.taken.now unit
+    (silent c.synchronize-in-SynchronizeCache16.result) after
+    (c.synchronize-in-SynchronizeCache16.ensures.spares c.in-SynchronizeCache16.field-0 c.args.taken.now))))

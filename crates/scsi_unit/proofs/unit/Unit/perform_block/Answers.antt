@@ -13,25 +13,29 @@ returns-in_err-command-clause-performs g c =
     let p = err_from_is_err_and c.from_residual.result c.from_residual.ensures.1 in
     let unit = c.args.self.now in
     let told = sym c.command.ensures.value ∙ c.in_err-command.was in
-    rw (p.1, p.2) (refuses (g.M.Medium.state unit.store.medium) (g.met.M.Medium.sound unit.store.medium) unit _ c.args.taken.now c.in_err-command.field-0.0 told)
+    rw (p.1, p.2)
+    (refuses (g.M.Medium.state unit.store.medium) (g.met.M.Medium.sound unit.store.medium) unit _ c.args.taken.now
+    c.in_err-command.field-0.0 told)
 
 pub perform-requires-clause-served : goal.perform-requires-clause-served
 perform-requires-clause-served g c =
     let unit = c.args.self.now in
-    (passed_by (blocks_of unit.store.cached) (unit_limit unit) unit.kept.attention (is_dead unit.store.cached) c.args.block.now c.in_ok-command.command
-    (sym c.command.ensures.value ∙ c.in_ok-command.was)).1
+    (passed_by (blocks_of unit.store.cached) (unit_limit unit) unit.kept.attention (is_dead unit.store.cached) c.args.block.now
+    c.in_ok-command.command (sym c.command.ensures.value ∙ c.in_ok-command.was)).1
 
 pub perform-requires-clause-taken : goal.perform-requires-clause-taken
 perform-requires-clause-taken g c n out =
     let unit = c.args.self.now in
-    c.requires.taken n (intention_of_command (blocks_of unit.store.cached) (unit_limit unit) unit.kept.attention (is_dead unit.store.cached) c.args.block.now c.in_ok-command.command
-    (sym c.command.ensures.value ∙ c.in_ok-command.was) ∙ out)
+    c.requires.taken n
+    (intention_of_command (blocks_of unit.store.cached) (unit_limit unit) unit.kept.attention (is_dead unit.store.cached)
+    c.args.block.now c.in_ok-command.command (sym c.command.ensures.value ∙ c.in_ok-command.was) ∙ out)
 
 pub returns-clause-sent : goal.returns-clause-sent
 returns-clause-sent g c n is_in =
     let unit = c.args.self.now in
-    c.perform.ensures.sent n (sym (intention_of_command (blocks_of unit.store.cached) (unit_limit unit) unit.kept.attention (is_dead unit.store.cached) c.args.block.now c.in_ok-command.command
-    (sym c.command.ensures.value ∙ c.in_ok-command.was)) ∙ is_in)
+    c.perform.ensures.sent n
+    (sym (intention_of_command (blocks_of unit.store.cached) (unit_limit unit) unit.kept.attention (is_dead unit.store.cached)
+    c.args.block.now c.in_ok-command.command (sym c.command.ensures.value ∙ c.in_ok-command.was)) ∙ is_in)
 
 pub returns-clause-few : goal.returns-clause-few
 returns-clause-few g c =

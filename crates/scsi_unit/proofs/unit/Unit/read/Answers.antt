@@ -12,7 +12,8 @@ use Rattle.scsi_unit.proofs.unit.Unit.read.Goals as goal
 pub returns-then-transfer-eq0-clause-performs : goal.returns-then-transfer-eq0-clause-performs
 returns-then-transfer-eq0-clause-performs g c taken =
     let unit = c.args.self.now in
-    reads_nothing (g.M.Medium.state unit.store.medium) (g.met.M.Medium.sound unit.store.medium) unit c.args.transfer taken c.if-transfer-eq0.true
+    reads_nothing (g.M.Medium.state unit.store.medium) (g.met.M.Medium.sound unit.store.medium) unit c.args.transfer taken
+    c.if-transfer-eq0.true
 
 pub returns-in_err-make_durable-clause-performs : goal.returns-in_err-make_durable-clause-performs
 returns-in_err-make_durable-clause-performs g c taken =
@@ -23,11 +24,14 @@ returns-in_err-make_durable-clause-performs g c taken =
     let last = c.make_durable.new.store in
     let live = subst (λ (u : UnitValue g.row.M.Denot). is_dead u.store.cached ≡ false) (sym c.self.view_is) c.requires.live in
     let sense = c.in_err-make_durable.field-0.0 in
-    let P = λ (u : UnitValue g.row.M.Denot). Performs (state u.store.medium) (state last.medium) (Ok (command.Read10 c.args.transfer)) taken u (answer_of c.from_residual.result c.args.out.now) (record seen { store = last }) in
+    let P = λ (u : UnitValue g.row.M.Denot). Performs (state u.store.medium) (state last.medium) (Ok (command.Read10 c.args.transfer)) taken
+    u (answer_of c.from_residual.result c.args.out.now) (record seen { store = last }) in
     subst P c.self.view_is
-    (rw (p.1, p.2) (durable_error (state i.store.medium) (state last.medium) seen last c.make_durable.ensures.turn
-    c.args.transfer.fua c.make_durable.result sense c.in_err-make_durable.was c.make_durable.ensures.unwanted c.make_durable.ensures.answer
-    live (command.Read10 c.args.transfer) taken refl (forces_as c.args.transfer (moves_some c.args.transfer c.if-transfer-eq0.false))))
+    (rw (p.1, p.2)
+    (durable_error (state i.store.medium) (state last.medium) seen last c.make_durable.ensures.turn c.args.transfer.fua
+    c.make_durable.result sense c.in_err-make_durable.was c.make_durable.ensures.unwanted c.make_durable.ensures.answer live
+    (command.Read10 c.args.transfer) taken refl
+    (forces_as c.args.transfer (moves_some c.args.transfer c.if-transfer-eq0.false))))
 
 pub returns-clause-performs : goal.returns-clause-performs
 returns-clause-performs g c taken =
@@ -38,18 +42,21 @@ returns-clause-performs g c taken =
     let last = c.read_blocks.new.store in
     let live = subst (λ (u : UnitValue g.row.M.Denot). is_dead u.store.cached ≡ false) (sym c.self.view_is) c.requires.live in
     let moves = moves_some c.args.transfer c.if-transfer-eq0.false in
-    let P = λ (u : UnitValue g.row.M.Denot). Performs (state u.store.medium) (state last.medium) (Ok (command.Read10 c.args.transfer)) taken u (answer_of c.read_blocks.result c.read_blocks.new.out) (record seen { store = last }) in
+    let P = λ (u : UnitValue g.row.M.Denot). Performs (state u.store.medium) (state last.medium) (Ok (command.Read10 c.args.transfer)) taken
+    u (answer_of c.read_blocks.result c.read_blocks.new.out) (record seen { store = last }) in
     subst P c.self.view_is
-    (reads_blocks_of (state i.store.medium) (state half.medium) (state last.medium) seen half last live c.make_durable.ensures.turn c.read_blocks.ensures.turn
-    c.args.transfer.fua c.make_durable.result c.in_ok-make_durable.field-0 c.in_ok-make_durable.was c.make_durable.ensures.ok c.make_durable.ensures.answer c.read_blocks.ensures.stays
-    c.args.transfer taken moves refl c.read_blocks.result c.read_blocks.new.out c.read_blocks.ensures.ok c.read_blocks.ensures.sent c.read_blocks.ensures.err)
+    (reads_blocks_of (state i.store.medium) (state half.medium) (state last.medium) seen half last live c.make_durable.ensures.turn
+    c.read_blocks.ensures.turn c.args.transfer.fua c.make_durable.result c.in_ok-make_durable.field-0 c.in_ok-make_durable.was
+    c.make_durable.ensures.ok c.make_durable.ensures.answer c.read_blocks.ensures.stays c.args.transfer taken moves refl
+    c.read_blocks.result c.read_blocks.new.out c.read_blocks.ensures.ok c.read_blocks.ensures.sent c.read_blocks.ensures.err)
 
 pub returns-in_err-make_durable-clause-bounded : goal.returns-in_err-make_durable-clause-bounded
 returns-in_err-make_durable-clause-bounded g c =
     let state = g.M.Medium.state in
     let i = c.self.inside in
     let last = c.make_durable.new.store in
-    let P = λ (u : UnitValue g.row.M.Denot). (state last.medium).calls ≤ (state u.store.medium).calls + calls_of_read c.args.transfer u.store.cached in
+    let P = λ (u : UnitValue g.row.M.Denot).
+    (state last.medium).calls ≤ (state u.store.medium).calls + calls_of_read c.args.transfer u.store.cached in
     subst P c.self.view_is
     (read_stops c.args.transfer i.store.cached (state i.store.medium).calls (state last.medium).calls
     (moves_some c.args.transfer c.if-transfer-eq0.false) c.make_durable.ensures.calls)
@@ -60,8 +67,10 @@ returns-clause-bounded g c =
     let i = c.self.inside in
     let half = c.make_durable.new.store in
     let last = c.read_blocks.new.store in
-    let P = λ (u : UnitValue g.row.M.Denot). (state last.medium).calls ≤ (state u.store.medium).calls + calls_of_read c.args.transfer u.store.cached in
+    let P = λ (u : UnitValue g.row.M.Denot).
+    (state last.medium).calls ≤ (state u.store.medium).calls + calls_of_read c.args.transfer u.store.cached in
     subst P c.self.view_is
-    (read_ends c.args.transfer i.store.cached half.cached (state i.store.medium).calls (state half.medium).calls (state last.medium).calls
-    (moves_some c.args.transfer c.if-transfer-eq0.false) c.make_durable.ensures.calls
-    (λ plain. ap (λ (s : StoreValue g.row.M.Denot). s.cached) (c.make_durable.ensures.unwanted plain).0) c.make_durable.ensures.turn.goes_on.layout_stays c.read_blocks.ensures.calls)
+    (read_ends c.args.transfer i.store.cached half.cached (state i.store.medium).calls (state half.medium).calls
+    (state last.medium).calls (moves_some c.args.transfer c.if-transfer-eq0.false) c.make_durable.ensures.calls
+    (λ plain. ap (λ (s : StoreValue g.row.M.Denot). s.cached) (c.make_durable.ensures.unwanted plain).0)
+    c.make_durable.ensures.turn.goes_on.layout_stays c.read_blocks.ensures.calls)

@@ -21,8 +21,11 @@ returns-in_err-enabled-clause-performs g c =
     let refused : selected_by c.args.list_len c.args.taken.now unit.write_cache ≡ Err c.in_err-enabled.field-0.0 =
     ap (λ (u : UnitValue g.row.M.Denot). selected_by c.args.list_len c.args.taken.now u.write_cache) (sym c.self.view_is)
     ∙ ap (λ (n : ℕ). selected_by n c.args.taken.now c.self.inside.write_cache) (sym c.from.ensures)
-    ∙ sym c.mode_select.ensures.answer ∙ c.in_err-enabled.was in
-    rw (p.1, p.2) (selects_nothing (g.M.Medium.state unit.store.medium) (g.met.M.Medium.sound unit.store.medium) unit c.args.list_len c.args.taken.now c.in_err-enabled.field-0.0 refused)
+    ∙ sym c.mode_select.ensures.answer
+    ∙ c.in_err-enabled.was in
+    rw (p.1, p.2)
+    (selects_nothing (g.M.Medium.state unit.store.medium) (g.met.M.Medium.sound unit.store.medium) unit c.args.list_len c.args.taken.now
+    c.in_err-enabled.field-0.0 refused)
 
 pub returns-in_err-make_durable-clause-performs : goal.returns-in_err-make_durable-clause-performs
 returns-in_err-make_durable-clause-performs g c =
@@ -34,16 +37,20 @@ returns-in_err-make_durable-clause-performs g c =
     let live = subst (λ (u : UnitValue g.row.M.Denot). is_dead u.store.cached ≡ false) (sym c.self.view_is) c.requires.live in
     let chosen : selected_by c.args.list_len c.args.taken.now i.write_cache ≡ Ok c.in_ok-enabled.enabled =
     ap (λ (n : ℕ). selected_by n c.args.taken.now i.write_cache) (sym c.from.ensures)
-    ∙ sym c.mode_select.ensures.answer ∙ c.in_ok-enabled.was in
+    ∙ sym c.mode_select.ensures.answer
+    ∙ c.in_ok-enabled.was in
     let wanted : c.if-self.clears ≡ (i.write_cache && not c.in_ok-enabled.enabled) = elim c.if-self.branch [
       | then-self w ↦ rw w.if-self.true w.clears-is
       | else-self w ↦ rw w.if-self.false (w.clears-is ∙ w.if-self.false)
     ] in
-    let P = λ (u : UnitValue g.row.M.Denot). Performs (state u.store.medium) (state last.medium) (Ok (command.ModeSelect c.args.list_len)) c.args.taken.now u (silent c.from_residual-in_err-make_durable.result) (record seen { store = last }) in
+    let P = λ (u : UnitValue g.row.M.Denot). Performs (state u.store.medium) (state last.medium) (Ok (command.ModeSelect c.args.list_len))
+    c.args.taken.now u (silent c.from_residual-in_err-make_durable.result) (record seen { store = last }) in
     subst P c.self.view_is
-    (rw (p.1, p.2) (durable_error (state i.store.medium) (state last.medium) seen last c.make_durable.ensures.turn
-    c.if-self.clears c.make_durable.result c.in_err-make_durable.field-0.0 c.in_err-make_durable.was c.make_durable.ensures.unwanted c.make_durable.ensures.answer
-    live (command.ModeSelect c.args.list_len) c.args.taken.now refl (clears_as c.args.list_len c.args.taken.now i.write_cache c.in_ok-enabled.enabled chosen ∙ sym wanted)))
+    (rw (p.1, p.2)
+    (durable_error (state i.store.medium) (state last.medium) seen last c.make_durable.ensures.turn c.if-self.clears
+    c.make_durable.result c.in_err-make_durable.field-0.0 c.in_err-make_durable.was c.make_durable.ensures.unwanted
+    c.make_durable.ensures.answer live (command.ModeSelect c.args.list_len) c.args.taken.now refl
+    (clears_as c.args.list_len c.args.taken.now i.write_cache c.in_ok-enabled.enabled chosen ∙ sym wanted)))
 
 pub returns-clause-performs : goal.returns-clause-performs
 returns-clause-performs g c =
@@ -55,17 +62,22 @@ returns-clause-performs g c =
     let enabled = c.in_ok-enabled.enabled in
     let chosen : selected_by c.args.list_len c.args.taken.now i.write_cache ≡ Ok enabled =
     ap (λ (n : ℕ). selected_by n c.args.taken.now i.write_cache) (sym c.from.ensures)
-    ∙ sym c.mode_select.ensures.answer ∙ c.in_ok-enabled.was in
+    ∙ sym c.mode_select.ensures.answer
+    ∙ c.in_ok-enabled.was in
     let wanted : c.if-self.clears ≡ (i.write_cache && not enabled) = elim c.if-self.branch [
       | then-self w ↦ rw w.if-self.true w.clears-is
       | else-self w ↦ rw w.if-self.false (w.clears-is ∙ w.if-self.false)
     ] in
-    let promises = subst (λ (b : Bool). (book : Book) → FitsBook (state i.store.medium) i.store.cached book → OnOk c.make_durable.result (FitsBook (state last.medium) last.cached (if b then promised book else book)))
+    let promises = subst
+    (λ (b : Bool). (book : Book) → FitsBook (state i.store.medium) i.store.cached book
+    → OnOk c.make_durable.result (FitsBook (state last.medium) last.cached (if b then promised book else book)))
     wanted c.make_durable.ensures.ok in
-    let P = λ (u : UnitValue g.row.M.Denot). Performs (state u.store.medium) (state last.medium) (Ok (command.ModeSelect c.args.list_len)) c.args.taken.now u (Ok []) (record seen { store = last; write_cache = enabled }) in
+    let P = λ (u : UnitValue g.row.M.Denot). Performs (state u.store.medium) (state last.medium) (Ok (command.ModeSelect c.args.list_len))
+    c.args.taken.now u (Ok []) (record seen { store = last; write_cache = enabled }) in
     subst P c.self.view_is
-    (selects_bit (state i.store.medium) (state last.medium) seen last c.make_durable.ensures.turn live c.args.list_len c.args.taken.now enabled chosen
-    c.make_durable.result c.in_ok-make_durable.field-0 c.in_ok-make_durable.was promises c.make_durable.ensures.answer)
+    (selects_bit (state i.store.medium) (state last.medium) seen last c.make_durable.ensures.turn live c.args.list_len c.args.taken.now
+    enabled chosen c.make_durable.result c.in_ok-make_durable.field-0 c.in_ok-make_durable.was promises
+    c.make_durable.ensures.answer)
 
 pub returns-in_err-make_durable-clause-bounded : goal.returns-in_err-make_durable-clause-bounded
 returns-in_err-make_durable-clause-bounded g c =
@@ -74,15 +86,18 @@ returns-in_err-make_durable-clause-bounded g c =
     let last = c.make_durable.new.store in
     let chosen : selected_by c.args.list_len c.args.taken.now i.write_cache ≡ Ok c.in_ok-enabled.enabled =
     ap (λ (n : ℕ). selected_by n c.args.taken.now i.write_cache) (sym c.from.ensures)
-    ∙ sym c.mode_select.ensures.answer ∙ c.in_ok-enabled.was in
+    ∙ sym c.mode_select.ensures.answer
+    ∙ c.in_ok-enabled.was in
     let wanted : c.if-self.clears ≡ (i.write_cache && not c.in_ok-enabled.enabled) = elim c.if-self.branch [
       | then-self w ↦ rw w.if-self.true w.clears-is
       | else-self w ↦ rw w.if-self.false (w.clears-is ∙ w.if-self.false)
     ] in
-    let P = λ (u : UnitValue g.row.M.Denot). (state last.medium).calls ≤ (state u.store.medium).calls + calls_of (command.ModeSelect c.args.list_len) c.args.taken.now u.write_cache u.store.cached in
+    let P = λ (u : UnitValue g.row.M.Denot). (state last.medium).calls
+    ≤ (state u.store.medium).calls + calls_of (command.ModeSelect c.args.list_len) c.args.taken.now u.write_cache u.store.cached in
     subst P c.self.view_is
-    (select_calls c.args.list_len c.args.taken.now i.write_cache i.store.cached (state i.store.medium).calls (state last.medium).calls c.if-self.clears
-    (clears_as c.args.list_len c.args.taken.now i.write_cache c.in_ok-enabled.enabled chosen ∙ sym wanted) c.make_durable.ensures.calls)
+    (select_calls c.args.list_len c.args.taken.now i.write_cache i.store.cached (state i.store.medium).calls (state last.medium).calls
+    c.if-self.clears (clears_as c.args.list_len c.args.taken.now i.write_cache c.in_ok-enabled.enabled chosen ∙ sym wanted)
+    c.make_durable.ensures.calls)
 
 pub returns-clause-bounded : goal.returns-clause-bounded
 returns-clause-bounded g c =
@@ -91,12 +106,15 @@ returns-clause-bounded g c =
     let last = c.make_durable.new.store in
     let chosen : selected_by c.args.list_len c.args.taken.now i.write_cache ≡ Ok c.in_ok-enabled.enabled =
     ap (λ (n : ℕ). selected_by n c.args.taken.now i.write_cache) (sym c.from.ensures)
-    ∙ sym c.mode_select.ensures.answer ∙ c.in_ok-enabled.was in
+    ∙ sym c.mode_select.ensures.answer
+    ∙ c.in_ok-enabled.was in
     let wanted : c.if-self.clears ≡ (i.write_cache && not c.in_ok-enabled.enabled) = elim c.if-self.branch [
       | then-self w ↦ rw w.if-self.true w.clears-is
       | else-self w ↦ rw w.if-self.false (w.clears-is ∙ w.if-self.false)
     ] in
-    let P = λ (u : UnitValue g.row.M.Denot). (state last.medium).calls ≤ (state u.store.medium).calls + calls_of (command.ModeSelect c.args.list_len) c.args.taken.now u.write_cache u.store.cached in
+    let P = λ (u : UnitValue g.row.M.Denot). (state last.medium).calls
+    ≤ (state u.store.medium).calls + calls_of (command.ModeSelect c.args.list_len) c.args.taken.now u.write_cache u.store.cached in
     subst P c.self.view_is
-    (select_calls c.args.list_len c.args.taken.now i.write_cache i.store.cached (state i.store.medium).calls (state last.medium).calls c.if-self.clears
-    (clears_as c.args.list_len c.args.taken.now i.write_cache c.in_ok-enabled.enabled chosen ∙ sym wanted) c.make_durable.ensures.calls)
+    (select_calls c.args.list_len c.args.taken.now i.write_cache i.store.cached (state i.store.medium).calls (state last.medium).calls
+    c.if-self.clears (clears_as c.args.list_len c.args.taken.now i.write_cache c.in_ok-enabled.enabled chosen ∙ sym wanted)
+    c.make_durable.ensures.calls)

@@ -13,7 +13,8 @@ returns-clause-performs g c range taken =
     let seen : UnitValue g.row.M.Denot = record { store = i.store; identity = i.identity; kept = i.kept; write_cache = i.write_cache } in
     let last = c.make_durable.new.store in
     let live = subst (λ (u : UnitValue g.row.M.Denot). is_dead u.store.cached ≡ false) (sym c.self.view_is) c.requires.live in
-    let P = λ (u : UnitValue g.row.M.Denot). Performs (state u.store.medium) (state last.medium) (Ok (command.SynchronizeCache10 range)) taken u (silent c.make_durable.result) (record seen { store = last }) in
+    let P = λ (u : UnitValue g.row.M.Denot). Performs (state u.store.medium) (state last.medium) (Ok (command.SynchronizeCache10 range))
+    taken u (silent c.make_durable.result) (record seen { store = last }) in
     subst P c.self.view_is
     (synchronizes (state i.store.medium) (state last.medium) seen last c.make_durable.ensures.turn live c.make_durable.result
     c.make_durable.ensures.ok c.make_durable.ensures.answer range taken)

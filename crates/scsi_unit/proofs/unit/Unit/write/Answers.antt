@@ -16,7 +16,8 @@ use Rattle.scsi_unit.proofs.unit.Unit.write.Goals.{then-transfer, else-transfer}
 pub returns-then-transfer-eq0-clause-performs : goal.returns-then-transfer-eq0-clause-performs
 returns-then-transfer-eq0-clause-performs g c =
     let unit = c.args.self.now in
-    writes_nothing (g.M.Medium.state unit.store.medium) (g.met.M.Medium.sound unit.store.medium) unit c.args.transfer c.args.taken.now c.if-transfer-eq0.true
+    writes_nothing (g.M.Medium.state unit.store.medium) (g.met.M.Medium.sound unit.store.medium) unit c.args.transfer c.args.taken.now
+    c.if-transfer-eq0.true
 
 pub returns-in_err-write_blocks-clause-performs : goal.returns-in_err-write_blocks-clause-performs
 returns-in_err-write_blocks-clause-performs g c =
@@ -26,11 +27,13 @@ returns-in_err-write_blocks-clause-performs g c =
     let seen : UnitValue g.row.M.Denot = record { store = i.store; identity = i.identity; kept = i.kept; write_cache = i.write_cache } in
     let last = c.write_blocks.new.store in
     let live = subst (λ (u : UnitValue g.row.M.Denot). is_dead u.store.cached ≡ false) (sym c.self.view_is) c.requires.live in
-    let P = λ (u : UnitValue g.row.M.Denot). Performs (state u.store.medium) (state last.medium) (Ok (command.Write10 c.args.transfer)) c.args.taken.now u (silent c.from_residual.result) (record seen { store = last }) in
+    let P = λ (u : UnitValue g.row.M.Denot). Performs (state u.store.medium) (state last.medium) (Ok (command.Write10 c.args.transfer))
+    c.args.taken.now u (silent c.from_residual.result) (record seen { store = last }) in
     subst P c.self.view_is
-    (rw (p.1, p.2) (write_refused (state i.store.medium) (state last.medium) seen last c.args.transfer c.args.taken.now
-    (moves_some c.args.transfer c.if-transfer-eq0.false) live c.write_blocks.result c.in_err-write_blocks.field-0.0 c.in_err-write_blocks.was
-    c.write_blocks.ensures.turn c.write_blocks.ensures.answer))
+    (rw (p.1, p.2)
+    (write_refused (state i.store.medium) (state last.medium) seen last c.args.transfer c.args.taken.now
+    (moves_some c.args.transfer c.if-transfer-eq0.false) live c.write_blocks.result c.in_err-write_blocks.field-0.0
+    c.in_err-write_blocks.was c.write_blocks.ensures.turn c.write_blocks.ensures.answer))
 
 pub returns-clause-performs : goal.returns-clause-performs
 returns-clause-performs g c =
@@ -44,20 +47,25 @@ returns-clause-performs g c =
       | then-transfer w ↦ rw w.if-transfer.true (w.through-is ∙ w.if-transfer.true)
       | else-transfer w ↦ rw w.if-transfer.false w.through-is
     ] in
-    let promises = subst (λ (b : Bool). (book : Book) → FitsBook (state half.medium) half.cached book → OnOk c.make_durable.result (FitsBook (state last.medium) last.cached (if b then promised book else book)))
+    let promises = subst
+    (λ (b : Bool). (book : Book) → FitsBook (state half.medium) half.cached book
+    → OnOk c.make_durable.result (FitsBook (state last.medium) last.cached (if b then promised book else book)))
     wanted c.make_durable.ensures.ok in
-    let P = λ (u : UnitValue g.row.M.Denot). Performs (state u.store.medium) (state last.medium) (Ok (command.Write10 c.args.transfer)) c.args.taken.now u (silent c.make_durable.result) (record seen { store = last }) in
+    let P = λ (u : UnitValue g.row.M.Denot). Performs (state u.store.medium) (state last.medium) (Ok (command.Write10 c.args.transfer))
+    c.args.taken.now u (silent c.make_durable.result) (record seen { store = last }) in
     subst P c.self.view_is
     (writes_blocks (state i.store.medium) (state half.medium) (state last.medium) seen half last c.args.transfer c.args.taken.now
-    (moves_some c.args.transfer c.if-transfer-eq0.false) live c.write_blocks.result c.in_ok-write_blocks.field-0 c.in_ok-write_blocks.was
-    c.write_blocks.ensures.turn c.write_blocks.ensures.answer c.make_durable.ensures.turn c.make_durable.result promises c.make_durable.ensures.answer)
+    (moves_some c.args.transfer c.if-transfer-eq0.false) live c.write_blocks.result c.in_ok-write_blocks.field-0
+    c.in_ok-write_blocks.was c.write_blocks.ensures.turn c.write_blocks.ensures.answer c.make_durable.ensures.turn
+    c.make_durable.result promises c.make_durable.ensures.answer)
 
 pub returns-in_err-write_blocks-clause-bounded : goal.returns-in_err-write_blocks-clause-bounded
 returns-in_err-write_blocks-clause-bounded g c =
     let state = g.M.Medium.state in
     let i = c.self.inside in
     let last = c.write_blocks.new.store in
-    let P = λ (u : UnitValue g.row.M.Denot). (state last.medium).calls ≤ (state u.store.medium).calls + calls_of_write c.args.transfer u.write_cache u.store.cached in
+    let P = λ (u : UnitValue g.row.M.Denot).
+    (state last.medium).calls ≤ (state u.store.medium).calls + calls_of_write c.args.transfer u.write_cache u.store.cached in
     subst P c.self.view_is
     (write_stops c.args.transfer i.write_cache i.store.cached (state i.store.medium).calls (state last.medium).calls
     (moves_some c.args.transfer c.if-transfer-eq0.false) c.write_blocks.ensures.calls)
@@ -73,8 +81,10 @@ returns-clause-bounded g c =
       | else-transfer w ↦ rw w.if-transfer.false w.through-is
     ] in
     let paid = OnOk-at c.write_blocks.result c.in_ok-write_blocks.field-0 c.in_ok-write_blocks.was c.write_blocks.ensures.paid in
-    let more = subst (λ (b : Bool). (state last.medium).calls ≤ (state half.medium).calls + (if b then calls_of_sync half.cached else 0)) wanted c.make_durable.ensures.calls in
-    let P = λ (u : UnitValue g.row.M.Denot). (state last.medium).calls ≤ (state u.store.medium).calls + calls_of_write c.args.transfer u.write_cache u.store.cached in
+    let more = subst (λ (b : Bool). (state last.medium).calls ≤ (state half.medium).calls + (if b then calls_of_sync half.cached else 0))
+    wanted c.make_durable.ensures.calls in
+    let P = λ (u : UnitValue g.row.M.Denot).
+    (state last.medium).calls ≤ (state u.store.medium).calls + calls_of_write c.args.transfer u.write_cache u.store.cached in
     subst P c.self.view_is
-    (write_ends c.args.transfer i.write_cache i.store.cached half.cached (state i.store.medium).calls (state half.medium).calls (state last.medium).calls
-    (moves_some c.args.transfer c.if-transfer-eq0.false) c.write_blocks.ensures.calls paid more)
+    (write_ends c.args.transfer i.write_cache i.store.cached half.cached (state i.store.medium).calls (state half.medium).calls
+    (state last.medium).calls (moves_some c.args.transfer c.if-transfer-eq0.false) c.write_blocks.ensures.calls paid more)
