@@ -32,19 +32,46 @@ leaves_book : (size : ℕ) (book : Book) (write : Option Write) (image : Image) 
 leaves_book size book None image m = record {
   next = opened book.blocks (after_first m.count book) m.next true;
   is = refl;
-  left = record { book = book; accepts = inl refl; count = m.count; promises = m.promises; accepted = m.accepted; blocks = refl; opening = refl; stamp = m.bound };
+  left = record {
+    book = book;
+    accepts = inl refl;
+    count = m.count;
+    promises = m.promises;
+    accepted = m.accepted;
+    blocks = refl;
+    opening = refl;
+    stamp = m.bound;
+  };
   stands = m.stands;
 }
 leaves_book size book (Some w) image (inl m) = record {
   next = opened book.blocks (after_first m.count book) m.next true;
   is = refl;
-  left = record { book = book; accepts = inl refl; count = m.count; promises = m.promises; accepted = m.accepted; blocks = refl; opening = refl; stamp = m.bound };
+  left = record {
+    book = book;
+    accepts = inl refl;
+    count = m.count;
+    promises = m.promises;
+    accepted = m.accepted;
+    blocks = refl;
+    opening = refl;
+    stamp = m.bound;
+  };
   stands = m.stands;
 }
 leaves_book size book (Some w) image (inr m) = record {
   next = opened book.blocks (after_first m.count (with_write book w)) m.next true;
   is = refl;
-  left = record { book = with_write book w; accepts = inr refl; count = m.count; promises = m.promises; accepted = m.accepted; blocks = refl; opening = refl; stamp = m.bound };
+  left = record {
+    book = with_write book w;
+    accepts = inr refl;
+    count = m.count;
+    promises = m.promises;
+    accepted = m.accepted;
+    blocks = refl;
+    opening = refl;
+    stamp = m.bound;
+  };
   stands = m.stands;
 }
 
@@ -57,7 +84,8 @@ first_found m book none h ours image cut =
     knows_images.ours_for size book image (subst (StandsForOpening size book) (sym same) h.stands) (h.ours ours image cut)
 
 -- nothing is unflushed: what the contents have every image has
-pub first_limited : (m : Sim) (limit : ℕ) → m.unflushed ≡ [] → HasLimit (state_of m).size limit (state_of m).content → LeavesLimit limit (Rests m)
+pub first_limited : (m : Sim) (limit : ℕ) → m.unflushed ≡ [] → HasLimit (state_of m).size limit (state_of m).content
+    → LeavesLimit limit (Rests m)
 first_limited m limit none has image cut =
     let same : image ≡ (state_of m).content = only_image (state_of m).content (state_of m).may_leave (none_flushed m none) image cut in
     subst (HasLimit (state_of m).size limit) (sym same) has
@@ -67,7 +95,8 @@ pub remains_ours : (m : State) (remains : Remains) → EachCut (FoundAt m.size (
 remains_ours m remains found image cut = knows_images.found_ours m.size remains.book remains.in_progress image (found image cut)
 
 -- the image that a life has left has the limit of the disk that starts on it
-pub next_limit : (m : Sim) (limit other : ℕ) → LeavesLimit limit (Rests m) → HasLimit (state_of m).size other (state_of m).content → other ≡ limit
+pub next_limit : (m : Sim) (limit other : ℕ) → LeavesLimit limit (Rests m) → HasLimit (state_of m).size other (state_of m).content
+    → other ≡ limit
 next_limit m limit other leaves has =
     knows_images.one_limit (state_of m).size other limit (state_of m).content has
     (content_has (HasLimit (state_of m).size limit) (state_of m) (is_sound m) leaves)
@@ -83,7 +112,8 @@ pub first_opens : (m : State) (book : Book) → OpensOn m book → WouldOpen m (
 first_opens m book h = record { book = book; opens = refl; ours = refl; on = λ ours. h }
 
 module _ (m : Sim) (remains : Remains) where
-  next_opens_ours : remains.book.ours ≡ true → EachCut (FoundAt (state_of m).size (between remains)) (state_of m) → WouldOpen (state_of m) (between remains)
+  next_opens_ours : remains.book.ours ≡ true → EachCut (FoundAt (state_of m).size (between remains)) (state_of m)
+      → WouldOpen (state_of m) (between remains)
   next_opens_ours ours found =
       let l = leaves_book (state_of m).size remains.book remains.in_progress (state_of m).content
       (content_has (FoundAt (state_of m).size (between remains)) (state_of m) (is_sound m) found) in
@@ -99,13 +129,15 @@ module _ (m : Sim) (remains : Remains) where
         };
       }
 
-  next_opens_any : remains.book.ours ≡ false → (blocks : ℕ) (array : Array) (stamp : ℕ) → Opens (between remains) (opened blocks array stamp false)
+  next_opens_any : remains.book.ours ≡ false → (blocks : ℕ) (array : Array) (stamp : ℕ)
+      → Opens (between remains) (opened blocks array stamp false)
   next_opens_any ours blocks array stamp = record {
     opens = ap (opened blocks array stamp) (sym ours);
     left = λ is_ours. absurd (false≢true (sym ours ∙ is_ours));
   }
 
-  pub next_opens : (remains.book.ours ≡ true → EachCut (FoundAt (state_of m).size (between remains)) (state_of m)) → WouldOpen (state_of m) (between remains)
+  pub next_opens : (remains.book.ours ≡ true → EachCut (FoundAt (state_of m).size (between remains)) (state_of m))
+      → WouldOpen (state_of m) (between remains)
   next_opens found = elim (cases_Bool remains.book.ours) [
     | inl ours ↦ next_opens_ours ours (found ours)
     | inr not ↦ record {

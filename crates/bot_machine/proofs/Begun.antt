@@ -6,7 +6,8 @@ use Rattle.medium.specs.Sim.{Sim, state_of, ComesAfter}
 use Rattle.medium.specs.SimLaws.{is_sound}
 use Rattle.medium.proofs.Moments.{at_exit}
 use Rattle.medium.proofs.Keeping.{none_flushed}
-use Rattle.scsi_unit.specs.StartFaults.{StartFault, NoMemory, Read, Write, Flush, BadSuper, BadVersion, BadSize, BadHead, StampsUsedUp, LogTooSmall}
+use Rattle.scsi_unit.specs.StartFaults.{StartFault, NoMemory, Read, Write, Flush, BadSuper, BadVersion, BadSize, BadHead, StampsUsedUp}
+use Rattle.scsi_unit.specs.StartFaults.{LogTooSmall}
 use Rattle.bot_machine.specs.Device.{Device}
 use Rattle.scsi_unit.specs.Books.{Book, MayFind, opened}
 use Rattle.scsi_unit.specs.Starting.{Stands, IsCauseFor, blocks_of}
@@ -17,8 +18,10 @@ use Rattle.bot_machine.specs.declared.stage.Stage.TheVariants.{Rests, Runs}
 use Rattle.bot_machine.specs.Exchange.{Line, at_rest}
 use Rattle.bot_machine.specs.Disk.{DiskValue, on_line, over}
 use Rattle.bot_machine.specs.Opening.{IsOpened, IsNotOpened, StartLeaves}
-use Rattle.bot_machine.specs.Lives.{starts, Remains, Place, before_first, between, runs, off, Standing, KeepsLimit, started, LifeBegins, LivesStep}
-use Rattle.bot_machine.specs.LivesValue.{HasBegun, HasLimit, book_at, LeavesLimit, FitsLives, LivesGoTo, LivesGoOn, MayRefuse, LivesStopAt, LivesStop}
+use Rattle.bot_machine.specs.Lives.{starts, Remains, Place, before_first, between, runs, off, Standing, KeepsLimit, started, LifeBegins}
+use Rattle.bot_machine.specs.Lives.{LivesStep}
+use Rattle.bot_machine.specs.LivesValue.{HasBegun, HasLimit, book_at, LeavesLimit, FitsLives, LivesGoTo, LivesGoOn, MayRefuse, LivesStopAt}
+use Rattle.bot_machine.specs.LivesValue.{LivesStop}
 use Rattle.scsi_unit.specs.Serving.{has_refused}
 use Rattle.bot_machine.specs.Moving.{StartsIn}
 use Rattle.bot_machine.proofs.Moved.{one_move, some_refused}
@@ -30,7 +33,8 @@ use Rattle.bot_machine.proofs.UnitLaws.{between_calls, limit_between_calls, star
 
 -- over a book with which a life would open
 may_find : (before after : Sim) (leaves : StartLeaves (state_of before) (state_of after)) → before.unflushed ≡ []
-    → (place : Place) (w : WouldOpen (state_of before) place) → w.book.ours ≡ true → EachCut (MayFind (state_of after).size w.book) (state_of after)
+    → (place : Place) (w : WouldOpen (state_of before) place) → w.book.ours ≡ true
+    → EachCut (MayFind (state_of after).size w.book) (state_of after)
 may_find before after leaves none place w ours = leaves.finds w.book (w.on ours) ours (none_flushed before none)
 
 -- where each image had one limit, each still has it
@@ -70,11 +74,14 @@ record LifeBegun (device : Device) (refused : Bool) (here : Standing) (new : Sta
 module _ (device : Device) (m : Sim) (on : m.power.off ≡ false) where
   -- where a life has begun, lives go there
   goes_there : (new : Stage) (refused : Bool)
-      → ((book : Book) (armed : Bool) (limit : ℕ) → FitsLives (lives_at device (Rests m)) (record { place = before_first book; armed = armed; limit = limit })
+      → ((book : Book) (armed : Bool) (limit : ℕ)
+      → FitsLives (lives_at device (Rests m)) (record { place = before_first book; armed = armed; limit = limit })
       → LifeBegun device refused (record { place = before_first book; armed = armed; limit = limit }) new)
-      → ((remains : Remains) (armed : Bool) (limit : ℕ) → FitsLives (lives_at device (Rests m)) (record { place = between remains; armed = armed; limit = limit })
+      → ((remains : Remains) (armed : Bool) (limit : ℕ)
+      → FitsLives (lives_at device (Rests m)) (record { place = between remains; armed = armed; limit = limit })
       → LifeBegun device refused (record { place = between remains; armed = armed; limit = limit }) new)
-      → (place : Place) (armed : Bool) (limit : ℕ) → FitsLives (lives_at device (Rests m)) (record { place = place; armed = armed; limit = limit })
+      → (place : Place) (armed : Bool) (limit : ℕ)
+      → FitsLives (lives_at device (Rests m)) (record { place = place; armed = armed; limit = limit })
       → LivesGoTo (lives_at device new) (record { place = place; armed = armed; limit = limit }) (starts ∷ []) [] (refused ∷ [])
   goes_there new refused first next (before_first book) armed limit fits =
       let b = first book armed limit fits in
@@ -107,7 +114,8 @@ module _ (device : Device) (m : Sim) (on : m.power.off ≡ false) where
     abbrev grew : Bool
     grew = has_refused (state_of m) (state_of new)
 
-    module _ (place : Place) (armed : Bool) (limit : ℕ) (fits : FitsLives (lives_at device (Rests m)) (record { place = place; armed = armed; limit = limit }))
+    module _ (place : Place) (armed : Bool) (limit : ℕ)
+        (fits : FitsLives (lives_at device (Rests m)) (record { place = place; armed = armed; limit = limit }))
         (h : HasOpened (state_of new) disk place) (keeps : KeepsLimit place limit (unit_limit disk.unit))
         (same : (book_at place).ours ≡ true → unit_limit disk.unit ≡ limit) where
       abbrev here : Standing
@@ -140,7 +148,11 @@ module _ (device : Device) (m : Sim) (on : m.power.off ≡ false) where
           opens = h.opens;
           limit = unit_limit disk.unit;
           keeps_limit = keeps;
-          begins = inr (record { fused = armed_then here m new follows fits.unfused on is_off; cause = some_refused (state_of m) (state_of new) (follows.goes_off on is_off).1; after = refl });
+          begins = inr (record {
+            fused = armed_then here m new follows fits.unfused on is_off;
+            cause = some_refused (state_of m) (state_of new) (follows.goes_off on is_off).1;
+            after = refl;
+          });
         };
         fits = record {
           is_at = is_off;
@@ -161,14 +173,17 @@ module _ (device : Device) (m : Sim) (on : m.power.off ≡ false) where
     start_has_disk = record {
       refusals = grew ∷ [];
       moves = one_move device grew (Rests m) (Runs disk) starts []
-          (refl, subst (λ (b : Bool). StartsIn b device m (Runs disk)) (sym on) (is_opened, record { leaves = leaves; follows = follows })) refl;
-      refused = one_counted grew (state_of m).failures (state_of new).failures (ltb-true (state_of m).failures (state_of new).failures) follows.failures_stay;
+          (refl, subst (λ (b : Bool). StartsIn b device m (Runs disk)) (sym on) (is_opened, record { leaves = leaves; follows = follows }))
+          refl;
+      refused = one_counted grew (state_of m).failures (state_of new).failures (ltb-true (state_of m).failures (state_of new).failures)
+          follows.failures_stay;
       goes = λ here fits. goes_there (Runs disk) grew
           (λ book armed limit f.
           let one = knows_images.one_limit (state_of m).size (unit_limit disk.unit) limit (state_of m).content is_opened.limit f.limit_at in
           begun (before_first book) armed limit f (first_opened m (state_of new) device disk is_opened book f.is_at.1) one (λ ours. one))
           (λ remains armed limit f.
-          let one : remains.book.ours ≡ true → unit_limit disk.unit ≡ limit = λ ours. next_limit m limit (unit_limit disk.unit) (f.limited ours) is_opened.limit in
+          let one : remains.book.ours ≡ true → unit_limit disk.unit ≡ limit = λ ours.
+          next_limit m limit (unit_limit disk.unit) (f.limited ours) is_opened.limit in
           begun (between remains) armed limit f (next_opened m (state_of new) device disk is_opened remains f.found) one one)
           here.place here.armed here.limit fits;
       size_stays = leaves.bounded.moments.size_stays;
@@ -183,8 +198,10 @@ module _ (device : Device) (m : Sim) (on : m.power.off ≡ false) where
       abbrev refuses : Bool
       refuses = has_refused (state_of m) (state_of after)
 
-      begun_cut : (place : Place) (armed : Bool) (limit : ℕ) → FitsLives (lives_at device (Rests m)) (record { place = place; armed = armed; limit = limit })
-          → KeepsLimit place limit limit → m.unflushed ≡ [] → (w : WouldOpen (state_of m) place) → LifeBegun device refuses (record { place = place; armed = armed; limit = limit }) (Rests after)
+      begun_cut : (place : Place) (armed : Bool) (limit : ℕ)
+          → FitsLives (lives_at device (Rests m)) (record { place = place; armed = armed; limit = limit }) → KeepsLimit place limit limit
+          → m.unflushed ≡ [] → (w : WouldOpen (state_of m) place)
+          → LifeBegun device refuses (record { place = place; armed = armed; limit = limit }) (Rests after)
       begun_cut place armed limit fits keeps none w = record {
         there = record { place = off (record { book = w.book; in_progress = None }); armed = armed; limit = limit };
         life = record {
@@ -213,11 +230,15 @@ module _ (device : Device) (m : Sim) (on : m.power.off ≡ false) where
       start_is_cut = record {
         refusals = refuses ∷ [];
         moves = one_move device refuses (Rests m) (Rests after) starts []
-            (refl, subst (λ (b : Bool). StartsIn b device m (Rests after)) (sym on) (record { leaves = leaves; follows = follows }, is_off)) refl;
-        refused = one_counted refuses (state_of m).failures (state_of after).failures (ltb-true (state_of m).failures (state_of after).failures) follows.failures_stay;
+            (refl, subst (λ (b : Bool). StartsIn b device m (Rests after)) (sym on) (record { leaves = leaves; follows = follows }, is_off))
+            refl;
+        refused = one_counted refuses (state_of m).failures (state_of after).failures
+            (ltb-true (state_of m).failures (state_of after).failures) follows.failures_stay;
         goes = λ here fits. goes_there (Rests after) refuses
-            (λ book armed limit f. begun_cut (before_first book) armed limit f refl f.is_at.0.flushed (first_opens (state_of m) book f.is_at.1))
-            (λ remains armed limit f. begun_cut (between remains) armed limit f (λ ours. refl) f.is_at.flushed (next_opens m remains f.found))
+            (λ book armed limit f.
+            begun_cut (before_first book) armed limit f refl f.is_at.0.flushed (first_opens (state_of m) book f.is_at.1))
+            (λ remains armed limit f.
+            begun_cut (between remains) armed limit f (λ ours. refl) f.is_at.flushed (next_opens m remains f.found))
             here.place here.armed here.limit fits;
         size_stays = leaves.bounded.moments.size_stays;
         device_stays = refl;
@@ -225,8 +246,10 @@ module _ (device : Device) (m : Sim) (on : m.power.off ≡ false) where
 
     -- it was refused, and the power is on
     module _ (still : after.power.off ≡ false) (fault : StartFault) (h : IsNotOpened (state_of m) (state_of after) fault) where
-      stops_by : (place : Place) (armed : Bool) (limit : ℕ) → ((book_at place).ours ≡ true → LeavesLimit limit (Rests m)) → m.unflushed ≡ [] → (w : WouldOpen (state_of m) place)
-          → LivesStopAt (lives_at device (Rests after)) (record { place = place; armed = armed; limit = limit }) [] [] [] (0 + (state_of m).failures) fault
+      stops_by : (place : Place) (armed : Bool) (limit : ℕ) → ((book_at place).ours ≡ true → LeavesLimit limit (Rests m)) → m.unflushed ≡ []
+          → (w : WouldOpen (state_of m) place)
+          → LivesStopAt (lives_at device (Rests after)) (record { place = place; armed = armed; limit = limit }) [] [] []
+          (0 + (state_of m).failures) fault
       stops_by place armed limit limited none w = record {
         there = record { place = place; armed = armed; limit = limit };
         run = (refl, refl);
@@ -238,10 +261,14 @@ module _ (device : Device) (m : Sim) (on : m.power.off ≡ false) where
         found = λ ours. may_find m after leaves none place w ours;
       }
 
-      stops_at : (place : Place) (armed : Bool) (limit : ℕ) → FitsLives (lives_at device (Rests m)) (record { place = place; armed = armed; limit = limit })
-          → LivesStopAt (lives_at device (Rests after)) (record { place = place; armed = armed; limit = limit }) [] [] [] (0 + (state_of m).failures) fault
-      stops_at (before_first book) armed limit f = stops_by (before_first book) armed limit f.limited f.is_at.0.flushed (first_opens (state_of m) book f.is_at.1)
-      stops_at (between remains) armed limit f = stops_by (between remains) armed limit f.limited f.is_at.flushed (next_opens m remains f.found)
+      stops_at : (place : Place) (armed : Bool) (limit : ℕ)
+          → FitsLives (lives_at device (Rests m)) (record { place = place; armed = armed; limit = limit })
+          → LivesStopAt (lives_at device (Rests after)) (record { place = place; armed = armed; limit = limit }) [] [] []
+          (0 + (state_of m).failures) fault
+      stops_at (before_first book) armed limit f =
+          stops_by (before_first book) armed limit f.limited f.is_at.0.flushed (first_opens (state_of m) book f.is_at.1)
+      stops_at (between remains) armed limit f =
+          stops_by (between remains) armed limit f.limited f.is_at.flushed (next_opens m remains f.found)
       stops_at (runs conversation) armed limit f = absurd f.is_at
       stops_at (off remains) armed limit f = on_or_off m.power.off on f.is_at
 
@@ -262,8 +289,10 @@ module _ (device : Device) (m : Sim) (on : m.power.off ≡ false) where
 -- ---- nothing is started
 
 module _ (device : Device) where
-  running : (disk : DiskValue Sim) (place : Place) (armed : Bool) (limit : ℕ) → FitsLives (lives_at device (Runs disk)) (record { place = place; armed = armed; limit = limit })
-      → LivesStep device false (record { place = place; armed = armed; limit = limit }) starts [] (record { place = place; armed = armed; limit = limit })
+  running : (disk : DiskValue Sim) (place : Place) (armed : Bool) (limit : ℕ)
+      → FitsLives (lives_at device (Runs disk)) (record { place = place; armed = armed; limit = limit })
+      → LivesStep device false (record { place = place; armed = armed; limit = limit }) starts []
+      (record { place = place; armed = armed; limit = limit })
   running disk (before_first book) armed limit f = absurd f.is_at
   running disk (between remains) armed limit f = absurd f.is_at
   running disk (runs conversation) armed limit f = (refl, refl)
@@ -273,16 +302,21 @@ module _ (device : Device) where
   pub start_of_disk : (disk : DiskValue Sim) → LivesGoOn (lives_at device (Runs disk)) (starts ∷ []) [] (lives_at device (Runs disk))
   start_of_disk disk = stays device (Runs disk) starts [] (refl, refl) (λ here fits. running disk here.place here.armed here.limit fits)
 
-  without_power : (m : Sim) → m.power.off ≡ true → (place : Place) (armed : Bool) (limit : ℕ) → FitsLives (lives_at device (Rests m)) (record { place = place; armed = armed; limit = limit })
-      → LivesStep device false (record { place = place; armed = armed; limit = limit }) starts [] (record { place = place; armed = armed; limit = limit })
+  without_power : (m : Sim) → m.power.off ≡ true → (place : Place) (armed : Bool) (limit : ℕ)
+      → FitsLives (lives_at device (Rests m)) (record { place = place; armed = armed; limit = limit })
+      → LivesStep device false (record { place = place; armed = armed; limit = limit }) starts []
+      (record { place = place; armed = armed; limit = limit })
   without_power m is_off (before_first book) armed limit f = on_or_off m.power.off f.is_at.0.on is_off
   without_power m is_off (between remains) armed limit f = on_or_off m.power.off f.is_at.on is_off
   without_power m is_off (runs conversation) armed limit f = absurd f.is_at
   without_power m is_off (off remains) armed limit f = (refl, refl)
 
   -- power is off already
-  pub start_without_power : (m : Sim) → m.power.off ≡ true → LivesGoOn (lives_at device (Rests m)) (starts ∷ []) [] (lives_at device (Rests m))
-  start_without_power m is_off = stays device (Rests m) starts [] (refl, subst (λ (b : Bool). StartsIn b device m (Rests m)) (sym is_off) refl) (λ here fits. without_power m is_off here.place here.armed here.limit fits)
+  pub start_without_power : (m : Sim) → m.power.off ≡ true
+      → LivesGoOn (lives_at device (Rests m)) (starts ∷ []) [] (lives_at device (Rests m))
+  start_without_power m is_off =
+      stays device (Rests m) starts [] (refl, subst (λ (b : Bool). StartsIn b device m (Rests m)) (sym is_off) refl)
+      (λ here fits. without_power m is_off here.place here.armed here.limit fits)
 
 -- ---- whatever the medium holds
 

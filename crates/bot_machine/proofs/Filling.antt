@@ -13,15 +13,18 @@ same_front packet room more e = elim (cases_lt room (length packet)) [
   | inr h ↦ take_all room packet h ∙ sym (take_all more packet (omega arith))
 ]
 
-pub front_filled : (front packet rest : List ℕ) (filled size more : ℕ) → length front ≡ filled → filled ≤ size → more ≡ min (length packet) (size - filled)
-    → take (filled + more) (front ++ (take more packet ++ rest)) ≡ take size (front ++ packet)
+pub front_filled : (front packet rest : List ℕ) (filled size more : ℕ) → length front ≡ filled → filled ≤ size
+    → more ≡ min (length packet) (size - filled) → take (filled + more) (front ++ (take more packet ++ rest)) ≡ take size (front ++ packet)
 front_filled front packet rest filled size more l h e =
     let there : more ≤ length (take more packet) = omega (arith, length-take more packet) in
     let all : length (take more packet) ≤ more = omega (arith, length-take more packet) in
     let whole : length front + (size - filled) ≡ size = omega arith in
     ap (λ k. take (k + more) (front ++ (take more packet ++ rest))) (sym l)
     ∙ take-append-add front (take more packet ++ rest) more
-    ∙ ap (λ p. front ++ p) (take-append-le more (take more packet) rest there ∙ take_all more (take more packet) all ∙ sym (same_front packet (size - filled) more e))
+    ∙ ap (λ p. front ++ p)
+    (take-append-le more (take more packet) rest there
+    ∙ take_all more (take more packet) all
+    ∙ sym (same_front packet (size - filled) more e))
     ∙ sym (take-append-add front packet (size - filled))
     ∙ ap (λ k. take k (front ++ packet)) whole
 

@@ -49,12 +49,13 @@ start_in device true old new moves = subst (HasPackets device.packet_size) (sym 
 start_in device false old (Runs disk) moves = ap (λ (l : Line). l.packet_size) moves.0.line
 start_in device false old (Rests new) moves = tt
 
-start_keeps : (device : Device) (old new : Stage) → StartMoves device old new → HasPackets device.packet_size old → HasPackets device.packet_size new
+start_keeps : (device : Device) (old new : Stage) → StartMoves device old new → HasPackets device.packet_size old
+    → HasPackets device.packet_size new
 start_keeps device (Rests old) new moves has = start_in device old.power.off old new moves
 start_keeps device (Runs old) new moves has = subst (HasPackets device.packet_size) (sym moves) has
 
-event_in : (size : ℕ) (off : Bool) (old : DiskValue Sim) (happens : Event) (answer : Answer) (new : Stage) → EventMovesIn off old happens answer new
-    → HasPackets size (Runs old) → HasPackets size new
+event_in : (size : ℕ) (off : Bool) (old : DiskValue Sim) (happens : Event) (answer : Answer) (new : Stage)
+    → EventMovesIn off old happens answer new → HasPackets size (Runs old) → HasPackets size new
 event_in size true old happens answer new moves has = subst (HasPackets size) (sym moves.1) has
 event_in size false old happens answer new moves has = subst (HasPackets size) (sym moves.1) (moves.2.step.packets_stay ∙ has)
 

@@ -1,6 +1,7 @@
 -- What happens in a life: a fuse is armed, an event comes, the power is cut.
 use Rattle.std.specs.Prelude.{if◌then◌else◌}
-use Rattle.std.proofs.Common.{◌≡◌, ◌<◌, ◌≤◌, ℕ, ◌+◌, Bool, true, false, nat_lt, ltb-true, List, [], ◌∷◌, None, Some, refl, sym, subst, ◌∙◌, ap, arith, inl, inr}
+use Rattle.std.proofs.Common.{◌≡◌, ◌<◌, ◌≤◌, ℕ, ◌+◌, Bool, true, false, nat_lt, ltb-true, List, [], ◌∷◌, None, Some, refl, sym, subst, ◌∙◌}
+use Rattle.std.proofs.Common.{ap, arith, inl, inr}
 use Rattle.std.proofs.lemmas.Bool.{cases_Bool, false≢true}
 use Rattle.std.proofs.lemmas.List.{append-nil}
 use Rattle.medium.specs.Medium.{State, Image, CutLeaves}
@@ -26,10 +27,12 @@ use Rattle.bot_machine.specs.Disk.{DiskValue, over, FitsDisk, UnitStep, IsStep}
 use Rattle.scsi_unit.specs.Rules.{UnitState}
 use Rattle.scsi_unit.specs.UnitValue.{unit_limit}
 use Rattle.bot_machine.proofs.UnitLaws.{limit_between_calls}
-use Rattle.bot_machine.specs.Lives.{Action, arms, fails, plays, cuts, Remains, Place, before_first, between, runs, off, Standing, after_cut, LivesStep, LivesRun}
+use Rattle.bot_machine.specs.Lives.{Action, arms, fails, plays, cuts, Remains, Place, before_first, between, runs, off, Standing, after_cut}
+use Rattle.bot_machine.specs.Lives.{LivesStep, LivesRun}
 use Rattle.bot_machine.specs.Moving.{Does, FuseMoves, FailureMoves, EventMovesIn, EventMoves}
 use Rattle.bot_machine.proofs.Moved.{one_move, none_refused, some_refused}
-use Rattle.bot_machine.specs.LivesValue.{LivesValue, medium_in, state_in, IsAtRest, OpensOn, HasLimit, IsAt, LimitAt, LeavesLimit, book_at, FoundAt, FitsLives, LivesGoTo, LivesGoOn}
+use Rattle.bot_machine.specs.LivesValue.{LivesValue, medium_in, state_in, IsAtRest, OpensOn, HasLimit, IsAt, LimitAt, LeavesLimit, book_at}
+use Rattle.bot_machine.specs.LivesValue.{FoundAt, FitsLives, LivesGoTo, LivesGoOn}
 
 -- one action is a run
 pub one_run : (device : Device) (refused : Bool) (old new : Standing) (action : Action) (answers : List Answer)
@@ -37,7 +40,8 @@ pub one_run : (device : Device) (refused : Bool) (old new : Standing) (action : 
 one_run device refused old new action answers step = (new, answers, [], sym (append-nil answers), step, (refl, refl))
 
 -- one action with a refused call is counted
-pub one_counted : (refused : Bool) (before after : ℕ) → (refused ≡ true → before < after) → before ≤ after → refused_events (refused ∷ []) + before ≤ after
+pub one_counted : (refused : Bool) (before after : ℕ) → (refused ≡ true → before < after) → before ≤ after
+    → refused_events (refused ∷ []) + before ≤ after
 one_counted true before after grew stays = let h = grew refl in omega (arith, h)
 one_counted false before after grew stays = omega (arith, stays)
 
@@ -109,7 +113,8 @@ module _ (device : Device) where
   fused_running writes disk (runs conversation) h = record { on = h.on; says = h.says; fits = h.fits }
   fused_running writes disk (off remains) h = h
 
-  limit_still : (place : Place) (limit : ℕ) (stage new : Stage) → state_in new ≡ state_in stage → LimitAt place limit stage → LimitAt place limit new
+  limit_still : (place : Place) (limit : ℕ) (stage new : Stage) → state_in new ≡ state_in stage → LimitAt place limit stage
+      → LimitAt place limit new
   limit_still (before_first book) limit stage new same h = subst (λ (m : State). HasLimit m.size limit m.content) (sym same) h
   limit_still (between remains) limit stage new same h = tt
   limit_still (runs conversation) limit stage new same h = h
@@ -120,7 +125,8 @@ module _ (device : Device) where
       → LivesGoOn (lives_at stage) (arms writes ∷ []) [] (lives_at new)
   arms_fuse writes stage new same fuse keeps = record {
     refusals = false ∷ [];
-    moves = one_move device false stage new (arms writes) [] (refl, fuse) (none_refused (state_in stage) (state_in new) (ap (λ (m : State). m.failures) same));
+    moves = one_move device false stage new (arms writes) [] (refl, fuse)
+        (none_refused (state_in stage) (state_in new) (ap (λ (m : State). m.failures) same));
     refused = let e = ap (λ (m : State). m.failures) same in omega (arith, e);
     goes = λ here fits. record {
       there = record here { armed = true };
@@ -139,7 +145,8 @@ module _ (device : Device) where
     device_stays = refl;
   }
 
-  pub arms_medium : (writes : ℕ) (m new : Sim) → new ≡ fused writes m → LivesGoOn (lives_at (Rests m)) (arms writes ∷ []) [] (lives_at (Rests new))
+  pub arms_medium : (writes : ℕ) (m new : Sim) → new ≡ fused writes m
+      → LivesGoOn (lives_at (Rests m)) (arms writes ∷ []) [] (lives_at (Rests new))
   arms_medium writes m new e =
       subst (λ (x : Sim). LivesGoOn (lives_at (Rests m)) (arms writes ∷ []) [] (lives_at (Rests x))) (sym e)
       (arms_fuse writes (Rests m) (Rests (fused writes m)) refl refl (fused_at_rest writes m))
@@ -149,7 +156,8 @@ module _ (device : Device) where
   arms_disk writes disk new e others =
       subst (λ (x : DiskValue Sim). LivesGoOn (lives_at (Runs disk)) (arms writes ∷ []) [] (lives_at (Runs x)))
       (sym (others ∙ ap (λ (m : Sim). on_medium m disk) e))
-      (arms_fuse writes (Runs disk) (Runs (on_medium (fused writes disk.unit.store.medium) disk)) refl (refl, refl) (fused_running writes disk))
+      (arms_fuse writes (Runs disk) (Runs (on_medium (fused writes disk.unit.store.medium) disk)) refl (refl, refl)
+      (fused_running writes disk))
 
   -- ---- a failure
 
@@ -175,7 +183,8 @@ module _ (device : Device) where
       → LivesGoOn (lives_at stage) (fails call ∷ []) [] (lives_at new)
   arms_failure call stage new same fuse failure keeps = record {
     refusals = false ∷ [];
-    moves = one_move device false stage new (fails call) [] (refl, failure) (none_refused (state_in stage) (state_in new) (ap (λ (m : State). m.failures) same));
+    moves = one_move device false stage new (fails call) [] (refl, failure)
+        (none_refused (state_in stage) (state_in new) (ap (λ (m : State). m.failures) same));
     refused = let e = ap (λ (m : State). m.failures) same in omega (arith, e);
     goes = λ here fits. record {
       there = here;
@@ -194,7 +203,8 @@ module _ (device : Device) where
     device_stays = refl;
   }
 
-  pub fails_medium : (call : ℕ) (m new : Sim) → new ≡ failing call m → LivesGoOn (lives_at (Rests m)) (fails call ∷ []) [] (lives_at (Rests new))
+  pub fails_medium : (call : ℕ) (m new : Sim) → new ≡ failing call m
+      → LivesGoOn (lives_at (Rests m)) (fails call ∷ []) [] (lives_at (Rests new))
   fails_medium call m new e =
       subst (λ (x : Sim). LivesGoOn (lives_at (Rests m)) (fails call ∷ []) [] (lives_at (Rests x))) (sym e)
       (arms_failure call (Rests m) (Rests (failing call m)) refl refl refl (failing_at_rest call m))
@@ -204,7 +214,8 @@ module _ (device : Device) where
   fails_disk call disk new e others =
       subst (λ (x : DiskValue Sim). LivesGoOn (lives_at (Runs disk)) (fails call ∷ []) [] (lives_at (Runs x)))
       (sym (others ∙ ap (λ (m : Sim). on_medium m disk) e))
-      (arms_failure call (Runs disk) (Runs (on_medium (failing call disk.unit.store.medium) disk)) refl refl (refl, refl) (failing_running call disk))
+      (arms_failure call (Runs disk) (Runs (on_medium (failing call disk.unit.store.medium) disk)) refl refl (refl, refl)
+      (failing_running call disk))
 
   -- ---- a cut
 
@@ -228,23 +239,35 @@ module _ (device : Device) where
       opens = h.opens;
       stands = subst (λ (n : ℕ). StandsForOpening n book (state_of new).content) (sym size)
           (subst (StandsForOpening (state_of old).size book) (sym (content_stays none)) h.stands);
-      ours = λ ours. subst (λ (n : ℕ). EachCut (IsOursForSome n) (state_of new)) (sym size) (left_before (IsOursForSome (state_of old).size) (h.ours ours));
+      ours = λ ours. subst (λ (n : ℕ). EachCut (IsOursForSome n) (state_of new)) (sym size)
+          (left_before (IsOursForSome (state_of old).size) (h.ours ours));
     }
 
     cut_place : (stage : Stage) (place : Place) → medium_in stage ≡ old → IsAt place stage → IsAt (after_cut place) (Rests new)
-    cut_place (Rests m) (before_first book) e h =
-        (at_rest, opens_still book (subst (λ (x : Sim). x.unflushed ≡ []) e h.0.flushed) (subst (λ (x : Sim). OpensOn (state_of x) book) e h.1))
+    cut_place (Rests m) (before_first book) e h = (
+      at_rest,
+      opens_still book (subst (λ (x : Sim). x.unflushed ≡ []) e h.0.flushed) (subst (λ (x : Sim). OpensOn (state_of x) book) e h.1),
+    )
     cut_place (Runs disk) (before_first book) e h = absurd h
     cut_place stage (between remains) e h = at_rest
     cut_place stage (runs conversation) e h = at_rest
     cut_place stage (off remains) e h = at_rest
 
-    cut_found : (place : Place) (n : ℕ) → n ≡ (state_of old).size → ((book_at place).ours ≡ true → EachCut (FoundAt (state_of old).size place) (state_of old))
+    cut_found : (place : Place) (n : ℕ) → n ≡ (state_of old).size
+        → ((book_at place).ours ≡ true → EachCut (FoundAt (state_of old).size place) (state_of old))
         → (book_at (after_cut place)).ours ≡ true → EachCut (FoundAt n (after_cut place)) (state_of new)
-    cut_found (before_first book) n e h ours = subst (λ (k : ℕ). EachCut (FoundAt k (before_first book)) (state_of new)) (sym e) (left_before (FoundAt (state_of old).size (before_first book)) (h ours))
-    cut_found (between remains) n e h ours = subst (λ (k : ℕ). EachCut (FoundAt k (between remains)) (state_of new)) (sym e) (left_before (FoundAt (state_of old).size (between remains)) (h ours))
-    cut_found (runs conversation) n e h ours = subst (λ (k : ℕ). EachCut (MayFind k conversation.unit.book) (state_of new)) (sym e) (left_before (MayFind (state_of old).size conversation.unit.book) (h ours))
-    cut_found (off remains) n e h ours = subst (λ (k : ℕ). EachCut (FoundAt k (off remains)) (state_of new)) (sym e) (left_before (FoundAt (state_of old).size (off remains)) (h ours))
+    cut_found (before_first book) n e h ours =
+        subst (λ (k : ℕ). EachCut (FoundAt k (before_first book)) (state_of new)) (sym e)
+        (left_before (FoundAt (state_of old).size (before_first book)) (h ours))
+    cut_found (between remains) n e h ours =
+        subst (λ (k : ℕ). EachCut (FoundAt k (between remains)) (state_of new)) (sym e)
+        (left_before (FoundAt (state_of old).size (between remains)) (h ours))
+    cut_found (runs conversation) n e h ours =
+        subst (λ (k : ℕ). EachCut (MayFind k conversation.unit.book) (state_of new)) (sym e)
+        (left_before (MayFind (state_of old).size conversation.unit.book) (h ours))
+    cut_found (off remains) n e h ours =
+        subst (λ (k : ℕ). EachCut (FoundAt k (off remains)) (state_of new)) (sym e)
+        (left_before (FoundAt (state_of old).size (off remains)) (h ours))
 
     cut_limit_at : (stage : Stage) (place : Place) (limit : ℕ) → medium_in stage ≡ old → IsAt place stage → LimitAt place limit stage
         → LimitAt (after_cut place) limit (Rests new)
@@ -260,7 +283,8 @@ module _ (device : Device) where
     cut_limited : (stage : Stage) (limit : ℕ) → medium_in stage ≡ old → LeavesLimit limit stage → LeavesLimit limit (Rests new)
     cut_limited stage limit e h =
         subst (λ (n : ℕ). EachCut (HasLimit n limit) (state_of new)) (sym size)
-        (left_before (HasLimit (state_of old).size limit) (subst (λ (x : Sim). EachCut (HasLimit (state_of x).size limit) (state_of x)) e h))
+        (left_before (HasLimit (state_of old).size limit)
+        (subst (λ (x : Sim). EachCut (HasLimit (state_of x).size limit) (state_of x)) e h))
 
     book_after_cut : (place : Place) → (book_at (after_cut place)).ours ≡ (book_at place).ours
     book_after_cut (before_first book) = refl
@@ -281,7 +305,9 @@ module _ (device : Device) where
           is_at = cut_place stage here.place e fits.is_at;
           limit_at = cut_limit_at stage here.place here.limit e fits.is_at fits.limit_at;
           limited = λ ours. cut_limited stage here.limit e (fits.limited (sym (book_after_cut here.place) ∙ ours));
-          found = cut_found here.place (state_of new).size size (subst (λ (x : Sim). (book_at here.place).ours ≡ true → EachCut (FoundAt (state_of x).size here.place) (state_of x)) e fits.found);
+          found = cut_found here.place (state_of new).size size
+              (subst (λ (x : Sim). (book_at here.place).ours ≡ true → EachCut (FoundAt (state_of x).size here.place) (state_of x)) e
+              fits.found);
           unfused = λ unarmed. ap (λ (p : Power). p.fuse) cut.power_on;
         };
         ours = book_after_cut here.place;
@@ -307,13 +333,14 @@ module _ (device : Device) where
     grew = nat_lt before.failures after.failures
 
     -- the event itself, which gives its answer where the power is still on
-    played : (given : Answer) → given ≡ (if new.unit.store.medium.power.off then Off else answer) → EventMoves (Runs old) event given (Runs new)
+    played : (given : Answer) → given ≡ (if new.unit.store.medium.power.off then Off else answer)
+        → EventMoves (Runs old) event given (Runs new)
     played given answered = subst (λ (b : Bool). EventMovesIn b old event given (Runs new)) (sym on)
         (new, refl, record { told = answer; step = step; follows = follows; answered = answered })
 
     -- the limit of the unit is what it was, and what a cut leaves has it
-    same_limit : (conversation : Conversation UnitState) (limit : ℕ) → conversation ≡ over old conversation.unit.book → limit ≡ conversation.unit.limit
-        → limit ≡ unit_limit new.unit
+    same_limit : (conversation : Conversation UnitState) (limit : ℕ) → conversation ≡ over old conversation.unit.book
+        → limit ≡ conversation.unit.limit → limit ≡ unit_limit new.unit
     same_limit conversation limit says is = is ∙ ap (λ (x : Conversation UnitState). x.unit.limit) says ∙ sym step.limit_stays
 
     limited_after : (limit : ℕ) (later : Book) → FitsDisk after new later → later.ours ≡ true → limit ≡ unit_limit new.unit
@@ -322,8 +349,10 @@ module _ (device : Device) where
         subst (λ (n : ℕ). EachCut (HasLimit after.size n) after) (sym is) (limit_between_calls after new.unit later fits ours)
 
     module _ (still : new.unit.store.medium.power.off ≡ false) where
-      ends_at : (place : Place) (armed : Bool) (limit : ℕ) → FitsLives (lives_at (Runs old)) (record { place = place; armed = armed; limit = limit })
-          → LivesGoTo (lives_at (Runs new)) (record { place = place; armed = armed; limit = limit }) (plays event ∷ []) (answer ∷ []) (grew ∷ [])
+      ends_at : (place : Place) (armed : Bool) (limit : ℕ)
+          → FitsLives (lives_at (Runs old)) (record { place = place; armed = armed; limit = limit })
+          → LivesGoTo (lives_at (Runs new)) (record { place = place; armed = armed; limit = limit }) (plays event ∷ []) (answer ∷ [])
+          (grew ∷ [])
       ends_at (before_first book) armed limit fits = absurd fits.is_at
       ends_at (between remains) armed limit fits = absurd fits.is_at
       ends_at (runs conversation) armed limit fits =
@@ -352,7 +381,8 @@ module _ (device : Device) where
       pub event_ends : LivesGoOn (lives_at (Runs old)) (plays event ∷ []) (answer ∷ []) (lives_at (Runs new))
       event_ends = record {
         refusals = grew ∷ [];
-        moves = one_move device grew (Runs old) (Runs new) (plays event) (answer ∷ []) (answer, refl, played answer (ap (λ (b : Bool). if b then Off else answer) (sym still))) refl;
+        moves = one_move device grew (Runs old) (Runs new) (plays event) (answer ∷ [])
+            (answer, refl, played answer (ap (λ (b : Bool). if b then Off else answer) (sym still))) refl;
         refused = one_counted grew before.failures after.failures (ltb-true before.failures after.failures) step.elapses.failures_stay;
         goes = λ here fits. ends_at here.place here.armed here.limit fits;
         size_stays = step.elapses.size_stays;
@@ -360,8 +390,10 @@ module _ (device : Device) where
       }
 
     module _ (is_off : new.unit.store.medium.power.off ≡ true) where
-      cut_at : (place : Place) (armed : Bool) (limit : ℕ) → FitsLives (lives_at (Runs old)) (record { place = place; armed = armed; limit = limit })
-          → LivesGoTo (lives_at (Runs new)) (record { place = place; armed = armed; limit = limit }) (plays event ∷ []) (Off ∷ []) (grew ∷ [])
+      cut_at : (place : Place) (armed : Bool) (limit : ℕ)
+          → FitsLives (lives_at (Runs old)) (record { place = place; armed = armed; limit = limit })
+          → LivesGoTo (lives_at (Runs new)) (record { place = place; armed = armed; limit = limit }) (plays event ∷ []) (Off ∷ [])
+          (grew ∷ [])
       cut_at (before_first book) armed limit fits = absurd fits.is_at
       cut_at (between remains) armed limit fits = absurd fits.is_at
       cut_at (runs conversation) armed limit fits =
@@ -387,10 +419,13 @@ module _ (device : Device) where
             fits = record {
               is_at = is_off;
               limit_at = tt;
-              limited = λ ours. limited_after limit p.later p.fits (p.ours ∙ ours) (same_limit conversation limit fits.is_at.says fits.limit_at);
+              limited = λ ours.
+                  limited_after limit p.later p.fits (p.ours ∙ ours) (same_limit conversation limit fits.is_at.says fits.limit_at);
               found = λ ours. subst (λ (n : ℕ). EachCut (FoundWith n book remains.in_progress) after) (sym step.elapses.size_stays)
-                  (subst (λ (x : Conversation UnitState). EachCut (FoundWith before.size book (write_of_event x event)) after) (sym fits.is_at.says)
-                  (at_exit (FoundWith before.size book (write_of_event (over old book) event)) before after (is_sound new.unit.store.medium) (p.cuts ours)));
+                  (subst (λ (x : Conversation UnitState). EachCut (FoundWith before.size book (write_of_event x event)) after)
+                  (sym fits.is_at.says)
+                  (at_exit (FoundWith before.size book (write_of_event (over old book) event)) before after
+                  (is_sound new.unit.store.medium) (p.cuts ours)));
               unfused = λ e. follows.no_fuse_stays (fits.unfused e);
             };
             ours = refl;
@@ -402,7 +437,8 @@ module _ (device : Device) where
       pub event_is_cut : LivesGoOn (lives_at (Runs old)) (plays event ∷ []) (Off ∷ []) (lives_at (Runs new))
       event_is_cut = record {
         refusals = grew ∷ [];
-        moves = one_move device grew (Runs old) (Runs new) (plays event) (Off ∷ []) (Off, refl, played Off (ap (λ (b : Bool). if b then Off else answer) (sym is_off))) refl;
+        moves = one_move device grew (Runs old) (Runs new) (plays event) (Off ∷ [])
+            (Off, refl, played Off (ap (λ (b : Bool). if b then Off else answer) (sym is_off))) refl;
         refused = one_counted grew before.failures after.failures (ltb-true before.failures after.failures) step.elapses.failures_stay;
         goes = λ here fits. cut_at here.place here.armed here.limit fits;
         size_stays = step.elapses.size_stays;
@@ -412,25 +448,34 @@ module _ (device : Device) where
   -- power is off already
   off_at_rest : (m : Sim) (event : Event) → m.power.off ≡ true → (place : Place) (armed : Bool) (limit : ℕ)
       → FitsLives (lives_at (Rests m)) (record { place = place; armed = armed; limit = limit })
-      → LivesStep device false (record { place = place; armed = armed; limit = limit }) (plays event) (Off ∷ []) (record { place = place; armed = armed; limit = limit })
+      → LivesStep device false (record { place = place; armed = armed; limit = limit }) (plays event) (Off ∷ [])
+      (record { place = place; armed = armed; limit = limit })
   off_at_rest m event is_off (before_first book) armed limit fits = on_or_off m.power.off fits.is_at.0.on is_off
   off_at_rest m event is_off (between remains) armed limit fits = on_or_off m.power.off fits.is_at.on is_off
   off_at_rest m event is_off (runs conversation) armed limit fits = absurd fits.is_at
   off_at_rest m event is_off (off remains) armed limit fits = (Off, refl, (refl, refl))
 
-  off_running : (disk : DiskValue Sim) (event : Event) → disk.unit.store.medium.power.off ≡ true → (place : Place) (armed : Bool) (limit : ℕ)
+  off_running : (disk : DiskValue Sim) (event : Event) → disk.unit.store.medium.power.off ≡ true
+      → (place : Place) (armed : Bool) (limit : ℕ)
       → FitsLives (lives_at (Runs disk)) (record { place = place; armed = armed; limit = limit })
-      → LivesStep device false (record { place = place; armed = armed; limit = limit }) (plays event) (Off ∷ []) (record { place = place; armed = armed; limit = limit })
+      → LivesStep device false (record { place = place; armed = armed; limit = limit }) (plays event) (Off ∷ [])
+      (record { place = place; armed = armed; limit = limit })
   off_running disk event is_off (before_first book) armed limit fits = absurd fits.is_at
   off_running disk event is_off (between remains) armed limit fits = absurd fits.is_at
   off_running disk event is_off (runs conversation) armed limit fits = on_or_off disk.unit.store.medium.power.off fits.is_at.on is_off
   off_running disk event is_off (off remains) armed limit fits = (Off, refl, (refl, refl))
 
   -- an event that comes to a medium without power
-  pub event_at_rest : (m : Sim) (event : Event) → m.power.off ≡ true → LivesGoOn (lives_at (Rests m)) (plays event ∷ []) (Off ∷ []) (lives_at (Rests m))
-  event_at_rest m event is_off = stays (Rests m) (plays event) (Off ∷ []) (Off, refl, (refl, refl)) (λ here fits. off_at_rest m event is_off here.place here.armed here.limit fits)
+  pub event_at_rest : (m : Sim) (event : Event) → m.power.off ≡ true
+      → LivesGoOn (lives_at (Rests m)) (plays event ∷ []) (Off ∷ []) (lives_at (Rests m))
+  event_at_rest m event is_off =
+      stays (Rests m) (plays event) (Off ∷ []) (Off, refl, (refl, refl))
+      (λ here fits. off_at_rest m event is_off here.place here.armed here.limit fits)
 
   -- an event that comes to a disk without power
   pub event_off : (disk : DiskValue Sim) (event : Event) → disk.unit.store.medium.power.off ≡ true
       → LivesGoOn (lives_at (Runs disk)) (plays event ∷ []) (Off ∷ []) (lives_at (Runs disk))
-  event_off disk event is_off = stays (Runs disk) (plays event) (Off ∷ []) (Off, refl, subst (λ (b : Bool). EventMovesIn b disk event Off (Runs disk)) (sym is_off) (refl, refl)) (λ here fits. off_running disk event is_off here.place here.armed here.limit fits)
+  event_off disk event is_off =
+      stays (Runs disk) (plays event) (Off ∷ [])
+      (Off, refl, subst (λ (b : Bool). EventMovesIn b disk event Off (Runs disk)) (sym is_off) (refl, refl))
+      (λ here fits. off_running disk event is_off here.place here.armed here.limit fits)

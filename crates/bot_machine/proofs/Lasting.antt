@@ -1,5 +1,6 @@
 -- Whole lives, one after the other, from the first.
-use Rattle.std.proofs.Common.{◌≡◌, Bool, ◌<◌, ◌≤◌, ℕ, ◌+◌, suc, List, [], ◌∷◌, ◌++◌, None, length, take, drop, get_or, refl, sym, subst, ◌∙◌, ap, arith, append_assoc, drop-cons}
+use Rattle.std.proofs.Common.{◌≡◌, Bool, ◌<◌, ◌≤◌, ℕ, ◌+◌, suc, List, [], ◌∷◌, ◌++◌, None, length, take, drop, get_or, refl, sym, subst}
+use Rattle.std.proofs.Common.{◌∙◌, ap, arith, append_assoc, drop-cons}
 use Rattle.std.proofs.lemmas.List.{append-nil, take_more, take-append-drop}
 use Rattle.std.proofs.lemmas.List.Sums.{sum_by-append, sum_by-take-le}
 use Rattle.std.specs.Prelude.{Option, Some, MatchOption}
@@ -17,8 +18,10 @@ use Rattle.bot_machine.specs.Answers.{Room}
 use Rattle.bot_machine.specs.Conversation.{refused_events}
 use Rattle.bot_machine.specs.Opening.{IsNotOpened}
 use Rattle.bot_machine.specs.Lives.{Action, Standing, LivesRun}
-use Rattle.bot_machine.specs.LivesValue.{LivesValue, medium_in, state_in, IsAtRest, OpensOn, HasLimit, LeavesLimit, FitsLives, LivesGoOn, LivesStopAt, LivesStop}
-use Rattle.bot_machine.specs.Lifetimes.{first_standing, actions_of, actions_of_all, armed_by, events_in, AppendsFor, EndsIn, AreLived, StopsIn, AreLivedUpTo}
+use Rattle.bot_machine.specs.LivesValue.{LivesValue, medium_in, state_in, IsAtRest, OpensOn, HasLimit, LeavesLimit, FitsLives, LivesGoOn}
+use Rattle.bot_machine.specs.LivesValue.{LivesStopAt, LivesStop}
+use Rattle.bot_machine.specs.Lifetimes.{first_standing, actions_of, actions_of_all, armed_by, events_in, AppendsFor, EndsIn, AreLived}
+use Rattle.bot_machine.specs.Lifetimes.{StopsIn, AreLivedUpTo}
 use Rattle.bot_machine.proofs.Playing.{rests, lives_stop, lives_stop-refusals}
 use Rattle.bot_machine.proofs.Beginning.{first_found, first_limited}
 
@@ -109,9 +112,9 @@ module _ (m : Sim) (device : Device) (rest : IsAtRest m) (unfused : m.power.fuse
             found = λ ours. g.fits.found (g.ours ∙ ours);
           }
 
-  all_lived-refusals : (lives : List Life) (on : LivesGoOn first (actions_of_all lives) told after) (one_each : length told ≡ events_in lives)
-      (rest_after : IsAtRest (medium_in after.stage)) (unfused_after : (medium_in after.stage).power.fuse ≡ None)
-      (alone : after.stage ≡ Rests (medium_in after.stage))
+  all_lived-refusals : (lives : List Life) (on : LivesGoOn first (actions_of_all lives) told after)
+      (one_each : length told ≡ events_in lives) (rest_after : IsAtRest (medium_in after.stage))
+      (unfused_after : (medium_in after.stage).power.fuse ≡ None) (alone : after.stage ≡ Rests (medium_in after.stage))
       → (all_lived lives on one_each rest_after unfused_after alone).refusals ≡ on.refusals
   unfolding all_lived
   all_lived-refusals lives on one_each rest_after unfused_after alone = refl
@@ -125,7 +128,9 @@ told_same before after actions told other fault e s = record {
   moves = subst (λ (l : List Answer). MovesBy before.device before.stage actions l s.refusals (Rests s.at)) e s.moves;
   start = s.start;
   refused = s.refused;
-  goes = λ here fits. subst (λ (l : List Answer). LivesStopAt after here actions l s.refusals (refused_events s.refusals + (state_in before.stage).failures) fault)
+  goes = λ here fits. subst
+      (λ (l : List Answer).
+      LivesStopAt after here actions l s.refusals (refused_events s.refusals + (state_in before.stage).failures) fault)
       e (s.goes here fits);
   rests = s.rests;
   on = s.on;
@@ -140,10 +145,10 @@ told_same-refusals before after actions told other fault e s = refl
 
 module _ (m : Sim) (device : Device) (rest : IsAtRest m) (unfused : m.power.fuse ≡ None) (mid after : LivesValue) (told : List Answer)
     (lives lived others : List Life) (life : Life) (fault : StartFault) (lives_are : lives ≡ lived ++ life ∷ others)
-    (on : LivesGoOn (record { device = device; stage = Rests m }) (actions_of_all lived) told mid) (one_each : length told ≡ events_in lived)
-    (rest_mid : IsAtRest (medium_in mid.stage)) (unfused_mid : (medium_in mid.stage).power.fuse ≡ None)
-    (alone : mid.stage ≡ Rests (medium_in mid.stage)) (cause : IsNotOpened (state_in mid.stage) (state_in after.stage) fault)
-    (last : LivesStop mid (armed_by life.fuse) [] fault after) where
+    (on : LivesGoOn (record { device = device; stage = Rests m }) (actions_of_all lived) told mid)
+    (one_each : length told ≡ events_in lived) (rest_mid : IsAtRest (medium_in mid.stage))
+    (unfused_mid : (medium_in mid.stage).power.fuse ≡ None) (alone : mid.stage ≡ Rests (medium_in mid.stage))
+    (cause : IsNotOpened (state_in mid.stage) (state_in after.stage) fault) (last : LivesStop mid (armed_by life.fuse) [] fault after) where
   abbrev begun : LivesValue
   begun = record { device = device; stage = Rests m }
 
@@ -164,7 +169,8 @@ module _ (m : Sim) (device : Device) (rest : IsAtRest m) (unfused : m.power.fuse
       (sym (all_lived-refusals m device rest unfused mid told lived on one_each rest_mid unfused_mid alone))
 
   arms : MovesBy device (Rests (medium_in mid.stage)) (armed_by life.fuse) [] last.refusals (Rests last.at)
-  arms = subst (λ (i : Device). MovesBy i (Rests (medium_in mid.stage)) (armed_by life.fuse) [] last.refusals (Rests last.at)) on.device_stays
+  arms =
+      subst (λ (i : Device). MovesBy i (Rests (medium_in mid.stage)) (armed_by life.fuse) [] last.refusals (Rests last.at)) on.device_stays
       (subst (λ (x : Stage). MovesBy mid.device x (armed_by life.fuse) [] last.refusals (Rests last.at)) alone last.moves)
 
   pub lived_up_to : AreLivedUpTo m device lives told fault (medium_in after.stage)
@@ -195,7 +201,8 @@ module _ (m : Sim) (device : Device) (rest : IsAtRest m) (unfused : m.power.fuse
           let g = stop.goes here (first_fits m device rest unfused limit book opens has) in
           record {
             last = g.there;
-            run = subst (λ (x : Device). LivesRun x here (actions_of_all lived ++ armed_by life.fuse) told stop.refusals g.there) stop.device_stays g.run;
+            run = subst (λ (x : Device). LivesRun x here (actions_of_all lived ++ armed_by life.fuse) told stop.refusals g.there)
+                stop.device_stays g.run;
             limited = λ ours. g.limited (g.ours ∙ ours);
             next = g.book;
             opens = g.opens;

@@ -6,6 +6,7 @@ pub mod UnitLaws
 pub mod Proceeding
 pub mod Cases
 pub mod Opening
+pub mod Taking
 pub mod Telling
 pub mod Stepping
 pub mod Alternation

@@ -15,7 +15,8 @@ use Rattle.bot_machine.specs.declared.event.Event.{Event}
 use Rattle.bot_machine.specs.declared.event.Event.TheVariants as event
 use Rattle.bot_machine.specs.declared.event.Answer.{Answer}
 use Rattle.bot_machine.specs.Requests.{Request, setup_packet, mass_storage_reset, get_max_lun, clear_halt, get_status}
-use Rattle.bot_machine.specs.Exchange.{Line, Script, finished, taking, sending, Moment, at_once, after_data, never, moment_of, told, request_answer, after_request}
+use Rattle.bot_machine.specs.Exchange.{Line, Script, finished, taking, sending, Moment, at_once, after_data, never, moment_of, told}
+use Rattle.bot_machine.specs.Exchange.{request_answer, after_request}
 use Rattle.bot_machine.specs.Conversation.{Conversation, IsCarriedOut, Begins, Opens, Takes, OutStep, SetupStep}
 use Rattle.bot_machine.specs.Intentions.{Intends, way_of}
 use Rattle.bot_machine.specs.Acts.{write_of_packet}
@@ -83,7 +84,8 @@ opens_once packet old one other stamps a b =
 
 takes_once : (case : Case) (command : Cbw) (intended : Way) (bytes : List ℕ) (due : ℕ) (packet : List ℕ)
     (old one other : Conversation UnitState)
-    → ¬ StampsOut (with_progress old.unit.book (write_of_packet old.line.packet_size false (taking case command intended bytes due) packet old.unit))
+    → ¬ StampsOut (with_progress old.unit.book
+    (write_of_packet old.line.packet_size false (taking case command intended bytes due) packet old.unit))
     → Takes Intends CarriesOut Ticks false case command intended bytes due packet old one
     → Takes Intends CarriesOut Ticks false case command intended bytes due packet old other → one ≡ other
 takes_once case command intended bytes due packet old one other stamps (inl a) (inl b) =

@@ -1,5 +1,6 @@
 -- How packets are cut off the front of data.
-use Rattle.std.proofs.Common.{◌≡◌, ℕ, suc, ◌+◌, ◌-◌, ◌/◌, ◌<◌, ◌≤◌, inl, inr, min, List, [], ◌∷◌, length, take, drop, slice_range, sym, ap, ◌∙◌, arith, length-drop, length-take}
+use Rattle.std.proofs.Common.{◌≡◌, ℕ, suc, ◌+◌, ◌-◌, ◌/◌, ◌<◌, ◌≤◌, inl, inr, min, List, [], ◌∷◌, length, take, drop, slice_range, sym, ap}
+use Rattle.std.proofs.Common.{◌∙◌, arith, length-drop, length-take}
 use Rattle.std.proofs.Math.Nat.{add-div_right, div-eq_of_lt}
 use Rattle.std.proofs.lemmas.List.{take-take, drop-take, drop-drop, drop_all, take_all}
 use Rattle.std.proofs.lemmas.Bool.{cases_lt}
@@ -11,7 +12,9 @@ one_more n size some h =
     let shifted : n + (size - 1) ≡ (n - 1) + size = omega arith in
     let before : (n + (size - 1)) / size ≡ (n - 1) / size + 1 = ap (λ k. k / size) shifted ∙ add-div_right (n - 1) some in
     let last : (n - 1) / size ≡ ((n - size) + (size - 1)) / size = elim (cases_lt n size) [
-      | inl less ↦ div-eq_of_lt (let k : n - 1 < size = omega arith in k) ∙ sym (div-eq_of_lt (let k : (n - size) + (size - 1) < size = omega arith in k))
+      | inl less ↦
+          div-eq_of_lt (let k : n - 1 < size = omega arith in k)
+          ∙ sym (div-eq_of_lt (let k : (n - size) + (size - 1) < size = omega arith in k))
       | inr more ↦ ap (λ k. k / size) (let k : n - 1 ≡ (n - size) + (size - 1) = omega arith in k)
     ] in
     omega (arith, before, last)
@@ -41,7 +44,9 @@ module _ (size : ℕ) (packet : 0 < size) where
 
   rest_of : (n end : ℕ) (xs : List ℕ) → end ≡ min n size → drop size (take n xs) ≡ take (n - end) (drop end xs)
   rest_of n end xs e = elim (cases_lt n size) [
-    | inl h ↦ drop_all size (take n xs) (omega (arith, length-take n xs)) ∙ ap (λ k. take k (drop end xs)) (let k : 0 ≡ n - end = omega arith in k)
+    | inl h ↦
+        drop_all size (take n xs) (omega (arith, length-take n xs))
+        ∙ ap (λ k. take k (drop end xs)) (let k : 0 ≡ n - end = omega arith in k)
     | inr h ↦ ap (λ k. drop size (take k xs)) (let k : n ≡ size + (n - size) = omega arith in k) ∙ drop-take size (n - size) xs
         ∙ ap (λ k. take (n - k) (drop k xs)) (let k : size ≡ end = omega arith in k)
   ]
@@ -69,4 +74,5 @@ module _ (size : ℕ) (packet : 0 < size) where
       packets_of-more size (slice_range xs from to) packet (omega (arith, length-take (to - from) (drop from xs), length-drop from xs))
 
   pub packets_of-end : (xs : List ℕ) (end to : ℕ) → to ≤ end → packets_of size (slice_range xs end to) ≡ []
-  packets_of-end xs end to h = ap (λ k. packets_of size (take k (drop end xs))) (let k : to - end ≡ 0 = omega arith in k) ∙ packets_of-none size packet
+  packets_of-end xs end to h =
+      ap (λ k. packets_of size (take k (drop end xs))) (let k : to - end ≡ 0 = omega arith in k) ∙ packets_of-none size packet

@@ -1,5 +1,6 @@
 -- Lives go on: one run of actions after another.
-use Rattle.std.proofs.Common.{◌≡◌, ℕ, ◌+◌, ◌≤◌, Bool, true, false, List, [], ◌∷◌, ◌++◌, length-append, refl, sym, subst, ◌∙◌, ap, arith, append_assoc}
+use Rattle.std.proofs.Common.{◌≡◌, ℕ, ◌+◌, ◌≤◌, Bool, true, false, List, [], ◌∷◌, ◌++◌, length-append, refl, sym, subst, ◌∙◌, ap, arith}
+use Rattle.std.proofs.Common.{append_assoc}
 use Rattle.std.proofs.lemmas.List.{append-nil}
 use Rattle.bot_machine.specs.Device.{Device}
 use Rattle.scsi_unit.specs.StartFaults.{StartFault}
@@ -13,7 +14,8 @@ use Rattle.bot_machine.specs.declared.stage.Stage.{Stage}
 use Rattle.bot_machine.specs.declared.stage.Stage.TheVariants.{Rests}
 use Rattle.bot_machine.specs.Moving.{MovesBy}
 use Rattle.bot_machine.specs.Lifetimes.{AppendsFor}
-use Rattle.bot_machine.specs.LivesValue.{LivesValue, state_in, LeavesLimit, FitsLives, LivesGoTo, LivesGoOn, MayRefuse, LivesStopAt, LivesStop}
+use Rattle.bot_machine.specs.LivesValue.{LivesValue, state_in, LeavesLimit, FitsLives, LivesGoTo, LivesGoOn, MayRefuse, LivesStopAt}
+use Rattle.bot_machine.specs.LivesValue.{LivesStop}
 use Rattle.bot_machine.proofs.Moved.{MovesBy-append}
 
 -- events with a refused call are counted one list after the other
@@ -58,19 +60,24 @@ rests lives = record {
 
 module _ (a b c : LivesValue) (xs ys : List Action) (told more : List Answer) (first : LivesGoOn a xs told b) where
   -- the first part, by the device at the end
-  first_run : c.device ≡ b.device → (here : Standing) (fits : FitsLives a here) → LivesRun c.device here xs told first.refusals (first.goes here fits).there
-  first_run same here fits = subst (λ (i : Device). LivesRun i here xs told first.refusals (first.goes here fits).there) (sym same) (first.goes here fits).run
+  first_run : c.device ≡ b.device → (here : Standing) (fits : FitsLives a here)
+      → LivesRun c.device here xs told first.refusals (first.goes here fits).there
+  first_run same here fits =
+      subst (λ (i : Device). LivesRun i here xs told first.refusals (first.goes here fits).there) (sym same) (first.goes here fits).run
 
   -- the second part, by the device at the beginning
-  next_moves : (others : List Bool) (stage : Stage) → MovesBy b.device b.stage ys more others stage → MovesBy a.device b.stage ys more others stage
+  next_moves : (others : List Bool) (stage : Stage) → MovesBy b.device b.stage ys more others stage
+      → MovesBy a.device b.stage ys more others stage
   next_moves others stage moves = subst (λ (i : Device). MovesBy i b.stage ys more others stage) first.device_stays moves
 
   -- lives go on, and go on
   pub lives_go_on : LivesGoOn b ys more c → LivesGoOn a (xs ++ ys) (told ++ more) c
   lives_go_on next = record {
     refusals = first.refusals ++ next.refusals;
-    moves = MovesBy-append a.device xs ys told more first.refusals next.refusals a.stage b.stage c.stage first.moves (next_moves next.refusals c.stage next.moves);
-    refused = counted first.refusals next.refusals (state_in a.stage).failures (state_in b.stage).failures (state_in c.stage).failures first.refused next.refused;
+    moves = MovesBy-append a.device xs ys told more first.refusals next.refusals a.stage b.stage c.stage first.moves
+        (next_moves next.refusals c.stage next.moves);
+    refused = counted first.refusals next.refusals (state_in a.stage).failures (state_in b.stage).failures (state_in c.stage).failures
+        first.refused next.refused;
     goes = goes;
     size_stays = next.size_stays ∙ first.size_stays;
     device_stays = next.device_stays ∙ first.device_stays;
@@ -82,7 +89,8 @@ module _ (a b c : LivesValue) (xs ys : List Action) (told more : List Answer) (f
           let last = next.goes mid.there mid.fits in
           record {
             there = last.there;
-            run = LivesRun-append c.device xs ys told more first.refusals next.refusals here mid.there last.there (first_run next.device_stays here fits) last.run;
+            run = LivesRun-append c.device xs ys told more first.refusals next.refusals here mid.there last.there
+                (first_run next.device_stays here fits) last.run;
             fits = last.fits;
             ours = last.ours ∙ mid.ours;
             limit_stays = λ ours. last.limit_stays (mid.ours ∙ ours) ∙ mid.limit_stays ours;
@@ -93,9 +101,11 @@ module _ (a b c : LivesValue) (xs ys : List Action) (told more : List Answer) (f
   lives_stop fault next = record {
     refusals = first.refusals ++ next.refusals;
     at = next.at;
-    moves = MovesBy-append a.device xs ys told more first.refusals next.refusals a.stage b.stage (Rests next.at) first.moves (next_moves next.refusals (Rests next.at) next.moves);
+    moves = MovesBy-append a.device xs ys told more first.refusals next.refusals a.stage b.stage (Rests next.at) first.moves
+        (next_moves next.refusals (Rests next.at) next.moves);
     start = next.start;
-    refused = counted first.refusals next.refusals (state_in a.stage).failures (state_in b.stage).failures (state_in c.stage).failures first.refused next.refused;
+    refused = counted first.refusals next.refusals (state_in a.stage).failures (state_in b.stage).failures (state_in c.stage).failures
+        first.refused next.refused;
     goes = goes;
     rests = next.rests;
     on = next.on;
@@ -103,10 +113,12 @@ module _ (a b c : LivesValue) (xs ys : List Action) (told more : List Answer) (f
     device_stays = next.device_stays ∙ first.device_stays;
   }
     where
-      less : refused_events (first.refusals ++ next.refusals) + (state_in a.stage).failures ≤ refused_events next.refusals + (state_in b.stage).failures
+      less : refused_events (first.refusals ++ next.refusals) + (state_in a.stage).failures
+          ≤ refused_events next.refusals + (state_in b.stage).failures
       less = let h = first.refused in omega (arith, refused_events-append first.refusals next.refusals, h)
 
-      causes : (book : Book) (fault : StartFault) (failures : ℕ) → MayRefuse book (refused_events next.refusals + (state_in b.stage).failures) failures fault
+      causes : (book : Book) (fault : StartFault) (failures : ℕ)
+          → MayRefuse book (refused_events next.refusals + (state_in b.stage).failures) failures fault
           → MayRefuse book (refused_events (first.refusals ++ next.refusals) + (state_in a.stage).failures) failures fault
       causes book NoMemory failures h = h
       causes book Read failures h = omega (arith, less, h)
@@ -126,16 +138,19 @@ module _ (a b c : LivesValue) (xs ys : List Action) (told more : List Answer) (f
           let last = next.goes mid.there mid.fits in
           record {
             there = last.there;
-            run = LivesRun-append c.device xs ys told more first.refusals next.refusals here mid.there last.there (first_run next.device_stays here fits) last.run;
+            run = LivesRun-append c.device xs ys told more first.refusals next.refusals here mid.there last.there
+                (first_run next.device_stays here fits) last.run;
             book = last.book;
             opens = last.opens;
             ours = last.ours ∙ mid.ours;
             cause = λ ours. causes last.book fault (state_in c.stage).failures (last.cause ours);
-            limited = λ ours. subst (λ (n : ℕ). LeavesLimit n c.stage) (mid.limit_stays (sym (last.ours ∙ mid.ours) ∙ ours)) (last.limited ours);
+            limited = λ ours.
+                subst (λ (n : ℕ). LeavesLimit n c.stage) (mid.limit_stays (sym (last.ours ∙ mid.ours) ∙ ours)) (last.limited ours);
             found = last.found;
           }
 
-  pub lives_stop-refusals : (fault : StartFault) (next : LivesStop b ys more fault c) → (lives_stop fault next).refusals ≡ first.refusals ++ next.refusals
+  pub lives_stop-refusals : (fault : StartFault) (next : LivesStop b ys more fault c)
+      → (lives_stop fault next).refusals ≡ first.refusals ++ next.refusals
   unfolding lives_stop
   lives_stop-refusals fault next = refl
 
@@ -143,7 +158,9 @@ module _ (a b c : LivesValue) (xs ys : List Action) (told more : List Answer) (f
 pub appended : (first mid last : Room) (told more : List Answer) → mid ≡ record first { list = first.list ++ told }
     → last ≡ record mid { list = mid.list ++ more } → last ≡ record first { list = first.list ++ (told ++ more) }
 appended first mid last told more e f =
-    f ∙ ap (λ (x : Room). record x { list = x.list ++ more }) e ∙ ap (λ (l : List Answer). record first { list = l }) (append_assoc first.list told more)
+    f
+    ∙ ap (λ (x : Room). record x { list = x.list ++ more }) e
+    ∙ ap (λ (l : List Answer). record first { list = l }) (append_assoc first.list told more)
 
 -- one more part of lives, and its answers
 pub appends_on : (a b c : LivesValue) (first mid last : Room) (xs ys : List Action) (m n : ℕ)
@@ -165,10 +182,12 @@ whole_life a b c d e first last armed events n cut h_arm h_start h_events h_cut 
   one_each = h_events.one_each;
   goes_on = subst (λ (l : List Answer). LivesGoOn a (armed ++ starts ∷ events ++ cut ∷ []) l e) (append-nil h_events.told)
       (lives_go_on a d e (armed ++ starts ∷ events) (cut ∷ []) h_events.told []
-      (lives_go_on a b d armed (starts ∷ events) [] h_events.told h_arm (lives_go_on b c d (starts ∷ []) events [] h_events.told h_start h_events.goes_on))
-      h_cut);
+      (lives_go_on a b d armed (starts ∷ events) [] h_events.told h_arm
+      (lives_go_on b c d (starts ∷ []) events [] h_events.told h_start h_events.goes_on)) h_cut);
 }
 
 -- a fuse or none, and a start that is refused
-pub no_life : (a b c : LivesValue) (armed : List Action) (fault : StartFault) → LivesGoOn a armed [] b → LivesStop b [] [] fault c → LivesStop a armed [] fault c
-no_life a b c armed fault h_arm h_stop = subst (λ (l : List Action). LivesStop a l [] fault c) (append-nil armed) (lives_stop a b c armed [] [] [] h_arm fault h_stop)
+pub no_life : (a b c : LivesValue) (armed : List Action) (fault : StartFault) → LivesGoOn a armed [] b → LivesStop b [] [] fault c
+    → LivesStop a armed [] fault c
+no_life a b c armed fault h_arm h_stop =
+    subst (λ (l : List Action). LivesStop a l [] fault c) (append-nil armed) (lives_stop a b c armed [] [] [] h_arm fault h_stop)

@@ -1,5 +1,6 @@
 -- A run goes on by one step.
-use Rattle.std.proofs.Common.{◌≡◌, ℕ, ◌+◌, ◌<◌, ◌≤◌, Bool, true, false, nat_lt, List, [], ◌∷◌, ◌++◌, refl, sym, subst, ◌∙◌, arith, ltb-true, inl, inr, ◌⊎◌, ⊎_elim}
+use Rattle.std.proofs.Common.{◌≡◌, ℕ, ◌+◌, ◌<◌, ◌≤◌, Bool, true, false, nat_lt, List, [], ◌∷◌, ◌++◌, refl, sym, subst, ◌∙◌, arith, ltb-true}
+use Rattle.std.proofs.Common.{inl, inr, ◌⊎◌, ⊎_elim}
 use Rattle.std.specs.Prelude.{Result}
 use Rattle.wrappers.specs.declared.way.Way.{Way}
 use Rattle.bot_machine.specs.declared.event.Event.{Event}

@@ -1,5 +1,6 @@
 -- A Bulk-In token while packets are left.
-use Rattle.std.proofs.Common.{◌≡◌, ℕ, ◌+◌, ◌-◌, ◌<◌, ◌≤◌, min, Bool, true, false, List, [], ◌∷◌, length, take, slice_range, refl, sym, ap, ◌∙◌, arith}
+use Rattle.std.proofs.Common.{◌≡◌, ℕ, ◌+◌, ◌-◌, ◌<◌, ◌≤◌, min, Bool, true, false, List, [], ◌∷◌, length, take, slice_range, refl, sym, ap}
+use Rattle.std.proofs.Common.{◌∙◌, arith}
 use Rattle.std.specs.Prelude.{None, Option}
 use Rattle.wrappers.specs.declared.case.Case.{Case}
 use Rattle.wrappers.specs.declared.case.Case.TheVariants.{C1, C2, C3, C4, C5, C6, C7, C8, C9, C10, C11, C12, C13}
@@ -13,17 +14,22 @@ use Rattle.bot_machine.proofs.Packets.{packets_of-range, packets_of-some, packet
 module _ (size : ℕ) (some : 0 < size) where
   -- packets that are left are sent one after another
   pub laid_out-some : (xs : List ℕ) (from to : ℕ) (halt : Option Endpoint) (status : List ℕ) (s : Line) → from < to → to ≤ length xs
-      → laid_out (packets_of size (slice_range xs from to)) halt status s ≡ record s { left = sending (packets_of size (slice_range xs from to)) halt status }
+      → laid_out (packets_of size (slice_range xs from to)) halt status s ≡ record s {
+        left = sending (packets_of size (slice_range xs from to)) halt status;
+      }
   laid_out-some xs from to halt status s h k =
       let e = packets_of-some size some xs from to h k in
       ap (λ p. laid_out p halt status s) e ∙ sym (ap (λ p. record s { left = sending p halt status }) e)
 
   -- what is laid out from the front of a buffer
-  pub laid_out-front : (xs : List ℕ) (bytes : ℕ) (halt : Option Endpoint) (is_in : Bool) (status : List ℕ) (s : Line) → 0 < bytes → bytes ≤ length xs → halt ≡ halt_of is_in
-      → record s { left = sending (packets_of size (slice_range xs 0 bytes)) (halt_of is_in) status } ≡ laid_out (packets_of size (take bytes xs)) halt status s
+  pub laid_out-front : (xs : List ℕ) (bytes : ℕ) (halt : Option Endpoint) (is_in : Bool) (status : List ℕ) (s : Line) → 0 < bytes
+      → bytes ≤ length xs → halt ≡ halt_of is_in
+      → record s { left = sending (packets_of size (slice_range xs 0 bytes)) (halt_of is_in) status }
+      ≡ laid_out (packets_of size (take bytes xs)) halt status s
   laid_out-front xs bytes halt is_in status s h k e =
       let same : bytes - 0 ≡ bytes = omega arith in
-      sym (laid_out-some xs 0 bytes (halt_of is_in) status s h k) ∙ ap (λ n. laid_out (packets_of size (take n xs)) (halt_of is_in) status s) same
+      sym (laid_out-some xs 0 bytes (halt_of is_in) status s h k)
+      ∙ ap (λ n. laid_out (packets_of size (take n xs)) (halt_of is_in) status s) same
       ∙ ap (λ p. laid_out (packets_of size (take bytes xs)) p status s) (sym e)
 
   pub laid_out-none : (xs : List ℕ) (bytes : ℕ) (halt : Option Endpoint) (status : List ℕ) (s : Line) → bytes ≤ 0
@@ -33,7 +39,8 @@ module _ (size : ℕ) (some : 0 < size) where
       ap (λ n. laid_out (packets_of size (take n xs)) halt status s) none ∙ ap (λ p. laid_out p halt status s) (packets_of-none size some)
 
   -- what a case sends is the front of what the unit gave
-  pub sent_in-size : (case : Case) (most : ℕ) (bytes : List ℕ) → sent_in size case (take most bytes) ≡ packets_of size (take (sent_size case most) bytes)
+  pub sent_in-size : (case : Case) (most : ℕ) (bytes : List ℕ)
+      → sent_in size case (take most bytes) ≡ packets_of size (take (sent_size case most) bytes)
   sent_in-size C1 most bytes = sym (packets_of-none size some)
   sent_in-size C2 most bytes = sym (packets_of-none size some)
   sent_in-size C3 most bytes = sym (packets_of-none size some)
@@ -57,19 +64,25 @@ module _ (size : ℕ) (some : 0 < size) (locked out_halted : Bool) (status : Lis
   halt_last false left = refl
 
   pub sent_more : (xs : List ℕ) (from to end : ℕ) (halt : Bool) → from < to → to ≤ length xs → end ≡ min to (from + size) → end < to
-      → after_in (open_to false (sending (packets_of size (slice_range xs from to)) (halt_of halt) status)) ≡ open_to false (sending (packets_of size (slice_range xs end to)) (halt_of halt) status)
+      → after_in (open_to false (sending (packets_of size (slice_range xs from to)) (halt_of halt) status))
+      ≡ open_to false (sending (packets_of size (slice_range xs end to)) (halt_of halt) status)
   sent_more xs from to end halt h k e more =
       ap (λ p. after_in (open_to false (sending p (halt_of halt) status))) (packets_of-range size some xs from to end h k e)
       ∙ laid_out-some size some xs end to (halt_of halt) status _ more k
 
   pub sent_last : (xs : List ℕ) (from to end : ℕ) (halt : Bool) → from < to → to ≤ length xs → end ≡ min to (from + size) → to ≤ end
-      → after_in (open_to false (sending (packets_of size (slice_range xs from to)) (halt_of halt) status)) ≡ open_to halt (sending [] None status)
+      → after_in (open_to false (sending (packets_of size (slice_range xs from to)) (halt_of halt) status))
+      ≡ open_to halt (sending [] None status)
   sent_last xs from to end halt h k e last =
       ap (λ p. after_in (open_to false (sending p (halt_of halt) status))) (packets_of-range size some xs from to end h k e)
-      ∙ ap (λ p. laid_out p (halt_of halt) status (open_to false (sending (slice_range xs from end ∷ packets_of size (slice_range xs end to)) (halt_of halt) status))) (packets_of-end size some xs end to last)
+      ∙ ap
+      (λ p. laid_out p (halt_of halt) status
+      (open_to false (sending (slice_range xs from end ∷ packets_of size (slice_range xs end to)) (halt_of halt) status)))
+      (packets_of-end size some xs end to last)
       ∙ halt_last halt _
 
   pub answer_sent : (xs : List ℕ) (from to end : ℕ) (halt : Bool) → from < to → to ≤ length xs → end ≡ min to (from + size)
-      → Data (record { items = slice_range xs from end }) ≡ in_answer (open_to false (sending (packets_of size (slice_range xs from to)) (halt_of halt) status))
+      → Data (record { items = slice_range xs from end })
+      ≡ in_answer (open_to false (sending (packets_of size (slice_range xs from to)) (halt_of halt) status))
   answer_sent xs from to end halt h k e =
       sym (ap (λ p. in_answer (open_to false (sending p (halt_of halt) status))) (packets_of-range size some xs from to end h k e))

@@ -1,5 +1,6 @@
 -- What a packet to Bulk-Out does, by whether it is halted and by what is left of the exchange.
-use Rattle.std.proofs.Common.{◌≡◌, ℕ, Bool, true, false, if◌then◌else◌, inl, inr, List, [], ◌∷◌, slice_range, refl, sym, subst, ap, ◌∙◌, arith}
+use Rattle.std.proofs.Common.{◌≡◌, ℕ, Bool, true, false, if◌then◌else◌, inl, inr, List, [], ◌∷◌, slice_range, refl, sym, subst, ap, ◌∙◌}
+use Rattle.std.proofs.Common.{arith}
 use Rattle.std.specs.Prelude.{None, Some, Option, Result}
 use Rattle.wrappers.specs.declared.case.Endpoint.{Endpoint}
 use Rattle.wrappers.specs.declared.case.Endpoint.TheVariants as endpoint
@@ -17,7 +18,8 @@ use Rattle.bot_machine.specs.declared.wire.Taking.{Taking}
 use Rattle.bot_machine.specs.declared.wire.Phase.{Phase}
 use Rattle.bot_machine.specs.declared.wire.Phase.TheVariants.{Command, DataOut, DataIn, Status}
 use Rattle.bot_machine.specs.Requests.{Request, mass_storage_reset, get_max_lun, clear_halt, get_status}
-use Rattle.bot_machine.specs.Exchange.{Script, finished, taking, sending, Line, laid_out, set_halt, in_answer, after_packet, after_in, after_request}
+use Rattle.bot_machine.specs.Exchange.{Script, finished, taking, sending, Line, laid_out, set_halt, in_answer, after_packet, after_in}
+use Rattle.bot_machine.specs.Exchange.{after_request}
 use Rattle.bot_machine.specs.Conversation.{OutStep, SetupStep}
 use Rattle.bot_machine.specs.Intentions.{Intends}
 use Rattle.bot_machine.specs.Acts.{PacketCarriesOut, write_of_packet}
@@ -104,12 +106,11 @@ not_ready m disk packet packets halt status sound halted left =
     })
 
 -- a packet where a command wrapper is expected
-pub begins : {M : Type 0} (before after : State) (old new : DiskValue M) (packet : List ℕ)
-    → false ≡ old.line.out_halted → finished ≡ old.line.left
-    → OpensOn before after old.unit new.unit old.line new.line packet
-    → RestsOn old.line.packet_size before old.unit new.unit finished packet → SparesOn old.line.packet_size before after old.unit new.unit new.line finished packet
-    → TakesFew before after old.unit new.unit → Elapses before after → unit_limit new.unit ≡ unit_limit old.unit
-    → new.line.packet_size ≡ old.line.packet_size
+pub begins : {M : Type 0} (before after : State) (old new : DiskValue M) (packet : List ℕ) → false ≡ old.line.out_halted
+    → finished ≡ old.line.left → OpensOn before after old.unit new.unit old.line new.line packet
+    → RestsOn old.line.packet_size before old.unit new.unit finished packet
+    → SparesOn old.line.packet_size before after old.unit new.unit new.line finished packet → TakesFew before after old.unit new.unit
+    → Elapses before after → unit_limit new.unit ≡ unit_limit old.unit → new.line.packet_size ≡ old.line.packet_size
     → IsStep before after old (event.Out (record { items = packet })) answer.Ack new
 begins before after old new packet halted left opens rests spares few elapses limit size =
     does_for before after old new packet answer.Ack false finished halted left (record {
@@ -168,7 +169,8 @@ ticked before after old new ticks line = record {
 }
 
 -- a token to Bulk-In, or a setup packet, leaves the size of a packet
-laid_out-size : (packets : List (List ℕ)) (halt : Option Endpoint) (status : List ℕ) (s : Line) → (laid_out packets halt status s).packet_size ≡ s.packet_size
+laid_out-size : (packets : List (List ℕ)) (halt : Option Endpoint) (status : List ℕ) (s : Line)
+    → (laid_out packets halt status s).packet_size ≡ s.packet_size
 laid_out-size [] None status s = refl
 laid_out-size [] (Some endpoint.In) status s = refl
 laid_out-size [] (Some endpoint.Out) status s = refl
@@ -187,7 +189,8 @@ after_in_size s = by_halt s.in_halted
     by_halt true = refl
     by_halt false = after_packet-size s.left s
 
-cleared_size : (locked : Bool) (endpoint : Endpoint) (s : Line) → (if locked then s else set_halt endpoint false s).packet_size ≡ s.packet_size
+cleared_size : (locked : Bool) (endpoint : Endpoint) (s : Line)
+    → (if locked then s else set_halt endpoint false s).packet_size ≡ s.packet_size
 cleared_size true endpoint s = refl
 cleared_size false endpoint.In s = refl
 cleared_size false endpoint.Out s = refl
@@ -240,8 +243,9 @@ sends (DataIn from to halt) command out size taken staging status =
 sends Status command out size taken staging status = ([], None, refl)
 
 -- a unit that comes to take no other data goes on with the phase
-pub still_in_phase : (limit : ℕ) (old new : List ℕ → Intent) → ((block : List ℕ) (n : ℕ) → new block ≡ intent.Out n → old block ≡ intent.Out n)
-    → (phase : Phase) → IsInPhase limit old phase → IsInPhase limit new phase
+pub still_in_phase : (limit : ℕ) (old new : List ℕ → Intent)
+    → ((block : List ℕ) (n : ℕ) → new block ≡ intent.Out n → old block ≡ intent.Out n) → (phase : Phase) → IsInPhase limit old phase
+    → IsInPhase limit new phase
 still_in_phase limit old new steady Command h = tt
 still_in_phase limit old new steady (DataOut t) h = record {
   is_case = h.is_case;

@@ -19,5 +19,10 @@ laid (packet ∷ packets) halt status s = (packet ∷ packets, halt, refl)
 pub tells : (answer : Result (List ℕ) Sense) (packets : List (List ℕ)) (halt : Option Endpoint) (tag residue : ℕ) (line s : Line)
     → line ≡ laid_out packets halt (status_wrapper tag residue (status_of_answer answer)) s → Tells answer line
 tells answer packets halt tag residue line s is =
-    let l = laid packets halt (status_wrapper tag residue (status_of_answer answer)) s in
-    (l.0, l.1, tag, residue, subst (λ (x : Line). x.left ≡ sending l.0 l.1 (status_wrapper tag residue (status_of_answer answer))) (sym is) l.2)
+    let l = laid packets halt (status_wrapper tag residue (status_of_answer answer)) s in (
+      l.0,
+      l.1,
+      tag,
+      residue,
+      subst (λ (x : Line). x.left ≡ sending l.0 l.1 (status_wrapper tag residue (status_of_answer answer))) (sym is) l.2,
+    )

@@ -1,5 +1,6 @@
 -- Transfers do not depend on the size of a packet.
-use Rattle.std.proofs.Common.{◌≡◌, ◌<◌, ◌≤◌, ◌-◌, ◌⊎◌, inl, inr, ⊎_elim, ℕ, zero, suc, Bool, true, false, List, [], ◌∷◌, ◌++◌, length, take, drop, map, refl, sym, ap, subst, ◌∙◌, arith, append_assoc, length-take, length-drop}
+use Rattle.std.proofs.Common.{◌≡◌, ◌<◌, ◌≤◌, ◌-◌, ◌⊎◌, inl, inr, ⊎_elim, ℕ, zero, suc, Bool, true, false, List, [], ◌∷◌, ◌++◌, length, take}
+use Rattle.std.proofs.Common.{drop, map, refl, sym, ap, subst, ◌∙◌, arith, append_assoc, length-take, length-drop}
 use Rattle.std.specs.Prelude.{Option, Some, None, Result, Ok, Err, All}
 use Rattle.std.proofs.lemmas.List.{take_all, drop_all, take-append-drop}
 use Rattle.std.proofs.lemmas.List.Elements.{All-head, All-tail}
@@ -21,12 +22,15 @@ use Rattle.bot_machine.specs.declared.event.Answer.{Answer}
 use Rattle.bot_machine.specs.declared.event.Answer.TheVariants.{Ack}
 use Rattle.bot_machine.specs.Packets.{packets_of}
 use Rattle.bot_machine.specs.Requests.{setup_packet, clear_halt}
-use Rattle.bot_machine.specs.Exchange.{Script, finished, taking, sending, Line, at_rest, laid_out, request_answer, after_request, Moment, at_once, after_data, never, moment_of, sent_in, outcome_for, status_for, told, told_at_once, case_if_failed}
+use Rattle.bot_machine.specs.Exchange.{Script, finished, taking, sending, Line, at_rest, laid_out, request_answer, after_request, Moment}
+use Rattle.bot_machine.specs.Exchange.{at_once, after_data, never, moment_of, sent_in, outcome_for, status_for, told, told_at_once}
+use Rattle.bot_machine.specs.Exchange.{case_if_failed}
 use Rattle.bot_machine.specs.Conversation.{Conversation, Begins, Opens, Takes, SetupStep}
 use Rattle.bot_machine.specs.Intentions.{Intends, way_of}
 use Rattle.bot_machine.specs.Acts.{write_of_packet}
 use Rattle.bot_machine.specs.Disk.{on_line}
-use Rattle.bot_machine.specs.Transfers.{Transfer, packet_out, Asks, events_of, packets_in, Heard, status_in, data_in, heard_in, IsTransferred, AreTransferred, SizesAreAlike}
+use Rattle.bot_machine.specs.Transfers.{Transfer, packet_out, Asks, events_of, packets_in, Heard, status_in, data_in, heard_in}
+use Rattle.bot_machine.specs.Transfers.{IsTransferred, AreTransferred, SizesAreAlike}
 use Rattle.bot_machine.proofs.Packets.{packets_of-more, packets_of-none}
 use Rattle.bot_machine.proofs.Cases.{at_once-takes_none}
 use Rattle.bot_machine.proofs.Filling.{last_packet}
@@ -127,7 +131,8 @@ asks_end : (size : ℕ) (asks : List Event) → All Asks asks → (answers : Lis
     → Ends left answers × (new.unit ≡ unit)
 asks_end size [] only [] i o l finished unit new run ends = (refl, ap (λ (c : Conversation UnitState). c.unit) run)
 asks_end size [] only [] i o l (taking case command intended bytes due) unit new run ends =
-    absurd (let e : taking case command intended bytes due ≡ finished = sym (ap (λ (c : Conversation UnitState). c.line.left) run) ∙ ends in cc)
+    absurd (let e : taking case command intended bytes due ≡ finished = sym (ap (λ (c : Conversation UnitState). c.line.left) run) ∙ ends in
+    cc)
 asks_end size [] only [] i o l (sending packets halt status) unit new run ends =
     absurd (let e : sending packets halt status ≡ finished = sym (ap (λ (c : Conversation UnitState). c.line.left) run) ∙ ends in cc)
 asks_end size [] only (a ∷ as_) i o l left unit new run ends = absurd run
@@ -152,15 +157,18 @@ asks_end size (event.In ∷ es) only (a ∷ as_) false o l (sending (packet ∷ 
     let later = asks_end size es (All-tail Asks event.In es only) as_ false o l (sending [] None status) unit new
     (subst (λ c. Untroubled c es as_ new) step.1 rest) ends in
     (ap (λ x. packets_in (x ∷ as_)) step.0 ∙ ap (λ p. packet ∷ p) later.0, later.1)
-asks_end size (event.In ∷ es) only (a ∷ as_) false o l (sending (packet ∷ []) (Some endpoint.In) status) unit new (mid, step, stamps, rest) ends =
+asks_end size (event.In ∷ es) only (a ∷ as_) false o l (sending (packet ∷ []) (Some endpoint.In) status) unit new (mid, step, stamps, rest)
+    ends =
     let later = asks_end size es (All-tail Asks event.In es only) as_ true o l (sending [] None status) unit new
     (subst (λ c. Untroubled c es as_ new) step.1 rest) ends in
     (ap (λ x. packets_in (x ∷ as_)) step.0 ∙ ap (λ p. packet ∷ p) later.0, later.1)
-asks_end size (event.In ∷ es) only (a ∷ as_) false o l (sending (packet ∷ []) (Some endpoint.Out) status) unit new (mid, step, stamps, rest) ends =
+asks_end size (event.In ∷ es) only (a ∷ as_) false o l (sending (packet ∷ []) (Some endpoint.Out) status) unit new (mid, step, stamps, rest)
+    ends =
     let later = asks_end size es (All-tail Asks event.In es only) as_ false true l (sending [] None status) unit new
     (subst (λ c. Untroubled c es as_ new) step.1 rest) ends in
     (ap (λ x. packets_in (x ∷ as_)) step.0 ∙ ap (λ p. packet ∷ p) later.0, later.1)
-asks_end size (event.In ∷ es) only (a ∷ as_) false o l (sending (packet ∷ next ∷ packets) halt status) unit new (mid, step, stamps, rest) ends =
+asks_end size (event.In ∷ es) only (a ∷ as_) false o l (sending (packet ∷ next ∷ packets) halt status) unit new (mid, step, stamps, rest)
+    ends =
     let later = asks_end size es (All-tail Asks event.In es only) as_ false o l (sending (next ∷ packets) halt status) unit new
     (subst (λ c. Untroubled c es as_ new) step.1 rest) ends in
     (ap (λ x. packets_in (x ∷ as_)) step.0 ∙ ap (λ p. packet ∷ p) later.0, later.1)
@@ -181,7 +189,8 @@ asks_end size (event.Tick ∷ es) only (a ∷ as_) i o l left unit new run ends 
 
 idle : (size : ℕ) (packets : List (List ℕ)) (asks : List Event) (answers : List Answer) (in_halted out_halted locked : Bool)
     (left : List (List ℕ)) (halt : Option Endpoint) (status : List ℕ) (unit : UnitState) (new : Conversation UnitState)
-    → Untroubled (on_line (line_at size in_halted out_halted locked (sending left halt status)) unit) (map packet_out packets ++ asks) answers new
+    → Untroubled (on_line (line_at size in_halted out_halted locked (sending left halt status)) unit) (map packet_out packets ++ asks)
+    answers new
     → (later : List Answer) × Untroubled (on_line (line_at size in_halted out_halted locked (sending left halt status)) unit) asks later new
     × (packets_in answers ≡ packets_in later)
 idle size [] asks answers i o l left halt status unit new run = (answers, run, refl)
@@ -219,7 +228,8 @@ sends_all size packets status sent asks only answers old new s run ends =
     let same = same_conversation old (on_line line old.unit) s.is refl in
     let later = idle size sent asks answers s.in_halted s.out_halted s.locked packets s.halt status old.unit new
     (subst (λ c. Untroubled c (map packet_out sent ++ asks) answers new) same run) in
-    let last = asks_end size asks only later.0 s.in_halted s.out_halted s.locked (sending packets s.halt status) old.unit new later.1 ends in
+    let last =
+    asks_end size asks only later.0 s.in_halted s.out_halted s.locked (sending packets s.halt status) old.unit new later.1 ends in
     (later.2 ∙ last.0, last.1)
 
 -- ---- what a command that was carried out tells
@@ -241,13 +251,15 @@ abbrev bytes_told : Case → Result (List ℕ) Sense → List ℕ
 bytes_told case (Ok bytes) = bytes_sent case bytes
 bytes_told case (Err fault) = []
 
-told_sends : (case : Case) (command : Cbw) (intended : Way) (answer : Result (List ℕ) Sense) (size : ℕ) (in_halted out_halted locked : Bool) (left : Script)
+told_sends : (case : Case) (command : Cbw) (intended : Way) (answer : Result (List ℕ) Sense) (size : ℕ) (in_halted out_halted locked : Bool)
+    (left : Script)
     → IsSending (told case command intended answer (line_at size in_halted out_halted locked left)) size (packets_told size case answer)
     (status_told case command intended answer)
 told_sends case command intended (Ok bytes) size i o l left =
     laid (sent_in size case bytes) (outcome_for case command intended).halt (status_for case command intended Passed) size i o l left
 told_sends case command intended (Err fault) size i o l left =
-    laid [] (outcome_for (case_if_failed case) command intended).halt (status_for (case_if_failed case) command intended Failed) size i o l left
+    laid [] (outcome_for (case_if_failed case) command intended).halt (status_for (case_if_failed case) command intended Failed) size i o l
+    left
 
 module _ (size : ℕ) (some : 0 < size) where
   sent_bytes : (case : Case) (bytes : List ℕ) → join (sent_in size case bytes) ≡ bytes_sent case bytes
@@ -319,24 +331,29 @@ module _ (size : ℕ) (some : 0 < size) where
         let behind : List ℕ = drop size rest in
         let events : List Event = map packet_out (packets_of size behind) ++ asks in
         let f = first came due packet events answers
-        (subst (λ (l : List (List ℕ)). Untroubled (takes_at came due) (map packet_out l ++ asks) answers new) (packets_of-more size rest some more) run) in
-        let whole : (came ++ packet) ++ behind ≡ came ++ rest
-        = append_assoc came packet behind ∙ ap (λ l. came ++ l) (take-append-drop size rest) in
+        (subst (λ (l : List (List ℕ)). Untroubled (takes_at came due) (map packet_out l ++ asks) answers new)
+        (packets_of-more size rest some more) run) in
+        let whole : (came ++ packet) ++ behind ≡ came ++ rest =
+        append_assoc came packet behind ∙ ap (λ l. came ++ l) (take-append-drop size rest) in
         elim f.takes [
           | inl m ↦
               let due_left : length behind ≡ due - size = omega (arith, is, length-drop size rest) in
-              let line = m.after ∙ ap (λ d. line_at size false false false (taking case command intended (taken_bytes (came ++ packet)) d)) (sym due_left) in
-              let at : f.mid ≡ takes_at (taken_bytes (came ++ packet)) (length behind) = same_conversation f.mid (takes_at (taken_bytes (came ++ packet)) (length behind)) line m.unit in
-              let t = all_taken n behind (taken_bytes (came ++ packet)) (length behind) f.later
-              (omega (arith, few, some, due_left, is)) (let h = m.more in omega (arith, h, due_left)) refl
+              let line = m.after
+              ∙ ap (λ d. line_at size false false false (taking case command intended (taken_bytes (came ++ packet)) d))
+              (sym due_left) in
+              let at : f.mid ≡ takes_at (taken_bytes (came ++ packet)) (length behind) =
+              same_conversation f.mid (takes_at (taken_bytes (came ++ packet)) (length behind)) line m.unit in
+              let t = all_taken n behind (taken_bytes (came ++ packet)) (length behind) f.later (omega (arith, few, some, due_left, is))
+              (let h = m.more in omega (arith, h, due_left)) refl
               (subst (λ (c : Conversation UnitState). Untroubled c events f.later new) at f.run) in
-              let bytes : taken_bytes (taken_bytes (came ++ packet) ++ behind) ≡ taken_bytes (came ++ rest)
-              = front_first (size_of_way intended) (came ++ packet) behind ∙ ap taken_bytes whole in
+              let bytes : taken_bytes (taken_bytes (came ++ packet) ++ behind) ≡ taken_bytes (came ++ rest) =
+              front_first (size_of_way intended) (came ++ packet) behind ∙ ap taken_bytes whole in
               record {
                 answer = t.answer;
                 after = t.after;
                 effect = subst (λ (l : List ℕ). CarriesOut false command.block.items l unit t.answer t.after) bytes t.effect;
-                stamps = subst (λ (l : List ℕ). ¬ StampsOut (with_progress unit.book (write_in_progress unit command.block.items l))) bytes t.stamps;
+                stamps = subst (λ (l : List ℕ). ¬ StampsOut (with_progress unit.book (write_in_progress unit command.block.items l))) bytes
+                    t.stamps;
                 left = t.left;
                 later = t.later;
                 same = f.same ∙ t.same;
@@ -349,14 +366,19 @@ module _ (size : ℕ) (some : 0 < size) where
                 let none : behind ≡ [] = drop_all size rest last in
                 let bytes : taken_bytes (came ++ packet) ≡ taken_bytes (came ++ rest) = ap (λ p. taken_bytes (came ++ p)) all in
                 let done = l.carried_out in
-                let wrote = last_packet size (length packet) due (write_in_progress unit command.block.items (taken_bytes (came ++ packet))) None l.size l.last in
+                let wrote = last_packet size (length packet) due (write_in_progress unit command.block.items (taken_bytes (came ++ packet)))
+                None l.size l.last in
                 let at = same_conversation f.mid
-                (on_line (told case command intended done.answer (line_at size false false false (taking case command intended came due))) f.mid.unit) done.after refl in
+                (on_line
+                (told case command intended done.answer (line_at size false false false (taking case command intended came due)))
+                f.mid.unit)
+                done.after refl in
                 record {
                   answer = done.answer;
                   after = f.mid.unit;
                   effect = subst (λ (p : List ℕ). CarriesOut false command.block.items p unit done.answer f.mid.unit) bytes done.effect;
-                  stamps = subst (λ (p : List ℕ). ¬ StampsOut (with_progress unit.book (write_in_progress unit command.block.items p))) bytes
+                  stamps =
+                      subst (λ (p : List ℕ). ¬ StampsOut (with_progress unit.book (write_in_progress unit command.block.items p))) bytes
                       (subst (λ w. ¬ StampsOut (with_progress unit.book w)) (sym wrote) f.stamps);
                   left = taking case command intended came due;
                   later = f.later;
@@ -380,7 +402,8 @@ record CarriedOut (case : Case) (command : Cbw) (intended : Way) (bytes : List �
 
 abbrev Outcome : Moment → Case → Cbw → Way → List ℕ → UnitState → UnitState → Heard → Type 0
 Outcome at_once case command intended sent old new heard = CarriedOut case command intended [] old new heard
-Outcome after_data case command intended sent old new heard = CarriedOut case command intended (take (size_of_way intended) sent) old new heard
+Outcome after_data case command intended sent old new heard =
+    CarriedOut case command intended (take (size_of_way intended) sent) old new heard
 Outcome never case command intended sent old new heard =
     (new ≡ old) × (heard ≡ record { bytes = []; status = status_for case command intended PhaseError })
 
@@ -390,13 +413,16 @@ one_carried_out : (case : Case) (command : Cbw) (intended : Way) (bytes : List �
 one_carried_out case command intended bytes old new last heard again a b =
     let same = one_answer command.block.items bytes old new last a.answer b.answer a.stamps a.effect b.effect in (
       same.1,
-      a.heard_is ∙ ap (λ (r : Result (List ℕ) Sense). record { bytes = bytes_told case r; status = status_told case command intended r }) same.0 ∙ sym b.heard_is,
+      a.heard_is
+          ∙ ap (λ (r : Result (List ℕ) Sense). record { bytes = bytes_told case r; status = status_told case command intended r }) same.0
+          ∙ sym b.heard_is,
     )
 
-one_outcome : (moment : Moment) (case : Case) (command : Cbw) (intended : Way) (sent : List ℕ) (old new last : UnitState) (heard again : Heard)
-    → Outcome moment case command intended sent old new heard → Outcome moment case command intended sent old last again
-    → (new ≡ last) × (heard ≡ again)
-one_outcome at_once case command intended sent old new last heard again a b = one_carried_out case command intended [] old new last heard again a b
+one_outcome : (moment : Moment) (case : Case) (command : Cbw) (intended : Way) (sent : List ℕ) (old new last : UnitState)
+    (heard again : Heard) → Outcome moment case command intended sent old new heard
+    → Outcome moment case command intended sent old last again → (new ≡ last) × (heard ≡ again)
+one_outcome at_once case command intended sent old new last heard again a b =
+    one_carried_out case command intended [] old new last heard again a b
 one_outcome after_data case command intended sent old new last heard again a b =
     one_carried_out case command intended (take (size_of_way intended) sent) old new last heard again a b
 one_outcome never case command intended sent old new last heard again a b = (a.0 ∙ sym b.0, a.1 ∙ sym b.1)
@@ -410,8 +436,10 @@ record Opened (size : ℕ) (wrapper : List ℕ) (old new : UnitState) (events : 
   stamps : ¬ StampsOut old.book
   run : Untroubled mid events later (on_line (at_rest size) new)
 
-opened : (size : ℕ) (wrapper : List ℕ) (command : Cbw) → SpellsCommand wrapper command → (old new : UnitState) (events : List Event) (answers : List Answer)
-    → Untroubled (on_line (at_rest size) old) (packet_out wrapper ∷ events) answers (on_line (at_rest size) new) → Opened size wrapper old new events answers
+opened : (size : ℕ) (wrapper : List ℕ) (command : Cbw) → SpellsCommand wrapper command
+    → (old new : UnitState) (events : List Event) (answers : List Answer)
+    → Untroubled (on_line (at_rest size) old) (packet_out wrapper ∷ events) answers (on_line (at_rest size) new)
+    → Opened size wrapper old new events answers
 opened size wrapper command spelled old new events [] run = absurd run
 opened size wrapper command spelled old new events (a ∷ as_) (mid, (ack, inl opens), stamps, rest) = record {
   mid = mid;
@@ -424,10 +452,11 @@ opened size wrapper command spelled old new events (a ∷ as_) (mid, (ack, inl o
 opened size wrapper command spelled old new events (a ∷ as_) (mid, (ack, inr locks), stamps, rest) = absurd (locks.unknown command spelled)
 
 module _ (size : ℕ) (some : 0 < size) (command : Cbw) (sent : List ℕ) (announced : (sent ≡ []) ⊎ (length sent ≡ size_of_way command.host))
-    (old new : UnitState) (asks : List Event) (only : All Asks asks) (answers : List Answer) (heard : Heard) (heard_is : heard ≡ heard_in answers)
-    (mid : Conversation UnitState) (later : List Answer) (same : packets_in answers ≡ packets_in later) (stamps : ¬ StampsOut old.book)
-    (run : Untroubled mid (map packet_out (packets_of size sent) ++ asks) later (on_line (at_rest size) new))
-    (case : Case) (intended : Way) (intends : Intends old command.block.items intended) (is_case : IsCase case command.host intended) where
+    (old new : UnitState) (asks : List Event) (only : All Asks asks) (answers : List Answer) (heard : Heard)
+    (heard_is : heard ≡ heard_in answers) (mid : Conversation UnitState) (later : List Answer)
+    (same : packets_in answers ≡ packets_in later) (stamps : ¬ StampsOut old.book)
+    (run : Untroubled mid (map packet_out (packets_of size sent) ++ asks) later (on_line (at_rest size) new)) (case : Case) (intended : Way)
+    (intends : Intends old command.block.items intended) (is_case : IsCase case command.host intended) where
   abbrev end : Conversation UnitState
   end = on_line (at_rest size) new
 
@@ -439,7 +468,8 @@ module _ (size : ℕ) (some : 0 < size) (command : Cbw) (sent : List ℕ) (annou
       (asks_end size asks only later false false false (taking case command intended [] due) old end
       (subst (λ (c : Conversation UnitState). Untroubled c asks later end) at asked) refl).0
 
-  took : (due : ℕ) → length sent ≡ due → 0 < length sent → mid ≡ on_line (line_at size false false false (taking case command intended [] due)) old
+  took : (due : ℕ) → length sent ≡ due → 0 < length sent
+      → mid ≡ on_line (line_at size false false false (taking case command intended [] due)) old
       → Outcome after_data case command intended sent old new heard
   took due whole more at =
       let t = all_taken size some case command intended old asks end (length sent) sent [] due later (omega arith) more whole
@@ -449,9 +479,11 @@ module _ (size : ℕ) (some : 0 < size) (command : Cbw) (sent : List ℕ) (annou
       (on_line (told case command intended t.answer (line_at size false false false t.left)) t.after) end sends t.run refl in
       record {
         answer = t.answer;
-        effect = subst (λ (u : UnitState). CarriesOut false command.block.items (take (size_of_way intended) sent) old t.answer u) (sym last.1) t.effect;
+        effect = subst (λ (u : UnitState). CarriesOut false command.block.items (take (size_of_way intended) sent) old t.answer u)
+            (sym last.1) t.effect;
         stamps = t.stamps;
-        heard_is = heard_is ∙ heard_so answers (packets_told size case t.answer) (status_told case command intended t.answer) (bytes_told case t.answer)
+        heard_is = heard_is
+            ∙ heard_so answers (packets_told size case t.answer) (status_told case command intended t.answer) (bytes_told case t.answer)
             (same ∙ t.same ∙ last.0) (told_bytes size some case t.answer);
       }
 
@@ -461,17 +493,19 @@ module _ (size : ℕ) (some : 0 < size) (command : Cbw) (sent : List ℕ) (annou
   outcome at_once is begins =
       let sends = told_sends case command intended begins.answer size false false false finished in
       let at = same_conversation mid (on_line (told case command intended begins.answer (at_rest size)) mid.unit) begins.after refl in
-      let last = sends_all size (packets_told size case begins.answer) (status_told case command intended begins.answer) (packets_of size sent) asks only later
-      (on_line (told case command intended begins.answer (at_rest size)) mid.unit) end sends
+      let last = sends_all size (packets_told size case begins.answer) (status_told case command intended begins.answer)
+      (packets_of size sent) asks only later (on_line (told case command intended begins.answer (at_rest size)) mid.unit) end sends
       (subst (λ (c : Conversation UnitState). Untroubled c (map packet_out (packets_of size sent) ++ asks) later end) at run) refl in
-      let none : write_in_progress old command.block.items [] ≡ None
-      = writes_none old command.block.items [] (λ n out. at_once-takes_none case command.host intended is_case (sym is) n (intends ∙ ap way_of out)) in
+      let none : write_in_progress old command.block.items [] ≡ None =
+      writes_none old command.block.items []
+      (λ n out. at_once-takes_none case command.host intended is_case (sym is) n (intends ∙ ap way_of out)) in
       record {
         answer = begins.answer;
         effect = subst (λ (u : UnitState). CarriesOut false command.block.items [] old begins.answer u) (sym last.1) begins.effect;
         stamps = subst (λ w. ¬ StampsOut (with_progress old.book w)) (sym none) stamps;
-        heard_is = heard_is ∙ heard_so answers (packets_told size case begins.answer) (status_told case command intended begins.answer) (bytes_told case begins.answer)
-            (same ∙ last.0) (told_bytes size some case begins.answer);
+        heard_is = heard_is
+            ∙ heard_so answers (packets_told size case begins.answer) (status_told case command intended begins.answer)
+            (bytes_told case begins.answer) (same ∙ last.0) (told_bytes size some case begins.answer);
       }
   outcome never is begins =
       let status : List ℕ = status_for case command intended PhaseError in
@@ -484,33 +518,44 @@ module _ (size : ℕ) (some : 0 < size) (command : Cbw) (sent : List ℕ) (annou
   outcome after_data is begins = by_data sent refl
     where
       by_data : (bytes : List ℕ) → sent ≡ bytes → Outcome after_data case command intended sent old new heard
-      by_data [] is_none = absurd (no_data (size_of_way command.host) is_none
-          (same_conversation mid (on_line (line_at size false false false (taking case command intended [] (size_of_way command.host))) old) begins.1 begins.0))
+      by_data [] is_none =
+          absurd (no_data (size_of_way command.host) is_none
+          (same_conversation mid
+          (on_line (line_at size false false false (taking case command intended [] (size_of_way command.host))) old) begins.1
+          begins.0))
       by_data (byte ∷ bytes) is_some =
           let long : length sent ≡ suc (length bytes) = ap length is_some in
-          let whole : length sent ≡ size_of_way command.host = ⊎_elim (λ none. absurd (let e = sym none ∙ is_some in cc)) (λ all. all) announced in
+          let whole : length sent ≡ size_of_way command.host =
+          ⊎_elim (λ none. absurd (let e = sym none ∙ is_some in cc)) (λ all. all) announced in
           took (size_of_way command.host) whole (omega (arith, long))
-          (same_conversation mid (on_line (line_at size false false false (taking case command intended [] (size_of_way command.host))) old) begins.1 begins.0)
+          (same_conversation mid
+          (on_line (line_at size false false false (taking case command intended [] (size_of_way command.host))) old) begins.1
+          begins.0)
 
 -- ---- transfers at two sizes
 
 one_transfer : (size other : ℕ) → 0 < size → 0 < other → (t : Transfer) (old new last : UnitState) (heard again : Heard)
     → IsTransferred size t old new heard → IsTransferred other t old last again → (new ≡ last) × (heard ≡ again)
 one_transfer size other some more t old new last heard again a b =
-    let run = untroubled (on_line (at_rest size) old) (events_of size t a.asks) a.answers a.refusals (on_line (at_rest size) new) a.run a.untroubled in
-    let rerun = untroubled (on_line (at_rest other) old) (events_of other t b.asks) b.answers b.refusals (on_line (at_rest other) last) b.run b.untroubled in
+    let run = untroubled (on_line (at_rest size) old) (events_of size t a.asks) a.answers a.refusals (on_line (at_rest size) new) a.run
+    a.untroubled in
+    let rerun = untroubled (on_line (at_rest other) old) (events_of other t b.asks) b.answers b.refusals (on_line (at_rest other) last)
+    b.run b.untroubled in
     let o = opened size t.wrapper t.command t.spelled old new (map packet_out (packets_of size t.sent) ++ a.asks) a.answers run in
     let p = opened other t.wrapper t.command t.spelled old last (map packet_out (packets_of other t.sent) ++ b.asks) b.answers rerun in
     let case = o.opens.case in
     let intended = o.opens.intended in
     let same = one_wrapper t.wrapper o.opens.command t.command o.opens.spelled t.spelled in
-    let intends : Intends old t.command.block.items intended = subst (λ (c : Cbw). Intends old c.block.items intended) same o.opens.intends in
+    let intends : Intends old t.command.block.items intended =
+    subst (λ (c : Cbw). Intends old c.block.items intended) same o.opens.intends in
     let is_case : IsCase case t.command.host intended = subst (λ (c : Cbw). IsCase case c.host intended) same o.opens.is_case in
     one_outcome (moment_of case) case t.command intended t.sent old new last heard again
-    (outcome size some t.command t.sent t.announced old new a.asks a.only a.answers heard a.heard_is o.mid o.later o.same o.stamps o.run case intended intends is_case
-    (moment_of case) refl (opens_as t.wrapper (on_line (at_rest size) old) o.mid t.command intended case t.spelled intends is_case o.opens))
-    (outcome other more t.command t.sent t.announced old last b.asks b.only b.answers again b.heard_is p.mid p.later p.same p.stamps p.run case intended intends is_case
-    (moment_of case) refl (opens_as t.wrapper (on_line (at_rest other) old) p.mid t.command intended case t.spelled intends is_case p.opens))
+    (outcome size some t.command t.sent t.announced old new a.asks a.only a.answers heard a.heard_is o.mid o.later o.same o.stamps o.run
+    case intended intends is_case (moment_of case) refl
+    (opens_as t.wrapper (on_line (at_rest size) old) o.mid t.command intended case t.spelled intends is_case o.opens))
+    (outcome other more t.command t.sent t.announced old last b.asks b.only b.answers again b.heard_is p.mid p.later p.same p.stamps
+    p.run case intended intends is_case (moment_of case) refl
+    (opens_as t.wrapper (on_line (at_rest other) old) p.mid t.command intended case t.spelled intends is_case p.opens))
 
 pub sizes_alike : SizesAreAlike
 sizes_alike size other some more [] old new last [] [] a b = (a ∙ sym b, refl)

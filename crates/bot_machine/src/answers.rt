@@ -1,4 +1,4 @@
-// The answers to events.
+//! The answers to events.
 ghost use Rattle.std.specs.Prelude.{◌≡◌, ◌<◌, [], ◌∷◌, ◌++◌, length, IfSome};
 
 use crate::event::Answer;
@@ -38,7 +38,7 @@ impl Answers {
         self.list.as_slice()
     }
 
-    // Appends an answer.
+    /// Appends an answer.
     pub(crate) fn push(&mut self, answer: Answer)
         requires { length self.old.list < self.old.room }
         ensures { self.new ≡ record self.old { list = self.old.list ++ answer ∷ [] } }

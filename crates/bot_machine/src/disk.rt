@@ -1,4 +1,4 @@
-// A disk: the transport over a logical unit.
+//! A disk: the transport over a logical unit.
 ghost use Rattle.std.specs.Prelude.{⊤, ◌↔◌, ◌≡◌, ◌⊎◌, ◌≤◌, ◌<◌, ℕ, false, true, length};
 ghost use Rattle.std.specs.Prelude.{IsTrue, IfOk, IfErr, MatchResult};
 ghost use Rattle.std.specs.Borrow.{sem, follows_so};
@@ -30,7 +30,6 @@ use medium::{Medium, Outlet, Switch};
 use scsi_unit::{Identity, StartError, StartFault, Unit};
 use std::alloc::Global;
 use std::marker::Model;
-use std::mem;
 
 /// A disk over a medium.
 #[derive(Drop)]
@@ -216,26 +215,22 @@ impl<M: Medium> Disk<M> {
         if self.wire.out_halted {
             return OutAnswer::Stall;
         }
-        match mem::replace(&mut self.wire.phase, Phase::Command) {
+        match self.wire.phase {
             Phase::Command => {
                 open(&mut self.unit, &mut self.wire, &mut self.staging, packet);
                 OutAnswer::Ack
             }
-            Phase::DataOut(data) => {
+            Phase::DataOut(_) => {
                 take_data(
                     &mut self.unit,
                     &mut self.wire,
                     &mut self.taken,
                     &mut self.staging,
                     packet,
-                    data,
                 );
                 OutAnswer::Ack
             }
-            phase => {
-                self.wire.phase = phase;
-                OutAnswer::Nak
-            }
+            _ => OutAnswer::Nak,
         }
     }
 

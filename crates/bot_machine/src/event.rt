@@ -1,4 +1,4 @@
-// What happens to a disk, and what it answers.
+//! What happens to a disk, and what it answers.
 use arrayvec::ArrayVec;
 
 /// What happens to a disk.

@@ -1,4 +1,4 @@
-// The exchange of one command, as its wrapper began it.
+//! The exchange of one command, as its wrapper began it.
 ghost use Rattle.std.specs.Prelude.{◌≡◌, ◌≤◌};
 ghost use Rattle.bot_machine.specs.Exchange.{moment_of, case_if_failed};
 ghost use Rattle.bot_machine.specs.Intentions.{way_of};
@@ -26,7 +26,7 @@ pub(crate) enum When {
     Never,
 }
 
-// When the command of a case is carried out.
+/// When the command of a case is carried out.
 pub(crate) fn when_carried_out(case: Case) -> When
     ensures { moment_meant result ≡ moment_of case }
 {
@@ -37,7 +37,7 @@ pub(crate) fn when_carried_out(case: Case) -> When
     }
 }
 
-// The case that a command goes on as that failed when it was carried out.
+/// The case that a command goes on as that failed when it was carried out.
 pub(crate) fn after_failure(case: Case) -> Case
     ensures { result ≡ case_if_failed case }
 {
@@ -47,7 +47,7 @@ pub(crate) fn after_failure(case: Case) -> Case
     }
 }
 
-// How many of the bytes that a good command gave are sent.
+/// How many of the bytes that a good command gave are sent.
 pub(crate) fn size_sent(case: Case, size: usize) -> usize
     ensures is { result ≡ sent_size case size }
     ensures most { result ≤ size }
@@ -58,7 +58,7 @@ pub(crate) fn size_sent(case: Case, size: usize) -> usize
     }
 }
 
-// What is intended, as a direction and a number of bytes. A refused command intends nothing.
+/// What is intended, as a direction and a number of bytes. A refused command intends nothing.
 pub(crate) fn way_of_intent(intent: Intent) -> Way
     ensures { result ≡ way_of intent }
 {

@@ -1,4 +1,4 @@
-// A life of a disk.
+//! A life of a disk.
 use crate::event::Event;
 use medium::Kept;
 

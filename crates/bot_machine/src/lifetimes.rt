@@ -1,4 +1,4 @@
-// Whole lives of a disk, one after the other.
+//! Whole lives of a disk, one after the other.
 ghost use Rattle.std.specs.Prelude.{◌≡◌, ◌≤◌, ◌+◌, [], ◌∷◌, ◌++◌, None, List, length, map};
 ghost use Rattle.std.specs.Prelude.{OnOk, OnErr, IfOk, IfErr, MatchOption};
 ghost use Rattle.medium.specs.Sim.{IsFused};

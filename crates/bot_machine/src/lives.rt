@@ -1,4 +1,4 @@
-// Lives of a disk over a medium in memory.
+//! Lives of a disk over a medium in memory.
 ghost use Rattle.std.specs.Prelude.{◌≡◌, ◌<◌, ◌↔◌, ℕ, [], ◌∷◌, None, true, false, OnOk, IfOk, IfErr};
 ghost use Rattle.medium.specs.Sim.{state_of, IsCut, IsFused, IsFailing, ComesAfter};
 ghost use Rattle.medium.specs.Writes.{keeps};
@@ -179,7 +179,7 @@ impl Lives {
         Ok(self.play(event))
     }
 
-    // Plays an event on a disk that was started.
+    /// Plays an event on a disk that was started.
     pub(crate) fn play(&mut self, event: &Event) -> Answer
         requires started { HasStarted self.old.stage }
         requires within { IsWithin self.old.device.packet_size event.now }

@@ -1,4 +1,4 @@
-// Control requests (Bulk-Only Transport 1.0, 3; USB 2.0, 9.4).
+//! Control requests (Bulk-Only Transport 1.0, 3; USB 2.0, 9.4).
 ghost use Rattle.std.specs.Prelude.{◌≡◌, ◌≢◌, MatchOption};
 ghost use Rattle.bot_machine.specs.Refinement.{request_meant};
 ghost use Rattle.bot_machine.specs.Requests.{Request, setup_packet};
@@ -14,7 +14,7 @@ pub(crate) enum ControlRequest {
     GetStatus(Endpoint),
 }
 
-// The request that a setup packet spells, if it spells one.
+/// The request that a setup packet spells, if it spells one.
 pub(crate) fn read_request(packet: [u8; 8]) -> Option<ControlRequest>
     ensures { MatchOption result ((request : Request) → packet ≢ setup_packet request)
         (λ request. packet ≡ setup_packet (request_meant request)) }

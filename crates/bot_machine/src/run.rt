@@ -1,4 +1,4 @@
-// Events played on a disk.
+//! Events played on a disk.
 ghost use Rattle.std.specs.Prelude.{◌≡◌, ◌≢◌, ◌≤◌, ◌+◌, ◌++◌, List, length};
 ghost use Rattle.bot_machine.specs.Disk.{IsStep, IsRun};
 ghost use Rattle.bot_machine.specs.Fitting.{IsWithin, AreWithin};

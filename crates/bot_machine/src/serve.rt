@@ -1,7 +1,7 @@
-// What the disk does with a packet to Bulk-Out.
-ghost use Rattle.std.specs.Prelude.{◌≡◌, ◌≤◌, ◌<◌, ◌+◌, ◌*◌, ◌++◌, ℕ, List, Result, MatchOption};
+//! What the disk does with a packet to Bulk-Out.
+ghost use Rattle.std.specs.Prelude.{◌≡◌, ◌≤◌, ◌<◌, ◌+◌, ◌-◌, ◌*◌, ◌++◌, ℕ, List, Result, MatchOption};
 ghost use Rattle.std.specs.Prelude.{length, min, take};
-ghost use Rattle.wrappers.specs.Cases.{IsCase};
+ghost use Rattle.wrappers.specs.Cases.{IsCase, size_of_way};
 ghost use Rattle.wrappers.specs.Command.{SpellsNone};
 ghost use Rattle.wrappers.specs.declared.way.Way.TheVariants as ways;
 ghost use Rattle.scsi_unit.specs.Rules.{Sense};
@@ -25,6 +25,7 @@ use crate::exchange::{Exchange, When, after_failure, size_sent, way_of_intent, w
 use crate::wire::{Phase, Taking, Wire};
 use medium::Medium;
 use scsi_unit::{Intent, Unit};
+use std::mem;
 use wrappers::{Status, case_of, read_cbw, write_csw};
 
 // Carries out the command of an exchange over the bytes taken, and lays out what is sent.
@@ -80,7 +81,9 @@ fn read_exchange<M: Medium>(unit: &Unit<M>, packet: &[u8]) -> Option<Exchange>
     })
 }
 
-// Takes a packet where a command wrapper is expected.
+/// Takes a packet where a command wrapper is expected. It stands apart so that packets of data are
+/// short.
+#[inline(never)]
 pub(crate) fn open<M: Medium>(
     unit: &mut Unit<M>,
     wire: &mut Wire,
@@ -123,26 +126,30 @@ pub(crate) fn open<M: Medium>(
     }
 }
 
-// Takes a packet where data is expected. The intended bytes that came already are the first ones of
-// `taken`.
+/// Takes a packet where data is expected. The intended bytes that came already are the first ones of
+/// `taken`. Where more data is due behind the packet, what is pending changes in its place, since a
+/// long transfer is made of such packets.
 pub(crate) fn take_data<M: Medium>(
     unit: &mut Unit<M>,
     wire: &mut Wire,
     taken: &mut [u8],
     staging: &mut [u8],
     packet: &[u8],
-    pending: Taking,
 )
     requires taken { length taken.old ≡ 512 * unit_limit unit.old }
     requires room { length staging.old ≡ 512 * unit_limit unit.old }
-    requires taking { IsTaking (unit_limit unit.old) (intention_of unit.old) pending }
-    ensures takes { (left : Script) → TakesOn
+    requires taking { (pending : Taking) × (wire.old.phase ≡ Phase.DataOut pending)
+        × IsTaking (unit_limit unit.old) (intention_of unit.old) pending }
+    ensures takes { (pending : Taking) → wire.old.phase ≡ Phase.DataOut pending
+        → (left : Script) → TakesOn
         (M.state unit.old.store.medium) (M.state unit.new.store.medium) unit.old unit.new
         (line_with wire.old left) (line_of wire.new taken.new staging.new)
         pending taken.old packet.now }
-    ensures rests { RestsOn (bytes_of wire.old.size) (M.state unit.old.store.medium) unit.old unit.new
+    ensures rests { (pending : Taking) → wire.old.phase ≡ Phase.DataOut pending
+        → RestsOn (bytes_of wire.old.size) (M.state unit.old.store.medium) unit.old unit.new
         (taking_of pending taken.old) packet.now }
-    ensures spares { SparesOn (bytes_of wire.old.size)
+    ensures spares { (pending : Taking) → wire.old.phase ≡ Phase.DataOut pending
+        → SparesOn (bytes_of wire.old.size)
         (M.state unit.old.store.medium) (M.state unit.new.store.medium) unit.old unit.new
         (line_of wire.new taken.new staging.new) (taking_of pending taken.old) packet.now }
     ensures phase { IsInPhase (unit_limit unit.new) (intention_of unit.new) wire.new.phase }
@@ -153,9 +160,78 @@ pub(crate) fn take_data<M: Medium>(
     ensures elapses { Elapses (M.state unit.old.store.medium) (M.state unit.new.store.medium) }
     ensures follows { M.follows unit.old.store.medium unit.new.store.medium }
 {
+    let Phase::DataOut(pending) = &mut wire.phase else {
+        unreachable!()
+    };
+    let most = wire.size.bytes();
+    if pending.due > most && packet.len() == most as usize {
+        take_more(pending, taken, packet, most);
+        return;
+    }
+    end_data(unit, wire, taken, staging, packet);
+}
+
+// Takes a packet of the greatest size, behind which more data is due.
+fn take_more(pending: &mut Taking, taken: &mut [u8], packet: &[u8], most: u32)
+    requires whole { length packet.now ≡ most }
+    requires more { most < pending.old.due }
+    requires before { pending.old.filled ≤ size_of_way pending.old.exchange.intended }
+    requires room { size_of_way pending.old.exchange.intended ≤ length taken.old }
+    ensures exchange { pending.new.exchange ≡ pending.old.exchange }
+    ensures due { pending.new.due ≡ pending.old.due - most }
+    ensures filled { pending.new.filled ≡ min (size_of_way pending.old.exchange.intended)
+        (pending.old.filled + length packet.now) }
+    ensures bytes { take pending.new.filled taken.new
+        ≡ take (size_of_way pending.old.exchange.intended)
+        (take pending.old.filled taken.old ++ packet.now) }
+{
+    let size = pending.exchange.intended.size() as usize;
+    pending.due -= most;
+    fill(taken, &mut pending.filled, packet, size);
+}
+
+// Takes a packet that ends the data, or has a wrong size. It stands apart so that the others of a
+// transfer are short.
+#[inline(never)]
+fn end_data<M: Medium>(
+    unit: &mut Unit<M>,
+    wire: &mut Wire,
+    taken: &mut [u8],
+    staging: &mut [u8],
+    packet: &[u8],
+)
+    requires taken { length taken.old ≡ 512 * unit_limit unit.old }
+    requires room { length staging.old ≡ 512 * unit_limit unit.old }
+    requires taking { (pending : Taking) × (wire.old.phase ≡ Phase.DataOut pending)
+        × IsTaking (unit_limit unit.old) (intention_of unit.old) pending }
+    requires ends { (pending : Taking) → wire.old.phase ≡ Phase.DataOut pending
+        → length packet.now ≡ bytes_of wire.old.size → pending.due ≤ bytes_of wire.old.size }
+    ensures takes { (pending : Taking) → wire.old.phase ≡ Phase.DataOut pending
+        → (left : Script) → TakesOn
+        (M.state unit.old.store.medium) (M.state unit.new.store.medium) unit.old unit.new
+        (line_with wire.old left) (line_of wire.new taken.new staging.new)
+        pending taken.old packet.now }
+    ensures rests { (pending : Taking) → wire.old.phase ≡ Phase.DataOut pending
+        → RestsOn (bytes_of wire.old.size) (M.state unit.old.store.medium) unit.old unit.new
+        (taking_of pending taken.old) packet.now }
+    ensures spares { (pending : Taking) → wire.old.phase ≡ Phase.DataOut pending
+        → SparesOn (bytes_of wire.old.size)
+        (M.state unit.old.store.medium) (M.state unit.new.store.medium) unit.old unit.new
+        (line_of wire.new taken.new staging.new) (taking_of pending taken.old) packet.now }
+    ensures phase { IsInPhase (unit_limit unit.new) (intention_of unit.new) wire.new.phase }
+    ensures limit { unit_limit unit.new ≡ unit_limit unit.old }
+    ensures size { wire.new.size ≡ wire.old.size }
+    ensures few { TakesFew (M.state unit.old.store.medium) (M.state unit.new.store.medium)
+        unit.old unit.new }
+    ensures elapses { Elapses (M.state unit.old.store.medium) (M.state unit.new.store.medium) }
+    ensures follows { M.follows unit.old.store.medium unit.new.store.medium }
+{
+    let Phase::DataOut(pending) = mem::replace(&mut wire.phase, Phase::Command) else {
+        unreachable!()
+    };
     let Taking {
         exchange,
-        filled,
+        mut filled,
         due,
     } = pending;
     let most = wire.size.bytes();
@@ -164,26 +240,26 @@ pub(crate) fn take_data<M: Medium>(
         wire.lay_out(0, None, status);
         return;
     }
-    let filled = fill(taken, filled, packet, exchange.intended.size() as usize);
-    if due > most {
-        wire.phase = Phase::DataOut(Taking {
-            exchange,
-            filled,
-            due: due - most,
-        });
-    } else {
-        carry_out(unit, wire, staging, &exchange, &taken[..filled]);
-    }
+    fill(
+        taken,
+        &mut filled,
+        packet,
+        exchange.intended.size() as usize,
+    );
+    carry_out(unit, wire, staging, &exchange, &taken[..filled]);
 }
 
-// Appends to the first bytes of a buffer, up to so many; how many there are then.
-fn fill(buffer: &mut [u8], filled: usize, packet: &[u8], size: usize) -> usize
-    requires before { filled ≤ size }
+// Appends to the first bytes of a buffer, up to so many.
+fn fill(buffer: &mut [u8], filled: &mut usize, packet: &[u8], size: usize)
+    requires before { filled.old ≤ size }
     requires room { size ≤ length buffer.old }
-    ensures bytes { take result buffer.new ≡ take size (take filled buffer.old ++ packet.now) }
-    ensures filled { result ≡ min size (filled + length packet.now) }
+    ensures bytes { take filled.new buffer.new
+        ≡ take size (take filled.old buffer.old ++ packet.now) }
+    ensures filled { filled.new ≡ min size (filled.old + length packet.now) }
 {
-    let more = packet.len().min(size - filled);
-    buffer[filled..filled + more].copy_from_slice(&packet[..more]);
-    filled + more
+    let from = *filled;
+    let more = packet.len().min(size - from);
+    // The count goes first, so that nothing is kept across the copy.
+    *filled = from + more;
+    buffer[from..from + more].copy_from_slice(&packet[..more]);
 }

@@ -1,4 +1,4 @@
-// A disk over a medium in memory, or the medium alone.
+//! A disk over a medium in memory, or the medium alone.
 ghost use Rattle.std.specs.Prelude.{◌≡◌, ◌<◌, ◌↔◌, [], ◌∷◌, true, IfOk, IfErr, MatchResult};
 ghost use Rattle.medium.specs.Sim.{IsCut, IsFused, IsFailing, ComesAfter};
 ghost use Rattle.medium.specs.Writes.{keeps};
@@ -32,7 +32,7 @@ pub(crate) enum Stage {
     Runs(Disk<SimMedium>),
 }
 
-// The medium.
+/// The medium.
 pub(crate) fn medium_of(stage: &Stage) -> &SimMedium
     ensures { result.now ≡ medium_in stage.now }
 {
@@ -42,7 +42,7 @@ pub(crate) fn medium_of(stage: &Stage) -> &SimMedium
     }
 }
 
-// Gives the medium back.
+/// Gives the medium back.
 pub(crate) fn into_medium(stage: Stage) -> SimMedium
     ensures { result ≡ medium_in stage }
 {
@@ -52,7 +52,7 @@ pub(crate) fn into_medium(stage: Stage) -> SimMedium
     }
 }
 
-// Arms a fuse.
+/// Arms a fuse.
 pub(crate) fn fuse(stage: &mut Stage, writes: u64)
     ensures goes_on { (device : Device) → LivesGoOn
         (record { device = device; stage = stage.old }) (arms writes ∷ []) []
@@ -65,7 +65,7 @@ pub(crate) fn fuse(stage: &mut Stage, writes: u64)
     }
 }
 
-// Arms a failure of one call.
+/// Arms a failure of one call.
 pub(crate) fn fail(stage: &mut Stage, call: u64)
     requires { 0 < call }
     ensures goes_on { (device : Device) → LivesGoOn
@@ -79,7 +79,7 @@ pub(crate) fn fail(stage: &mut Stage, call: u64)
     }
 }
 
-// Starts a disk where none runs and the power is on. No disk runs where power goes in the start.
+/// Starts a disk where none runs and the power is on. No disk runs where power goes in the start.
 pub(crate) fn start(
     alloc: Global,
     stage: Stage,
@@ -114,7 +114,7 @@ pub(crate) fn start(
     }
 }
 
-// Plays an event on a disk that was started.
+/// Plays an event on a disk that was started.
 pub(crate) fn play(stage: &mut Stage, event: &Event) -> Answer
     requires started { HasStarted stage.old }
     requires within { TakesEvent stage.old event.now }
@@ -150,7 +150,7 @@ fn play_on(disk: &mut Disk<SimMedium>, event: &Event) -> Answer
     answer
 }
 
-// Cuts the power. No disk runs then.
+/// Cuts the power. No disk runs then.
 pub(crate) fn cut(stage: Stage, kept: &Kept) -> SimMedium
     ensures goes_on { (device : Device) → LivesGoOn
         (record { device = device; stage = stage }) (cuts (keeps kept.now) ∷ []) []

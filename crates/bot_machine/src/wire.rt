@@ -1,4 +1,4 @@
-// The line to the host: halts, the lock, and what is left of the exchange.
+//! The line to the host: halts, the lock, and what is left of the exchange.
 ghost use Rattle.std.specs.Prelude.{◌≡◌, ◌≢◌, ◌≤◌, ◌<◌, ◌*◌, ℕ, List, Some, true, take, length};
 ghost use Rattle.wrappers.specs.Cases.{IsPossible};
 ghost use Rattle.scsi_unit.specs.declared.intent.Intent.{Intent};
@@ -63,7 +63,7 @@ fn is_some_halt(halt: Option<Endpoint>) -> bool
 }
 
 impl Wire {
-    // Nothing is halted, and a command wrapper is expected.
+    /// Nothing is halted, and a command wrapper is expected.
     pub(crate) fn at_rest(size: PacketSize) -> Wire
         ensures line { (taken staging : List ℕ)
             → line_of result taken staging ≡ at_rest (bytes_of size) }
@@ -80,7 +80,7 @@ impl Wire {
         }
     }
 
-    // Halts and locks both endpoints.
+    /// Halts and locks both endpoints.
     pub(crate) fn lock(&mut self)
         ensures { self.new ≡ record self.old {
           in_halted = true;
@@ -106,7 +106,7 @@ impl Wire {
         }
     }
 
-    // Ends the halt of an endpoint, unless both are locked.
+    /// Ends the halt of an endpoint, unless both are locked.
     pub(crate) fn clear_halt(&mut self, endpoint: Endpoint)
         ensures line { (taken staging : List ℕ) → line_of self.new taken staging
             ≡ after_request (clear_halt endpoint) (line_of self.old taken staging) }
@@ -121,7 +121,7 @@ impl Wire {
         }
     }
 
-    // Whether an endpoint is halted.
+    /// Whether an endpoint is halted.
     pub(crate) fn is_halted(&self, endpoint: Endpoint) -> bool
         ensures { (taken staging : List ℕ)
             → result ≡ halted endpoint (line_of self.now taken staging) }
@@ -132,8 +132,8 @@ impl Wire {
         }
     }
 
-    // Lays out what is sent: the first bytes of the staging buffer, a halt after them, and the
-    // status wrapper.
+    /// Lays out what is sent: the first bytes of the staging buffer, a halt after them, and the
+    /// status wrapper.
     pub(crate) fn lay_out(&mut self, size: usize, halt: Option<Endpoint>, status: [u8; 13])
         requires halts_in { 0 < size → halt ≢ Some Endpoint.Out }
         ensures line { (taken staging : List ℕ) (left : Script) → size ≤ length staging
@@ -159,8 +159,8 @@ impl Wire {
         }
     }
 
-    // Tells what comes of an exchange that ends in this case: the first bytes of the staging
-    // buffer, the halt of the case, and the status.
+    /// Tells what comes of an exchange that ends in this case: the first bytes of the staging
+    /// buffer, the halt of the case, and the status.
     pub(crate) fn tell(&mut self, exchange: &Exchange, case: Case, size: usize, status: Status)
         requires possible { IsPossible case exchange.now.command.host exchange.now.intended }
         requires halts_in { 0 < size

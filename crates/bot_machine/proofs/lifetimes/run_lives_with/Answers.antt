@@ -29,7 +29,8 @@ live-requires-clause-within c =
     let most : ℕ = bytes_of c.args.size in
     let life = c.life-item.result in
     let each : AreWithin most life.events.items =
-    subst (λ (x : Life). AreWithin most x.events.items) (sym c.life-item.is) (c.requires.within c.loop-life.life-index life c.loop-life-test.true) in
+    subst (λ (x : Life). AreWithin most x.events.items) (sym c.life-item.is)
+    (c.requires.within c.loop-life.life-index life c.loop-life-test.true) in
     subst (λ (x : Device). AreWithin x.packet_size life.events.items) (sym c.loop-life.invariant.run.goes_on.device_stays) each
 
 pub live-requires-clause-room : goal.live-requires-clause-room
@@ -51,10 +52,11 @@ returns-in-Err-clause-err c =
     let lived = c.loop-life.invariant.run in (
       lived.told,
       c.in-Err.ensures.unanswered ∙ lived.appends,
-      rw c.into_medium.ensures (lived_up_to c.args.medium (device_of c.args.identity c.args.size) c.requires.rests c.requires.unfused c.loop-life.run c.live.new.run lived.told
-          lives (take i lives) (drop (suc i) lives) life c.in-Err.fault (apart lives i life c.loop-life-test.true c.life-item.is)
-          lived.goes_on lived.one_each c.loop-life.invariant.rests c.loop-life.invariant.unfused c.loop-life.invariant.alone
-          c.in-Err.ensures.cause c.in-Err.ensures.err),
+      rw c.into_medium.ensures
+          (lived_up_to c.args.medium (device_of c.args.identity c.args.size) c.requires.rests c.requires.unfused c.loop-life.run
+          c.live.new.run lived.told lives (take i lives) (drop (suc i) lives) life c.in-Err.fault
+          (apart lives i life c.loop-life-test.true c.life-item.is) lived.goes_on lived.one_each c.loop-life.invariant.rests
+          c.loop-life.invariant.unfused c.loop-life.invariant.alone c.in-Err.ensures.cause c.in-Err.ensures.err),
     )
 
 pub loop-life-preserved : goal.loop-life-preserved
@@ -65,11 +67,14 @@ loop-life-preserved c =
     let life = c.life-item.result in
     let below = c.loop-life-test.true in
     let more = appends_on first c.loop-life.run c.live.new.run c.args.answers.now c.loop-life.answers c.live.new.answers
-    (actions_of_all (take i lives)) (actions_of life) (events_in (take i lives)) (length life.events.items) c.loop-life.invariant.run c.in_default.ensures.ok in
+    (actions_of_all (take i lives)) (actions_of life) (events_in (take i lives)) (length life.events.items) c.loop-life.invariant.run
+    c.in_default.ensures.ok in
     record {
       run = subst (λ (n : ℕ). AppendsFor first c.live.new.run c.args.answers.now c.live.new.answers (actions_of_all (take (i + 1) lives)) n)
           (sym (events_more lives i life below c.life-item.is))
-          (subst (λ (l : List Action). AppendsFor first c.live.new.run c.args.answers.now c.live.new.answers l (events_in (take i lives) + length life.events.items))
+          (subst
+          (λ (l : List Action). AppendsFor first c.live.new.run c.args.answers.now c.live.new.answers l
+          (events_in (take i lives) + length life.events.items))
           (sym (actions_more lives i life below c.life-item.is)) more);
       rests = c.in_default.ensures.rests;
       unfused = c.in_default.ensures.unfused;
@@ -85,6 +90,7 @@ returns-clause-ok c =
     let run = rw all at c.loop-life.invariant.run in (
       run.told,
       run.appends,
-      rw c.into_medium-2.ensures (all_lived c.args.medium (device_of c.args.identity c.args.size) c.requires.rests c.requires.unfused c.loop-life.run run.told
+      rw c.into_medium-2.ensures
+          (all_lived c.args.medium (device_of c.args.identity c.args.size) c.requires.rests c.requires.unfused c.loop-life.run run.told
           lives run.goes_on run.one_each c.loop-life.invariant.rests c.loop-life.invariant.unfused c.loop-life.invariant.alone),
     )

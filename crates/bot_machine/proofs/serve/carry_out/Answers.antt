@@ -33,7 +33,8 @@ returns-in-Ok-clause-spares g c =
       Ok (take c.in-Ok.size out),
       rw c.as_slice.ensures.value at c.in-Ok.ensures.sparing,
       rw c.as_slice.ensures.value at c.in-Ok.ensures.bounded,
-      (λ taken. tells (Ok (take c.in-Ok.size out)) _ _ _ _ _ (line_with c.args.wire.now finished) (c.tell.ensures.line taken out finished (omega (arith, c.in-Ok.ensures.most)))),
+      (λ taken. tells (Ok (take c.in-Ok.size out)) _ _ _ _ _ (line_with c.args.wire.now finished)
+          (c.tell.ensures.line taken out finished (omega (arith, c.in-Ok.ensures.most)))),
     )
 
 pub returns-in-Ok-clause-phase : goal.returns-in-Ok-clause-phase
@@ -50,10 +51,10 @@ returns-in-Err-clause-carried_out g c = λ taken left book fits.
       answer = Err c.in-Err.field-0;
       effect = line.1;
       moved = λ n intended. tt;
-      after = rw (c.after_failure.ensures, packets_of-none _ (some_bytes c.args.wire.now.size)) at (c.tell-in-Err.ensures.line taken out left (omega arith));
+      after = rw (c.after_failure.ensures, packets_of-none _ (some_bytes c.args.wire.now.size)) at
+          (c.tell-in-Err.ensures.line taken out left (omega arith));
     })
-    line.2 (ours_stay _ _ _ _ _ _ line.1)
-    (rw c.as_slice.ensures.value at (c.in-Err.ensures.serves.cuts book fits))
+    line.2 (ours_stay _ _ _ _ _ _ line.1) (rw c.as_slice.ensures.value at (c.in-Err.ensures.serves.cuts book fits))
 
 pub returns-in-Err-clause-spares : goal.returns-in-Err-clause-spares
 returns-in-Err-clause-spares g c =
@@ -61,7 +62,8 @@ returns-in-Err-clause-spares g c =
       Err c.in-Err.field-0,
       rw c.as_slice.ensures.value at c.in-Err.ensures.sparing,
       rw c.as_slice.ensures.value at c.in-Err.ensures.bounded,
-      (λ taken. tells (Err c.in-Err.field-0) _ _ _ _ _ (line_with c.args.wire.now finished) (c.tell-in-Err.ensures.line taken out finished (omega arith))),
+      (λ taken. tells (Err c.in-Err.field-0) _ _ _ _ _ (line_with c.args.wire.now finished)
+          (c.tell-in-Err.ensures.line taken out finished (omega arith))),
     )
 
 pub returns-in-Err-clause-phase : goal.returns-in-Err-clause-phase

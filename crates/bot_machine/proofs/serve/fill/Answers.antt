@@ -4,6 +4,8 @@ use Rattle.bot_machine.proofs.serve.fill.Goals as goal
 
 pub returns-clause-bytes : goal.returns-clause-bytes
 returns-clause-bytes c =
-    let filled : length (take c.args.filled c.args.buffer.now) ≡ c.args.filled = omega (arith, length-take c.args.filled c.args.buffer.now) in
+    let filled : length (take c.args.filled.now c.args.buffer.now) ≡ c.args.filled.now =
+    omega (arith, length-take c.args.filled.now c.args.buffer.now) in
     rw c.copy_from_slice.ensures.after
-    (front_filled (take c.args.filled c.args.buffer.now) c.args.packet.now _ c.args.filled c.args.size c.min-more.result filled c.requires.before c.min-more.ensures)
+    (front_filled (take c.args.filled.now c.args.buffer.now) c.args.packet.now _ c.args.filled.now c.args.size c.min-more.result filled
+    c.requires.before c.min-more.ensures)

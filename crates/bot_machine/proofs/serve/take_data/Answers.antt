@@ -1,58 +1,66 @@
-use Rattle.std.proofs.Common.{ℕ, ◌≡◌, ◌≢◌, ◌<◌, ◌≤◌, ◌-◌, inl, inr, length, take, min, refl, arith, ap, ◌∙◌}
+use Rattle.std.proofs.Common.{ℕ, ◌≡◌, ◌<◌, ◌-◌, ◌++◌, inl, length, take, refl, sym, arith, ap, ◌∙◌}
+use Rattle.wrappers.specs.Cases.{size_of_way}
+use Rattle.bot_machine.specs.declared.wire.Wire.{Wire}
+use Rattle.bot_machine.specs.declared.wire.Phase.TheVariants.{DataOut}
 use Rattle.bot_machine.specs.Exchange.{taking}
 use Rattle.bot_machine.specs.Refinement.{line_with}
-use Rattle.bot_machine.proofs.Filling.{last_packet, other_packet}
 use Rattle.bot_machine.specs.PacketBytes.{bytes_of}
-use Rattle.bot_machine.proofs.Packets.{packets_of-none}
-use Rattle.bot_machine.proofs.Sizes.{some_bytes}
-use Rattle.bot_machine.proofs.Proceeding.{staying_so, proceeding_so}
+use Rattle.bot_machine.proofs.Filling.{other_packet}
+use Rattle.bot_machine.proofs.Proceeding.{staying_so}
+use Rattle.bot_machine.proofs.Taking.{one_taking}
 use Rattle.bot_machine.proofs.serve.take_data.Goals as goal
+use Rattle.bot_machine.proofs.serve.take_data.Goals.{else-pending-most-via-then-pending-most+else-packet-most}
+use Rattle.bot_machine.proofs.serve.take_data.Goals.{else-pending-most-via-else-pending-most}
 
-pub returns-then-packet-min-clause-takes : goal.returns-then-packet-min-clause-takes
-returns-then-packet-min-clause-takes g c = λ left book fits.
+pub returns-then-packet-most-clause-takes : goal.returns-then-packet-most-clause-takes
+returns-then-packet-most-clause-takes g c = λ pending is left book fits.
+    let d = c.in-DataOut.pending in
+    let same : d ≡ pending = one_taking d pending (sym c.in-DataOut.is ∙ is) in
     let unit = c.args.unit.now in
-    let most : ℕ = bytes_of c.args.wire.now.size in
-    let other : length c.args.packet.now ≡ c.args.pending.due → most < c.args.pending.due = λ same. omega arith in
-    staying_so _ unit _ _ book (g.met.M.Medium.sound unit.store.medium) fits
-    (other_packet most (length c.args.packet.now) c.args.pending.due _ _ other)
-    (inr (inr (record {
-      size = let s : length c.args.packet.now ≢ min most c.args.pending.due = omega arith in s;
-      unit = refl;
-      after = rw (c.write_csw-status.ensures, packets_of-none most (some_bytes c.args.wire.now.size))
-          at (c.lay_out.ensures.line c.args.taken.now c.args.staging.now left (omega arith));
-    })))
-
-pub returns-then-packet-min-clause-phase : goal.returns-then-packet-min-clause-phase
-returns-then-packet-min-clause-phase g c = c.lay_out.ensures.phase _ _ (omega arith)
-
-pub returns-then-due-most-clause-takes : goal.returns-then-due-most-clause-takes
-returns-then-due-most-clause-takes g c = λ left book fits.
-    let unit = c.args.unit.now in
-    let most : ℕ = bytes_of c.args.wire.now.size in
-    let e = c.args.pending.exchange in
-    let more : most < c.args.pending.due = omega (arith, c.if-due-most.true, c.bytes-most.ensures) in
-    let bytes = rw c.size.ensures at c.fill-filled.ensures.bytes in
-    staying_so _ unit _ _ book (g.met.M.Medium.sound unit.store.medium) fits
-    (other_packet most (length c.args.packet.now) c.args.pending.due _ _ (λ same. more))
-    (inl (record {
-      size = let s : length c.args.packet.now ≡ most = omega arith in s;
+    let wire = c.args.wire.now in
+    let now = c.take_more.new.pending in
+    let e = d.exchange in
+    let most : ℕ = bytes_of wire.size in
+    let more : most < d.due = omega (arith, c.if-pending-most.true, c.bytes-most.ensures) in
+    let came = take now.filled c.take_more.new.taken in
+    let left_due : now.due ≡ d.due - most = c.take_more.ensures.due ∙ ap (λ n. d.due - n) c.bytes-most.ensures in
+    rw (← same)
+    (staying_so _ unit _ _ book (g.met.M.Medium.sound unit.store.medium) fits
+    (other_packet most (length c.args.packet.now) d.due _ _ (λ whole. more)) (inl (record {
+      size = let s : length c.args.packet.now ≡ most = omega (arith, c.if-packet-most.true, c.bytes-most.ensures) in s;
       more = more;
       unit = refl;
-      after = ap (λ n. line_with c.args.wire.now (taking e.case e.command e.intended (take c.fill-filled.result c.fill-filled.new.buffer) (c.args.pending.due - n))) c.bytes-most.ensures
-          ∙ ap (λ came. line_with c.args.wire.now (taking e.case e.command e.intended came (c.args.pending.due - most))) bytes;
-    }))
-
-pub returns-else-due-most-clause-takes : goal.returns-else-due-most-clause-takes
-returns-else-due-most-clause-takes g c = λ left book fits.
-    let most : ℕ = bytes_of c.args.wire.now.size in
-    let bytes = rw c.size.ensures at c.fill-filled.ensures.bytes in
-    let last : c.args.pending.due ≤ most = omega (arith, c.if-due-most.false, c.bytes-most.ensures) in
-    let whole : length c.args.packet.now ≡ c.args.pending.due = omega (arith, last, c.bytes-most.ensures) in
-    proceeding_so _ _ _ _ _ _ _ _ book
-    (rw bytes at (c.carry_out.ensures.carried_out c.fill-filled.new.buffer left book fits))
-    (last_packet most (length c.args.packet.now) c.args.pending.due _ _ whole last)
-    (λ later moves. inr (inl (record {
-      size = whole;
-      last = last;
-      carried_out = moves;
+      after = ap (λ x. line_with wire (taking x.case x.command x.intended came now.due)) c.take_more.ensures.exchange
+          ∙ ap (λ x. line_with wire (taking e.case e.command e.intended x now.due)) c.take_more.ensures.bytes
+          ∙ ap
+          (λ n. line_with wire
+          (taking e.case e.command e.intended
+          (take (size_of_way e.intended) (take d.filled c.args.taken.now ++ c.args.packet.now)) n)) left_due;
     })))
+
+pub returns-clause-takes : goal.returns-clause-takes
+returns-clause-takes g c = λ pending is.
+    let same : c.else-pending-most.wire ≡ record c.args.wire.now { phase = DataOut c.in-DataOut.pending } =
+    elim c.else-pending-most.branch [
+      | else-pending-most-via-then-pending-most+else-packet-most w ↦ w.wire-is
+      | else-pending-most-via-else-pending-most w ↦ w.wire-is
+    ] in
+    rw same at (c.end_data.ensures.takes pending (ap (λ (w : Wire). w.phase) same ∙ sym c.in-DataOut.is ∙ is))
+
+pub returns-clause-rests : goal.returns-clause-rests
+returns-clause-rests g c = λ pending is.
+    let same : c.else-pending-most.wire ≡ record c.args.wire.now { phase = DataOut c.in-DataOut.pending } =
+    elim c.else-pending-most.branch [
+      | else-pending-most-via-then-pending-most+else-packet-most w ↦ w.wire-is
+      | else-pending-most-via-else-pending-most w ↦ w.wire-is
+    ] in
+    rw same at (c.end_data.ensures.rests pending (ap (λ (w : Wire). w.phase) same ∙ sym c.in-DataOut.is ∙ is))
+
+pub returns-clause-spares : goal.returns-clause-spares
+returns-clause-spares g c = λ pending is.
+    let same : c.else-pending-most.wire ≡ record c.args.wire.now { phase = DataOut c.in-DataOut.pending } =
+    elim c.else-pending-most.branch [
+      | else-pending-most-via-then-pending-most+else-packet-most w ↦ w.wire-is
+      | else-pending-most-via-else-pending-most w ↦ w.wire-is
+    ] in
+    rw same at (c.end_data.ensures.spares pending (ap (λ (w : Wire). w.phase) same ∙ sym c.in-DataOut.is ∙ is))

@@ -1,5 +1,6 @@
 use Rattle.std.proofs.Common.{sym, ◌∙◌}
-use Rattle.bot_machine.proofs.Begun.{start_has_disk, start_is_cut, start_is_refused, start_of_disk, start_without_power, begun_running, begun_with, begun_without_power}
+use Rattle.bot_machine.proofs.Begun.{start_has_disk, start_is_cut, start_is_refused, start_of_disk, start_without_power, begun_running}
+use Rattle.bot_machine.proofs.Begun.{begun_with, begun_without_power}
 use Rattle.bot_machine.specs.Device.{device_of}
 use Rattle.bot_machine.proofs.stage.start.Goals as goal
 
@@ -11,7 +12,8 @@ returns-in-Runs-clause-begun c = rw c.in-Runs.is (begun_running c.in-Runs.disk)
 
 pub returns-then-is_off-clause-ok : goal.returns-then-is_off-clause-ok
 returns-then-is_off-clause-ok c =
-    rw c.in-Rests.is (start_without_power (device_of c.args.identity c.args.size) c.in-Rests.medium (sym c.is_off.ensures ∙ c.if-is_off.true))
+    rw c.in-Rests.is
+    (start_without_power (device_of c.args.identity c.args.size) c.in-Rests.medium (sym c.is_off.ensures ∙ c.if-is_off.true))
 
 pub returns-then-is_off-clause-begun : goal.returns-then-is_off-clause-begun
 returns-then-is_off-clause-begun c =
@@ -19,16 +21,19 @@ returns-then-is_off-clause-begun c =
 
 pub returns-in-Ok-clause-ok : goal.returns-in-Ok-clause-ok
 returns-in-Ok-clause-ok c =
-    rw c.in-Rests.is (start_has_disk (device_of c.args.identity c.args.size) c.in-Rests.medium (sym c.is_off.ensures ∙ c.if-is_off.false) c.in-Ok.disk
+    rw c.in-Rests.is
+    (start_has_disk (device_of c.args.identity c.args.size) c.in-Rests.medium (sym c.is_off.ensures ∙ c.if-is_off.false) c.in-Ok.disk
     c.in-Ok.ensures.ok c.in-Ok.ensures.leaves c.in-Ok.ensures.follows)
 
 pub returns-in-Ok-clause-begun : goal.returns-in-Ok-clause-begun
-returns-in-Ok-clause-begun c = rw c.in-Rests.is (begun_with c.in-Rests.medium c.in-Ok.disk (device_of c.args.identity c.args.size) c.in-Ok.ensures.ok)
+returns-in-Ok-clause-begun c =
+    rw c.in-Rests.is (begun_with c.in-Rests.medium c.in-Ok.disk (device_of c.args.identity c.args.size) c.in-Ok.ensures.ok)
 
 pub returns-then-is_off-2-clause-ok : goal.returns-then-is_off-2-clause-ok
 returns-then-is_off-2-clause-ok c =
-    rw c.in-Rests.is (start_is_cut (device_of c.args.identity c.args.size) c.in-Rests.medium (sym c.is_off.ensures ∙ c.if-is_off.false) c.in-Err.error.medium
-    c.in-Err.ensures.leaves c.in-Err.ensures.follows (sym c.is_off-in-Err.ensures ∙ c.if-is_off-2.true))
+    rw c.in-Rests.is
+    (start_is_cut (device_of c.args.identity c.args.size) c.in-Rests.medium (sym c.is_off.ensures ∙ c.if-is_off.false)
+    c.in-Err.error.medium c.in-Err.ensures.leaves c.in-Err.ensures.follows (sym c.is_off-in-Err.ensures ∙ c.if-is_off-2.true))
 
 pub returns-then-is_off-2-clause-begun : goal.returns-then-is_off-2-clause-begun
 returns-then-is_off-2-clause-begun c =
@@ -37,7 +42,8 @@ returns-then-is_off-2-clause-begun c =
 pub returns-else-is_off-2-clause-err : goal.returns-else-is_off-2-clause-err
 returns-else-is_off-2-clause-err c =
     rw c.in-Rests.is (record {
-      stops = start_is_refused (device_of c.args.identity c.args.size) c.in-Rests.medium (sym c.is_off.ensures ∙ c.if-is_off.false) c.in-Err.error.medium
-          c.in-Err.ensures.leaves c.in-Err.ensures.follows (sym c.is_off-in-Err.ensures ∙ c.if-is_off-2.false) c.in-Err.error.fault c.in-Err.ensures.err;
+      stops = start_is_refused (device_of c.args.identity c.args.size) c.in-Rests.medium (sym c.is_off.ensures ∙ c.if-is_off.false)
+          c.in-Err.error.medium c.in-Err.ensures.leaves c.in-Err.ensures.follows (sym c.is_off-in-Err.ensures ∙ c.if-is_off-2.false)
+          c.in-Err.error.fault c.in-Err.ensures.err;
       cause = c.in-Err.ensures.err;
     })

@@ -17,22 +17,38 @@ returns-after-end-to g c =
     let there : i.to ≤ length d.staging.items = omega (arith, c.self.invariant.staging_room, held.1) in
     let ends : c.min-end.result ≡ min i.to (i.from + bytes_of d.wire.size) = omega (arith, c.min-end.ensures, c.bytes.ensures) in
     elim c.if-end-to.branch [
-      | then-end-to w ↦ rw (← c.self.view_is, c.in-DataIn.is, c.deref.ensures.value, w.self-inside-is, c.if-self.false) (
-        (refl, (λ _. tt), ap put (sym (sent_more (bytes_of d.wire.size) (some_bytes d.wire.size) d.wire.locked d.wire.out_halted d.wire.status d.staging.items i.from i.to c.min-end.result i.halt some there ends w.if-end-to.true))),
-        record {
-          after = tt;
-          answer = answer_sent (bytes_of d.wire.size) (some_bytes d.wire.size) d.wire.locked d.wire.out_halted d.wire.status d.staging.items i.from i.to c.min-end.result i.halt some there ends;
-          fits = omega (arith, ends, length-take (c.min-end.result - i.from) (drop i.from d.staging.items));
-          most = (few_bytes d.wire.size).1;
-        },
-      )
-      | else-end-to w ↦ rw (← c.self.view_is, c.in-DataIn.is, c.deref.ensures.value, w.self-inside-is, c.if-self.false) (
-        (refl, (λ _. tt), ap put (sym (sent_last (bytes_of d.wire.size) (some_bytes d.wire.size) d.wire.locked d.wire.out_halted d.wire.status d.staging.items i.from i.to c.min-end.result i.halt some there ends w.if-end-to.false))),
-        record {
-          after = tt;
-          answer = answer_sent (bytes_of d.wire.size) (some_bytes d.wire.size) d.wire.locked d.wire.out_halted d.wire.status d.staging.items i.from i.to c.min-end.result i.halt some there ends;
-          fits = omega (arith, ends, length-take (c.min-end.result - i.from) (drop i.from d.staging.items));
-          most = (few_bytes d.wire.size).1;
-        },
-      )
+      | then-end-to w ↦
+          rw (← c.self.view_is, c.in-DataIn.is, c.deref.ensures.value, w.self-inside-is, c.if-self.false) (
+            (
+              refl,
+              (λ _. tt),
+              ap put
+                  (sym (sent_more (bytes_of d.wire.size) (some_bytes d.wire.size) d.wire.locked d.wire.out_halted d.wire.status
+                  d.staging.items i.from i.to c.min-end.result i.halt some there ends w.if-end-to.true)),
+            ),
+            record {
+              after = tt;
+              answer = answer_sent (bytes_of d.wire.size) (some_bytes d.wire.size) d.wire.locked d.wire.out_halted d.wire.status
+                  d.staging.items i.from i.to c.min-end.result i.halt some there ends;
+              fits = omega (arith, ends, length-take (c.min-end.result - i.from) (drop i.from d.staging.items));
+              most = (few_bytes d.wire.size).1;
+            },
+          )
+      | else-end-to w ↦
+          rw (← c.self.view_is, c.in-DataIn.is, c.deref.ensures.value, w.self-inside-is, c.if-self.false) (
+            (
+              refl,
+              (λ _. tt),
+              ap put
+                  (sym (sent_last (bytes_of d.wire.size) (some_bytes d.wire.size) d.wire.locked d.wire.out_halted d.wire.status
+                  d.staging.items i.from i.to c.min-end.result i.halt some there ends w.if-end-to.false)),
+            ),
+            record {
+              after = tt;
+              answer = answer_sent (bytes_of d.wire.size) (some_bytes d.wire.size) d.wire.locked d.wire.out_halted d.wire.status
+                  d.staging.items i.from i.to c.min-end.result i.halt some there ends;
+              fits = omega (arith, ends, length-take (c.min-end.result - i.from) (drop i.from d.staging.items));
+              most = (few_bytes d.wire.size).1;
+            },
+          )
     ]

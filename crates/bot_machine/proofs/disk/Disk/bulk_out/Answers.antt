@@ -12,9 +12,8 @@ returns-then-self-clause-step g c =
 pub returns-in-Command-clause-step : goal.returns-in-Command-clause-step
 returns-in-Command-clause-step g c =
     let d = c.self.inside in
-    let left = ap (λ p. left_of (bytes_of d.wire.size) p d.taken.items d.staging.items d.wire.status) c.in-Command.ensures.value in
-    let opens = rw (c.in-Command.ensures.after ∙ c.in-Command.ensures.value, c.deref_mut.ensures.value)
-    at (c.open.ensures.opens d.taken.items) in
+    let left = ap (λ p. left_of (bytes_of d.wire.size) p d.taken.items d.staging.items d.wire.status) (sym c.in-Command.is) in
+    let opens = rw c.deref_mut.ensures.value at (c.open.ensures.opens d.taken.items) in
     rw (← c.self.view_is, with_items_is d.staging c.open.new.staging (search (rules, places)))
     (begins _ _ _ _ c.args.packet.now (sym c.if-self.false) left opens c.open.ensures.rests (c.open.ensures.spares d.taken.items)
     c.open.ensures.few c.open.ensures.elapses c.open.ensures.limit
@@ -23,24 +22,25 @@ returns-in-Command-clause-step g c =
 pub returns-in-DataOut-clause-step : goal.returns-in-DataOut-clause-step
 returns-in-DataOut-clause-step g c =
     let d = c.self.inside in
-    let left = ap (λ p. left_of (bytes_of d.wire.size) p d.taken.items d.staging.items d.wire.status) c.in-DataOut.ensures.value in
+    let t = c.in-DataOut.field-0 in
+    let left = ap (λ p. left_of (bytes_of d.wire.size) p d.taken.items d.staging.items d.wire.status) (sym c.in-DataOut.is) in
     let taken = c.deref_mut-in-DataOut.ensures.value in
     rw (
       ← c.self.view_is,
       with_items_is d.taken c.take_data.new.taken (search (rules, places)),
       with_items_is d.staging c.take_data.new.staging (search (rules, places)),
     )
-    (goes_on _ _ _ _ c.args.packet.now c.in-DataOut.data c.deref_mut-in-DataOut.result.now (sym c.if-self.false)
-    (ap (λ came. taking_of c.in-DataOut.data came) taken ∙ left)
-    (c.take_data.ensures.takes (left_of (bytes_of d.wire.size) d.wire.phase d.taken.items d.staging.items d.wire.status))
-    c.take_data.ensures.rests c.take_data.ensures.spares c.take_data.ensures.few c.take_data.ensures.elapses c.take_data.ensures.limit
+    (goes_on _ _ _ _ c.args.packet.now t c.deref_mut-in-DataOut.result.now (sym c.if-self.false)
+    (ap (λ came. taking_of t came) taken ∙ left)
+    (c.take_data.ensures.takes t c.in-DataOut.is (left_of (bytes_of d.wire.size) d.wire.phase d.taken.items d.staging.items d.wire.status))
+    (c.take_data.ensures.rests t c.in-DataOut.is) (c.take_data.ensures.spares t c.in-DataOut.is)
+    c.take_data.ensures.few c.take_data.ensures.elapses c.take_data.ensures.limit
     (ap bytes_of c.take_data.ensures.size))
 
 pub returns-in_default-clause-step : goal.returns-in_default-clause-step
 returns-in_default-clause-step g c =
     let d = c.self.inside in
-    let same = c.replace.ensures.value in
-    let sent = sends d.wire.phase (λ e. c.in_default.not-Command (same ∙ e)) (λ t e. c.in_default.not-DataOut t (same ∙ e))
+    let sent = sends d.wire.phase (λ e. c.in_default.not-Command e) (λ t e. c.in_default.not-DataOut t e)
     (bytes_of d.wire.size) d.taken.items d.staging.items d.wire.status in
-    rw (← c.self.view_is, same)
+    rw (← c.self.view_is)
     (not_ready _ _ c.args.packet.now sent.0 sent.1 d.wire.status (g.met.M.Medium.sound d.unit.store.medium) (sym c.if-self.false) sent.2)

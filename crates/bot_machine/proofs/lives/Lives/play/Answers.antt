@@ -11,5 +11,8 @@ invariant_of-self c =
     let d = c.self.inside in
     let device : Device = device_of d.identity d.size in
     let has : HasPackets (bytes_of d.size) c.in-Some.stage = rw c.in-Some.is at c.self.invariant.1 in
-    let goes = c.play.ensures.goes_on device in
-    (λ e. cc, packets_stay device c.in-Some.stage c.play.new.stage (plays c.args.event.now ∷ []) (c.play.result ∷ []) goes.refusals goes.moves has)
+    let goes = c.play.ensures.goes_on device in (
+      λ e. cc,
+      packets_stay device c.in-Some.stage c.play.new.stage (plays c.args.event.now ∷ []) (c.play.result ∷ []) goes.refusals goes.moves
+          has,
+    )
