@@ -1,5 +1,6 @@
 -- Lives that act, one action after another.
-use Rattle.std.proofs.Common.{◌≡◌, ◌↔◌, ℕ, Bool, true, false, List, [], ◌∷◌, ◌++◌, None, Option, refl, sym, ap, subst, ◌∙◌, inl, inr, append_assoc, append-nil}
+use Rattle.std.proofs.Common.{◌≡◌, ◌↔◌, ℕ, Bool, true, false, List, [], ◌∷◌, ◌++◌, None, Option, refl, sym, ap, subst, ◌∙◌, inl, inr}
+use Rattle.std.proofs.Common.{append_assoc, append-nil}
 use Rattle.std.proofs.lemmas.Bool.{cases_Bool, true≢false}
 use Rattle.std.specs.Io.KnownBytes.{Appends}
 use Rattle.medium.specs.Sim.{Sim, IsCut, IsFailing, ComesAfter}
@@ -26,9 +27,11 @@ AnswersFit-append fused (fails call ∷ first) rest told more done next = Answer
 AnswersFit-append fused (starts ∷ first) rest told more done next = AnswersFit-append fused first rest told more done next
 AnswersFit-append fused (cuts keeps ∷ first) rest told more done next = AnswersFit-append false first rest told more done next
 AnswersFit-append fused (plays event ∷ first) rest [] more done next = absurd done
-AnswersFit-append fused (plays event ∷ first) rest (answer ∷ told) more done next = (done.0, AnswersFit-append fused first rest told more done.1 next)
+AnswersFit-append fused (plays event ∷ first) rest (answer ∷ told) more done next =
+    (done.0, AnswersFit-append fused first rest told more done.1 next)
 
-fused_after-append : (fused : Bool) (first rest : List Action) → fused_after fused (first ++ rest) ≡ fused_after (fused_after fused first) rest
+fused_after-append : (fused : Bool) (first rest : List Action)
+    → fused_after fused (first ++ rest) ≡ fused_after (fused_after fused first) rest
 fused_after-append fused [] rest = refl
 fused_after-append fused (arms writes ∷ first) rest = fused_after-append true first rest
 fused_after-append fused (fails call ∷ first) rest = fused_after-append fused first rest
@@ -55,8 +58,10 @@ acted-more : (old mid new : LivesValue) (first rest : List Action) (told more : 
     → Acted old first told mid → Acted mid rest more new → Acted old (first ++ rest) (told ++ more) new
 acted-more old mid new first rest told more done next = record {
   goes_on = lives_go_on old mid new first rest told more done.goes_on next.goes_on;
-  fits = λ fused is. AnswersFit-append fused first rest told more (done.fits fused is) (next.fits (fused_after fused first) (done.fuse fused is));
-  fuse = λ fused is. subst (λ (b : Bool). FuseIs b new) (sym (fused_after-append fused first rest)) (next.fuse (fused_after fused first) (done.fuse fused is));
+  fits = λ fused is.
+      AnswersFit-append fused first rest told more (done.fits fused is) (next.fits (fused_after fused first) (done.fuse fused is));
+  fuse = λ fused is. subst (λ (b : Bool). FuseIs b new) (sym (fused_after-append fused first rest))
+      (next.fuse (fused_after fused first) (done.fuse fused is));
 }
 
 -- a fuse is armed
@@ -111,7 +116,8 @@ acted-event old new event answer on off after = record {
         (λ is_off. absurd (true≢false (sym (off.0 is_off) ∙ stays_on (medium_in old.stage) (medium_in new.stage) after so.0 so.1)), refl)
 
 -- each event has one answer
-fits_any : (old new : LivesValue) (actions : List Action) (answers : List Answer) → Acted old actions answers new → AnswersFit true actions answers
+fits_any : (old new : LivesValue) (actions : List Action) (answers : List Answer) → Acted old actions answers new
+    → AnswersFit true actions answers
 fits_any old new actions answers acted = acted.fits true (λ never. absurd (true≢false never))
 
 pub tells-none : (was : Option (List ℕ)) (lives : LivesValue) → TellsLives was was lives [] lives
@@ -126,9 +132,11 @@ tells-silently was old new actions acted none = record {
   written = subst (λ (text : List ℕ). Appends was was text) (sym none) (Appends-none was);
 }
 
-module _ (was mid now : Option (List ℕ)) (old between new : LivesValue) (first : List Action) (done : TellsLives was mid old first between) where
+module _ (was mid now : Option (List ℕ)) (old between new : LivesValue) (first : List Action)
+    (done : TellsLives was mid old first between) where
   -- what was told, and then more
-  told_more : (rest : List Action) (more : List Answer) → text_of_lives (first ++ rest) (done.answers ++ more) ≡ text_of_lives first done.answers ++ text_of_lives rest more
+  told_more : (rest : List Action) (more : List Answer)
+      → text_of_lives (first ++ rest) (done.answers ++ more) ≡ text_of_lives first done.answers ++ text_of_lives rest more
   told_more rest more = text_of_lives-append true first rest done.answers more (fits_any old between first done.answers done.acted)
 
   written_more : (rest : List Action) (more : List Answer) → Appends mid now (text_of_lives rest more)
@@ -143,8 +151,8 @@ module _ (was mid now : Option (List ℕ)) (old between new : LivesValue) (first
     written = written_more rest next.answers next.written;
   }
 
-  ends-more : (rest : List Action) (last : Action) (more : List Answer) (fault : ScriptFault) → EndsBy mid now between rest more last new fault
-      → EndsBy was now old (first ++ rest) (done.answers ++ more) last new fault
+  ends-more : (rest : List Action) (last : Action) (more : List Answer) (fault : ScriptFault)
+      → EndsBy mid now between rest more last new fault → EndsBy was now old (first ++ rest) (done.answers ++ more) last new fault
   ends-more rest last more (Start fault) ends = record {
     mid = ends.mid;
     acted = acted-more old between ends.mid first rest done.answers more done.acted ends.acted;
@@ -156,11 +164,15 @@ module _ (was mid now : Option (List ℕ)) (old between new : LivesValue) (first
     event = ends.event;
     is = ends.is;
     answer = ends.answer;
-    acted = subst (λ (l : List Action). Acted old l ((done.answers ++ more) ++ ends.answer ∷ []) new) (sym (append_assoc first rest (plays ends.event ∷ [])))
-        (subst (λ (l : List Answer). Acted old (first ++ (rest ++ plays ends.event ∷ [])) l new) (sym (append_assoc done.answers more (ends.answer ∷ [])))
-        (acted-more old between new first (rest ++ plays ends.event ∷ []) done.answers (more ++ ends.answer ∷ []) done.acted ends.acted));
+    acted = subst (λ (l : List Action). Acted old l ((done.answers ++ more) ++ ends.answer ∷ []) new)
+        (sym (append_assoc first rest (plays ends.event ∷ [])))
+        (subst (λ (l : List Answer). Acted old (first ++ (rest ++ plays ends.event ∷ [])) l new)
+        (sym (append_assoc done.answers more (ends.answer ∷ [])))
+        (acted-more old between new first (rest ++ plays ends.event ∷ []) done.answers (more ++ ends.answer ∷ []) done.acted
+        ends.acted));
     written = subst (λ (text : List ℕ). AppendsUpTo was now text (line_for ends.event ends.answer)) (sym (told_more rest more))
-        (AppendsUpTo-more was mid now (text_of_lives first done.answers) (text_of_lives rest more) (line_for ends.event ends.answer) done.written ends.written);
+        (AppendsUpTo-more was mid now (text_of_lives first done.answers) (text_of_lives rest more) (line_for ends.event ends.answer)
+        done.written ends.written);
   }
   ends-more rest last more (Line number) ends = absurd ends
   ends-more rest last more TooLong ends = absurd ends
@@ -168,7 +180,8 @@ module _ (was mid now : Option (List ℕ)) (old between new : LivesValue) (first
   ends-more rest last more Reader ends = absurd ends
 
   -- some actions were done, and others broke off
-  pub breaks-more : (rest : List Action) (fault : ScriptFault) → BreaksOff mid now between rest new fault → BreaksOff was now old (first ++ rest) new fault
+  pub breaks-more : (rest : List Action) (fault : ScriptFault) → BreaksOff mid now between rest new fault
+      → BreaksOff was now old (first ++ rest) new fault
   breaks-more rest fault breaks = record {
     first = first ++ breaks.first;
     last = breaks.last;
@@ -208,8 +221,9 @@ breaks-start was old new event fault refused = record {
 }
 
 -- the answer to an event was not written
-pub breaks-writer : (was now : Option (List ℕ)) (old new : LivesValue) (event : Event) (answer : Answer) → Acted old (comes event) (answer ∷ []) new
-    → AppendsSome was now (line_for event answer) → BreaksOff was now old (comes event) new Writer
+pub breaks-writer : (was now : Option (List ℕ)) (old new : LivesValue) (event : Event) (answer : Answer)
+    → Acted old (comes event) (answer ∷ []) new → AppendsSome was now (line_for event answer)
+    → BreaksOff was now old (comes event) new Writer
 breaks-writer was now old new event answer acted written = record {
   first = starts ∷ [];
   last = plays event;
@@ -220,8 +234,8 @@ breaks-writer was now old new event answer acted written = record {
 }
 
 -- an event was answered, and the answer written
-pub tells-event : (was now : Option (List ℕ)) (old new : LivesValue) (event : Event) (answer : Answer) → Acted old (comes event) (answer ∷ []) new
-    → Appends was now (line_for event answer) → TellsLives was now old (comes event) new
+pub tells-event : (was now : Option (List ℕ)) (old new : LivesValue) (event : Event) (answer : Answer)
+    → Acted old (comes event) (answer ∷ []) new → Appends was now (line_for event answer) → TellsLives was now old (comes event) new
 tells-event was now old new event answer acted written = record {
   answers = answer ∷ [];
   acted = acted;

@@ -16,8 +16,8 @@ use Rattle.runner.specs.PlayedLives.{TellsLives, BreaksOff, PlaysAll, PlaysUpTo}
 use Rattle.runner.proofs.Acting.{tells-none, tells-more, ends-behind}
 use Rattle.runner.proofs.InTurn.{IsGivenTo, given-start, given-more, given-all, given-part}
 
-acts_by_events : (asked : ScriptLine) → ((writes : ℕ) → asked ≡ Fuse writes → ⊥) → ((call : ℕ) → asked ≡ Fail call → ⊥) → ((kept : KeptWrites) → asked ≡ Cut kept → ⊥)
-    → flat_map comes (events_of asked) ≡ actions_of asked
+acts_by_events : (asked : ScriptLine) → ((writes : ℕ) → asked ≡ Fuse writes → ⊥) → ((call : ℕ) → asked ≡ Fail call → ⊥)
+    → ((kept : KeptWrites) → asked ≡ Cut kept → ⊥) → flat_map comes (events_of asked) ≡ actions_of asked
 acts_by_events Skipped no_fuse no_fail no_cut = refl
 acts_by_events (Out packet) no_fuse no_fail no_cut = refl
 acts_by_events (Fill byte count size) no_fuse no_fail no_cut = refl
@@ -29,24 +29,29 @@ acts_by_events (Fail call) no_fuse no_fail no_cut = absurd (no_fail call refl)
 acts_by_events (Cut kept) no_fuse no_fail no_cut = absurd (no_cut kept refl)
 
 -- a line that is no fuse, no failure and no cut acts by its events
-pub event_line_acts : (most : ℕ) (line : List ℕ) (asked : ScriptLine) → ((writes : ℕ) → asked ≡ Fuse writes → ⊥) → ((call : ℕ) → asked ≡ Fail call → ⊥) → ((kept : KeptWrites) → asked ≡ Cut kept → ⊥)
-    → Spells most line asked → LineActs most line (flat_map comes (events_of asked))
-event_line_acts most line asked no_fuse no_fail no_cut spelled = record { asked = asked; spelled = spelled; actions_are = acts_by_events asked no_fuse no_fail no_cut }
+pub event_line_acts : (most : ℕ) (line : List ℕ) (asked : ScriptLine) → ((writes : ℕ) → asked ≡ Fuse writes → ⊥)
+    → ((call : ℕ) → asked ≡ Fail call → ⊥) → ((kept : KeptWrites) → asked ≡ Cut kept → ⊥) → Spells most line asked
+    → LineActs most line (flat_map comes (events_of asked))
+event_line_acts most line asked no_fuse no_fail no_cut spelled =
+    record { asked = asked; spelled = spelled; actions_are = acts_by_events asked no_fuse no_fail no_cut }
 
 pub line_acts : (most : ℕ) (line : List ℕ) (asked : ScriptLine) → Spells most line asked → LineActs most line (actions_of asked)
 line_acts most line asked spelled = record { asked = asked; spelled = spelled; actions_are = refl }
 
 -- the lines before those left were played
-pub record ArePlayedTo (most : ℕ) (was now : Option (List ℕ)) (old : LivesValue) (all left : List (List ℕ)) (lives : LivesValue) : Type 0 where
+pub record ArePlayedTo (most : ℕ) (was now : Option (List ℕ)) (old : LivesValue) (all left : List (List ℕ))
+    (lives : LivesValue) : Type 0 where
   pub actions : List Action
   pub given : IsGivenTo (LineActs most) all left actions
   pub tells : TellsLives was now old actions lives
 
-pub lines-none : (most : ℕ) (was : Option (List ℕ)) (lives : LivesValue) (all left : List (List ℕ)) → left ≡ all → ArePlayedTo most was was lives all left lives
-lines-none most was lives all left same = record { actions = []; given = given-start (LineActs most) all left same; tells = tells-none was lives }
+pub lines-none : (most : ℕ) (was : Option (List ℕ)) (lives : LivesValue) (all left : List (List ℕ)) → left ≡ all
+    → ArePlayedTo most was was lives all left lives
+lines-none most was lives all left same =
+    record { actions = []; given = given-start (LineActs most) all left same; tells = tells-none was lives }
 
-pub lines-all : (most : ℕ) (was now : Option (List ℕ)) (old lives : LivesValue) (all left : List (List ℕ)) (after : Sim) → ArePlayedTo most was now old all left lives
-    → left ≡ [] → medium_in lives.stage ≡ after → PlaysAll was now old most all after
+pub lines-all : (most : ℕ) (was now : Option (List ℕ)) (old lives : LivesValue) (all left : List (List ℕ)) (after : Sim)
+    → ArePlayedTo most was now old all left lives → left ≡ [] → medium_in lives.stage ≡ after → PlaysAll was now old most all after
 lines-all most was now old lives all left after so none is = record {
   actions = so.actions;
   acts = given-all (LineActs most) all left so.actions none so.given;
@@ -55,8 +60,9 @@ lines-all most was now old lives all left after so none is = record {
   left = is;
 }
 
-module _ (most : ℕ) (was mid now : Option (List ℕ)) (old between new : LivesValue) (all lines left : List (List ℕ)) (line : List ℕ) (next : lines ≡ line ∷ left)
-    (so : ArePlayedTo most was mid old all lines between) (actions : List Action) (acts : LineActs most line actions) where
+module _ (most : ℕ) (was mid now : Option (List ℕ)) (old between new : LivesValue) (all lines left : List (List ℕ)) (line : List ℕ)
+    (next : lines ≡ line ∷ left) (so : ArePlayedTo most was mid old all lines between) (actions : List Action)
+    (acts : LineActs most line actions) where
   pub lines-more : TellsLives mid now between actions new → ArePlayedTo most was now old all left new
   lines-more tells = record {
     actions = so.actions ++ actions;
@@ -65,16 +71,16 @@ module _ (most : ℕ) (was mid now : Option (List ℕ)) (old between new : Lives
   }
 
   -- a line broke off, and others were left
-  pub lines-break : (fault : ScriptFault) (back : Sim) → BreaksOff mid now between actions new fault → All (IsScriptLine Lives most) left → medium_in new.stage ≡ back
-      → PlaysUpTo was now old most all fault back
+  pub lines-break : (fault : ScriptFault) (back : Sim) → BreaksOff mid now between actions new fault → All (IsScriptLine Lives most) left
+      → medium_in new.stage ≡ back → PlaysUpTo was now old most all fault back
   lines-break fault back breaks are is =
       record {
         first = so.actions;
         part = breaks.first;
         last = breaks.last;
-        stops = given-part (LineActs most) (IsScriptLine Lives most) (λ other is_line. (actions_of is_line.0, line_acts most other is_line.0 is_line.1))
-            all lines left line next so.actions breaks.first breaks.last breaks.rest so.given
-            (subst (λ (l : List Action). LineActs most line l) breaks.parts acts) are;
+        stops = given-part (LineActs most) (IsScriptLine Lives most)
+            (λ other is_line. (actions_of is_line.0, line_acts most other is_line.0 is_line.1)) all lines left line next so.actions
+            breaks.first breaks.last breaks.rest so.given (subst (λ (l : List Action). LineActs most line l) breaks.parts acts) are;
         new = new;
         answers = so.tells.answers ++ breaks.answers;
         ends = ends-behind was mid now old between new so.actions so.tells fault actions breaks;

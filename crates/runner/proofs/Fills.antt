@@ -22,7 +22,9 @@ two_digits (a ∷ []) number fill byte count parts two decoded counted = absurd 
 two_digits (a ∷ b ∷ c ∷ digits) number fill byte count parts two decoded counted = absurd (omega arith)
 
 -- what stands behind the word of a line that spells a fill
-pub fill_parts : (line fill : List ℕ) (byte count : ℕ) → line ≡ codes "fill " ++ fill → SpellsFill line byte count → AreParts fill byte count
+pub fill_parts : (line fill : List ℕ) (byte count : ℕ) → line ≡ codes "fill " ++ fill → SpellsFill line byte count
+    → AreParts fill byte count
 fill_parts line fill byte count behind spelled =
     let same = append_cancel_left (codes "fill ") fill (spelled.digits ++ codes " " ++ spelled.number) (sym behind ∙ spelled.parts) in
-    two_digits spelled.digits spelled.number fill byte count same (decode_of-ok spelled.digits (byte ∷ []) spelled.decoded).2 spelled.decoded spelled.counted
+    two_digits spelled.digits spelled.number fill byte count same (decode_of-ok spelled.digits (byte ∷ []) spelled.decoded).2
+    spelled.decoded spelled.counted

@@ -50,7 +50,8 @@ walked-slots_name : (image blocks : List ℕ) → walked rules [] (behind_blocks
 unfolding clap_on_literals
 walked-slots_name image blocks = refl
 
-walked-slots : (image blocks slots : List ℕ) → IsPlain slots → walked rules [] (at_slots image blocks) slots ≡ behind_slots image blocks slots
+walked-slots : (image blocks slots : List ℕ) → IsPlain slots
+    → walked rules [] (at_slots image blocks) slots ≡ behind_slots image blocks slots
 unfolding clap_on_literals
 walked-slots image blocks slots plain = let a = plain.stripped in let b = plain.other in simp (a, b)
 
@@ -77,7 +78,8 @@ at_format image blocks slots = at_name shape (codes "format") (codes "--format")
 abbrev behind_format : List ℕ → List ℕ → List ℕ → List ℕ → Walk
 behind_format image blocks slots number = behind_value shape (codes "format") number (at_format image blocks slots)
 
-walked-format_name : (image blocks slots : List ℕ) → walked rules [] (behind_slots image blocks slots) (codes "--format") ≡ at_format image blocks slots
+walked-format_name : (image blocks slots : List ℕ)
+    → walked rules [] (behind_slots image blocks slots) (codes "--format") ≡ at_format image blocks slots
 unfolding clap_on_literals
 walked-format_name image blocks slots = refl
 
@@ -109,9 +111,12 @@ leads-sizes : (image blocks slots : List ℕ) (ending : List (List ℕ)) (v : Wa
 leads-sizes image blocks slots ending v a b c rest =
     leads-more shape start (behind_image image) v _ _ (turn-image image a) (walked-image image a)
     (leads-more shape (behind_image image) (at_blocks image) v _ _ (turn-blocks_name image) (walked-blocks_name image)
-    (leads-more shape (at_blocks image) (behind_blocks image blocks) v _ _ (turn-blocks image blocks b) (walked-blocks image blocks b)
-    (leads-more shape (behind_blocks image blocks) (at_slots image blocks) v _ _ (turn-slots_name image blocks) (walked-slots_name image blocks)
-    (leads-more shape (at_slots image blocks) (behind_slots image blocks slots) v _ _ (turn-slots image blocks slots c) (walked-slots image blocks slots c) rest))))
+    (leads-more shape (at_blocks image) (behind_blocks image blocks) v _ _ (turn-blocks image blocks b)
+    (walked-blocks image blocks b)
+    (leads-more shape (behind_blocks image blocks) (at_slots image blocks) v _ _ (turn-slots_name image blocks)
+    (walked-slots_name image blocks)
+    (leads-more shape (at_slots image blocks) (behind_slots image blocks slots) v _ _ (turn-slots image blocks slots c)
+    (walked-slots image blocks slots c) rest))))
 
 -- the parser of `format` passes its words, without a format and with one
 pub sizes_pass : (image blocks slots : List ℕ) → IsPlain image → IsPlain blocks → IsPlain slots
@@ -121,9 +126,12 @@ sizes_pass image blocks slots a b c =
     level shape end _ (leads-sizes image blocks slots [] end a b c (leads-none shape end)) (end-slots image blocks slots)
 
 pub format_passes : (image blocks slots number : List ℕ) → IsPlain image → IsPlain blocks → IsPlain slots → IsPlain number
-    → level_passes shape [] nothing_held (image ∷ codes "--blocks" ∷ blocks ∷ codes "--slots" ∷ slots ∷ codes "--format" ∷ number ∷ []) false ≡ true
+    → level_passes shape [] nothing_held (image ∷ codes "--blocks" ∷ blocks ∷ codes "--slots" ∷ slots ∷ codes "--format" ∷ number ∷ [])
+    false ≡ true
 format_passes image blocks slots number a b c d =
     let end = behind_format image blocks slots number in
-    let at_end = leads-more shape (at_format image blocks slots) end end _ _ (turn-format image blocks slots number d) (walked-format image blocks slots number d) (leads-none shape end) in
-    let ending = leads-more shape (behind_slots image blocks slots) (at_format image blocks slots) end _ _ (turn-format_name image blocks slots) (walked-format_name image blocks slots) at_end in
+    let at_end = leads-more shape (at_format image blocks slots) end end _ _ (turn-format image blocks slots number d)
+    (walked-format image blocks slots number d) (leads-none shape end) in
+    let ending = leads-more shape (behind_slots image blocks slots) (at_format image blocks slots) end _ _
+    (turn-format_name image blocks slots) (walked-format_name image blocks slots) at_end in
     level shape end _ (leads-sizes image blocks slots _ end a b c ending) (end-format image blocks slots number)

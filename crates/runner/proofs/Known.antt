@@ -7,7 +7,8 @@ pub Appends-none : (old : Option (List ℕ)) → Appends old old []
 Appends-none None = tt
 Appends-none (Some bytes) = sym (append-nil bytes)
 
-pub Appends-more : (old mid new : Option (List ℕ)) (text more : List ℕ) → Appends old mid text → Appends mid new more → Appends old new (text ++ more)
+pub Appends-more : (old mid new : Option (List ℕ)) (text more : List ℕ) → Appends old mid text → Appends mid new more
+    → Appends old new (text ++ more)
 Appends-more None mid new text more first next = tt
 Appends-more (Some old) None new text more first next = absurd first
 Appends-more (Some old) (Some mid) None text more first next = absurd next
@@ -20,7 +21,8 @@ Appends-kept (Some old) (Some mid) None text first kept = absurd kept
 Appends-kept (Some old) (Some mid) (Some new) text first kept = kept ∙ first
 
 -- all of one text, and then all of another and a first part of more
-pub AppendsUpTo-more : (old mid new : Option (List ℕ)) (text more bytes : List ℕ) → Appends old mid text → AppendsUpTo mid new more bytes → AppendsUpTo old new (text ++ more) bytes
+pub AppendsUpTo-more : (old mid new : Option (List ℕ)) (text more bytes : List ℕ) → Appends old mid text → AppendsUpTo mid new more bytes
+    → AppendsUpTo old new (text ++ more) bytes
 AppendsUpTo-more old mid new text more bytes first next = record {
   written = next.written;
   rest = next.rest;
@@ -31,6 +33,7 @@ AppendsUpTo-more old mid new text more bytes first next = record {
 }
 
 -- all of one text, and a first part of another
-pub AppendsSome-more : (old mid new : Option (List ℕ)) (text bytes : List ℕ) → Appends old mid text → AppendsSome mid new bytes → AppendsUpTo old new text bytes
+pub AppendsSome-more : (old mid new : Option (List ℕ)) (text bytes : List ℕ) → Appends old mid text → AppendsSome mid new bytes
+    → AppendsUpTo old new text bytes
 AppendsSome-more old mid new text bytes first next =
     subst (λ (l : List ℕ). AppendsUpTo old new l bytes) (append-nil text) (AppendsUpTo-more old mid new text [] bytes first next)

@@ -25,3 +25,4 @@ pub mod Refusals
 pub mod LineEnds
 pub mod Serving
 pub mod LiveRefusals
+pub mod NoScript

@@ -1,5 +1,6 @@
 -- Lines that come byte by byte: where they end, and which are none.
-use Rattle.std.proofs.Common.{◌≡◌, ◌==◌, ◌<◌, ◌≤◌, ℕ, ◌+◌, false, List, [], ◌∷◌, ◌++◌, length, codes, slice_index, inl, inr, refl, sym, ap, subst, ◌∙◌, arith, length-append}
+use Rattle.std.proofs.Common.{◌≡◌, ◌==◌, ◌<◌, ◌≤◌, ℕ, ◌+◌, false, List, [], ◌∷◌, ◌++◌, length, codes, slice_index, inl, inr, refl, sym, ap}
+use Rattle.std.proofs.Common.{subst, ◌∙◌, arith, length-append}
 use Rattle.std.proofs.lemmas.Bool.{cases_Bool}
 use Rattle.std.specs.Prelude.{◌⊎◌}
 use Rattle.std.specs.List.{onto_first}
@@ -43,7 +44,8 @@ first_line (byte ∷ bytes) =
     ]
 
 -- it begins with what stands before any line feed
-pub begins : (line more : List ℕ) → IsUnended line → (rest : List ℕ) × (after : List (List ℕ)) × (lines_of (line ++ more) ≡ (line ++ rest) ∷ after)
+pub begins : (line more : List ℕ) → IsUnended line
+    → (rest : List ℕ) × (after : List (List ℕ)) × (lines_of (line ++ more) ≡ (line ++ rest) ∷ after)
 begins [] more is = first_line more
 begins (byte ∷ line) more is =
     let P : ℕ → Type 0 = λ b. (b == 10) ≡ false in
@@ -55,20 +57,27 @@ differ : (a b : ℕ) (xs ys : List ℕ) → a ∷ xs ≡ b ∷ ys → a ≡ b
 differ a b xs ys is = ap (λ (l : List ℕ). slice_index l 0) is
 
 -- a comment plays nothing
-pub comment_skips : (most : ℕ) (comment : List ℕ) (asked : ScriptLine) → Spells most (codes "#" ++ comment) asked → Allows OneLife asked → events_of asked ≡ []
+pub comment_skips : (most : ℕ) (comment : List ℕ) (asked : ScriptLine) → Spells most (codes "#" ++ comment) asked → Allows OneLife asked
+    → events_of asked ≡ []
 comment_skips most comment Skipped spelled allowed = refl
-comment_skips most comment (Out packet) (inl (is, none)) allowed = let e : 35 ≡ 111 = ap (λ (l : List ℕ). slice_index l 0) is in absurd (omega (arith, e))
-comment_skips most comment (Out packet) (inr (digits, is, spelled)) allowed = let e : 35 ≡ 111 = ap (λ (l : List ℕ). slice_index l 0) is in absurd (omega (arith, e))
-comment_skips most comment (Fill byte count size) spelled allowed = let e : 35 ≡ 102 = ap (λ (l : List ℕ). slice_index l 0) spelled.0.parts in absurd (omega (arith, e))
+comment_skips most comment (Out packet) (inl (is, none)) allowed =
+    let e : 35 ≡ 111 = ap (λ (l : List ℕ). slice_index l 0) is in absurd (omega (arith, e))
+comment_skips most comment (Out packet) (inr (digits, is, spelled)) allowed =
+    let e : 35 ≡ 111 = ap (λ (l : List ℕ). slice_index l 0) is in absurd (omega (arith, e))
+comment_skips most comment (Fill byte count size) spelled allowed =
+    let e : 35 ≡ 102 = ap (λ (l : List ℕ). slice_index l 0) spelled.0.parts in absurd (omega (arith, e))
 comment_skips most comment In spelled allowed = let e : 35 ≡ 105 = ap (λ (l : List ℕ). slice_index l 0) spelled in absurd (omega (arith, e))
-comment_skips most comment (Setup packet) spelled allowed = let e : 35 ≡ 115 = ap (λ (l : List ℕ). slice_index l 0) spelled.parts in absurd (omega (arith, e))
-comment_skips most comment (Tick count) spelled allowed = let e : 35 ≡ 116 = ap (λ (l : List ℕ). slice_index l 0) spelled.parts in absurd (omega (arith, e))
+comment_skips most comment (Setup packet) spelled allowed =
+    let e : 35 ≡ 115 = ap (λ (l : List ℕ). slice_index l 0) spelled.parts in absurd (omega (arith, e))
+comment_skips most comment (Tick count) spelled allowed =
+    let e : 35 ≡ 116 = ap (λ (l : List ℕ). slice_index l 0) spelled.parts in absurd (omega (arith, e))
 comment_skips most comment (Fuse writes) spelled allowed = absurd allowed
 comment_skips most comment (Fail call) spelled allowed = absurd allowed
 comment_skips most comment (Cut kept) spelled allowed = absurd allowed
 
 -- what is held of a line plays what the line does
-pub plays_line : (most : ℕ) (held line : List ℕ) (events : List Event) → StandsFor held line → LinePlays most held events → LinePlays most line events
+pub plays_line : (most : ℕ) (held line : List ℕ) (events : List Event) → StandsFor held line → LinePlays most held events
+    → LinePlays most line events
 plays_line most held line events (inl same) plays = subst (λ (l : List ℕ). LinePlays most l events) same plays
 plays_line most held line events (inr (kept, comment, is_held, is_line)) plays = record {
   asked = Skipped;
@@ -89,14 +98,20 @@ pub stands-more : (held new line : List ℕ) (byte : ℕ) → StandsFor held lin
     → StandsFor new (line ++ byte ∷ [])
 stands-more held new line byte (inl same) (inl is) = inl (is ∙ ap (λ (l : List ℕ). l ++ byte ∷ []) same)
 stands-more held new line byte (inr (kept, comment, is_held, is_line)) (inl is) =
-    inr (kept ++ byte ∷ [], comment ++ byte ∷ [], is ∙ ap (λ (l : List ℕ). l ++ byte ∷ []) is_held, ap (λ (l : List ℕ). l ++ byte ∷ []) is_line)
+    inr (
+      kept ++ byte ∷ [],
+      comment ++ byte ∷ [],
+      is ∙ ap (λ (l : List ℕ). l ++ byte ∷ []) is_held,
+      ap (λ (l : List ℕ). l ++ byte ∷ []) is_line,
+    )
 stands-more held new line byte (inl same) (inr (is, so)) =
     inr (so.0, so.0 ++ byte ∷ [], is ∙ so.1, ap (λ (l : List ℕ). l ++ byte ∷ []) (sym same ∙ so.1))
 stands-more held new line byte (inr (kept, comment, is_held, is_line)) (inr (is, so)) =
     inr (kept, comment ++ byte ∷ [], is ∙ is_held, ap (λ (l : List ℕ). l ++ byte ∷ []) is_line)
 
 -- what begins a comment, and is not empty, is one
-pub first_is : (line rest comment : List ℕ) → 0 < length line → line ++ rest ≡ codes "#" ++ comment → (tail : List ℕ) × (line ≡ codes "#" ++ tail)
+pub first_is : (line rest comment : List ℕ) → 0 < length line → line ++ rest ≡ codes "#" ++ comment
+    → (tail : List ℕ) × (line ≡ codes "#" ++ tail)
 first_is [] rest comment some is = absurd (omega (arith, some))
 first_is (byte ∷ line) rest comment some is = (line, ap (λ b. b ∷ line) (differ byte 35 (line ++ rest) comment is))
 

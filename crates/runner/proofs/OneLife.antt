@@ -24,8 +24,8 @@ use Rattle.runner.proofs.Runs.{answers_of}
 
 -- a disk that has started, and then played events, lived a life
 abbrev pub life : {M : Type 0} (most : ℕ) (before mid after : State) (old new : DiskValue M) (events : List Event) (answers : List Answer)
-    (refusals : List Bool) → IsOpened before mid (device most) old → StartLeaves before mid → Answers mid after old events answers refusals new
-    → IsLife most before after events answers
+    (refusals : List Bool) → IsOpened before mid (device most) old → StartLeaves before mid
+    → Answers mid after old events answers refusals new → IsLife most before after events answers
 life most before mid after old new events answers refusals opening leaves so = record {
   shape = layout_of old.unit.store.cached;
   array = opening.store.array;
@@ -44,20 +44,23 @@ life most before mid after old new events answers refusals opening leaves so = r
       );
 }
 
-module _ {M : Type 0} (state : M → State) (most : ℕ) (remaining was now : Option (List ℕ)) (medium : M) (script : List ℕ) (read : IsRead remaining script)
-    (identity : Identification) (same : identity ≡ identification) (disk : DiskValue M)
+module _ {M : Type 0} (state : M → State) (most : ℕ) (remaining was now : Option (List ℕ)) (medium : M) (script : List ℕ)
+    (read : IsRead remaining script) (identity : Identification) (same : identity ≡ identification) (disk : DiskValue M)
     (opening : IsOpened (state medium) (state disk.unit.store.medium) (record { identity = identity; packet_size = most }) disk)
     (leaves : StartLeaves (state medium) (state disk.unit.store.medium)) where
   -- the disk played events
   abbrev lived : (events : List Event) (answers : List Answer) (refusals : List Bool) (new : DiskValue M) (after : M)
-      → StepsThrough state disk events answers refusals new → new.unit.store.medium ≡ after → IsLife most (state medium) (state after) events answers
+      → StepsThrough state disk events answers refusals new → new.unit.store.medium ≡ after
+      → IsLife most (state medium) (state after) events answers
   lived events answers refusals new after steps is =
       let at_end = subst (λ (m : M). Answers (state disk.unit.store.medium) (state m) disk events answers refusals new) is
       (answers_of state events answers refusals disk new steps) in
-      life most (state medium) (state disk.unit.store.medium) (state after) disk new events answers refusals (rw same at opening) leaves at_end
+      life most (state medium) (state disk.unit.store.medium) (state after) disk new events answers refusals (rw same at opening) leaves
+      at_end
 
   left : (events : List Event) (answers : List Answer) (refusals : List Bool) (new : DiskValue M) (after : M)
-      → StepsThrough state disk events answers refusals new → new.unit.store.medium ≡ after → IsLeftBy state most medium events answers refusals after
+      → StepsThrough state disk events answers refusals new → new.unit.store.medium ≡ after
+      → IsLeftBy state most medium events answers refusals after
   left events answers refusals new after steps is = record {
     first = disk;
     opens = rw same at opening;
@@ -69,7 +72,8 @@ module _ {M : Type 0} (state : M → State) (most : ℕ) (remaining was now : Op
 
   -- a script that was played whole
   pub is_played : (after : M)
-      → (events : List Event) × (text : List ℕ) × Plays most (lines_of script) events × Leaves state disk events text after × Appends was now text
+      → (events : List Event) × (text : List ℕ) × Plays most (lines_of script) events × Leaves state disk events text after
+      × Appends was now text
       → IsPlayed state most remaining was now medium after
   is_played after so = record {
     script = script;

@@ -52,7 +52,8 @@ module _ (verb : List ℕ) where
   unfolding clap_on_literals
   turn-packet_name image script = refl
 
-  walked-packet : (image script bytes : List ℕ) → IsPlain bytes → walked rules [] (at_packet image script) bytes ≡ behind_packet image script bytes
+  walked-packet : (image script bytes : List ℕ) → IsPlain bytes
+      → walked rules [] (at_packet image script) bytes ≡ behind_packet image script bytes
   unfolding clap_on_literals
   walked-packet image script bytes plain = let a = plain.stripped in let b = plain.other in simp (a, b)
 
@@ -72,7 +73,8 @@ module _ (verb : List ℕ) where
       → Leads shape (behind_script image script) v ending → Leads shape start v (image ∷ script ∷ ending)
   leads-files image script ending v a b rest =
       leads-more shape start (behind_image image) v _ _ (turn-image image a) (walked-image image a)
-      (leads-more shape (behind_image image) (behind_script image script) v _ _ (turn-script image script b) (walked-script image script b) rest)
+      (leads-more shape (behind_image image) (behind_script image script) v _ _ (turn-script image script b)
+      (walked-script image script b) rest)
 
   -- the parser passes the words, without a packet's size and with one
   pub files_pass : (image script : List ℕ) → IsPlain image → IsPlain script
@@ -85,6 +87,8 @@ module _ (verb : List ℕ) where
       → level_passes shape [] nothing_held (image ∷ script ∷ codes "--packet" ∷ bytes ∷ []) false ≡ true
   packet_passes image script bytes a b c =
       let end = behind_packet image script bytes in
-      let at_end = leads-more shape (at_packet image script) end end _ _ (turn-packet image script bytes c) (walked-packet image script bytes c) (leads-none shape end) in
-      let ending = leads-more shape (behind_script image script) (at_packet image script) end _ _ (turn-packet_name image script) (walked-packet_name image script) at_end in
+      let at_end = leads-more shape (at_packet image script) end end _ _ (turn-packet image script bytes c)
+      (walked-packet image script bytes c) (leads-none shape end) in
+      let ending = leads-more shape (behind_script image script) (at_packet image script) end _ _ (turn-packet_name image script)
+      (walked-packet_name image script) at_end in
       level shape end _ (leads-files image script _ end a b ending) (end-packet image script bytes)

@@ -1,5 +1,6 @@
 -- Media over which a life opens: one that was formatted or migrated and cut, and one that lives have left.
-use Rattle.std.proofs.Common.{◌≡◌, ℕ, ◌+◌, ◌/◌, Bool, true, false, List, [], ◌∷◌, ◌++◌, replicate, refl, sym, ap, subst, ◌∙◌, ⊎_elim, inl, inr, arith, append_assoc}
+use Rattle.std.proofs.Common.{◌≡◌, ℕ, ◌+◌, ◌/◌, Bool, true, false, List, [], ◌∷◌, ◌++◌, replicate, refl, sym, ap, subst, ◌∙◌, ⊎_elim, inl}
+use Rattle.std.proofs.Common.{inr, arith, append_assoc}
 use Rattle.std.proofs.lemmas.Bool.{cases_Bool}
 use Rattle.std.specs.Prelude.{map, Result}
 use Rattle.medium.specs.Blocks.{Array}
@@ -23,7 +24,8 @@ use Rattle.bot_machine.specs.Conversation.{Conversation, Begins, Opens as OpensE
 use Rattle.bot_machine.specs.Disk.{UnitStep}
 use Rattle.bot_machine.specs.Exchange.{Script, finished, taking, sending, Moment, at_once, after_data, never, moment_of}
 use Rattle.bot_machine.specs.Intentions.{Intends}
-use Rattle.bot_machine.specs.Lives.{Action, arms, fails, starts, plays, cuts, Remains, Place, before_first, between, runs, off, Standing, Opens, LifeBegins, PowerGoes, LivesStep, LivesRun, after_cut}
+use Rattle.bot_machine.specs.Lives.{Action, arms, fails, starts, plays, cuts, Remains, Place, before_first, between, runs, off, Standing}
+use Rattle.bot_machine.specs.Lives.{Opens, LifeBegins, PowerGoes, LivesStep, LivesRun, after_cut}
 use Rattle.bot_machine.specs.LivesValue.{OpensOn, HasLimit, book_at, FoundAt}
 use Rattle.bot_machine.specs.Lifetimes.{first_standing, actions_of_all, armed_by}
 use Rattle.bot_machine.proofs.Beginning.{next_opens}
@@ -31,12 +33,13 @@ use Rattle.bot_machine.proofs.UnitLaws.{knows_images, ours_stay}
 use Rattle.runner.specs.Laws.{IsReadyFor, FormatIsReady, MigrationIsReady, LivesAreReady}
 
 -- an image that is ours for a book is ours for something
-ours_for_some : (size blocks : ℕ) (image : Image) (array : Array) (next : ℕ) → StandsAs size blocks image array next → IsOursForSome size image
+ours_for_some : (size blocks : ℕ) (image : Image) (array : Array) (next : ℕ) → StandsAs size blocks image array next
+    → IsOursForSome size image
 ours_for_some size blocks image array next s = (s.0, array, next, s.2)
 
 -- where nothing is unflushed and the contents are ours for a book, a life opens with it
-opens_at_rest : (m : Sim) (blocks : ℕ) (array : Array) (next : ℕ) → m.unflushed ≡ [] → StandsAs (state_of m).size blocks (state_of m).content array next
-    → OpensOn (state_of m) (opened blocks array next true)
+opens_at_rest : (m : Sim) (blocks : ℕ) (array : Array) (next : ℕ) → m.unflushed ≡ []
+    → StandsAs (state_of m).size blocks (state_of m).content array next → OpensOn (state_of m) (opened blocks array next true)
 opens_at_rest m blocks array next none stands = record {
   opens = refl;
   stands = knows_images.stands_for (state_of m).size (opened blocks array next true) (state_of m).content stands;
@@ -99,7 +102,8 @@ format_is_ready = λ shape made cut keep f c.
 pub migration_is_ready : MigrationIsReady
 migration_is_ready = λ old made cut answer keep size m c.
     is_ready m.shape.blocks (answer.next + 1) m.array made cut keep m.made.flushed
-    (subst (λ (n : ℕ). StandsAs n m.shape.blocks (state_of made).content m.array (answer.next + 1)) (sym size) (migrated m.shape, refl, m.ours)) c
+    (subst (λ (n : ℕ). StandsAs n m.shape.blocks (state_of made).content m.array (answer.next + 1)) (sym size)
+    (migrated m.shape, refl, m.ours)) c
 
 -- ---- whether every image was ours when lives began does not change
 
@@ -117,10 +121,13 @@ module _ (refused : Bool) where
       → CarriesOut refused block bytes old.unit answer new.unit → ours_in new ≡ ours_in old
   carried_ours block bytes old new answer effect = ours_stay refused block bytes old.unit new.unit answer effect
 
-  opens_ours : (packet : List ℕ) (old new : Conversation UnitState) → OpensExchange Intends CarriesOut Ticks refused packet old new → ours_in new ≡ ours_in old
+  opens_ours : (packet : List ℕ) (old new : Conversation UnitState) → OpensExchange Intends CarriesOut Ticks refused packet old new
+      → ours_in new ≡ ours_in old
   opens_ours packet old new o =
-      let begun : Begins Intends CarriesOut Ticks refused (moment_of o.case) o.case o.command o.intended old new → ours_in new ≡ ours_in old =
-      elim (moment_of o.case) as (λ (m : Moment). Begins Intends CarriesOut Ticks refused m o.case o.command o.intended old new → ours_in new ≡ ours_in old) [
+      let begun : Begins Intends CarriesOut Ticks refused (moment_of o.case) o.case o.command o.intended old new
+      → ours_in new ≡ ours_in old =
+      elim (moment_of o.case) as
+      (λ (m : Moment). Begins Intends CarriesOut Ticks refused m o.case o.command o.intended old new → ours_in new ≡ ours_in old) [
         | at_once ↦ λ h. carried_ours _ _ old new h.answer h.effect
         | after_data ↦ λ h. unit_ours old new h.0
         | never ↦ λ h. unit_ours old new h.0
@@ -134,15 +141,18 @@ module _ (refused : Bool) where
       ⊎_elim (λ o. opens_ours packet old new o) (λ l. unit_ours old new l.unit) h.1
   out_ours false (taking case command intended bytes due) packet old new answer h =
       ⊎_elim (λ more. unit_ours old new more.unit)
-      (λ rest. ⊎_elim (λ last. carried_ours _ _ old new last.carried_out.answer last.carried_out.effect) (λ b. unit_ours old new b.unit) rest) h.1
+      (λ rest. ⊎_elim (λ last. carried_ours _ _ old new last.carried_out.answer last.carried_out.effect) (λ b. unit_ours old new b.unit)
+      rest) h.1
   out_ours false (sending packets halt status) packet old new answer h = whole_ours old new h.1
 
   -- in an event
-  step_ours : (happens : Event) (old new : Conversation UnitState) (answer : Answer) → UnitStep refused old happens answer new → ours_in new ≡ ours_in old
+  step_ours : (happens : Event) (old new : Conversation UnitState) (answer : Answer) → UnitStep refused old happens answer new
+      → ours_in new ≡ ours_in old
   step_ours (event.Out packet) old new answer h = out_ours old.line.out_halted old.line.left packet.items old new answer h
   step_ours event.In old new answer h = ap ours_in h.1
   step_ours (event.Setup packet) old new answer h = unit_ours old new h.1
-  step_ours event.Tick old new answer h = ⊎_elim (λ same. unit_ours old new same) (λ faulted. ap (λ (u : UnitState). u.book.ours) faulted.after) h.1
+  step_ours event.Tick old new answer h =
+      ⊎_elim (λ same. unit_ours old new same) (λ faulted. ap (λ (u : UnitState). u.book.ours) faulted.after) h.1
 
 -- ---- where lives stand
 
@@ -159,10 +169,13 @@ record IsFrom (book : Book) (place : Place) : Type 0 where
 
 module _ (device : Device) (book : Book) where
   -- power goes
-  from_off : (refused : Bool) (old new : Standing) (remains : Remains) → PowerGoes refused remains old new → remains.book.ours ≡ book.ours → IsFrom book new.place
-  from_off refused old new remains goes ours = subst (λ (s : Standing). IsFrom book s.place) (sym goes.after) (record { first = tt; ours = ours })
+  from_off : (refused : Bool) (old new : Standing) (remains : Remains) → PowerGoes refused remains old new → remains.book.ours ≡ book.ours
+      → IsFrom book new.place
+  from_off refused old new remains goes ours =
+      subst (λ (s : Standing). IsFrom book s.place) (sym goes.after) (record { first = tt; ours = ours })
 
-  from_begun : (refused : Bool) (old new : Standing) (begins : LifeBegins device refused old new) → begins.book.ours ≡ book.ours → IsFrom book new.place
+  from_begun : (refused : Bool) (old new : Standing) (begins : LifeBegins device refused old new) → begins.book.ours ≡ book.ours
+      → IsFrom book new.place
   from_begun refused old new begins ours = ⊎_elim
       (λ is. subst (λ (s : Standing). IsFrom book s.place) (sym is) (record { first = tt; ours = ours }))
       (λ goes. from_off refused old new _ goes ours) begins.begins
@@ -176,8 +189,9 @@ module _ (device : Device) (book : Book) where
   from_start refused (runs conversation) armed limit new told from h = subst (λ (s : Standing). IsFrom book s.place) (sym h.1) from
   from_start refused (off remains) armed limit new told from h = subst (λ (s : Standing). IsFrom book s.place) (sym h.1) from
 
-  from_event : (refused : Bool) (place : Place) (armed : Bool) (limit : ℕ) (new : Standing) (happens : Event) (told : List Answer) → IsFrom book place
-      → LivesStep device refused (record { place = place; armed = armed; limit = limit }) (plays happens) told new → IsFrom book new.place
+  from_event : (refused : Bool) (place : Place) (armed : Bool) (limit : ℕ) (new : Standing) (happens : Event) (told : List Answer)
+      → IsFrom book place → LivesStep device refused (record { place = place; armed = armed; limit = limit }) (plays happens) told new
+      → IsFrom book new.place
   from_event refused (before_first other) armed limit new happens told from h = absurd h.2
   from_event refused (between remains) armed limit new happens told from h = absurd h.2
   from_event refused (runs conversation) armed limit new happens told from h = ⊎_elim
@@ -256,8 +270,8 @@ all_between device (life ∷ lives) old new told refusals rests run =
     all_between device lives b.0 new b.1 b.2 b.3 b.4
 
 -- a life opens where no disk runs
-opens_next : (m : Sim) (book : Book) (place : Place) → m.unflushed ≡ [] → book ≡ opened book.blocks book.opening book.stamp book.ours → book.ours ≡ true
-    → IsFrom book place → IsBetween place → EachCut (FoundAt (state_of m).size place) (state_of m)
+opens_next : (m : Sim) (book : Book) (place : Place) → m.unflushed ≡ [] → book ≡ opened book.blocks book.opening book.stamp book.ours
+    → book.ours ≡ true → IsFrom book place → IsBetween place → EachCut (FoundAt (state_of m).size place) (state_of m)
     → (next : Book) × OpensOn (state_of m) next × (next.ours ≡ true) × Opens place next
 opens_next m book (before_first other) none is ours from rests found =
     let stands : StandsAs (state_of m).size other.blocks (state_of m).content other.opening other.stamp =
@@ -280,7 +294,8 @@ pub lives_are_ready : LivesAreReady
 lives_are_ready = λ before after device lives told lived limit book opens has ours.
     let ends = lived.ends limit book opens has in
     let first : Standing = first_standing limit book in
-    let from = from_run device book (actions_of_all lives) first ends.last told lived.refusals (record { first = refl; ours = refl }) ends.run in
+    let from =
+    from_run device book (actions_of_all lives) first ends.last told lived.refusals (record { first = refl; ours = refl }) ends.run in
     let rests = all_between device lives first ends.last told lived.refusals tt ends.run in
     let next = opens_next after book ends.last.place lived.rests.flushed opens.opens ours from rests (ends.found ours) in (
       next.0,

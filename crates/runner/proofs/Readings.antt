@@ -5,9 +5,10 @@ use Rattle.runner.specs.declared.line.ScriptLine.{ScriptLine}
 use Rattle.runner.specs.declared.line.ScriptLine.TheVariants.{Skipped, Out, Fill, In, Setup, Tick, Fuse, Fail, Cut}
 use Rattle.runner.specs.Line.{Spells, Allows, SpellsOut, SpellsFill, SpellsSetup, SpellsCount}
 
-pub is_plain : (most : ℕ) (line : List ℕ) → ((packet : List ℕ) → SpellsOut most line packet → ⊥) → ((byte count : ℕ) → SpellsFill line byte count → ⊥)
-    → ((packet : List ℕ) → SpellsSetup line packet → ⊥) → ((count : ℕ) → SpellsCount (codes "tick ") 1 1000000 line count → ⊥)
-    → (asked : ScriptLine) → Spells most line asked → Allows OneLife asked → (asked ≡ Skipped) ⊎ (asked ≡ In)
+pub is_plain : (most : ℕ) (line : List ℕ) → ((packet : List ℕ) → SpellsOut most line packet → ⊥)
+    → ((byte count : ℕ) → SpellsFill line byte count → ⊥) → ((packet : List ℕ) → SpellsSetup line packet → ⊥)
+    → ((count : ℕ) → SpellsCount (codes "tick ") 1 1000000 line count → ⊥) → (asked : ScriptLine) → Spells most line asked
+    → Allows OneLife asked → (asked ≡ Skipped) ⊎ (asked ≡ In)
 is_plain most line no_out no_fill no_setup no_tick Skipped spelled allowed = inl refl
 is_plain most line no_out no_fill no_setup no_tick (Out packet) spelled allowed = absurd (no_out packet.items spelled)
 is_plain most line no_out no_fill no_setup no_tick (Fill byte count size) spelled allowed = absurd (no_fill byte count spelled.0)

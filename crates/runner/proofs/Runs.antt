@@ -1,5 +1,6 @@
 -- Runs of a disk, one after another.
-use Rattle.std.proofs.Common.{◌≡◌, ℕ, Bool, Option, List, [], ◌∷◌, ◌++◌, length, nat_lt, refl, sym, ap, ◌∙◌, subst, arith, append_assoc, append-nil, length-append, ltb-true}
+use Rattle.std.proofs.Common.{◌≡◌, ℕ, Bool, Option, List, [], ◌∷◌, ◌++◌, length, nat_lt, refl, sym, ap, ◌∙◌, subst, arith, append_assoc}
+use Rattle.std.proofs.Common.{append-nil, length-append, ltb-true}
 use Rattle.medium.specs.Medium.{State}
 use Rattle.bot_machine.specs.Rules.{UnitState}
 use Rattle.bot_machine.specs.declared.event.Event.{Event}
@@ -16,7 +17,8 @@ use Rattle.std.specs.Io.KnownBytes.{Appends}
 
 -- a run goes on by another
 pub UnitRun-append : (first rest : List Event) (told more : List Answer) (refused later : List Bool) (old mid new : Conversation UnitState)
-    → UnitRun old first told refused mid → UnitRun mid rest more later new → UnitRun old (first ++ rest) (told ++ more) (refused ++ later) new
+    → UnitRun old first told refused mid → UnitRun mid rest more later new
+    → UnitRun old (first ++ rest) (told ++ more) (refused ++ later) new
 UnitRun-append [] rest [] more [] later old mid new done next =
     subst (λ (c : Conversation UnitState). UnitRun c rest more later new) done next
 UnitRun-append (event ∷ first) rest (answer ∷ told) more (refusal ∷ refused) later old mid new done next =
@@ -47,18 +49,18 @@ module _ {M : Type 0} where
   }
 
   answers-one : (before after : State) (old : DiskValue M) (event : Event) (answer : Answer) (new : DiskValue M)
-      → IsStep before after old event answer new → Answers before after old (event ∷ []) (answer ∷ []) (nat_lt before.failures after.failures ∷ []) new
+      → IsStep before after old event answer new
+      → Answers before after old (event ∷ []) (answer ∷ []) (nat_lt before.failures after.failures ∷ []) new
   answers-one before after old event answer new step = record {
     one_each = refl;
-    refused = one_counted (nat_lt before.failures after.failures) before.failures after.failures (ltb-true before.failures after.failures) step.elapses.failures_stay;
+    refused = one_counted (nat_lt before.failures after.failures) before.failures after.failures (ltb-true before.failures after.failures)
+        step.elapses.failures_stay;
     size_stays = step.elapses.size_stays;
-    runs = λ book fits.
-        let on = step.proceeds book fits in
-        (on.later, (over new on.later, on.moves, refl), on.fits, on.ours);
+    runs = λ book fits. let on = step.proceeds book fits in (on.later, (over new on.later, on.moves, refl), on.fits, on.ours);
   }
 
-  answers-more : (before mid after : State) (old between new : DiskValue M) (first rest : List Event) (told more : List Answer) (refused others : List Bool)
-      → Answers before mid old first told refused between → Answers mid after between rest more others new
+  answers-more : (before mid after : State) (old between new : DiskValue M) (first rest : List Event) (told more : List Answer)
+      (refused others : List Bool) → Answers before mid old first told refused between → Answers mid after between rest more others new
       → Answers before after old (first ++ rest) (told ++ more) (refused ++ others) new
   answers-more before mid after old between new first rest told more refused others done next = record {
     one_each = omega (arith, length-append told more, length-append first rest, done.one_each, next.one_each);
@@ -79,7 +81,8 @@ module _ {M : Type 0} where
     pub steps-append : (first rest : List Event) (told more : List Answer) (refused others : List Bool) (old mid new : DiskValue M)
         → StepsThrough state old first told refused mid → StepsThrough state mid rest more others new
         → StepsThrough state old (first ++ rest) (told ++ more) (refused ++ others) new
-    steps-append [] rest [] more [] others old mid new done next = subst (λ (d : DiskValue M). StepsThrough state d rest more others new) done next
+    steps-append [] rest [] more [] others old mid new done next =
+        subst (λ (d : DiskValue M). StepsThrough state d rest more others new) done next
     steps-append (event ∷ first) rest (answer ∷ told) more (refusal ∷ refused) others old mid new done next =
         (done.0, done.1, steps-append first rest told more refused others done.0 mid new done.2 next)
     steps-append [] rest [] more (refusal ∷ refused) others old mid new done next = absurd done
@@ -107,10 +110,11 @@ module _ {M : Type 0} where
         let mid = steps.0 in
         let before = state old.unit.store.medium in
         let after = state mid.unit.store.medium in
-        subst (λ (r : Bool). Answers before (state new.unit.store.medium) old (event ∷ events) (answer ∷ answers) (r ∷ refusals) new) (sym steps.1.1)
+        subst (λ (r : Bool). Answers before (state new.unit.store.medium) old (event ∷ events) (answer ∷ answers) (r ∷ refusals) new)
+        (sym steps.1.1)
         (answers-more before after (state new.unit.store.medium) old mid new (event ∷ []) events (answer ∷ []) answers
-        (nat_lt before.failures after.failures ∷ []) refusals
-        (answers-one before after old event answer mid steps.1.0) (answers_of events answers refusals mid new steps.2))
+        (nat_lt before.failures after.failures ∷ []) refusals (answers-one before after old event answer mid steps.1.0)
+        (answers_of events answers refusals mid new steps.2))
     answers_of [] [] (refused ∷ refusals) old new steps = absurd steps
     answers_of [] (answer ∷ answers) [] old new steps = absurd steps
     answers_of [] (answer ∷ answers) (refused ∷ refusals) old new steps = absurd steps
@@ -159,8 +163,8 @@ module _ {M : Type 0} where
     }
 
     -- events were played and told, and then one more, whose answer was not written whole
-    pub breaks-here : (was mid now : Option (List ℕ)) (old between new : DiskValue M) (events : List Event) (text : List ℕ) (event : Event) (answer : Answer)
-        → Tells state old events text between → Appends was mid text
+    pub breaks-here : (was mid now : Option (List ℕ)) (old between new : DiskValue M) (events : List Event) (text : List ℕ) (event : Event)
+        (answer : Answer) → Tells state old events text between → Appends was mid text
         → IsStep (state between.unit.store.medium) (state new.unit.store.medium) between event answer new
         → AppendsSome mid now (line_for event answer) → BreaksOff state was now old events event new
     breaks-here was mid now old between new events text event answer done written step some = record {
@@ -175,13 +179,13 @@ module _ {M : Type 0} where
     }
 
     -- events were played and told, and others broke off
-    pub breaks-more : (was mid now : Option (List ℕ)) (old between new : DiskValue M) (first events : List Event) (text : List ℕ) (event : Event)
-        → Tells state old first text between → Appends was mid text
-        → BreaksOff state mid now between events event new → BreaksOff state was now old (first ++ events) event new
+    pub breaks-more : (was mid now : Option (List ℕ)) (old between new : DiskValue M) (first events : List Event) (text : List ℕ)
+        (event : Event) → Tells state old first text between → Appends was mid text → BreaksOff state mid now between events event new
+        → BreaksOff state was now old (first ++ events) event new
     breaks-more was mid now old between new first events text event done written breaks =
         let refusals = done.refusals ++ breaks.refusals in
-        let all = steps-append first (events ++ event ∷ []) done.answers (breaks.answers ++ breaks.answer ∷ []) done.refusals breaks.refusals
-        old between new done.steps breaks.steps in
+        let all = steps-append first (events ++ event ∷ []) done.answers (breaks.answers ++ breaks.answer ∷ []) done.refusals
+        breaks.refusals old between new done.steps breaks.steps in
         record {
           answers = done.answers ++ breaks.answers;
           answer = breaks.answer;
@@ -192,6 +196,7 @@ module _ {M : Type 0} where
               (sym (append_assoc done.answers breaks.answers (breaks.answer ∷ []))) all);
           written = subst (λ (l : List ℕ). AppendsUpTo was now l (line_for event breaks.answer))
               (ap (λ (l : List ℕ). l ++ text_of events breaks.answers) done.told
-              ∙ sym (text_of-append first events done.answers breaks.answers (one_each first done.answers done.refusals old between done.steps)))
+              ∙ sym (text_of-append first events done.answers breaks.answers
+              (one_each first done.answers done.refusals old between done.steps)))
               (AppendsUpTo-more was mid now text (text_of events breaks.answers) (line_for event breaks.answer) written breaks.written);
         }

@@ -19,7 +19,8 @@ parts_of-cut separator bytes end found =
     rw place at first
 
 -- a text with no separator is one part
-pub parts_of-one : (separator : ℕ) (bytes : List ℕ) → position (λ byte. byte == separator) bytes ≡ None → parts_of separator bytes ≡ bytes ∷ []
+pub parts_of-one : (separator : ℕ) (bytes : List ℕ) → position (λ byte. byte == separator) bytes ≡ None
+    → parts_of separator bytes ≡ bytes ∷ []
 parts_of-one separator bytes none =
     let is_separator : ℕ → Bool = λ byte. byte == separator in
     let beyond : length bytes ≤ position_or_len is_separator bytes = grind (arith, nat_tests) in

@@ -1,5 +1,6 @@
 -- Lines that are served one after another.
-use Rattle.std.proofs.Common.{◌≡◌, ◌==◌, ◌<◌, ◌≤◌, ◌⊎◌, ℕ, ◌+◌, min, take, false, List, [], ◌∷◌, ◌++◌, length, Option, None, Some, codes, inl, inr, refl, sym, ap, subst, ◌∙◌, arith, length-append, append_assoc, append-nil}
+use Rattle.std.proofs.Common.{◌≡◌, ◌==◌, ◌<◌, ◌≤◌, ◌⊎◌, ℕ, ◌+◌, min, take, false, List, [], ◌∷◌, ◌++◌, length, Option, None, Some, codes}
+use Rattle.std.proofs.Common.{inl, inr, refl, sym, ap, subst, ◌∙◌, arith, length-append, append_assoc, append-nil}
 use Rattle.std.proofs.lemmas.List.Elements.{All-nil}
 use Rattle.std.proofs.KnownBytes.{Consumes-trans}
 use Rattle.std.specs.Io.KnownBytes.{Consumes, IsAtEnd}
@@ -10,7 +11,8 @@ use Rattle.runner.specs.declared.serve.LineFault.TheVariants.{Line, Reader, Writ
 use Rattle.runner.specs.Lines.{lines_of}
 use Rattle.runner.specs.Script.{LinePlays}
 use Rattle.runner.specs.Streams.{IsAll}
-use Rattle.runner.specs.Served.{line_number, AreAnswered, IsAnswered, IsLineStopped, StopsIn, StopsAtBadLine, StopsUnread, IsServed, IsStopped, HasServed}
+use Rattle.runner.specs.Served.{line_number, AreAnswered, IsAnswered, IsLineStopped, StopsIn, StopsAtBadLine, StopsUnread, IsServed}
+use Rattle.runner.specs.Served.{IsStopped, HasServed}
 use Rattle.runner.proofs.InTurn.{InTurn-append}
 use Rattle.runner.proofs.Known.{Appends-none, Appends-more, Appends-kept}
 use Rattle.runner.proofs.LineEnds.{unended-more, ended_line, last_line, begins, plays_line, holds_line, stands-more, first_is, too_long}
@@ -28,10 +30,11 @@ all_of (Some all) None read taken end = absurd taken
 all_of (Some all) (Some rest) read taken end = sym (taken ∙ ap (λ (l : List ℕ). read ++ l) end ∙ append-nil read)
 
 -- nothing more was taken
-pub taken-none : (left mid after : Option (List ℕ)) (read chunk : List ℕ) (count : ℕ) → Consumes left mid read → Consumes mid after (take count chunk)
-    → count ≡ 0 → Consumes left after read
+pub taken-none : (left mid after : Option (List ℕ)) (read chunk : List ℕ) (count : ℕ) → Consumes left mid read
+    → Consumes mid after (take count chunk) → count ≡ 0 → Consumes left after read
 taken-none left mid after read chunk count first next none =
-    subst (λ (l : List ℕ). Consumes left after l) (ap (λ n. read ++ take n chunk) none ∙ append-nil read) (Consumes-trans left mid after read (take count chunk) first next)
+    subst (λ (l : List ℕ). Consumes left after l) (ap (λ n. read ++ take n chunk) none ∙ append-nil read)
+    (Consumes-trans left mid after read (take count chunk) first next)
 
 next_number : (before : ℕ) → min (line_number before + 1) 18446744073709551615 ≡ line_number (before + 1)
 next_number before = omega arith
@@ -64,7 +67,8 @@ module _ {M : Type 0} (state : M → State) (most : ℕ) where
     served-byte new next byte all other holds same is = record {
       before = so.before;
       line = so.line ++ byte ∷ [];
-      parts = λ more. ap (λ (l : List ℕ). lines_of (l ++ more)) is ∙ ap lines_of (append_assoc read (byte ∷ []) more) ∙ so.parts (byte ∷ more)
+      parts =
+          λ more. ap (λ (l : List ℕ). lines_of (l ++ more)) is ∙ ap lines_of (append_assoc read (byte ∷ []) more) ∙ so.parts (byte ∷ more)
           ∙ ap (λ (l : List ℕ). so.before ++ lines_of l) (sym (append_assoc so.line (byte ∷ []) more));
       unended = unended-more so.line byte so.unended other;
       stands = stands-more held new so.line byte so.stands holds;
@@ -112,8 +116,8 @@ module _ {M : Type 0} (state : M → State) (most : ℕ) where
 
     -- the line stops the serving
     module _ (now : Option (List ℕ)) (new : DiskValue M) where
-      stops-at : (script : List ℕ) (after : List (List ℕ)) → lines_of script ≡ so.before ++ so.line ∷ after
-          → (fault : LineFault) → IsLineStopped state most mid now between new held number fault → StopsIn state most was now old new script fault
+      stops-at : (script : List ℕ) (after : List (List ℕ)) → lines_of script ≡ so.before ++ so.line ∷ after → (fault : LineFault)
+          → IsLineStopped state most mid now between new held number fault → StopsIn state most was now old new script fault
       stops-at script after parts (Line told) stopped = record {
         before = so.before;
         line = so.line;
@@ -141,7 +145,8 @@ module _ {M : Type 0} (state : M → State) (most : ℕ) where
         event = stopped.event;
         rest = stopped.rest;
         here = plays_line most held so.line (stopped.part ++ stopped.event ∷ stopped.rest) so.stands stopped.plays;
-        breaks = breaks-more state was mid now old between new so.answered.events stopped.part so.answered.text stopped.event so.answered.tells
+        breaks =
+            breaks-more state was mid now old between new so.answered.events stopped.part so.answered.text stopped.event so.answered.tells
             so.answered.written stopped.breaks;
       }
 
@@ -150,12 +155,14 @@ module _ {M : Type 0} (state : M → State) (most : ℕ) where
       stops-ended more fault stopped = stops-at (read ++ 10 ∷ more) (lines_of more) (parts-ended more) fault stopped
 
       -- at the end of the input
-      stops-last : (fault : LineFault) → IsLineStopped state most mid now between new held number fault → StopsIn state most was now old new read fault
+      stops-last : (fault : LineFault) → IsLineStopped state most mid now between new held number fault
+          → StopsIn state most was now old new read fault
       stops-last fault stopped = stops-at read [] parts-last fault stopped
 
     -- a line is too long
     pub stops-long : (byte : ℕ) (more : List ℕ) → most ≤ 512 → (byte == 10) ≡ false → length held ≡ 1100
-        → ((comment : List ℕ) → held ≡ codes "#" ++ comment → ⊥) → StopsAtBadLine state most was mid old between (read ++ byte ∷ more) number
+        → ((comment : List ℕ) → held ≡ codes "#" ++ comment → ⊥)
+        → StopsAtBadLine state most was mid old between (read ++ byte ∷ more) number
     stops-long byte more small other full none =
         let is = held_is so.stands in
         let line = so.line ++ byte ∷ [] in
@@ -175,7 +182,8 @@ module _ {M : Type 0} (state : M → State) (most : ℕ) where
           counted = so.counted;
         }
       where
-        held_is : (held ≡ so.line) ⊎ ((kept : List ℕ) × (comment : List ℕ) × (held ≡ codes "#" ++ kept) × (so.line ≡ codes "#" ++ comment)) → held ≡ so.line
+        held_is : (held ≡ so.line) ⊎ ((kept : List ℕ) × (comment : List ℕ) × (held ≡ codes "#" ++ kept) × (so.line ≡ codes "#" ++ comment))
+            → held ≡ so.line
         held_is (inl same) = same
         held_is (inr (kept, comment, is_held, is_line)) = absurd (none kept is_held)
 
@@ -197,13 +205,15 @@ module _ {M : Type 0} (state : M → State) (most : ℕ) where
     pub stopped-last : (left after : Option (List ℕ)) → Consumes left after read → IsAtEnd after
         → (now : Option (List ℕ)) (new : DiskValue M) (fault : LineFault) → IsLineStopped state most mid now between new held number fault
         → IsStopped state most was now old new left after fault
-    stopped-last left after taken end now new (Line told) stopped = (read, all_of left after read taken end, stops-last now new (Line told) stopped)
+    stopped-last left after taken end now new (Line told) stopped =
+        (read, all_of left after read taken end, stops-last now new (Line told) stopped)
     stopped-last left after taken end now new Reader stopped = absurd stopped
     stopped-last left after taken end now new Writer stopped = (read, all_of left after read taken end, stops-last now new Writer stopped)
 
   -- the serving stopped, whatever stands behind what was read
-  pub stopped-in : (was now : Option (List ℕ)) (old new : DiskValue M) (left after : Option (List ℕ)) (read : List ℕ) → Consumes left after read
-      → (fault : LineFault) → ((more : List ℕ) → StopsIn state most was now old new (read ++ more) fault) → IsStopped state most was now old new left after fault
+  pub stopped-in : (was now : Option (List ℕ)) (old new : DiskValue M) (left after : Option (List ℕ)) (read : List ℕ)
+      → Consumes left after read → (fault : LineFault) → ((more : List ℕ) → StopsIn state most was now old new (read ++ more) fault)
+      → IsStopped state most was now old new left after fault
   stopped-in was now old new left after read taken (Line number) stops =
       let all = whole_of left after read taken in (read ++ all.0, all.1, stops all.0)
   stopped-in was now old new left after read taken Reader stops = absurd (stops [])

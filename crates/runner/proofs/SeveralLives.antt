@@ -73,14 +73,15 @@ module _ (most : ℕ) (medium : Sim) (rest : IsAtRest medium) (unfused : medium.
           let g = acted.goes_on.goes (first_standing limit book) (fits limit book opens has) in
           record {
             last = g.there;
-            run = subst (λ (i : Device). LivesRun i (first_standing limit book) actions answers acted.goes_on.refusals g.there) acted.goes_on.device_stays g.run;
+            run = subst (λ (i : Device). LivesRun i (first_standing limit book) actions answers acted.goes_on.refusals g.there)
+                acted.goes_on.device_stays g.run;
             limited = λ ours. subst (λ (n : ℕ). LeavesLimit n new.stage) (g.limit_stays ours) (g.fits.limited (g.ours ∙ ours));
             found = λ ours. g.fits.found (g.ours ∙ ours);
           }
 
-  stops : (actions : List Action) (answers : List Answer) (mid new : LivesValue) (fault : StartFault) (acted : Acted (first_over most medium) actions answers mid)
-      (refused : IsRefused mid fault new) (limit : ℕ) (book : Book) → OpensOn (state_of medium) book
-      → HasLimit (state_of medium).size limit (state_of medium).content
+  stops : (actions : List Action) (answers : List Answer) (mid new : LivesValue) (fault : StartFault)
+      (acted : Acted (first_over most medium) actions answers mid) (refused : IsRefused mid fault new) (limit : ℕ) (book : Book)
+      → OpensOn (state_of medium) book → HasLimit (state_of medium).size limit (state_of medium).content
       → StopsIn (device most) limit book actions answers acted.goes_on.refusals
       (refused_events acted.goes_on.refusals + (state_of medium).failures) fault (medium_in new.stage)
   stops actions answers mid new fault acted refused limit book opens has =
@@ -95,13 +96,14 @@ module _ (most : ℕ) (medium : Sim) (rest : IsAtRest medium) (unfused : medium.
         next = l.book;
         opens = subst (λ (s : Standing). Opens s.place l.book) (stays new.device refused.stops.refusals g.there l.there l.run) l.opens;
         cause = λ ours. may_refuse l.book (refused_events on.refusals + (state_of medium).failures)
-            (refused_events refused.stops.refusals + (state_of (medium_in mid.stage)).failures) (state_of (medium_in new.stage)).failures fault
-            (omega (arith, fewer)) (l.cause (l.ours ∙ g.ours ∙ ours));
+            (refused_events refused.stops.refusals + (state_of (medium_in mid.stage)).failures) (state_of (medium_in new.stage)).failures
+            fault (omega (arith, fewer)) (l.cause (l.ours ∙ g.ours ∙ ours));
         found = λ ours. l.found (l.ours ∙ g.ours ∙ ours);
       }
 
-  are_stopped : (actions : List Action) (answers : List Answer) (mid new : LivesValue) (fault : StartFault) → Acted (first_over most medium) actions answers mid
-      → IsRefused mid fault new → AreStopped most medium (medium_in new.stage) actions answers fault
+  are_stopped : (actions : List Action) (answers : List Answer) (mid new : LivesValue) (fault : StartFault)
+      → Acted (first_over most medium) actions answers mid → IsRefused mid fault new
+      → AreStopped most medium (medium_in new.stage) actions answers fault
   unfolding are_lives
   are_stopped actions answers mid new fault acted refused =
       let stop = refused.stops in
@@ -118,7 +120,8 @@ module _ (most : ℕ) (medium : Sim) (rest : IsAtRest medium) (unfused : medium.
       }
 
   module _ (left was now : Option (List ℕ)) (script : List ℕ) (read : IsRead left script) where
-    are_played : (after : Sim) → PlaysAll was now (first_over most medium) most (lines_of script) after → ArePlayed most left was now medium after
+    are_played : (after : Sim) → PlaysAll was now (first_over most medium) most (lines_of script) after
+        → ArePlayed most left was now medium after
     are_played after all = record {
       script = script;
       read = read;
@@ -132,7 +135,8 @@ module _ (most : ℕ) (medium : Sim) (rest : IsAtRest medium) (unfused : medium.
 
     ended : (first part : List Action) (last : Action) (answers : List Answer) (new : LivesValue) (fault : ScriptFault)
         → StopsAt (LineActs most) (lines_of script) first part last
-        → EndsBy was now (first_over most medium) (first ++ part) answers last new fault → AreRefused most left was now medium fault (medium_in new.stage)
+        → EndsBy was now (first_over most medium) (first ++ part) answers last new fault
+        → AreRefused most left was now medium fault (medium_in new.stage)
     ended first part last answers new (Start fault) stops ends = record {
       script = script;
       read = read;
@@ -166,8 +170,9 @@ module _ (most : ℕ) (medium : Sim) (rest : IsAtRest medium) (unfused : medium.
         subst (λ (m : Sim). AreRefused most left was now medium fault m) up_to.left
         (ended up_to.first up_to.part up_to.last up_to.answers up_to.new fault up_to.stops up_to.ends)
 
-module _ (most : ℕ) (medium : Sim) (rest : IsAtRest medium) (unfused : medium.power.fuse ≡ None) (identity : Identification) (is : identity ≡ identification)
-    (lives : LivesValue) (value : lives ≡ record { device = record { identity = identity; packet_size = most }; stage = Rests medium })
+module _ (most : ℕ) (medium : Sim) (rest : IsAtRest medium) (unfused : medium.power.fuse ≡ None) (identity : Identification)
+    (is : identity ≡ identification) (lives : LivesValue)
+    (value : lives ≡ record { device = record { identity = identity; packet_size = most }; stage = Rests medium })
     (opens : (limit : ℕ) (book : Book) → IsAtRest medium → medium.power.fuse ≡ None → OpensOn (state_of medium) book
     → HasLimit (state_of medium).size limit (state_of medium).content → FitsLives lives (first_standing limit book))
     (left was now : Option (List ℕ)) (script : List ℕ) (read : IsRead left script) where
@@ -190,8 +195,9 @@ module _ (most : ℕ) (medium : Sim) (rest : IsAtRest medium) (unfused : medium.
       (subst (λ (l : LivesValue). PlaysUpTo was now l most (lines_of script) error.fault error.medium) same up_to)
 
 -- a script that was played up to a fault was read to its end
-pub taken_up_to : (most : ℕ) (was now : Option (List ℕ)) (lives : LivesValue) (lines : List (List ℕ)) (error : ErrorOf Sim) (all rest : Option (List ℕ))
-    → PlaysUpTo was now lives most lines error.fault error.medium → IsAtEnd rest → HasTaken error.fault all rest
+pub taken_up_to : (most : ℕ) (was now : Option (List ℕ)) (lives : LivesValue) (lines : List (List ℕ)) (error : ErrorOf Sim)
+    (all rest : Option (List ℕ)) → PlaysUpTo was now lives most lines error.fault error.medium → IsAtEnd rest
+    → HasTaken error.fault all rest
 taken_up_to most was now lives lines error all rest up_to ended =
     by_fault error.fault (up_to.first ++ up_to.part) up_to.answers up_to.last up_to.new up_to.ends
   where

@@ -60,16 +60,19 @@ sizes_to_format a b c d e passes =
     let words = codes "format" ∷ a ∷ b ∷ c ∷ d ∷ e ∷ [] in
     let app = built usbdisk_app in
     let stop = (walk app.top.rules (names_of app) nothing_held words).stopped in
-    both (is_simple usbdisk_app) (entered_passes app stop) (level_passes app.top (names_of app) nothing_held words (is_some (entered app stop))) refl passes refl
+    both (is_simple usbdisk_app) (entered_passes app stop)
+    (level_passes app.top (names_of app) nothing_held words (is_some (entered app stop))) refl passes refl
 
-to_format : (a b c d e f g : List ℕ) → level_passes (built_leaf format_app.top) [] nothing_held (a ∷ b ∷ c ∷ d ∷ e ∷ f ∷ g ∷ []) false ≡ true
+to_format : (a b c d e f g : List ℕ)
+    → level_passes (built_leaf format_app.top) [] nothing_held (a ∷ b ∷ c ∷ d ∷ e ∷ f ∷ g ∷ []) false ≡ true
     → takes usbdisk_app (codes "format" ∷ a ∷ b ∷ c ∷ d ∷ e ∷ f ∷ g ∷ []) ≡ true
 unfolding clap_on_literals
 to_format a b c d e f g passes =
     let words = codes "format" ∷ a ∷ b ∷ c ∷ d ∷ e ∷ f ∷ g ∷ [] in
     let app = built usbdisk_app in
     let stop = (walk app.top.rules (names_of app) nothing_held words).stopped in
-    both (is_simple usbdisk_app) (entered_passes app stop) (level_passes app.top (names_of app) nothing_held words (is_some (entered app stop))) refl passes refl
+    both (is_simple usbdisk_app) (entered_passes app stop)
+    (level_passes app.top (names_of app) nothing_held words (is_some (entered app stop))) refl passes refl
 
 -- the words behind `run` and `sim` go to a parser of their own, without a packet's size and with one
 to_run : (a b : List ℕ) → level_passes (built_leaf (script_app (codes "run")).top) [] nothing_held (a ∷ b ∷ []) false ≡ true
@@ -79,16 +82,19 @@ to_run a b passes =
     let words = codes "run" ∷ a ∷ b ∷ [] in
     let app = built usbdisk_app in
     let stop = (walk app.top.rules (names_of app) nothing_held words).stopped in
-    both (is_simple usbdisk_app) (entered_passes app stop) (level_passes app.top (names_of app) nothing_held words (is_some (entered app stop))) refl passes refl
+    both (is_simple usbdisk_app) (entered_passes app stop)
+    (level_passes app.top (names_of app) nothing_held words (is_some (entered app stop))) refl passes refl
 
-to_sized_run : (a b c d : List ℕ) → level_passes (built_leaf (script_app (codes "run")).top) [] nothing_held (a ∷ b ∷ c ∷ d ∷ []) false ≡ true
+to_sized_run : (a b c d : List ℕ)
+    → level_passes (built_leaf (script_app (codes "run")).top) [] nothing_held (a ∷ b ∷ c ∷ d ∷ []) false ≡ true
     → takes usbdisk_app (codes "run" ∷ a ∷ b ∷ c ∷ d ∷ []) ≡ true
 unfolding clap_on_literals
 to_sized_run a b c d passes =
     let words = codes "run" ∷ a ∷ b ∷ c ∷ d ∷ [] in
     let app = built usbdisk_app in
     let stop = (walk app.top.rules (names_of app) nothing_held words).stopped in
-    both (is_simple usbdisk_app) (entered_passes app stop) (level_passes app.top (names_of app) nothing_held words (is_some (entered app stop))) refl passes refl
+    both (is_simple usbdisk_app) (entered_passes app stop)
+    (level_passes app.top (names_of app) nothing_held words (is_some (entered app stop))) refl passes refl
 
 to_sim : (a b : List ℕ) → level_passes (built_leaf (script_app (codes "sim")).top) [] nothing_held (a ∷ b ∷ []) false ≡ true
     → takes usbdisk_app (codes "sim" ∷ a ∷ b ∷ []) ≡ true
@@ -97,32 +103,39 @@ to_sim a b passes =
     let words = codes "sim" ∷ a ∷ b ∷ [] in
     let app = built usbdisk_app in
     let stop = (walk app.top.rules (names_of app) nothing_held words).stopped in
-    both (is_simple usbdisk_app) (entered_passes app stop) (level_passes app.top (names_of app) nothing_held words (is_some (entered app stop))) refl passes refl
+    both (is_simple usbdisk_app) (entered_passes app stop)
+    (level_passes app.top (names_of app) nothing_held words (is_some (entered app stop))) refl passes refl
 
-to_sized_sim : (a b c d : List ℕ) → level_passes (built_leaf (script_app (codes "sim")).top) [] nothing_held (a ∷ b ∷ c ∷ d ∷ []) false ≡ true
+to_sized_sim : (a b c d : List ℕ)
+    → level_passes (built_leaf (script_app (codes "sim")).top) [] nothing_held (a ∷ b ∷ c ∷ d ∷ []) false ≡ true
     → takes usbdisk_app (codes "sim" ∷ a ∷ b ∷ c ∷ d ∷ []) ≡ true
 unfolding clap_on_literals
 to_sized_sim a b c d passes =
     let words = codes "sim" ∷ a ∷ b ∷ c ∷ d ∷ [] in
     let app = built usbdisk_app in
     let stop = (walk app.top.rules (names_of app) nothing_held words).stopped in
-    both (is_simple usbdisk_app) (entered_passes app stop) (level_passes app.top (names_of app) nothing_held words (is_some (entered app stop))) refl passes refl
+    both (is_simple usbdisk_app) (entered_passes app stop)
+    (level_passes app.top (names_of app) nothing_held words (is_some (entered app stop))) refl passes refl
 
 -- the bytes of a packet begin with no hyphen
 plain_bytes : (size : PacketSize) → IsPlain (packet_word size)
 plain_bytes Full64 = record { stripped = refl; other = refl }
 plain_bytes High512 = record { stripped = refl; other = refl }
 
-takes_run : (image script : List ℕ) (ending : List (List ℕ)) (size : PacketSize) → IsPlain image → IsPlain script → IsPacketEnding ending size
-    → takes usbdisk_app (codes "run" ∷ image ∷ script ∷ ending) ≡ true
+takes_run : (image script : List ℕ) (ending : List (List ℕ)) (size : PacketSize) → IsPlain image → IsPlain script
+    → IsPacketEnding ending size → takes usbdisk_app (codes "run" ∷ image ∷ script ∷ ending) ≡ true
 takes_run image script ending size a b (inl is) =
-    rw is (to_sized_run image script (codes "--packet") (packet_word size) (packet_passes (codes "run") image script (packet_word size) a b (plain_bytes size)))
+    rw is
+    (to_sized_run image script (codes "--packet") (packet_word size)
+    (packet_passes (codes "run") image script (packet_word size) a b (plain_bytes size)))
 takes_run image script ending size a b (inr is) = rw is.0 (to_run image script (files_pass (codes "run") image script a b))
 
-takes_sim : (image script : List ℕ) (ending : List (List ℕ)) (size : PacketSize) → IsPlain image → IsPlain script → IsPacketEnding ending size
-    → takes usbdisk_app (codes "sim" ∷ image ∷ script ∷ ending) ≡ true
+takes_sim : (image script : List ℕ) (ending : List (List ℕ)) (size : PacketSize) → IsPlain image → IsPlain script
+    → IsPacketEnding ending size → takes usbdisk_app (codes "sim" ∷ image ∷ script ∷ ending) ≡ true
 takes_sim image script ending size a b (inl is) =
-    rw is (to_sized_sim image script (codes "--packet") (packet_word size) (packet_passes (codes "sim") image script (packet_word size) a b (plain_bytes size)))
+    rw is
+    (to_sized_sim image script (codes "--packet") (packet_word size)
+    (packet_passes (codes "sim") image script (packet_word size) a b (plain_bytes size)))
 takes_sim image script ending size a b (inr is) = rw is.0 (to_sim image script (files_pass (codes "sim") image script a b))
 
 -- the number of a format begins with no hyphen
@@ -152,7 +165,8 @@ takes_line : (words : List (List ℕ)) → IsCommandLine words → takes usbdisk
 takes_line words (inl (image, format, blocks, slots, are)) =
     let b = digits_word are.blocks_word blocks are.blocks_are in
     let s = digits_word are.slots_word slots are.slots_are in
-    rw are.words_are (takes_format image are.blocks_word are.slots_word are.ending format (plain image are.image_word) (plain are.blocks_word b)
+    rw are.words_are
+    (takes_format image are.blocks_word are.slots_word are.ending format (plain image are.image_word) (plain are.blocks_word b)
     (plain are.slots_word s) are.format_is)
 takes_line words (inr (inl (image, are))) =
     rw are.words_are (takes_migrate image (no_hyphen image are.image_word) (not_hyphens image are.image_word))

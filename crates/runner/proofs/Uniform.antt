@@ -8,7 +8,8 @@ use Rattle.bot_machine.specs.Packets.{packets_of, cut_into}
 use Rattle.bot_machine.specs.declared.packet_size.PacketSize.{PacketSize}
 use Rattle.bot_machine.specs.declared.packet_size.PacketSize.TheVariants.{Full64, High512}
 
-packets_by : (most count byte : ℕ) → packets_of most (replicate count byte) ≡ cut_into most ((count + (most - 1)) / most) (replicate count byte)
+packets_by : (most count byte : ℕ)
+    → packets_of most (replicate count byte) ≡ cut_into most ((count + (most - 1)) / most) (replicate count byte)
 unfolding packets_of
 packets_by most count byte = ap (λ n. cut_into most ((n + (most - 1)) / most) (replicate count byte)) (length-replicate count byte)
 

@@ -43,7 +43,8 @@ pub events_within : (most : ℕ) (line : List ℕ) (asked : ScriptLine) → Spel
 events_within most line Skipped spelled = none_within most
 events_within most line (Out packet) spelled = one_within most (event.Out packet) (λ less. out_fits most line packet.items spelled)
 events_within most line (Fill byte count size) spelled =
-    subst (λ (n : ℕ). AreWithin n (map packet_out (packets_of (bytes_of size) (replicate count byte)))) spelled.1 (packets_within (bytes_of size) (replicate count byte))
+    subst (λ (n : ℕ). AreWithin n (map packet_out (packets_of (bytes_of size) (replicate count byte)))) spelled.1
+    (packets_within (bytes_of size) (replicate count byte))
 events_within most line In spelled = one_within most event.In tt
 events_within most line (Setup packet) spelled = one_within most (event.Setup packet) tt
 events_within most line (Tick count) spelled = ticks_within most count

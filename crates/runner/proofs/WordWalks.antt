@@ -44,8 +44,8 @@ module _ (shape : Shape) where
   unfolding walk_passes
   leads-none w = record { pass = refl; to = refl }
 
-  pub leads-more : (w u v : Walk) (word : List ℕ) (words : List (List ℕ)) → turn_passes shape [] w word ≡ true → walked shape.rules [] w word ≡ u
-      → Leads u v words → Leads w v (word ∷ words)
+  pub leads-more : (w u v : Walk) (word : List ℕ) (words : List (List ℕ)) → turn_passes shape [] w word ≡ true
+      → walked shape.rules [] w word ≡ u → Leads u v words → Leads w v (word ∷ words)
   unfolding walk_passes
   leads-more w u v word words turn to rest = record {
     pass = both_true turn (ap (λ u. walk_passes shape [] u words) to ∙ rest.pass);
@@ -54,7 +54,10 @@ module _ (shape : Shape) where
 
   -- what is checked behind the last word
   abbrev pub end_passes : Walk → Bool
-  end_passes w = settle_passes shape.rules shape.args_override_self w.held && (list_all default_passes shape.rules && is_valid shape (finished shape.rules w.held) false)
+  end_passes w =
+      settle_passes shape.rules shape.args_override_self w.held
+      && (list_all default_passes shape.rules && is_valid shape (finished shape.rules w.held) false)
 
-  pub level : (v : Walk) (words : List (List ℕ)) → Leads start v words → end_passes v ≡ true → level_passes shape [] nothing_held words false ≡ true
+  pub level : (v : Walk) (words : List (List ℕ)) → Leads start v words → end_passes v ≡ true
+      → level_passes shape [] nothing_held words false ≡ true
   level v words leads ends = both_true leads.pass (ap end_passes leads.to ∙ ends)

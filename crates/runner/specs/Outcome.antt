@@ -1,5 +1,5 @@
 -- What playing a script of one life leaves: a medium, and what was written.
-use Rattle.std.specs.Prelude.{◌≡◌, ◌<◌, ◌≤◌, ℕ, List, [], ◌∷◌, ◌++◌, All, length, Option, IfSome}
+use Rattle.std.specs.Prelude.{◌≡◌, ◌<◌, ◌≤◌, ⊤, ℕ, List, [], ◌∷◌, ◌++◌, All, length, Option, IfSome}
 use Rattle.std.specs.Io.KnownBytes.{Appends, Keeps, IsAtEnd}
 use Rattle.medium.specs.Medium.{State}
 use Rattle.bot_machine.specs.declared.event.Event.{Event}
@@ -39,6 +39,15 @@ pub record HasBadLine (kind : ScriptKind) (most : ℕ) (left : Option (List ℕ)
   pub script : List ℕ
   pub read : IsRead left script
   pub bad : IsFirstBadLine kind most number (lines_of script)
+
+-- why a script is refused before any of it is played
+abbrev pub IsNoScript : ScriptKind → ℕ → Option (List ℕ) → ScriptFault → Type 0
+IsNoScript kind most left (Line number) = HasBadLine kind most left number
+IsNoScript kind most left TooLong = IfSome left (λ all. script_limit < length all)
+IsNoScript kind most left (Start fault) = ⊥
+IsNoScript kind most left NoMemory = ⊤
+IsNoScript kind most left Reader = ⊤
+IsNoScript kind most left Writer = ⊥
 
 -- How much of the script was taken from its reader, where it was refused: a first part where it was
 -- not read to its end, and else all of it.

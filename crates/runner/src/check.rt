@@ -1,3 +1,4 @@
+//! A script is checked whole before any line of it is played.
 ghost use Rattle.std.specs.Prelude.{◌≤◌, All, OnOk, IfErr, length};
 ghost use Rattle.bot_machine.specs.PacketBytes.{bytes_of};
 ghost use Rattle.runner.specs.Line.{IsScriptLine};

@@ -1,4 +1,4 @@
-// The events of a line, one after another.
+//! The events of a line, one after another.
 ghost use Rattle.std.specs.Prelude.{◌≡◌, ◌≤◌, replicate};
 ghost use Rattle.std.specs.Iterator.{YieldsFirst, item_count};
 ghost use Rattle.runner.specs.Events.{events_of};

@@ -1,3 +1,4 @@
+//! Why a script is not played to its end.
 ghost use Rattle.std.specs.Prelude.{◌≡◌};
 
 use crate::read::ReadFault;

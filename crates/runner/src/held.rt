@@ -1,4 +1,4 @@
-// The line that is being read.
+//! The line that is being read.
 ghost use Rattle.std.specs.Prelude.{◌≡◌, ◌++◌, ◌∷◌, [], ◌≤◌, ◌+◌, ◌⊎◌, ℕ, List, OnOk, IfErr, codes, min, length};
 
 use crate::serve::LineFault;

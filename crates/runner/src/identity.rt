@@ -1,3 +1,4 @@
+//! The texts by which the disk of a script is known.
 ghost use Rattle.std.specs.Prelude.{◌≡◌};
 ghost use Rattle.runner.specs.Script.{identification};
 

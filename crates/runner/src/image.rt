@@ -1,4 +1,4 @@
-// Image files, as media.
+//! Image files, as media.
 ghost use Rattle.std.specs.Prelude.{◌≡◌, ◌⊎◌, ◌↔◌, ℕ, List, IfOk, IfErr, IfSome, IfNone, OnOk};
 ghost use Rattle.log_layout.specs.Places.{new_shape, sectors_of};
 ghost use Rattle.recovery.specs.Formatted.{IsFormatCause, IsFormatted};

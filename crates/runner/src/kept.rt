@@ -1,4 +1,4 @@
-// Which of the unflushed writes a cut keeps.
+//! Which of the unflushed writes a cut keeps.
 ghost use Rattle.std.specs.Prelude.{ℕ, List, IfSome, IfNone};
 ghost use Rattle.runner.specs.Line.{SpellsCut, SpellsNumbers};
 ghost use Rattle.runner.specs.declared.kept.KeptWrites.{KeptWrites};

@@ -18,6 +18,7 @@ mod parts;
 mod play;
 mod program;
 mod read;
+mod read_script;
 mod refusal;
 mod script;
 mod serve;

@@ -1,4 +1,4 @@
-// A checked script of several lives, played on a simulated medium.
+//! A checked script of several lives, played on a simulated medium.
 ghost use Rattle.std.specs.Prelude.{◌≡◌, ◌≤◌, ◌∷◌, [], All, OnOk, IfOk, IfErr, flat_map, length, vec_capacity};
 ghost use Rattle.bot_machine.specs.Fitting.{AreWithin};
 ghost use Rattle.bot_machine.specs.Lives.{cuts};

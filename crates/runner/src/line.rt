@@ -1,4 +1,4 @@
-// One line of a script.
+//! One line of a script.
 ghost use Rattle.std.specs.Prelude.{◌≡◌, ◌⊎◌, ℕ, IfSome, IfNone, codes};
 ghost use Rattle.bot_machine.specs.PacketBytes.{bytes_of};
 ghost use Rattle.runner.specs.Line.{Spells, Allows, SpellsCount, SpellsCut};

@@ -1,4 +1,4 @@
-// The work of the program that serves an image file line by line.
+//! The work of the program that serves an image file line by line.
 ghost use Rattle.std.specs.Prelude.{◌≡◌, ◌≢◌, ◌⊎◌, ◌≤◌, List, ℕ, IfErr, IfSome, IfNone, OnOk, map, drop};
 ghost use Rattle.bot_machine.specs.PacketBytes.{bytes_of};
 ghost use Rattle.bot_machine.specs.declared.packet_size.PacketSize.{PacketSize};

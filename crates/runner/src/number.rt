@@ -1,4 +1,4 @@
-// Numbers, as scripts and command lines spell them.
+//! Numbers, as scripts and command lines spell them.
 ghost use Rattle.std.specs.Prelude.{ℕ, ◌≡◌, ◌≢◌, ◌<◌, ◌≤◌, ◌^◌, ◌↔◌, IsTrue, IfSome, IfNone, decimal, length, slice_index};
 ghost use Rattle.runner.specs.Numbers.{SpellsNumber};
 

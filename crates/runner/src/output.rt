@@ -1,4 +1,4 @@
-// The writing of answers.
+//! The writing of answers.
 ghost use Rattle.std.specs.Prelude.{OnOk, OnErr};
 ghost use Rattle.std.specs.Io.KnownBytes.{Appends};
 ghost use Rattle.runner.specs.Streams.{AppendsSome};

@@ -1,4 +1,4 @@
-// A checked script of one life, played on a disk.
+//! A checked script of one life, played on a disk.
 ghost use Rattle.std.specs.Prelude.{◌≡◌, ◌∷◌, ◌++◌, ℕ, List, All, OnOk, OnErr, IfOk, IfErr};
 ghost use Rattle.std.specs.Io.KnownBytes.{Appends};
 ghost use Rattle.bot_machine.specs.PacketBytes.{bytes_of};

@@ -1,4 +1,4 @@
-// The work of the program.
+//! The work of the program.
 ghost use Rattle.std.specs.Prelude.{◌≡◌, ◌≢◌, ◌⊎◌, ◌≤◌, List, ℕ, IfOk, IfErr, OnOk, map, drop, string_bytes};
 ghost use Rattle.bot_machine.specs.PacketBytes.{bytes_of};
 ghost use Rattle.runner.specs.declared.refusal.Refusal.{Refusal};

@@ -1,15 +1,14 @@
-// Scripts of packets and tokens, and the text of a disk's answers.
+//! Scripts of packets and tokens, and the text of a disk's answers.
 ghost use Rattle.std.specs.Prelude.{IfOk, IfErr, MatchResult};
 ghost use Rattle.std.specs.Io.KnownBytes.{IsAtEnd};
 ghost use Rattle.bot_machine.specs.PacketBytes.{bytes_of};
 ghost use Rattle.runner.specs.Outcome.{IsPlayed, IsRefused, HasTaken};
 
-use crate::check::check_script;
 use crate::fault::{ScriptError, ScriptFault};
 use crate::identity::disk_identity;
 use crate::line::ScriptKind;
 use crate::play::play;
-use crate::read::read_to_limit;
+use crate::read_script::read_script;
 use bot_machine::{Disk, PacketSize};
 use medium::Medium;
 use std::alloc::Global;
@@ -41,26 +40,15 @@ pub fn run_script<M: Medium, R: Read, W: Write>(
     ensures taken { MatchResult result (λ _. IsAtEnd (R.remaining script.new)) (λ error.
         HasTaken error.fault (R.remaining script.old) (R.remaining script.new)) }
 {
-    let script = match read_to_limit(alloc, script, SCRIPT_LIMIT) {
+    let script = match read_script(alloc, ScriptKind::OneLife, size, script) {
         Ok(script) => script,
-        Err(fault) => {
-            return Err(ScriptError {
-                fault: ScriptFault::from(fault),
-                medium,
-            });
-        }
+        Err(fault) => return Err(ScriptError { fault, medium }),
     };
-    match check_script(ScriptKind::OneLife, size, script.as_slice()) {
-        Err(number) => Err(ScriptError {
-            fault: ScriptFault::Line(number),
-            medium,
+    match Disk::start_with(alloc, medium, disk_identity(), size) {
+        Ok(disk) => play(disk, size, script.as_slice(), out),
+        Err(error) => Err(ScriptError {
+            fault: ScriptFault::Start(error.fault),
+            medium: error.medium,
         }),
-        Ok(()) => match Disk::start_with(alloc, medium, disk_identity(), size) {
-            Ok(disk) => play(disk, size, script.as_slice(), out),
-            Err(error) => Err(ScriptError {
-                fault: ScriptFault::Start(error.fault),
-                medium: error.medium,
-            }),
-        },
     }
 }

@@ -1,4 +1,4 @@
-// A disk served line by line: each line is answered as soon as it is there.
+//! A disk served line by line: each line is answered as soon as it is there.
 ghost use Rattle.std.specs.Prelude.{◌≡◌, ◌⊎◌, ◌++◌, ◌<◌, ℕ, List, Option, OnOk, OnErr, IfOk, IfErr};
 ghost use Rattle.bot_machine.specs.PacketBytes.{bytes_of};
 ghost use Rattle.bot_machine.specs.Disk.{DiskValue};

@@ -1,4 +1,4 @@
-// A script of several lives, played on a simulated medium.
+//! A script of several lives, played on a simulated medium.
 ghost use Rattle.std.specs.Prelude.{◌≡◌, ◌⊎◌, None, IfOk, IfErr, MatchResult};
 ghost use Rattle.std.specs.Io.KnownBytes.{IsAtEnd};
 ghost use Rattle.bot_machine.specs.LivesValue.{IsAtRest};
@@ -6,13 +6,11 @@ ghost use Rattle.bot_machine.specs.PacketBytes.{bytes_of};
 ghost use Rattle.runner.specs.Outcome.{HasTaken};
 ghost use Rattle.runner.specs.OutcomeOfLives.{ArePlayed, AreRefused};
 
-use crate::check::check_script;
 use crate::fault::{ScriptError, ScriptFault};
 use crate::identity::disk_identity;
 use crate::lifetimes::play_lives;
 use crate::line::ScriptKind;
-use crate::read::read_to_limit;
-use crate::script::SCRIPT_LIMIT;
+use crate::read_script::read_script;
 use bot_machine::{Lives, PacketSize};
 use medium::SimMedium;
 use std::alloc::Global;
@@ -46,26 +44,13 @@ pub fn sim_script<R: Read, W: Write>(
         HasTaken error.fault (R.remaining script.old) (R.remaining script.new)
         ⊎ ((error.fault ≡ ScriptFault.NoMemory) × IsAtEnd (R.remaining script.new))) }
 {
-    let script = match read_to_limit(alloc, script, SCRIPT_LIMIT) {
+    let script = match read_script(alloc, ScriptKind::Lives, size, script) {
         Ok(script) => script,
-        Err(fault) => {
-            return Err(ScriptError {
-                fault: ScriptFault::from(fault),
-                medium,
-            });
-        }
+        Err(fault) => return Err(ScriptError { fault, medium }),
     };
-    if let Err(number) = check_script(ScriptKind::Lives, size, script.as_slice()) {
-        return Err(ScriptError {
-            fault: ScriptFault::Line(number),
-            medium,
-        });
-    }
     let Ok(numbers) = Vec::with_capacity(alloc, 64) else {
-        return Err(ScriptError {
-            fault: ScriptFault::NoMemory,
-            medium,
-        });
+        let fault = ScriptFault::NoMemory;
+        return Err(ScriptError { fault, medium });
     };
     play_lives(
         alloc,

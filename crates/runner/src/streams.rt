@@ -1,4 +1,4 @@
-// The standard streams that were closed at the start.
+//! The standard streams that were closed at the start.
 ghost use Rattle.std.specs.Prelude.{◌≡◌, IfErr};
 
 use crate::refusal::Refusal;

@@ -1,3 +1,4 @@
+//! The lines that tell answers.
 ghost use Rattle.std.specs.Prelude.{◌≡◌, ◌≤◌, ◌++◌, length};
 ghost use Rattle.runner.specs.Text.{line_of, line_for, data_line};
 

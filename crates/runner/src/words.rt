@@ -1,4 +1,4 @@
-// A line's first word, and what stands behind it.
+//! A line's first word, and what stands behind it.
 ghost use Rattle.std.specs.Prelude.{◌≡◌, ◌≢◌, ◌≤◌, ◌++◌, ◌∷◌, [], ℕ, List, IfSome, IfNone, MatchOption};
 ghost use Rattle.hex.specs.Hex.{decode_of};
 ghost use Rattle.bot_machine.specs.PacketBytes.{bytes_of};

@@ -18,15 +18,15 @@ use Rattle.runner.proofs.Within.{first_within, rest_within}
 use Rattle.runner.proofs.lifetimes.play_events.Goals as goal
 
 -- what all events do, where these have come, this one comes, and these are left
-parted : (all before : List Action) (events left : List Event) (event : Event) → all ≡ before ++ flat_map comes events → events ≡ event ∷ left
-    → all ≡ before ++ (comes event ++ flat_map comes left)
+parted : (all before : List Action) (events left : List Event) (event : Event) → all ≡ before ++ flat_map comes events
+    → events ≡ event ∷ left → all ≡ before ++ (comes event ++ flat_map comes left)
 parted all before events left event so next =
     so ∙ ap (λ (l : List Action). before ++ l) (ap (flat_map comes) next ∙ flat_map-cons comes event left)
 
 -- an event broke off behind others
-broken : (was mid now : Option (List ℕ)) (old between new : LivesValue) (all before : List Action) (left : List Event) (event : Event) (fault : ScriptFault)
-    → all ≡ before ++ (comes event ++ flat_map comes left) → TellsLives was mid old before between → BreaksOff mid now between (comes event) new fault
-    → BreaksOff was now old all new fault
+broken : (was mid now : Option (List ℕ)) (old between new : LivesValue) (all before : List Action) (left : List Event) (event : Event)
+    (fault : ScriptFault) → all ≡ before ++ (comes event ++ flat_map comes left) → TellsLives was mid old before between
+    → BreaksOff mid now between (comes event) new fault → BreaksOff was now old all new fault
 broken was mid now old between new all before left event fault parts done breaks =
     subst (λ (l : List Action). BreaksOff was now old l new fault) (sym parts)
     (breaks-more was mid now old between new before done (comes event ++ flat_map comes left) fault
@@ -39,15 +39,16 @@ loop-event-init g c = record {
     ap (λ asked. flat_map comes (events_of asked)) (sym c.into_iter-event-iterator.ensures.into_iter_gives),
     tells-none (g.W.Write.contents c.args.out.now) c.args.lives.now,
   );
-  within = subst (λ asked. AreWithin c.args.lives.now.device.packet_size (events_of asked)) (sym c.into_iter-event-iterator.ensures.into_iter_gives) c.requires;
+  within = subst (λ asked. AreWithin c.args.lives.now.device.packet_size (events_of asked))
+      (sym c.into_iter-event-iterator.ensures.into_iter_gives) c.requires;
 }
 
 pub event-requires : goal.event-requires
 event-requires g c =
     let stays = ap (λ (d : Device). d.packet_size) c.loop-event.invariant.so_far.2.acted.goes_on.device_stays in
     subst (λ (most : ℕ). IsWithin most c.in-Some.event) (sym stays)
-    (first_within c.args.lives.now.device.packet_size c.in-Some.event (events_of c.next.new.self) (events_of c.loop-event.event-iterator) c.in-Some.ensures.steps
-    c.loop-event.invariant.within)
+    (first_within c.args.lives.now.device.packet_size c.in-Some.event (events_of c.next.new.self)
+    (events_of c.loop-event.event-iterator) c.in-Some.ensures.steps c.loop-event.invariant.within)
 
 pub loop-event-preserved : goal.loop-event-preserved
 loop-event-preserved g c =
@@ -57,14 +58,17 @@ loop-event-preserved g c =
     let answer = c.in_ok-answer.answer in
     let left = events_of c.next.new.self in
     let written = on_ok c.write_out.result c.if-is_err.ensures.value c.write_out.ensures.ok in
-    let acted = acted-event c.loop-event.lives c.event.new.self event answer c.in_ok-answer.ensures.ok c.in_ok-answer.ensures.off c.event.ensures.follows in
+    let acted = acted-event c.loop-event.lives c.event.new.self event answer c.in_ok-answer.ensures.ok c.in_ok-answer.ensures.off
+    c.event.ensures.follows in
     record {
       so_far = (
         so.0 ++ comes event,
-        parted (flat_map comes (events_of c.args.asked)) so.0 (events_of c.loop-event.event-iterator) left event so.1 c.in-Some.ensures.steps
+        parted (flat_map comes (events_of c.args.asked)) so.0 (events_of c.loop-event.event-iterator) left event so.1
+            c.in-Some.ensures.steps
             ∙ sym (append_assoc so.0 (comes event) (flat_map comes left)),
-        tells-more (contents c.args.out.now) (contents c.loop-event.out) (contents c.write_out.new.out) c.args.lives.now c.loop-event.lives c.event.new.self so.0 so.2
-            (comes event) (tells-event (contents c.loop-event.out) (contents c.write_out.new.out) c.loop-event.lives c.event.new.self event answer acted
+        tells-more (contents c.args.out.now) (contents c.loop-event.out) (contents c.write_out.new.out) c.args.lives.now c.loop-event.lives
+            c.event.new.self so.0 so.2 (comes event)
+            (tells-event (contents c.loop-event.out) (contents c.write_out.new.out) c.loop-event.lives c.event.new.self event answer acted
             (rw (c.as_slice.ensures.value ∙ c.event_line.ensures) at written)),
       );
       within = rest_within c.args.lives.now.device.packet_size event left (events_of c.loop-event.event-iterator) c.in-Some.ensures.steps
@@ -79,10 +83,13 @@ returns-in_err-answer-clause-broken g c =
     let left = events_of c.next.new.self in
     let p = err_from_is_err_and c.from_residual.result c.from_residual.ensures.1 in
     rw (p.1, p.2)
-    (broken (contents c.args.out.now) (contents c.loop-event.out) (contents c.loop-event.out) c.args.lives.now c.loop-event.lives c.event.new.self
-    (flat_map comes (events_of c.args.asked)) so.0 left event (Start c.in_err-answer.field-0.0)
-    (parted (flat_map comes (events_of c.args.asked)) so.0 (events_of c.loop-event.event-iterator) left event so.1 c.in-Some.ensures.steps) so.2
-    (breaks-start (contents c.loop-event.out) c.loop-event.lives c.event.new.self event c.in_err-answer.field-0.0 c.in_err-answer.ensures.err))
+    (broken (contents c.args.out.now) (contents c.loop-event.out) (contents c.loop-event.out) c.args.lives.now c.loop-event.lives
+    c.event.new.self (flat_map comes (events_of c.args.asked)) so.0 left event (Start c.in_err-answer.field-0.0)
+    (parted (flat_map comes (events_of c.args.asked)) so.0 (events_of c.loop-event.event-iterator) left event so.1
+    c.in-Some.ensures.steps)
+    so.2
+    (breaks-start (contents c.loop-event.out) c.loop-event.lives c.event.new.self event c.in_err-answer.field-0.0
+    c.in_err-answer.ensures.err))
 
 pub returns-then-is_err-clause-broken : goal.returns-then-is_err-clause-broken
 returns-then-is_err-clause-broken g c =
@@ -92,10 +99,13 @@ returns-then-is_err-clause-broken g c =
     let answer = c.in_ok-answer.answer in
     let left = events_of c.next.new.self in
     let written = on_err c.write_out.result c.if-is_err.ensures.value c.write_out.ensures.err in
-    let acted = acted-event c.loop-event.lives c.event.new.self event answer c.in_ok-answer.ensures.ok c.in_ok-answer.ensures.off c.event.ensures.follows in
-    broken (contents c.args.out.now) (contents c.loop-event.out) (contents c.write_out.new.out) c.args.lives.now c.loop-event.lives c.event.new.self
-    (flat_map comes (events_of c.args.asked)) so.0 left event Writer
-    (parted (flat_map comes (events_of c.args.asked)) so.0 (events_of c.loop-event.event-iterator) left event so.1 c.in-Some.ensures.steps) so.2
+    let acted = acted-event c.loop-event.lives c.event.new.self event answer c.in_ok-answer.ensures.ok c.in_ok-answer.ensures.off
+    c.event.ensures.follows in
+    broken (contents c.args.out.now) (contents c.loop-event.out) (contents c.write_out.new.out) c.args.lives.now c.loop-event.lives
+    c.event.new.self (flat_map comes (events_of c.args.asked)) so.0 left event Writer
+    (parted (flat_map comes (events_of c.args.asked)) so.0 (events_of c.loop-event.event-iterator) left event so.1
+    c.in-Some.ensures.steps)
+    so.2
     (breaks-writer (contents c.loop-event.out) (contents c.write_out.new.out) c.loop-event.lives c.event.new.self event answer acted
     (rw (c.as_slice.ensures.value ∙ c.event_line.ensures) at written))
 
@@ -104,4 +114,5 @@ returns-clause-played g c =
     let contents = g.W.Write.contents in
     let so = c.loop-event.invariant.so_far in
     let all = so.1 ∙ ap (λ (l : List Event). so.0 ++ flat_map comes l) c.in-None.ensures.steps.0 ∙ append-nil so.0 in
-    subst (λ (l : List Action). TellsLives (contents c.args.out.now) (contents c.loop-event.out) c.args.lives.now l c.loop-event.lives) (sym all) so.2
+    subst (λ (l : List Action). TellsLives (contents c.args.out.now) (contents c.loop-event.out) c.args.lives.now l c.loop-event.lives)
+    (sym all) so.2

@@ -21,7 +21,8 @@ loop-line-init g c =
     record {
       left = rw same c.requires.good;
       room = c.requires.room;
-      so_far = lines-none (bytes_of c.args.size) (g.W.Write.contents c.args.out.now) c.args.lives (lines_of c.args.script.now) (parts_left c.into_iter-line-iterator.result) same;
+      so_far = lines-none (bytes_of c.args.size) (g.W.Write.contents c.args.out.now) c.args.lives (lines_of c.args.script.now)
+          (parts_left c.into_iter-line-iterator.result) same;
     }
 
 pub unwrap-requires : goal.unwrap-requires
@@ -52,9 +53,10 @@ loop-line-preserved-in-Fuse g c =
     record {
       left = λ k d lt. left (suc k) d (omega (arith, lt));
       room = c.loop-line.invariant.room;
-      so_far = lines-more (bytes_of c.args.size) (contents c.args.out.now) (contents c.loop-line.out) (contents c.loop-line.out) c.args.lives c.loop-line.lives c.fuse.new.self
-          (lines_of c.args.script.now) (parts_left c.loop-line.line-iterator) (parts_left c.next.new.self) c.in-Some.line.now c.in-Some.ensures.steps
-          c.loop-line.invariant.so_far (arms writes ∷ []) (line_acts (bytes_of c.args.size) c.in-Some.line.now (Fuse writes) spelled.0)
+      so_far = lines-more (bytes_of c.args.size) (contents c.args.out.now) (contents c.loop-line.out) (contents c.loop-line.out)
+          c.args.lives c.loop-line.lives c.fuse.new.self (lines_of c.args.script.now) (parts_left c.loop-line.line-iterator)
+          (parts_left c.next.new.self) c.in-Some.line.now c.in-Some.ensures.steps c.loop-line.invariant.so_far (arms writes ∷ [])
+          (line_acts (bytes_of c.args.size) c.in-Some.line.now (Fuse writes) spelled.0)
           (tells-silently (contents c.loop-line.out) c.loop-line.lives c.fuse.new.self (arms writes ∷ [])
           (acted-fuse c.loop-line.lives c.fuse.new.self writes c.fuse.ensures.goes_on) refl);
     }
@@ -68,9 +70,10 @@ loop-line-preserved-in-Fail g c =
     record {
       left = λ k d lt. left (suc k) d (omega (arith, lt));
       room = c.loop-line.invariant.room;
-      so_far = lines-more (bytes_of c.args.size) (contents c.args.out.now) (contents c.loop-line.out) (contents c.loop-line.out) c.args.lives c.loop-line.lives c.fail.new.self
-          (lines_of c.args.script.now) (parts_left c.loop-line.line-iterator) (parts_left c.next.new.self) c.in-Some.line.now c.in-Some.ensures.steps
-          c.loop-line.invariant.so_far (fails call ∷ []) (line_acts (bytes_of c.args.size) c.in-Some.line.now (Fail call) spelled.0)
+      so_far = lines-more (bytes_of c.args.size) (contents c.args.out.now) (contents c.loop-line.out) (contents c.loop-line.out)
+          c.args.lives c.loop-line.lives c.fail.new.self (lines_of c.args.script.now) (parts_left c.loop-line.line-iterator)
+          (parts_left c.next.new.self) c.in-Some.line.now c.in-Some.ensures.steps c.loop-line.invariant.so_far (fails call ∷ [])
+          (line_acts (bytes_of c.args.size) c.in-Some.line.now (Fail call) spelled.0)
           (tells-silently (contents c.loop-line.out) c.loop-line.lives c.fail.new.self (fails call ∷ [])
           (acted-fail c.loop-line.lives c.fail.new.self call c.fail.ensures.goes_on c.fail.ensures.failing) refl);
     }
@@ -84,10 +87,12 @@ loop-line-preserved-in-Cut g c =
     record {
       left = λ k d lt. left (suc k) d (omega (arith, lt));
       room = rw (sym c.cut-numbers.ensures.room) at c.loop-line.invariant.room;
-      so_far = lines-more (bytes_of c.args.size) (contents c.args.out.now) (contents c.loop-line.out) (contents c.loop-line.out) c.args.lives c.loop-line.lives c.cut-numbers.new.lives
-          (lines_of c.args.script.now) (parts_left c.loop-line.line-iterator) (parts_left c.next.new.self) c.in-Some.line.now c.in-Some.ensures.steps
-          c.loop-line.invariant.so_far (cuts (is_kept kept) ∷ []) (line_acts (bytes_of c.args.size) c.in-Some.line.now (Cut kept) spelled.0)
-          (tells-silently (contents c.loop-line.out) c.loop-line.lives c.cut-numbers.new.lives (cuts (is_kept kept) ∷ []) c.cut-numbers.ensures.acted refl);
+      so_far = lines-more (bytes_of c.args.size) (contents c.args.out.now) (contents c.loop-line.out) (contents c.loop-line.out)
+          c.args.lives c.loop-line.lives c.cut-numbers.new.lives (lines_of c.args.script.now) (parts_left c.loop-line.line-iterator)
+          (parts_left c.next.new.self) c.in-Some.line.now c.in-Some.ensures.steps c.loop-line.invariant.so_far (cuts (is_kept kept) ∷ [])
+          (line_acts (bytes_of c.args.size) c.in-Some.line.now (Cut kept) spelled.0)
+          (tells-silently (contents c.loop-line.out) c.loop-line.lives c.cut-numbers.new.lives (cuts (is_kept kept) ∷ [])
+          c.cut-numbers.ensures.acted refl);
     }
 
 pub loop-line-preserved : goal.loop-line-preserved
@@ -99,10 +104,13 @@ loop-line-preserved g c =
     record {
       left = λ k d lt. left (suc k) d (omega (arith, lt));
       room = c.loop-line.invariant.room;
-      so_far = lines-more (bytes_of c.args.size) (contents c.args.out.now) (contents c.loop-line.out) (contents c.play_events.new.out) c.args.lives c.loop-line.lives c.play_events.new.lives
-          (lines_of c.args.script.now) (parts_left c.loop-line.line-iterator) (parts_left c.next.new.self) c.in-Some.line.now c.in-Some.ensures.steps
-          c.loop-line.invariant.so_far (flat_map comes (events_of asked))
-          (event_line_acts (bytes_of c.args.size) c.in-Some.line.now asked c.in_default.not-Fuse c.in_default.not-Fail c.in_default.not-Cut spelled.0) c.in_default-play_events.ensures.played;
+      so_far = lines-more (bytes_of c.args.size) (contents c.args.out.now) (contents c.loop-line.out) (contents c.play_events.new.out)
+          c.args.lives c.loop-line.lives c.play_events.new.lives (lines_of c.args.script.now) (parts_left c.loop-line.line-iterator)
+          (parts_left c.next.new.self) c.in-Some.line.now c.in-Some.ensures.steps c.loop-line.invariant.so_far
+          (flat_map comes (events_of asked))
+          (event_line_acts (bytes_of c.args.size) c.in-Some.line.now asked c.in_default.not-Fuse c.in_default.not-Fail c.in_default.not-Cut
+          spelled.0)
+          c.in_default-play_events.ensures.played;
     }
 
 pub returns-in-Err-clause-broken : goal.returns-in-Err-clause-broken
@@ -111,13 +119,17 @@ returns-in-Err-clause-broken g c =
     let asked = c.unwrap.result in
     let spelled = rw c.unwrap.ensures at c.read_line.ensures.spelled in
     let left = rw c.in-Some.ensures.steps at c.loop-line.invariant.left in
-    lines-break (bytes_of c.args.size) (contents c.args.out.now) (contents c.loop-line.out) (contents c.play_events.new.out) c.args.lives c.loop-line.lives c.play_events.new.lives
-    (lines_of c.args.script.now) (parts_left c.loop-line.line-iterator) (parts_left c.next.new.self) c.in-Some.line.now c.in-Some.ensures.steps
-    c.loop-line.invariant.so_far (flat_map comes (events_of asked))
-    (event_line_acts (bytes_of c.args.size) c.in-Some.line.now asked c.in_default.not-Fuse c.in_default.not-Fail c.in_default.not-Cut spelled.0)
-    c.in-Err.fault c.into_medium.result c.in-Err.ensures.broken (λ k d lt. left (suc k) d (omega (arith, lt))) (sym c.into_medium.ensures)
+    lines-break (bytes_of c.args.size) (contents c.args.out.now) (contents c.loop-line.out) (contents c.play_events.new.out) c.args.lives
+    c.loop-line.lives c.play_events.new.lives (lines_of c.args.script.now) (parts_left c.loop-line.line-iterator)
+    (parts_left c.next.new.self) c.in-Some.line.now c.in-Some.ensures.steps c.loop-line.invariant.so_far
+    (flat_map comes (events_of asked))
+    (event_line_acts (bytes_of c.args.size) c.in-Some.line.now asked c.in_default.not-Fuse c.in_default.not-Fail c.in_default.not-Cut
+    spelled.0)
+    c.in-Err.fault c.into_medium.result c.in-Err.ensures.broken (λ k d lt. left (suc k) d (omega (arith, lt)))
+    (sym c.into_medium.ensures)
 
 pub returns-clause-played : goal.returns-clause-played
 returns-clause-played g c =
-    lines-all (bytes_of c.args.size) (g.W.Write.contents c.args.out.now) (g.W.Write.contents c.loop-line.out) c.args.lives c.loop-line.lives (lines_of c.args.script.now)
-    (parts_left c.loop-line.line-iterator) c.into_medium-2.result c.loop-line.invariant.so_far c.in-None.ensures.steps.0 (sym c.into_medium-2.ensures)
+    lines-all (bytes_of c.args.size) (g.W.Write.contents c.args.out.now) (g.W.Write.contents c.loop-line.out) c.args.lives c.loop-line.lives
+    (lines_of c.args.script.now) (parts_left c.loop-line.line-iterator) c.into_medium-2.result c.loop-line.invariant.so_far
+    c.in-None.ensures.steps.0 (sym c.into_medium-2.ensures)

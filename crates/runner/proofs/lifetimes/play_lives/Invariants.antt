@@ -12,5 +12,6 @@ abbrev pub invariant-loop-line : goal.invariant-loop-line
 invariant-loop-line g l = record {
   left : All (IsScriptLine Lives (bytes_of l.size)) (parts_left l.line-iterator);
   room : 64 ≤ vec_capacity l.numbers;
-  so_far : ArePlayedTo (bytes_of l.size) (g.W.Write.contents l.fn.out) (g.W.Write.contents l.out) l.fn.lives (lines_of l.script) (parts_left l.line-iterator) l.lives;
+  so_far : ArePlayedTo (bytes_of l.size) (g.W.Write.contents l.fn.out) (g.W.Write.contents l.out) l.fn.lives (lines_of l.script)
+      (parts_left l.line-iterator) l.lives;
 }

@@ -16,13 +16,14 @@ pub returns-in-Err-clause-words : goal.returns-in-Err-clause-words
 returns-in-Err-clause-words g c two =
     let contents = g.O.Write.contents in
     let remaining = g.I.Read.remaining in
-    no_line_at_two (contents c.args.out.now) (contents c.serve_image.new.out) (remaining c.args.input.now) (remaining c.serve_image.new.input)
-    (map (λ word. word.now) c.args.words.now) c.in-Err.refusal c.in-Err.ensures.refused (sym c.tell.ensures ∙ two)
+    no_line_at_two (contents c.args.out.now) (contents c.serve_image.new.out) (remaining c.args.input.now)
+    (remaining c.serve_image.new.input) (map (λ word. word.now) c.args.words.now) c.in-Err.refusal c.in-Err.ensures.refused
+    (sym c.tell.ensures ∙ two)
 
 pub returns-in-Err-clause-other_words : goal.returns-in-Err-clause-other_words
 returns-in-Err-clause-other_words g c never =
     let contents = g.O.Write.contents in
     let remaining = g.I.Read.remaining in
     c.tell.ensures
-    ∙ two_without_line (contents c.args.out.now) (contents c.serve_image.new.out) (remaining c.args.input.now) (remaining c.serve_image.new.input)
-    (map (λ word. word.now) c.args.words.now) c.in-Err.refusal c.in-Err.ensures.refused never
+    ∙ two_without_line (contents c.args.out.now) (contents c.serve_image.new.out) (remaining c.args.input.now)
+    (remaining c.serve_image.new.input) (map (λ word. word.now) c.args.words.now) c.in-Err.refusal c.in-Err.ensures.refused never

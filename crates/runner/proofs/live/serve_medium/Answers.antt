@@ -24,8 +24,10 @@ returns-in-Ok-serve_lines-clause-served g c =
       opens = rw c.disk_identity.ensures at c.in-Ok.ensures.ok;
       leaves = c.in-Ok.ensures.leaves;
       last = c.serve_lines.new.disk;
-      served = subst (λ (most : ℕ). IsServed g.M.Medium.state most (contents c.args.out.now) (contents c.serve_lines.new.out) c.in-Ok.disk c.serve_lines.new.disk
-          (remaining c.args.input.now) (remaining c.serve_lines.new.reader)) (ap (λ (l : Line). l.packet_size) c.in-Ok.ensures.ok.line) c.in-Ok-serve_lines.ensures.served;
+      served = subst
+          (λ (most : ℕ). IsServed g.M.Medium.state most (contents c.args.out.now) (contents c.serve_lines.new.out) c.in-Ok.disk
+          c.serve_lines.new.disk (remaining c.args.input.now) (remaining c.serve_lines.new.reader))
+          (ap (λ (l : Line). l.packet_size) c.in-Ok.ensures.ok.line) c.in-Ok-serve_lines.ensures.served;
     }
 
 pub returns-clause-refused : goal.returns-clause-refused
@@ -38,8 +40,9 @@ returns-clause-refused g c =
       leaves = c.in-Ok.ensures.leaves;
       last = c.serve_lines.new.disk;
       fault = c.in-Err-serve_lines.fault;
-      stopped = subst (λ (most : ℕ). IsStopped g.M.Medium.state most (contents c.args.out.now) (contents c.serve_lines.new.out) c.in-Ok.disk c.serve_lines.new.disk
-          (remaining c.args.input.now) (remaining c.serve_lines.new.reader) c.in-Err-serve_lines.fault) (ap (λ (l : Line). l.packet_size) c.in-Ok.ensures.ok.line)
-          c.in-Err-serve_lines.ensures.stopped;
+      stopped = subst
+          (λ (most : ℕ). IsStopped g.M.Medium.state most (contents c.args.out.now) (contents c.serve_lines.new.out) c.in-Ok.disk
+          c.serve_lines.new.disk (remaining c.args.input.now) (remaining c.serve_lines.new.reader) c.in-Err-serve_lines.fault)
+          (ap (λ (l : Line). l.packet_size) c.in-Ok.ensures.ok.line) c.in-Err-serve_lines.ensures.stopped;
       told = c.from-in-Err-serve_lines.ensures;
     })

@@ -13,8 +13,10 @@ pub returns-in-Ok-parse-clause-spelled : goal.returns-in-Ok-parse-clause-spelled
 returns-in-Ok-parse-clause-spelled c =
     let same = c.in-Ok.ensures.cases.0 in
     let plain = rw (← same) at (c.has_plain_start.ensures.0 c.if-not-has_plain_start.false) in
-    sym same ∙ parsed-decimal c.in-Ok.digits.now c.in-Ok-parse.number c.parse.result c.parse.ensures.value.0 c.in-Ok-parse.is plain.0 plain.1
+    sym same
+    ∙ parsed-decimal c.in-Ok.digits.now c.in-Ok-parse.number c.parse.result c.parse.ensures.value.0 c.in-Ok-parse.is plain.0 plain.1
 
 pub returns-in-Err-clause-refused : goal.returns-in-Err-clause-refused
 returns-in-Err-clause-refused c number fits spelled =
-    let parsed = decimal-parsed c.in-Ok.digits.now number c.parse.result c.parse.ensures.value.0 (c.in-Ok.ensures.cases.0 ∙ spelled) fits in cc
+    let parsed = decimal-parsed c.in-Ok.digits.now number c.parse.result c.parse.ensures.value.0 (c.in-Ok.ensures.cases.0 ∙ spelled) fits in
+    cc

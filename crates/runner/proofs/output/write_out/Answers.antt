@@ -22,8 +22,8 @@ writes-preserved g c =
         written ++ take w.in-Ok.count c.writes.rest.now,
         moves c.args.bytes.now written c.writes.rest.now w.in-Ok.count split
             ∙ ap (λ (r : Bor (List ℕ)). (written ++ take w.in-Ok.count c.writes.rest.now) ++ r.now) (sym w.rest-is),
-        Appends-more (contents c.args.out.now) (contents c.writes.out) (contents c.write.new.self) written (take w.in-Ok.count c.writes.rest.now) appended
-            w.in-Ok.ensures.bytes,
+        Appends-more (contents c.args.out.now) (contents c.writes.out) (contents c.write.new.self) written
+            (take w.in-Ok.count c.writes.rest.now) appended w.in-Ok.ensures.bytes,
       )
       | in-Err w ↦ (
         written,

@@ -9,4 +9,6 @@ returns-in-None c = parts_of-one c.args.separator c.args.bytes.now (sym c.in-Non
 pub returns-in-Some : goal.returns-in-Some
 returns-in-Some c =
     let cut = parts_of-cut c.args.separator c.args.bytes.now c.in-Some.end (sym c.in-Some.ensures) in
-    rw (take_all (length c.args.bytes.now - (c.in-Some.end + 1)) (drop (c.in-Some.end + 1) c.args.bytes.now) (omega (arith, length-drop (c.in-Some.end + 1) c.args.bytes.now))) cut
+    rw
+    (take_all (length c.args.bytes.now - (c.in-Some.end + 1)) (drop (c.in-Some.end + 1) c.args.bytes.now)
+    (omega (arith, length-drop (c.in-Some.end + 1) c.args.bytes.now))) cut

@@ -18,7 +18,13 @@ loop-line-init g c =
     let left = parts_left c.into_iter-line-iterator.result in
     record {
       left = rw same c.requires.good;
-      so_far = ([], [], tells-none g.M.Medium.state c.args.disk, given-start (LinePlays (bytes_of c.args.size)) (lines_of c.args.script.now) left same, Appends-none (g.W.Write.contents c.args.out.now));
+      so_far = (
+        [],
+        [],
+        tells-none g.M.Medium.state c.args.disk,
+        given-start (LinePlays (bytes_of c.args.size)) (lines_of c.args.script.now) left same,
+        Appends-none (g.W.Write.contents c.args.out.now),
+      );
     }
 
 pub play_line-requires : goal.play_line-requires
@@ -27,7 +33,8 @@ play_line-requires g c =
     let told = c.loop-line.invariant.so_far.2 in
     record {
       good = left 0 [] (omega arith);
-      packets = packets_stay g.M.Medium.state c.loop-line.invariant.so_far.0 told.answers told.refusals c.args.disk c.loop-line.disk told.steps
+      packets =
+          packets_stay g.M.Medium.state c.loop-line.invariant.so_far.0 told.answers told.refusals c.args.disk c.loop-line.disk told.steps
           ∙ c.requires.packets;
     }
 
@@ -44,8 +51,8 @@ loop-line-preserved g c =
         so.0 ++ here.0,
         so.1 ++ here.1,
         tells-more state c.args.disk c.loop-line.disk c.play_line.new.disk so.0 here.0 so.1 here.1 so.2 here.3,
-        given-more (LinePlays (bytes_of c.args.size)) (lines_of c.args.script.now) (parts_left c.loop-line.line-iterator) (parts_left c.next.new.self) c.in-Some.line.now
-            c.in-Some.ensures.steps so.0 here.0 so.3 here.2,
+        given-more (LinePlays (bytes_of c.args.size)) (lines_of c.args.script.now) (parts_left c.loop-line.line-iterator)
+            (parts_left c.next.new.self) c.in-Some.line.now c.in-Some.ensures.steps so.0 here.0 so.3 here.2,
         Appends-more (contents c.args.out.now) (contents c.loop-line.out) (contents c.play_line.new.out) so.1 here.1 so.4 here.4,
       );
     }
@@ -55,7 +62,8 @@ returns-clause-played g c =
     let so = c.loop-line.invariant.so_far in (
       so.0,
       so.1,
-      given-all (LinePlays (bytes_of c.args.size)) (lines_of c.args.script.now) (parts_left c.loop-line.line-iterator) so.0 c.in-None.ensures.steps.0 so.3,
+      given-all (LinePlays (bytes_of c.args.size)) (lines_of c.args.script.now) (parts_left c.loop-line.line-iterator) so.0
+          c.in-None.ensures.steps.0 so.3,
       record { new = c.loop-line.disk; tells = so.2; medium = sym c.into_medium-2.ensures },
       so.4,
     )
@@ -74,11 +82,11 @@ returns-then-is_err-clause-cut_short g c =
         event = here.1;
         stops = given-part (LinePlays (bytes_of c.args.size)) (IsScriptLine OneLife (bytes_of c.args.size))
             (λ line is. (events_of is.0, record { asked = is.0; spelled = is.1; allowed = is.2; events_are = refl }))
-            (lines_of c.args.script.now) (parts_left c.loop-line.line-iterator) (parts_left c.next.new.self) c.in-Some.line.now c.in-Some.ensures.steps
-            so.0 here.0 here.1 here.2 so.3 here.3 (λ k d lt. left (suc k) d (omega (arith, lt)));
+            (lines_of c.args.script.now) (parts_left c.loop-line.line-iterator) (parts_left c.next.new.self) c.in-Some.line.now
+            c.in-Some.ensures.steps so.0 here.0 here.1 here.2 so.3 here.3 (λ k d lt. left (suc k) d (omega (arith, lt)));
         new = c.play_line.new.disk;
-        breaks = breaks-more state (contents c.args.out.now) (contents c.loop-line.out) (contents c.play_line.new.out) c.args.disk c.loop-line.disk
-            c.play_line.new.disk so.0 here.0 so.1 here.1 so.2 so.4 here.4;
+        breaks = breaks-more state (contents c.args.out.now) (contents c.loop-line.out) (contents c.play_line.new.out) c.args.disk
+            c.loop-line.disk c.play_line.new.disk so.0 here.0 so.1 here.1 so.2 so.4 here.4;
         medium = sym c.into_medium.ensures;
       },
     )

@@ -25,8 +25,8 @@ answer_to-answer-requires g c =
     let told = so.3 in
     let stays = packets_stay g.M.Medium.state so.0 told.answers told.refusals c.args.disk.now c.loop-event.disk told.steps in
     subst (λ (most : ℕ). IsWithin most c.in-Some.event) (sym stays)
-    (next_within c.args.disk.now.line.packet_size so.0 (events_of c.loop-event.event-iterator) (events_of c.args.asked) (events_of c.next.new.self) c.in-Some.event so.2
-    c.in-Some.ensures.steps c.requires.within)
+    (next_within c.args.disk.now.line.packet_size so.0 (events_of c.loop-event.event-iterator) (events_of c.args.asked)
+    (events_of c.next.new.self) c.in-Some.event so.2 c.in-Some.ensures.steps c.requires.within)
 
 pub loop-event-preserved : goal.loop-event-preserved
 loop-event-preserved g c =
@@ -59,7 +59,7 @@ returns-in_err-write_out-clause-cut_short g c =
       event,
       events_of c.next.new.self,
       so.2 ∙ ap (λ l. so.0 ++ l) c.in-Some.ensures.steps,
-      breaks-here state (contents c.args.out.now) (contents c.loop-event.out) (contents c.write_out.new.out) c.args.disk.now c.loop-event.disk
-          c.answer_to-answer.new.disk so.0 so.1 event answer so.3 so.4 c.answer_to-answer.ensures.step
+      breaks-here state (contents c.args.out.now) (contents c.loop-event.out) (contents c.write_out.new.out) c.args.disk.now
+          c.loop-event.disk c.answer_to-answer.new.disk so.0 so.1 event answer so.3 so.4 c.answer_to-answer.ensures.step
           (rw (c.as_slice.ensures.value ∙ c.event_line.ensures) at c.in_err-write_out.ensures.err),
     )

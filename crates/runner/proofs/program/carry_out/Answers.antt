@@ -20,9 +20,11 @@ returns-in-Migrate-clause-refused g c =
 pub returns-in-Run-clause-done : goal.returns-in-Run-clause-done
 returns-in-Run-clause-done g c =
     let spelled = rw c.in-Run.is at c.in_ok-image.ensures.spelled in
-    on_ok_weaker c.run.result (λ done. inr (inr (inl (c.in-Run.size, (c.in-Run.image.now, c.in-Run.script.now, spelled), done)))) c.run.ensures.done
+    on_ok_weaker c.run.result (λ done. inr (inr (inl (c.in-Run.size, (c.in-Run.image.now, c.in-Run.script.now, spelled), done))))
+    c.run.ensures.done
 
 pub returns-in-Sim-clause-done : goal.returns-in-Sim-clause-done
 returns-in-Sim-clause-done g c =
     let spelled = rw c.in-Sim.is at c.in_ok-image.ensures.spelled in
-    on_ok_weaker c.sim.result (λ done. inr (inr (inr (c.in-Sim.size, (c.in-Sim.image.now, c.in-Sim.script.now, spelled), done)))) c.sim.ensures.done
+    on_ok_weaker c.sim.result (λ done. inr (inr (inr (c.in-Sim.size, (c.in-Sim.image.now, c.in-Sim.script.now, spelled), done))))
+    c.sim.ensures.done

@@ -23,8 +23,8 @@ returns-in-Err-clause-done g c zero = absurd (some_status c.in-Err.refusal (sym 
 pub returns-in-Err-clause-words : goal.returns-in-Err-clause-words
 returns-in-Err-clause-words g c two =
     let contents = g.O.Write.contents in
-    no_line_at_two (contents c.args.out.now) (contents c.carry_out.new.out) (map (λ word. word.now) c.args.words.now) c.in-Err.refusal c.in-Err.ensures.refused
-    (sym c.tell.ensures ∙ two)
+    no_line_at_two (contents c.args.out.now) (contents c.carry_out.new.out) (map (λ word. word.now) c.args.words.now) c.in-Err.refusal
+    c.in-Err.ensures.refused (sym c.tell.ensures ∙ two)
 
 pub returns-in-Err-clause-other_words : goal.returns-in-Err-clause-other_words
 returns-in-Err-clause-other_words g c never =

@@ -8,15 +8,14 @@ use Rattle.runner.proofs.program.migrate.Goals as goal
 pub returns-in_err-was_one-clause-refused : goal.returns-in_err-was_one-clause-refused
 returns-in_err-was_one-clause-refused g c =
     let out = g.O.Write.contents c.args.out.now in
-    if-err c.from_residual-in_err-was_one.result (λ refusal. refusal ≡ refusal_of_start c.in_err-was_one.field-0.0) (IsMigrationRefused out out)
-    c.from_residual-in_err-was_one.ensures.1
-    (λ refusal is. inr (inl (record {
+    if-err c.from_residual-in_err-was_one.result (λ refusal. refusal ≡ refusal_of_start c.in_err-was_one.field-0.0)
+    (IsMigrationRefused out out) c.from_residual-in_err-was_one.ensures.1 (λ refusal is. inr (inl (record {
       opened = c.in_ok-medium.medium;
       is_fresh = c.in_ok-medium.ensures.opened.0;
       is_image = c.in_ok-medium.ensures.opened.1;
       fault = c.in_err-was_one.field-0.0;
       back = c.migrate.new.m;
-      cause = c.in_err-was_one.ensures.err;
+      cause = c.in_err-was_one.ensures.err.cause;
       told = is;
       kept = Keeps-refl out;
     })))

@@ -13,5 +13,6 @@ invariant-loop-byte g l =
       packets : l.disk.line.packet_size ≡ bytes_of l.size;
       goes_on : (was : Option (List ℕ)) (first : DiskValue g.row.M.Denot) (read : List ℕ)
           → HasServed state (bytes_of l.size) was (contents l.fn.out) first l.fn.disk l.fn.line.bytes.items l.fn.line.number read
-          → HasServed state (bytes_of l.size) was (contents l.out) first l.disk l.line.bytes.items l.line.number (read ++ take l.byte-index l.bytes);
+          → HasServed state (bytes_of l.size) was (contents l.out) first l.disk l.line.bytes.items l.line.number
+          (read ++ take l.byte-index l.bytes);
     }

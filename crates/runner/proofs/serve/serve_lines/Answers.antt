@@ -25,8 +25,9 @@ answer_line-requires g c =
     let so = c.reads.invariant.so_far in
     let contents = g.W.Write.contents in
     record {
-      packets = served-packets g.M.Medium.state (bytes_of c.packet_size-size.result) (contents c.args.out.now) (contents c.reads.out) c.args.disk.now c.reads.disk
-          c.reads.line.bytes.items c.reads.line.number so.0 so.2 ∙ sym c.packet_size-size.ensures;
+      packets = served-packets g.M.Medium.state (bytes_of c.packet_size-size.result) (contents c.args.out.now) (contents c.reads.out)
+          c.args.disk.now c.reads.disk c.reads.line.bytes.items c.reads.line.number so.0 so.2
+          ∙ sym c.packet_size-size.ensures;
     }
 
 pub returns-in-Ok-eq0-clause-served : goal.returns-in-Ok-eq0-clause-served
@@ -37,14 +38,17 @@ returns-in-Ok-eq0-clause-served g c =
     let remaining = g.R.Read.remaining in
     let most = bytes_of c.packet_size-size.result in
     let took = rw c.in-Ok-eq0.is at c.read.ensures.bytes in
-    let taken = taken-none (remaining c.args.reader.now) (remaining c.reads.reader) (remaining c.read.new.self) so.0 c.read.new.buf c.in-Ok-eq0.field-0 so.1 took.0
-    c.in-Ok-eq0.field-0-test in
+    let taken = taken-none (remaining c.args.reader.now) (remaining c.reads.reader) (remaining c.read.new.self) so.0 c.read.new.buf
+    c.in-Ok-eq0.field-0 so.1 took.0 c.in-Ok-eq0.field-0-test in
     let end : IsAtEnd (remaining c.read.new.self) = took.1 c.in-Ok-eq0.field-0-test (search rules) in
     on_ok_weaker c.answer_line.result
-    (λ answered. subst (λ (m : ℕ). IsServed state m (contents c.args.out.now) (contents c.answer_line.new.out) c.args.disk.now c.answer_line.new.disk
-    (remaining c.args.reader.now) (remaining c.read.new.self)) c.packet_size-size.ensures
-    (served-all state most (contents c.args.out.now) (contents c.reads.out) c.args.disk.now c.reads.disk c.reads.line.bytes.items c.reads.line.number so.0 so.2
-    (remaining c.args.reader.now) (remaining c.read.new.self) taken end (contents c.answer_line.new.out) c.answer_line.new.disk answered))
+    (λ answered. subst
+    (λ (m : ℕ). IsServed state m (contents c.args.out.now) (contents c.answer_line.new.out) c.args.disk.now c.answer_line.new.disk
+    (remaining c.args.reader.now) (remaining c.read.new.self))
+    c.packet_size-size.ensures
+    (served-all state most (contents c.args.out.now) (contents c.reads.out) c.args.disk.now c.reads.disk c.reads.line.bytes.items
+    c.reads.line.number so.0 so.2 (remaining c.args.reader.now) (remaining c.read.new.self) taken end
+    (contents c.answer_line.new.out) c.answer_line.new.disk answered))
     c.answer_line.ensures.answered
 
 pub returns-in-Ok-eq0-clause-stopped : goal.returns-in-Ok-eq0-clause-stopped
@@ -55,14 +59,17 @@ returns-in-Ok-eq0-clause-stopped g c =
     let remaining = g.R.Read.remaining in
     let most = bytes_of c.packet_size-size.result in
     let took = rw c.in-Ok-eq0.is at c.read.ensures.bytes in
-    let taken = taken-none (remaining c.args.reader.now) (remaining c.reads.reader) (remaining c.read.new.self) so.0 c.read.new.buf c.in-Ok-eq0.field-0 so.1 took.0
-    c.in-Ok-eq0.field-0-test in
+    let taken = taken-none (remaining c.args.reader.now) (remaining c.reads.reader) (remaining c.read.new.self) so.0 c.read.new.buf
+    c.in-Ok-eq0.field-0 so.1 took.0 c.in-Ok-eq0.field-0-test in
     let end : IsAtEnd (remaining c.read.new.self) = took.1 c.in-Ok-eq0.field-0-test (search rules) in
     if_err c.answer_line.result
-    (λ fault stopped. subst (λ (m : ℕ). IsStopped state m (contents c.args.out.now) (contents c.answer_line.new.out) c.args.disk.now c.answer_line.new.disk
-    (remaining c.args.reader.now) (remaining c.read.new.self) fault) c.packet_size-size.ensures
-    (stopped-last state most (contents c.args.out.now) (contents c.reads.out) c.args.disk.now c.reads.disk c.reads.line.bytes.items c.reads.line.number so.0 so.2
-    (remaining c.args.reader.now) (remaining c.read.new.self) taken end (contents c.answer_line.new.out) c.answer_line.new.disk fault stopped))
+    (λ fault stopped. subst
+    (λ (m : ℕ). IsStopped state m (contents c.args.out.now) (contents c.answer_line.new.out) c.args.disk.now c.answer_line.new.disk
+    (remaining c.args.reader.now) (remaining c.read.new.self) fault)
+    c.packet_size-size.ensures
+    (stopped-last state most (contents c.args.out.now) (contents c.reads.out) c.args.disk.now c.reads.disk c.reads.line.bytes.items
+    c.reads.line.number so.0 so.2 (remaining c.args.reader.now) (remaining c.read.new.self) taken end
+    (contents c.answer_line.new.out) c.answer_line.new.disk fault stopped))
     c.answer_line.ensures.stopped
 
 pub serve_bytes-requires : goal.serve_bytes-requires
@@ -70,8 +77,9 @@ serve_bytes-requires g c =
     let so = c.reads.invariant.so_far in
     let contents = g.W.Write.contents in
     record {
-      packets = served-packets g.M.Medium.state (bytes_of c.packet_size-size.result) (contents c.args.out.now) (contents c.reads.out) c.args.disk.now c.reads.disk
-          c.reads.line.bytes.items c.reads.line.number so.0 so.2 ∙ sym c.packet_size-size.ensures;
+      packets = served-packets g.M.Medium.state (bytes_of c.packet_size-size.result) (contents c.args.out.now) (contents c.reads.out)
+          c.args.disk.now c.reads.disk c.reads.line.bytes.items c.reads.line.number so.0 so.2
+          ∙ sym c.packet_size-size.ensures;
     }
 
 pub returns-in_err-serve_bytes-in-Ok-clause-stopped :
@@ -84,16 +92,20 @@ returns-in_err-serve_bytes-in-Ok-clause-stopped g c =
     let most = bytes_of c.packet_size-size.result in
     let chunk = take c.in-Ok.count c.read.new.buf in
     let fault = c.in_err-serve_bytes-in-Ok.field-0.0 in
-    let outcome : LineFault → Type 0 = λ f. IsStopped state c.args.disk.now.line.packet_size (contents c.args.out.now) (contents c.serve_bytes.new.out) c.args.disk.now
-    c.serve_bytes.new.disk (remaining c.args.reader.now) (remaining c.read.new.self) f in
+    let outcome : LineFault → Type 0 = λ f. IsStopped state c.args.disk.now.line.packet_size (contents c.args.out.now)
+    (contents c.serve_bytes.new.out) c.args.disk.now c.serve_bytes.new.disk (remaining c.args.reader.now) (remaining c.read.new.self)
+    f in
     if-err c.from_residual.result (λ told. told ≡ fault) outcome c.from_residual.ensures.1
     (λ told is. subst outcome (sym is)
-    (subst (λ (m : ℕ). IsStopped state m (contents c.args.out.now) (contents c.serve_bytes.new.out) c.args.disk.now c.serve_bytes.new.disk
-    (remaining c.args.reader.now) (remaining c.read.new.self) fault) c.packet_size-size.ensures
-    (stopped-in state most (contents c.args.out.now) (contents c.serve_bytes.new.out) c.args.disk.now c.serve_bytes.new.disk (remaining c.args.reader.now)
-    (remaining c.read.new.self) (so.0 ++ chunk)
-    (Consumes-trans (remaining c.args.reader.now) (remaining c.reads.reader) (remaining c.read.new.self) so.0 chunk so.1 c.in-Ok.ensures.bytes.0) fault
-    (λ more. c.in_err-serve_bytes-in-Ok.ensures.stops (contents c.args.out.now) c.args.disk.now so.0 more so.2))))
+    (subst
+    (λ (m : ℕ). IsStopped state m (contents c.args.out.now) (contents c.serve_bytes.new.out) c.args.disk.now
+    c.serve_bytes.new.disk (remaining c.args.reader.now) (remaining c.read.new.self) fault)
+    c.packet_size-size.ensures
+    (stopped-in state most (contents c.args.out.now) (contents c.serve_bytes.new.out) c.args.disk.now c.serve_bytes.new.disk
+    (remaining c.args.reader.now) (remaining c.read.new.self) (so.0 ++ chunk)
+    (Consumes-trans (remaining c.args.reader.now) (remaining c.reads.reader) (remaining c.read.new.self) so.0 chunk so.1
+    c.in-Ok.ensures.bytes.0)
+    fault (λ more. c.in_err-serve_bytes-in-Ok.ensures.stops (contents c.args.out.now) c.args.disk.now so.0 more so.2))))
 
 pub returns-in-Err-2-clause-stopped : goal.returns-in-Err-2-clause-stopped
 returns-in-Err-2-clause-stopped g c =
@@ -103,9 +115,10 @@ returns-in-Err-2-clause-stopped g c =
     let remaining = g.R.Read.remaining in (
       so.0,
       Consumes-kept (remaining c.args.reader.now) (remaining c.reads.reader) (remaining c.read.new.self) so.0 so.1 c.in-Err-2.ensures.bytes,
-      subst (λ (m : ℕ). StopsUnread state m (contents c.args.out.now) (contents c.reads.out) c.args.disk.now c.reads.disk so.0) c.packet_size-size.ensures
-          (served-unread state (bytes_of c.packet_size-size.result) (contents c.args.out.now) (contents c.reads.out) c.args.disk.now c.reads.disk c.reads.line.bytes.items
-          c.reads.line.number so.0 so.2),
+      subst (λ (m : ℕ). StopsUnread state m (contents c.args.out.now) (contents c.reads.out) c.args.disk.now c.reads.disk so.0)
+          c.packet_size-size.ensures
+          (served-unread state (bytes_of c.packet_size-size.result) (contents c.args.out.now) (contents c.reads.out) c.args.disk.now
+          c.reads.disk c.reads.line.bytes.items c.reads.line.number so.0 so.2),
     )
 
 pub reads-preserved : goal.reads-preserved
@@ -119,7 +132,8 @@ reads-preserved g c =
           rw (w.disk-is, w.out-is, w.line-is) (record {
             so_far = (
               so.0 ++ chunk,
-              Consumes-trans (remaining c.args.reader.now) (remaining c.reads.reader) (remaining c.read.new.self) so.0 chunk so.1 w.in-Ok.ensures.bytes.0,
+              Consumes-trans (remaining c.args.reader.now) (remaining c.reads.reader) (remaining c.read.new.self) so.0 chunk so.1
+                  w.in-Ok.ensures.bytes.0,
               w.in_ok-serve_bytes-in-Ok.ensures.goes_on (contents c.args.out.now) c.args.disk.now so.0 so.2,
             );
           })
@@ -127,7 +141,8 @@ reads-preserved g c =
           rw (w.disk-is, w.out-is, w.line-is) (record {
             so_far = (
               so.0,
-              Consumes-kept (remaining c.args.reader.now) (remaining c.reads.reader) (remaining c.read.new.self) so.0 so.1 w.in-Err.ensures.bytes,
+              Consumes-kept (remaining c.args.reader.now) (remaining c.reads.reader) (remaining c.read.new.self) so.0 so.1
+                  w.in-Err.ensures.bytes,
               so.2,
             );
           })
@@ -140,7 +155,8 @@ returns-clause-stopped g c =
     let contents = g.W.Write.contents in (
       so.0,
       so.1,
-      subst (λ (m : ℕ). StopsUnread state m (contents c.args.out.now) (contents c.reads.out) c.args.disk.now c.reads.disk so.0) c.packet_size-size.ensures
-          (served-unread state (bytes_of c.packet_size-size.result) (contents c.args.out.now) (contents c.reads.out) c.args.disk.now c.reads.disk c.reads.line.bytes.items
-          c.reads.line.number so.0 so.2),
+      subst (λ (m : ℕ). StopsUnread state m (contents c.args.out.now) (contents c.reads.out) c.args.disk.now c.reads.disk so.0)
+          c.packet_size-size.ensures
+          (served-unread state (bytes_of c.packet_size-size.result) (contents c.args.out.now) (contents c.reads.out) c.args.disk.now
+          c.reads.disk c.reads.line.bytes.items c.reads.line.number so.0 so.2),
     )

@@ -8,6 +8,6 @@ use Rattle.runner.proofs.serve.serve_lines.Given as goal
 abbrev pub invariant-reads : goal.invariant-reads
 invariant-reads g l = record {
   so_far : (read : List ℕ) × Consumes (g.R.Read.remaining l.fn.reader) (g.R.Read.remaining l.reader) read
-      × HasServed g.M.Medium.state (bytes_of l.size) (g.W.Write.contents l.fn.out) (g.W.Write.contents l.out) l.fn.disk l.disk l.line.bytes.items l.line.number
-      read;
+      × HasServed g.M.Medium.state (bytes_of l.size) (g.W.Write.contents l.fn.out) (g.W.Write.contents l.out) l.fn.disk l.disk
+      l.line.bytes.items l.line.number read;
 }

@@ -33,8 +33,10 @@ three _ other few = absurd (omega (arith, few))
 
 pub returns-in-len3-up-clause-none : goal.returns-in-len3-up-clause-none
 returns-in-len3-up-clause-none c =
-    none_weaker c.script_task.result (λ never line. never (subst IsCommandLine (three c.args.words.now _ c.in-len3-up.len_at_least) line)) c.script_task.ensures.none
+    none_weaker c.script_task.result (λ never line. never (subst IsCommandLine (three c.args.words.now _ c.in-len3-up.len_at_least) line))
+    c.script_task.ensures.none
 
 pub returns-in-len6-up-clause-none : goal.returns-in-len6-up-clause-none
 returns-in-len6-up-clause-none c =
-    none_weaker c.format_task.result (λ never line. never (subst IsCommandLine (six c.args.words.now _ c.in-len6-up.len_at_least) line)) c.format_task.ensures.none
+    none_weaker c.format_task.result (λ never line. never (subst IsCommandLine (six c.args.words.now _ c.in-len6-up.len_at_least) line))
+    c.format_task.ensures.none

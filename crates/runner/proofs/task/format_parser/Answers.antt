@@ -15,14 +15,13 @@ returns-clause-shape c =
     let slots_is : rule_of c.required-3.result ≡ option_rule (codes "slots") = search rules in
     let format_is : rule_of c.long-3.result ≡ free_option_rule (codes "format") = search rules in
     IfOk-weaker c.arg-4.result _ _
-    (λ r added.
-    added.shape (search rules)
+    (λ r added. added.shape (search rules)
     ∙ ap₂ with_rule
     (c.in_ok-arg-3.ensures.shape (search rules)
     ∙ ap₂ with_rule
-    (c.in_ok-arg-2.ensures.shape (search rules) ∙ ap₂ with_rule (c.in_ok-arg.ensures.shape (search rules) ∙ ap₂ with_rule c.new.ensures.app image_is) blocks_is)
-    slots_is)
-    format_is)
+    (c.in_ok-arg-2.ensures.shape (search rules)
+    ∙ ap₂ with_rule (c.in_ok-arg.ensures.shape (search rules) ∙ ap₂ with_rule c.new.ensures.app image_is) blocks_is)
+    slots_is) format_is)
     c.arg-4.ensures
 
 pub returns-clause-local : goal.returns-clause-local

@@ -16,9 +16,12 @@ no_line : (a b c d e f : List ℕ) (ending : List (List ℕ)) → ((format : Log
 no_line a b c d e f ending none (inl (image, format, blocks, slots, are)) =
     none format (subst (λ words. IsFormatEnding words format) (sym (ap (drop 6) are.words_are)) are.format_is)
 no_line a b c d e f ending none (inr (inl line)) = absurd (omega (arith, ap length line.1.words_are))
-no_line a b c d e f ending none (inr (inr (inl line))) = absurd (too_long a b c d e f _ line.1.0 line.1.1 ending line.1.2.ending line.0 line.1.2.size_is line.1.2.words_are)
-no_line a b c d e f ending none (inr (inr (inr line))) = absurd (too_long a b c d e f _ line.1.0 line.1.1 ending line.1.2.ending line.0 line.1.2.size_is line.1.2.words_are)
+no_line a b c d e f ending none (inr (inr (inl line))) =
+    absurd (too_long a b c d e f _ line.1.0 line.1.1 ending line.1.2.ending line.0 line.1.2.size_is line.1.2.words_are)
+no_line a b c d e f ending none (inr (inr (inr line))) =
+    absurd (too_long a b c d e f _ line.1.0 line.1.1 ending line.1.2.ending line.0 line.1.2.size_is line.1.2.words_are)
 
 pub returns-in_err-format-clause-none : goal.returns-in_err-format-clause-none
 returns-in_err-format-clause-none c =
-    rw c.from_residual-in_err-format.ensures (λ line. no_line _ _ _ _ _ _ (map (λ word. word.now) c.args.ending.now) c.in_err-format.ensures.none line)
+    rw c.from_residual-in_err-format.ensures
+    (λ line. no_line _ _ _ _ _ _ (map (λ word. word.now) c.args.ending.now) c.in_err-format.ensures.none line)

@@ -17,5 +17,5 @@ no_line a b c ending few none (inr (inr (inr (size, (image, script, are))))) =
 pub returns-in_err-size-clause-none : goal.returns-in_err-size-clause-none
 returns-in_err-size-clause-none c =
     rw c.from_residual.ensures
-    (λ line. no_line _ _ _ (map (λ word. word.now) c.args.ending.now) (omega (arith, c.requires, length-map c.args.ending.now (λ word. word.now)))
-    c.in_err-size.ensures.none line)
+    (λ line. no_line _ _ _ (map (λ word. word.now) c.args.ending.now)
+    (omega (arith, c.requires, length-map c.args.ending.now (λ word. word.now))) c.in_err-size.ensures.none line)
