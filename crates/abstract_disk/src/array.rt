@@ -1,4 +1,4 @@
-// An array of blocks, and writes to it.
+//! An array of blocks, and writes to it.
 ghost use Rattle.std.specs.Prelude.{◌≡◌, take, replicate, IfOk};
 ghost use Rattle.abstract_disk.specs.Blocks.{overlaid, blocks_after};
 

@@ -1,4 +1,4 @@
-// The book of a life: the blocks with which it opened, and the writes that were accepted in it.
+//! The book of a life: the blocks with which it opened, and the writes that were accepted in it.
 ghost use Rattle.std.specs.Prelude.{◌≡◌, ◌≤◌, IfOk, IfSome};
 
 use crate::array::{Array, Write};

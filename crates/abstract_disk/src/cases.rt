@@ -1,4 +1,4 @@
-// The thirteen cases (USB Mass Storage Class Bulk-Only Transport 1.0, 6.7).
+//! The thirteen cases (USB Mass Storage Class Bulk-Only Transport 1.0, 6.7).
 
 /// What host or device intends to move, in bytes, never 0.
 #[derive(Clone, Copy, Debug, PartialEq, Eq)]

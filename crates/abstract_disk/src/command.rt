@@ -1,4 +1,4 @@
-// The table of commands (SPC-4, SBC-3): which command block is which command, and why one is refused.
+//! The table of commands (SPC-4, SBC-3): which command block is which command, and why one is refused.
 use crate::sense_data::Sense;
 
 /// A row of the table: the operation code, the length of the command, and of byte 1 the bits that must

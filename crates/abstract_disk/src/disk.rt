@@ -1,4 +1,4 @@
-// One disk of the definitions: two halts, a lock, what is left of an exchange, and the unit.
+//! One disk of the definitions: two halts, a lock, what is left of an exchange, and the unit.
 use crate::array::{Array, Write};
 use crate::cases::Endpoint;
 use crate::command::Shape;
@@ -98,16 +98,14 @@ impl Disk {
         if self.out_halted {
             return lucky(Answer::Stall, luck);
         }
-        let laid = match mem::replace(&mut self.left, Left::Nothing) {
-            Left::Nothing => {
-                let Some(wrapper) = Wrapper::read(packet) else {
+        let Laid { left, write } = match mem::replace(&mut self.left, Left::Nothing) {
+            Left::Nothing => match Wrapper::read(packet) {
+                Some(wrapper) => self.begin(alloc, now, wrapper, luck)?,
+                None => {
                     self.lock();
                     return lucky(Answer::Ack, luck);
-                };
-                let (case, laid) = lay_out(alloc, now, &mut self.unit, wrapper, luck)?;
-                self.case = case;
-                laid
-            }
+                }
+            },
             Left::Take(taking) => {
                 taking.take(alloc, now, &mut self.unit, packet, self.packet, luck)?
             }
@@ -116,13 +114,23 @@ impl Disk {
                 return lucky(Answer::Nak, luck);
             }
         };
-        let Laid { left, write } = laid;
         self.left = left;
         self.halt_after_data();
-        Ok(Outcome {
-            answer: Answer::Ack,
-            write,
-        })
+        let answer = Answer::Ack;
+        Ok(Outcome { answer, write })
+    }
+
+    // The exchange that a wrapper begins.
+    fn begin(
+        &mut self,
+        alloc: Global,
+        now: &Array,
+        wrapper: Wrapper,
+        luck: Luck,
+    ) -> Result<Laid, Stop> {
+        let (case, laid) = lay_out(alloc, now, &mut self.unit, wrapper, luck)?;
+        self.case = case;
+        Ok(laid)
     }
 
     // No command block wrapper came where one is expected.

@@ -1,5 +1,5 @@
-// The script of an exchange, laid out at once: bytes to take, one effect, bytes to send, perhaps a
-// halt, and a status wrapper (USB Mass Storage Class Bulk-Only Transport 1.0, 5 and 6).
+//! The script of an exchange, laid out at once: bytes to take, one effect, bytes to send, perhaps a
+//! halt, and a status wrapper (USB Mass Storage Class Bulk-Only Transport 1.0, 5 and 6).
 use crate::array::{Array, Write};
 use crate::cases::{Endpoint, Status, Way, case_of};
 use crate::luck::{Luck, Stop};
@@ -56,40 +56,23 @@ impl Wrapper {
     /// The wrapper that a packet spells.
     pub(crate) fn read(packet: &[u8]) -> Option<Wrapper> {
         let whole = <[u8; 31]>::try_from(packet).ok()?;
-        let [
-            b'U',
-            b'S',
-            b'B',
-            b'C',
-            a,
-            b,
-            c,
-            d,
-            e,
-            f,
-            g,
-            h,
-            flags,
-            0,
-            length,
-            ..
-        ] = whole
-        else {
+        let [flags, unit, length] = [whole[12], whole[13], whole[14]];
+        if !whole.starts_with(b"USBC") || unit != 0 {
             return None;
-        };
+        }
         if ![0x00, 0x80].contains(&flags) || length == 0 || length > 16 {
             return None;
         }
-        let announced = u32::from_le_bytes([e, f, g, h]);
+        let announced = u32::from_le_bytes(<[u8; 4]>::try_from(whole.get(8..12)?).ok()?);
         let host = if flags == 0x80 {
             Way::to_host(announced)
         } else {
             Way::to_device(announced)
         };
         Some(Wrapper {
-            tag: [a, b, c, d],
+            tag: <[u8; 4]>::try_from(whole.get(4..8)?).ok()?,
             host,
-            block: <[u8; 16]>::try_from(packet.get(15..31)?).ok()?,
+            block: <[u8; 16]>::try_from(whole.get(15..)?).ok()?,
             length: usize::from(length),
         })
     }
@@ -177,7 +160,7 @@ fn carried_out(
 impl Taking {
     /// After one more packet, where each packet but the last has so many bytes.
     pub(crate) fn take(
-        self,
+        mut self,
         alloc: Global,
         now: &Array,
         unit: &mut Unit,
@@ -185,42 +168,45 @@ impl Taking {
         size: u32,
         luck: Luck,
     ) -> Result<Laid, Stop> {
-        let Taking {
-            wrapper,
-            intended,
-            came,
-            mut data,
-        } = self;
-        let announced = wrapper.host.length();
-        let rest = announced.saturating_sub(came);
-        let whole = packet.len() == rest.min(size) as usize;
-        if !(whole && rest <= size) && luck != Luck::Good {
+        let rest = self.wrapper.host.length().saturating_sub(self.came);
+        let is_whole = packet.len() == rest.min(size) as usize;
+        let is_last = is_whole && rest <= size;
+        if !is_last && luck != Luck::Good {
             return Err(Stop::Impossible);
         }
-        if !whole {
-            let left = wrapper.ends(Vec::new(alloc), None, Status::PhaseError, rest);
+        let none = Vec::new(alloc);
+        if !is_whole {
+            let left = self.wrapper.ends(none, None, Status::PhaseError, rest);
             return Ok(Laid { left, write: None });
         }
-        let wanted = (intended as usize).saturating_sub(data.len());
-        data.extend_from_slice(packet.get(..wanted).unwrap_or(packet))?;
-        if rest > size {
-            let taking = Taking {
-                wrapper,
-                intended,
-                came: came.saturating_add(size),
-                data,
-            };
-            return Ok(Laid {
-                left: Left::Take(taking),
-                write: None,
-            });
+        let wanted = (self.intended as usize).saturating_sub(self.data.len());
+        self.data
+            .extend_from_slice(packet.get(..wanted).unwrap_or(packet))?;
+        if is_last {
+            return self.carry_out(alloc, now, unit, luck);
         }
-        let Done { sent, write } = unit.carry_out(alloc, now, wrapper.block(), &data, luck)?;
+        self.came = self.came.saturating_add(size);
+        Ok(Laid {
+            left: Left::Take(self),
+            write: None,
+        })
+    }
+
+    // After the last packet.
+    fn carry_out(
+        self,
+        alloc: Global,
+        now: &Array,
+        unit: &mut Unit,
+        luck: Luck,
+    ) -> Result<Laid, Stop> {
+        let wrapper = self.wrapper;
+        let Done { sent, write } = unit.carry_out(alloc, now, wrapper.block(), &self.data, luck)?;
         let status = match sent {
             Ok(_) => Status::Passed,
             Err(_) => Status::Failed,
         };
-        let residue = announced.saturating_sub(intended);
+        let residue = wrapper.host.length().saturating_sub(self.intended);
         Ok(Laid {
             left: wrapper.ends(Vec::new(alloc), None, status, residue),
             write,

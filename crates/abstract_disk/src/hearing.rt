@@ -1,4 +1,4 @@
-// Every disk of the definitions that the answers so far allow.
+//! Every disk of the definitions that the answers so far allow.
 ghost use Rattle.std.specs.Prelude.{◌≡◌, ◌↔◌, ◌<◌, ◌≤◌, length, map, IfOk, IfSome, IsTrue};
 ghost use Rattle.abstract_disk.specs.Followed.{disks_of, opening_of, case_in, failing, least_promised};
 

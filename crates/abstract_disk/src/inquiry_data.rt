@@ -1,4 +1,4 @@
-// The data of INQUIRY, the mode page and the capacities (SPC-4, SBC-3).
+//! The data of INQUIRY, the mode page and the capacities (SPC-4, SBC-3).
 use crate::command::Shape;
 use std::alloc::{AllocError, Global};
 
@@ -37,11 +37,14 @@ pub(crate) fn inquiry(
                 SERIAL,
             ],
         ),
-        Some(_) => {
-            let limit = shape.limit.to_be_bytes();
-            joined(alloc, &[&[0, 0xb0, 0, 0x3c, 0, 0, 0, 0], &limit, &[0; 52]])
-        }
+        Some(_) => block_limits(alloc, shape),
     }
+}
+
+// The block limits page, B0h.
+fn block_limits(alloc: Global, shape: Shape) -> Result<Vec<u8>, AllocError> {
+    let limit = shape.limit.to_be_bytes();
+    joined(alloc, &[&[0, 0xb0, 0, 0x3c, 0, 0, 0, 0], &limit, &[0; 52]])
 }
 
 /// The mode parameters with the caching page. Current values for page control 0, else those that

@@ -1,4 +1,4 @@
-// What may befall an event.
+//! What may befall an event.
 use std::alloc::AllocError;
 
 /// What befalls an event.

@@ -1,4 +1,4 @@
-// Sense data in fixed format (SPC-4, 4.5.3).
+//! Sense data in fixed format (SPC-4, 4.5.3).
 
 /// A sense key, and an additional sense code with its qualifier.
 #[derive(Clone, Copy, Debug, PartialEq, Eq)]

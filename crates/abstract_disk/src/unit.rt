@@ -1,4 +1,4 @@
-// The logical unit: a line of its table for each command.
+//! The logical unit: a line of its table for each command.
 use crate::array::{Array, Block, Write};
 use crate::cases::Way;
 use crate::command::{Command, Extent, Shape, command_of};

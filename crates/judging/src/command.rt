@@ -1,5 +1,5 @@
-// Commands of a host, and their wrappers (USB Mass Storage Class Bulk-Only Transport 1.0, 5.1;
-// SPC-4 and SBC-3 for the commands).
+//! Commands of a host, and their wrappers (USB Mass Storage Class Bulk-Only Transport 1.0, 5.1;
+//! SPC-4 and SBC-3 for the commands).
 
 ghost use Rattle.std.specs.Prelude.{◌≡◌, length};
 ghost use Rattle.judging.specs.Commands.{read_command, write_command, sense_command};

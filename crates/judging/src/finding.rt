@@ -1,4 +1,4 @@
-// What a judge finds.
+//! What a judge finds.
 use bot_machine::StartFault;
 use medium::SimError;
 use recovery::FormatFault;

@@ -1,4 +1,4 @@
-// The events of a life as a host sends them.
+//! The events of a life as a host sends them.
 ghost use Rattle.std.specs.Prelude.{◌≡◌, ◌+◌, [], length, IfOk, OnOk};
 ghost use Rattle.bot_machine.specs.declared.event.Event.TheVariants.{In};
 ghost use Rattle.judging.specs.Commands.{read_command, sense_command};

@@ -1,4 +1,4 @@
-// Lives that are played event by event.
+//! Lives that are played event by event.
 ghost use Rattle.std.specs.Prelude.{◌≡◌, ◌<◌, [], ◌∷◌, length, IfOk, IfErr, OnOk};
 ghost use Rattle.medium.specs.Sim.{IsFused, IsFailing};
 ghost use Rattle.bot_machine.specs.Lives.{arms, fails, starts};

@@ -1,4 +1,4 @@
-// The play of a life, and the judgement of its answers.
+//! The play of a life, and the judgement of its answers.
 ghost use Rattle.std.specs.Prelude.{◌≡◌, None, length, slice_get, IfOk, IfSome, IsSome, OnOk, OnSome};
 ghost use Rattle.judging.specs.Judged.{judged_identity};
 ghost use Rattle.bot_machine.specs.LivesValue.{IsAtRest};
@@ -60,7 +60,7 @@ pub fn disk_identity() -> Result<Identity, Finding>
     .ok_or(Finding::Identity)
 }
 
-// Plays a life, and gives the answers.
+/// Plays a life, and gives the answers.
 pub(crate) fn live(
     alloc: Global,
     medium: SimMedium,

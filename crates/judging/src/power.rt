@@ -1,4 +1,4 @@
-// The power of a medium in memory.
+//! The power of a medium in memory.
 ghost use Rattle.std.specs.Prelude.{◌≡◌, None, IfOk};
 ghost use Rattle.bot_machine.specs.LivesValue.{IsAtRest};
 

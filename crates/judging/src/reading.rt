@@ -1,4 +1,4 @@
-// The blocks that an image serves.
+//! The blocks that an image serves.
 ghost use Rattle.std.specs.Prelude.{◌≡◌, None, length, IfOk};
 ghost use Rattle.bot_machine.specs.LivesValue.{IsAtRest};
 

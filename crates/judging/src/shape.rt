@@ -1,4 +1,4 @@
-// The shape of an image.
+//! The shape of an image.
 ghost use Rattle.judging.specs.Formats.{limit_of};
 ghost use Rattle.std.specs.Prelude.{◌≡◌, None, IfOk};
 ghost use Rattle.bot_machine.specs.LivesValue.{IsAtRest};

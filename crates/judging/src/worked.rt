@@ -1,4 +1,4 @@
-// The life that is cut, and in which a call of the medium is refused, at each place.
+//! The life that is cut, and in which a call of the medium is refused, at each place.
 ghost use Rattle.std.specs.Prelude.{◌≡◌, replicate, IfOk, OnOk};
 ghost use Rattle.bot_machine.specs.declared.event.Event.TheVariants.{In};
 ghost use Rattle.judging.specs.Commands.{sense_command, synchronize_command};
