@@ -7,7 +7,7 @@
  * usbdisk_take, one by one, carry each out on the device, in order, and only then let the answer of
  * the call go to the host, or make the next one. docs/MAKERS.md tells what the device must promise.
  *
- * Link the program with libusbdisk_c.a, and define the three functions at the end of this file.
+ * Link the program with libusbdisk_c.a, and define the two functions at the end of this file.
  *
  * Threads: a disk is used by one thread, the one that started it. No call may be made from a signal
  * handler or from an interrupt that can interrupt another call. No call waits. Only usbdisk_format and
@@ -140,15 +140,13 @@ uint32_t usbdisk_take(struct usbdisk *disk, uint64_t *sector, uint8_t bytes[512]
 /* What the program gives to the library.
  *
  * rattle_alloc: so many bytes, aligned to `alignment`, a power of two up to 16; `ok` is false where
- * there are none. rattle_realloc: the same block with `size` bytes, of which the first `kept` stay;
- * where `ok` is false it stays as it was. rattle_dealloc: frees a block. */
+ * there are none. rattle_dealloc: frees a block. */
 struct rattle_tried {
     bool ok;
     void *at;
 };
 
 struct rattle_tried rattle_alloc(size_t size, size_t alignment);
-struct rattle_tried rattle_realloc(void *at, size_t kept, size_t size, size_t alignment);
 void rattle_dealloc(void *at);
 
 #ifdef __cplusplus

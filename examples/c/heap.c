@@ -25,16 +25,6 @@ struct rattle_tried rattle_alloc(size_t size, size_t alignment)
     return (struct rattle_tried){ true, block + HEAD };
 }
 
-struct rattle_tried rattle_realloc(void *at, size_t kept, size_t size, size_t alignment)
-{
-    struct rattle_tried fresh = rattle_alloc(size, alignment);
-    if (!fresh.ok)
-        return (struct rattle_tried){ false, at };
-    memcpy(fresh.at, at, kept < size ? kept : size);
-    rattle_dealloc(at);
-    return fresh;
-}
-
 void rattle_dealloc(void *at)
 {
     char *block = (char *)at - HEAD;

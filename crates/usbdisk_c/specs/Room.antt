@@ -23,14 +23,18 @@ AreSlots slots = (1 ≤ slots) × (slots ≤ 64)
 abbrev pub AreNone : ℕ → ℕ → Type 0
 AreNone format slots = ((format ≢ 1) × (format ≢ 2)) ⊎ (slots ≡ 0) ⊎ (64 < slots)
 
--- what is told: for each of the two formats this number, or 0 where there is no such image
+-- what is told of an image: for each of the two formats this number
 pub record Tells (of : LogFormat → ℕ) (format slots told : ℕ) : Type 0 where
   pub one : format ≡ 1 → AreSlots slots → told ≡ of One
   pub two : format ≡ 2 → AreSlots slots → told ≡ of Two
-  pub none : AreNone format slots → told ≡ 0
+
+-- 0 is told where there is no such image
+abbrev pub TellsNone : ℕ → ℕ → ℕ → Type 0
+TellsNone format slots told = AreNone format slots → told ≡ 0
 
 abbrev pub TellsRoom : ℕ → ℕ → ℕ → Type 0
-TellsRoom format slots = Tells (λ (kind : LogFormat). room_of kind slots) format slots
+TellsRoom format slots told =
+    Tells (λ (kind : LogFormat). room_of kind slots) format slots told × TellsNone format slots told
 
 -- how many bytes each slot takes, by measure
 abbrev pub slot_memory : LogFormat → ℕ
@@ -41,8 +45,9 @@ slot_memory Two = 3848
 -- buffers of a transfer each, so many for each slot, and the disk.
 abbrev pub memory_of : ℕ → ℕ → ℕ → LogFormat → ℕ
 memory_of size slots room format =
-    size + 528 * room + 2068 * limit_of format + slot_memory format * slots + 3048
+    size + 528 * room + 2096 * limit_of format + slot_memory format * slots + 3080
 
 abbrev pub TellsMemory : ℕ → ℕ → ℕ → ℕ → ℕ → Type 0
 TellsMemory size format slots room told =
-    size ≤ 2 ^ 48 → room ≤ 2 ^ 32 → Tells (memory_of size slots room) format slots told
+    (size ≤ 2 ^ 48 → room ≤ 2 ^ 32 → Tells (memory_of size slots room) format slots told)
+    × TellsNone format slots told

@@ -1,4 +1,4 @@
-// The numbers that C sees. include/usbdisk.h has the same.
+//! The numbers that C sees. include/usbdisk.h has the same.
 ghost use Rattle.std.specs.Prelude.{◌≡◌};
 ghost use Rattle.usbdisk_c.specs.Codes.{number_of};
 
@@ -24,7 +24,7 @@ pub(crate) const BAD_LENGTH: u32 = 21;
 
 pub(crate) const BAD_SIZES: u32 = 22;
 
-// The number of the fault for which a start is refused.
+/// The number of the fault for which a start is refused.
 pub(crate) fn number_of(fault: StartFault) -> u32
     ensures { result ≡ number_of fault }
 {

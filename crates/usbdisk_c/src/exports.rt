@@ -1,4 +1,4 @@
-// One export for each call of include/usbdisk.h, which tells what each does.
+//! One export for each call of include/usbdisk.h, which tells what each does.
 ghost use Rattle.usbdisk_c.specs.Exports.{identity_of, Starts, Stops, TakesOut, SendsIn};
 ghost use Rattle.usbdisk_c.specs.Exports.{AnswersSetup, Ticks, HandsOut, Formats};
 ghost use Rattle.usbdisk_c.specs.Room.{TellsRoom, TellsMemory};

@@ -1,4 +1,4 @@
-// A new image in memory, and how much memory and room a disk on one takes.
+//! A new image in memory, and how much memory and room a disk on one takes.
 ghost use Rattle.std.specs.Prelude.{◌≡◌, ◌≤◌, ◌<◌, ◌+◌, ◌⊎◌};
 ghost use Rattle.std.specs.Prelude.{OnOk, OnErr};
 ghost use Rattle.log_layout.specs.Places.{new_shape};
@@ -34,7 +34,7 @@ fn make(medium: &mut MirrorMedium, version: u32, blocks: u64, slots: u64) -> Res
     }
 }
 
-// Makes an image in these bytes.
+/// Makes an image in these bytes.
 pub(crate) fn make_image(
     alloc: Global,
     image: &mut [u8],
@@ -57,7 +57,7 @@ pub(crate) fn make_image(
     ACK
 }
 
-// How many calls an outbox must have room for, for an image of this format with so many slots.
+/// How many calls an outbox must have room for, for an image of this format with so many slots.
 pub(crate) fn room_for(version: u32, slots: u64) -> u64
     ensures { TellsRoom version slots result }
 {
@@ -71,7 +71,7 @@ pub(crate) fn room_for(version: u32, slots: u64) -> u64
     }
 }
 
-// How many bytes of memory a start takes, for a medium of so many bytes and an outbox of this room.
+/// How many bytes of memory a start takes, for a medium of so many bytes and an outbox of this room.
 pub(crate) fn memory_for(size: u64, version: u32, slots: u64, room: u64) -> u64
     ensures { TellsMemory size version slots room result }
 {
@@ -79,8 +79,8 @@ pub(crate) fn memory_for(size: u64, version: u32, slots: u64, room: u64) -> u64
         return 0;
     }
     let kept = match version {
-        1 => 99_264 + 2_312 * slots + 3_048,
-        2 => 496_320 + 3_848 * slots + 3_048,
+        1 => 100_608 + 2_312 * slots + 3_080,
+        2 => 503_040 + 3_848 * slots + 3_080,
         _ => return 0,
     };
     size.saturating_add(room.saturating_mul(528))

@@ -1,4 +1,4 @@
-// A disk behind a pointer that C holds.
+//! A disk behind a pointer that C holds.
 ghost use Rattle.std.specs.Prelude.{Option};
 ghost use Rattle.std.specs.Coded.{coded_option};
 ghost use Rattle.usbdisk_c.specs.DiskRow.{disk_row};

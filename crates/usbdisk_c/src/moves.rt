@@ -1,4 +1,4 @@
-// A box goes into a handle, and comes back.
+//! A box goes into a handle, and comes back.
 ghost use Rattle.std.specs.Prelude.{◌≡◌, Some, None, MatchOption};
 
 use crate::handle::UsbDisk;

@@ -1,4 +1,4 @@
-// What C asks of a disk, and what it is told.
+//! What C asks of a disk, and what it is told.
 ghost use Rattle.usbdisk_c.specs.Plays.{TakesPacket, Tells, SendsPacket, AnswersRequest};
 ghost use Rattle.usbdisk_c.specs.Plays.{MakesStep, Shows, LetsGo, Plays, Foresees, medium_of};
 ghost use Rattle.bot_machine.specs.declared.event.Answer.TheVariants as answer;
@@ -17,7 +17,7 @@ fn foresee(disk: &Disk<MirrorMedium>)
     let _waiting = disk.medium().waiting();
 }
 
-// A packet to Bulk-Out. One that is longer than those of the disk changes nothing.
+/// A packet to Bulk-Out. One that is longer than those of the disk changes nothing.
 pub(crate) fn take_packet(disk: &mut Disk<MirrorMedium>, packet: &[u8]) -> u32
     ensures { TakesPacket disk.old packet.now disk.new result }
 {
@@ -32,7 +32,7 @@ pub(crate) fn take_packet(disk: &mut Disk<MirrorMedium>, packet: &[u8]) -> u32
     }
 }
 
-// A token to Bulk-In.
+/// A token to Bulk-In.
 pub(crate) fn send_packet(disk: &mut Disk<MirrorMedium>, to: &mut [u8; 512], size: &mut u32) -> u32
     ensures { SendsPacket disk.old to.old disk.new to.new size.new result }
 {
@@ -75,7 +75,7 @@ fn tell(answer: &Answer, to: &mut [u8; 512], size: &mut u32) -> u32
     }
 }
 
-// A control request.
+/// A control request.
 pub(crate) fn answer_request(
     disk: &mut Disk<MirrorMedium>,
     packet: &[u8; 8],
@@ -102,7 +102,7 @@ pub(crate) fn answer_request(
     }
 }
 
-// A step in the background: 1 while steps are left, 0 where all is at home.
+/// A step in the background: 1 while steps are left, 0 where all is at home.
 pub(crate) fn make_step(disk: &mut Disk<MirrorMedium>) -> u32
     ensures { MakesStep disk.old disk.new result }
 {
@@ -117,7 +117,7 @@ fn tick(disk: &mut Disk<MirrorMedium>)
     disk.tick();
 }
 
-// The next call for the device leaves the outbox.
+/// The next call for the device leaves the outbox.
 pub(crate) fn next_call(disk: &mut Disk<MirrorMedium>, sector: &mut u64, to: &mut [u8; 512]) -> u32
     ensures shows { Shows (first_of (medium_of disk.old).outbox)
         sector.old to.old sector.new to.new result }

@@ -1,4 +1,4 @@
-// How a disk starts on the bytes of a medium, and how it gives them back.
+//! How a disk starts on the bytes of a medium, and how it gives them back.
 ghost use Rattle.std.specs.Prelude.{◌≡◌, ◌≢◌, ◌⊎◌, ◌%◌, IfOk, IfErr, IfSome, MatchOption, length};
 ghost use Rattle.bot_machine.specs.Device.{device_of};
 ghost use Rattle.bot_machine.specs.PacketBytes.{bytes_of};
@@ -70,7 +70,7 @@ fn read_identity(identity: &UsbDiskIdentity) -> Option<Identity>
     Identity::new(vendor, product, revision, serial)
 }
 
-// A medium of a copy of these bytes.
+/// A medium of a copy of these bytes.
 pub(crate) fn mirror_of(alloc: Global, bytes: &[u8], room: usize) -> Result<MirrorMedium, Refusal>
     ensures ok { IfOk result (λ m. m ≡ fresh bytes.now room) }
     ensures err { IfErr result (λ refusal. (refusal ≡ Refusal.Fault StartFault.NoMemory)
@@ -87,7 +87,7 @@ pub(crate) fn mirror_of(alloc: Global, bytes: &[u8], room: usize) -> Result<Mirr
     }
 }
 
-// A disk on a copy of these bytes.
+/// A disk on a copy of these bytes.
 pub(crate) fn begin(
     alloc: Global,
     bytes: &[u8],
@@ -119,7 +119,7 @@ pub(crate) fn begin(
     }
 }
 
-// Copies the bytes of a medium out, where there is just the room for them.
+/// Copies the bytes of a medium out, where there is just the room for them.
 pub(crate) fn copy_out(medium: &MirrorMedium, to: &mut [u8]) -> bool
     ensures { GivesBytes medium.now to.old to.new result }
 {
@@ -131,7 +131,7 @@ pub(crate) fn copy_out(medium: &MirrorMedium, to: &mut [u8]) -> bool
     fits
 }
 
-// Copies the bytes of the disk's medium out, where there is just the room for them.
+/// Copies the bytes of the disk's medium out, where there is just the room for them.
 pub(crate) fn give_bytes(disk: &Disk<MirrorMedium>, to: &mut [u8]) -> bool
     ensures { GivesBytes (medium_of disk.now) to.old to.new result }
 {

@@ -1,4 +1,4 @@
-// A handle is made of a box's parts, and gives them back.
+//! A handle is made of a box's parts, and gives them back.
 ghost use Rattle.std.specs.Prelude.{◌≡◌, Some, None, MatchOption};
 
 use crate::handle::{Opaque, UsbDisk};
@@ -8,7 +8,7 @@ use mirror::MirrorMedium;
 use std::alloc::Global;
 use std::ptr;
 
-// The handle of no disk.
+/// The handle of no disk.
 pub(crate) fn empty() -> UsbDisk
     ensures { result.disk ≡ None }
 {
@@ -17,7 +17,7 @@ pub(crate) fn empty() -> UsbDisk
     }
 }
 
-// The handle of the parts' disk.
+/// The handle of the parts' disk.
 pub(crate) fn handle_of(parts: Parts<Disk<MirrorMedium>, Global>) -> UsbDisk
     ensures { result.disk ≡ Some parts.value }
 {
@@ -27,7 +27,7 @@ pub(crate) fn handle_of(parts: Parts<Disk<MirrorMedium>, Global>) -> UsbDisk
     }
 }
 
-// The parts of the handle's disk.
+/// The parts of the handle's disk.
 pub(crate) fn parts_of(h: UsbDisk, alloc: Global) -> Option<Parts<Disk<MirrorMedium>, Global>>
     ensures { MatchOption result (h.disk ≡ None) (λ p. h.disk ≡ Some p.value) }
 {

@@ -35,22 +35,6 @@ extern "C" fn rattle_alloc(size: usize, _alignment: usize) -> Tried {
 }
 
 #[no_mangle]
-unsafe extern "C" fn rattle_realloc(
-    at: *mut u8,
-    kept: usize,
-    size: usize,
-    alignment: usize,
-) -> Tried {
-    let fresh = rattle_alloc(size, alignment);
-    if !fresh.ok {
-        return Tried { ok: false, at };
-    }
-    ptr::copy_nonoverlapping(at, fresh.at, kept.min(size));
-    rattle_dealloc(at);
-    fresh
-}
-
-#[no_mangle]
 unsafe extern "C" fn rattle_dealloc(at: *mut u8) {
     let block = at.sub(HEAD);
     let size = block.cast::<usize>().read();

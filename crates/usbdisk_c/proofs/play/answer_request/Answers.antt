@@ -15,7 +15,8 @@ whole : (bytes to : List ℕ) → length to ≡ length bytes → bytes ≡ bytes
 whole bytes to long = sym (ap (λ (l : List ℕ). bytes ++ l) (drop_all (length bytes) to (omega (arith, long))) ∙ append-nil bytes)
 
 same_medium : (old new : Disk) → new ≡ record old { line = new.line } → ComesAfter (medium_of old) (medium_of new)
-same_medium old new others = subst (λ (d : Disk). ComesAfter (medium_of old) (medium_of d)) (sym others) (comes_after_itself (medium_of old))
+same_medium old new others =
+    subst (λ (d : Disk). ComesAfter (medium_of old) (medium_of d)) (sym others) (comes_after_itself (medium_of old))
 
 pub returns-in-Ack : goal.returns-in-Ack
 returns-in-Ack c =

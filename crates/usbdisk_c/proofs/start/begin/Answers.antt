@@ -19,9 +19,9 @@ spared_so bytes room m after on leaves has = spared bytes room after
 -- the disk in the box is that which was started, on the medium of these bytes
 began : (bytes : List ℕ) (room packet : ℕ) (m : Mirror) (who texts : Identification) (size : PacketSize) (disk held : Disk)
     → m ≡ fresh bytes room → who ≡ texts → IsLegible texts → packet ≡ bytes_of size
-    → IsOpened (state_of m) (state_of (medium_of disk)) (device_of who size) disk → StartLeaves (state_of m) (state_of (medium_of disk)) → ComesAfter m (medium_of disk) → CoversDevice m (medium_of disk)
-    → HasRoomFor m (medium_of disk)
-    → held ≡ disk → BeginsOn bytes texts packet room held
+    → IsOpened (state_of m) (state_of (medium_of disk)) (device_of who size) disk → StartLeaves (state_of m) (state_of (medium_of disk))
+    → ComesAfter m (medium_of disk) → CoversDevice m (medium_of disk) → HasRoomFor m (medium_of disk) → held ≡ disk
+    → BeginsOn bytes texts packet room held
 began bytes room packet m who texts size disk held on is legible packet_is opened leaves follows device has same = (
   size,
   packet_is,
@@ -47,6 +47,8 @@ returns-in-Err-clause-err c =
 
 pub returns-in-Ok-new-clause-ok : goal.returns-in-Ok-new-clause-ok
 returns-in-Ok-new-clause-ok c =
-    began c.args.bytes.now c.args.room c.args.packet c.in_ok-medium.medium c.in-Some-read_identity.who (identity_of c.args.identity.now) c.in-Some.size c.in-Ok.disk c.in-Ok-new.held.value
-    c.in_ok-medium.ensures.ok c.in-Some-read_identity.ensures.0 c.in-Some-read_identity.ensures.1 c.in-Some.ensures c.in-Ok.ensures.ok c.in-Ok.ensures.leaves c.in-Ok.ensures.follows (c.waiting-waiting.ensures.device _ c.in-Ok.ensures.follows)
-    (c.waiting-waiting.ensures.room _ c.in-Ok.ensures.follows) c.in-Ok-new.ensures.ok
+    began c.args.bytes.now c.args.room c.args.packet c.in_ok-medium.medium c.in-Some-read_identity.who (identity_of c.args.identity.now)
+    c.in-Some.size c.in-Ok.disk c.in-Ok-new.held.value c.in_ok-medium.ensures.ok c.in-Some-read_identity.ensures.0
+    c.in-Some-read_identity.ensures.1 c.in-Some.ensures c.in-Ok.ensures.ok c.in-Ok.ensures.leaves c.in-Ok.ensures.follows
+    (c.waiting-waiting.ensures.device _ c.in-Ok.ensures.follows) (c.waiting-waiting.ensures.room _ c.in-Ok.ensures.follows)
+    c.in-Ok-new.ensures.ok
