@@ -1,4 +1,4 @@
-// The program on files: exit statuses, and what standard error gets.
+//! The program on files: exit statuses, and what standard error gets.
 use crate::counts::Counts;
 use crate::finding::Finding;
 use runner::command;

@@ -1,4 +1,4 @@
-// How much was judged.
+//! How much was judged.
 
 /// How much was judged.
 #[derive(Clone, Copy, Debug, Default)]

@@ -1,4 +1,4 @@
-// The lines of a script, by their table alone.
+//! The lines of a script, by their table alone.
 use std::alloc::{AllocError, Global};
 
 /// Which lines a script may have, and how many bytes a packet.

@@ -1,4 +1,4 @@
-// Lines and scripts at their limits.
+//! Lines and scripts at their limits.
 use crate::counts::Counts;
 use crate::finding::Finding;
 use crate::scripts::{Play, play_on, try_script};

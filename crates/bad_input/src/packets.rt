@@ -1,4 +1,4 @@
-// Wrappers with wrong bytes, to the reader of wrappers and to a disk.
+//! Wrappers with wrong bytes, to the reader of wrappers and to a disk.
 use crate::finding::Finding;
 use bot_machine::{Disk, InAnswer, OutAnswer, SetupAnswer};
 use medium::SimMedium;

@@ -1,4 +1,4 @@
-// Packets of wrong lengths in the phases of data.
+//! Packets of wrong lengths in the phases of data.
 use crate::counts::Counts;
 use crate::finding::Finding;
 use crate::scripts::{Play, play_on};

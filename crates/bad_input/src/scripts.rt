@@ -1,4 +1,4 @@
-// Scripts, played by the runner, against their grammar.
+//! Scripts, played by the runner, against their grammar.
 use crate::counts::{Counts, count};
 use crate::finding::Finding;
 use crate::grammar::{Kind, read_script};

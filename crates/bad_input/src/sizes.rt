@@ -1,4 +1,4 @@
-// Images at their greatest sizes, on files.
+//! Images at their greatest sizes, on files.
 use crate::commands::ends;
 use crate::counts::{Counts, count};
 use crate::finding::Finding;

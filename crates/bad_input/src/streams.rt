@@ -1,4 +1,4 @@
-// Writers and readers that fail in mid-stream.
+//! Writers and readers that fail in mid-stream.
 ghost use Rattle.std.specs.Prelude.{◌≤◌, length};
 
 use crate::counts::{Counts, count};

@@ -1,4 +1,4 @@
-// The wrappers that are tried.
+//! The wrappers that are tried.
 use crate::counts::Counts;
 use crate::finding::Finding;
 use crate::packets::{READY, try_packet};

@@ -1,4 +1,4 @@
-// The lives that are cut.
+//! The lives that are cut.
 use bot_machine::Event;
 use judging::{Finding, Format, Host, Shape};
 use std::alloc::Global;

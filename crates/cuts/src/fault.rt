@@ -1,4 +1,4 @@
-// What the judge finds, and where.
+//! What the judge finds, and where.
 use judging::Finding;
 use std::alloc::AllocError;
 use thiserror::Error;

@@ -1,4 +1,4 @@
-// Where the power goes with each fuse in the worked life without ticks, and what is found then.
+//! Where the power goes with each fuse in the worked life without ticks, and what is found then.
 use abstract_disk::Found;
 use judging::Format;
 

@@ -1,4 +1,4 @@
-// What comes after the cut of a life.
+//! What comes after the cut of a life.
 ghost use Rattle.std.specs.Prelude.{◌≡◌, None, IfOk};
 ghost use Rattle.bot_machine.specs.LivesValue.{IsAtRest};
 

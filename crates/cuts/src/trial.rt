@@ -1,4 +1,4 @@
-// The judgement of a life that is cut at each of its calls of the medium.
+//! The judgement of a life that is cut at each of its calls of the medium.
 ghost use Rattle.std.specs.Prelude.{◌≡◌, None, IfOk};
 ghost use Rattle.bot_machine.specs.LivesValue.{IsAtRest};
 

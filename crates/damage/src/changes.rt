@@ -1,4 +1,4 @@
-// The changes of an image.
+//! The changes of an image.
 use crate::counts::count;
 use crate::judge::{Judge, Patch};
 use crate::numbers::number_at;

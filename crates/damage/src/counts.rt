@@ -1,4 +1,4 @@
-// How much was judged.
+//! How much was judged.
 use bot_machine::StartFault;
 use std::fmt;
 

@@ -1,4 +1,4 @@
-// The judge of one image and its changes.
+//! The judge of one image and its changes.
 use crate::counts::{Counts, count};
 use crate::finding::Finding;
 use crate::numbers::{number_at, put};

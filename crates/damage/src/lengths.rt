@@ -1,4 +1,4 @@
-// Images of other lengths.
+//! Images of other lengths.
 use crate::counts::count;
 use crate::finding::Finding;
 use crate::judge::Judge;

@@ -1,4 +1,4 @@
-// An image as sectors of 512 bytes, and as numbers of eight bytes each, the lowest byte first.
+//! An image as sectors of 512 bytes, and as numbers of eight bytes each, the lowest byte first.
 
 /// How many numbers a sector has.
 pub(crate) const NUMBERS: usize = 64;

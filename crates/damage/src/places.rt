@@ -1,4 +1,4 @@
-// The bytes of an image that are no block of the host's: super, head, and what waits in the log.
+//! The bytes of an image that are no block of the host's: super, head, and what waits in the log.
 use crate::standing::Standing;
 use std::alloc::{AllocError, Global};
 

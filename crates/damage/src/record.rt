@@ -1,4 +1,4 @@
-// The records in the log of an image, by the tables of the formats alone.
+//! The records in the log of an image, by the tables of the formats alone.
 use crate::numbers::{NUMBERS, is_exactly, is_zero_from, mark, number_at, sector_of};
 use crate::shape::{LAST_STAMP, Shape};
 use abstract_disk::Block;

@@ -1,4 +1,4 @@
-// The super and the head of an image, by the tables of the format alone.
+//! The super and the head of an image, by the tables of the format alone.
 use crate::numbers::{is_exactly, is_zero_from, mark, number_at, sector_of};
 use bot_machine::StartFault;
 

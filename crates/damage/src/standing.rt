@@ -1,4 +1,4 @@
-// What an image stands for, by the definition alone.
+//! What an image stands for, by the definition alone.
 use crate::numbers::{mark, put, sector_of};
 use crate::record::{Record, whole_record};
 use crate::shape::{LAST_STAMP, Shape, head_of, shape_of};

@@ -1,4 +1,4 @@
-// The images whose bytes are changed, and the lives that made them.
+//! The images whose bytes are changed, and the lives that made them.
 ghost use Rattle.std.specs.Prelude.{◌≡◌, None, IfOk};
 ghost use Rattle.bot_machine.specs.LivesValue.{IsAtRest};
 

@@ -1,4 +1,4 @@
-// The trial of an image: what recovery and a disk make of it, against what the definition says.
+//! The trial of an image: what recovery and a disk make of it, against what the definition says.
 ghost use Rattle.std.specs.Prelude.{◌≡◌, None, IfOk};
 ghost use Rattle.bot_machine.specs.LivesValue.{IsAtRest};
 

@@ -1,4 +1,4 @@
-// The lives in which a call of the medium is refused.
+//! The lives in which a call of the medium is refused.
 use bot_machine::Event;
 use judging::{Command, Direction, Finding, Format, Host, STROKES, Shape};
 use std::alloc::Global;

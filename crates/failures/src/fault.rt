@@ -1,4 +1,4 @@
-// What the judge finds.
+//! What the judge finds.
 use bot_machine::StartFault;
 use judging::Finding;
 use std::alloc::AllocError;

@@ -1,4 +1,4 @@
-// Images behind a refusal.
+//! Images behind a refusal.
 ghost use Rattle.std.specs.Prelude.{◌≡◌, None, IfOk};
 ghost use Rattle.bot_machine.specs.LivesValue.{IsAtRest};
 

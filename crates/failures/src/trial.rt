@@ -1,4 +1,4 @@
-// The judgement of a life in which one call of the medium is refused.
+//! The judgement of a life in which one call of the medium is refused.
 use crate::case::Case;
 use crate::counts::{Counts, count};
 use crate::fault::Fault;

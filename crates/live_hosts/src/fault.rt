@@ -1,4 +1,4 @@
-// Why a recording was not played as it stands.
+//! Why a recording was not played as it stands.
 use medium::SimError;
 use recovery::{FormatFault, StartFault};
 use std::alloc::AllocError;

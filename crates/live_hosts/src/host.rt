@@ -1,4 +1,4 @@
-// A host that sends recorded lines, and compares the answers.
+//! A host that sends recorded lines, and compares the answers.
 ghost use Rattle.std.specs.Prelude.{◌≤◌, length};
 
 use std::io::{ErrorKind, Read, Write};
@@ -68,7 +68,7 @@ pub(crate) struct Comparer<'a> {
 }
 
 impl<'a> Write for Comparer<'a> {
-    /// Takes one whole line, which must be the next recorded one.
+    // Takes one whole line, which must be the next recorded one.
     fn write(&mut self, buf: &[u8]) -> io::Result<usize> {
         let end = line_length(self.recorded);
         if buf != &self.recorded[..end] {

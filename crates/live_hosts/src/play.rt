@@ -1,4 +1,4 @@
-// A recording on a disk over an image in memory.
+//! A recording on a disk over an image in memory.
 use crate::fault::Fault;
 use crate::host::{Comparer, Pace, Sender};
 use crate::recording::Recording;

@@ -1,4 +1,4 @@
-// A part of a recording.
+//! A part of a recording.
 use crate::fault::Fault;
 use std::alloc::Global;
 use std::fs;

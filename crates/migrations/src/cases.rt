@@ -1,4 +1,4 @@
-// The images that are migrated, and the lives that made them.
+//! The images that are migrated, and the lives that made them.
 use crate::counts::Counts;
 use crate::fault::Finding;
 use crate::image::Size;

@@ -1,4 +1,4 @@
-// How much was judged.
+//! How much was judged.
 use std::fmt;
 
 /// How much was judged.

@@ -1,5 +1,5 @@
-// What a host sends: command wrappers and data, and what wrappers it gets (USB Mass Storage Class
-// Bulk-Only Transport 1.0, 5.1 and 5.2; SPC-4 and SBC-3 for the commands).
+//! What a host sends: command wrappers and data, and what wrappers it gets (USB Mass Storage Class
+//! Bulk-Only Transport 1.0, 5.1 and 5.2; SPC-4 and SBC-3 for the commands).
 use arrayvec::ArrayVec;
 use bot_machine::{Answer, Event};
 

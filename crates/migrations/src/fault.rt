@@ -1,4 +1,4 @@
-// What the judge finds.
+//! What the judge finds.
 use medium::SimError;
 use recovery::{FormatFault, StartFault};
 use std::alloc::AllocError;

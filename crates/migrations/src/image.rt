@@ -1,4 +1,4 @@
-// The sizes of an image, and what it must be byte by byte once it is migrated.
+//! The sizes of an image, and what it must be byte by byte once it is migrated.
 use crate::oracle::Array;
 use std::alloc::{AllocError, Global};
 

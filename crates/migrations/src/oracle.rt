@@ -1,4 +1,4 @@
-// What a disk holds, by the definitions alone: an array of blocks, and whole writes in their order.
+//! What a disk holds, by the definitions alone: an array of blocks, and whole writes in their order.
 use std::alloc::{AllocError, Global};
 
 /// A block of 512 bytes.

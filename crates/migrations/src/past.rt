@@ -1,4 +1,4 @@
-// The lives of a disk before its image is migrated.
+//! The lives of a disk before its image is migrated.
 use crate::counts::{Counts, count};
 use crate::fault::Finding;
 use crate::image::Size;

@@ -1,4 +1,4 @@
-// A life as the host plans it, and what the definitions say of each event.
+//! A life as the host plans it, and what the definitions say of each event.
 use crate::exchange::{Command, passed, power_on_sense, to_device, to_host};
 use crate::fault::Finding;
 use crate::oracle::{Array, Effect, Found, Write, found_at};

@@ -1,4 +1,4 @@
-// The play of a life, and the judgement of its answers.
+//! The play of a life, and the judgement of its answers.
 ghost use Rattle.std.specs.Prelude.{◌≡◌, false, None, [], IfOk, IfSome};
 ghost use Rattle.bot_machine.specs.LivesValue.{IsAtRest};
 
@@ -70,8 +70,8 @@ pub(crate) fn copied(alloc: Global, medium: &SimMedium) -> Result<SimMedium, All
     Ok(cut(copy, &Kept::None))
 }
 
-/// Up to which place the answers are those that are wanted. From there on each is that of a power
-/// that is off.
+// Up to which place the answers are those that are wanted. From there on each is that of a power
+// that is off.
 fn judge(told: &[Answer], wanted: &[Answer]) -> Result<usize, Finding> {
     if told.len() != wanted.len() {
         return Err(Finding::Count);

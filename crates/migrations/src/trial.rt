@@ -1,4 +1,4 @@
-// The judgement of a migration, of its cuts, and of what comes after them.
+//! The judgement of a migration, of its cuts, and of what comes after them.
 ghost use Rattle.std.specs.Prelude.{◌≡◌, None};
 ghost use Rattle.bot_machine.specs.LivesValue.{IsAtRest};
 

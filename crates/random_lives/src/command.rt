@@ -1,4 +1,4 @@
-// Commands at random: mostly good ones, and some with a field that is wrong.
+//! Commands at random: mostly good ones, and some with a field that is wrong.
 use crate::random::Random;
 use crate::shape::Shape;
 

@@ -1,4 +1,4 @@
-// What the judge finds.
+//! What the judge finds.
 use bot_machine::StartFault;
 use medium::SimError;
 use recovery::FormatFault;

@@ -1,4 +1,4 @@
-// A host that mostly behaves, and the lives that it makes of a disk.
+//! A host that mostly behaves, and the lives that it makes of a disk.
 use crate::command::{Command, Data, Way, any_command};
 use crate::finding::Finding;
 use crate::judge::Judge;

@@ -1,4 +1,4 @@
-// A script of lives, played and judged step by step.
+//! A script of lives, played and judged step by step.
 use crate::counts::{Counts, count};
 use crate::finding::Finding;
 use crate::player::{Player, identity};

@@ -1,4 +1,4 @@
-// Numbers that look random, the same for the same seed.
+//! Numbers that look random, the same for the same seed.
 
 /// A source of numbers: a counter, mixed (the generator splitmix64).
 #[derive(Clone, Copy, Debug)]

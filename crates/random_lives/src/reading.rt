@@ -1,4 +1,4 @@
-// The blocks that a disk serves.
+//! The blocks that a disk serves.
 use crate::finding::Finding;
 use abstract_disk::{Array, Block};
 use bot_machine::{Disk, InAnswer, OutAnswer};

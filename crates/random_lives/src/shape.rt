@@ -1,4 +1,4 @@
-// The shape of an image and of the packets.
+//! The shape of an image and of the packets.
 use crate::finding::Finding;
 use crate::random::Random;
 use bot_machine::PacketSize;

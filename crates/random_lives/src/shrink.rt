@@ -1,4 +1,4 @@
-// The smallest script in which the judge still finds a fault.
+//! The smallest script in which the judge still finds a fault.
 use crate::finding::Finding;
 use crate::judge::Judge;
 use crate::shape::Shape;

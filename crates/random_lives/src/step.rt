@@ -1,4 +1,4 @@
-// The steps of a script.
+//! The steps of a script.
 use arrayvec::ArrayVec;
 use bot_machine::Event;
 use medium::Kept;

@@ -1,4 +1,4 @@
-// What is found.
+//! What is found.
 use bot_machine::StartFault;
 use medium::SimError;
 use recovery::FormatFault;

@@ -1,5 +1,5 @@
-// What a host sends, and what it has to get (USB Mass Storage Class Bulk-Only Transport 1.0, 5.1 and
-// 5.2; SPC-4 and SBC-3 for the commands).
+//! What a host sends, and what it has to get (USB Mass Storage Class Bulk-Only Transport 1.0, 5.1 and
+//! 5.2; SPC-4 and SBC-3 for the commands).
 use crate::fault::Finding;
 use bot_machine::{Disk, InAnswer, OutAnswer};
 use medium::SimMedium;

@@ -1,4 +1,4 @@
-// New images in memory.
+//! New images in memory.
 ghost use Rattle.std.specs.Prelude.{◌≤◌};
 
 use crate::fault::Finding;

@@ -1,4 +1,4 @@
-// What a command did, against what is written.
+//! What a command did, against what is written.
 ghost use Rattle.std.specs.Prelude.{◌≡◌, ◌↔◌, IfOk, IsNone};
 
 use crate::exchange::Step;

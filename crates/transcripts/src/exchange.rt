@@ -1,4 +1,4 @@
-// The exchanges of a transcript.
+//! The exchanges of a transcript.
 use crate::expand::expand;
 use crate::fault::LineFault;
 use std::alloc::Global;

@@ -1,4 +1,4 @@
-// Runs of a byte in the lines of a transcript.
+//! Runs of a byte in the lines of a transcript.
 ghost use Rattle.std.specs.Prelude.{◌≡◌, ◌==◌, ◌<◌, length, IfOk};
 ghost use Rattle.std.specs.List.{position, repeat};
 ghost use Rattle.transcripts.specs.Expansion.{IsExpansion, IsRun, Spells};

@@ -1,4 +1,4 @@
-// What goes wrong in a transcript or in the play of an exchange.
+//! What goes wrong in a transcript or in the play of an exchange.
 use std::alloc::AllocError;
 use std::io;
 use thiserror::Error;

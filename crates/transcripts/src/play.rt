@@ -1,4 +1,4 @@
-// The play of an exchange.
+//! The play of an exchange.
 ghost use Rattle.std.specs.Prelude.{◌≡◌, ◌<◌, ◌+◌, ◌++◌, ◌↔◌, length, take, drop, IsNone, IsSome};
 
 use crate::compare::compare;

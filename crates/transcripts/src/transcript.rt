@@ -1,4 +1,4 @@
-// Transcripts.
+//! Transcripts.
 use crate::exchange::Exchange;
 use crate::fault::{Fault, LineFault};
 use std::alloc::Global;

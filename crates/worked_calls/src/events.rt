@@ -1,4 +1,4 @@
-// Events to a disk in one call.
+//! Events to a disk in one call.
 ghost use Rattle.std.specs.Prelude.{◌≡◌, None, IfOk};
 ghost use Rattle.bot_machine.specs.LivesValue.{IsAtRest};
 

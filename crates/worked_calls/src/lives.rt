@@ -1,4 +1,4 @@
-// Several lives in one call.
+//! Several lives in one call.
 ghost use Rattle.std.specs.Prelude.{◌≡◌, IfOk};
 ghost use Rattle.bot_machine.specs.Lifetimes.{events_in};
 

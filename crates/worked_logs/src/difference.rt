@@ -1,4 +1,4 @@
-// What is not as it should be.
+//! What is not as it should be.
 use medium::{FileError, SimError};
 use recovery::FormatFault;
 use std::alloc::AllocError;

@@ -1,4 +1,4 @@
-// Images that are made, recovered and migrated.
+//! Images that are made, recovered and migrated.
 pub(crate) mod faulty;
 pub(crate) mod formatting;
 mod made;

@@ -1,4 +1,4 @@
-// Media in memory and over image files, byte by byte.
+//! Media in memory and over image files, byte by byte.
 mod calls;
 pub(crate) mod cuts;
 pub(crate) mod image_files;

@@ -1,4 +1,4 @@
-// The numbers that faults have for a caller from outside.
+//! The numbers that faults have for a caller from outside.
 use crate::difference::{Difference, same};
 use log_layout::SuperFault;
 use medium::{FileError, MediumFault, SimError};

@@ -1,4 +1,4 @@
-// Records of both formats on a small medium.
+//! Records of both formats on a small medium.
 ghost use Rattle.std.specs.Prelude.{◌≤◌};
 ghost use Rattle.log_layout.specs.Places.{limit_of};
 

@@ -1,4 +1,4 @@
-// What is not as it should be.
+//! What is not as it should be.
 use blocks::{StartFault, StoreFault};
 use medium::{MediumFault, SimError};
 use recovery::FormatFault;

@@ -1,4 +1,4 @@
-// Records of a redo log, and the calls that they make.
+//! Records of a redo log, and the calls that they make.
 ghost use Rattle.std.specs.Prelude.{◌≡◌, ◌≤◌, OnOk};
 ghost use Rattle.log_layout.specs.Places.{sectors_of};
 ghost use Rattle.medium.specs.Sim.{state_of};

@@ -1,4 +1,4 @@
-// Records of a log of 1000 blocks.
+//! Records of a log of 1000 blocks.
 ghost use Rattle.std.specs.Prelude.{◌≡◌, ◌≤◌, ◌<◌, ◌*◌, ◌^◌, ◌↔◌, length, All, IsTrue, OnOk, IfOk, false};
 ghost use Rattle.log_layout.specs.Places.{sectors_of, new_shape};
 ghost use Rattle.redo_log.specs.Value.{begun, idle_from};

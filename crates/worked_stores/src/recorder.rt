@@ -1,4 +1,4 @@
-// A medium that tells its calls.
+//! A medium that tells its calls.
 ghost use Rattle.std.specs.Prelude.{◌≡◌, ◌≤◌, IfOk};
 ghost use Rattle.medium.specs.Sim.{state_of};
 

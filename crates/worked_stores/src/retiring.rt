@@ -1,4 +1,4 @@
-// Lives of a store whose eight log slots all hold a record.
+//! Lives of a store whose eight log slots all hold a record.
 use crate::difference::{Difference, holds};
 use crate::store::{formatted, started};
 use crate::transfer::{byte_of, lives, rest, restarted, write_through};

@@ -1,4 +1,4 @@
-// Starts of images of 16 blocks and 2 slots: 118 sectors, of which block 0 is at home in sector 102.
+//! Starts of images of 16 blocks and 2 slots: 118 sectors, of which block 0 is at home in sector 102.
 ghost use Rattle.std.specs.Prelude.{◌<◌};
 
 use crate::difference::{Difference, holds};

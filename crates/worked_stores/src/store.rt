@@ -1,4 +1,4 @@
-// Lives of a store of 1000 blocks and 8 log slots over a medium in memory.
+//! Lives of a store of 1000 blocks and 8 log slots over a medium in memory.
 use crate::difference::{Difference, holds};
 use crate::transfer::{byte_of, lives, read, rest, restarted, started_on, write};
 use blocks::{Store, StoreFault};

@@ -1,4 +1,4 @@
-// Starts of stores, and transfers of blocks that are inside.
+//! Starts of stores, and transfers of blocks that are inside.
 ghost use Rattle.std.specs.Prelude.{IsTrue};
 ghost use Rattle.blocks.specs.Book.{IsTransfer};
 ghost use Rattle.blocks.specs.StoreValue.{blocks_of, transfer_limit};

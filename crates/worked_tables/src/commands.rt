@@ -1,4 +1,4 @@
-// Command blocks with a known meaning, on a medium of 1000 blocks with transfers of at most 48.
+//! Command blocks with a known meaning, on a medium of 1000 blocks with transfers of at most 48.
 pub(crate) mod of_blocks;
 pub(crate) mod of_devices;
 
@@ -6,7 +6,7 @@ use crate::difference::{Difference, same};
 use cdb::{Command, parse};
 use sense::{Sense, SenseKey};
 
-/// The block is read as this command, or refused with this sense.
+// The block is read as this command, or refused with this sense.
 fn means(
     what: &'static str,
     block: &[u8],
@@ -18,7 +18,7 @@ fn means(
     same(what, parse(block, 1000, 48), wanted)
 }
 
-/// An illegal request of this code.
+// An illegal request of this code.
 fn illegal(code: u8) -> Sense {
     Sense {
         key: SenseKey::IllegalRequest,

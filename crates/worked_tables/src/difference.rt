@@ -1,4 +1,4 @@
-// What is not as it should be.
+//! What is not as it should be.
 use mirror::MirrorError;
 use std::alloc::AllocError;
 use thiserror::Error;

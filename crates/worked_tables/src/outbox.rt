@@ -1,4 +1,4 @@
-// What comes out of the outbox of a medium, and what is refused.
+//! What comes out of the outbox of a medium, and what is refused.
 use crate::difference::{Difference, same};
 use medium::{Medium, MediumFault};
 use mirror::{DeviceCall, MirrorError, MirrorMedium, SectorWrite};

@@ -1,4 +1,4 @@
-// Senses as bytes and as numbers, and what waits for REQUEST SENSE.
+//! Senses as bytes and as numbers, and what waits for REQUEST SENSE.
 use crate::difference::{Difference, holds, same};
 use sense::{Kept, Sense};
 

@@ -1,4 +1,4 @@
-// The wrappers of the transport, and its thirteen cases.
+//! The wrappers of the transport, and its thirteen cases.
 pub(crate) mod cases;
 pub(crate) mod command;
 mod packets;

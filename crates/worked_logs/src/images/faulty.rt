@@ -1,4 +1,4 @@
-// Images that are refused, and by which fault.
+//! Images that are refused, and by which fault.
 use super::made::{changed, with_next};
 use crate::difference::{Difference, same};
 use recovery::{StartFault, recover};

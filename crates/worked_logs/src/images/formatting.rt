@@ -1,4 +1,4 @@
-// Images of format 1 that are made, and cuts meanwhile.
+//! Images of format 1 that are made, and cuts meanwhile.
 use super::made::{formatted, overwritten};
 use crate::difference::{Difference, holds, same};
 use crate::media::{byte_of, filled_medium};

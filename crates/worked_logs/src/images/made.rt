@@ -1,5 +1,5 @@
-// Images of format 1 with 16 blocks and 2 slots: 118 sectors, of which the first block is at home in
-// sector 102.
+//! Images of format 1 with 16 blocks and 2 slots: 118 sectors, of which the first block is at home in
+//! sector 102.
 use crate::difference::Difference;
 use crate::media::filled_medium;
 use log_layout::{LogFormat, Super};

@@ -1,5 +1,5 @@
-// Images of 16 blocks and 5 slots of format 1 that are migrated. They have 268 sectors, of which the
-// first block is at home in sector 252.
+//! Images of 16 blocks and 5 slots of format 1 that are migrated. They have 268 sectors, of which the
+//! first block is at home in sector 252.
 use super::made::overwritten;
 use crate::difference::{Difference, holds, same};
 use crate::media::{byte_of, filled_medium};

@@ -1,4 +1,4 @@
-// Recoveries of images of format 1.
+//! Recoveries of images of format 1.
 use super::made::{changed, formatted, with_next};
 use crate::difference::{Difference, same};
 use crate::media::byte_of;

@@ -1,4 +1,4 @@
-// Images of format 2 with 40 blocks and 1 slot: 291 sectors, the first block in 251.
+//! Images of format 2 with 40 blocks and 1 slot: 291 sectors, the first block in 251.
 use super::made::put;
 use crate::difference::{Difference, holds, same};
 use crate::media::{byte_of, filled_medium};

@@ -1,4 +1,4 @@
-// Sectors that are no super or no head, and which of the faults is told.
+//! Sectors that are no super or no head, and which of the faults is told.
 use super::known::{SUPER, sector_of};
 use crate::difference::{Difference, same};
 use log_layout::{Head, LogFormat, Super, SuperFault};

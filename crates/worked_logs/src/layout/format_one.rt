@@ -1,4 +1,4 @@
-// The sectors of format 1, and where they stand.
+//! The sectors of format 1, and where they stand.
 use super::known::{COMMIT, DESCRIPTOR, HEAD, SUPER, sector_of};
 use crate::difference::{Difference, holds, same};
 use log_layout::{

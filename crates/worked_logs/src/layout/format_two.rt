@@ -1,4 +1,4 @@
-// The sectors of format 2.
+//! The sectors of format 2.
 use super::known::{COMMIT2, DESCRIPTOR2, sector_of};
 use crate::difference::{Difference, holds, same};
 use log_layout::{Commit2, Descriptor2, data_sector2, is_data2};

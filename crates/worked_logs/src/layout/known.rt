@@ -1,4 +1,4 @@
-// Sectors as they are written down.
+//! Sectors as they are written down.
 
 /// The super of 1000 blocks and 8 slots.
 pub(crate) const SUPER: &[u8; 48] = b"RDSUPER1\x01\0\0\0\0\0\0\0\xe8\x03\0\0\0\0\0\0\

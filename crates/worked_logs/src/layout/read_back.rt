@@ -1,5 +1,5 @@
-// Values of the layout, written and read back. That each comes back as it was is proved here, from
-// the contracts alone; the play shows that it does.
+//! Values of the layout, written and read back. That each comes back as it was is proved here, from
+//! the contracts alone; the play shows that it does.
 ghost use Rattle.std.specs.Prelude.{◌≡◌, IsOkAnd, IsSomeAnd};
 ghost use Rattle.log_layout.specs.Values.{shape_of};
 

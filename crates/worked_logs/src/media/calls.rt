@@ -1,4 +1,4 @@
-// Calls of media, and what they must answer.
+//! Calls of media, and what they must answer.
 use crate::difference::{Difference, same};
 use medium::{Medium, MediumFault, SimMedium};
 use std::alloc::Global;

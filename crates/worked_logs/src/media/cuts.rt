@@ -1,4 +1,4 @@
-// Lives of a small medium in memory.
+//! Lives of a small medium in memory.
 use super::calls::{byte_at, filled_medium, flushes, reads, writes};
 use crate::difference::{Difference, same};
 use medium::{Kept, MediumFault, SimMedium, Switch};

@@ -1,4 +1,4 @@
-// Image files from life to life, in the folder for files of a short life.
+//! Image files from life to life, in the folder for files of a short life.
 use super::calls::{flushes, reads, writes};
 use crate::difference::{Difference, holds, same};
 use medium::{FileError, FileMedium, Medium};

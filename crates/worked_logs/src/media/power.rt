@@ -1,4 +1,4 @@
-// The power of a medium in memory, and the calls that it refuses.
+//! The power of a medium in memory, and the calls that it refuses.
 use super::calls::{byte_at, filled_medium, flushes, reads, writes};
 use crate::difference::{Difference, same};
 use medium::{Kept, Medium, MediumFault, SimError, SimMedium, Switch};

@@ -1,4 +1,4 @@
-// Media over files that refuse calls, or give few bytes at a time.
+//! Media over files that refuse calls, or give few bytes at a time.
 use super::calls::{flushes, reads, writes};
 use super::stubborn::{Shelf, Stubborn};
 use crate::difference::{Difference, same};

@@ -1,4 +1,4 @@
-// A file that refuses calls, or gives few bytes at a time.
+//! A file that refuses calls, or gives few bytes at a time.
 use medium::SectorFile;
 use std::alloc::Allocator;
 use std::fs::{Files, Metadata, OpenFile, OpenOptions};

@@ -1,4 +1,4 @@
-// INQUIRY data of a disk with known texts.
+//! INQUIRY data of a disk with known texts.
 use crate::difference::{Difference, holds, same};
 use pages::Identity;
 

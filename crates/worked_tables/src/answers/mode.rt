@@ -1,4 +1,4 @@
-// The caching mode page, as MODE SENSE gives it and MODE SELECT takes it.
+//! The caching mode page, as MODE SENSE gives it and MODE SELECT takes it.
 use crate::difference::{Difference, holds, same};
 use pages::{mode_select, mode_sense};
 use sense::Sense;

@@ -1,4 +1,4 @@
-// The commands of a block device.
+//! The commands of a block device.
 use super::{illegal, means};
 use crate::difference::{Difference, holds};
 use cdb::{BlockRange, Command, Transfer, parse};

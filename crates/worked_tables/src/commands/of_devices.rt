@@ -1,4 +1,4 @@
-// The commands of any device.
+//! The commands of any device.
 use super::{illegal, means};
 use crate::difference::Difference;
 use cdb::Command;

@@ -1,4 +1,4 @@
-// The thirteen cases, and what comes of them.
+//! The thirteen cases, and what comes of them.
 use crate::difference::{Difference, same};
 use wrappers::{Case, Endpoint, Outcome, Way, case_of, outcome};
 

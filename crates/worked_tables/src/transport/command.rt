@@ -1,4 +1,4 @@
-// Command block wrappers that are read.
+//! Command block wrappers that are read.
 use super::packets::{TEST_UNIT_READY, WRAPPERS};
 use crate::difference::{Difference, holds, same};
 use wrappers::{Way, read_cbw};

@@ -1,4 +1,4 @@
-// Packets that spell command block wrappers.
+//! Packets that spell command block wrappers.
 use wrappers::Way;
 
 /// The wrapper of a TEST UNIT READY, with tag 1.

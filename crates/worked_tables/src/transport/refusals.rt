@@ -1,4 +1,4 @@
-// Packets that are no valid and meaningful command block wrappers.
+//! Packets that are no valid and meaningful command block wrappers.
 use super::packets::TEST_UNIT_READY;
 use crate::difference::{Difference, same};
 use wrappers::{CbwFault, read_cbw};

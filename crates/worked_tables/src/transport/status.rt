@@ -1,4 +1,4 @@
-// Command status wrappers.
+//! Command status wrappers.
 use crate::difference::{Difference, same};
 use wrappers::{Status, write_csw};
 
