@@ -6,14 +6,13 @@ use Rattle.medium.specs.declared.fault.MediumFault.{MediumFault}
 use Rattle.recovery.specs.Causes.{IsRefusedCall, MakesReadsAlone}
 use Rattle.recovery.specs.Copies.{freed_at, cleared_at, HasNewHead}
 
--- So many calls, or fewer where one is refused.
+-- Where Ok, this many calls were made; where refused, no more than that.
 pub record CallsUpTo {X E : Type 0} (count : ℕ) (old new : State) (result : Result X E)
     : Type 0 where
   pub calls : new.calls ≤ old.calls + count
   pub exact : OnOk result (new.calls ≡ old.calls + count)
 
--- Calls that only read, so many, or fewer where one is refused: nothing is written, and no call but
--- a read is made.
+-- No call but reads was made: this many where Ok, no more than that where refused.
 pub record ReadsUpTo {X E : Type 0} (count : ℕ) (old new : State) (result : Result X E)
     : Type 0 where
   pub quiet : IsQuiet old new
@@ -21,7 +20,7 @@ pub record ReadsUpTo {X E : Type 0} (count : ℕ) (old new : State) (result : Re
   pub calls : new.calls ≤ old.calls + count
   pub exact : OnOk result (new.calls ≡ old.calls + count)
 
--- Calls that only read, so many at most, and pass on a refusal of the medium.
+-- No call but reads was made, at most this many. An error is a call that the medium refused.
 pub record ReadsPass {X : Type 0} (most : ℕ) (old new : State) (result : Result X MediumFault)
     : Type 0 where
   pub quiet : IsQuiet old new
@@ -29,7 +28,8 @@ pub record ReadsPass {X : Type 0} (most : ℕ) (old new : State) (result : Resul
   pub calls : new.calls ≤ old.calls + most
   pub cause : IfErr result (IsRefusedCall old new)
 
--- Calls that only read, so many, or fewer where the medium refuses one, which they pass on.
+-- No call but reads was made: this many where Ok, no more than that where the medium refused one,
+-- which is the only error.
 pub record ReadsAllPass {X : Type 0} (count : ℕ) (old new : State)
     (result : Result X MediumFault) : Type 0 where
   pub quiet : IsQuiet old new
@@ -38,8 +38,8 @@ pub record ReadsAllPass {X : Type 0} (count : ℕ) (old new : State)
   pub exact : OnOk result (new.calls ≡ old.calls + count)
   pub cause : IfErr result (IsRefusedCall old new)
 
--- Calls that write in these sectors alone, so many at most, and pass on a refusal of the medium. A
--- cut at any moment of them leaves an image that has P.
+-- At most this many calls, which write to these sectors alone. A cut at any moment of them leaves an
+-- image that has P. An error is a call that the medium refused.
 pub record WritesPass {X : Type 0} (places : ℕ → Type 0) (P : Image → Type 0) (most : ℕ)
     (old new : State) (result : Result X MediumFault) : Type 0 where
   pub elsewhere : (x : ℕ) → ¬ places x → new.content x ≡ old.content x
@@ -47,7 +47,8 @@ pub record WritesPass {X : Type 0} (places : ℕ → Type 0) (P : Image → Type
   pub calls : new.calls ≤ old.calls + most
   pub cause : IfErr result (IsRefusedCall old new)
 
--- Such calls, which are so many, or fewer where the medium refuses one.
+-- Calls that write to these sectors alone: this many where Ok, no more than that where the medium
+-- refused one. A cut at any moment of them leaves an image that has P.
 pub record WritesAllPass {X : Type 0} (places : ℕ → Type 0) (P : Image → Type 0) (count : ℕ)
     (old new : State) (result : Result X MediumFault) : Type 0 where
   pub elsewhere : (x : ℕ) → ¬ places x → new.content x ≡ old.content x
@@ -56,25 +57,26 @@ pub record WritesAllPass {X : Type 0} (places : ℕ → Type 0) (P : Image → T
   pub exact : OnOk result (new.calls ≡ old.calls + count)
   pub cause : IfErr result (IsRefusedCall old new)
 
--- such calls copy to these sectors: a cut may leave anything in them
+-- At most this many calls, which copy to these sectors: a cut may leave anything in them.
 abbrev pub CopiesPass : {X : Type 0} → (ℕ → Type 0) → ℕ → State → State → Result X MediumFault
     → Type 0
 CopiesPass places most old new result =
     WritesPass places (CutLeaves (freed_at places old.may_leave)) most old new result
 
+-- The same, with this many calls where Ok.
 abbrev pub CopiesAllPass : {X : Type 0} → (ℕ → Type 0) → ℕ → State → State
     → Result X MediumFault → Type 0
 CopiesAllPass places count old new result =
     WritesAllPass places (CutLeaves (freed_at places old.may_leave)) count old new result
 
--- such calls clear these sectors: a cut may leave zeros in them
+-- Calls that write zeros to these sectors: a cut may leave zeros in them.
 abbrev pub ClearsAllPass : {X : Type 0} → (ℕ → Type 0) → ℕ → State → State
     → Result X MediumFault → Type 0
 ClearsAllPass places count old new result =
     WritesAllPass places (CutLeaves (cleared_at places old.may_leave)) count old new result
 
--- Calls that move the head to this stamp, once every write before is durable: three, or fewer where
--- the medium refuses one.
+-- Every write before is made durable, and the head gets this stamp: three calls, or fewer where the
+-- medium refused one. A cut leaves what it could leave before, or the contents with the new head.
 pub record MovesHead {X : Type 0} (stamp : ℕ) (old new : State) (result : Result X MediumFault)
     : Type 0 where
   pub moments : LeavesOnly

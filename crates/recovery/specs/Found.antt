@@ -18,16 +18,16 @@ pub record IsFound (size : ℕ) (image : Image) (found : Found) : Type 0 where
   pub count : IsCount (shape_of found.sizes) image found.head found.count
   pub stamp_left : found.head + found.count + 1 < 2 ^ 63
 
--- A survey that asks for so many slots of a log of format 1 found this. It read the super, the head
--- and what shows for each stamp that is tried whether its record is whole.
+-- A survey wants at least this many slots in a log of format 1, and found this. It read the super,
+-- the head and, for each stamp that it tried, what shows whether its record is whole.
 pub record IsSurvey (least : ℕ) (old new : State) (found : Found) : Type 0 where
   pub is : IsFound old.size old.content found
   pub room : ¬ HasFewSlots least old.size old.content
   pub exact : AreTries found.sizes.format (min (found.count + 1) found.sizes.slots)
       (old.calls + 2) new.calls
 
--- A survey only reads: the super, the head and 64 slots at most, whatever the image, and of slots
--- of its format where it has a super.
+-- A survey only reads. Whatever the image, it reads the super, the head and at most 64 slots of the
+-- format with the larger ones; where the image has a super, at most 64 of its format.
 pub record SurveysAtMost (old new : State) : Type 0 where
   pub quiet : IsQuiet old new
   pub reads : MakesReadsAlone old new

@@ -73,7 +73,8 @@ pub record SparesTheRest (old new : State) : Type 0 where
 pub record RecoveryLeaves (old new : State) : Type 0 where
   -- Where every image is ours, a cut at any moment leaves one that is ours for one of the arrays.
   pub cuts : EachCut (IsOursForSome old.size) old → LeavesOnly (StandsForOneOf old) old new
-  -- From the first good flush on it is that of the contents. A second call follows a good one only.
+  -- The first call flushes, and others follow only where it was good. From then on a cut leaves the
+  -- array of the contents.
   pub after_flush : (shape : Shape) (array : Array) (next : ℕ)
       → IsOurs old.size shape old.content array next → old.calls + 2 ≤ new.calls
       → (image : Image) → new.left_since (old.calls + 1) image
@@ -93,12 +94,12 @@ pub record IsRecoveryRefusal (old new : State) (fault : StartFault) : Type 0 whe
   pub served : (shape : Shape) (array : Array) (next : ℕ)
       → StandsFor old.size shape old.content array next → next < 2 ^ 63 → IsDeviceFault fault
 
--- a recovery that asks for so many slots of a log of format 1 found as many
+-- A recovery that wants at least this many slots in a log of format 1 found them.
 pub record IsRecoveredAtLeast (least : ℕ) (old new : State) (answer : Recovered) : Type 0 where
   pub from : IsRecoveredFrom old new answer
   pub room : ¬ HasFewSlots least old.size old.content
 
--- so at each moment: nothing is written where there are fewer
+-- What such a recovery leaves at each moment. Where there are fewer slots, it writes nothing.
 pub record LeavesAtLeast (least : ℕ) (old new : State) : Type 0 where
   pub all : RecoveryLeaves old new
   pub small : HasFewSlots least old.size old.content → SparesFrom 0 old new

@@ -63,8 +63,7 @@ fn make<M: Medium>(m: &mut M, format: LogFormat, blocks: u64, slots: u64) -> Res
     Ok(())
 }
 
-/// Makes an image of format 1, of so many blocks of zeros, 1 to 2^31, with so many log slots, 1 to
-/// 64.
+/// Makes an image of format 1: `blocks` blocks of zeros, 1 to 2^31, and `slots` log slots, 1 to 64.
 ///
 /// It takes `2 + 50 * slots + blocks` sectors. Until its first good flush a cut may leave what it
 /// could leave before, from then on no super, and in the end the new image.
@@ -83,10 +82,9 @@ pub fn format<M: Medium>(m: &mut M, blocks: u64, slots: u64) -> Result<(), Forma
     make(m, LogFormat::One, blocks, slots)
 }
 
-/// Makes an image of format 2, of so many blocks of zeros, 1 to 2^31, with so many log slots, 1 to
-/// 64.
+/// Makes an image of format 2: `blocks` blocks of zeros, 1 to 2^31, and `slots` log slots, 1 to 64.
 ///
-/// It takes `2 + 249 * slots + blocks` sectors. A cut leaves the same as in a format of format 1.
+/// It takes `2 + 249 * slots + blocks` sectors. A cut leaves what it leaves while an image of format 1 is made.
 pub fn format2<M: Medium>(m: &mut M, blocks: u64, slots: u64) -> Result<(), FormatFault>
     ensures ok { let shape = new_shape Two blocks slots in
         OnOk result (IsFormatted shape (M.state m.new)) }

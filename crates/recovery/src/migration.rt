@@ -21,8 +21,8 @@ use medium::{Medium, MediumFault};
 /// zeros to each sector of its log, a flush, the head, a flush, the super and a flush. It answers
 /// what is there then, and whether it was of format 1. It takes no memory.
 ///
-/// A fault of the image is found before the first write: those of a recovery, and, before that no
-/// stamp is left, that the log of format 1 has fewer than 5 slots.
+/// It refuses an image before the first write: for each fault that `recover` names, and for a log of
+/// format 1 with fewer than 5 slots, which it names before a lack of stamps.
 pub fn migrate<M: Medium>(m: &mut M) -> Result<(Recovered, bool), StartFault>
     // A function of the contents: what they stood for, whether or not other images were allowed.
     ensures ok { IfOk result (λ answer.
@@ -32,8 +32,8 @@ pub fn migrate<M: Medium>(m: &mut M) -> Result<(Recovered, bool), StartFault>
         → IsOurs (M.state m.old).size shape (M.state m.old).content array next
         → IfOk result (λ answer.
         EachCut (IsFresh (shape_of answer.0.sizes) array next) (M.state m.new)) }
-    // Contents that stand for something, with a stamp left and a log that is no small one, are
-    // refused by the device alone.
+    // Contents that stand for an array, with a stamp left and at least 5 slots, are refused by the
+    // device alone.
     ensures err { IfErr result (IsMigrationRefusal (M.state m.old) (M.state m.new)) }
     // At each moment, good or refused.
     ensures leaves { MigrationLeaves (M.state m.old) (M.state m.new) }
