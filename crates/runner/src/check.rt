@@ -7,7 +7,7 @@ ghost use Rattle.runner.specs.Script.{IsFirstBadLine};
 
 use crate::line::{ScriptKind, read_line};
 use crate::parts::Parts;
-use crate::script::SCRIPT_LIMIT;
+use crate::read_script::SCRIPT_LIMIT;
 use bot_machine::PacketSize;
 
 /// Checks a whole script, for packets of a size; an `Err` is the number of the first line that is

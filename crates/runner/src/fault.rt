@@ -1,4 +1,4 @@
-//! Why a script is not played to its end.
+//! The errors of a script.
 ghost use Rattle.std.specs.Prelude.{◌≡◌};
 
 use crate::read::ReadFault;

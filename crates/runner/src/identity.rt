@@ -1,4 +1,4 @@
-//! The texts by which the disk of a script is known.
+//! Vendor, product, revision and serial number.
 ghost use Rattle.std.specs.Prelude.{◌≡◌};
 ghost use Rattle.runner.specs.Script.{identification};
 

@@ -32,6 +32,7 @@ pub use fault::{ScriptError, ScriptFault};
 pub use laws::lives_laws;
 pub use live::{live_command, run_live};
 pub use program::{command, run_program};
-pub use script::{SCRIPT_LIMIT, run_script};
+pub use read_script::SCRIPT_LIMIT;
+pub use script::run_script;
 pub use serve::{LineFault, serve_lines};
 pub use sim::sim_script;

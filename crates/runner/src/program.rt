@@ -1,4 +1,4 @@
-//! The work of the program.
+//! From the words of a command to its exit status.
 ghost use Rattle.std.specs.Prelude.{◌≡◌, ◌≢◌, ◌⊎◌, ◌≤◌, List, ℕ, IfOk, IfErr, OnOk, map, drop, string_bytes};
 ghost use Rattle.bot_machine.specs.PacketBytes.{bytes_of};
 ghost use Rattle.runner.specs.declared.refusal.Refusal.{Refusal};

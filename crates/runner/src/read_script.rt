@@ -10,10 +10,12 @@ use crate::check::check_script;
 use crate::fault::ScriptFault;
 use crate::line::ScriptKind;
 use crate::read::read_to_limit;
-use crate::script::SCRIPT_LIMIT;
 use bot_machine::PacketSize;
 use std::alloc::Global;
 use std::io::Read;
+
+/// The most bytes of a script.
+pub const SCRIPT_LIMIT: usize = 1_048_576;
 
 /// The bytes of a script each of whose lines is one of its kind, for packets of a size.
 ///

@@ -1,4 +1,4 @@
-//! Why a command was refused.
+//! The refusals of the commands, each with its exit status and its text.
 ghost use Rattle.std.specs.Prelude.{◌≡◌};
 ghost use Rattle.clap.specs.Words.{kind_of};
 ghost use Rattle.runner.specs.declared.refusal.Refusal.TheVariants as refused;

@@ -14,9 +14,6 @@ use medium::Medium;
 use std::alloc::Global;
 use std::io::{Read, Write};
 
-/// The most bytes of a script.
-pub const SCRIPT_LIMIT: usize = 1_048_576;
-
 /// Plays a script on a disk over a medium, with packets of a size, and writes the line of each
 /// answer at once.
 ///
