@@ -1,4 +1,4 @@
-//! Every disk of the definitions that the answers so far allow.
+//! Each answer that is heard leaves fewer disks that can be meant.
 ghost use Rattle.std.specs.Prelude.{◌≡◌, ◌↔◌, ◌<◌, ◌≤◌, length, map, IfOk, IfSome, IsTrue};
 ghost use Rattle.abstract_disk.specs.Followed.{disks_of, opening_of, case_in, failing, least_promised};
 

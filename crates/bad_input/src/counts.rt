@@ -1,4 +1,4 @@
-//! How much was judged.
+//! The counts that the program prints at its end.
 
 /// How much was judged.
 #[derive(Clone, Copy, Debug, Default)]

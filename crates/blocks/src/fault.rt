@@ -1,4 +1,4 @@
-//! Why a store refuses a call.
+//! The errors of the calls of a store.
 use thiserror::Error;
 
 /// Why a store refuses a call. The numbers go on from that of a start for want of memory.

@@ -1,4 +1,4 @@
-//! Why a store did not start.
+//! The error of the start of a store, which gives the medium back.
 use medium::Medium;
 use recovery::StartFault;
 

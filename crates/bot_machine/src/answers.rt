@@ -1,4 +1,4 @@
-//! The answers to events.
+//! A list whose room is made before its first answer.
 ghost use Rattle.std.specs.Prelude.{◌≡◌, ◌<◌, [], ◌∷◌, ◌++◌, length, IfSome};
 
 use crate::event::Answer;

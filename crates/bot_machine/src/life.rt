@@ -1,4 +1,4 @@
-//! A life of a disk.
+//! A start, events, and a cut.
 use crate::event::Event;
 use medium::Kept;
 

@@ -1,4 +1,4 @@
-//! Lives of a disk over a medium in memory.
+//! One life after another on the same medium.
 ghost use Rattle.std.specs.Prelude.{◌≡◌, ◌<◌, ◌↔◌, ℕ, [], ◌∷◌, None, true, false, OnOk, IfOk, IfErr};
 ghost use Rattle.medium.specs.Sim.{state_of, IsCut, IsFused, IsFailing, ComesAfter};
 ghost use Rattle.medium.specs.Writes.{keeps};

@@ -1,4 +1,4 @@
-//! How much was judged.
+//! The counts that the program prints at its end.
 use std::fmt;
 
 /// How much was judged.

@@ -1,4 +1,4 @@
-//! Lives over a medium in memory, with packets of one size.
+//! The side that is judged: the disk of the product.
 ghost use Rattle.std.specs.Prelude.{◌≡◌, ◌<◌};
 ghost use Rattle.bot_machine.specs.PacketBytes.{bytes_of};
 

@@ -1,4 +1,4 @@
-//! What waits for REQUEST SENSE.
+//! Sense and unit attention are kept from one command to the next.
 ghost use Rattle.std.specs.Prelude.{◌≡◌, None, true};
 ghost use Rattle.sense.specs.Waiting.{Waiting, after_failure, reported, after_report};
 

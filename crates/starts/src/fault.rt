@@ -1,4 +1,4 @@
-//! What is found.
+//! The errors of this program.
 use bot_machine::StartFault;
 use medium::SimError;
 use recovery::FormatFault;

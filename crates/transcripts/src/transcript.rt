@@ -1,4 +1,4 @@
-//! Transcripts.
+//! The text of a transcript is read.
 use crate::exchange::Exchange;
 use crate::fault::{Fault, LineFault};
 use std::alloc::Global;

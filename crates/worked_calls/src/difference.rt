@@ -1,4 +1,4 @@
-//! What is not as it should be.
+//! The errors of this program.
 use bot_machine::StartFault;
 use judging::Finding;
 use std::alloc::AllocError;

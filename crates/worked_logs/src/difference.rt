@@ -1,4 +1,4 @@
-//! What is not as it should be.
+//! The errors of this program.
 use medium::{FileError, SimError};
 use recovery::FormatFault;
 use std::alloc::AllocError;

@@ -1,4 +1,4 @@
-//! What is not as it should be.
+//! The errors of this program.
 use blocks::{StartFault, StoreFault};
 use medium::{MediumFault, SimError};
 use recovery::FormatFault;

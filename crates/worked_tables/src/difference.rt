@@ -1,4 +1,4 @@
-//! What is not as it should be.
+//! The errors of this program.
 use mirror::MirrorError;
 use std::alloc::AllocError;
 use thiserror::Error;
