@@ -38,8 +38,8 @@ pub record ReadsAllPass {X : Type 0} (count : ℕ) (old new : State)
   pub exact : OnOk result (new.calls ≡ old.calls + count)
   pub cause : IfErr result (IsRefusedCall old new)
 
--- At most this many calls, which write to these sectors alone. A cut at any moment of them leaves an
--- image that has P. An error is a call that the medium refused.
+-- At most this many calls, which write to these sectors alone. A cut at any moment of them leaves
+-- an image that has P. An error is a call that the medium refused.
 pub record WritesPass {X : Type 0} (places : ℕ → Type 0) (P : Image → Type 0) (most : ℕ)
     (old new : State) (result : Result X MediumFault) : Type 0 where
   pub elsewhere : (x : ℕ) → ¬ places x → new.content x ≡ old.content x
