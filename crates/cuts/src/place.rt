@@ -46,7 +46,7 @@ const SYNCHRONIZE: Place = Place::Event(22);
 /// finds no slot free: it first retires the oldest record by four blocks, flush, head, flush, and
 /// then makes a record of two blocks. A record makes descriptor, blocks, flush, commit, flush in
 /// format 1, and descriptor, blocks, commit, flush in format 2.
-pub(crate) fn place_of(format: Format, fuse: u64) -> (Place, Found) {
+pub(crate) fn place_at(format: Format, fuse: u64) -> (Place, Found) {
     let (fourth, synchronize, end) = match format {
         Format::One => (12, 18, 31),
         Format::Two => (11, 16, 28),

@@ -5,7 +5,7 @@ ghost use Rattle.bot_machine.specs.LivesValue.{IsAtRest};
 use crate::case::Case;
 use crate::counts::{Counts, count};
 use crate::fault::Fault;
-use crate::place::{Place, place_of};
+use crate::place::{Place, place_at};
 use crate::restart::{cut_starts, served};
 use abstract_disk::{Array, Hearing};
 use bot_machine::{Answer, Event, Life, PacketSize};
@@ -124,7 +124,7 @@ impl Trial {
     ) -> Result<(), Fault> {
         let event = place.event().and_then(|event| self.life.events.get(event));
         if self.case.ticks == 0 {
-            let (wanted, writes) = place_of(self.case.format, fuse);
+            let (wanted, writes) = place_at(self.case.format, fuse);
             if place != wanted {
                 return Err(Fault::Place);
             }

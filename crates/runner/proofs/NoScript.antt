@@ -6,10 +6,10 @@ use Rattle.medium.specs.Sim.{Sim}
 use Rattle.runner.specs.declared.fault.ScriptFault.{ScriptFault}
 use Rattle.runner.specs.declared.fault.ScriptFault.TheVariants.{Line, TooLong, Start, NoMemory, Reader, Writer}
 use Rattle.runner.specs.declared.line.ScriptKind.TheVariants.{OneLife, Lives}
-use Rattle.runner.specs.Outcome.{IsNoScript, IsRefused, IsUntouched}
+use Rattle.runner.specs.Outcome.{IsNoScript, IsRefused, IsLeftAlone}
 use Rattle.runner.specs.OutcomeOfLives.{AreRefused}
 
-untouched : {M : Type 0} (medium : M) (text : Option (List ℕ)) → IsUntouched medium medium text text
+untouched : {M : Type 0} (medium : M) (text : Option (List ℕ)) → IsLeftAlone medium medium text text
 untouched medium text = record { same = refl; kept = Keeps-refl text }
 
 pub of_one_life : {M : Type 0} (state : M → State) (most : ℕ) (left text : Option (List ℕ)) (medium : M) (fault : ScriptFault)

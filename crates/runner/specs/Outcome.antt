@@ -29,7 +29,7 @@ pub record IsRead (left : Option (List ℕ)) (script : List ℕ) : Type 0 where
   pub fits : length script ≤ script_limit
 
 -- nothing was written, and the medium is as it was
-pub record IsUntouched {M : Type 0} (medium back : M) (was now : Option (List ℕ)) : Type 0 where
+pub record IsLeftAlone {M : Type 0} (medium back : M) (was now : Option (List ℕ)) : Type 0 where
   pub same : back ≡ medium
   pub kept : Keeps was now
 
@@ -102,11 +102,11 @@ module _ {M : Type 0} (state : M → State) (most : ℕ) (left : Option (List �
 
   -- why a script was refused, and what was written then
   abbrev pub IsRefused : ScriptFault → M → Type 0
-  IsRefused (Line number) back = IsUntouched medium back was now
+  IsRefused (Line number) back = IsLeftAlone medium back was now
       × HasBadLine OneLife most left number
-  IsRefused TooLong back = IsUntouched medium back was now
+  IsRefused TooLong back = IsLeftAlone medium back was now
       × IfSome left (λ all. script_limit < length all)
   IsRefused (Start fault) back = IsNotStarted fault back
-  IsRefused NoMemory back = IsUntouched medium back was now
-  IsRefused Reader back = IsUntouched medium back was now
+  IsRefused NoMemory back = IsLeftAlone medium back was now
+  IsRefused Reader back = IsLeftAlone medium back was now
   IsRefused Writer back = IsCutShort back

@@ -12,7 +12,7 @@ use Rattle.runner.specs.declared.fault.ScriptFault.TheVariants.{Reader, Writer}
 use Rattle.runner.specs.declared.line.ScriptKind.TheVariants.{Lives}
 use Rattle.runner.specs.Lifetimes.{LineActs, Acts, AreLives, AreStopped, text_of_lives}
 use Rattle.runner.specs.Lines.{lines_of}
-use Rattle.runner.specs.Outcome.{script_limit, IsRead, IsUntouched, HasBadLine}
+use Rattle.runner.specs.Outcome.{script_limit, IsRead, IsLeftAlone, HasBadLine}
 use Rattle.runner.specs.Script.{StopsAt}
 use Rattle.runner.specs.Streams.{AppendsUpTo}
 use Rattle.runner.specs.Text.{line_for}
@@ -60,11 +60,11 @@ module _ (most : ℕ) (left was now : Option (List ℕ)) (medium : Sim) where
 
   -- why a script was refused, and what was written then
   abbrev pub AreRefused : ScriptFault → Sim → Type 0
-  AreRefused (Line number) back = IsUntouched medium back was now
+  AreRefused (Line number) back = IsLeftAlone medium back was now
       × HasBadLine Lives most left number
-  AreRefused TooLong back = IsUntouched medium back was now
+  AreRefused TooLong back = IsLeftAlone medium back was now
       × IfSome left (λ all. script_limit < length all)
   AreRefused (Start fault) back = AreRefusedAStart fault back
-  AreRefused NoMemory back = IsUntouched medium back was now
-  AreRefused Reader back = IsUntouched medium back was now
+  AreRefused NoMemory back = IsLeftAlone medium back was now
+  AreRefused Reader back = IsLeftAlone medium back was now
   AreRefused Writer back = AreCutShort back

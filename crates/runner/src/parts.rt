@@ -56,14 +56,14 @@ impl<'a> Iterator for Parts<'a> {
 fn first_part(bytes: &[u8], separator: u8) -> (&[u8], Option<&[u8]>)
     ensures { parts_of separator bytes.now ≡ result.0.now ∷ parts_in separator result.1 }
 {
-    match place_of(bytes, separator) {
+    match separator_at(bytes, separator) {
         None => (bytes, None),
         Some(end) => (&bytes[..end], Some(&bytes[end + 1..])),
     }
 }
 
 // Where the first separator stands.
-fn place_of(bytes: &[u8], separator: u8) -> Option<usize>
+fn separator_at(bytes: &[u8], separator: u8) -> Option<usize>
     ensures { result ≡ position (λ byte. byte == separator) bytes.now }
 {
     bytes.iter().position(|byte| *byte == separator)

@@ -58,7 +58,7 @@ pub fn command<R: Files<File = File> + AllocGlobal, O: Write, E: Write>(
         × IsRefusedFor (O.contents out.old) (O.contents out.new)
         (map (λ word. word.now) words.now) refusal }
 {
-    match carry_out(rt, words, out) {
+    match obey(rt, words, out) {
         Ok(()) => 0,
         Err(refusal) => tell(refusal, err),
     }
@@ -122,7 +122,7 @@ pub(crate) fn tell<E: Write>(refusal: Refusal, err: &mut E) -> u8
 }
 
 // Does what the words ask for.
-fn carry_out<R: Files<File = File> + AllocGlobal, O: Write>(
+fn obey<R: Files<File = File> + AllocGlobal, O: Write>(
     rt: &R,
     words: &[&str],
     out: &mut O,

@@ -15,7 +15,7 @@ pub returns-in-Ok-clause-other_words : goal.returns-in-Ok-clause-other_words
 returns-in-Ok-clause-other_words g c not =
     let contents = g.O.Write.contents in
     let words = map (λ word. word.now) c.args.words.now in
-    absurd (not (asked_for (contents c.args.out.now) (contents c.carry_out.new.out) words c.in-Ok.ensures.done))
+    absurd (not (asked_for (contents c.args.out.now) (contents c.obey.new.out) words c.in-Ok.ensures.done))
 
 pub returns-in-Err-clause-done : goal.returns-in-Err-clause-done
 returns-in-Err-clause-done g c zero = absurd (some_status c.in-Err.refusal (sym c.tell.ensures ∙ zero))
@@ -23,7 +23,7 @@ returns-in-Err-clause-done g c zero = absurd (some_status c.in-Err.refusal (sym 
 pub returns-in-Err-clause-words : goal.returns-in-Err-clause-words
 returns-in-Err-clause-words g c two =
     let contents = g.O.Write.contents in
-    no_line_at_two (contents c.args.out.now) (contents c.carry_out.new.out) (map (λ word. word.now) c.args.words.now) c.in-Err.refusal
+    no_line_at_two (contents c.args.out.now) (contents c.obey.new.out) (map (λ word. word.now) c.args.words.now) c.in-Err.refusal
     c.in-Err.ensures.refused (sym c.tell.ensures ∙ two)
 
 pub returns-in-Err-clause-other_words : goal.returns-in-Err-clause-other_words
@@ -31,4 +31,4 @@ returns-in-Err-clause-other_words g c never =
     let contents = g.O.Write.contents in
     let words = map (λ word. word.now) c.args.words.now in
     rw c.tell.ensures
-    (two_or_five (contents c.args.out.now) (contents c.carry_out.new.out) words c.in-Err.refusal c.in-Err.ensures.refused never)
+    (two_or_five (contents c.args.out.now) (contents c.obey.new.out) words c.in-Err.refusal c.in-Err.ensures.refused never)
