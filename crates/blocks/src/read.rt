@@ -1,5 +1,6 @@
 //! How blocks are read.
-ghost use Rattle.std.specs.Prelude.{◌≡◌, ◌<◌, ◌*◌, ◌/◌, false, length, OnOk, IfErr, OnErr};
+ghost use Rattle.std.specs.Prelude.{◌≡◌, ◌<◌, ◌+◌, ◌*◌, ◌/◌, false, length, OnOk, IfErr, OnErr};
+ghost use Rattle.cache.specs.Places.{HasPlace};
 ghost use Rattle.medium.specs.declared.fault.MediumFault.TheVariants as medium_fault;
 ghost use Rattle.blocks.specs.Book.{Book, IsTransfer, array_of, blocks_at};
 ghost use Rattle.blocks.specs.StoreValue.{blocks_of, transfer_limit, is_dead, FitsBook};
@@ -36,17 +37,28 @@ impl<M: Medium> Store<M> {
         if self.log.is_dead() {
             return Err(StoreFault::Dead);
         }
+        let mut active = self.active.place_of(address);
+        let mut frozen = self.frozen.place_of(address);
         for i in 0..to.len() / BLOCK {
-            let at = i * BLOCK;
-            self.read_block(address + i as u64, &mut to[at..at + BLOCK])?;
+            let (block, at) = (address + i as u64, i * BLOCK);
+            self.read_block(block, &mut active, &mut frozen, &mut to[at..at + BLOCK])?;
         }
         Ok(())
     }
 
-    // Reads one block.
-    fn read_block(&mut self, block: u64, to: &mut [u8]) -> Result<(), StoreFault>
+    // Reads one block, whose place in each batch is known, and becomes that of the next block.
+    #[inline]
+    fn read_block(
+        &mut self,
+        block: u64,
+        active: &mut usize,
+        frozen: &mut usize,
+        to: &mut [u8],
+    ) -> Result<(), StoreFault>
         requires live { is_dead self.old.cached ≡ false }
         requires inside { block < blocks_of self.old.cached }
+        requires active { HasPlace self.old.cached.active.numbers block active.old }
+        requires frozen { HasPlace self.old.cached.frozen.numbers block frozen.old }
         requires size { length to.old ≡ 512 }
         ensures ok { (book : Book) → FitsBook (M.state self.old.medium) self.old.cached book
             → OnOk result (to.new ≡ array_of book block) }
@@ -55,12 +67,15 @@ impl<M: Medium> Store<M> {
         ensures keeps { KeepsStore M.state M.follows self.old self.new }
         ensures cost { CostsReads result 2 (block_reads self.old.cached block)
             (M.state self.old.medium) (M.state self.new.medium) }
+        ensures next { (HasPlace self.old.cached.active.numbers (block + 1) active.new)
+            × (HasPlace self.old.cached.frozen.numbers (block + 1) frozen.new) }
     {
-        if let Some(bytes) = self.active.get(block) {
+        let older = self.frozen.get_at(frozen, block);
+        if let Some(bytes) = self.active.get_at(active, block) {
             to.copy_from_slice(bytes);
             return Ok(());
         }
-        if let Some(bytes) = self.frozen.get(block) {
+        if let Some(bytes) = older {
             to.copy_from_slice(bytes);
             return Ok(());
         }

@@ -95,6 +95,27 @@ impl Batch {
         self.parts.get(block)
     }
 
+    /// The place of a block's number among those that rise, or the one where it would stand.
+    #[inline]
+    pub fn place_of(&self, block: u64) -> usize
+        ensures { HasPlace self.now.numbers block result }
+    {
+        place_of(self.parts.index.entries(), block)
+    }
+
+    /// The 512 bytes of a block, where it is there. Its place is known, and becomes that of the next
+    /// block, so that one search does for a range.
+    #[inline]
+    pub fn get_at(&self, place: &mut usize, block: u64) -> Option<&[u8]>
+        requires { HasPlace self.now.numbers block place.old }
+        ensures some { IfSome result (λ bytes. map_of self.now block ≡ Some bytes.now) }
+        ensures size { IfSome result (λ bytes. length bytes.now ≡ 512) }
+        ensures none { IsNone result ↔ (map_of self.now block ≡ None) }
+        ensures next { HasPlace self.now.numbers (block + 1) place.new }
+    {
+        self.parts.get_at(place, block)
+    }
+
     /// Whether there is room for so many blocks from the address on, of which those that are there
     /// already take no more. The range ends at 2^31 or before.
     #[inline]

@@ -1,11 +1,13 @@
 //! A batch whose blocks lie in the order of their numbers.
-ghost use Rattle.std.specs.Prelude.{◌≡◌, ◌↔◌, [], length, Some, None};
+ghost use Rattle.std.specs.Prelude.{◌≡◌, ◌↔◌, ◌+◌, [], length, Some, None};
 ghost use Rattle.std.specs.Prelude.{IsTrue, IfOk, IfSome, IsNone};
 ghost use Rattle.cache.specs.Entries.{IsWellFormed, map_of};
+ghost use Rattle.cache.specs.Places.{HasPlace};
 ghost use Rattle.cache.specs.View.{view_of, IsKept, IsArranged};
 
 use crate::BatchError;
 use crate::parts::Parts;
+use crate::place::place_of;
 use std::alloc::Global;
 use std::marker::Model;
 use std::mem;
@@ -73,6 +75,27 @@ impl Frozen {
         ensures none { IsNone result ↔ (map_of self.now block ≡ None) }
     {
         self.parts.get(block)
+    }
+
+    /// The place of a block's number among those that rise, or the one where it would stand.
+    #[inline]
+    pub fn place_of(&self, block: u64) -> usize
+        ensures { HasPlace self.now.numbers block result }
+    {
+        place_of(self.parts.index.entries(), block)
+    }
+
+    /// The 512 bytes of a block, where it is there. Its place is known, and becomes that of the next
+    /// block, so that one search does for a range.
+    #[inline]
+    pub fn get_at(&self, place: &mut usize, block: u64) -> Option<&[u8]>
+        requires { HasPlace self.now.numbers block place.old }
+        ensures some { IfSome result (λ bytes. map_of self.now block ≡ Some bytes.now) }
+        ensures size { IfSome result (λ bytes. length bytes.now ≡ 512) }
+        ensures none { IsNone result ↔ (map_of self.now block ≡ None) }
+        ensures next { HasPlace self.now.numbers (block + 1) place.new }
+    {
+        self.parts.get_at(place, block)
     }
 
     /// Forgets all blocks. The room stays.

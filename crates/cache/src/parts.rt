@@ -12,7 +12,7 @@ use crate::arrange::arrange_cells;
 use crate::counter::Steps;
 use crate::entry::{BLOCK, Entry, number_of, put_entry, row_place};
 use crate::index::Index;
-use crate::place::find;
+use crate::place::place_of;
 use std::alloc::Global;
 
 // A place in the row has no more than 16 bits.
@@ -59,11 +59,27 @@ impl Parts {
         ensures size { IfSome result (λ bytes. length bytes.now ≡ 512) }
         ensures none { IsNone result ↔ (map_of (view_of self.now) block ≡ None) }
     {
+        let mut place = place_of(self.index.entries(), block);
+        self.get_at(&mut place, block)
+    }
+
+    /// The same where the block's place is known, which becomes the place of the next block.
+    #[inline]
+    pub(crate) fn get_at(&self, place: &mut usize, block: u64) -> Option<&[u8]>
+        requires kept { IsKept self.now }
+        requires place { HasPlace (numbers_of (entries_of self.now.index)) block place.old }
+        ensures some { IfSome result (λ bytes. map_of (view_of self.now) block ≡ Some bytes.now) }
+        ensures size { IfSome result (λ bytes. length bytes.now ≡ 512) }
+        ensures none { IsNone result ↔ (map_of (view_of self.now) block ≡ None) }
+        ensures next { HasPlace (numbers_of (entries_of self.now.index)) (block + 1) place.new }
+    {
         let entries = self.index.entries();
-        match find(entries, block) {
-            Ok(place) => Some(&self.row[row_place(entries, place) as usize]),
-            Err(_) => None,
+        let at = *place;
+        if at < entries.len() && number_of(entries, at) == block {
+            *place = at + 1;
+            return Some(&self.row[row_place(entries, at) as usize]);
         }
+        None
     }
 
     /// Puts one block where the place of its number is known.

@@ -1,5 +1,6 @@
-use Rattle.std.proofs.Common.{◌≤◌, ◌+◌, ◌-◌, ◌*◌, ◌/◌, length, ◌∙◌, ap, arith, subst, sym, rules}
+use Rattle.std.proofs.Common.{◌≡◌, ◌≤◌, ◌+◌, ◌-◌, ◌*◌, ◌/◌, length, ◌∙◌, ap, arith, subst, sym, rules}
 use Rattle.log_layout.specs.Places.{Shape}
+use Rattle.cache.specs.Places.{HasPlace}
 use Rattle.medium.proofs.Moments.{quiet_start, quiet_joined}
 use Rattle.blocks.specs.Book.{array_of}
 use Rattle.blocks.specs.StoreValue.{Cached, FitsBook}
@@ -10,8 +11,8 @@ use Rattle.blocks.specs.Calls.{block_reads}
 use Rattle.blocks.proofs.Counting.{reads_more, reads_within}
 use Rattle.blocks.proofs.store.Store.read.Goals as goal
 
-pub overflow_add-address : goal.overflow_add-address
-overflow_add-address g c =
+pub overflow_add-block : goal.overflow_add-block
+overflow_add-block g c =
     let blocks = ap (λ (s : Shape). s.blocks) c.self.invariant.shape in
     let same = ap (λ v. v.cached.log.shape.blocks) c.self.view_is in
     omega (arith, blocks, same, c.self.inside.sizes.most_blocks, c.requires.inside, c.loop-i-test.true)
@@ -44,6 +45,7 @@ loop-i-preserved g c =
     let mid = g.M.Medium.state c.loop-i.self.medium in
     let after = g.M.Medium.state c.read_block.new.self.medium in
     let now = quiet_turn before mid c.args.self.now.cached (g.met.M.Medium.sound c.args.self.now.medium) c.loop-i.invariant.quiet in
+    let next : c.args.address + c.loop-i.i + 1 ≡ c.args.address + (c.loop-i.i + 1) = omega arith in
     record {
       stays = c.read_block.ensures.keeps.stays ∙ c.loop-i.invariant.stays;
       quiet = quiet_joined before mid after c.loop-i.invariant.quiet c.read_block.ensures.keeps.quiet;
@@ -60,6 +62,12 @@ loop-i-preserved g c =
           (512 * (c.loop-i.i + 1)) c.loop-i.to c.read_block.new.to (omega arith) (omega arith) (omega arith)
           (omega (arith, c.loop-i-test.true, c.loop-i.auto.to)) c.read_block.auto.to (c.loop-i.invariant.so_far book fits)
           (c.in_ok-read_block.ensures.ok book here);
+      active = rw next at
+          (subst (λ (s : Cached). HasPlace s.active.numbers (c.args.address + c.loop-i.i + 1) c.read_block.new.active)
+          c.loop-i.invariant.stays c.read_block.ensures.next.0);
+      frozen = rw next at
+          (subst (λ (s : Cached). HasPlace s.frozen.numbers (c.args.address + c.loop-i.i + 1) c.read_block.new.frozen)
+          c.loop-i.invariant.stays c.read_block.ensures.next.1);
     }
 
 pub returns-in_err-read_block-clause-cost : goal.returns-in_err-read_block-clause-cost

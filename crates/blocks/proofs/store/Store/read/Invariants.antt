@@ -1,5 +1,6 @@
 use Rattle.std.proofs.Common.{◌≡◌, ◌≤◌, ◌+◌, ◌*◌, take}
 use Rattle.medium.specs.Moments.{IsQuiet}
+use Rattle.cache.specs.Places.{HasPlace}
 use Rattle.blocks.specs.Book.{Book, array_of, blocks_at}
 use Rattle.blocks.specs.StoreValue.{FitsBook}
 use Rattle.blocks.specs.Calls.{reads_of}
@@ -14,4 +15,6 @@ invariant-loop-i g l = record {
   follows : g.M.Medium.follows l.fn.self.medium l.self.medium;
   so_far : (book : Book) → FitsBook (g.M.Medium.state l.fn.self.medium) l.fn.self.cached book
       → take (512 * l.i) l.to ≡ blocks_at (array_of book) l.address l.i;
+  active : HasPlace l.fn.self.cached.active.numbers (l.address + l.i) l.active;
+  frozen : HasPlace l.fn.self.cached.frozen.numbers (l.address + l.i) l.frozen;
 }

@@ -12,7 +12,7 @@ same_map old new b found same is = subst (λ (batch : Entries). map_of batch b �
 pub returns-in-Ok-clause-ok : goal.returns-in-Ok-clause-ok
 returns-in-Ok-clause-ok g c book fits =
     let active = same_map _ _ c.args.block None (ap (λ v. v.cached.active) c.self.view_is) (c.in_default.ensures.none.0 refl) in
-    let frozen = same_map _ _ c.args.block None (ap (λ v. v.cached.frozen) c.self.view_is) (c.in_default-get.ensures.none.0 refl) in
+    let frozen = same_map _ _ c.args.block None (ap (λ v. v.cached.frozen) c.self.view_is) (c.in_default-older.ensures.none.0 refl) in
     c.in-Ok.ensures.ok book fits
     ∙ durable_is (g.M.Medium.state c.args.self.now.medium) c.args.self.now.cached book fits c.args.block c.requires.inside active frozen
 
@@ -26,14 +26,14 @@ returns-in-Some-clause-cost g c = record {
       omega (arith, reads_active c.args.self.now.cached c.args.block c.in-Some.bytes.now there);
 }
 
-pub returns-in-Some-get-clause-cost : goal.returns-in-Some-get-clause-cost
-returns-in-Some-get-clause-cost g c = record {
+pub returns-in-Some-older-clause-cost : goal.returns-in-Some-older-clause-cost
+returns-in-Some-older-clause-cost g c = record {
   calls = search rules;
   reads = search rules;
   exactly =
       let same = ap (λ v. v.cached.frozen) c.self.view_is in
-      let there = same_map _ _ c.args.block (Some c.in-Some-get.bytes.now) same c.in-Some-get.ensures.some in
-      omega (arith, reads_frozen c.args.self.now.cached c.args.block c.in-Some-get.bytes.now there);
+      let there = same_map _ _ c.args.block (Some c.in-Some-older.bytes.now) same c.in-Some-older.ensures.some in
+      omega (arith, reads_frozen c.args.self.now.cached c.args.block c.in-Some-older.bytes.now there);
 }
 
 pub returns-in-Ok-clause-cost : goal.returns-in-Ok-clause-cost
@@ -41,12 +41,12 @@ returns-in-Ok-clause-cost g c = record {
   calls = omega (arith, c.read_durable.ensures.cost.calls);
   reads =
       let active = same_map _ _ c.args.block None (ap (λ v. v.cached.active) c.self.view_is) (c.in_default.ensures.none.0 refl) in
-      let frozen = same_map _ _ c.args.block None (ap (λ v. v.cached.frozen) c.self.view_is) (c.in_default-get.ensures.none.0 refl) in
+      let frozen = same_map _ _ c.args.block None (ap (λ v. v.cached.frozen) c.self.view_is) (c.in_default-older.ensures.none.0 refl) in
       let log = ap (λ v. durable_reads v.cached.log c.args.block) c.self.view_is in
       omega (arith, log, c.read_durable.ensures.cost.reads, reads_copy c.args.self.now.cached c.args.block active frozen);
   exactly =
       let active = same_map _ _ c.args.block None (ap (λ v. v.cached.active) c.self.view_is) (c.in_default.ensures.none.0 refl) in
-      let frozen = same_map _ _ c.args.block None (ap (λ v. v.cached.frozen) c.self.view_is) (c.in_default-get.ensures.none.0 refl) in
+      let frozen = same_map _ _ c.args.block None (ap (λ v. v.cached.frozen) c.self.view_is) (c.in_default-older.ensures.none.0 refl) in
       let log = ap (λ v. durable_reads v.cached.log c.args.block) c.self.view_is in
       omega (arith, log, c.in-Ok.ensures.cost.exactly, reads_copy c.args.self.now.cached c.args.block active frozen);
 }
@@ -56,7 +56,7 @@ returns-in-Err-clause-cost g c = record {
   calls = omega (arith, c.read_durable.ensures.cost.calls);
   reads =
       let active = same_map _ _ c.args.block None (ap (λ v. v.cached.active) c.self.view_is) (c.in_default.ensures.none.0 refl) in
-      let frozen = same_map _ _ c.args.block None (ap (λ v. v.cached.frozen) c.self.view_is) (c.in_default-get.ensures.none.0 refl) in
+      let frozen = same_map _ _ c.args.block None (ap (λ v. v.cached.frozen) c.self.view_is) (c.in_default-older.ensures.none.0 refl) in
       let log = ap (λ v. durable_reads v.cached.log c.args.block) c.self.view_is in
       omega (arith, log, c.read_durable.ensures.cost.reads, reads_copy c.args.self.now.cached c.args.block active frozen);
   exactly = search rules;
