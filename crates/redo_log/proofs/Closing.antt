@@ -94,7 +94,7 @@ pub turn_moments : (turn : Turn) (old new : State) → IsSound old → MayTurn t
 turn_moments (Load from) old new sound adds = quiet_leaves (λ _. Unit {0}) old new sound (λ image cut. tt) adds
 turn_moments (Copy from to first) old new sound adds = weaker _ (λ _. Unit {0}) old new (λ image left. tt) adds.moments
 turn_moments Flush old new sound adds = quiet_leaves (λ _. Unit {0}) old new sound (λ image cut. tt) adds
-turn_moments (Head bytes) old new sound adds = weaker _ (λ _. Unit {0}) old new (λ image left. tt) adds.moments
+turn_moments (Head h) old new sound adds = weaker _ (λ _. Unit {0}) old new (λ image left. tt) adds.moments
 
 -- where no call is made the log holds what it held
 pub nothing_retired : (log : LogValue) (m : State) (view : View) → HoldsView log m view

@@ -20,7 +20,7 @@ use Rattle.redo_log.specs.declared.turn.Turn.TheVariants.{Load, Copy, Flush, Hea
 use Rattle.redo_log.specs.Value.{LogValue, steps_for, turns_home, of_oldest}
 use Rattle.redo_log.specs.Stages.{value_at, steps_at, begun_at, oldest_at, homed_at, AreInside, IsRecord, IsRead, IsSized}
 use Rattle.redo_log.specs.Calls.{gaining}
-use Rattle.redo_log.specs.Turns.{begun_with, kept_by, MayTurn, IsTurned, IsNextTurn, IsFlushTurn, IsHeadTurn}
+use Rattle.redo_log.specs.Turns.{begun_with, head_bytes, kept_by, MayTurn, IsTurned, IsNextTurn, IsFlushTurn, IsHeadTurn}
 use Rattle.redo_log.specs.Held.{View, view_retired, image_view, written_of, made_of, turned_of, MayLeave, Stores, Safe, Guards, HoldsView}
 use Rattle.redo_log.proofs.Adding.{moments_have}
 use Rattle.redo_log.proofs.Batching.{count_of, record_entries}
@@ -30,7 +30,7 @@ use Rattle.redo_log.proofs.Storing.{drop-length, Stores-stays, Stores-turned, ho
 use Rattle.redo_log.proofs.Guarding.{safe_either, Guards-quiet, Guards-turned, home_each, homed_guards, head_each, head_guards, slots_less}
 use Rattle.redo_log.proofs.Guarding.{past_records}
 use Rattle.redo_log.proofs.Stepping.{turned_at, of_oldest_is, turned_of_is, guards_leave}
-use Rattle.redo_log.proofs.Turning.{BringsHome, none_read, all_read, brings_home}
+use Rattle.redo_log.proofs.Turning.{BringsHome, new_head, none_read, all_read, brings_home}
 use Rattle.log_image.proofs.Formats.{laws_of}
 
 -- without the oldest record its block numbers are gone too
@@ -231,26 +231,26 @@ module _ (shape : Shape) (sized : IsSized shape) (head : ℕ) (numbers : List �
           (home_each shape sized head view old gained sound steps made slots to (begun_with begin (old.content from))
           (λ s c left. left) (homed_at shape.format turned) waits does.below does.at (guarded ours).each image cut))
       home_leaves Flush does adds ours = absurd does
-      home_leaves (Head bytes) does adds ours = absurd does
+      home_leaves (Head h) does adds ours = absurd does
 
       flush_leaves : (turn : Turn) → IsFlushTurn turn → MayTurn turn old new → view.ours ≡ true
           → LeavesOnly (MayLeave old.size (waiting_log turned kept) view) old new
       flush_leaves (Load from) is adds ours = absurd is
       flush_leaves (Copy from to begin) is adds ours = absurd is
       flush_leaves Flush is adds ours = quiet_leaves (MayLeave old.size (waiting_log turned kept) view) old new sound (hv.leaves ours) adds
-      flush_leaves (Head bytes) is adds ours = absurd is
+      flush_leaves (Head h) is adds ours = absurd is
 
       head_leaves : (turn : Turn) → turned ≡ turns_home shape.format (length numbers) + 1 → IsHeadTurn (head + 1) turn
           → MayTurn turn old new → view.ours ≡ true → LeavesOnly (MayLeave old.size (waiting_log turned kept) view) old new
       head_leaves (Load from) last is adds ours = absurd is
       head_leaves (Copy from to begin) last is adds ours = absurd is
       head_leaves Flush last is adds ours = absurd is
-      head_leaves (Head bytes) last is adds ours =
-          let gained : State = record old { may_leave = gaining 1 bytes old.may_leave } in
+      head_leaves (Head h) last is adds ours =
+          let gained : State = record old { may_leave = gaining 1 (head_bytes h.stamp) old.may_leave } in
           let one : left turned ≡ 1 = omega (arith, last) in
           let last_one : of_oldest (waiting_log turned kept) ≡ 1 =
           of_oldest_is shape head (numbers ∷ newer) turned kept under_way writing false ∙ one in
-          moments_have (MayLeave old.size (waiting_log turned kept) view) 1 bytes old new adds
+          moments_have (MayLeave old.size (waiting_log turned kept) view) 1 (head_bytes h.stamp) old new adds
           (λ image cut. ⊎_elim (safe_leaves image)
           (λ past. ⊎_elim
           (λ rest. inr (inr (
@@ -262,7 +262,8 @@ module _ (shape : Shape) (sized : IsSized shape) (head : ℕ) (numbers : List �
           (safe_either shape sized (head + 1) (view_retired 1 view) steps made image
           (λ some. slots_less shape head view waits (slots some)) (omega (arith, hv.few, drop-length view.records waits))
           past.0))
-          (head_each shape sized head view old gained sound steps made slots bytes waits is (λ s c left. left)
+          (head_each shape sized head view old gained sound steps made slots (head_bytes h.stamp) waits
+          (new_head h.stamp (head + 1) h.least h.most is) (λ s c left. left)
           (subst (λ (r : ℕ). Guards shape head view steps made r old) one (guarded ours)) image cut))
 
       -- at each moment of the next turn a cut leaves what it might leave before, and with the new head the same array
@@ -299,7 +300,7 @@ module _ (shape : Shape) (sized : IsSized shape) (head : ℕ) (numbers : List �
               homed = λ e. absurd (omega (arith, e, below));
             })
         home_held Flush below does adds wrote = absurd does
-        home_held (Head bytes) below does adds wrote = absurd does
+        home_held (Head h) below does adds wrote = absurd does
 
         -- the blocks are flushed at home
         flush_held : (turn : Turn) → turned ≡ turns_home shape.format (length numbers) → IsFlushTurn turn → IsTurned turn old new
@@ -318,7 +319,7 @@ module _ (shape : Shape) (sized : IsSized shape) (head : ℕ) (numbers : List �
             s)
             (λ ours. homed_guards shape sized head view old new sound steps made (left turned) (left (turned + 1))
             (homed_at shape.format turned) wrote.1 there stored.copied (guarded ours))
-        flush_held (Head bytes) all is wrote = absurd is
+        flush_held (Head h) all is wrote = absurd is
 
         -- after a turn that is not the last the log and its medium hold the same view
         pub turn_held : (turn : Turn) → turned ≤ turns_home shape.format (length numbers) → IsNextTurn shape head numbers kept turned turn
@@ -340,7 +341,7 @@ module _ (shape : Shape) (sized : IsSized shape) (head : ℕ) (numbers : List �
         head_held (Load from) last is adds wrote = absurd is
         head_held (Copy from to begin) last is adds wrote = absurd is
         head_held Flush last is adds wrote = absurd is
-        head_held (Head bytes) last is adds wrote =
+        head_held (Head h) last is adds wrote =
             let f : List Entry → List ℕ = λ r. numbers_of r in
             let fits : sectors_of shape ≤ new.size = omega (arith, same_size, hv.fits) in
             let durable = fewer_numbers view.records numbers newer hv.durable in
@@ -359,9 +360,10 @@ module _ (shape : Shape) (sized : IsSized shape) (head : ℕ) (numbers : List �
             let stores : Stores shape (head + 1) (view_retired 1 view) steps made (turned_at shape.format newer 0) new.content =
             Stores-turned shape sized (head + 1) (view_retired 1 view) steps made 0 (turned_at shape.format newer 0) new.content
             (λ i low high. nothing_home shape.format newer i (length (get_or (drop 1 view.records) 0 [])) (sym long) low high)
-            (head_stores shape sized head view steps made turned old.content new.content bytes wrote.0 waits there stored) in
+            (head_stores shape sized head view steps made turned old.content new.content (head_bytes h.stamp) wrote.0 waits there stored) in
             let guards : view.ours ≡ true → Guards shape (head + 1) (view_retired 1 view) steps made (oldest_at shape.format newer 0) new =
-            λ ours. head_guards shape sized head view old new sound steps made slots bytes waits is (oldest_at shape.format newer 0)
+            λ ours. head_guards shape sized head view old new sound steps made slots (head_bytes h.stamp) waits
+            (new_head h.stamp (head + 1) h.least h.most is) (oldest_at shape.format newer 0)
             (not_homed shape.format newer) wrote.0 wrote.1
             (subst (λ (r : ℕ). Guards shape head view steps made r old) one (guarded ours)) in
             record {

@@ -1,5 +1,5 @@
 -- What a turn brings home, by the format of the log.
-use Rattle.std.proofs.Common.{◌≡◌, ⊎_elim, ℕ, ◌+◌, ◌*◌, ◌-◌, ◌/◌, ◌%◌, ◌<◌, ◌≤◌, List, [], length, get_or, refl, sym, ◌∙◌, ap, arith}
+use Rattle.std.proofs.Common.{◌≡◌, ⊎_elim, ℕ, ◌+◌, ◌*◌, ◌-◌, ◌/◌, ◌%◌, ◌^◌, ◌<◌, ◌≤◌, List, [], length, get_or, refl, sym, ◌∙◌, ap, arith}
 use Rattle.std.specs.Prelude.{slice_index, slice_range, Option, Some}
 use Rattle.std.proofs.lemmas.Bool.{cases_lt}
 use Rattle.std.proofs.Math.ListN.{get_or-map}
@@ -7,6 +7,7 @@ use Rattle.medium.specs.Medium.{Image}
 use Rattle.log_layout.specs.declared.log_format.LogFormat.{LogFormat}
 use Rattle.log_layout.specs.declared.log_format.LogFormat.TheVariants.{One, Two}
 use Rattle.log_layout.specs.Places.{Shape, first_home}
+use Rattle.log_layout.specs.Sectors.{IsHead}
 use Rattle.log_layout.specs.SectorsTwo.{descriptor_bytes}
 use Rattle.log_image.specs.Record.{Entry, numbers_of}
 use Rattle.log_image.specs.Layout.{IsWholeIn}
@@ -17,7 +18,7 @@ use Rattle.log_image.proofs.Copying as two
 use Rattle.log_image.proofs.Format2Laws.{offset_descriptor, part_descriptor}
 use Rattle.redo_log.specs.Value.{turns_home}
 use Rattle.redo_log.specs.Stages.{homed_at, IsRead}
-use Rattle.redo_log.specs.Turns.{begun_with, IsHomeTurn}
+use Rattle.redo_log.specs.Turns.{begun_with, head_bytes, IsHomeTurn}
 use Rattle.redo_log.specs.declared.turn.Turn.{Turn}
 use Rattle.redo_log.specs.declared.turn.Turn.TheVariants.{Load, Copy, Flush, Head}
 
@@ -37,7 +38,12 @@ BringsHome format shape content stamp entries turned kept (Load from) =
 BringsHome format shape content stamp entries turned kept (Copy from to first) =
     CopiesNext format shape content stamp entries turned kept from to first
 BringsHome format shape content stamp entries turned kept Flush = ⊥
-BringsHome format shape content stamp entries turned kept (Head bytes) = ⊥
+BringsHome format shape content stamp entries turned kept (Head h) = ⊥
+
+-- the bytes that a head turn writes are those of the new head
+pub new_head : (stamp next : ℕ) → 1 ≤ stamp → stamp < 2 ^ 63 → stamp ≡ next → IsHead next (head_bytes stamp)
+new_head stamp next least most is =
+    record { spelled = ap (λ (n : ℕ). head_bytes n) is; least = omega (arith, least, is); most = omega (arith, most, is) }
 
 -- at first nothing is to be kept
 pub none_read : (format : LogFormat) (stamp : ℕ) (entries : List Entry) (kept : List ℕ) → IsRead format stamp entries 0 kept
@@ -68,7 +74,7 @@ module _ (shape : Shape) (content : Image) (stamp : ℕ) (entries : List Entry) 
     read = tt;
   }
   home_one turned kept Flush w below is = absurd is
-  home_one turned kept (Head bytes) w below is = absurd is
+  home_one turned kept (Head h) w below is = absurd is
 
   module _ (turned : ℕ) (kept : List ℕ) (w : IsWholeIn (layout_of Two) shape content stamp entries)
       (below : turned < turns_home Two (length entries)) where
@@ -125,7 +131,7 @@ module _ (shape : Shape) (content : Image) (stamp : ℕ) (entries : List Entry) 
     home_two Flush read is =
         ⊎_elim (λ some. absurd (is.1 some)) (λ none. let zero : turned % 31 ≡ 0 = omega (arith, none) in absurd (is.0 zero))
         (cases_lt 0 (turned % 31))
-    home_two (Head bytes) read is =
+    home_two (Head h) read is =
         ⊎_elim (λ some. absurd (is.1 some)) (λ none. let zero : turned % 31 ≡ 0 = omega (arith, none) in absurd (is.0 zero))
         (cases_lt 0 (turned % 31))
 

@@ -1,12 +1,12 @@
 -- The turns that retire a durable record.
-use Rattle.std.specs.Prelude.{◌≡◌, ℕ, ◌+◌, ◌*◌, ◌/◌, ◌%◌, ◌<◌, List, ◌++◌, length, drop}
+use Rattle.std.specs.Prelude.{◌≡◌, ℕ, ◌+◌, ◌*◌, ◌/◌, ◌%◌, ◌<◌, List, [], ◌∷◌, ◌++◌, length, drop}
 use Rattle.std.specs.Prelude.{slice_index, slice_range, Option, Some, None}
 use Rattle.medium.specs.Medium.{State, Stays, Holds, Only}
 use Rattle.medium.specs.Moments.{IsQuiet}
 use Rattle.log_layout.specs.declared.log_format.LogFormat.{LogFormat}
 use Rattle.log_layout.specs.declared.log_format.LogFormat.TheVariants.{One, Two}
 use Rattle.log_layout.specs.Places.{Shape, first_home, first_data_of}
-use Rattle.log_layout.specs.Sectors.{IsHead}
+use Rattle.log_layout.specs.Spelling.{spelling, head_mark}
 use Rattle.log_image.specs.Layout.{slot_at}
 use Rattle.log_image.specs.Formats.{layout_of}
 use Rattle.redo_log.specs.Value.{turns_home}
@@ -20,19 +20,23 @@ abbrev pub begun_with : Option (List ℕ) → List ℕ → List ℕ
 begun_with None bytes = bytes
 begun_with (Some first) bytes = first ++ drop 8 bytes
 
+-- the bytes of the head with this stamp
+abbrev pub head_bytes : ℕ → List ℕ
+head_bytes stamp = spelling (head_mark ∷ stamp ∷ [])
+
 -- the turn reads and writes no sector behind these
 abbrev pub IsInside : ℕ → Turn → Type 0
 IsInside size (Load from) = from < size
 IsInside size (Copy from to first) = (from < size) × (to < size)
 IsInside size Flush = Unit {0}
-IsInside size (Head bytes) = 1 < size
+IsInside size (Head head) = 1 < size
 
 -- what it may add, at any moment, to what a cut leaves
 abbrev pub MayTurn : Turn → State → State → Type 0
 MayTurn (Load from) old new = IsQuiet old new
 MayTurn (Copy from to first) old new = WritesOnly to (begun_with first (old.content from)) old new
 MayTurn Flush old new = IsQuiet old new
-MayTurn (Head bytes) old new = WritesOnly 1 bytes old new
+MayTurn (Head head) old new = WritesOnly 1 (head_bytes head.stamp) old new
 
 -- what it does, where no call is refused
 abbrev pub IsTurned : Turn → State → State → Type 0
@@ -40,7 +44,7 @@ IsTurned (Load from) old new = Stays old.content new.content
 IsTurned (Copy from to first) old new =
     Holds to (begun_with first (old.content from)) old.content new.content
 IsTurned Flush old new = Stays old.content new.content × Only old.content new.may_leave
-IsTurned (Head bytes) old new = Holds 1 bytes old.content new.content
+IsTurned (Head head) old new = Holds 1 (head_bytes head.stamp) old.content new.content
     × Only new.content new.may_leave
 
 -- which bytes are kept after it
@@ -48,14 +52,14 @@ abbrev pub kept_by : Turn → State → List ℕ → List ℕ
 kept_by (Load from) old kept = old.content from
 kept_by (Copy from to first) old kept = kept
 kept_by Flush old kept = kept
-kept_by (Head bytes) old kept = kept
+kept_by (Head head) old kept = kept
 
 -- the turn reads this sector
 abbrev pub IsLoadOf : ℕ → Turn → Type 0
 IsLoadOf source (Load from) = from ≡ source
 IsLoadOf source (Copy from to first) = ⊥
 IsLoadOf source Flush = ⊥
-IsLoadOf source (Head bytes) = ⊥
+IsLoadOf source (Head head) = ⊥
 
 -- the turn copies the first sector to the second, with these bytes in front
 abbrev pub IsCopyOf : ℕ → ℕ → Option (List ℕ) → Turn → Type 0
@@ -63,20 +67,20 @@ IsCopyOf source target begins (Load from) = ⊥
 IsCopyOf source target begins (Copy from to first) =
     (from ≡ source) × (to ≡ target) × (first ≡ begins)
 IsCopyOf source target begins Flush = ⊥
-IsCopyOf source target begins (Head bytes) = ⊥
+IsCopyOf source target begins (Head head) = ⊥
 
 abbrev pub IsFlushTurn : Turn → Type 0
 IsFlushTurn (Load from) = ⊥
 IsFlushTurn (Copy from to first) = ⊥
 IsFlushTurn Flush = Unit {0}
-IsFlushTurn (Head bytes) = ⊥
+IsFlushTurn (Head head) = ⊥
 
 -- the turn writes the head with this stamp
 abbrev pub IsHeadTurn : ℕ → Turn → Type 0
 IsHeadTurn stamp (Load from) = ⊥
 IsHeadTurn stamp (Copy from to first) = ⊥
 IsHeadTurn stamp Flush = ⊥
-IsHeadTurn stamp (Head bytes) = IsHead stamp bytes
+IsHeadTurn stamp (Head head) = head.stamp ≡ stamp
 
 -- The turn brings a record's blocks home. In format 1 each block is copied from its data place. In
 -- format 2 a descriptor is read, then the blocks that it names are copied, with their first 8 bytes

@@ -26,8 +26,8 @@ pub(crate) enum Turn {
     /// Writes the bytes of the first sector to the second, with these 8 in front, if there are any.
     Copy(u64, u64, Option<[u8; 8]>),
     Flush,
-    /// Writes these bytes as the head, and flushes them.
-    Head([u8; 512]),
+    /// Writes this head, and flushes it. Its bytes are made where they are written.
+    Head(Head),
 }
 
 impl Turn {
@@ -54,7 +54,7 @@ impl Turn {
             }
             Turn::Copy(from, to, first) => copy_sector(m, *from, *to, first),
             Turn::Flush => m.flush(),
-            Turn::Head(sector) => write_through(m, 1, sector),
+            Turn::Head(head) => write_through(m, 1, &head.encode()),
         }
     }
 }
@@ -132,7 +132,7 @@ pub(crate) fn next_turn(
     if turned == home {
         Turn::Flush
     } else {
-        Turn::Head(Head::new(stamp + 1).encode())
+        Turn::Head(Head::new(stamp + 1))
     }
 }
 

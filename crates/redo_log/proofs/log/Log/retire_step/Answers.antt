@@ -1,15 +1,12 @@
-use Rattle.std.proofs.Common.{◌≡◌, ℕ, suc, ◌+◌, ◌-◌, ◌<◌, List, length, [], ◌∷◌, drop, refl, subst, sym, ◌∙◌, ap, arith, rules, length-drop}
+use Rattle.std.proofs.Common.{◌≡◌, ℕ, suc, ◌+◌, ◌-◌, ◌<◌, List, length, [], ◌∷◌, drop, subst, sym, ◌∙◌, ap, arith, rules, length-drop}
 use Rattle.std.specs.Prelude.{All, replicate, Bool, true, false, slice_index_or, if◌then◌else◌}
 use Rattle.std.proofs.lemmas.List.{length-map}
-use Rattle.medium.specs.Medium.{State}
 use Rattle.medium.proofs.Moments.{started}
 use Rattle.arrayvec.specs.ArrayVec.{ArrayVec}
 use Rattle.log_layout.specs.Values.{shape_of}
 use Rattle.redo_log.specs.Value.{LogValue, turns_home, died, IsRetireStepped}
 use Rattle.redo_log.specs.Stages.{value_at, IsRing, AreInside}
-use Rattle.redo_log.specs.declared.turn.Turn.{Turn}
-use Rattle.redo_log.specs.declared.turn.Turn.TheVariants.{Load, Copy, Flush, Head}
-use Rattle.redo_log.specs.Turns.{kept_by, IsHeadTurn}
+use Rattle.redo_log.specs.Turns.{kept_by}
 use Rattle.redo_log.specs.Held.{MayLeave, HoldsView}
 use Rattle.redo_log.specs.Shown.{lists_of}
 use Rattle.redo_log.specs.Index.{look, outside, IsIndex}
