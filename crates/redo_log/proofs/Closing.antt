@@ -14,14 +14,13 @@ use Rattle.log_image.proofs.Overlay.{with_records-same}
 use Rattle.log_image.specs.Formats.{layout_of, IsWhole}
 use Rattle.log_image.proofs.Engine.{rests_logged}
 use Rattle.log_image.proofs.Formats.{laws_of, sectors_are}
-use Rattle.redo_log.specs.declared.call.Call.{Call}
 use Rattle.redo_log.specs.declared.turn.Turn.{Turn}
 use Rattle.redo_log.specs.declared.turn.Turn.TheVariants.{Load, Copy, Flush, Head}
 use Rattle.redo_log.specs.Value.{LogValue, steps_for, turns_home, IsNewestCopy, died}
 use Rattle.redo_log.specs.Logged.{Logged}
 use Rattle.redo_log.specs.Stages.{value_at, begun_at, AreInside, IsRecord, IsUnderWay, IsRing, IsSized}
 use Rattle.redo_log.specs.Turns.{kept_by, MayTurn, IsTurned, IsNextTurn}
-use Rattle.redo_log.specs.Calls.{fault_of, MayAdd, IsDone, IsNextCall}
+use Rattle.redo_log.specs.Calls.{Call, fault_of, MayAdd, IsDone, IsNextCall}
 use Rattle.redo_log.specs.Held.{View, with_record, view_retired, HasDurable, MayLeave, HoldsView}
 use Rattle.redo_log.proofs.Keeping.{Logged-records}
 use Rattle.redo_log.proofs.Stepping.{step_leaves, step_held, step_last}

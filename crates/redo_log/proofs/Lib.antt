@@ -17,3 +17,4 @@ pub mod Merging
 pub mod Entering
 pub mod Adding
 pub mod Sparing
+pub mod Writing

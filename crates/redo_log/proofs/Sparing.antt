@@ -4,10 +4,9 @@ use Rattle.medium.specs.Medium.{State}
 use Rattle.medium.specs.Moments.{SparesFrom}
 use Rattle.medium.proofs.Sparing.{spared_behind}
 use Rattle.log_layout.specs.Places.{Shape, first_home, sectors_of}
-use Rattle.redo_log.specs.declared.call.Call.{Call}
 use Rattle.redo_log.specs.declared.turn.Turn.{Turn}
 use Rattle.redo_log.specs.Value.{LogValue}
-use Rattle.redo_log.specs.Calls.{IsWithin}
+use Rattle.redo_log.specs.Calls.{Call, IsWithin}
 use Rattle.redo_log.specs.Turns.{IsInside}
 
 -- a call of a record writes to the log alone

@@ -16,11 +16,9 @@ use Rattle.log_image.specs.Formats.{layout_of}
 use Rattle.log_image.specs.Staged.{HasSlots}
 use Rattle.log_image.proofs.Formats.{laws_of}
 use Rattle.log_image.proofs.Batching.{length_of_batch}
-use Rattle.redo_log.specs.declared.call.Call.{Call}
-use Rattle.redo_log.specs.declared.call.Call.TheVariants.{Write, Flush}
 use Rattle.redo_log.specs.Value.{LogValue, steps_for, turns_home, of_oldest}
 use Rattle.redo_log.specs.Stages.{value_at, oldest_at, written_at, flush_of, IsRecord, IsOldest, IsRead, IsSized}
-use Rattle.redo_log.specs.Calls.{MayAdd, IsDone, IsNextCall, IsFlush, IsFlushDue, IsWriteOf}
+use Rattle.redo_log.specs.Calls.{Call, Write, Flush, MayAdd, IsDone, IsNextCall, IsFlush, IsFlushDue, IsWriteOf}
 use Rattle.redo_log.specs.Held.{View, with_record, image_view, oldest_of, written_of, made_of, turned_of, MayLeave, Stores, Guards}
 use Rattle.redo_log.specs.Held.{HoldsView}
 use Rattle.redo_log.proofs.Counting.{steps_are, due_or_not, last_call, not_last, one_left, early_written, part_written}

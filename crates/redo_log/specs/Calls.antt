@@ -1,15 +1,23 @@
 -- The calls of a medium that write a record and retire it.
-use Rattle.std.specs.Prelude.{◌≡◌, ◌⊎◌, ℕ, ◌<◌, ◌≤◌, List, length}
-use Rattle.medium.specs.Medium.{State, Sets, Stays, Holds, Within, Gains, Only}
-use Rattle.medium.specs.Moments.{StaysWithin}
+use Rattle.std.specs.Prelude.{◌≡◌, ◌⊎◌, ℕ, ◌<◌, ◌≤◌, List, length, Result, OnOk}
+use Rattle.medium.specs.Medium.{State, Sets, Stays, Holds, Within, Gains, Only, Passes}
+use Rattle.medium.specs.Moments.{StaysWithin, SparesFrom}
 use Rattle.medium.specs.declared.fault.MediumFault.{MediumFault}
 use Rattle.medium.specs.declared.fault.MediumFault.TheVariants as fault
-use Rattle.log_layout.specs.Places.{Shape}
+use Rattle.log_layout.specs.declared.log_format.LogFormat.{LogFormat}
+use Rattle.log_layout.specs.declared.log_format.LogFormat.TheVariants.{One, Two}
+use Rattle.log_layout.specs.Places.{Shape, first_home}
+use Rattle.log_layout.specs.SectorsTwo.{place_bytes}
 use Rattle.log_image.specs.Record.{Entry}
 use Rattle.log_image.specs.Layout.{Layout, part_at}
+use Rattle.log_image.specs.Formats.{layout_of}
 use Rattle.redo_log.specs.Stages.{written_at}
-use Rattle.redo_log.specs.declared.call.Call.{Call}
-use Rattle.redo_log.specs.declared.call.Call.TheVariants.{Write, Flush}
+
+-- a call that writes a record
+pub data Call : Type 0 where
+  -- writes these bytes to this sector
+  Write : ℕ → List ℕ → Call
+  Flush : Call
 
 -- the fault with which a medium refuses this call
 abbrev pub fault_of : Call → MediumFault
@@ -53,6 +61,27 @@ IsNextCall L shape stamp entries made call =
     × (¬ IsFlushDue L (length entries) made
     → let written = written_at (L.early (length entries)) made in
     IsWriteOf (part_at L shape stamp (length entries) written) (L.part stamp entries written) call)
+
+-- The call is made, or refused. A write goes to its own sector alone.
+pub record MakesCall (call : Call) (result : Result (Unit {0}) MediumFault) (old new : State)
+    : Type 0 where
+  pub done : OnOk result (IsDone call old new)
+  pub adds : MayAdd call old new
+  pub passes : Passes (fault_of call) result old new
+  pub spares : (first : ℕ) → IsWithin first call → SparesFrom first old new
+
+-- the next call of a record of which so many calls are made: it is made, or refused
+pub record MakesNext (shape : Shape) (stamp : ℕ) (entries : List Entry) (made : ℕ)
+    (result : Result (Unit {0}) MediumFault) (old new : State) : Type 0 where
+  pub call : Call
+  pub next : IsNextCall (layout_of shape.format) shape stamp entries made call
+  pub inside : IsWithin (first_home shape) call
+  pub makes : MakesCall call result old new
+
+-- a block as its data place holds it: in format 2 the stamp stands in place of its first 8 bytes
+abbrev pub placed : LogFormat → ℕ → List ℕ → List ℕ
+placed One stamp block = block
+placed Two stamp block = place_bytes stamp block
 
 -- what a cut may leave, with these bytes in one sector too
 abbrev pub gaining : ℕ → List ℕ → Sets → Sets

@@ -1,41 +1,16 @@
 //! The calls of a medium that write a record, one after the other.
-ghost use Rattle.std.specs.Prelude.{◌≡◌, ◌⊎◌, ℕ, ◌≤◌, ◌<◌, ◌*◌, ◌+◌, length, OnOk, IsTrue, ◌↔◌};
-ghost use Rattle.medium.specs.Medium.{Passes};
-ghost use Rattle.medium.specs.Moments.{SparesFrom};
-ghost use Rattle.log_layout.specs.Places.{first_home};
+ghost use Rattle.std.specs.Prelude.{◌≡◌, ◌⊎◌, ℕ, ◌≤◌, ◌<◌, ◌*◌, length, IsTrue, ◌↔◌};
+ghost use Rattle.log_layout.specs.Places.{sectors_of};
 ghost use Rattle.log_layout.specs.Values.{shape_of};
+ghost use Rattle.log_image.specs.Layout.{part_at};
 ghost use Rattle.log_image.specs.Record.{entries_of};
 ghost use Rattle.log_image.specs.Formats.{layout_of};
 ghost use Rattle.redo_log.specs.Stages.{IsRecord, written_at};
-ghost use Rattle.redo_log.specs.Calls.{fault_of, IsWithin, MayAdd, IsDone, IsNextCall};
+ghost use Rattle.redo_log.specs.Calls.{Write, placed, MakesCall, MakesNext};
 
-use log_image::{early, part, parts, slot_place};
-use log_layout::{Super, slot_of};
+use log_image::{copy_place, early, part, parts, slot_place};
+use log_layout::{LogFormat, Super, data_sector2, slot_of};
 use medium::{Medium, MediumFault};
-
-#[derive(Drop)]
-pub(crate) enum Call {
-    Write(u64, [u8; 512]),
-    Flush,
-}
-
-impl Call {
-    pub(crate) fn make<M: Medium>(&self, m: &mut M) -> Result<(), MediumFault>
-        requires { IsWithin (M.state m.old).size self.now }
-        ensures done { OnOk result (IsDone self.now (M.state m.old) (M.state m.new)) }
-        ensures adds { MayAdd self.now (M.state m.old) (M.state m.new) }
-        ensures passes { Passes (fault_of self.now) result (M.state m.old) (M.state m.new) }
-        // A write goes to its own sector alone.
-        ensures spares { (first : ℕ) → IsWithin first self.now
-            → SparesFrom first (M.state m.old) (M.state m.new) }
-        ensures follows { M.follows m.old m.new }
-    {
-        match self {
-            Call::Write(place, sector) => m.write(*place, sector),
-            Call::Flush => m.flush(),
-        }
-    }
-}
 
 // How many parts of a record are written after so many calls. One of them may be the early flush.
 fn written_at(early: usize, made: usize) -> usize
@@ -55,27 +30,87 @@ fn is_flush_due(early: usize, parts: usize, made: usize, written: usize) -> bool
     0 < early && made == early || parts <= written
 }
 
-/// The next call of a record of which so many calls are made.
-pub(crate) fn next_call(
+/// Makes the next call of a record of which so many calls are made.
+pub(crate) fn make_next<M: Medium>(
+    m: &mut M,
     sizes: &Super,
     stamp: u64,
     numbers: &[u64],
     bytes: &[u8],
     made: usize,
-) -> Call
+) -> Result<(), MediumFault>
     requires record { IsRecord (shape_of sizes.now) stamp numbers.now }
     requires size { length bytes.now ≡ 512 * length numbers.now }
-    ensures next { IsNextCall (layout_of sizes.now.format) (shape_of sizes.now) stamp
-        (entries_of numbers.now bytes.now) made result }
-    ensures inside { IsWithin (first_home (shape_of sizes.now)) result }
+    requires fits { sectors_of (shape_of sizes.now) ≤ (M.state m.old).size }
+    ensures makes { MakesNext (shape_of sizes.now) stamp (entries_of numbers.now bytes.now) made
+        result (M.state m.old) (M.state m.new) }
+    ensures follows { M.follows m.old m.new }
 {
     let count = numbers.len();
     let early = early(sizes.format, count);
     let written = written_at(early, made);
     if is_flush_due(early, parts(sizes.format, count), made, written) {
-        return Call::Flush;
+        return m.flush();
     }
-    let part = part(sizes.format, stamp, numbers, bytes, written);
-    let first = slot_place(sizes.format, slot_of(stamp, sizes.slots));
-    Call::Write(first + part.offset, part.sector)
+    write_part(m, sizes, stamp, numbers, bytes, written)
+}
+
+// Writes part p of a record. A block is written from the batch, without a copy in a part.
+fn write_part<M: Medium>(
+    m: &mut M,
+    sizes: &Super,
+    stamp: u64,
+    numbers: &[u64],
+    bytes: &[u8],
+    p: usize,
+) -> Result<(), MediumFault>
+    requires record { IsRecord (shape_of sizes.now) stamp numbers.now }
+    requires size { length bytes.now ≡ 512 * length numbers.now }
+    requires inside { p < (layout_of sizes.now.format).parts (length numbers.now) }
+    requires fits { sectors_of (shape_of sizes.now) ≤ (M.state m.old).size }
+    ensures makes { MakesCall (Write (part_at (layout_of sizes.now.format) (shape_of sizes.now)
+        stamp (length numbers.now) p) ((layout_of sizes.now.format).part stamp
+        (entries_of numbers.now bytes.now) p)) result (M.state m.old) (M.state m.new) }
+    ensures follows { M.follows m.old m.new }
+{
+    let slot = slot_of(stamp, sizes.slots);
+    let first = parts(sizes.format, numbers.len()) - 1 - numbers.len();
+    if first <= p && p - first < numbers.len() {
+        let i = p - first;
+        let place = copy_place(sizes.format, slot, i);
+        return write_block(
+            m,
+            sizes.format,
+            stamp,
+            place,
+            &bytes[512 * i..512 * i + 512],
+        );
+    }
+    let part = part(sizes.format, stamp, numbers, bytes, p);
+    m.write(slot_place(sizes.format, slot) + part.offset, &part.sector)
+}
+
+// Writes a block to its data place.
+fn write_block<M: Medium>(
+    m: &mut M,
+    format: LogFormat,
+    stamp: u64,
+    place: u64,
+    block: &[u8],
+) -> Result<(), MediumFault>
+    requires size { length block.now ≡ 512 }
+    requires inside { place < (M.state m.old).size }
+    ensures makes { MakesCall (Write place (placed format stamp block.now)) result
+        (M.state m.old) (M.state m.new) }
+    ensures follows { M.follows m.old m.new }
+{
+    match format {
+        LogFormat::One => {
+            let Ok(sector) = <&[u8; 512]>::try_from(block) else {
+                unreachable!()
+            };
+            m.write(place, sector)
+        }
+        LogFormat::Two => m.write(place, &data_sector2(stamp, block)),
+    }
 }

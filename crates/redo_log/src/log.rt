@@ -6,7 +6,7 @@ ghost use Rattle.std.specs.Prelude.{OnOk, OnErr, IfOk, IfErr, MatchResult, Match
 ghost use Rattle.std.specs.Prelude.{if◌then◌else◌};
 ghost use Rattle.medium.specs.Moments.{EachCut, LeavesOnly, SparesFrom, IsQuiet};
 
-use crate::call::next_call;
+use crate::call::make_next;
 use crate::index::{Copied, drop_slot, enter_record, newest};
 use crate::stage::{steps_for, turns_home};
 use crate::turn::next_turn;
@@ -205,8 +205,7 @@ impl Log {
             unreachable!()
         };
         let stamp = self.head + self.waiting.len() as u64;
-        let call = next_call(&self.sizes, stamp, numbers, bytes, made);
-        if call.make(m).is_err() {
+        if make_next(m, &self.sizes, stamp, numbers, bytes, made).is_err() {
             self.dead = true;
             return Err(LogFault::Medium);
         }

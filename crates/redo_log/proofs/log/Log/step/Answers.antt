@@ -27,10 +27,10 @@ returns-then-is_err-clause-holds g c view holds entries =
     i.dead c.args.self.now c.self.view_is c.requires.live c.self.invariant.ring c.self.invariant.least
     (omega (arith, c.self.invariant.most, many i.waiting.items)) c.args.numbers.now c.args.bytes.now c.in-Some.made c.in-Some.is
     c.requires.numbers c.requires.bytes (i.head + c.len.result) (omega (arith, c.len.ensures, many i.waiting.items))
-    (g.M.Medium.state c.args.m.now) (g.M.Medium.state c.make.new.m) (g.met.M.Medium.sound c.args.m.now) c.next_call-call.result
-    c.make.result c.make.ensures.passes c.next_call-call.ensures.next c.make.ensures.adds view holds
-    (g.met.M.Medium.sound c.make.new.m) in
-    subst (λ (v : LogValue). HoldsView (died v) (g.M.Medium.state c.make.new.m) view) (sym c.self.view_is) dead
+    (g.M.Medium.state c.args.m.now) (g.M.Medium.state c.make_next.new.m) (g.met.M.Medium.sound c.args.m.now) c.make_next.ensures.makes.call
+    c.make_next.result c.make_next.ensures.makes.makes.passes c.make_next.ensures.makes.next c.make_next.ensures.makes.makes.adds view holds
+    (g.met.M.Medium.sound c.make_next.new.m) in
+    subst (λ (v : LogValue). HoldsView (died v) (g.M.Medium.state c.make_next.new.m) view) (sym c.self.view_is) dead
 
 pub returns-then-is_err-clause-cuts : goal.returns-then-is_err-clause-cuts
 returns-then-is_err-clause-cuts g c view holds ours =
@@ -39,18 +39,18 @@ returns-then-is_err-clause-cuts g c view holds ours =
     c.args.self.now c.self.view_is c.requires.live c.self.invariant.ring c.self.invariant.least
     (omega (arith, c.self.invariant.most, many i.waiting.items)) c.args.numbers.now c.args.bytes.now c.in-Some.made c.in-Some.is
     c.requires.numbers c.requires.bytes (i.head + c.len.result) (omega (arith, c.len.ensures, many i.waiting.items))
-    (g.M.Medium.state c.args.m.now) (g.M.Medium.state c.make.new.m) (g.met.M.Medium.sound c.args.m.now) c.next_call-call.result
-    c.make.result c.make.ensures.passes c.next_call-call.ensures.next c.make.ensures.adds view holds ours
+    (g.M.Medium.state c.args.m.now) (g.M.Medium.state c.make_next.new.m) (g.met.M.Medium.sound c.args.m.now) c.make_next.ensures.makes.call
+    c.make_next.result c.make_next.ensures.makes.makes.passes c.make_next.ensures.makes.next c.make_next.ensures.makes.makes.adds view holds ours
 
 pub returns-then-is_err-clause-moments : goal.returns-then-is_err-clause-moments
 returns-then-is_err-clause-moments g c =
-    one_call (λ _. Unit {0}) (g.M.Medium.state c.args.m.now) (g.M.Medium.state c.make.new.m) (g.met.M.Medium.sound c.args.m.now)
-    c.make.ensures.passes (λ image cut. tt) (λ image cut. tt)
+    one_call (λ _. Unit {0}) (g.M.Medium.state c.args.m.now) (g.M.Medium.state c.make_next.new.m) (g.met.M.Medium.sound c.args.m.now)
+    c.make_next.ensures.makes.makes.passes (λ image cut. tt) (λ image cut. tt)
 
 pub returns-then-is_err-clause-spares : goal.returns-then-is_err-clause-spares
 returns-then-is_err-clause-spares g c =
-    call_spares (shape_of c.self.inside.sizes) c.args.self.now (g.M.Medium.state c.args.m.now) (g.M.Medium.state c.make.new.m)
-    (ap (λ (v : LogValue). v.shape) c.self.view_is) c.next_call-call.result c.next_call-call.ensures.inside c.make.ensures.spares
+    call_spares (shape_of c.self.inside.sizes) c.args.self.now (g.M.Medium.state c.args.m.now) (g.M.Medium.state c.make_next.new.m)
+    (ap (λ (v : LogValue). v.shape) c.self.view_is) c.make_next.ensures.makes.call c.make_next.ensures.makes.inside c.make_next.ensures.makes.makes.spares
 
 pub returns-then-made-steps_for-clause-cuts : goal.returns-then-made-steps_for-clause-cuts
 returns-then-made-steps_for-clause-cuts g c view holds ours =
@@ -59,18 +59,18 @@ returns-then-made-steps_for-clause-cuts g c view holds ours =
     c.args.self.now c.self.view_is c.requires.live c.self.invariant.ring c.self.invariant.least
     (omega (arith, c.self.invariant.most, many i.waiting.items)) c.args.numbers.now c.args.bytes.now c.in-Some.made c.in-Some.is
     c.requires.numbers c.requires.bytes (i.head + c.len.result) (omega (arith, c.len.ensures, many i.waiting.items))
-    (g.M.Medium.state c.args.m.now) (g.M.Medium.state c.make.new.m) (g.met.M.Medium.sound c.args.m.now) c.next_call-call.result
-    c.make.result c.make.ensures.passes c.next_call-call.ensures.next c.make.ensures.adds view holds ours
+    (g.M.Medium.state c.args.m.now) (g.M.Medium.state c.make_next.new.m) (g.met.M.Medium.sound c.args.m.now) c.make_next.ensures.makes.call
+    c.make_next.result c.make_next.ensures.makes.makes.passes c.make_next.ensures.makes.next c.make_next.ensures.makes.makes.adds view holds ours
 
 pub returns-then-made-steps_for-clause-moments : goal.returns-then-made-steps_for-clause-moments
 returns-then-made-steps_for-clause-moments g c =
-    one_call (λ _. Unit {0}) (g.M.Medium.state c.args.m.now) (g.M.Medium.state c.make.new.m) (g.met.M.Medium.sound c.args.m.now)
-    c.make.ensures.passes (λ image cut. tt) (λ image cut. tt)
+    one_call (λ _. Unit {0}) (g.M.Medium.state c.args.m.now) (g.M.Medium.state c.make_next.new.m) (g.met.M.Medium.sound c.args.m.now)
+    c.make_next.ensures.makes.makes.passes (λ image cut. tt) (λ image cut. tt)
 
 pub returns-then-made-steps_for-clause-spares : goal.returns-then-made-steps_for-clause-spares
 returns-then-made-steps_for-clause-spares g c =
-    call_spares (shape_of c.self.inside.sizes) c.args.self.now (g.M.Medium.state c.args.m.now) (g.M.Medium.state c.make.new.m)
-    (ap (λ (v : LogValue). v.shape) c.self.view_is) c.next_call-call.result c.next_call-call.ensures.inside c.make.ensures.spares
+    call_spares (shape_of c.self.inside.sizes) c.args.self.now (g.M.Medium.state c.args.m.now) (g.M.Medium.state c.make_next.new.m)
+    (ap (λ (v : LogValue). v.shape) c.self.view_is) c.make_next.ensures.makes.call c.make_next.ensures.makes.inside c.make_next.ensures.makes.makes.spares
 
 pub returns-clause-cuts : goal.returns-clause-cuts
 returns-clause-cuts g c view holds ours =
@@ -79,18 +79,18 @@ returns-clause-cuts g c view holds ours =
     c.args.self.now c.self.view_is c.requires.live c.self.invariant.ring c.self.invariant.least
     (omega (arith, c.self.invariant.most, many i.waiting.items)) c.args.numbers.now c.args.bytes.now c.in-Some.made c.in-Some.is
     c.requires.numbers c.requires.bytes (i.head + c.len.result) (omega (arith, c.len.ensures, many i.waiting.items))
-    (g.M.Medium.state c.args.m.now) (g.M.Medium.state c.make.new.m) (g.met.M.Medium.sound c.args.m.now) c.next_call-call.result
-    c.make.result c.make.ensures.passes c.next_call-call.ensures.next c.make.ensures.adds view holds ours
+    (g.M.Medium.state c.args.m.now) (g.M.Medium.state c.make_next.new.m) (g.met.M.Medium.sound c.args.m.now) c.make_next.ensures.makes.call
+    c.make_next.result c.make_next.ensures.makes.makes.passes c.make_next.ensures.makes.next c.make_next.ensures.makes.makes.adds view holds ours
 
 pub returns-clause-moments : goal.returns-clause-moments
 returns-clause-moments g c =
-    one_call (λ _. Unit {0}) (g.M.Medium.state c.args.m.now) (g.M.Medium.state c.make.new.m) (g.met.M.Medium.sound c.args.m.now)
-    c.make.ensures.passes (λ image cut. tt) (λ image cut. tt)
+    one_call (λ _. Unit {0}) (g.M.Medium.state c.args.m.now) (g.M.Medium.state c.make_next.new.m) (g.met.M.Medium.sound c.args.m.now)
+    c.make_next.ensures.makes.makes.passes (λ image cut. tt) (λ image cut. tt)
 
 pub returns-clause-spares : goal.returns-clause-spares
 returns-clause-spares g c =
-    call_spares (shape_of c.self.inside.sizes) c.args.self.now (g.M.Medium.state c.args.m.now) (g.M.Medium.state c.make.new.m)
-    (ap (λ (v : LogValue). v.shape) c.self.view_is) c.next_call-call.result c.next_call-call.ensures.inside c.make.ensures.spares
+    call_spares (shape_of c.self.inside.sizes) c.args.self.now (g.M.Medium.state c.args.m.now) (g.M.Medium.state c.make_next.new.m)
+    (ap (λ (v : LogValue). v.shape) c.self.view_is) c.make_next.ensures.makes.call c.make_next.ensures.makes.inside c.make_next.ensures.makes.makes.spares
 
 pub returns-then-made-steps_for-clause-holds : goal.returns-then-made-steps_for-clause-holds
 returns-then-made-steps_for-clause-holds g c view holds entries =
@@ -99,9 +99,9 @@ returns-then-made-steps_for-clause-holds g c view holds entries =
     c.args.self.now c.self.view_is c.requires.live c.self.invariant.ring c.self.invariant.least
     (omega (arith, c.self.invariant.most, many i.waiting.items)) c.args.numbers.now c.args.bytes.now c.in-Some.made c.in-Some.is
     c.requires.numbers c.requires.bytes (i.head + c.len.result) (omega (arith, c.len.ensures, many i.waiting.items))
-    (g.M.Medium.state c.args.m.now) (g.M.Medium.state c.make.new.m) (g.met.M.Medium.sound c.args.m.now) c.next_call-call.result
-    c.make.result c.make.ensures.passes c.next_call-call.ensures.next c.make.ensures.adds view holds entries
-    (on_ok_here c.make.result (sym c.is_err.ensures.value ∙ c.if-is_err.false) c.make.ensures.done)
+    (g.M.Medium.state c.args.m.now) (g.M.Medium.state c.make_next.new.m) (g.met.M.Medium.sound c.args.m.now) c.make_next.ensures.makes.call
+    c.make_next.result c.make_next.ensures.makes.makes.passes c.make_next.ensures.makes.next c.make_next.ensures.makes.makes.adds view holds entries
+    (on_ok_here c.make_next.result (sym c.is_err.ensures.value ∙ c.if-is_err.false) c.make_next.ensures.makes.makes.done)
     (omega (arith, c.if-made-steps_for.true, c.steps_for.ensures))
 
 -- the durable records after the last step
@@ -114,16 +114,16 @@ after_is records after old taken is same =
 pub returns-clause-holds : goal.returns-clause-holds
 returns-clause-holds g c view holds entries =
     let i = c.self.inside in
-    let new = g.M.Medium.state c.make.new.m in
+    let new = g.M.Medium.state c.make_next.new.m in
     let waiting = after_is i.waiting.items c.push_back_reserved.new.self.items i.under_way c.take.result c.push_back_reserved.ensures.items
     c.take.ensures.value in
     let after = step_durable (shape_of i.sizes) (sizes_sized i.sizes) i.head (lists_of i.waiting.items) i.turned i.kept i.under_way.items
     i.made i.dead c.args.self.now c.self.view_is c.requires.live c.self.invariant.ring c.self.invariant.least
     (omega (arith, c.self.invariant.most, many i.waiting.items)) c.args.numbers.now c.args.bytes.now c.in-Some.made c.in-Some.is
     c.requires.numbers c.requires.bytes (i.head + c.len.result) (omega (arith, c.len.ensures, many i.waiting.items))
-    (g.M.Medium.state c.args.m.now) (g.M.Medium.state c.make.new.m) (g.met.M.Medium.sound c.args.m.now) c.next_call-call.result
-    c.make.result c.make.ensures.passes c.next_call-call.ensures.next c.make.ensures.adds view holds entries
-    (on_ok_here c.make.result (sym c.is_err.ensures.value ∙ c.if-is_err.false) c.make.ensures.done)
+    (g.M.Medium.state c.args.m.now) (g.M.Medium.state c.make_next.new.m) (g.met.M.Medium.sound c.args.m.now) c.make_next.ensures.makes.call
+    c.make_next.result c.make_next.ensures.makes.makes.passes c.make_next.ensures.makes.next c.make_next.ensures.makes.makes.adds view holds entries
+    (on_ok_here c.make_next.result (sym c.is_err.ensures.value ∙ c.if-is_err.false) c.make_next.ensures.makes.makes.done)
     (omega (arith, c.if-made-steps_for.false, c.steps_for.ensures)) in
     subst
     (λ (l : List ℕ). HoldsView
@@ -141,9 +141,9 @@ returns-clause-durable g c view holds entries ours answers =
     c.args.self.now c.self.view_is c.requires.live c.self.invariant.ring c.self.invariant.least
     (omega (arith, c.self.invariant.most, many i.waiting.items)) c.args.numbers.now c.args.bytes.now c.in-Some.made c.in-Some.is
     c.requires.numbers c.requires.bytes (i.head + c.len.result) (omega (arith, c.len.ensures, many i.waiting.items))
-    (g.M.Medium.state c.args.m.now) (g.M.Medium.state c.make.new.m) (g.met.M.Medium.sound c.args.m.now) c.next_call-call.result
-    c.make.result c.make.ensures.passes c.next_call-call.ensures.next c.make.ensures.adds view holds entries
-    (on_ok_here c.make.result (sym c.is_err.ensures.value ∙ c.if-is_err.false) c.make.ensures.done)
+    (g.M.Medium.state c.args.m.now) (g.M.Medium.state c.make_next.new.m) (g.met.M.Medium.sound c.args.m.now) c.make_next.ensures.makes.call
+    c.make_next.result c.make_next.ensures.makes.makes.passes c.make_next.ensures.makes.next c.make_next.ensures.makes.makes.adds view holds entries
+    (on_ok_here c.make_next.result (sym c.is_err.ensures.value ∙ c.if-is_err.false) c.make_next.ensures.makes.makes.done)
     (omega (arith, c.if-made-steps_for.false, c.steps_for.ensures)) ours
 
 pub invariant_of-self-2 : goal.invariant_of-self-2
