@@ -1,5 +1,7 @@
 //! How blocks are read.
-ghost use Rattle.std.specs.Prelude.{◌≡◌, ◌<◌, ◌+◌, ◌*◌, ◌/◌, false, length, OnOk, IfErr, OnErr};
+ghost use Rattle.std.specs.Prelude.{◌≡◌, ◌<◌, ◌+◌, ◌*◌, ◌/◌, ◌^◌, ◌≤◌, false, None, [], IsTrue, length, OnOk, IfErr, OnErr};
+ghost use Rattle.cache.specs.Blocks.{unlisted};
+ghost use Rattle.cache.specs.Entries.{map_of};
 ghost use Rattle.cache.specs.Places.{HasPlace};
 ghost use Rattle.medium.specs.declared.fault.MediumFault.TheVariants as medium_fault;
 ghost use Rattle.blocks.specs.Book.{Book, IsTransfer, array_of, blocks_at};
@@ -37,9 +39,13 @@ impl<M: Medium> Store<M> {
         if self.log.is_dead() {
             return Err(StoreFault::Dead);
         }
+        let count = to.len() / BLOCK;
+        if self.are_at_home(address, count) {
+            return self.read_home(address, to);
+        }
         let mut active = self.active.place_of(address);
         let mut frozen = self.frozen.place_of(address);
-        for i in 0..to.len() / BLOCK {
+        for i in 0..count {
             let (block, at) = (address + i as u64, i * BLOCK);
             self.read_block(block, &mut active, &mut frozen, &mut to[at..at + BLOCK])?;
         }
@@ -86,6 +92,77 @@ impl<M: Medium> Store<M> {
             Ok(()) => Ok(()),
             Err(_) => Err(StoreFault::ReadFault),
         }
+    }
+
+    // Whether so many blocks from the address on are at home alone: no batch has one of them, and no
+    // record waits to be retired.
+    #[inline]
+    fn are_at_home(&self, address: u64, count: usize) -> bool
+        requires { address + count ≤ 2 ^ 31 }
+        ensures active { IsTrue result
+            → unlisted self.now.cached.active.numbers address count ≡ count }
+        ensures frozen { IsTrue result
+            → unlisted self.now.cached.frozen.numbers address count ≡ count }
+        ensures log { IsTrue result → self.now.cached.log.waiting ≡ [] }
+    {
+        self.log.is_retired()
+            && self.active.lacks(address, count)
+            && self.frozen.lacks(address, count)
+    }
+
+    // Reads blocks that are at home alone.
+    fn read_home(&mut self, address: u64, to: &mut [u8]) -> Result<(), StoreFault>
+        requires live { is_dead self.old.cached ≡ false }
+        requires range { IsTransfer (transfer_limit self.old.cached) (blocks_of self.old.cached)
+            address (length to.old) }
+        requires active { unlisted self.old.cached.active.numbers address (length to.old / 512)
+            ≡ length to.old / 512 }
+        requires frozen { unlisted self.old.cached.frozen.numbers address (length to.old / 512)
+            ≡ length to.old / 512 }
+        requires log { self.old.cached.log.waiting ≡ [] }
+        requires small { address + length to.old / 512 ≤ 2 ^ 31 }
+        ensures ok { (book : Book) → FitsBook (M.state self.old.medium) self.old.cached book
+            → OnOk result (to.new ≡ blocks_at (array_of book) address (length to.old / 512)) }
+        ensures err { IfErr result (λ fault. IsReadCause (M.state self.old.medium)
+            (M.state self.new.medium) self.old.cached fault) }
+        ensures keeps { KeepsStore M.state M.follows self.old self.new }
+        ensures turn { IsTurn (M.state self.old.medium) (M.state self.new.medium)
+            self.old.cached self.new.cached }
+        ensures cost { CostsReads result (2 * (length to.old / 512))
+            (reads_of self.old.cached address (length to.old / 512))
+            (M.state self.old.medium) (M.state self.new.medium) }
+    {
+        for i in 0..to.len() / BLOCK {
+            let at = i * BLOCK;
+            self.read_home_block(address + i as u64, &mut to[at..at + BLOCK])?;
+        }
+        Ok(())
+    }
+
+    // Reads one block that is at home alone.
+    #[inline]
+    fn read_home_block(&mut self, block: u64, to: &mut [u8]) -> Result<(), StoreFault>
+        requires live { is_dead self.old.cached ≡ false }
+        requires inside { block < blocks_of self.old.cached }
+        requires active { map_of self.old.cached.active block ≡ None }
+        requires frozen { map_of self.old.cached.frozen block ≡ None }
+        requires log { self.old.cached.log.waiting ≡ [] }
+        requires size { length to.old ≡ 512 }
+        ensures ok { (book : Book) → FitsBook (M.state self.old.medium) self.old.cached book
+            → OnOk result (to.new ≡ array_of book block) }
+        ensures err { IfErr result (λ fault. IsReadCause (M.state self.old.medium)
+            (M.state self.new.medium) self.old.cached fault) }
+        ensures keeps { KeepsStore M.state M.follows self.old self.new }
+        ensures cost { CostsReads result 2 (block_reads self.old.cached block)
+            (M.state self.old.medium) (M.state self.new.medium) }
+    {
+        let Some(to) = to.as_mut_array() else {
+            unreachable!()
+        };
+        let Ok(()) = self.medium.read(self.sizes.home_of(block), to) else {
+            return Err(StoreFault::ReadFault);
+        };
+        Ok(())
     }
 
     // Reads the newest logged copy of a block, or the block at home where there is none.

@@ -95,6 +95,16 @@ impl Batch {
         self.parts.get(block)
     }
 
+    /// Whether none of so many blocks from the address on is there. The range ends at 2^31 or before.
+    #[inline]
+    pub fn lacks(&self, address: u64, count: usize) -> bool
+        requires { address + count ≤ 2 ^ 31 }
+        ensures { IsTrue result ↔ (unlisted self.now.numbers address count ≡ count) }
+    {
+        let entries = self.parts.index.entries();
+        place_of(entries, address) == place_of(entries, address + count as u64)
+    }
+
     /// The place of a block's number among those that rise, or the one where it would stand.
     #[inline]
     pub fn place_of(&self, block: u64) -> usize

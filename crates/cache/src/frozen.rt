@@ -1,6 +1,7 @@
 //! A batch whose blocks lie in the order of their numbers.
-ghost use Rattle.std.specs.Prelude.{◌≡◌, ◌↔◌, ◌+◌, [], length, Some, None};
+ghost use Rattle.std.specs.Prelude.{◌≡◌, ◌↔◌, ◌+◌, ◌^◌, ◌≤◌, [], length, Some, None};
 ghost use Rattle.std.specs.Prelude.{IsTrue, IfOk, IfSome, IsNone};
+ghost use Rattle.cache.specs.Blocks.{unlisted};
 ghost use Rattle.cache.specs.Entries.{IsWellFormed, map_of};
 ghost use Rattle.cache.specs.Places.{HasPlace};
 ghost use Rattle.cache.specs.View.{view_of, IsKept, IsArranged};
@@ -75,6 +76,16 @@ impl Frozen {
         ensures none { IsNone result ↔ (map_of self.now block ≡ None) }
     {
         self.parts.get(block)
+    }
+
+    /// Whether none of so many blocks from the address on is there. The range ends at 2^31 or before.
+    #[inline]
+    pub fn lacks(&self, address: u64, count: usize) -> bool
+        requires { address + count ≤ 2 ^ 31 }
+        ensures { IsTrue result ↔ (unlisted self.now.numbers address count ≡ count) }
+    {
+        let entries = self.parts.index.entries();
+        place_of(entries, address) == place_of(entries, address + count as u64)
     }
 
     /// The place of a block's number among those that rise, or the one where it would stand.

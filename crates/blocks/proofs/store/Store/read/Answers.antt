@@ -17,6 +17,18 @@ overflow_add-block g c =
     let same = ap (λ v. v.cached.log.shape.blocks) c.self.view_is in
     omega (arith, blocks, same, c.self.inside.sizes.most_blocks, c.requires.inside, c.loop-i-test.true)
 
+pub are_at_home-requires : goal.are_at_home-requires
+are_at_home-requires g c =
+    let blocks = ap (λ (s : Shape). s.blocks) c.self.invariant.shape in
+    let same = ap (λ v. v.cached.log.shape.blocks) c.self.view_is in
+    omega (arith, blocks, same, c.self.inside.sizes.most_blocks, c.requires.inside)
+
+pub read_home-requires-clause-small : goal.read_home-requires-clause-small
+read_home-requires-clause-small g c =
+    let blocks = ap (λ (s : Shape). s.blocks) c.self.invariant.shape in
+    let same = ap (λ v. v.cached.log.shape.blocks) c.self.view_is in
+    omega (arith, blocks, same, c.self.inside.sizes.most_blocks, c.requires.inside)
+
 pub returns-then-is_dead-clause-turn : goal.returns-then-is_dead-clause-turn
 returns-then-is_dead-clause-turn g c =
     let m = g.M.Medium.state c.args.self.now.medium in

@@ -1,0 +1,17 @@
+use Rattle.std.proofs.Common.{◌≡◌, ◌≤◌, ◌+◌, ◌*◌, take}
+use Rattle.medium.specs.Moments.{IsQuiet}
+use Rattle.blocks.specs.Book.{Book, array_of, blocks_at}
+use Rattle.blocks.specs.StoreValue.{FitsBook}
+use Rattle.blocks.specs.Calls.{reads_of}
+use Rattle.blocks.proofs.store.Store.read_home.Given as goal
+
+abbrev pub invariant-loop-i : goal.invariant-loop-i
+invariant-loop-i g l = record {
+  stays : l.self.cached ≡ l.fn.self.cached;
+  quiet : IsQuiet (g.M.Medium.state l.fn.self.medium) (g.M.Medium.state l.self.medium);
+  calls : (g.M.Medium.state l.self.medium).calls ≤ (g.M.Medium.state l.fn.self.medium).calls + 2 * l.i;
+  reads : (g.M.Medium.state l.self.medium).calls ≡ (g.M.Medium.state l.fn.self.medium).calls + reads_of l.fn.self.cached l.address l.i;
+  follows : g.M.Medium.follows l.fn.self.medium l.self.medium;
+  so_far : (book : Book) → FitsBook (g.M.Medium.state l.fn.self.medium) l.fn.self.cached book
+      → take (512 * l.i) l.to ≡ blocks_at (array_of book) l.address l.i;
+}
