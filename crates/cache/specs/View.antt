@@ -20,7 +20,7 @@ pub record IsKept (parts : Parts) : Type 0 where
   pub within : length (numbers_of (entries_of parts.index)) ≤ parts.room
   pub centred : IsCentred parts.index parts.room
   pub reserved_numbers : parts.room ≤ vec_capacity parts.numbers
-  -- a place has no more than 16 bits
+  -- a batch has room for no more blocks than this
   pub narrow : parts.room ≤ 2 ^ 16
   pub whole_row : length parts.row.items ≡ parts.room
 

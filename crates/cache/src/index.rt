@@ -66,7 +66,7 @@ impl Index {
         ensures wide { length self.new.cells.items ≡ length self.old.cells.items }
     {
         let count = self.end - self.start;
-        if at < count / 2 {
+        if at < count - at {
             insert_down(&mut self.cells, self.start, self.end, at, entry);
             self.start -= 1;
         } else {

@@ -15,7 +15,7 @@ use crate::index::Index;
 use crate::place::place_of;
 use std::alloc::Global;
 
-// A place in the row has no more than 16 bits.
+// A batch has room for no more blocks than this.
 const MOST_ROOM: usize = 65_536;
 
 // The numbers of a batch, and their blocks.
