@@ -1,5 +1,6 @@
 //! How blocks are read.
-ghost use Rattle.std.specs.Prelude.{◌≡◌, ◌<◌, ◌+◌, ◌*◌, ◌/◌, ◌^◌, ◌≤◌, false, None, [], IsTrue, length, OnOk, IfErr, OnErr};
+ghost use Rattle.std.specs.Prelude.{◌≡◌, ◌<◌, ◌+◌, ◌*◌, ◌/◌, ◌^◌, ◌≤◌};
+ghost use Rattle.std.specs.Prelude.{false, None, [], IsTrue, length, OnOk, IfErr, OnErr};
 ghost use Rattle.cache.specs.Blocks.{unlisted};
 ghost use Rattle.cache.specs.Entries.{map_of};
 ghost use Rattle.cache.specs.Places.{HasPlace};
@@ -94,8 +95,8 @@ impl<M: Medium> Store<M> {
         }
     }
 
-    // Whether so many blocks from the address on are at home alone: no batch has one of them, and no
-    // record waits to be retired.
+    // Whether so many blocks from the address on are at home alone: no batch has one of them, and
+    // no record waits to be retired.
     #[inline]
     fn are_at_home(&self, address: u64, count: usize) -> bool
         requires { address + count ≤ 2 ^ 31 }

@@ -78,7 +78,8 @@ impl Frozen {
         self.parts.get(block)
     }
 
-    /// Whether none of so many blocks from the address on is there. The range ends at 2^31 or before.
+    /// Whether none of so many blocks from the address on is there. The range ends at 2^31 or
+    /// before.
     #[inline]
     pub fn lacks(&self, address: u64, count: usize) -> bool
         requires { address + count ≤ 2 ^ 31 }
@@ -96,8 +97,8 @@ impl Frozen {
         place_of(self.parts.index.entries(), block)
     }
 
-    /// The 512 bytes of a block, where it is there. Its place is known, and becomes that of the next
-    /// block, so that one search does for a range.
+    /// The 512 bytes of a block, where it is there. Its place is known, and becomes that of the
+    /// next block, so that one search does for a range.
     #[inline]
     pub fn get_at(&self, place: &mut usize, block: u64) -> Option<&[u8]>
         requires { HasPlace self.now.numbers block place.old }

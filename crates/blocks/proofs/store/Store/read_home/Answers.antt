@@ -42,7 +42,8 @@ nothing : (o : Option (List ℕ)) → is_some o ≡ false → o ≡ None
 nothing None none = refl
 nothing (Some x) none = absurd (false≢true (sym none))
 
-none_at : (batch : Entries) (address count i : ℕ) → unlisted batch.numbers address count ≡ count → i < count → map_of batch (address + i) ≡ None
+none_at : (batch : Entries) (address count i : ℕ) → unlisted batch.numbers address count ≡ count → i < count
+    → map_of batch (address + i) ≡ None
 none_at batch address count i all lt =
     nothing (map_of batch (address + i))
     (sym (listed_is batch.numbers batch.bytes (address + i)) ∙ unlisted_at batch.numbers address count i all lt)
@@ -50,12 +51,14 @@ none_at batch address count i all lt =
 pub read_home_block-requires-clause-active : goal.read_home_block-requires-clause-active
 read_home_block-requires-clause-active g c =
     subst (λ (s : Cached). map_of s.active (c.args.address + c.loop-i.i) ≡ None) (sym c.loop-i.invariant.stays)
-    (none_at c.args.self.now.cached.active c.args.address (length c.args.to.now / 512) c.loop-i.i c.requires.active (omega (arith, c.loop-i-test.true)))
+    (none_at c.args.self.now.cached.active c.args.address (length c.args.to.now / 512) c.loop-i.i
+    c.requires.active (omega (arith, c.loop-i-test.true)))
 
 pub read_home_block-requires-clause-frozen : goal.read_home_block-requires-clause-frozen
 read_home_block-requires-clause-frozen g c =
     subst (λ (s : Cached). map_of s.frozen (c.args.address + c.loop-i.i) ≡ None) (sym c.loop-i.invariant.stays)
-    (none_at c.args.self.now.cached.frozen c.args.address (length c.args.to.now / 512) c.loop-i.i c.requires.frozen (omega (arith, c.loop-i-test.true)))
+    (none_at c.args.self.now.cached.frozen c.args.address (length c.args.to.now / 512) c.loop-i.i
+    c.requires.frozen (omega (arith, c.loop-i-test.true)))
 
 pub returns-in_err-read_home_block-clause-turn : goal.returns-in_err-read_home_block-clause-turn
 returns-in_err-read_home_block-clause-turn g c =

@@ -22,7 +22,8 @@ pub returns-clause-ok : goal.returns-clause-ok
 returns-clause-ok g c book fits =
     let s = c.args.self.now.cached in
     let m = g.M.Medium.state c.args.self.now.medium in
-    let home = home_is s.log m fits.view fits.holds c.requires.live c.args.block c.requires.inside (no_copy s.log c.args.block c.requires.log) in
+    let home = home_is s.log m fits.view fits.holds c.requires.live c.args.block c.requires.inside
+    (no_copy s.log c.args.block c.requires.log) in
     let first = ap (λ (s : Shape). first_home s) c.self.invariant.shape in
     let same = ap (λ v. first_home v.cached.log.shape) c.self.view_is in
     let place : c.home_of.result ≡ first_home c.args.self.now.cached.log.shape + c.args.block =
