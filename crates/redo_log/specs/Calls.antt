@@ -1,5 +1,6 @@
 -- The calls of a medium that write a record and retire it.
-use Rattle.std.specs.Prelude.{◌≡◌, ◌⊎◌, ℕ, ◌<◌, ◌≤◌, List, length, Result, OnOk}
+use Rattle.std.specs.Prelude.{◌≡◌, ◌⊎◌, ℕ, ◌+◌, ◌<◌, ◌≤◌, List, length, Result, OnOk, is_ok}
+use Rattle.std.specs.Prelude.{if◌then◌else◌}
 use Rattle.medium.specs.Medium.{State, Sets, Stays, Holds, Within, Gains, Only, Passes}
 use Rattle.medium.specs.Moments.{StaysWithin, SparesFrom}
 use Rattle.medium.specs.declared.fault.MediumFault.{MediumFault}
@@ -91,3 +92,10 @@ gaining place bytes sets s c = sets s c ⊎ ((s ≡ place) × (c ≡ bytes))
 pub record WritesOnly (place : ℕ) (bytes : List ℕ) (old new : State) : Type 0 where
   pub moments : StaysWithin (gaining place bytes old.may_leave) old new
   pub sets : Gains place bytes old.may_leave new.may_leave
+
+-- calls of a medium, so many at most: none is refused but the last one, which they answer
+pub record CallsUpTo {X E : Type 0} (most : ℕ) (result : Result X E) (old new : State)
+    : Type 0 where
+  pub calls : new.calls ≤ old.calls + most
+  pub failures : new.failures ≡ (if is_ok result then old.failures else old.failures + 1)
+  pub size : new.size ≡ old.size

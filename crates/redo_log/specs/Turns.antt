@@ -1,8 +1,9 @@
 -- The turns that retire a durable record.
 use Rattle.std.specs.Prelude.{◌≡◌, ℕ, ◌+◌, ◌*◌, ◌/◌, ◌%◌, ◌<◌, List, [], ◌∷◌, ◌++◌, length, drop}
-use Rattle.std.specs.Prelude.{slice_index, slice_range, Option, Some, None}
+use Rattle.std.specs.Prelude.{slice_index, slice_range, Option, Some, None, Result, OnOk}
 use Rattle.medium.specs.Medium.{State, Stays, Holds, Only}
-use Rattle.medium.specs.Moments.{IsQuiet}
+use Rattle.medium.specs.Moments.{IsQuiet, SparesFrom}
+use Rattle.medium.specs.declared.fault.MediumFault.{MediumFault}
 use Rattle.log_layout.specs.declared.log_format.LogFormat.{LogFormat}
 use Rattle.log_layout.specs.declared.log_format.LogFormat.TheVariants.{One, Two}
 use Rattle.log_layout.specs.Places.{Shape, first_home, first_data_of}
@@ -46,6 +47,13 @@ IsTurned (Copy from to first) old new =
 IsTurned Flush old new = Stays old.content new.content × Only old.content new.may_leave
 IsTurned (Head head) old new = Holds 1 (head_bytes head.stamp) old.content new.content
     × Only new.content new.may_leave
+
+-- the turn is made, or one of its calls is refused: a write goes to its own sector alone
+pub record MakesTurn (turn : Turn) (result : Result (Unit {0}) MediumFault) (old new : State)
+    : Type 0 where
+  pub done : OnOk result (IsTurned turn old new)
+  pub adds : MayTurn turn old new
+  pub spares : (first : ℕ) → IsInside first turn → SparesFrom first old new
 
 -- which bytes are kept after it
 abbrev pub kept_by : Turn → State → List ℕ → List ℕ

@@ -9,8 +9,8 @@ ghost use Rattle.log_image.specs.Layout.{slot_at};
 ghost use Rattle.log_image.specs.Formats.{layout_of};
 ghost use Rattle.redo_log.specs.Value.{turns_home};
 ghost use Rattle.redo_log.specs.Stages.{IsRecord};
-ghost use Rattle.redo_log.specs.Calls.{WritesOnly};
-ghost use Rattle.redo_log.specs.Turns.{begun_with, kept_by, IsInside, IsTurned, MayTurn};
+ghost use Rattle.redo_log.specs.Calls.{CallsUpTo, WritesOnly};
+ghost use Rattle.redo_log.specs.Turns.{begun_with, kept_by, IsInside, MakesTurn};
 ghost use Rattle.redo_log.specs.Turns.{IsCopyOf, IsHomeTurn, IsNextTurn};
 
 use crate::stage::turns_home;
@@ -33,16 +33,10 @@ pub(crate) enum Turn {
 impl Turn {
     pub(crate) fn make<M: Medium>(&self, m: &mut M, kept: &mut [u8; 512]) -> Result<(), MediumFault>
         requires { IsInside (M.state m.old).size self.now }
-        ensures done { OnOk result (IsTurned self.now (M.state m.old) (M.state m.new)) }
+        ensures makes { MakesTurn self.now result (M.state m.old) (M.state m.new) }
         ensures keeps { kept.new
             ≡ (if is_ok result then kept_by self.now (M.state m.old) kept.old else kept.old) }
-        ensures adds { MayTurn self.now (M.state m.old) (M.state m.new) }
-        ensures calls { (M.state m.new).calls ≤ (M.state m.old).calls + 2 }
-        ensures failures { (M.state m.new).failures
-            ≡ (if is_ok result then (M.state m.old).failures else (M.state m.old).failures + 1) }
-        ensures size { (M.state m.new).size ≡ (M.state m.old).size }
-        ensures spares { (first : ℕ) → IsInside first self.now
-            → SparesFrom first (M.state m.old) (M.state m.new) }
+        ensures counts { CallsUpTo 2 result (M.state m.old) (M.state m.new) }
         ensures follows { M.follows m.old m.new }
     {
         match self {
@@ -72,9 +66,7 @@ fn copy_sector<M: Medium>(
         (M.state m.old).content (M.state m.new).content) }
     ensures adds { WritesOnly to (begun_with first.now ((M.state m.old).content from))
         (M.state m.old) (M.state m.new) }
-    ensures calls { (M.state m.new).calls ≤ (M.state m.old).calls + 2 }
-    ensures failures { (M.state m.new).failures
-        ≡ (if is_ok result then (M.state m.old).failures else (M.state m.old).failures + 1) }
+    ensures counts { CallsUpTo 2 result (M.state m.old) (M.state m.new) }
     ensures spares { (first : ℕ) → to < first
         → SparesFrom first (M.state m.old) (M.state m.new) }
     ensures follows { M.follows m.old m.new }
@@ -101,9 +93,7 @@ fn write_through<M: Medium>(m: &mut M, place: u64, sector: &[u8; 512]) -> Result
         (Holds place sector.now (M.state m.old).content (M.state m.new).content
         × Only (M.state m.new).content (M.state m.new).may_leave) }
     ensures adds { WritesOnly place sector.now (M.state m.old) (M.state m.new) }
-    ensures calls { (M.state m.new).calls ≤ (M.state m.old).calls + 2 }
-    ensures failures { (M.state m.new).failures
-        ≡ (if is_ok result then (M.state m.old).failures else (M.state m.old).failures + 1) }
+    ensures counts { CallsUpTo 2 result (M.state m.old) (M.state m.new) }
     ensures spares { (first : ℕ) → place < first
         → SparesFrom first (M.state m.old) (M.state m.new) }
     ensures follows { M.follows m.old m.new }

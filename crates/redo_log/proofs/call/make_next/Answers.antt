@@ -88,7 +88,8 @@ returns-clause-makes g c =
           ap (λ (x : ℕ). L.part c.args.stamp E x) w_is,
         ),
       );
-      inside = before_home shape (sizes_sized c.args.sizes.now) c.args.stamp (L.offset (length c.args.numbers.now) c.written_at-written.result)
+      inside = before_home shape (sizes_sized c.args.sizes.now) c.args.stamp
+          (L.offset (length c.args.numbers.now) c.written_at-written.result)
           ((laws_of c.args.sizes.now.format).inside (length c.args.numbers.now) c.written_at-written.result
           (omega (arith, few, most_is c.args.sizes.now.format)) small);
       makes = c.write_part.ensures.makes;

@@ -58,7 +58,7 @@ returns-then-is_err-clause-holds g c view holds =
     i.dead c.args.self.now c.self.view_is c.requires.live c.self.invariant.ring c.self.invariant.least
     (omega (arith, c.self.invariant.most, many i.waiting.items)) c.as_slice-numbers.result.now (lists_of (drop 1 i.waiting.items)) waits
     (g.M.Medium.state c.args.m.now) (g.M.Medium.state c.make.new.m) (g.met.M.Medium.sound c.args.m.now) c.next_turn-turn.result
-    c.next_turn-turn.ensures.next c.make.ensures.adds view holds c.make.ensures.size (g.met.M.Medium.sound c.make.new.m) in
+    c.next_turn-turn.ensures.next c.make.ensures.makes.adds view holds c.make.ensures.counts.size (g.met.M.Medium.sound c.make.new.m) in
     let keeps = kept_is _ false c.make.new.kept (kept_by c.next_turn-turn.result (g.M.Medium.state c.args.m.now) i.kept) i.kept
     c.make.ensures.keeps (err_here c.make.result (sym c.is_err.ensures.value ∙ c.if-is_err.true)) in
     subst
@@ -77,17 +77,17 @@ returns-then-is_err-clause-cuts g c view holds ours =
     c.args.self.now c.self.view_is c.requires.live c.self.invariant.ring c.self.invariant.least
     (omega (arith, c.self.invariant.most, many i.waiting.items)) c.as_slice-numbers.result.now (lists_of (drop 1 i.waiting.items)) waits
     (g.M.Medium.state c.args.m.now) (g.M.Medium.state c.make.new.m) (g.met.M.Medium.sound c.args.m.now) c.next_turn-turn.result
-    c.next_turn-turn.ensures.next c.make.ensures.adds view holds ours
+    c.next_turn-turn.ensures.next c.make.ensures.makes.adds view holds ours
 
 pub returns-then-is_err-clause-moments : goal.returns-then-is_err-clause-moments
 returns-then-is_err-clause-moments g c =
     turn_moments c.next_turn-turn.result (g.M.Medium.state c.args.m.now) (g.M.Medium.state c.make.new.m) (g.met.M.Medium.sound c.args.m.now)
-    c.make.ensures.adds
+    c.make.ensures.makes.adds
 
 pub returns-then-is_err-clause-spares : goal.returns-then-is_err-clause-spares
 returns-then-is_err-clause-spares g c =
     turn_spares (shape_of c.self.inside.sizes) c.args.self.now (g.M.Medium.state c.args.m.now) (g.M.Medium.state c.make.new.m)
-    (ap (λ (v : LogValue). v.shape) c.self.view_is) c.next_turn-turn.result c.next_turn-turn.ensures.inside c.make.ensures.spares
+    (ap (λ (v : LogValue). v.shape) c.self.view_is) c.next_turn-turn.result c.next_turn-turn.ensures.inside c.make.ensures.makes.spares
 
 pub returns-then-self-home-clause-cuts : goal.returns-then-self-home-clause-cuts
 returns-then-self-home-clause-cuts g c view holds ours =
@@ -99,17 +99,17 @@ returns-then-self-home-clause-cuts g c view holds ours =
     c.args.self.now c.self.view_is c.requires.live c.self.invariant.ring c.self.invariant.least
     (omega (arith, c.self.invariant.most, many i.waiting.items)) c.as_slice-numbers.result.now (lists_of (drop 1 i.waiting.items)) waits
     (g.M.Medium.state c.args.m.now) (g.M.Medium.state c.make.new.m) (g.met.M.Medium.sound c.args.m.now) c.next_turn-turn.result
-    c.next_turn-turn.ensures.next c.make.ensures.adds view holds ours
+    c.next_turn-turn.ensures.next c.make.ensures.makes.adds view holds ours
 
 pub returns-then-self-home-clause-moments : goal.returns-then-self-home-clause-moments
 returns-then-self-home-clause-moments g c =
     turn_moments c.next_turn-turn.result (g.M.Medium.state c.args.m.now) (g.M.Medium.state c.make.new.m) (g.met.M.Medium.sound c.args.m.now)
-    c.make.ensures.adds
+    c.make.ensures.makes.adds
 
 pub returns-then-self-home-clause-spares : goal.returns-then-self-home-clause-spares
 returns-then-self-home-clause-spares g c =
     turn_spares (shape_of c.self.inside.sizes) c.args.self.now (g.M.Medium.state c.args.m.now) (g.M.Medium.state c.make.new.m)
-    (ap (λ (v : LogValue). v.shape) c.self.view_is) c.next_turn-turn.result c.next_turn-turn.ensures.inside c.make.ensures.spares
+    (ap (λ (v : LogValue). v.shape) c.self.view_is) c.next_turn-turn.result c.next_turn-turn.ensures.inside c.make.ensures.makes.spares
 
 pub returns-clause-cuts : goal.returns-clause-cuts
 returns-clause-cuts g c view holds ours =
@@ -121,17 +121,17 @@ returns-clause-cuts g c view holds ours =
     c.args.self.now c.self.view_is c.requires.live c.self.invariant.ring c.self.invariant.least
     (omega (arith, c.self.invariant.most, many i.waiting.items)) c.as_slice-numbers.result.now (lists_of (drop 1 i.waiting.items)) waits
     (g.M.Medium.state c.args.m.now) (g.M.Medium.state c.make.new.m) (g.met.M.Medium.sound c.args.m.now) c.next_turn-turn.result
-    c.next_turn-turn.ensures.next c.make.ensures.adds view holds ours
+    c.next_turn-turn.ensures.next c.make.ensures.makes.adds view holds ours
 
 pub returns-clause-moments : goal.returns-clause-moments
 returns-clause-moments g c =
     turn_moments c.next_turn-turn.result (g.M.Medium.state c.args.m.now) (g.M.Medium.state c.make.new.m) (g.met.M.Medium.sound c.args.m.now)
-    c.make.ensures.adds
+    c.make.ensures.makes.adds
 
 pub returns-clause-spares : goal.returns-clause-spares
 returns-clause-spares g c =
     turn_spares (shape_of c.self.inside.sizes) c.args.self.now (g.M.Medium.state c.args.m.now) (g.M.Medium.state c.make.new.m)
-    (ap (λ (v : LogValue). v.shape) c.self.view_is) c.next_turn-turn.result c.next_turn-turn.ensures.inside c.make.ensures.spares
+    (ap (λ (v : LogValue). v.shape) c.self.view_is) c.next_turn-turn.result c.next_turn-turn.ensures.inside c.make.ensures.makes.spares
 
 pub returns-then-self-home-clause-holds : goal.returns-then-self-home-clause-holds
 returns-then-self-home-clause-holds g c view holds =
@@ -147,8 +147,8 @@ returns-then-self-home-clause-holds g c view holds =
     c.args.self.now c.self.view_is c.requires.live c.self.invariant.ring c.self.invariant.least
     (omega (arith, c.self.invariant.most, many i.waiting.items)) c.as_slice-numbers.result.now (lists_of (drop 1 i.waiting.items)) waits
     (g.M.Medium.state c.args.m.now) (g.M.Medium.state c.make.new.m) (g.met.M.Medium.sound c.args.m.now) c.next_turn-turn.result
-    c.next_turn-turn.ensures.next c.make.ensures.adds view holds c.make.ensures.size
-    (on_ok_here c.make.result (sym c.is_err.ensures.value ∙ c.if-is_err.false) c.make.ensures.done) c.make.new.kept
+    c.next_turn-turn.ensures.next c.make.ensures.makes.adds view holds c.make.ensures.counts.size
+    (on_ok_here c.make.result (sym c.is_err.ensures.value ∙ c.if-is_err.false) c.make.ensures.makes.done) c.make.new.kept
     (kept_is _ true c.make.new.kept (kept_by c.next_turn-turn.result (g.M.Medium.state c.args.m.now) i.kept) i.kept c.make.ensures.keeps
     (ok_here c.make.result (sym c.is_err.ensures.value ∙ c.if-is_err.false)))
     (omega (arith, c.if-self-home.true, home))
@@ -228,8 +228,8 @@ returns-clause-holds g c view holds =
     c.args.self.now c.self.view_is c.requires.live c.self.invariant.ring c.self.invariant.least
     (omega (arith, c.self.invariant.most, many i.waiting.items)) c.as_slice-numbers.result.now (lists_of (drop 1 i.waiting.items)) waits
     (g.M.Medium.state c.args.m.now) (g.M.Medium.state c.make.new.m) (g.met.M.Medium.sound c.args.m.now) c.next_turn-turn.result
-    c.next_turn-turn.ensures.next c.make.ensures.adds view holds c.make.ensures.size
-    (on_ok_here c.make.result (sym c.is_err.ensures.value ∙ c.if-is_err.false) c.make.ensures.done) c.make.new.kept
+    c.next_turn-turn.ensures.next c.make.ensures.makes.adds view holds c.make.ensures.counts.size
+    (on_ok_here c.make.result (sym c.is_err.ensures.value ∙ c.if-is_err.false) c.make.ensures.makes.done) c.make.new.kept
     (kept_is _ true c.make.new.kept (kept_by c.next_turn-turn.result (g.M.Medium.state c.args.m.now) i.kept) i.kept c.make.ensures.keeps
     (ok_here c.make.result (sym c.is_err.ensures.value ∙ c.if-is_err.false)))
     (lists_of c.pop_front.new.self.items) (omega (arith, c.if-self-home.false, home))

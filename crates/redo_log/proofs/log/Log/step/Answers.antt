@@ -28,7 +28,8 @@ returns-then-is_err-clause-holds g c view holds entries =
     (omega (arith, c.self.invariant.most, many i.waiting.items)) c.args.numbers.now c.args.bytes.now c.in-Some.made c.in-Some.is
     c.requires.numbers c.requires.bytes (i.head + c.len.result) (omega (arith, c.len.ensures, many i.waiting.items))
     (g.M.Medium.state c.args.m.now) (g.M.Medium.state c.make_next.new.m) (g.met.M.Medium.sound c.args.m.now) c.make_next.ensures.makes.call
-    c.make_next.result c.make_next.ensures.makes.makes.passes c.make_next.ensures.makes.next c.make_next.ensures.makes.makes.adds view holds
+    c.make_next.result c.make_next.ensures.makes.makes.passes c.make_next.ensures.makes.next c.make_next.ensures.makes.makes.adds
+    view holds
     (g.met.M.Medium.sound c.make_next.new.m) in
     subst (λ (v : LogValue). HoldsView (died v) (g.M.Medium.state c.make_next.new.m) view) (sym c.self.view_is) dead
 
@@ -40,7 +41,8 @@ returns-then-is_err-clause-cuts g c view holds ours =
     (omega (arith, c.self.invariant.most, many i.waiting.items)) c.args.numbers.now c.args.bytes.now c.in-Some.made c.in-Some.is
     c.requires.numbers c.requires.bytes (i.head + c.len.result) (omega (arith, c.len.ensures, many i.waiting.items))
     (g.M.Medium.state c.args.m.now) (g.M.Medium.state c.make_next.new.m) (g.met.M.Medium.sound c.args.m.now) c.make_next.ensures.makes.call
-    c.make_next.result c.make_next.ensures.makes.makes.passes c.make_next.ensures.makes.next c.make_next.ensures.makes.makes.adds view holds ours
+    c.make_next.result c.make_next.ensures.makes.makes.passes c.make_next.ensures.makes.next c.make_next.ensures.makes.makes.adds
+    view holds ours
 
 pub returns-then-is_err-clause-moments : goal.returns-then-is_err-clause-moments
 returns-then-is_err-clause-moments g c =
@@ -50,7 +52,8 @@ returns-then-is_err-clause-moments g c =
 pub returns-then-is_err-clause-spares : goal.returns-then-is_err-clause-spares
 returns-then-is_err-clause-spares g c =
     call_spares (shape_of c.self.inside.sizes) c.args.self.now (g.M.Medium.state c.args.m.now) (g.M.Medium.state c.make_next.new.m)
-    (ap (λ (v : LogValue). v.shape) c.self.view_is) c.make_next.ensures.makes.call c.make_next.ensures.makes.inside c.make_next.ensures.makes.makes.spares
+    (ap (λ (v : LogValue). v.shape) c.self.view_is) c.make_next.ensures.makes.call c.make_next.ensures.makes.inside
+    c.make_next.ensures.makes.makes.spares
 
 pub returns-then-made-steps_for-clause-cuts : goal.returns-then-made-steps_for-clause-cuts
 returns-then-made-steps_for-clause-cuts g c view holds ours =
@@ -60,7 +63,8 @@ returns-then-made-steps_for-clause-cuts g c view holds ours =
     (omega (arith, c.self.invariant.most, many i.waiting.items)) c.args.numbers.now c.args.bytes.now c.in-Some.made c.in-Some.is
     c.requires.numbers c.requires.bytes (i.head + c.len.result) (omega (arith, c.len.ensures, many i.waiting.items))
     (g.M.Medium.state c.args.m.now) (g.M.Medium.state c.make_next.new.m) (g.met.M.Medium.sound c.args.m.now) c.make_next.ensures.makes.call
-    c.make_next.result c.make_next.ensures.makes.makes.passes c.make_next.ensures.makes.next c.make_next.ensures.makes.makes.adds view holds ours
+    c.make_next.result c.make_next.ensures.makes.makes.passes c.make_next.ensures.makes.next c.make_next.ensures.makes.makes.adds
+    view holds ours
 
 pub returns-then-made-steps_for-clause-moments : goal.returns-then-made-steps_for-clause-moments
 returns-then-made-steps_for-clause-moments g c =
@@ -70,7 +74,8 @@ returns-then-made-steps_for-clause-moments g c =
 pub returns-then-made-steps_for-clause-spares : goal.returns-then-made-steps_for-clause-spares
 returns-then-made-steps_for-clause-spares g c =
     call_spares (shape_of c.self.inside.sizes) c.args.self.now (g.M.Medium.state c.args.m.now) (g.M.Medium.state c.make_next.new.m)
-    (ap (λ (v : LogValue). v.shape) c.self.view_is) c.make_next.ensures.makes.call c.make_next.ensures.makes.inside c.make_next.ensures.makes.makes.spares
+    (ap (λ (v : LogValue). v.shape) c.self.view_is) c.make_next.ensures.makes.call c.make_next.ensures.makes.inside
+    c.make_next.ensures.makes.makes.spares
 
 pub returns-clause-cuts : goal.returns-clause-cuts
 returns-clause-cuts g c view holds ours =
@@ -80,7 +85,8 @@ returns-clause-cuts g c view holds ours =
     (omega (arith, c.self.invariant.most, many i.waiting.items)) c.args.numbers.now c.args.bytes.now c.in-Some.made c.in-Some.is
     c.requires.numbers c.requires.bytes (i.head + c.len.result) (omega (arith, c.len.ensures, many i.waiting.items))
     (g.M.Medium.state c.args.m.now) (g.M.Medium.state c.make_next.new.m) (g.met.M.Medium.sound c.args.m.now) c.make_next.ensures.makes.call
-    c.make_next.result c.make_next.ensures.makes.makes.passes c.make_next.ensures.makes.next c.make_next.ensures.makes.makes.adds view holds ours
+    c.make_next.result c.make_next.ensures.makes.makes.passes c.make_next.ensures.makes.next c.make_next.ensures.makes.makes.adds
+    view holds ours
 
 pub returns-clause-moments : goal.returns-clause-moments
 returns-clause-moments g c =
@@ -90,7 +96,8 @@ returns-clause-moments g c =
 pub returns-clause-spares : goal.returns-clause-spares
 returns-clause-spares g c =
     call_spares (shape_of c.self.inside.sizes) c.args.self.now (g.M.Medium.state c.args.m.now) (g.M.Medium.state c.make_next.new.m)
-    (ap (λ (v : LogValue). v.shape) c.self.view_is) c.make_next.ensures.makes.call c.make_next.ensures.makes.inside c.make_next.ensures.makes.makes.spares
+    (ap (λ (v : LogValue). v.shape) c.self.view_is) c.make_next.ensures.makes.call c.make_next.ensures.makes.inside
+    c.make_next.ensures.makes.makes.spares
 
 pub returns-then-made-steps_for-clause-holds : goal.returns-then-made-steps_for-clause-holds
 returns-then-made-steps_for-clause-holds g c view holds entries =
@@ -100,7 +107,8 @@ returns-then-made-steps_for-clause-holds g c view holds entries =
     (omega (arith, c.self.invariant.most, many i.waiting.items)) c.args.numbers.now c.args.bytes.now c.in-Some.made c.in-Some.is
     c.requires.numbers c.requires.bytes (i.head + c.len.result) (omega (arith, c.len.ensures, many i.waiting.items))
     (g.M.Medium.state c.args.m.now) (g.M.Medium.state c.make_next.new.m) (g.met.M.Medium.sound c.args.m.now) c.make_next.ensures.makes.call
-    c.make_next.result c.make_next.ensures.makes.makes.passes c.make_next.ensures.makes.next c.make_next.ensures.makes.makes.adds view holds entries
+    c.make_next.result c.make_next.ensures.makes.makes.passes c.make_next.ensures.makes.next c.make_next.ensures.makes.makes.adds
+    view holds entries
     (on_ok_here c.make_next.result (sym c.is_err.ensures.value ∙ c.if-is_err.false) c.make_next.ensures.makes.makes.done)
     (omega (arith, c.if-made-steps_for.true, c.steps_for.ensures))
 
@@ -122,7 +130,8 @@ returns-clause-holds g c view holds entries =
     (omega (arith, c.self.invariant.most, many i.waiting.items)) c.args.numbers.now c.args.bytes.now c.in-Some.made c.in-Some.is
     c.requires.numbers c.requires.bytes (i.head + c.len.result) (omega (arith, c.len.ensures, many i.waiting.items))
     (g.M.Medium.state c.args.m.now) (g.M.Medium.state c.make_next.new.m) (g.met.M.Medium.sound c.args.m.now) c.make_next.ensures.makes.call
-    c.make_next.result c.make_next.ensures.makes.makes.passes c.make_next.ensures.makes.next c.make_next.ensures.makes.makes.adds view holds entries
+    c.make_next.result c.make_next.ensures.makes.makes.passes c.make_next.ensures.makes.next c.make_next.ensures.makes.makes.adds
+    view holds entries
     (on_ok_here c.make_next.result (sym c.is_err.ensures.value ∙ c.if-is_err.false) c.make_next.ensures.makes.makes.done)
     (omega (arith, c.if-made-steps_for.false, c.steps_for.ensures)) in
     subst
@@ -142,7 +151,8 @@ returns-clause-durable g c view holds entries ours answers =
     (omega (arith, c.self.invariant.most, many i.waiting.items)) c.args.numbers.now c.args.bytes.now c.in-Some.made c.in-Some.is
     c.requires.numbers c.requires.bytes (i.head + c.len.result) (omega (arith, c.len.ensures, many i.waiting.items))
     (g.M.Medium.state c.args.m.now) (g.M.Medium.state c.make_next.new.m) (g.met.M.Medium.sound c.args.m.now) c.make_next.ensures.makes.call
-    c.make_next.result c.make_next.ensures.makes.makes.passes c.make_next.ensures.makes.next c.make_next.ensures.makes.makes.adds view holds entries
+    c.make_next.result c.make_next.ensures.makes.makes.passes c.make_next.ensures.makes.next c.make_next.ensures.makes.makes.adds
+    view holds entries
     (on_ok_here c.make_next.result (sym c.is_err.ensures.value ∙ c.if-is_err.false) c.make_next.ensures.makes.makes.done)
     (omega (arith, c.if-made-steps_for.false, c.steps_for.ensures)) ours
 
