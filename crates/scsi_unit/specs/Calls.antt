@@ -1,6 +1,6 @@
 -- How many calls of the medium a command makes at most: what its calls of the store add up to.
-use Rattle.std.specs.Prelude.{ℕ, ◌+◌, ◌*◌, ◌≤◌, ◌||◌, not, Bool, List, Result, Ok, Err}
-use Rattle.std.specs.Prelude.{if◌then◌else◌}
+use Rattle.std.specs.Prelude.{◌≡◌, ℕ, ◌+◌, ◌*◌, ◌≤◌, ◌||◌, not, Bool, List, Result, Ok, Err}
+use Rattle.std.specs.Prelude.{IfOk, if◌then◌else◌}
 use Rattle.medium.specs.Medium.{State}
 use Rattle.blocks.specs.StoreValue.{Cached, slots_of, batch_steps, steps_left}
 -- handed on to the layers above: for each block that no batch has, one call from home, and from
@@ -13,6 +13,8 @@ use Rattle.cdb.specs.declared.command.Transfer.{Transfer}
 use Rattle.scsi_unit.specs.Rules.{moves_blocks, forces_reading, clears, selected_by}
 use Rattle.scsi_unit.specs.UnitValue.{UnitValue, unit_limit}
 use Rattle.scsi_unit.specs.Serving.{command_for}
+use Rattle.scsi_unit.specs.declared.intent.Intent.{Intent}
+use Rattle.scsi_unit.specs.declared.intent.Intent.TheVariants as intent
 
 -- making all accepted writes durable: two for each step that is left
 abbrev pub calls_of_sync : Cached → ℕ
@@ -67,3 +69,14 @@ most_calls_of slots limit = 2 * (slots + 5) * (2 * limit + 16) + 2 * limit
 -- the most that any command of a unit makes, whatever the unit holds
 abbrev pub most_calls : {M : Type 0} → UnitValue M → ℕ
 most_calls unit = most_calls_of (slots_of unit.store.cached) (unit_limit unit)
+
+-- The calls of a command block: no more than its command makes, nor than any makes.
+pub record MakesFew {M : Type 0} (before after : State) (block taken : List ℕ) (old : UnitValue M)
+    : Type 0 where
+  pub bounded : IsBounded before after block taken old
+  pub few : after.calls ≤ before.calls + most_calls old
+
+-- How many bytes a command sends: as many as it is meant to, and no more than a transfer has.
+pub record SendsAsMeant (intention : Intent) (limit : ℕ) (result : Result ℕ Sense) : Type 0 where
+  pub sent : (n : ℕ) → intention ≡ intent.In n → IfOk result (λ sent. sent ≡ n)
+  pub most : IfOk result (λ sent. sent ≤ 512 * limit)

@@ -125,6 +125,14 @@ pub record StaysFaulted : Type 0 where
   pub tick : (refused : Bool) (old new : UnitState) → old.faulted ≡ true → Ticks refused old new
       → new ≡ old
 
+-- what holds of every command
+pub record AreCommandLaws : Type 0 where
+  pub function : IsFunction
+  pub intentions : KeepsIntentions
+  pub writes : KeepsWrites
+  pub are_writes : WritesAreWrites
+  pub faults : StaysFaulted
+
 -- a step in the background may fault the unit, and changes nothing else
 pub record TicksOnly : Type 0 where
   pub others : (refused : Bool) (old new : UnitState) → Ticks refused old new

@@ -10,3 +10,4 @@ pub mod Laws
 pub mod Serving
 pub mod Calls
 pub mod Performing
+pub mod StoreCalls

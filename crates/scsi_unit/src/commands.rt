@@ -12,7 +12,7 @@ ghost use Rattle.scsi_unit.specs.Capacity.{capacity_10, capacity_16};
 ghost use Rattle.scsi_unit.specs.Rules.{needs_medium, moves};
 ghost use Rattle.scsi_unit.specs.UnitValue.{unit_limit, intention_of, answer_of};
 ghost use Rattle.scsi_unit.specs.Serving.{command_for};
-ghost use Rattle.scsi_unit.specs.Calls.{calls_of, calls_after, most_calls};
+ghost use Rattle.scsi_unit.specs.Calls.{calls_of, MakesFew, SendsAsMeant};
 ghost use Rattle.scsi_unit.specs.Performing.{Performs, Spares};
 
 use crate::Unit;
@@ -74,15 +74,10 @@ impl<M: Medium> Unit<M> {
             (answer_of result out.new) self.new }
         ensures spares { Spares (command_for self.old block.now) taken.now self.old
             (answer_of result out.new) self.new }
-        ensures bounded { (M.state self.new.store.medium).calls
-            ≤ (M.state self.old.store.medium).calls
-            + calls_after (command_for self.old block.now) taken.now self.old.write_cache
-            self.old.store.cached }
-        ensures few { (M.state self.new.store.medium).calls
-            ≤ (M.state self.old.store.medium).calls + most_calls self.old }
-        ensures sent { (n : ℕ) → intention_of self.old block.now ≡ intent.In n
-            → IfOk result (λ sent. sent ≡ n) }
-        ensures most { IfOk result (λ sent. sent ≤ 512 * unit_limit self.old) }
+        ensures calls { MakesFew (M.state self.old.store.medium)
+            (M.state self.new.store.medium) block.now taken.now self.old }
+        ensures sends { SendsAsMeant (intention_of self.old block.now) (unit_limit self.old)
+            result }
         ensures follows { M.follows self.old.store.medium self.new.store.medium }
     {
         let command = self.command(block)?;
@@ -104,8 +99,7 @@ impl<M: Medium> Unit<M> {
         ensures bounded { (M.state self.new.store.medium).calls
             ≤ (M.state self.old.store.medium).calls
             + calls_of command taken.now self.old.write_cache self.old.store.cached }
-        ensures sent { (n : ℕ) → moves command ≡ intent.In n → IfOk result (λ sent. sent ≡ n) }
-        ensures most { IfOk result (λ sent. sent ≤ 512 * unit_limit self.old) }
+        ensures sends { SendsAsMeant (moves command) (unit_limit self.old) result }
         ensures follows { M.follows self.old.store.medium self.new.store.medium }
     {
         match command {

@@ -11,7 +11,7 @@ ghost use Rattle.scsi_unit.specs.UnitValue.{unit_limit, state_of, intention_of, 
 ghost use Rattle.scsi_unit.specs.UnitValue.{FitsUnit};
 ghost use Rattle.blocks.specs.Limit.{HasLimit};
 ghost use Rattle.scsi_unit.specs.Serving.{Serves, IsSparing, TicksOver};
-ghost use Rattle.scsi_unit.specs.Calls.{IsBounded, most_calls};
+ghost use Rattle.scsi_unit.specs.Calls.{MakesFew, SendsAsMeant};
 ghost use Rattle.scsi_unit.specs.Performing.{settled_kept};
 
 use crate::Intent;
@@ -108,13 +108,10 @@ impl<M: Medium> Unit<M> {
             block.now taken.now self.old (answer_of result out.new) self.new }
         ensures sparing { IsSparing block.now taken.now self.old
             (answer_of result out.new) self.new }
-        ensures bounded { IsBounded (M.state self.old.store.medium)
+        ensures calls { MakesFew (M.state self.old.store.medium)
             (M.state self.new.store.medium) block.now taken.now self.old }
-        ensures few { (M.state self.new.store.medium).calls
-            ≤ (M.state self.old.store.medium).calls + most_calls self.old }
-        ensures sent { (n : ℕ) → intention_of self.old block.now ≡ Intent.In n
-            → IfOk result (λ sent. sent ≡ n) }
-        ensures most { IfOk result (λ sent. sent ≤ 512 * unit_limit self.old) }
+        ensures sends { SendsAsMeant (intention_of self.old block.now) (unit_limit self.old)
+            result }
         ensures follows { M.follows self.old.store.medium self.new.store.medium }
     {
         let answer = self.perform_block(block, taken, out);

@@ -19,10 +19,10 @@ returns-in-Ok-clause-carried_out g c = λ taken left book fits.
       answer = Ok (take c.in-Ok.size out);
       effect = line.1;
       moved = λ n intended.
-          let size = rw c.as_slice.ensures.value at c.in-Ok.ensures.sent in
-          omega (arith, size n (c.requires.sends n intended), c.in-Ok.ensures.most, length-take c.in-Ok.size out);
+          let size = rw c.as_slice.ensures.value at c.in-Ok.ensures.sends.sent in
+          omega (arith, size n (c.requires.sends n intended), c.in-Ok.ensures.sends.most, length-take c.in-Ok.size out);
       after = rw (c.size_sent-size.ensures.is, ← sent_in-size _ (some_bytes c.args.wire.now.size) c.args.exchange.now.case c.in-Ok.size out)
-          at (c.tell.ensures.line taken out left (omega (arith, c.in-Ok.ensures.most)));
+          at (c.tell.ensures.line taken out left (omega (arith, c.in-Ok.ensures.sends.most)));
     })
     line.2 (ours_stay _ _ _ _ _ _ line.1)
     (rw c.as_slice.ensures.value at (c.in-Ok.ensures.serves.cuts book fits))
@@ -32,15 +32,15 @@ returns-in-Ok-clause-spares g c =
     let out = c.carry_out.new.out in (
       Ok (take c.in-Ok.size out),
       rw c.as_slice.ensures.value at c.in-Ok.ensures.sparing,
-      rw c.as_slice.ensures.value at c.in-Ok.ensures.bounded,
+      rw c.as_slice.ensures.value at c.in-Ok.ensures.calls.bounded,
       (λ taken. tells (Ok (take c.in-Ok.size out)) _ _ _ _ _ (line_with c.args.wire.now finished)
-          (c.tell.ensures.line taken out finished (omega (arith, c.in-Ok.ensures.most)))),
+          (c.tell.ensures.line taken out finished (omega (arith, c.in-Ok.ensures.sends.most)))),
     )
 
 pub returns-in-Ok-clause-phase : goal.returns-in-Ok-clause-phase
 returns-in-Ok-clause-phase g c =
     let stays = c.in-Ok.ensures.serves.limit_stays in
-    c.tell.ensures.phase _ _ (omega (arith, stays, c.in-Ok.ensures.most))
+    c.tell.ensures.phase _ _ (omega (arith, stays, c.in-Ok.ensures.sends.most))
 
 pub returns-in-Err-clause-carried_out : goal.returns-in-Err-clause-carried_out
 returns-in-Err-clause-carried_out g c = λ taken left book fits.
@@ -61,7 +61,7 @@ returns-in-Err-clause-spares g c =
     let out = c.carry_out.new.out in (
       Err c.in-Err.field-0,
       rw c.as_slice.ensures.value at c.in-Err.ensures.sparing,
-      rw c.as_slice.ensures.value at c.in-Err.ensures.bounded,
+      rw c.as_slice.ensures.value at c.in-Err.ensures.calls.bounded,
       (λ taken. tells (Err c.in-Err.field-0) _ _ _ _ _ (line_with c.args.wire.now finished)
           (c.tell-in-Err.ensures.line taken out finished (omega arith))),
     )

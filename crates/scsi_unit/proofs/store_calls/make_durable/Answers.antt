@@ -1,7 +1,28 @@
+use Rattle.std.proofs.Common.{◌≡◌, ◌≤◌, ◌+◌, ℕ, Bool, false, Ok, refl, sym, subst, arith}
+use Rattle.medium.specs.Medium.{State, IsSound}
+use Rattle.blocks.specs.StoreValue.{Cached, is_dead}
+use Rattle.blocks.specs.Turns.{IsTurn}
 use Rattle.blocks.proofs.Turning.{stays}
+use Rattle.scsi_unit.specs.StoreCalls.{MakesDurable}
 use Rattle.scsi_unit.proofs.store_calls.make_durable.Goals as goal
 
-pub returns-else-wanted-clause-turn : goal.returns-else-wanted-clause-turn
-returns-else-wanted-clause-turn g c =
+no_more : (calls : ℕ) → calls ≤ calls + 0
+no_more calls = omega arith
+
+-- where it is not wanted, nothing is done
+not_wanted : (m : State) (s : Cached) → IsTurn m m s s → is_dead s ≡ false → MakesDurable false m m s s (Ok tt)
+not_wanted m s turn live = record {
+  turn = turn;
+  ok = λ book fits. fits;
+  answer = live;
+  active = refl;
+  log = refl;
+  calls = no_more m.calls;
+}
+
+pub returns-else-wanted-clause-makes : goal.returns-else-wanted-clause-makes
+returns-else-wanted-clause-makes g c =
     let store = c.args.store.now in
-    stays (g.M.Medium.state store.medium) store.cached (g.met.M.Medium.sound store.medium)
+    let m = g.M.Medium.state store.medium in
+    subst (λ (wanted : Bool). MakesDurable wanted m m store.cached store.cached (Ok tt)) (sym c.if-wanted.false)
+    (not_wanted m store.cached (stays m store.cached (g.met.M.Medium.sound store.medium)) c.requires.live)

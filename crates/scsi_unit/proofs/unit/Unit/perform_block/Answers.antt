@@ -30,15 +30,21 @@ perform-requires-clause-taken g c n out =
     (intention_of_command (blocks_of unit.store.cached) (unit_limit unit) unit.kept.attention (is_dead unit.store.cached)
     c.args.block.now c.in_ok-command.command (sym c.command.ensures.value ∙ c.in_ok-command.was) ∙ out)
 
-pub returns-clause-sent : goal.returns-clause-sent
-returns-clause-sent g c n is_in =
+pub returns-clause-sends : goal.returns-clause-sends
+returns-clause-sends g c =
     let unit = c.args.self.now in
-    c.perform.ensures.sent n
-    (sym (intention_of_command (blocks_of unit.store.cached) (unit_limit unit) unit.kept.attention (is_dead unit.store.cached)
-    c.args.block.now c.in_ok-command.command (sym c.command.ensures.value ∙ c.in_ok-command.was)) ∙ is_in)
+    record {
+      sent = λ n is_in. c.perform.ensures.sends.sent n
+          (sym (intention_of_command (blocks_of unit.store.cached) (unit_limit unit) unit.kept.attention (is_dead unit.store.cached)
+          c.args.block.now c.in_ok-command.command (sym c.command.ensures.value ∙ c.in_ok-command.was)) ∙ is_in);
+      most = c.perform.ensures.sends.most;
+    }
 
-pub returns-clause-few : goal.returns-clause-few
-returns-clause-few g c =
+pub returns-clause-calls : goal.returns-clause-calls
+returns-clause-calls g c =
     let unit = c.args.self.now in
-    told_few c.command.result c.in_ok-command.command c.args.taken.now unit.write_cache unit.store.cached _ _ (most_calls unit)
-    c.in_ok-command.was (c.command.ensures.few c.args.taken.now) c.perform.ensures.bounded
+    record {
+      bounded = record { most = rw (sym c.command.ensures.value ∙ c.in_ok-command.was) c.perform.ensures.bounded };
+      few = told_few c.command.result c.in_ok-command.command c.args.taken.now unit.write_cache unit.store.cached _ _ (most_calls unit)
+          c.in_ok-command.was (c.command.ensures.few c.args.taken.now) c.perform.ensures.bounded;
+    }

@@ -28,8 +28,8 @@ returns-in_err-make_durable-clause-performs g c taken =
     u (answer_of c.from_residual.result c.args.out.now) (record seen { store = last }) in
     subst P c.self.view_is
     (rw (p.1, p.2)
-    (durable_error (state i.store.medium) (state last.medium) seen last c.make_durable.ensures.turn c.args.transfer.fua
-    c.make_durable.result sense c.in_err-make_durable.was c.make_durable.ensures.unwanted c.make_durable.ensures.answer live
+    (durable_error (state i.store.medium) (state last.medium) seen last c.make_durable.ensures.makes.turn c.args.transfer.fua
+    c.make_durable.result sense c.in_err-make_durable.was c.make_durable.ensures.unwanted c.make_durable.ensures.makes.answer live
     (command.Read10 c.args.transfer) taken refl
     (forces_as c.args.transfer (moves_some c.args.transfer c.if-transfer-eq0.false))))
 
@@ -45,10 +45,10 @@ returns-clause-performs g c taken =
     let P = λ (u : UnitValue g.row.M.Denot). Performs (state u.store.medium) (state last.medium) (Ok (command.Read10 c.args.transfer)) taken
     u (answer_of c.read_blocks.result c.read_blocks.new.out) (record seen { store = last }) in
     subst P c.self.view_is
-    (reads_blocks_of (state i.store.medium) (state half.medium) (state last.medium) seen half last live c.make_durable.ensures.turn
-    c.read_blocks.ensures.turn c.args.transfer.fua c.make_durable.result c.in_ok-make_durable.field-0 c.in_ok-make_durable.was
-    c.make_durable.ensures.ok c.make_durable.ensures.answer c.read_blocks.ensures.stays c.args.transfer taken moves refl
-    c.read_blocks.result c.read_blocks.new.out c.read_blocks.ensures.ok c.read_blocks.ensures.sent c.read_blocks.ensures.err)
+    (reads_blocks_of (state i.store.medium) (state half.medium) (state last.medium) seen half last live c.make_durable.ensures.makes.turn
+    c.read_blocks.ensures.reads.turn c.args.transfer.fua c.make_durable.result c.in_ok-make_durable.field-0 c.in_ok-make_durable.was
+    c.make_durable.ensures.makes.ok c.make_durable.ensures.makes.answer c.read_blocks.ensures.reads.stays c.args.transfer taken moves refl
+    c.read_blocks.result c.read_blocks.new.out c.read_blocks.ensures.reads.ok c.read_blocks.ensures.sent c.read_blocks.ensures.reads.err)
 
 pub returns-in_err-make_durable-clause-bounded : goal.returns-in_err-make_durable-clause-bounded
 returns-in_err-make_durable-clause-bounded g c =
@@ -59,7 +59,7 @@ returns-in_err-make_durable-clause-bounded g c =
     (state last.medium).calls ≤ (state u.store.medium).calls + calls_of_read c.args.transfer u.store.cached in
     subst P c.self.view_is
     (read_stops c.args.transfer i.store.cached (state i.store.medium).calls (state last.medium).calls
-    (moves_some c.args.transfer c.if-transfer-eq0.false) c.make_durable.ensures.calls)
+    (moves_some c.args.transfer c.if-transfer-eq0.false) c.make_durable.ensures.makes.calls)
 
 pub returns-clause-bounded : goal.returns-clause-bounded
 returns-clause-bounded g c =
@@ -71,6 +71,6 @@ returns-clause-bounded g c =
     (state last.medium).calls ≤ (state u.store.medium).calls + calls_of_read c.args.transfer u.store.cached in
     subst P c.self.view_is
     (read_ends c.args.transfer i.store.cached half.cached (state i.store.medium).calls (state half.medium).calls
-    (state last.medium).calls (moves_some c.args.transfer c.if-transfer-eq0.false) c.make_durable.ensures.calls
+    (state last.medium).calls (moves_some c.args.transfer c.if-transfer-eq0.false) c.make_durable.ensures.makes.calls
     (λ plain. ap (λ (s : StoreValue g.row.M.Denot). s.cached) (c.make_durable.ensures.unwanted plain).0)
-    c.make_durable.ensures.turn.goes_on.layout_stays c.read_blocks.ensures.calls)
+    c.make_durable.ensures.makes.turn.goes_on.layout_stays c.read_blocks.ensures.reads.calls)

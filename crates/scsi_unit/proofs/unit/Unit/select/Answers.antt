@@ -47,9 +47,9 @@ returns-in_err-make_durable-clause-performs g c =
     c.args.taken.now u (silent c.from_residual-in_err-make_durable.result) (record seen { store = last }) in
     subst P c.self.view_is
     (rw (p.1, p.2)
-    (durable_error (state i.store.medium) (state last.medium) seen last c.make_durable.ensures.turn c.if-self.clears
+    (durable_error (state i.store.medium) (state last.medium) seen last c.make_durable.ensures.makes.turn c.if-self.clears
     c.make_durable.result c.in_err-make_durable.field-0.0 c.in_err-make_durable.was c.make_durable.ensures.unwanted
-    c.make_durable.ensures.answer live (command.ModeSelect c.args.list_len) c.args.taken.now refl
+    c.make_durable.ensures.makes.answer live (command.ModeSelect c.args.list_len) c.args.taken.now refl
     (clears_as c.args.list_len c.args.taken.now i.write_cache c.in_ok-enabled.enabled chosen ∙ sym wanted)))
 
 pub returns-clause-performs : goal.returns-clause-performs
@@ -71,13 +71,13 @@ returns-clause-performs g c =
     let promises = subst
     (λ (b : Bool). (book : Book) → FitsBook (state i.store.medium) i.store.cached book
     → OnOk c.make_durable.result (FitsBook (state last.medium) last.cached (if b then promised book else book)))
-    wanted c.make_durable.ensures.ok in
+    wanted c.make_durable.ensures.makes.ok in
     let P = λ (u : UnitValue g.row.M.Denot). Performs (state u.store.medium) (state last.medium) (Ok (command.ModeSelect c.args.list_len))
     c.args.taken.now u (Ok []) (record seen { store = last; write_cache = enabled }) in
     subst P c.self.view_is
-    (selects_bit (state i.store.medium) (state last.medium) seen last c.make_durable.ensures.turn live c.args.list_len c.args.taken.now
+    (selects_bit (state i.store.medium) (state last.medium) seen last c.make_durable.ensures.makes.turn live c.args.list_len c.args.taken.now
     enabled chosen c.make_durable.result c.in_ok-make_durable.field-0 c.in_ok-make_durable.was promises
-    c.make_durable.ensures.answer)
+    c.make_durable.ensures.makes.answer)
 
 pub returns-in_err-make_durable-clause-bounded : goal.returns-in_err-make_durable-clause-bounded
 returns-in_err-make_durable-clause-bounded g c =
@@ -97,7 +97,7 @@ returns-in_err-make_durable-clause-bounded g c =
     subst P c.self.view_is
     (select_calls c.args.list_len c.args.taken.now i.write_cache i.store.cached (state i.store.medium).calls (state last.medium).calls
     c.if-self.clears (clears_as c.args.list_len c.args.taken.now i.write_cache c.in_ok-enabled.enabled chosen ∙ sym wanted)
-    c.make_durable.ensures.calls)
+    c.make_durable.ensures.makes.calls)
 
 pub returns-clause-bounded : goal.returns-clause-bounded
 returns-clause-bounded g c =
@@ -117,4 +117,4 @@ returns-clause-bounded g c =
     subst P c.self.view_is
     (select_calls c.args.list_len c.args.taken.now i.write_cache i.store.cached (state i.store.medium).calls (state last.medium).calls
     c.if-self.clears (clears_as c.args.list_len c.args.taken.now i.write_cache c.in_ok-enabled.enabled chosen ∙ sym wanted)
-    c.make_durable.ensures.calls)
+    c.make_durable.ensures.makes.calls)

@@ -16,5 +16,5 @@ returns-clause-performs g c range taken =
     let P = λ (u : UnitValue g.row.M.Denot). Performs (state u.store.medium) (state last.medium) (Ok (command.SynchronizeCache10 range))
     taken u (silent c.make_durable.result) (record seen { store = last }) in
     subst P c.self.view_is
-    (synchronizes (state i.store.medium) (state last.medium) seen last c.make_durable.ensures.turn live c.make_durable.result
-    c.make_durable.ensures.ok c.make_durable.ensures.answer range taken)
+    (synchronizes (state i.store.medium) (state last.medium) seen last c.make_durable.ensures.makes.turn live c.make_durable.result
+    c.make_durable.ensures.makes.ok c.make_durable.ensures.makes.answer range taken)

@@ -33,7 +33,7 @@ returns-in_err-write_blocks-clause-performs g c =
     (rw (p.1, p.2)
     (write_refused (state i.store.medium) (state last.medium) seen last c.args.transfer c.args.taken.now
     (moves_some c.args.transfer c.if-transfer-eq0.false) live c.write_blocks.result c.in_err-write_blocks.field-0.0
-    c.in_err-write_blocks.was c.write_blocks.ensures.turn c.write_blocks.ensures.answer))
+    c.in_err-write_blocks.was c.write_blocks.ensures.writes.turn c.write_blocks.ensures.writes.answer))
 
 pub returns-clause-performs : goal.returns-clause-performs
 returns-clause-performs g c =
@@ -50,14 +50,14 @@ returns-clause-performs g c =
     let promises = subst
     (λ (b : Bool). (book : Book) → FitsBook (state half.medium) half.cached book
     → OnOk c.make_durable.result (FitsBook (state last.medium) last.cached (if b then promised book else book)))
-    wanted c.make_durable.ensures.ok in
+    wanted c.make_durable.ensures.makes.ok in
     let P = λ (u : UnitValue g.row.M.Denot). Performs (state u.store.medium) (state last.medium) (Ok (command.Write10 c.args.transfer))
     c.args.taken.now u (silent c.make_durable.result) (record seen { store = last }) in
     subst P c.self.view_is
     (writes_blocks (state i.store.medium) (state half.medium) (state last.medium) seen half last c.args.transfer c.args.taken.now
     (moves_some c.args.transfer c.if-transfer-eq0.false) live c.write_blocks.result c.in_ok-write_blocks.field-0
-    c.in_ok-write_blocks.was c.write_blocks.ensures.turn c.write_blocks.ensures.answer c.make_durable.ensures.turn
-    c.make_durable.result promises c.make_durable.ensures.answer)
+    c.in_ok-write_blocks.was c.write_blocks.ensures.writes.turn c.write_blocks.ensures.writes.answer c.make_durable.ensures.makes.turn
+    c.make_durable.result promises c.make_durable.ensures.makes.answer)
 
 pub returns-in_err-write_blocks-clause-bounded : goal.returns-in_err-write_blocks-clause-bounded
 returns-in_err-write_blocks-clause-bounded g c =
@@ -68,7 +68,7 @@ returns-in_err-write_blocks-clause-bounded g c =
     (state last.medium).calls ≤ (state u.store.medium).calls + calls_of_write c.args.transfer u.write_cache u.store.cached in
     subst P c.self.view_is
     (write_stops c.args.transfer i.write_cache i.store.cached (state i.store.medium).calls (state last.medium).calls
-    (moves_some c.args.transfer c.if-transfer-eq0.false) c.write_blocks.ensures.calls)
+    (moves_some c.args.transfer c.if-transfer-eq0.false) c.write_blocks.ensures.writes.calls)
 
 pub returns-clause-bounded : goal.returns-clause-bounded
 returns-clause-bounded g c =
@@ -80,11 +80,11 @@ returns-clause-bounded g c =
       | then-transfer w ↦ rw w.if-transfer.true (w.through-is ∙ w.if-transfer.true)
       | else-transfer w ↦ rw w.if-transfer.false w.through-is
     ] in
-    let paid = OnOk-at c.write_blocks.result c.in_ok-write_blocks.field-0 c.in_ok-write_blocks.was c.write_blocks.ensures.paid in
+    let paid = OnOk-at c.write_blocks.result c.in_ok-write_blocks.field-0 c.in_ok-write_blocks.was c.write_blocks.ensures.writes.paid in
     let more = subst (λ (b : Bool). (state last.medium).calls ≤ (state half.medium).calls + (if b then calls_of_sync half.cached else 0))
-    wanted c.make_durable.ensures.calls in
+    wanted c.make_durable.ensures.makes.calls in
     let P = λ (u : UnitValue g.row.M.Denot).
     (state last.medium).calls ≤ (state u.store.medium).calls + calls_of_write c.args.transfer u.write_cache u.store.cached in
     subst P c.self.view_is
     (write_ends c.args.transfer i.write_cache i.store.cached half.cached (state i.store.medium).calls (state half.medium).calls
-    (state last.medium).calls (moves_some c.args.transfer c.if-transfer-eq0.false) c.write_blocks.ensures.calls paid more)
+    (state last.medium).calls (moves_some c.args.transfer c.if-transfer-eq0.false) c.write_blocks.ensures.writes.calls paid more)

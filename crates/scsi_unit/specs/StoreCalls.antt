@@ -1,0 +1,66 @@
+-- What the unit's calls of the store do to its batches, its log and its medium.
+use Rattle.std.specs.Prelude.{◌≡◌, ◌⊎◌, ℕ, ◌+◌, ◌*◌, ◌<◌, ◌≤◌, Bool, true, false, List, length, take}
+use Rattle.std.specs.Prelude.{Result, OnOk, IfErr, MatchResult, is_ok, if◌then◌else◌}
+use Rattle.medium.specs.Medium.{State}
+use Rattle.blocks.specs.Background.{IsBackgroundStep}
+use Rattle.blocks.specs.Book.{Book, array_of, blocks_at, promised, write_of}
+use Rattle.blocks.specs.Calls.{reads_of, TurnsBatches}
+use Rattle.blocks.specs.StoreValue.{Cached, transfer_limit, is_dead, active_of, batch_steps}
+use Rattle.blocks.specs.StoreValue.{steps_left, FitsBook, TakesRange}
+use Rattle.blocks.specs.Turns.{IsTurn, IsWriteTurn}
+use Rattle.sense.specs.declared.codes.Sense.{Sense}
+use Rattle.sense.specs.Codes.{unrecovered_read_error, write_error}
+use Rattle.cdb.specs.declared.command.Transfer.{Transfer}
+use Rattle.scsi_unit.specs.Serving.{IsEmptied, IsFinished}
+use Rattle.scsi_unit.specs.Calls.{calls_of_sync}
+
+-- the store is live behind a good answer, and dead behind a write error
+abbrev pub TellsDeath : Result (Unit {0}) Sense → Cached → Type 0
+TellsDeath result new = MatchResult result (λ _. is_dead new ≡ false)
+    (λ sense. (sense ≡ write_error) × (is_dead new ≡ true))
+
+-- All accepted writes are durable, where that is wanted and the answer is good.
+pub record MakesDurable (wanted : Bool) (before after : State) (old new : Cached)
+    (result : Result (Unit {0}) Sense) : Type 0 where
+  pub turn : IsTurn before after old new
+  pub ok : (book : Book) → FitsBook before old book
+      → OnOk result (FitsBook after new (if wanted then promised book else book))
+  pub answer : TellsDeath result new
+  pub active : IsEmptied wanted (active_of old) (active_of new)
+  pub log : OnOk result (IsFinished wanted old new)
+  pub calls : after.calls ≤ before.calls + (if wanted then calls_of_sync old else 0)
+
+-- The blocks of a transfer are at the front of a buffer, where the answer is good. The batches and
+-- the log stay.
+pub record ReadsBlocks (transfer : Transfer) (before after : State) (old new : Cached)
+    (out : List ℕ) (result : Result ℕ Sense) : Type 0 where
+  pub ok : (book : Book) → FitsBook before old book → OnOk result (take (512 * transfer.count) out
+      ≡ blocks_at (array_of book) transfer.address transfer.count)
+  pub err : IfErr result (λ sense. (sense ≡ unrecovered_read_error)
+      × (before.failures < after.failures))
+  pub stays : new ≡ old
+  pub calls : after.calls ≤ before.calls + reads_of old transfer.address transfer.count
+  pub turn : IsTurn before after old new
+
+-- The blocks at the front of what was taken are accepted, where the answer is good.
+pub record WritesBlocks (transfer : Transfer) (taken : List ℕ) (before after : State)
+    (old new : Cached) (result : Result (Unit {0}) Sense) : Type 0 where
+  pub turn : IsWriteTurn (write_of transfer.address (take (512 * transfer.count) taken))
+      (is_ok result) before after old new
+  pub answer : TellsDeath result new
+  pub active : OnOk result (TakesRange (transfer_limit old) (active_of old) transfer.address
+      transfer.count (active_of new))
+  pub batches : OnOk result (TurnsBatches old new transfer.address transfer.count)
+  pub calls : after.calls ≤ before.calls + calls_of_sync old
+  pub paid : OnOk result (after.calls + calls_of_sync new
+      ≤ before.calls + calls_of_sync old + 2 * batch_steps old)
+
+-- One step in the background: by the order of the store's work, of at most two calls, and with less
+-- left to do behind it, or nothing was left.
+pub record StepsBehind (before after : State) (old new : Cached) : Type 0 where
+  pub turn : IsTurn before after old new
+  pub order : IsBackgroundStep before after old new
+  pub calls : after.calls ≤ before.calls + 2
+  pub left : is_dead new ≡ false
+      → (steps_left new < steps_left old) ⊎ (steps_left old ≡ 0)
+  pub active : IsEmptied true (active_of old) (active_of new)
