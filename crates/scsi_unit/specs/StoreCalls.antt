@@ -1,5 +1,5 @@
 -- What the unit's calls of the store do to its batches, its log and its medium.
-use Rattle.std.specs.Prelude.{◌≡◌, ◌⊎◌, ℕ, ◌+◌, ◌*◌, ◌<◌, ◌≤◌, Bool, true, false, List, length, take}
+use Rattle.std.specs.Prelude.{◌≡◌, ◌⊎◌, ℕ, ◌+◌, ◌*◌, ◌<◌, ◌≤◌, Bool, true, false, List, take}
 use Rattle.std.specs.Prelude.{Result, OnOk, IfErr, MatchResult, is_ok, if◌then◌else◌}
 use Rattle.medium.specs.Medium.{State}
 use Rattle.blocks.specs.Background.{IsBackgroundStep}

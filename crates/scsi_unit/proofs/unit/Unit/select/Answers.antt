@@ -75,8 +75,8 @@ returns-clause-performs g c =
     let P = λ (u : UnitValue g.row.M.Denot). Performs (state u.store.medium) (state last.medium) (Ok (command.ModeSelect c.args.list_len))
     c.args.taken.now u (Ok []) (record seen { store = last; write_cache = enabled }) in
     subst P c.self.view_is
-    (selects_bit (state i.store.medium) (state last.medium) seen last c.make_durable.ensures.makes.turn live c.args.list_len c.args.taken.now
-    enabled chosen c.make_durable.result c.in_ok-make_durable.field-0 c.in_ok-make_durable.was promises
+    (selects_bit (state i.store.medium) (state last.medium) seen last c.make_durable.ensures.makes.turn live c.args.list_len
+    c.args.taken.now enabled chosen c.make_durable.result c.in_ok-make_durable.field-0 c.in_ok-make_durable.was promises
     c.make_durable.ensures.makes.answer)
 
 pub returns-in_err-make_durable-clause-bounded : goal.returns-in_err-make_durable-clause-bounded
