@@ -368,25 +368,19 @@ pub take-capacity_10 : (n : ℕ) → take 8 (capacity_10 n) ≡ capacity_10 n
 unfolding capacity_10
 take-capacity_10 n = refl
 
--- a command that sends nothing, as it was told
-module _ {M : Type 0} (before after : State) (command : Command) (taken : List ℕ) (old new : UnitValue M)
-    (result : Result (Unit {0}) Sense) where
-  pub done_well : (value : Unit {0}) → result ≡ Ok value → Performs before after (Ok command) taken old (silent result) new
-      → Performs before after (Ok command) taken old (Ok []) new
-  done_well value was done = subst (λ (r : Result (Unit {0}) Sense). Performs before after (Ok command) taken old (silent r) new) was done
+-- a command that sends no data, as it was told
+module _ {M : Type 0} {told command : Command} {taken : List ℕ} {old new : UnitValue M} (done : Result (Unit {0}) Sense)
+    (result : Result ℕ Sense) (out : List ℕ) (is : told ≡ command) (answer : answer_of result out ≡ silent done) where
+  pub performs_silently : {before after : State} → Performs before after (Ok command) taken old (silent done) new
+      → Performs before after (Ok told) taken old (answer_of result out) new
+  performs_silently {before = before} {after = after} performed =
+      subst (λ (cmd : Command). Performs before after (Ok cmd) taken old (answer_of result out) new) (sym is)
+      (subst (λ (a : Result (List ℕ) Sense). Performs before after (Ok command) taken old a new) (sym answer) performed)
 
-  pub done_badly : (sense : Sense) → result ≡ Err sense → Performs before after (Ok command) taken old (silent result) new
-      → Performs before after (Ok command) taken old (Err sense) new
-  done_badly sense was done = subst (λ (r : Result (Unit {0}) Sense). Performs before after (Ok command) taken old (silent r) new) was done
-
-module _ {M : Type 0} (command : Command) (taken : List ℕ) (old new : UnitValue M) (result : Result (Unit {0}) Sense) where
-  pub spares_well : (value : Unit {0}) → result ≡ Ok value → Spares (Ok command) taken old (silent result) new
-      → Spares (Ok command) taken old (Ok []) new
-  spares_well value was done = subst (λ (r : Result (Unit {0}) Sense). Spares (Ok command) taken old (silent r) new) was done
-
-  pub spares_badly : (sense : Sense) → result ≡ Err sense → Spares (Ok command) taken old (silent result) new
-      → Spares (Ok command) taken old (Err sense) new
-  spares_badly sense was done = subst (λ (r : Result (Unit {0}) Sense). Spares (Ok command) taken old (silent r) new) was done
+  pub spares_silently : Spares (Ok command) taken old (silent done) new → Spares (Ok told) taken old (answer_of result out) new
+  spares_silently spared =
+      subst (λ (cmd : Command). Spares (Ok cmd) taken old (answer_of result out) new) (sym is)
+      (subst (λ (a : Result (List ℕ) Sense). Spares (Ok command) taken old a new) (sym answer) spared)
 
 -- a command that is refused
 pub refuses : {M : Type 0} (m : State) → IsSound m → (old : UnitValue M) (told : Result Command Sense) (taken : List ℕ) (sense : Sense)

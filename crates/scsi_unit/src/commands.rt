@@ -1,6 +1,6 @@
 //! Commands, each by its own function.
-ghost use Rattle.std.specs.Prelude.{◌≡◌, ◌<◌, ◌≤◌, ◌+◌, ◌*◌, ◌&&◌, ℕ, false, [], length, take, min};
-ghost use Rattle.std.specs.Prelude.{unwrap_or, IfOk, Ok};
+ghost use Rattle.std.specs.Prelude.{◌≡◌, ◌<◌, ◌≤◌, ◌+◌, ◌*◌, ◌&&◌, ℕ, List, false, [], length, take};
+ghost use Rattle.std.specs.Prelude.{min, unwrap_or, IfOk, Ok};
 ghost use Rattle.blocks.specs.StoreValue.{blocks_of, is_dead};
 ghost use Rattle.sense.specs.Fixed.{fixed_sense};
 ghost use Rattle.sense.specs.Waiting.{reported, after_report};
@@ -13,7 +13,7 @@ ghost use Rattle.scsi_unit.specs.Rules.{needs_medium, moves};
 ghost use Rattle.scsi_unit.specs.UnitValue.{unit_limit, intention_of, answer_of};
 ghost use Rattle.scsi_unit.specs.Serving.{command_for};
 ghost use Rattle.scsi_unit.specs.Calls.{calls_of, MakesFew, SendsAsMeant};
-ghost use Rattle.scsi_unit.specs.Performing.{Performs, Spares};
+ghost use Rattle.scsi_unit.specs.Performing.{Performs, Spares, silent};
 
 use crate::Unit;
 use crate::checks::BLOCK;
@@ -32,6 +32,17 @@ fn send(bytes: &[u8], allocation: usize, out: &mut [u8]) -> usize
     let size = bytes.len().min(allocation);
     out[..size].copy_from_slice(&bytes[..size]);
     size
+}
+
+// The answer of a command that sends no data.
+fn silent(done: Result<(), Sense>) -> Result<usize, Sense>
+    ensures answer { (out : List ℕ) → answer_of result out ≡ silent done }
+    ensures none { IfOk result (λ sent. sent ≡ 0) }
+{
+    match done {
+        Ok(()) => Ok(0),
+        Err(sense) => Err(sense),
+    }
 }
 
 // The data of READ CAPACITY (10), for a medium of `n` blocks.
@@ -106,41 +117,23 @@ impl<M: Medium> Unit<M> {
             Command::TestUnitReady => Ok(0),
             Command::RequestSense { allocation } => Ok(self.report(allocation, out)),
             Command::Inquiry { page, allocation } => Ok(self.inquire(page, allocation, out)),
-            Command::ModeSelect { length } => {
-                self.select(length, taken)?;
-                Ok(0)
-            }
+            Command::ModeSelect { length } => silent(self.select(length, taken)),
             Command::ModeSense {
                 control,
                 page,
                 subpage,
                 allocation,
             } => self.sense_mode(control, page, subpage, allocation, out),
-            Command::ReadCapacity10 => {
-                let bytes = capacity_10(self.store.blocks());
-                Ok(send(&bytes, bytes.len(), out))
-            }
+            Command::ReadCapacity10 => Ok(send(&capacity_10(self.store.blocks()), 8, out)),
             Command::ReadCapacity16 { allocation } => {
                 Ok(send(&capacity_16(self.store.blocks()), allocation as usize, out))
             }
             Command::Read10(transfer) => self.read(transfer, out),
             Command::Read16(transfer) => self.read(transfer, out),
-            Command::Write10(transfer) => {
-                self.write(transfer, taken)?;
-                Ok(0)
-            }
-            Command::Write16(transfer) => {
-                self.write(transfer, taken)?;
-                Ok(0)
-            }
-            Command::SynchronizeCache10(_) => {
-                self.synchronize()?;
-                Ok(0)
-            }
-            Command::SynchronizeCache16(_) => {
-                self.synchronize()?;
-                Ok(0)
-            }
+            Command::Write10(transfer) => silent(self.write(transfer, taken)),
+            Command::Write16(transfer) => silent(self.write(transfer, taken)),
+            Command::SynchronizeCache10(_) => silent(self.synchronize()),
+            Command::SynchronizeCache16(_) => silent(self.synchronize()),
         }
     }
 

@@ -1,5 +1,4 @@
 use Rattle.std.proofs.Common.{◌≡◌, ◌*◌, ℕ, List, [], Ok, refl, subst, sym, ◌∙◌, ap, length, take}
-use Rattle.std.proofs.lemmas.Result.{err_from_is_err_and}
 use Rattle.cdb.specs.declared.command.Command.{Command}
 use Rattle.cdb.specs.declared.command.Command.TheVariants as command
 use Rattle.scsi_unit.specs.declared.intent.Intent.TheVariants as intent
@@ -10,8 +9,8 @@ use Rattle.pages.specs.Mode.{mode_data}
 use Rattle.blocks.specs.StoreValue.{blocks_of}
 use Rattle.scsi_unit.specs.Performing.{Performs, Spares, silent}
 use Rattle.scsi_unit.proofs.Performing.{takes_enough, sends_data, reports_sense, reads_16, writes_16, synchronizes_16, spares_reading_16}
-use Rattle.scsi_unit.proofs.Performing.{spares_synchronizing_16, answer_at, take-capacity_10, done_well, done_badly, spares_well}
-use Rattle.scsi_unit.proofs.Performing.{spares_badly}
+use Rattle.scsi_unit.proofs.Performing.{spares_writing_16, spares_synchronizing_16, answer_at, take-capacity_10, performs_silently}
+use Rattle.scsi_unit.proofs.Performing.{spares_silently}
 use Rattle.scsi_unit.proofs.unit.Unit.perform.Goals as goal
 
 pub select-requires-clause-taken : goal.select-requires-clause-taken
@@ -85,7 +84,7 @@ returns-in-ReadCapacity10-clause-performs g c =
     (capacity_10 (blocks_of unit.store.cached)) refl
     (ap Ok
     (c.send.ensures.sent
-    ∙ ap (λ (bytes : List ℕ). take 8 bytes) (c.capacity_10-bytes.ensures ∙ ap capacity_10 n)
+    ∙ ap (λ (bytes : List ℕ). take 8 bytes) (c.capacity_10.ensures ∙ ap capacity_10 n)
     ∙ take-capacity_10 (blocks_of unit.store.cached)))
     (λ book fits. ap (λ (n : ℕ). gives (capacity_10 n) (state_of unit book)) (sym fits.blocks)))
 
@@ -134,121 +133,78 @@ returns-in-Read16-clause-spares g c =
     subst (λ (cmd : Command). Spares (Ok cmd) c.args.taken.now unit answer after) (sym c.in-Read16.is)
     (spares_reading_16 c.in-Read16.transfer c.args.taken.now unit answer after (c.read-in-Read16.ensures.spares c.args.taken.now))
 
-pub returns-in_ok-write-in-Write16-clause-performs : goal.returns-in_ok-write-in-Write16-clause-performs
-returns-in_ok-write-in-Write16-clause-performs g c =
+pub returns-in-ModeSelect-clause-performs : goal.returns-in-ModeSelect-clause-performs
+returns-in-ModeSelect-clause-performs g c =
+    performs_silently c.select.result c.silent.result c.args.out.now c.in-ModeSelect.is (c.silent.ensures.answer c.args.out.now)
+    c.select.ensures.performs
+
+pub returns-in-ModeSelect-clause-spares : goal.returns-in-ModeSelect-clause-spares
+returns-in-ModeSelect-clause-spares g c =
+    spares_silently c.select.result c.silent.result c.args.out.now c.in-ModeSelect.is (c.silent.ensures.answer c.args.out.now)
+    c.select.ensures.spares
+
+pub returns-in-Write10-clause-performs : goal.returns-in-Write10-clause-performs
+returns-in-Write10-clause-performs g c =
+    performs_silently c.write.result c.silent-in-Write10.result c.args.out.now c.in-Write10.is
+    (c.silent-in-Write10.ensures.answer c.args.out.now)
+    c.write.ensures.performs
+
+pub returns-in-Write10-clause-spares : goal.returns-in-Write10-clause-spares
+returns-in-Write10-clause-spares g c =
+    spares_silently c.write.result c.silent-in-Write10.result c.args.out.now c.in-Write10.is
+    (c.silent-in-Write10.ensures.answer c.args.out.now)
+    c.write.ensures.spares
+
+pub returns-in-Write16-clause-performs : goal.returns-in-Write16-clause-performs
+returns-in-Write16-clause-performs g c =
     let state = g.M.Medium.state in
     let unit = c.args.self.now in
     let after = c.write-in-Write16.new.self in
-    subst (λ (cmd : Command). Performs (state unit.store.medium) (state after.store.medium) (Ok cmd) c.args.taken.now unit (Ok []) after)
-    (sym c.in-Write16.is)
-    (done_well (state unit.store.medium) (state after.store.medium) (command.Write16 c.in-Write16.transfer) c.args.taken.now unit after
-    c.write-in-Write16.result c.in_ok-write-in-Write16.field-0 c.in_ok-write-in-Write16.was
+    performs_silently c.write-in-Write16.result c.silent-in-Write16.result c.args.out.now c.in-Write16.is
+    (c.silent-in-Write16.ensures.answer c.args.out.now)
     (writes_16 (state unit.store.medium) (state after.store.medium) c.in-Write16.transfer c.args.taken.now unit
-    (silent c.write-in-Write16.result) after c.write-in-Write16.ensures.performs))
+    (silent c.write-in-Write16.result) after
+    c.write-in-Write16.ensures.performs)
 
-pub returns-in_err-write-in-Write16-clause-performs : goal.returns-in_err-write-in-Write16-clause-performs
-returns-in_err-write-in-Write16-clause-performs g c =
-    let p = err_from_is_err_and c.from_residual-in_err-write-in-Write16.result c.from_residual-in_err-write-in-Write16.ensures.1 in
-    let state = g.M.Medium.state in
+pub returns-in-Write16-clause-spares : goal.returns-in-Write16-clause-spares
+returns-in-Write16-clause-spares g c =
     let unit = c.args.self.now in
     let after = c.write-in-Write16.new.self in
-    subst
-    (λ (cmd : Command). Performs (state unit.store.medium) (state after.store.medium) (Ok cmd) c.args.taken.now unit
-    (answer_of c.from_residual-in_err-write-in-Write16.result c.args.out.now) after)
-    (sym c.in-Write16.is)
-    (rw (p.1, p.2)
-    (done_badly (state unit.store.medium) (state after.store.medium) (command.Write16 c.in-Write16.transfer) c.args.taken.now unit
-    after c.write-in-Write16.result c.in_err-write-in-Write16.field-0.0 c.in_err-write-in-Write16.was
-    (writes_16 (state unit.store.medium) (state after.store.medium) c.in-Write16.transfer c.args.taken.now unit
-    (silent c.write-in-Write16.result) after c.write-in-Write16.ensures.performs)))
+    spares_silently c.write-in-Write16.result c.silent-in-Write16.result c.args.out.now c.in-Write16.is
+    (c.silent-in-Write16.ensures.answer c.args.out.now)
+    (spares_writing_16 c.in-Write16.transfer c.args.taken.now unit (silent c.write-in-Write16.result) after
+    c.write-in-Write16.ensures.spares)
 
-pub returns-in_ok-synchronize-in-SynchronizeCache10-clause-performs : goal.returns-in_ok-synchronize-in-SynchronizeCache10-clause-performs
-returns-in_ok-synchronize-in-SynchronizeCache10-clause-performs g c =
-    let state = g.M.Medium.state in
-    let unit = c.args.self.now in
-    let after = c.synchronize.new.self in
-    subst (λ (cmd : Command). Performs (state unit.store.medium) (state after.store.medium) (Ok cmd) c.args.taken.now unit (Ok []) after)
-    (sym c.in-SynchronizeCache10.is)
-    (done_well (state unit.store.medium) (state after.store.medium) (command.SynchronizeCache10 c.in-SynchronizeCache10.field-0)
-    c.args.taken.now unit after c.synchronize.result c.in_ok-synchronize-in-SynchronizeCache10.field-0
-    c.in_ok-synchronize-in-SynchronizeCache10.was (c.synchronize.ensures.performs c.in-SynchronizeCache10.field-0 c.args.taken.now))
+pub returns-in-SynchronizeCache10-clause-performs : goal.returns-in-SynchronizeCache10-clause-performs
+returns-in-SynchronizeCache10-clause-performs g c =
+    performs_silently c.synchronize.result c.silent-in-SynchronizeCache10.result c.args.out.now c.in-SynchronizeCache10.is
+    (c.silent-in-SynchronizeCache10.ensures.answer c.args.out.now)
+    (c.synchronize.ensures.performs c.in-SynchronizeCache10.field-0 c.args.taken.now)
 
-pub returns-in_err-synchronize-in-SynchronizeCache10-clause-performs : goal.returns-in_err-synchronize-in-SynchronizeCache10-clause-performs
-returns-in_err-synchronize-in-SynchronizeCache10-clause-performs g c =
-    let p = err_from_is_err_and c.from_residual-in_err-synchronize-in-SynchronizeCache10.result
-    c.from_residual-in_err-synchronize-in-SynchronizeCache10.ensures.1 in
-    let state = g.M.Medium.state in
-    let unit = c.args.self.now in
-    let after = c.synchronize.new.self in
-    subst
-    (λ (cmd : Command). Performs (state unit.store.medium) (state after.store.medium) (Ok cmd) c.args.taken.now unit
-    (answer_of c.from_residual-in_err-synchronize-in-SynchronizeCache10.result c.args.out.now) after)
-    (sym c.in-SynchronizeCache10.is)
-    (rw (p.1, p.2)
-    (done_badly (state unit.store.medium) (state after.store.medium) (command.SynchronizeCache10 c.in-SynchronizeCache10.field-0)
-    c.args.taken.now unit after c.synchronize.result c.in_err-synchronize-in-SynchronizeCache10.field-0.0
-    c.in_err-synchronize-in-SynchronizeCache10.was
-    (c.synchronize.ensures.performs c.in-SynchronizeCache10.field-0 c.args.taken.now)))
+pub returns-in-SynchronizeCache10-clause-spares : goal.returns-in-SynchronizeCache10-clause-spares
+returns-in-SynchronizeCache10-clause-spares g c =
+    spares_silently c.synchronize.result c.silent-in-SynchronizeCache10.result c.args.out.now c.in-SynchronizeCache10.is
+    (c.silent-in-SynchronizeCache10.ensures.answer c.args.out.now)
+    (c.synchronize.ensures.spares c.in-SynchronizeCache10.field-0 c.args.taken.now)
 
-pub returns-in_ok-synchronize-in-SynchronizeCache16-clause-performs : goal.returns-in_ok-synchronize-in-SynchronizeCache16-clause-performs
-returns-in_ok-synchronize-in-SynchronizeCache16-clause-performs g c =
+pub returns-in-SynchronizeCache16-clause-performs : goal.returns-in-SynchronizeCache16-clause-performs
+returns-in-SynchronizeCache16-clause-performs g c =
     let state = g.M.Medium.state in
     let unit = c.args.self.now in
     let after = c.synchronize-in-SynchronizeCache16.new.self in
-    subst (λ (cmd : Command). Performs (state unit.store.medium) (state after.store.medium) (Ok cmd) c.args.taken.now unit (Ok []) after)
-    (sym c.in-SynchronizeCache16.is)
-    (done_well (state unit.store.medium) (state after.store.medium) (command.SynchronizeCache16 c.in-SynchronizeCache16.field-0)
-    c.args.taken.now unit after c.synchronize-in-SynchronizeCache16.result c.in_ok-synchronize-in-SynchronizeCache16.field-0
-    c.in_ok-synchronize-in-SynchronizeCache16.was
+    performs_silently c.synchronize-in-SynchronizeCache16.result c.silent-in-SynchronizeCache16.result c.args.out.now
+    c.in-SynchronizeCache16.is
+    (c.silent-in-SynchronizeCache16.ensures.answer c.args.out.now)
     (synchronizes_16 (state unit.store.medium) (state after.store.medium) c.in-SynchronizeCache16.field-0 c.args.taken.now unit
     (silent c.synchronize-in-SynchronizeCache16.result) after
-    (c.synchronize-in-SynchronizeCache16.ensures.performs c.in-SynchronizeCache16.field-0 c.args.taken.now)))
+    (c.synchronize-in-SynchronizeCache16.ensures.performs c.in-SynchronizeCache16.field-0 c.args.taken.now))
 
-pub returns-in_err-synchronize-in-SynchronizeCache16-clause-performs : goal.returns-in_err-synchronize-in-SynchronizeCache16-clause-performs
-returns-in_err-synchronize-in-SynchronizeCache16-clause-performs g c =
-    let p = err_from_is_err_and c.from_residual-in_err-synchronize-in-SynchronizeCache16.result
-    c.from_residual-in_err-synchronize-in-SynchronizeCache16.ensures.1 in
-    let state = g.M.Medium.state in
+pub returns-in-SynchronizeCache16-clause-spares : goal.returns-in-SynchronizeCache16-clause-spares
+returns-in-SynchronizeCache16-clause-spares g c =
     let unit = c.args.self.now in
     let after = c.synchronize-in-SynchronizeCache16.new.self in
-    subst
-    (λ (cmd : Command). Performs (state unit.store.medium) (state after.store.medium) (Ok cmd) c.args.taken.now unit
-    (answer_of c.from_residual-in_err-synchronize-in-SynchronizeCache16.result c.args.out.now) after)
-    (sym c.in-SynchronizeCache16.is)
-    (rw (p.1, p.2)
-    (done_badly (state unit.store.medium) (state after.store.medium) (command.SynchronizeCache16 c.in-SynchronizeCache16.field-0)
-    c.args.taken.now unit after c.synchronize-in-SynchronizeCache16.result c.in_err-synchronize-in-SynchronizeCache16.field-0.0
-    c.in_err-synchronize-in-SynchronizeCache16.was
-    (synchronizes_16 (state unit.store.medium) (state after.store.medium) c.in-SynchronizeCache16.field-0 c.args.taken.now unit
-    (silent c.synchronize-in-SynchronizeCache16.result) after
-    (c.synchronize-in-SynchronizeCache16.ensures.performs c.in-SynchronizeCache16.field-0 c.args.taken.now))))
-
-pub returns-in_ok-synchronize-in-SynchronizeCache16-clause-spares : goal.returns-in_ok-synchronize-in-SynchronizeCache16-clause-spares
-returns-in_ok-synchronize-in-SynchronizeCache16-clause-spares g c =
-    let unit = c.args.self.now in
-    let after = c.synchronize-in-SynchronizeCache16.new.self in
-    subst (λ (cmd : Command). Spares (Ok cmd) c.args.taken.now unit (Ok []) after) (sym c.in-SynchronizeCache16.is)
-    (spares_well (command.SynchronizeCache16 c.in-SynchronizeCache16.field-0) c.args.taken.now unit after
-    c.synchronize-in-SynchronizeCache16.result c.in_ok-synchronize-in-SynchronizeCache16.field-0
-    c.in_ok-synchronize-in-SynchronizeCache16.was
-    (spares_synchronizing_16 c.in-SynchronizeCache16.field-0 c.args.taken.now unit
-    (silent c.synchronize-in-SynchronizeCache16.result) after
-    (c.synchronize-in-SynchronizeCache16.ensures.spares c.in-SynchronizeCache16.field-0 c.args.taken.now)))
-
-pub returns-in_err-synchronize-in-SynchronizeCache16-clause-spares : goal.returns-in_err-synchronize-in-SynchronizeCache16-clause-spares
-returns-in_err-synchronize-in-SynchronizeCache16-clause-spares g c =
-    let p = err_from_is_err_and c.from_residual-in_err-synchronize-in-SynchronizeCache16.result
-    c.from_residual-in_err-synchronize-in-SynchronizeCache16.ensures.1 in
-    let unit = c.args.self.now in
-    let after = c.synchronize-in-SynchronizeCache16.new.self in
-    subst
-    (λ (cmd : Command). Spares (Ok cmd) c.args.taken.now unit
-    (answer_of c.from_residual-in_err-synchronize-in-SynchronizeCache16.result c.args.out.now) after)
-    (sym c.in-SynchronizeCache16.is)
-    (rw (p.1, p.2)
-    (spares_badly (command.SynchronizeCache16 c.in-SynchronizeCache16.field-0) c.args.taken.now unit after
-    c.synchronize-in-SynchronizeCache16.result c.in_err-synchronize-in-SynchronizeCache16.field-0.0
-    c.in_err-synchronize-in-SynchronizeCache16.was
-    (spares_synchronizing_16 c.in-SynchronizeCache16.field-0 c.args.taken.now unit
-    (silent c.synchronize-in-SynchronizeCache16.result) after
-    (c.synchronize-in-SynchronizeCache16.ensures.spares c.in-SynchronizeCache16.field-0 c.args.taken.now))))
+    spares_silently c.synchronize-in-SynchronizeCache16.result c.silent-in-SynchronizeCache16.result c.args.out.now
+    c.in-SynchronizeCache16.is
+    (c.silent-in-SynchronizeCache16.ensures.answer c.args.out.now)
+    (spares_synchronizing_16 c.in-SynchronizeCache16.field-0 c.args.taken.now unit (silent c.synchronize-in-SynchronizeCache16.result) after
+    (c.synchronize-in-SynchronizeCache16.ensures.spares c.in-SynchronizeCache16.field-0 c.args.taken.now))
