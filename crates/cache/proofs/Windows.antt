@@ -19,39 +19,28 @@ pub window_at : (cells : List Entry) (start end k : ℕ) → k < end - start
     → get_or (slice_range cells start end) k no_entry ≡ get_or cells (start + k) no_entry
 window_at cells start end k lt = get_or-take (end - start) (drop start cells) k no_entry lt ∙ get_or-drop start cells k no_entry
 
--- Where the cells before a place and those behind it are those of before, one cell apart, and the entry stands between them, it was
+-- Where the entries before a place are those of before, those behind it are theirs one place on, and an entry stands between them, it was
 -- inserted there.
-pub window_insert : (old new : List Entry) (start end first last at : ℕ) (x : Entry) → start ≤ end → end ≤ length old → at ≤ end - start
-    → last ≡ first + (end - start) + 1 → last ≤ length new
-    → ((k : ℕ) → k < at → get_or new (first + k) no_entry ≡ get_or old (start + k) no_entry)
-    → get_or new (first + at) no_entry ≡ x
-    → ((k : ℕ) → at ≤ k → k < end - start → get_or new (first + (k + 1)) no_entry ≡ get_or old (start + k) no_entry)
-    → slice_range new first last ≡ insert (slice_range old start end) at x
-window_insert old new start end first last at x ordered inside place last_is room before here behind =
-    let was : List Entry = slice_range old start end in
-    let is : List Entry = slice_range new first last in
-    let long : length was ≡ end - start = length-window old start end ordered inside in
-    let long' : length is ≡ last - first = length-window new first last (omega (arith, last_is)) room in
-    let within : at ≤ length was = omega (arith, long, place) in
+pub inserted : (was is : List Entry) (at : ℕ) (x : Entry) → at ≤ length was → length is ≡ length was + 1
+    → ((k : ℕ) → k < at → get_or is k no_entry ≡ get_or was k no_entry)
+    → get_or is at no_entry ≡ x
+    → ((k : ℕ) → at ≤ k → k < length was → get_or is (k + 1) no_entry ≡ get_or was k no_entry)
+    → is ≡ insert was at x
+inserted was is at x within long before here behind =
     let longer : length (insert was at x) ≡ length was + 1 = length-insert was at x within in
-    ext_get_or no_entry is (insert was at x) (omega (arith, long, long', longer, last_is))
-    (λ k lt. window_at new first last k (omega (arith, lt, long')) ∙ elim (cases_lt k at) [
-      | inl below ↦
-          before k below
-          ∙ sym (window_at old start end k (omega (arith, below, place)))
-          ∙ sym (get_or-insert_below was at x no_entry k below within)
+    ext_get_or no_entry is (insert was at x) (omega (arith, long, longer))
+    (λ k lt. elim (cases_lt k at) [
+      | inl below ↦ before k below ∙ sym (get_or-insert_below was at x no_entry k below within)
       | inr past ↦ elim (cases_lt at k) [
         | inl above ↦
             let e : k ≡ (k - 1) + 1 = omega (arith, above) in
-            let lt' : k - 1 < end - start = omega (arith, lt, long', last_is, above) in
-            ap (λ (j : ℕ). get_or new (first + j) no_entry) e
-            ∙ behind (k - 1) (omega (arith, above)) lt'
-            ∙ sym (window_at old start end (k - 1) lt')
+            ap (λ (j : ℕ). get_or is j no_entry) e
+            ∙ behind (k - 1) (omega (arith, above)) (omega (arith, lt, long, above))
             ∙ sym (get_or-insert_above was at x no_entry (k - 1) (omega (arith, above)) within)
             ∙ ap (λ (j : ℕ). get_or (insert was at x) j no_entry) (sym e)
         | inr le ↦
             let e : k ≡ at = omega (arith, past, le) in
-            ap (λ (j : ℕ). get_or new (first + j) no_entry) e ∙ here ∙ sym (get_or-insert_at was at x no_entry within)
+            ap (λ (j : ℕ). get_or is j no_entry) e ∙ here ∙ sym (get_or-insert_at was at x no_entry within)
             ∙ ap (λ (j : ℕ). get_or (insert was at x) j no_entry) (sym e)
       ]
     ])

@@ -12,6 +12,12 @@ pub record ArePlaces (places : List ℕ) : Type 0 where
   pub distinct : (i j : ℕ) → i < length places → j < length places
       → slice_index places i ≡ slice_index places j → i ≡ j
 
+-- the i-th place is its own now, and so is each one that was
+pub record IsOwnAt (i : ℕ) (old new : List ℕ) : Type 0 where
+  pub places : ArePlaces new
+  pub own : slice_index new i ≡ i
+  pub settled_stay : (k : ℕ) → k < length old → slice_index old k ≡ k → slice_index new k ≡ k
+
 -- each place is its own: the places are 0, 1, 2 and so on
 abbrev pub AreInOrder : List ℕ → Type 0
 AreInOrder places = (i : ℕ) → i < length places → slice_index places i ≡ i

@@ -1,8 +1,8 @@
 //! Putting the blocks of a row into the order of their numbers.
-ghost use Rattle.std.specs.Prelude.{◌≡◌, ◌≢◌, ◌+◌, ◌<◌, ◌≤◌, ℕ, [], length};
+ghost use Rattle.std.specs.Prelude.{◌≡◌, ◌≢◌, ◌+◌, ◌<◌, ◌≤◌, [], length};
 ghost use Rattle.std.specs.Prelude.{slice_index, slice_index_or, slice_set, slice_range};
 ghost use Rattle.cache.specs.Index.{numbers_of, places_of};
-ghost use Rattle.cache.specs.Order.{gathered, ArePlaces, AreInOrder, astray};
+ghost use Rattle.cache.specs.Order.{gathered, ArePlaces, IsOwnAt, AreInOrder, astray};
 
 use crate::counter::Steps;
 use crate::entry::{BLOCK, Entry, row_place, set_row_place};
@@ -57,10 +57,7 @@ fn turn_cycle(row: &mut [[u8; BLOCK]], entries: &mut [Entry], i: usize, moves: &
     requires astray { slice_index (places_of entries.old) i ≢ i }
     ensures gathered { gathered (places_of entries.new) row.new
         ≡ gathered (places_of entries.old) row.old }
-    ensures places { ArePlaces (places_of entries.new) }
-    ensures own { slice_index (places_of entries.new) i ≡ i }
-    ensures settled_stay { (k : ℕ) → k < length (places_of entries.old)
-        → slice_index (places_of entries.old) k ≡ k → slice_index (places_of entries.new) k ≡ k }
+    ensures own { IsOwnAt i (places_of entries.old) (places_of entries.new) }
     ensures numbers { numbers_of entries.new ≡ numbers_of entries.old }
     ensures few { moves.new.count + astray 0 (places_of entries.new)
         ≤ moves.old.count + astray 0 (places_of entries.old) }

@@ -1,8 +1,8 @@
 //! An index that grows at both ends.
-ghost use Rattle.std.specs.Prelude.{◌≡◌, ◌⊎◌, ◌+◌, ◌-◌, ◌*◌, ◌<◌, ◌≤◌, ℕ, [], length, slice_index_or};
-ghost use Rattle.std.specs.Prelude.{slice_set, slice_range, IfOk};
+ghost use Rattle.std.specs.Prelude.{◌≡◌, ◌⊎◌, ◌+◌, ◌-◌, ◌*◌, ◌<◌, ◌≤◌, [], length, slice_set};
+ghost use Rattle.std.specs.Prelude.{slice_range, IfOk};
 ghost use Rattle.std.specs.List.{insert};
-ghost use Rattle.cache.specs.Index.{entries_of, no_entry, IsCentred};
+ghost use Rattle.cache.specs.Index.{entries_of, IsCentred};
 
 use crate::entry::Entry;
 use std::alloc::{AllocError, Global};
@@ -84,8 +84,9 @@ fn insert_down(cells: &mut [Entry], start: usize, end: usize, at: usize, entry: 
     requires inside { end ≤ length cells.old }
     ensures { slice_range cells.new (start - 1) end ≡ insert (slice_range cells.old start end) at entry }
 {
-    slide_down(cells, start, at);
-    cells[start - 1 + at] = entry;
+    let window = &mut cells[start - 1..end];
+    window.copy_within(1..at + 1, 0);
+    window[at] = entry;
 }
 
 // Inserts an entry among those from the start up to the end. Those from it on go one cell up.
@@ -95,34 +96,7 @@ fn insert_up(cells: &mut [Entry], start: usize, end: usize, at: usize, entry: En
     requires inside { end < length cells.old }
     ensures { slice_range cells.new start (end + 1) ≡ insert (slice_range cells.old start end) at entry }
 {
-    slide_up(cells, start + at, end - start - at);
-    cells[start + at] = entry;
-}
-
-// Moves so many entries from this one on to the cells before their own.
-fn slide_down(cells: &mut [Entry], from: usize, count: usize)
-    requires before { 0 < from }
-    requires inside { from + count ≤ length cells.old }
-    ensures moved { (k : ℕ) → k < count → slice_index_or cells.new (from - 1 + k) no_entry
-        ≡ slice_index_or cells.old (from + k) no_entry }
-    ensures behind { (k : ℕ) → from + count ≤ k → slice_index_or cells.new k no_entry
-        ≡ slice_index_or cells.old k no_entry }
-{
-    for i in 0..count {
-        cells[from - 1 + i] = cells[from + i];
-    }
-}
-
-// Moves so many entries from this one on to the cells behind their own, the last one first.
-fn slide_up(cells: &mut [Entry], from: usize, count: usize)
-    requires inside { from + count < length cells.old }
-    ensures moved { (k : ℕ) → k < count → slice_index_or cells.new (from + 1 + k) no_entry
-        ≡ slice_index_or cells.old (from + k) no_entry }
-    ensures before { (k : ℕ) → k < from → slice_index_or cells.new k no_entry
-        ≡ slice_index_or cells.old k no_entry }
-{
-    for i in 0..count {
-        let to = from + count - i;
-        cells[to] = cells[to - 1];
-    }
+    let window = &mut cells[start..end + 1];
+    window.copy_within(at..end - start, at + 1);
+    window[at] = entry;
 }

@@ -1,30 +1,41 @@
-use Rattle.std.proofs.Common.{◌≡◌, ℕ, ◌+◌, ◌-◌, List, get_or, set, length, ap, ◌∙◌, arith}
+use Rattle.std.proofs.Common.{◌≡◌, ℕ, ◌+◌, ◌-◌, ◌<◌, List, get_or, set, length, ap, sym, ◌∙◌, arith}
+use Rattle.std.specs.Prelude.{slice_range}
 use Rattle.std.proofs.lemmas.List.{get_or-set_other, get_or-set_same}
+use Rattle.std.proofs.lemmas.Slice.{between-put_mid}
 use Rattle.std.proofs.Math.ListN.{length-set}
 use Rattle.cache.specs.Index.{no_entry}
 use Rattle.cache.specs.declared.entry.Entry.{Entry}
-use Rattle.cache.proofs.Windows.{window_insert}
+use Rattle.cache.proofs.Windows.{length-window, window_at, inserted}
 use Rattle.cache.proofs.index.insert_up.Goals as goal
 
 pub returns : goal.returns
 returns c =
-    let old : List Entry = c.args.cells.now in
-    let mid : List Entry = c.slide_up.new.cells in
+    let cells : List Entry = c.args.cells.now in
     let start : ℕ = c.args.start in
-    let to : ℕ = start + c.args.at in
+    let end : ℕ = c.args.end in
+    let at : ℕ = c.args.at in
     let x : Entry = c.args.entry in
-    let same : length mid ≡ length old = c.slide_up.auto.cells in
-    let long : length (set mid to x) ≡ length mid = length-set mid to x in
-    window_insert old (set mid to x) start c.args.end start (c.args.end + 1) c.args.at x c.requires.ordered
-    (omega (arith, c.requires.inside)) c.requires.place (omega (arith, c.requires.ordered))
-    (omega (arith, same, long, c.requires.inside))
-    (λ k lt. get_or-set_other mid to (start + k) x no_entry (λ e. omega (arith, e, lt))
-    ∙ c.slide_up.ensures.before (start + k) (omega (arith, lt)))
-    (get_or-set_same mid to x no_entry (omega (arith, same, c.requires.ordered, c.requires.place, c.requires.inside)))
+    let wide : List Entry = slice_range cells start (end + 1) in
+    let was : List Entry = slice_range cells start end in
+    let mid : List Entry = c.copy_within.new.self in
+    let long-wide : length wide ≡ end + 1 - start =
+    length-window cells start (end + 1) (omega (arith, c.requires.ordered)) (omega (arith, c.requires.inside)) in
+    let long : length was ≡ end - start = length-window cells start end c.requires.ordered (omega (arith, c.requires.inside)) in
+    let same : length mid ≡ length wide = c.copy_within.ensures.len in
+    let kept : length (set mid at x) ≡ length mid = length-set mid at x in
+    let moved = c.copy_within.ensures.by_index.0 in
+    let before = c.copy_within.ensures.by_index.1 in
+    let alike : (k : ℕ) → k < end - start → get_or wide k no_entry ≡ get_or was k no_entry =
+    λ k lt. window_at cells start (end + 1) k (omega (arith, lt)) ∙ sym (window_at cells start end k lt) in
+    between-put_mid start (end + 1 - start) cells (set mid at x) (end + 1)
+    (omega (arith, c.requires.ordered, c.requires.inside)) (omega (arith, kept, same, long-wide))
+    ∙ inserted was (set mid at x) at x (omega (arith, long, c.requires.place))
+    (omega (arith, kept, same, long-wide, long, c.requires.ordered))
+    (λ k lt. get_or-set_other mid at k x no_entry (λ e. omega (arith, e, lt))
+    ∙ before k no_entry (omega (arith, lt)) ∙ alike k (omega (arith, lt, c.requires.place)))
+    (get_or-set_same mid at x no_entry (omega (arith, same, long-wide, c.requires.ordered, c.requires.place)))
     (λ k ge lt.
-    let e : start + (k + 1) ≡ start + c.args.at + 1 + (k - c.args.at) = omega (arith, ge) in
-    let f : start + c.args.at + (k - c.args.at) ≡ start + k = omega (arith, ge) in
-    get_or-set_other mid to (start + (k + 1)) x no_entry (λ e. omega (arith, e, ge))
-    ∙ ap (λ (j : ℕ). get_or mid j no_entry) e
-    ∙ c.slide_up.ensures.moved (k - c.args.at) (omega (arith, ge, lt))
-    ∙ ap (λ (j : ℕ). get_or old j no_entry) f)
+    let e : at + (k + 1 - (at + 1)) ≡ k = omega (arith, ge) in
+    get_or-set_other mid at (k + 1) x no_entry (λ e. omega (arith, e, ge))
+    ∙ moved (k + 1) no_entry (omega (arith, ge)) (omega (arith, ge, lt, long))
+    ∙ ap (λ (j : ℕ). get_or wide j no_entry) e ∙ alike k (omega (arith, lt, long)))
