@@ -1,4 +1,6 @@
+pub mod Appended
 pub mod Arrays
+pub mod Behind
 pub mod Columns
 pub mod Cycles
 pub mod Edits

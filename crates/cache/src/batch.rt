@@ -145,7 +145,8 @@ impl Batch {
 
     /// Puts blocks at the numbers from the address on, each in place of the one that was there.
     /// The bytes are whole blocks of 512 bytes, at least one, which fit.
-    #[inline]
+    // Each way is short for one block, and many calls are for one.
+    #[inline(always)]
     pub fn put(&mut self, address: u64, bytes: &[u8])
         requires some { 512 ≤ length bytes.now }
         requires whole { length bytes.now % 512 ≡ 0 }
@@ -160,10 +161,12 @@ impl Batch {
         ensures room_stays { self.new.room ≡ self.old.room }
         ensures well_formed { IsWellFormed self.new }
     {
-        let mut place = place_of(self.parts.index.entries(), address);
-        for i in 0..bytes.len() / BLOCK {
-            let at = i * BLOCK;
-            place = self.put_block(place, address + i as u64, &bytes[at..at + BLOCK]);
+        let entries = self.parts.index.entries();
+        let place = place_of(entries, address);
+        if place == entries.len() {
+            self.parts.append(address as u32, bytes);
+        } else {
+            self.put_among(place, address, bytes);
         }
     }
 
@@ -182,6 +185,30 @@ impl Batch {
     {
         self.parts.arrange();
         frozen.trade(&mut self.parts);
+    }
+
+    // The same where the place of the address is known, block by block.
+    #[inline(always)]
+    fn put_among(&mut self, place: usize, address: u64, bytes: &[u8])
+        requires some { 512 ≤ length bytes.now }
+        requires whole { length bytes.now % 512 ≡ 0 }
+        requires range { address + length bytes.now / 512 ≤ 2 ^ 31 }
+        requires place { HasPlace self.old.numbers address place }
+        requires fits { Fits self.old address (length bytes.now / 512) }
+        ensures map { (b : ℕ) → map_of self.new b
+            ≡ with_range (map_of self.old) address (length bytes.now / 512) bytes.now b }
+        ensures members { (n : ℕ) → Listed self.new.numbers n
+            ↔ (Listed self.old.numbers n ⊎ InRange address (length bytes.now / 512) n) }
+        ensures count { length self.new.numbers ≡ length self.old.numbers
+            + unlisted self.old.numbers address (length bytes.now / 512) }
+        ensures room_stays { self.new.room ≡ self.old.room }
+        ensures well_formed { IsWellFormed self.new }
+    {
+        let mut place = place;
+        for i in 0..bytes.len() / BLOCK {
+            let at = i * BLOCK;
+            place = self.put_block(place, address + i as u64, &bytes[at..at + BLOCK]);
+        }
     }
 
     // Puts one block where the place of its number is known, and gives the place of the next number.

@@ -3,6 +3,7 @@
 //! room is made once; no later call takes memory.
 #![tactic(auto)]
 
+mod append;
 mod arrange;
 mod batch;
 mod batch_error;

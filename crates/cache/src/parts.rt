@@ -1,13 +1,15 @@
 //! What a batch is made of, in whichever order its blocks lie.
-ghost use Rattle.std.specs.Prelude.{◌≡◌, ◌↔◌, ◌+◌, ◌≤◌, [], length, Some, None, vec_capacity};
+ghost use Rattle.std.specs.Prelude.{◌≡◌, ◌↔◌, ◌+◌, ◌/◌, ◌%◌, ◌^◌, ◌≤◌, [], length, Some, None};
+ghost use Rattle.std.specs.Prelude.{vec_capacity};
 ghost use Rattle.std.specs.Prelude.{IfOk, IfSome, IsNone};
 ghost use Rattle.cache.specs.Blocks.{absent};
-ghost use Rattle.cache.specs.Entries.{PutsBlock, map_of};
+ghost use Rattle.cache.specs.Entries.{Appends, PutsBlock, map_of};
 ghost use Rattle.cache.specs.Index.{numbers_of, entries_of};
 ghost use Rattle.cache.specs.Places.{HasPlace};
 ghost use Rattle.cache.specs.View.{view_of, IsKept, IsArranged};
 
 use crate::BatchError;
+use crate::append::{write_blocks, write_entries};
 use crate::arrange::arrange_cells;
 use crate::counter::Steps;
 use crate::entry::{BLOCK, Entry, number_of, put_entry, row_place};
@@ -94,6 +96,28 @@ impl Parts {
         ensures next { HasPlace (numbers_of (entries_of self.new.index)) (number + 1) (place + 1) }
     {
         put_entry(&mut self.index, &mut self.row, place, number, block);
+    }
+
+    /// Puts whole blocks at the numbers from this one on, where all others are smaller.
+    #[inline]
+    pub(crate) fn append(&mut self, number: u32, bytes: &[u8])
+        requires kept { IsKept self.old }
+        requires behind { HasPlace (numbers_of (entries_of self.old.index)) number
+            (length (numbers_of (entries_of self.old.index))) }
+        requires whole { length bytes.now % 512 ≡ 0 }
+        requires small { number + length bytes.now / 512 ≤ 2 ^ 31 }
+        requires room { length (numbers_of (entries_of self.old.index)) + length bytes.now / 512
+            ≤ self.old.room }
+        ensures kept { IsKept self.new }
+        ensures appends { Appends number (length bytes.now / 512) bytes.now
+            (view_of self.old) (view_of self.new) }
+    {
+        let first = self.index.entries().len();
+        let count = bytes.len() / BLOCK;
+        write_blocks(&mut self.row, first, bytes);
+        let end = self.index.end;
+        write_entries(&mut self.index.cells, end, count, number, first as u32);
+        self.index.end = end + count;
     }
 
     /// Puts the blocks into the order of their numbers, and tells these.
