@@ -9,6 +9,7 @@ pub mod ReadingOne
 pub mod Zeros
 pub mod Formats
 pub mod Engine
+pub mod Ending
 pub mod Retiring
 pub mod Wholeness
 pub mod Deciding

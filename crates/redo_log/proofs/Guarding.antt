@@ -16,8 +16,8 @@ use Rattle.log_image.specs.Staged as staged
 use Rattle.log_image.specs.Staged.{HasSlots, Guarded, Resting, IsHomed}
 use Rattle.log_image.proofs.Overlay.{records-hide}
 use Rattle.log_image.proofs.Formats.{laws_of}
-use Rattle.log_image.proofs.Engine.{rests_logged, guarded_leaves, rest_early, durable_rests, Guarded-write, Guarded-lost, Guarded-flush}
-use Rattle.log_image.proofs.Engine.{other_written}
+use Rattle.log_image.proofs.Engine.{rests_logged, Guarded-write, Guarded-lost, Guarded-flush, other_written}
+use Rattle.log_image.proofs.Ending.{guarded_leaves, rest_early, durable_rests}
 use Rattle.log_image.proofs.Retiring.{Resting-home, Resting-head, Guarded-home, Guarded-head, HasSlots-less}
 use Rattle.redo_log.specs.Logged.{HasRecords, Logged, AreHome}
 use Rattle.redo_log.specs.Stages.{IsSized}
