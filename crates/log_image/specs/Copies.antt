@@ -13,7 +13,7 @@ copy_reads_of One = 1
 copy_reads_of Two = 2
 
 -- Calls that are all reads: so many, or fewer where one is refused, which is then the last.
-pub record ReadsPass (count : ℕ) (result : Result (Unit {0}) MediumFault) (old new : State)
+pub record MakesReads (count : ℕ) (result : Result (Unit {0}) MediumFault) (old new : State)
     : Type 0 where
   pub some_calls : old.calls < new.calls
   pub few_calls : new.calls ≤ old.calls + count

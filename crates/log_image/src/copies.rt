@@ -5,7 +5,7 @@ ghost use Rattle.medium.specs.Medium.{Passes};
 ghost use Rattle.medium.specs.Moments.{IsQuiet};
 ghost use Rattle.log_layout.specs.Places.{limit_of, sectors_of};
 ghost use Rattle.log_layout.specs.Values.{shape_of};
-ghost use Rattle.log_image.specs.Copies.{copy_reads_of, ReadsPass};
+ghost use Rattle.log_image.specs.Copies.{copy_reads_of, MakesReads};
 ghost use Rattle.log_image.specs.Formats.{IsWhole};
 ghost use Rattle.log_image.specs.Record.{Entry, block_of};
 
@@ -32,7 +32,7 @@ pub fn read_copy<M: Medium>(
         → i < length entries
         → IsWhole (shape_of sizes.now) (M.state m.old).content stamp entries
         → OnOk result (to.new ≡ block_of entries i) }
-    ensures passes { ReadsPass (copy_reads_of sizes.now.format) result
+    ensures passes { MakesReads (copy_reads_of sizes.now.format) result
         (M.state m.old) (M.state m.new) }
     ensures quiet { IsQuiet (M.state m.old) (M.state m.new) }
     ensures follows { M.follows m.old m.new }

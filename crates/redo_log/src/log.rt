@@ -60,7 +60,7 @@ impl Log {
     ghost use Rattle.log_layout.specs.Places.{sectors_of};
     ghost use Rattle.log_layout.specs.Values.{shape_of};
     ghost use Rattle.redo_log.specs.Value.{HasRoom, Owes, HasNoCopy, IsNewestCopy, idle_from};
-    ghost use Rattle.log_image.specs.Copies.{copy_reads_of, ReadsPass};
+    ghost use Rattle.log_image.specs.Copies.{copy_reads_of, MakesReads};
     ghost use Rattle.redo_log.specs.Value.{begun, died, most_steps, most_retire_steps};
     ghost use Rattle.redo_log.specs.Value.{IsStepped, IsRetireStepped};
     ghost use Rattle.redo_log.specs.Batch.{IsBatch, entries_of};
@@ -297,7 +297,7 @@ impl Log {
         requires fits { sectors_of self.now.shape ≤ (M.state m.old).size }
         ensures ok { (view : View) (block : ℕ) → HoldsView self.now (M.state m.old) view
             → IsNewestCopy self.now block slot place → OnOk result (to.new ≡ view.array block) }
-        ensures passes { ReadsPass (copy_reads_of self.now.shape.format) result
+        ensures passes { MakesReads (copy_reads_of self.now.shape.format) result
             (M.state m.old) (M.state m.new) }
         ensures quiet { IsQuiet (M.state m.old) (M.state m.new) }
         ensures follows { M.follows m.old m.new }
