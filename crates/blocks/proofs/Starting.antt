@@ -15,7 +15,7 @@ use Rattle.log_image.proofs.StandingLaws.{StandsFor-one}
 use Rattle.recovery.specs.Recovered as recovered
 use Rattle.recovery.specs.Recovered.{IsRecoveredFrom, IsOursForSome}
 use Rattle.recovery.specs.declared.recovered.Recovered.{Recovered}
-use Rattle.redo_log.specs.Logged.{IsFresh}
+use Rattle.redo_log.specs.Logged.{HasNoRecord}
 use Rattle.redo_log.specs.Held.{resting_view, HoldsView}
 use Rattle.redo_log.specs.Value.{idle_from}
 use Rattle.redo_log.proofs.Handing.{idle_holds}
@@ -28,7 +28,7 @@ use Rattle.blocks.proofs.Opening.{serves, opens_on}
 
 -- the log of an image that was recovered is fresh
 fresh_log : (shape : Shape) (array : Array) (next : ℕ) (image : Image) → recovered.IsFresh shape array next image
-    → IsFresh shape next array image
+    → HasNoRecord shape next array image
 fresh_log shape array next image f = record {
   keeps = record { super = f.super; head_is = f.head; whole = λ j below. absurd (omega arith); blocks = f.home };
   carries = λ slot o stamp low small c. omega (arith, f.carries slot o stamp low small c);

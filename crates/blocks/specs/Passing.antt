@@ -11,7 +11,7 @@ use Rattle.blocks.specs.Turns.{IsTurn, IsReadCause, IsPaid}
 
 -- A call makes a turn of this kind, and so many calls of the medium at most. The medium comes after
 -- what it was, by calls alone.
-pub record Passes {M : Type 0} (state : M → State) (Follows : M → M → Type 0)
+pub record PassesOn {M : Type 0} (state : M → State) (Follows : M → M → Type 0)
     (Turn : State → State → Cached → Cached → Type 0) (most : ℕ) (old new : StoreValue M)
     : Type 0 where
   pub turn : Turn (state old.medium) (state new.medium) old.cached new.cached

@@ -5,7 +5,7 @@ ghost use Rattle.blocks.specs.Book.{IsTransfer, write_of};
 ghost use Rattle.blocks.specs.StoreValue.{blocks_of, transfer_limit, is_dead, active_of};
 ghost use Rattle.blocks.specs.StoreValue.{batch_steps, steps_left, FitsBeside};
 ghost use Rattle.blocks.specs.Turns.{IsWriteTurn};
-ghost use Rattle.blocks.specs.Passing.{Passes, KeepsMedium, Answers};
+ghost use Rattle.blocks.specs.Passing.{PassesOn, KeepsMedium, Answers};
 ghost use Rattle.blocks.specs.Calls.{WritesRange, AppendsRange};
 
 use crate::store::BLOCK;
@@ -26,7 +26,7 @@ impl<M: Medium> Store<M> {
     pub fn write(&mut self, address: u64, bytes: &[u8]) -> Result<(), StoreFault>
         requires { IsTransfer (transfer_limit self.old.cached) (blocks_of self.old.cached)
             address (length bytes.now) }
-        ensures passes { Passes M.state M.follows (IsWriteTurn (write_of address bytes.now)
+        ensures passes { PassesOn M.state M.follows (IsWriteTurn (write_of address bytes.now)
             (is_ok result)) (2 * steps_left self.old.cached) self.old self.new }
         ensures answers { Answers result self.old self.new }
         ensures batches { WritesRange result address (length bytes.now / 512)

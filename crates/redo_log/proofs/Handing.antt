@@ -15,7 +15,7 @@ use Rattle.log_image.proofs.Engine.{rests_logged, rests_begun}
 use Rattle.log_image.proofs.Formats.{laws_of, most_is}
 use Rattle.redo_log.specs.Value.{LogValue, HasRoom, steps_of, retire_steps_of, behind_oldest, of_oldest, idle_from, begun, died}
 use Rattle.redo_log.specs.Batch.{IsBatch}
-use Rattle.redo_log.specs.Logged.{IsFresh, AreHome}
+use Rattle.redo_log.specs.Logged.{HasNoRecord, AreHome}
 use Rattle.redo_log.specs.Stages.{homed_at, IsRead}
 use Rattle.redo_log.specs.Held.{View, resting_view, with_begun, image_view, written_of, flushed_of, made_of, turned_of, oldest_of, MayLeave}
 use Rattle.redo_log.specs.Held.{stamps_of, HoldsView}
@@ -27,7 +27,7 @@ pub use Rattle.redo_log.proofs.Finding.{home_is, copy_is}
 
 -- a new log holds a medium whose blocks are at home and whose log is fresh
 pub idle_holds : (shape : Shape) (next : ℕ) (array : Array) (ours : Bool) (m : State) → sectors_of shape ≤ m.size
-    → ((b : ℕ) → b < shape.blocks → m.content (first_home shape + b) ≡ array b) → (ours ≡ true → EachCut (IsFresh shape next array) m)
+    → ((b : ℕ) → b < shape.blocks → m.content (first_home shape + b) ≡ array b) → (ours ≡ true → EachCut (HasNoRecord shape next array) m)
     → HoldsView (idle_from shape next) m (resting_view array ours)
 idle_holds shape next array ours m fits home fresh = record {
   fits = fits;

@@ -23,8 +23,8 @@ Logged shape head records array image =
 
 -- The image has this array at home and no record, and its log carries neither its head's stamp nor
 -- a later one.
-abbrev pub IsFresh : Shape → ℕ → Array → Image → Type 0
-IsFresh shape head array image = RestsIn (layout_of shape.format) shape image head [] array
+abbrev pub HasNoRecord : Shape → ℕ → Array → Image → Type 0
+HasNoRecord shape head array image = RestsIn (layout_of shape.format) shape image head [] array
 
 -- the first so many of these blocks stand at home
 abbrev pub AreHome : Shape → List Entry → ℕ → Image → Type 0
