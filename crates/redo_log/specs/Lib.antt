@@ -7,3 +7,4 @@ pub mod Stages
 pub mod Calls
 pub mod Turns
 pub mod Shown
+pub mod Steps

@@ -1,10 +1,9 @@
 //! A redo log and its records.
 ghost use Rattle.std.specs.Prelude.{◌≡◌, ℕ, ◌+◌, ◌-◌, ◌*◌, ◌^◌, ◌<◌, ◌≤◌, ◌↔◌, true, false, []};
 ghost use Rattle.std.specs.Prelude.{length};
-ghost use Rattle.std.specs.Prelude.{IsTrue, IsOk, is_ok};
-ghost use Rattle.std.specs.Prelude.{OnOk, OnErr, IfOk, IfErr, MatchResult, MatchOption};
-ghost use Rattle.std.specs.Prelude.{if◌then◌else◌};
-ghost use Rattle.medium.specs.Moments.{EachCut, LeavesOnly, SparesFrom, IsQuiet};
+ghost use Rattle.std.specs.Prelude.{IsTrue, IsOk};
+ghost use Rattle.std.specs.Prelude.{OnOk, IfOk, IfErr, MatchResult, MatchOption};
+ghost use Rattle.medium.specs.Moments.{EachCut};
 
 use crate::call::make_next;
 use crate::index::{Copied, drop_slot, enter_record, newest};
@@ -64,8 +63,9 @@ impl Log {
     ghost use Rattle.redo_log.specs.Value.{begun, died, most_steps, most_retire_steps};
     ghost use Rattle.redo_log.specs.Value.{IsStepped, IsRetireStepped};
     ghost use Rattle.redo_log.specs.Batch.{IsBatch, entries_of};
-    ghost use Rattle.redo_log.specs.Held.{View, HoldsView, HasDurable, MayLeave};
+    ghost use Rattle.redo_log.specs.Held.{View, HoldsView, HasDurable};
     ghost use Rattle.redo_log.specs.Held.{with_record, view_stepped, view_retired};
+    ghost use Rattle.redo_log.specs.Steps.{AnswersStep, PassesStep, LeavesLog, KeepsLog};
     ghost use Rattle.redo_log.specs.declared.progress.Progress.TheVariants.{Durable};
 
     /// A log without records on a medium with this super. Its first record takes the stamp `next`.
@@ -174,14 +174,10 @@ impl Log {
         requires numbers { numbers.now ≡ self.old.under_way }
         requires bytes { length bytes.now ≡ 512 * length numbers.now }
         requires fits { sectors_of self.old.shape ≤ (M.state m.old).size }
-        ensures ok { IfOk result (λ progress. IsStepped progress self.old self.new) }
-        ensures err { OnErr result (self.new ≡ died self.old) }
-        ensures fault { IfErr result (λ fault. fault ≡ LogFault.Medium) }
-        ensures calls { (M.state m.new).calls ≡ (M.state m.old).calls + 1 }
-        ensures failures { (M.state m.new).failures
-            ≡ (if is_ok result then (M.state m.old).failures else (M.state m.old).failures + 1) }
-        ensures size { (M.state m.new).size ≡ (M.state m.old).size }
-        ensures follows { M.follows m.old m.new }
+        ensures answers { AnswersStep (λ progress. IsStepped progress self.old self.new) result
+            self.old self.new }
+        ensures passes { PassesStep M.state M.follows
+            ((M.state m.new).calls ≡ (M.state m.old).calls + 1) result m.old m.new }
         ensures holds { (view : View) → HoldsView self.old (M.state m.old) view
             → view.under_way ≡ entries_of numbers.now bytes.now
             → MatchResult result
@@ -193,13 +189,7 @@ impl Log {
             → result ≡ Ok Durable
             → EachCut (HasDurable (M.state m.new).size self.new (with_record view))
             (M.state m.new) }
-        ensures cuts { (view : View) → HoldsView self.old (M.state m.old) view → view.ours ≡ true
-            → LeavesOnly (MayLeave (M.state m.old).size self.old view)
-            (M.state m.old) (M.state m.new) }
-        ensures moments { LeavesOnly (λ _. Unit {0}) (M.state m.old) (M.state m.new) }
-        // No sector behind the image is written.
-        ensures spares { SparesFrom (sectors_of self.old.shape)
-            (M.state m.old) (M.state m.new) }
+        ensures leaves { LeavesLog self.old (M.state m.old) (M.state m.new) }
     {
         let Some(made) = self.made else {
             unreachable!()
@@ -231,26 +221,16 @@ impl Log {
         requires fits { sectors_of self.old.shape ≤ (M.state m.old).size }
         ensures none { self.old.waiting ≡ []
             → IsOk result × (self.new ≡ self.old) × (m.new ≡ m.old) }
-        ensures ok { OnOk result (0 < length self.old.waiting → IsRetireStepped self.old self.new) }
-        ensures err { OnErr result (self.new ≡ died self.old) }
-        ensures fault { IfErr result (λ fault. fault ≡ LogFault.Medium) }
-        ensures calls { (M.state m.new).calls ≤ (M.state m.old).calls + 2 }
-        ensures failures { (M.state m.new).failures
-            ≡ (if is_ok result then (M.state m.old).failures else (M.state m.old).failures + 1) }
-        ensures size { (M.state m.new).size ≡ (M.state m.old).size }
-        ensures follows { M.follows m.old m.new }
+        ensures answers { AnswersStep (λ _. 0 < length self.old.waiting
+            → IsRetireStepped self.old self.new) result self.old self.new }
+        ensures passes { PassesStep M.state M.follows
+            ((M.state m.new).calls ≤ (M.state m.old).calls + 2) result m.old m.new }
         ensures holds { (view : View) → HoldsView self.old (M.state m.old) view
             → MatchResult result
             (λ _. HoldsView self.new (M.state m.new)
             (view_retired (self.new.head - self.old.head) view))
             (λ _. HoldsView self.new (M.state m.new) view) }
-        ensures cuts { (view : View) → HoldsView self.old (M.state m.old) view → view.ours ≡ true
-            → LeavesOnly (MayLeave (M.state m.old).size self.old view)
-            (M.state m.old) (M.state m.new) }
-        ensures moments { LeavesOnly (λ _. Unit {0}) (M.state m.old) (M.state m.new) }
-        // No sector behind the image is written.
-        ensures spares { SparesFrom (sectors_of self.old.shape)
-            (M.state m.old) (M.state m.new) }
+        ensures leaves { LeavesLog self.old (M.state m.old) (M.state m.new) }
     {
         let Some(oldest) = self.waiting.front() else {
             return Ok(());
@@ -299,13 +279,8 @@ impl Log {
             → IsNewestCopy self.now block slot place → OnOk result (to.new ≡ view.array block) }
         ensures passes { MakesReads (copy_reads_of self.now.shape.format) result
             (M.state m.old) (M.state m.new) }
-        ensures quiet { IsQuiet (M.state m.old) (M.state m.new) }
+        ensures keeps { KeepsLog self.now (M.state m.old) (M.state m.new) }
         ensures follows { M.follows m.old m.new }
-        ensures holds { (view : View) → HoldsView self.now (M.state m.old) view
-            → HoldsView self.now (M.state m.new) view }
-        ensures cuts { (view : View) → HoldsView self.now (M.state m.old) view → view.ours ≡ true
-            → LeavesOnly (MayLeave (M.state m.old).size self.now view)
-            (M.state m.old) (M.state m.new) }
     {
         prove!(slot < self.sizes.slots && place < self.sizes.format.limit() as usize);
         read_copy(m, &self.sizes, slot, place, to)

@@ -14,10 +14,11 @@ invariant_of-self g c =
     let after = (g.M.Medium.state c.retire_step.new.m).size in
     let idle = ap (λ v. v.cached.log.steps_left) c.self.view_is ∙ c.requires.idle in
     elim c.match-retire_step.branch [
-      | in-Ok w ↦ still_kept before after i.sizes _ c.retire_step.new.self i.writing w.in-Ok.ensures.size idle
-          (retained _ c.retire_step.new.self (λ none. (w.in-Ok.ensures.none none).1) w.in-Ok.ensures.ok) c.self.invariant
+      | in-Ok w ↦ still_kept before after i.sizes _ c.retire_step.new.self i.writing w.in-Ok.ensures.passes.size idle
+          (retained _ c.retire_step.new.self (λ none. (w.in-Ok.ensures.none none).1) w.in-Ok.ensures.answers.ok) c.self.invariant
       | in-Err w ↦
-          died_kept before after i.sizes _ c.retire_step.new.self i.writing w.in-Err.ensures.size w.in-Err.ensures.err c.self.invariant
+          died_kept before after i.sizes _ c.retire_step.new.self i.writing w.in-Err.ensures.passes.size w.in-Err.ensures.answers.err
+          c.self.invariant
     ]
 
 pub returns-clause-retiring : goal.returns-clause-retiring
@@ -35,10 +36,10 @@ returns-clause-retiring g c =
             subst (λ m. IsUnchanged (g.M.Medium.state c.self.inside.medium) (g.M.Medium.state m))
                 (sym (w.in-Ok.ensures.none none).2) (unchanged before),
           ))
-          w.in-Ok.ensures.calls live w.in-Ok.ensures.failures w.in-Ok.ensures.ok)
+          w.in-Ok.ensures.passes.calls live w.in-Ok.ensures.passes.failures w.in-Ok.ensures.answers.ok)
       | in-Err w ↦ rw (← c.self.view_is)
           (is_dying before after _ c.retire_step.new.self (λ none. absurd (false≢true (w.in-Err.ensures.none none).0))
-          w.in-Err.ensures.calls w.in-Err.ensures.failures w.in-Err.ensures.err)
+          w.in-Err.ensures.passes.calls w.in-Err.ensures.passes.failures w.in-Err.ensures.answers.err)
     ]
 
 pub returns-clause-passes : goal.returns-clause-passes
@@ -49,13 +50,14 @@ returns-clause-passes g c = record {
       elim c.match-retire_step.branch [
         | in-Ok w ↦
             rw (← c.self.view_is)
-            (retires before after _ c.retire_step.new.self (λ none. (w.in-Ok.ensures.none none).1) w.in-Ok.ensures.ok
-            (omega (arith, w.in-Ok.ensures.failures)) w.in-Ok.ensures.size w.in-Ok.ensures.holds w.in-Ok.ensures.cuts
-            w.in-Ok.ensures.spares)
+            (retires before after _ c.retire_step.new.self (λ none. (w.in-Ok.ensures.none none).1) w.in-Ok.ensures.answers.ok
+            (omega (arith, w.in-Ok.ensures.passes.failures)) w.in-Ok.ensures.passes.size w.in-Ok.ensures.holds
+            w.in-Ok.ensures.leaves.cuts w.in-Ok.ensures.leaves.spares)
         | in-Err w ↦
             rw (← c.self.view_is)
-            (dies before after _ c.retire_step.new.self w.in-Err.ensures.err (omega (arith, w.in-Err.ensures.failures))
-            w.in-Err.ensures.size (λ book f. w.in-Err.ensures.holds f.view f.holds) w.in-Err.ensures.cuts w.in-Err.ensures.spares)
+            (dies before after _ c.retire_step.new.self w.in-Err.ensures.answers.err (omega (arith, w.in-Err.ensures.passes.failures))
+            w.in-Err.ensures.passes.size (λ book f. w.in-Err.ensures.holds f.view f.holds) w.in-Err.ensures.leaves.cuts
+            w.in-Err.ensures.leaves.spares)
       ];
   calls = search rules;
   follows = search rules;

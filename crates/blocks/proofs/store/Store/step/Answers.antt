@@ -8,11 +8,11 @@ returns-in-Ok-More-clause-passes g c = record {
       let called = c.in-Ok-More.ensures in
       rw (← c.self.view_is)
       (steps_on (g.M.Medium.state c.self.inside.medium) (g.M.Medium.state c.step.new.m) _ c.step.new.self
-      (rw c.in-Ok-More.field-0-is at called.ok) (omega (arith, called.failures)) called.size
+      (rw c.in-Ok-More.field-0-is at called.answers.ok) (omega (arith, called.passes.failures)) called.passes.size
       (λ book f. rw c.in-Ok-More.field-0-is at
       (called.holds f.view f.holds
       (rw (c.numbers-numbers.ensures.value, c.bytes.ensures.value) (f.under_way (rw (← c.self.view_is) at c.requires.under_way)))))
-      called.cuts called.spares);
+      called.leaves.cuts called.leaves.spares);
   calls = search rules;
   follows = search rules;
 }
@@ -23,12 +23,12 @@ returns-in-Ok-Durable-clause-passes g c = record {
       let called = c.in-Ok-Durable.ensures in
       rw (← c.self.view_is)
       (steps_last (g.M.Medium.state c.self.inside.medium) (g.M.Medium.state c.step.new.m) _ c.step.new.self c.clear.new.self
-      (rw c.in-Ok-Durable.field-0-is at called.ok) (ap (λ batch. batch.numbers) c.clear.ensures)
-      (omega (arith, called.failures)) called.size
+      (rw c.in-Ok-Durable.field-0-is at called.answers.ok) (ap (λ batch. batch.numbers) c.clear.ensures)
+      (omega (arith, called.passes.failures)) called.passes.size
       (λ book f. rw c.in-Ok-Durable.field-0-is at
       (called.holds f.view f.holds
       (rw (c.numbers-numbers.ensures.value, c.bytes.ensures.value) (f.under_way (rw (← c.self.view_is) at c.requires.under_way)))))
-      called.cuts called.spares);
+      called.leaves.cuts called.leaves.spares);
   calls = search rules;
   follows = search rules;
 }
@@ -38,11 +38,11 @@ returns-in-Err-clause-passes g c = record {
   turn =
       let called = c.in-Err.ensures in
       rw (← c.self.view_is)
-      (dies (g.M.Medium.state c.self.inside.medium) (g.M.Medium.state c.step.new.m) _ c.step.new.self called.err
-      (omega (arith, called.failures)) called.size
+      (dies (g.M.Medium.state c.self.inside.medium) (g.M.Medium.state c.step.new.m) _ c.step.new.self called.answers.err
+      (omega (arith, called.passes.failures)) called.passes.size
       (λ book f. called.holds f.view f.holds
       (rw (c.numbers-numbers.ensures.value, c.bytes.ensures.value) (f.under_way (rw (← c.self.view_is) at c.requires.under_way))))
-      called.cuts called.spares);
+      called.leaves.cuts called.leaves.spares);
   calls = search rules;
   follows = search rules;
 }

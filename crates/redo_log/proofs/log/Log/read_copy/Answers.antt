@@ -32,12 +32,13 @@ returns-clause-ok g c view block holds copy =
     (subst (λ (s : Shape). IsWhole s old.content (c.args.self.now.head + copy.age) (get_or view.records copy.age [])) shape_is
     there.1))
 
-pub returns-clause-holds : goal.returns-clause-holds
-returns-clause-holds g c view holds =
-    quiet_held c.args.self.now view (g.M.Medium.state c.args.m.now) (g.M.Medium.state c.read_copy.new.m) c.read_copy.ensures.quiet holds
-
-pub returns-clause-cuts : goal.returns-clause-cuts
-returns-clause-cuts g c view holds ours =
-    let old = g.M.Medium.state c.args.m.now in
-    quiet_leaves (MayLeave old.size c.args.self.now view) old (g.M.Medium.state c.read_copy.new.m) (g.met.M.Medium.sound c.args.m.now)
-    (holds.leaves ours) c.read_copy.ensures.quiet
+pub returns-clause-keeps : goal.returns-clause-keeps
+returns-clause-keeps g c = record {
+  quiet = c.read_copy.ensures.quiet;
+  holds = λ view holds.
+      quiet_held c.args.self.now view (g.M.Medium.state c.args.m.now) (g.M.Medium.state c.read_copy.new.m) c.read_copy.ensures.quiet holds;
+  cuts = λ view holds ours.
+      let old = g.M.Medium.state c.args.m.now in
+      quiet_leaves (MayLeave old.size c.args.self.now view) old (g.M.Medium.state c.read_copy.new.m) (g.met.M.Medium.sound c.args.m.now)
+      (holds.leaves ours) c.read_copy.ensures.quiet;
+}

@@ -20,14 +20,15 @@ use Rattle.redo_log.proofs.log.Log.retire_step.Goals as goal
 many : (records : List (ArrayVec ℕ)) → length (lists_of records) ≡ length records
 many records = let f : ArrayVec ℕ → List ℕ = λ r. r.items in length-map records f
 
-pub returns-in_default-clause-cuts : goal.returns-in_default-clause-cuts
-returns-in_default-clause-cuts g c view holds ours =
-    started (MayLeave (g.M.Medium.state c.args.m.now).size c.args.self.now view) (g.M.Medium.state c.args.m.now)
-    (g.met.M.Medium.sound c.args.m.now) (holds.leaves ours)
-
-pub returns-in_default-clause-moments : goal.returns-in_default-clause-moments
-returns-in_default-clause-moments g c =
-    started (λ _. Unit {0}) (g.M.Medium.state c.args.m.now) (g.met.M.Medium.sound c.args.m.now) (λ image cut. tt)
+pub returns-in_default-clause-leaves : goal.returns-in_default-clause-leaves
+returns-in_default-clause-leaves g c = record {
+  cuts = λ view holds ours.
+      started (MayLeave (g.M.Medium.state c.args.m.now).size c.args.self.now view) (g.M.Medium.state c.args.m.now)
+      (g.met.M.Medium.sound c.args.m.now) (holds.leaves ours);
+  moments =
+      started (λ _. Unit {0}) (g.M.Medium.state c.args.m.now) (g.met.M.Medium.sound c.args.m.now) (λ image cut. tt);
+  spares = search rules;
+}
 
 -- the oldest record stands first
 waits_is : (records : List (ArrayVec ℕ)) (first : ArrayVec ℕ) (numbers : List ℕ) → 0 < length records
@@ -67,71 +68,65 @@ returns-then-is_err-clause-holds g c view holds =
     (g.M.Medium.state c.make.new.m) view)
     (sym keeps) (subst (λ (v : LogValue). HoldsView (died v) (g.M.Medium.state c.make.new.m) view) (sym c.self.view_is) dead)
 
-pub returns-then-is_err-clause-cuts : goal.returns-then-is_err-clause-cuts
-returns-then-is_err-clause-cuts g c view holds ours =
-    let i = c.self.inside in
-    let some : 0 < length i.waiting.items = search rules in
-    let waits = waits_is i.waiting.items c.in-Some.oldest.now c.as_slice-numbers.result.now some c.in-Some.ensures.lookup
-    c.as_slice-numbers.ensures.value in
-    turn_cuts (shape_of i.sizes) (sizes_sized i.sizes) i.head (lists_of i.waiting.items) i.turned i.kept i.under_way.items i.made i.dead
-    c.args.self.now c.self.view_is c.requires.live c.self.invariant.ring c.self.invariant.least
-    (omega (arith, c.self.invariant.most, many i.waiting.items)) c.as_slice-numbers.result.now (lists_of (drop 1 i.waiting.items)) waits
-    (g.M.Medium.state c.args.m.now) (g.M.Medium.state c.make.new.m) (g.met.M.Medium.sound c.args.m.now) c.next_turn-turn.result
-    c.next_turn-turn.ensures.next c.make.ensures.makes.adds view holds ours
+pub returns-then-is_err-clause-leaves : goal.returns-then-is_err-clause-leaves
+returns-then-is_err-clause-leaves g c = record {
+  cuts = λ view holds ours.
+      let i = c.self.inside in
+      let some : 0 < length i.waiting.items = search rules in
+      let waits = waits_is i.waiting.items c.in-Some.oldest.now c.as_slice-numbers.result.now some c.in-Some.ensures.lookup
+      c.as_slice-numbers.ensures.value in
+      turn_cuts (shape_of i.sizes) (sizes_sized i.sizes) i.head (lists_of i.waiting.items) i.turned i.kept i.under_way.items i.made i.dead
+      c.args.self.now c.self.view_is c.requires.live c.self.invariant.ring c.self.invariant.least
+      (omega (arith, c.self.invariant.most, many i.waiting.items)) c.as_slice-numbers.result.now (lists_of (drop 1 i.waiting.items)) waits
+      (g.M.Medium.state c.args.m.now) (g.M.Medium.state c.make.new.m) (g.met.M.Medium.sound c.args.m.now) c.next_turn-turn.result
+      c.next_turn-turn.ensures.next c.make.ensures.makes.adds view holds ours;
+  moments =
+      turn_moments c.next_turn-turn.result (g.M.Medium.state c.args.m.now) (g.M.Medium.state c.make.new.m)
+      (g.met.M.Medium.sound c.args.m.now) c.make.ensures.makes.adds;
+  spares =
+      turn_spares (shape_of c.self.inside.sizes) c.args.self.now (g.M.Medium.state c.args.m.now) (g.M.Medium.state c.make.new.m)
+      (ap (λ (v : LogValue). v.shape) c.self.view_is) c.next_turn-turn.result c.next_turn-turn.ensures.inside c.make.ensures.makes.spares;
+}
 
-pub returns-then-is_err-clause-moments : goal.returns-then-is_err-clause-moments
-returns-then-is_err-clause-moments g c =
-    turn_moments c.next_turn-turn.result (g.M.Medium.state c.args.m.now) (g.M.Medium.state c.make.new.m) (g.met.M.Medium.sound c.args.m.now)
-    c.make.ensures.makes.adds
+pub returns-then-self-home-clause-leaves : goal.returns-then-self-home-clause-leaves
+returns-then-self-home-clause-leaves g c = record {
+  cuts = λ view holds ours.
+      let i = c.self.inside in
+      let some : 0 < length i.waiting.items = search rules in
+      let waits = waits_is i.waiting.items c.in-Some.oldest.now c.as_slice-numbers.result.now some c.in-Some.ensures.lookup
+      c.as_slice-numbers.ensures.value in
+      turn_cuts (shape_of i.sizes) (sizes_sized i.sizes) i.head (lists_of i.waiting.items) i.turned i.kept i.under_way.items i.made i.dead
+      c.args.self.now c.self.view_is c.requires.live c.self.invariant.ring c.self.invariant.least
+      (omega (arith, c.self.invariant.most, many i.waiting.items)) c.as_slice-numbers.result.now (lists_of (drop 1 i.waiting.items)) waits
+      (g.M.Medium.state c.args.m.now) (g.M.Medium.state c.make.new.m) (g.met.M.Medium.sound c.args.m.now) c.next_turn-turn.result
+      c.next_turn-turn.ensures.next c.make.ensures.makes.adds view holds ours;
+  moments =
+      turn_moments c.next_turn-turn.result (g.M.Medium.state c.args.m.now) (g.M.Medium.state c.make.new.m)
+      (g.met.M.Medium.sound c.args.m.now) c.make.ensures.makes.adds;
+  spares =
+      turn_spares (shape_of c.self.inside.sizes) c.args.self.now (g.M.Medium.state c.args.m.now) (g.M.Medium.state c.make.new.m)
+      (ap (λ (v : LogValue). v.shape) c.self.view_is) c.next_turn-turn.result c.next_turn-turn.ensures.inside c.make.ensures.makes.spares;
+}
 
-pub returns-then-is_err-clause-spares : goal.returns-then-is_err-clause-spares
-returns-then-is_err-clause-spares g c =
-    turn_spares (shape_of c.self.inside.sizes) c.args.self.now (g.M.Medium.state c.args.m.now) (g.M.Medium.state c.make.new.m)
-    (ap (λ (v : LogValue). v.shape) c.self.view_is) c.next_turn-turn.result c.next_turn-turn.ensures.inside c.make.ensures.makes.spares
-
-pub returns-then-self-home-clause-cuts : goal.returns-then-self-home-clause-cuts
-returns-then-self-home-clause-cuts g c view holds ours =
-    let i = c.self.inside in
-    let some : 0 < length i.waiting.items = search rules in
-    let waits = waits_is i.waiting.items c.in-Some.oldest.now c.as_slice-numbers.result.now some c.in-Some.ensures.lookup
-    c.as_slice-numbers.ensures.value in
-    turn_cuts (shape_of i.sizes) (sizes_sized i.sizes) i.head (lists_of i.waiting.items) i.turned i.kept i.under_way.items i.made i.dead
-    c.args.self.now c.self.view_is c.requires.live c.self.invariant.ring c.self.invariant.least
-    (omega (arith, c.self.invariant.most, many i.waiting.items)) c.as_slice-numbers.result.now (lists_of (drop 1 i.waiting.items)) waits
-    (g.M.Medium.state c.args.m.now) (g.M.Medium.state c.make.new.m) (g.met.M.Medium.sound c.args.m.now) c.next_turn-turn.result
-    c.next_turn-turn.ensures.next c.make.ensures.makes.adds view holds ours
-
-pub returns-then-self-home-clause-moments : goal.returns-then-self-home-clause-moments
-returns-then-self-home-clause-moments g c =
-    turn_moments c.next_turn-turn.result (g.M.Medium.state c.args.m.now) (g.M.Medium.state c.make.new.m) (g.met.M.Medium.sound c.args.m.now)
-    c.make.ensures.makes.adds
-
-pub returns-then-self-home-clause-spares : goal.returns-then-self-home-clause-spares
-returns-then-self-home-clause-spares g c =
-    turn_spares (shape_of c.self.inside.sizes) c.args.self.now (g.M.Medium.state c.args.m.now) (g.M.Medium.state c.make.new.m)
-    (ap (λ (v : LogValue). v.shape) c.self.view_is) c.next_turn-turn.result c.next_turn-turn.ensures.inside c.make.ensures.makes.spares
-
-pub returns-clause-cuts : goal.returns-clause-cuts
-returns-clause-cuts g c view holds ours =
-    let i = c.self.inside in
-    let some : 0 < length i.waiting.items = search rules in
-    let waits = waits_is i.waiting.items c.in-Some.oldest.now c.as_slice-numbers.result.now some c.in-Some.ensures.lookup
-    c.as_slice-numbers.ensures.value in
-    turn_cuts (shape_of i.sizes) (sizes_sized i.sizes) i.head (lists_of i.waiting.items) i.turned i.kept i.under_way.items i.made i.dead
-    c.args.self.now c.self.view_is c.requires.live c.self.invariant.ring c.self.invariant.least
-    (omega (arith, c.self.invariant.most, many i.waiting.items)) c.as_slice-numbers.result.now (lists_of (drop 1 i.waiting.items)) waits
-    (g.M.Medium.state c.args.m.now) (g.M.Medium.state c.make.new.m) (g.met.M.Medium.sound c.args.m.now) c.next_turn-turn.result
-    c.next_turn-turn.ensures.next c.make.ensures.makes.adds view holds ours
-
-pub returns-clause-moments : goal.returns-clause-moments
-returns-clause-moments g c =
-    turn_moments c.next_turn-turn.result (g.M.Medium.state c.args.m.now) (g.M.Medium.state c.make.new.m) (g.met.M.Medium.sound c.args.m.now)
-    c.make.ensures.makes.adds
-
-pub returns-clause-spares : goal.returns-clause-spares
-returns-clause-spares g c =
-    turn_spares (shape_of c.self.inside.sizes) c.args.self.now (g.M.Medium.state c.args.m.now) (g.M.Medium.state c.make.new.m)
-    (ap (λ (v : LogValue). v.shape) c.self.view_is) c.next_turn-turn.result c.next_turn-turn.ensures.inside c.make.ensures.makes.spares
+pub returns-clause-leaves : goal.returns-clause-leaves
+returns-clause-leaves g c = record {
+  cuts = λ view holds ours.
+      let i = c.self.inside in
+      let some : 0 < length i.waiting.items = search rules in
+      let waits = waits_is i.waiting.items c.in-Some.oldest.now c.as_slice-numbers.result.now some c.in-Some.ensures.lookup
+      c.as_slice-numbers.ensures.value in
+      turn_cuts (shape_of i.sizes) (sizes_sized i.sizes) i.head (lists_of i.waiting.items) i.turned i.kept i.under_way.items i.made i.dead
+      c.args.self.now c.self.view_is c.requires.live c.self.invariant.ring c.self.invariant.least
+      (omega (arith, c.self.invariant.most, many i.waiting.items)) c.as_slice-numbers.result.now (lists_of (drop 1 i.waiting.items)) waits
+      (g.M.Medium.state c.args.m.now) (g.M.Medium.state c.make.new.m) (g.met.M.Medium.sound c.args.m.now) c.next_turn-turn.result
+      c.next_turn-turn.ensures.next c.make.ensures.makes.adds view holds ours;
+  moments =
+      turn_moments c.next_turn-turn.result (g.M.Medium.state c.args.m.now) (g.M.Medium.state c.make.new.m)
+      (g.met.M.Medium.sound c.args.m.now) c.make.ensures.makes.adds;
+  spares =
+      turn_spares (shape_of c.self.inside.sizes) c.args.self.now (g.M.Medium.state c.args.m.now) (g.M.Medium.state c.make.new.m)
+      (ap (λ (v : LogValue). v.shape) c.self.view_is) c.next_turn-turn.result c.next_turn-turn.ensures.inside c.make.ensures.makes.spares;
+}
 
 pub returns-then-self-home-clause-holds : goal.returns-then-self-home-clause-holds
 returns-then-self-home-clause-holds g c view holds =
@@ -180,39 +175,43 @@ invariant_of-self-2 g c =
           (subst (λ (l : List (List ℕ)). IsRing (shape_of i.sizes) l i.turned i.under_way.items i.made) waits c.self.invariant.ring));
     }
 
-pub returns-clause-ok : goal.returns-clause-ok
-returns-clause-ok g c left =
-    let i = c.self.inside in
-    let some : 0 < length i.waiting.items = search rules in
-    let waits = waits_is i.waiting.items c.in-Some.oldest.now c.as_slice-numbers.result.now some c.in-Some.ensures.lookup
-    c.as_slice-numbers.ensures.value in
-    let long : length c.in-Some.oldest.now.items ≡ length c.as_slice-numbers.result.now =
-    ap (λ (l : List ℕ). length l) (sym c.as_slice-numbers.ensures.value) in
-    let home : c.turns_home-home.result ≡ turns_home i.sizes.format (length c.as_slice-numbers.result.now) =
-    c.turns_home-home.ensures ∙ ap (λ (n : ℕ). turns_home i.sizes.format n) (c.len.ensures.value ∙ long) in
-    let shape = shape_of i.sizes in
-    let oldest : i.turned < turns_home i.sizes.format (length c.as_slice-numbers.result.now) + 2 =
-    (subst (λ (l : List (List ℕ)). IsRing (shape_of i.sizes) l i.turned i.under_way.items i.made) waits c.self.invariant.ring).oldest in
-    let each : All (AreInside (shape_of i.sizes)) (lists_of (drop 1 i.waiting.items)) = λ j d below.
-    (subst (λ (l : List (List ℕ)). All (AreInside (shape_of i.sizes)) l) waits c.self.invariant.ring.each) (suc j) d (omega arith) in
-    let last = retired_last (shape_of i.sizes) i.head c.as_slice-numbers.result.now (lists_of (drop 1 i.waiting.items)) i.turned i.kept
-    i.under_way.items i.made i.dead each (omega (arith, oldest, c.if-self-home.false, home)) in
-    subst
-    (λ (v : LogValue). IsRetireStepped v
-    (value_at (shape_of i.sizes) (i.head + 1) (lists_of c.pop_front.new.self.items) 0 (replicate 512 0) i.under_way.items i.made
-    i.dead))
-    c.self.view_is
-    (subst
-    (λ (l : List (ArrayVec ℕ)). IsRetireStepped
-    (value_at (shape_of i.sizes) i.head (lists_of i.waiting.items) i.turned i.kept i.under_way.items i.made i.dead)
-    (value_at (shape_of i.sizes) (i.head + 1) (lists_of l) 0 (replicate 512 0) i.under_way.items i.made i.dead))
-    (sym c.pop_front.ensures.rest)
-    (subst
-    (λ (l : List (List ℕ)). IsRetireStepped
-    (value_at (shape_of i.sizes) i.head l i.turned i.kept i.under_way.items i.made i.dead)
-    (value_at (shape_of i.sizes) (i.head + 1) (lists_of (drop 1 i.waiting.items)) 0 (replicate 512 0) i.under_way.items
-    i.made i.dead))
-    (sym waits) last))
+pub returns-clause-answers : goal.returns-clause-answers
+returns-clause-answers g c = record {
+  ok = λ left.
+      let i = c.self.inside in
+      let some : 0 < length i.waiting.items = search rules in
+      let waits = waits_is i.waiting.items c.in-Some.oldest.now c.as_slice-numbers.result.now some c.in-Some.ensures.lookup
+      c.as_slice-numbers.ensures.value in
+      let long : length c.in-Some.oldest.now.items ≡ length c.as_slice-numbers.result.now =
+      ap (λ (l : List ℕ). length l) (sym c.as_slice-numbers.ensures.value) in
+      let home : c.turns_home-home.result ≡ turns_home i.sizes.format (length c.as_slice-numbers.result.now) =
+      c.turns_home-home.ensures ∙ ap (λ (n : ℕ). turns_home i.sizes.format n) (c.len.ensures.value ∙ long) in
+      let shape = shape_of i.sizes in
+      let oldest : i.turned < turns_home i.sizes.format (length c.as_slice-numbers.result.now) + 2 =
+      (subst (λ (l : List (List ℕ)). IsRing (shape_of i.sizes) l i.turned i.under_way.items i.made) waits c.self.invariant.ring).oldest in
+      let each : All (AreInside (shape_of i.sizes)) (lists_of (drop 1 i.waiting.items)) = λ j d below.
+      (subst (λ (l : List (List ℕ)). All (AreInside (shape_of i.sizes)) l) waits c.self.invariant.ring.each) (suc j) d (omega arith) in
+      let last = retired_last (shape_of i.sizes) i.head c.as_slice-numbers.result.now (lists_of (drop 1 i.waiting.items)) i.turned i.kept
+      i.under_way.items i.made i.dead each (omega (arith, oldest, c.if-self-home.false, home)) in
+      subst
+      (λ (v : LogValue). IsRetireStepped v
+      (value_at (shape_of i.sizes) (i.head + 1) (lists_of c.pop_front.new.self.items) 0 (replicate 512 0) i.under_way.items i.made
+      i.dead))
+      c.self.view_is
+      (subst
+      (λ (l : List (ArrayVec ℕ)). IsRetireStepped
+      (value_at (shape_of i.sizes) i.head (lists_of i.waiting.items) i.turned i.kept i.under_way.items i.made i.dead)
+      (value_at (shape_of i.sizes) (i.head + 1) (lists_of l) 0 (replicate 512 0) i.under_way.items i.made i.dead))
+      (sym c.pop_front.ensures.rest)
+      (subst
+      (λ (l : List (List ℕ)). IsRetireStepped
+      (value_at (shape_of i.sizes) i.head l i.turned i.kept i.under_way.items i.made i.dead)
+      (value_at (shape_of i.sizes) (i.head + 1) (lists_of (drop 1 i.waiting.items)) 0 (replicate 512 0) i.under_way.items
+      i.made i.dead))
+      (sym waits) last));
+  err = search rules;
+  fault = search rules;
+}
 
 pub returns-clause-holds : goal.returns-clause-holds
 returns-clause-holds g c view holds =

@@ -33,71 +33,65 @@ returns-then-is_err-clause-holds g c view holds entries =
     (g.met.M.Medium.sound c.make_next.new.m) in
     subst (λ (v : LogValue). HoldsView (died v) (g.M.Medium.state c.make_next.new.m) view) (sym c.self.view_is) dead
 
-pub returns-then-is_err-clause-cuts : goal.returns-then-is_err-clause-cuts
-returns-then-is_err-clause-cuts g c view holds ours =
-    let i = c.self.inside in
-    step_cuts (shape_of i.sizes) (sizes_sized i.sizes) i.head (lists_of i.waiting.items) i.turned i.kept i.under_way.items i.made i.dead
-    c.args.self.now c.self.view_is c.requires.live c.self.invariant.ring c.self.invariant.least
-    (omega (arith, c.self.invariant.most, many i.waiting.items)) c.args.numbers.now c.args.bytes.now c.in-Some.made c.in-Some.is
-    c.requires.numbers c.requires.bytes (i.head + c.len.result) (omega (arith, c.len.ensures, many i.waiting.items))
-    (g.M.Medium.state c.args.m.now) (g.M.Medium.state c.make_next.new.m) (g.met.M.Medium.sound c.args.m.now) c.make_next.ensures.makes.call
-    c.make_next.result c.make_next.ensures.makes.makes.passes c.make_next.ensures.makes.next c.make_next.ensures.makes.makes.adds
-    view holds ours
+pub returns-then-is_err-clause-leaves : goal.returns-then-is_err-clause-leaves
+returns-then-is_err-clause-leaves g c = record {
+  cuts = λ view holds ours.
+      let i = c.self.inside in
+      step_cuts (shape_of i.sizes) (sizes_sized i.sizes) i.head (lists_of i.waiting.items) i.turned i.kept i.under_way.items i.made i.dead
+      c.args.self.now c.self.view_is c.requires.live c.self.invariant.ring c.self.invariant.least
+      (omega (arith, c.self.invariant.most, many i.waiting.items)) c.args.numbers.now c.args.bytes.now c.in-Some.made c.in-Some.is
+      c.requires.numbers c.requires.bytes (i.head + c.len.result) (omega (arith, c.len.ensures, many i.waiting.items))
+      (g.M.Medium.state c.args.m.now) (g.M.Medium.state c.make_next.new.m) (g.met.M.Medium.sound c.args.m.now)
+      c.make_next.ensures.makes.call c.make_next.result c.make_next.ensures.makes.makes.passes c.make_next.ensures.makes.next
+      c.make_next.ensures.makes.makes.adds view holds ours;
+  moments =
+      one_call (λ _. Unit {0}) (g.M.Medium.state c.args.m.now) (g.M.Medium.state c.make_next.new.m) (g.met.M.Medium.sound c.args.m.now)
+      c.make_next.ensures.makes.makes.passes (λ image cut. tt) (λ image cut. tt);
+  spares =
+      call_spares (shape_of c.self.inside.sizes) c.args.self.now (g.M.Medium.state c.args.m.now) (g.M.Medium.state c.make_next.new.m)
+      (ap (λ (v : LogValue). v.shape) c.self.view_is) c.make_next.ensures.makes.call c.make_next.ensures.makes.inside
+      c.make_next.ensures.makes.makes.spares;
+}
 
-pub returns-then-is_err-clause-moments : goal.returns-then-is_err-clause-moments
-returns-then-is_err-clause-moments g c =
-    one_call (λ _. Unit {0}) (g.M.Medium.state c.args.m.now) (g.M.Medium.state c.make_next.new.m) (g.met.M.Medium.sound c.args.m.now)
-    c.make_next.ensures.makes.makes.passes (λ image cut. tt) (λ image cut. tt)
+pub returns-then-made-steps_for-clause-leaves : goal.returns-then-made-steps_for-clause-leaves
+returns-then-made-steps_for-clause-leaves g c = record {
+  cuts = λ view holds ours.
+      let i = c.self.inside in
+      step_cuts (shape_of i.sizes) (sizes_sized i.sizes) i.head (lists_of i.waiting.items) i.turned i.kept i.under_way.items i.made i.dead
+      c.args.self.now c.self.view_is c.requires.live c.self.invariant.ring c.self.invariant.least
+      (omega (arith, c.self.invariant.most, many i.waiting.items)) c.args.numbers.now c.args.bytes.now c.in-Some.made c.in-Some.is
+      c.requires.numbers c.requires.bytes (i.head + c.len.result) (omega (arith, c.len.ensures, many i.waiting.items))
+      (g.M.Medium.state c.args.m.now) (g.M.Medium.state c.make_next.new.m) (g.met.M.Medium.sound c.args.m.now)
+      c.make_next.ensures.makes.call c.make_next.result c.make_next.ensures.makes.makes.passes c.make_next.ensures.makes.next
+      c.make_next.ensures.makes.makes.adds view holds ours;
+  moments =
+      one_call (λ _. Unit {0}) (g.M.Medium.state c.args.m.now) (g.M.Medium.state c.make_next.new.m) (g.met.M.Medium.sound c.args.m.now)
+      c.make_next.ensures.makes.makes.passes (λ image cut. tt) (λ image cut. tt);
+  spares =
+      call_spares (shape_of c.self.inside.sizes) c.args.self.now (g.M.Medium.state c.args.m.now) (g.M.Medium.state c.make_next.new.m)
+      (ap (λ (v : LogValue). v.shape) c.self.view_is) c.make_next.ensures.makes.call c.make_next.ensures.makes.inside
+      c.make_next.ensures.makes.makes.spares;
+}
 
-pub returns-then-is_err-clause-spares : goal.returns-then-is_err-clause-spares
-returns-then-is_err-clause-spares g c =
-    call_spares (shape_of c.self.inside.sizes) c.args.self.now (g.M.Medium.state c.args.m.now) (g.M.Medium.state c.make_next.new.m)
-    (ap (λ (v : LogValue). v.shape) c.self.view_is) c.make_next.ensures.makes.call c.make_next.ensures.makes.inside
-    c.make_next.ensures.makes.makes.spares
-
-pub returns-then-made-steps_for-clause-cuts : goal.returns-then-made-steps_for-clause-cuts
-returns-then-made-steps_for-clause-cuts g c view holds ours =
-    let i = c.self.inside in
-    step_cuts (shape_of i.sizes) (sizes_sized i.sizes) i.head (lists_of i.waiting.items) i.turned i.kept i.under_way.items i.made i.dead
-    c.args.self.now c.self.view_is c.requires.live c.self.invariant.ring c.self.invariant.least
-    (omega (arith, c.self.invariant.most, many i.waiting.items)) c.args.numbers.now c.args.bytes.now c.in-Some.made c.in-Some.is
-    c.requires.numbers c.requires.bytes (i.head + c.len.result) (omega (arith, c.len.ensures, many i.waiting.items))
-    (g.M.Medium.state c.args.m.now) (g.M.Medium.state c.make_next.new.m) (g.met.M.Medium.sound c.args.m.now) c.make_next.ensures.makes.call
-    c.make_next.result c.make_next.ensures.makes.makes.passes c.make_next.ensures.makes.next c.make_next.ensures.makes.makes.adds
-    view holds ours
-
-pub returns-then-made-steps_for-clause-moments : goal.returns-then-made-steps_for-clause-moments
-returns-then-made-steps_for-clause-moments g c =
-    one_call (λ _. Unit {0}) (g.M.Medium.state c.args.m.now) (g.M.Medium.state c.make_next.new.m) (g.met.M.Medium.sound c.args.m.now)
-    c.make_next.ensures.makes.makes.passes (λ image cut. tt) (λ image cut. tt)
-
-pub returns-then-made-steps_for-clause-spares : goal.returns-then-made-steps_for-clause-spares
-returns-then-made-steps_for-clause-spares g c =
-    call_spares (shape_of c.self.inside.sizes) c.args.self.now (g.M.Medium.state c.args.m.now) (g.M.Medium.state c.make_next.new.m)
-    (ap (λ (v : LogValue). v.shape) c.self.view_is) c.make_next.ensures.makes.call c.make_next.ensures.makes.inside
-    c.make_next.ensures.makes.makes.spares
-
-pub returns-clause-cuts : goal.returns-clause-cuts
-returns-clause-cuts g c view holds ours =
-    let i = c.self.inside in
-    step_cuts (shape_of i.sizes) (sizes_sized i.sizes) i.head (lists_of i.waiting.items) i.turned i.kept i.under_way.items i.made i.dead
-    c.args.self.now c.self.view_is c.requires.live c.self.invariant.ring c.self.invariant.least
-    (omega (arith, c.self.invariant.most, many i.waiting.items)) c.args.numbers.now c.args.bytes.now c.in-Some.made c.in-Some.is
-    c.requires.numbers c.requires.bytes (i.head + c.len.result) (omega (arith, c.len.ensures, many i.waiting.items))
-    (g.M.Medium.state c.args.m.now) (g.M.Medium.state c.make_next.new.m) (g.met.M.Medium.sound c.args.m.now) c.make_next.ensures.makes.call
-    c.make_next.result c.make_next.ensures.makes.makes.passes c.make_next.ensures.makes.next c.make_next.ensures.makes.makes.adds
-    view holds ours
-
-pub returns-clause-moments : goal.returns-clause-moments
-returns-clause-moments g c =
-    one_call (λ _. Unit {0}) (g.M.Medium.state c.args.m.now) (g.M.Medium.state c.make_next.new.m) (g.met.M.Medium.sound c.args.m.now)
-    c.make_next.ensures.makes.makes.passes (λ image cut. tt) (λ image cut. tt)
-
-pub returns-clause-spares : goal.returns-clause-spares
-returns-clause-spares g c =
-    call_spares (shape_of c.self.inside.sizes) c.args.self.now (g.M.Medium.state c.args.m.now) (g.M.Medium.state c.make_next.new.m)
-    (ap (λ (v : LogValue). v.shape) c.self.view_is) c.make_next.ensures.makes.call c.make_next.ensures.makes.inside
-    c.make_next.ensures.makes.makes.spares
+pub returns-clause-leaves : goal.returns-clause-leaves
+returns-clause-leaves g c = record {
+  cuts = λ view holds ours.
+      let i = c.self.inside in
+      step_cuts (shape_of i.sizes) (sizes_sized i.sizes) i.head (lists_of i.waiting.items) i.turned i.kept i.under_way.items i.made i.dead
+      c.args.self.now c.self.view_is c.requires.live c.self.invariant.ring c.self.invariant.least
+      (omega (arith, c.self.invariant.most, many i.waiting.items)) c.args.numbers.now c.args.bytes.now c.in-Some.made c.in-Some.is
+      c.requires.numbers c.requires.bytes (i.head + c.len.result) (omega (arith, c.len.ensures, many i.waiting.items))
+      (g.M.Medium.state c.args.m.now) (g.M.Medium.state c.make_next.new.m) (g.met.M.Medium.sound c.args.m.now)
+      c.make_next.ensures.makes.call c.make_next.result c.make_next.ensures.makes.makes.passes c.make_next.ensures.makes.next
+      c.make_next.ensures.makes.makes.adds view holds ours;
+  moments =
+      one_call (λ _. Unit {0}) (g.M.Medium.state c.args.m.now) (g.M.Medium.state c.make_next.new.m) (g.met.M.Medium.sound c.args.m.now)
+      c.make_next.ensures.makes.makes.passes (λ image cut. tt) (λ image cut. tt);
+  spares =
+      call_spares (shape_of c.self.inside.sizes) c.args.self.now (g.M.Medium.state c.args.m.now) (g.M.Medium.state c.make_next.new.m)
+      (ap (λ (v : LogValue). v.shape) c.self.view_is) c.make_next.ensures.makes.call c.make_next.ensures.makes.inside
+      c.make_next.ensures.makes.makes.spares;
+}
 
 pub returns-then-made-steps_for-clause-holds : goal.returns-then-made-steps_for-clause-holds
 returns-then-made-steps_for-clause-holds g c view holds entries =
