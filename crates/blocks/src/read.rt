@@ -11,8 +11,8 @@ ghost use Rattle.blocks.specs.Turns.{IsTurn, IsReadCause};
 ghost use Rattle.blocks.specs.Passing.{KeepsStore, RefusesRead};
 ghost use Rattle.blocks.specs.Calls.{durable_reads, block_reads, reads_of, CostsReads};
 
-use crate::store::BLOCK;
 use crate::{Store, StoreFault};
+use cache::BLOCK;
 use medium::{Medium, MediumFault};
 
 impl<M: Medium> Store<M> {

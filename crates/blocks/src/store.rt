@@ -14,9 +14,6 @@ use medium::{Medium, Outlet, Switch};
 use redo_log::Log;
 use std::marker::Model;
 
-// How many bytes a block has.
-pub(crate) const BLOCK: usize = 512;
-
 /// Logical blocks of 512 bytes over a medium, with a write cache. After `start` no call takes
 /// memory.
 #[derive(Drop)]

@@ -8,8 +8,8 @@ ghost use Rattle.blocks.specs.Turns.{IsWriteTurn};
 ghost use Rattle.blocks.specs.Passing.{PassesOn, KeepsMedium, Answers};
 ghost use Rattle.blocks.specs.Calls.{WritesRange, AppendsRange};
 
-use crate::store::BLOCK;
 use crate::{Store, StoreFault};
+use cache::BLOCK;
 use medium::Medium;
 
 impl<M: Medium> Store<M> {

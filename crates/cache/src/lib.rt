@@ -17,6 +17,7 @@ mod place;
 pub use batch::Batch;
 pub use batch_error::BatchError;
 pub use counter::Steps;
+pub use entry::BLOCK;
 pub use frozen::Frozen;
 
 #[cfg(test)]
