@@ -8,6 +8,7 @@ use Rattle.blocks.specs.Background.{IsBackgroundStep}
 use Rattle.blocks.specs.Book.{Book}
 use Rattle.blocks.specs.Finding.{MayFind, FoundWith}
 use Rattle.blocks.specs.Calls.{TurnsBatches}
+use Rattle.blocks.specs.Passing.{MayEmpty}
 use Rattle.blocks.specs.Retiring.{finished}
 use Rattle.blocks.specs.StoreValue.{Cached, layout_of, blocks_of, is_dead, active_of, steps_left}
 use Rattle.blocks.specs.StoreValue.{transfer_limit, FitsBeside, TakesRange}
@@ -77,7 +78,7 @@ plain_write command write_cache = None
 -- made durable, perhaps none
 abbrev pub IsEmptied : Bool → List ℕ → List ℕ → Type 0
 IsEmptied false old new = new ≡ old
-IsEmptied true old new = (new ≡ old) ⊎ (new ≡ [])
+IsEmptied true old new = MayEmpty old new
 
 -- the same after a WRITE that moves blocks or none, and makes them durable or does not; a batch has
 -- as many blocks as a transfer at most
@@ -171,4 +172,4 @@ pub record TicksOver {M : Type 0} (before after : State) (old new : UnitValue M)
   pub left : is_dead new.store.cached ≡ false
       → (steps_left new.store.cached < steps_left old.store.cached)
       ⊎ (steps_left old.store.cached ≡ 0)
-  pub active : IsEmptied true (active_of old.store.cached) (active_of new.store.cached)
+  pub active : MayEmpty (active_of old.store.cached) (active_of new.store.cached)

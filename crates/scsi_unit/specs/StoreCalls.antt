@@ -5,6 +5,7 @@ use Rattle.medium.specs.Medium.{State}
 use Rattle.blocks.specs.Background.{IsBackgroundStep}
 use Rattle.blocks.specs.Book.{Book, array_of, blocks_at, promised, write_of}
 use Rattle.blocks.specs.Calls.{reads_of, TurnsBatches}
+use Rattle.blocks.specs.Passing.{MayEmpty}
 use Rattle.blocks.specs.StoreValue.{Cached, transfer_limit, is_dead, active_of, batch_steps}
 use Rattle.blocks.specs.StoreValue.{steps_left, FitsBook, TakesRange}
 use Rattle.blocks.specs.Turns.{IsTurn, IsWriteTurn}
@@ -63,4 +64,4 @@ pub record StepsBehind (before after : State) (old new : Cached) : Type 0 where
   pub calls : after.calls ≤ before.calls + 2
   pub left : is_dead new ≡ false
       → (steps_left new < steps_left old) ⊎ (steps_left old ≡ 0)
-  pub active : IsEmptied true (active_of old) (active_of new)
+  pub active : MayEmpty (active_of old) (active_of new)
