@@ -13,11 +13,13 @@ pub mod Alternation
 pub mod Runs
 pub mod OneStep
 pub mod StruckTicks
+pub mod Hearing
 pub mod Transfers
 pub mod Moved
 pub mod Fitting
 pub mod Playing
 pub mod Happening
+pub mod Arming
 pub mod Beginning
 pub mod Begun
 pub mod Lasting
