@@ -9,6 +9,7 @@ pub mod Opening
 pub mod Taking
 pub mod Telling
 pub mod Stepping
+pub mod Passing
 pub mod Alternation
 pub mod Runs
 pub mod OneStep

@@ -28,7 +28,7 @@ use Rattle.scsi_unit.specs.declared.intent.Intent.{Intent}
 use Rattle.scsi_unit.specs.declared.intent.Intent.TheVariants as intent
 use Rattle.bot_machine.specs.Refinement.{taking_of, left_of, halt_of, IsInPhase, IsKept}
 use Rattle.bot_machine.specs.Packets.{packets_of}
-use Rattle.bot_machine.specs.Serving.{OpensOn, TakesOn, RestsOn, SparesOn}
+use Rattle.bot_machine.specs.Serving.{BeginsOn, TakesOn, RestsOn, SparesOn}
 use Rattle.bot_machine.proofs.UnitLaws.{few_ticks}
 use Rattle.bot_machine.proofs.Proceeding.{staying, proceeding, proceeding_so}
 
@@ -107,7 +107,7 @@ not_ready m disk packet packets halt status sound halted left =
 
 -- a packet where a command wrapper is expected
 pub begins : {M : Type 0} (before after : State) (old new : DiskValue M) (packet : List ℕ) → false ≡ old.line.out_halted
-    → finished ≡ old.line.left → OpensOn before after old.unit new.unit old.line new.line packet
+    → finished ≡ old.line.left → BeginsOn before after old.unit new.unit old.line new.line packet
     → RestsOn old.line.packet_size before old.unit new.unit finished packet
     → SparesOn old.line.packet_size before after old.unit new.unit new.line finished packet → TakesFew before after old.unit new.unit
     → Elapses before after → unit_limit new.unit ≡ unit_limit old.unit → new.line.packet_size ≡ old.line.packet_size

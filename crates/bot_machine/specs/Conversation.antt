@@ -33,7 +33,8 @@ pub record IsAsked (request : Request) (packet : List ℕ) (old : Line) (answer 
   pub after : new ≡ after_request request old
 
 -- a setup packet that spells no request
-pub record IsRefused (packet : List ℕ) (old : Line) (answer : Answer) (new : Line) : Type 0 where
+pub record IsRefusedRequest (packet : List ℕ) (old : Line) (answer : Answer) (new : Line)
+    : Type 0 where
   pub unknown : (request : Request) → packet ≢ setup_packet request
   pub answered : answer ≡ Stall
   pub after : new ≡ old
@@ -41,7 +42,8 @@ pub record IsRefused (packet : List ℕ) (old : Line) (answer : Answer) (new : L
 -- a setup packet
 abbrev pub SetupStep : List ℕ → Line → Answer → Line → Type 0
 SetupStep packet old answer new =
-    ((request : Request) × IsAsked request packet old answer new) ⊎ IsRefused packet old answer new
+    ((request : Request) × IsAsked request packet old answer new)
+    ⊎ IsRefusedRequest packet old answer new
 
 -- What a unit in some state intends for a command block; how it carries one out, over the bytes
 -- taken, where its medium refused a call or refused none; and what its steps in the background do.

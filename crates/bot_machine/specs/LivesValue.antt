@@ -60,6 +60,12 @@ pub record IsAtRest (medium : Sim) : Type 0 where
   pub on : medium.power.off ≡ false
   pub flushed : medium.unflushed ≡ []
 
+-- a life that ended rests alone, with no fuse
+pub record RestsAlone (lives : LivesValue) : Type 0 where
+  pub rests : IsAtRest (medium_in lives.stage)
+  pub unfused : (medium_in lives.stage).power.fuse ≡ None
+  pub alone : lives.stage ≡ Rests (medium_in lives.stage)
+
 -- a disk is in this conversation, and fits its book
 pub record Converses (disk : DiskValue Sim) (conversation : Conversation UnitState) : Type 0 where
   pub on : disk.unit.store.medium.power.off ≡ false
@@ -186,6 +192,7 @@ pub record LivesStop (before : LivesValue) (actions : List Action) (answers : Li
 
 -- a start is refused with this fault, though power did not go in it: why, and where lives stand
 -- then
-pub record IsRefused (before : LivesValue) (fault : StartFault) (after : LivesValue) : Type 0 where
+pub record LivesRefuseStart (before : LivesValue) (fault : StartFault) (after : LivesValue)
+    : Type 0 where
   pub stops : LivesStop before [] [] fault after
   pub cause : IsNotOpened (state_in before.stage) (state_in after.stage) fault

@@ -14,12 +14,13 @@ use Rattle.scsi_unit.specs.Serving.{has_refused, IsSparing}
 use Rattle.scsi_unit.specs.UnitValue.{UnitValue, unit_limit, state_of, FitsUnit, intention_of}
 use Rattle.bot_machine.specs.declared.exchange.Exchange.{Exchange}
 use Rattle.bot_machine.specs.declared.wire.Taking.{Taking}
+use Rattle.bot_machine.specs.declared.wire.Wire.{Wire}
 use Rattle.bot_machine.specs.Exchange.{Line, Script}
 use Rattle.bot_machine.specs.Conversation.{IsCarriedOut, Opens, Locks, Takes}
 use Rattle.bot_machine.specs.Intentions.{way_of, Intends}
 use Rattle.bot_machine.specs.Acts.{PacketCarriesOut, write_of_packet}
-use Rattle.bot_machine.specs.Refinement.{taking_of}
-use Rattle.bot_machine.specs.Disk.{on_line, Proceeds, Tells}
+use Rattle.bot_machine.specs.Refinement.{taking_of, IsInPhase}
+use Rattle.bot_machine.specs.Disk.{on_line, Proceeds, Elapses, TakesFew, Tells}
 
 -- A packet spells a command wrapper, and begins this exchange: the one of its command, of what the
 -- unit intends for it, and of the case that this makes.
@@ -44,8 +45,8 @@ module _ {M : Type 0} (before after : State) (old new : UnitValue M) (from to : 
       (write_in_progress (state_of old book) exchange.command.block.items bytes) book
 
   -- a packet comes where a command wrapper is expected
-  abbrev pub OpensOn : List ℕ → Type 0
-  OpensOn packet = (book : Book) → FitsUnit before old book → Proceeds before after old new
+  abbrev pub BeginsOn : List ℕ → Type 0
+  BeginsOn packet = (book : Book) → FitsUnit before old book → Proceeds before after old new
       (λ unit later. Opens Intends CarriesOut Ticks (has_refused before after)
       packet (on_line from unit) (on_line to later)
       ⊎ Locks Intends CarriesOut Ticks (has_refused before after)
@@ -77,3 +78,14 @@ SparesOn most before after old new to left packet = (book : Book) → FitsUnit b
     → PacketCarriesOut most false left packet (state_of old book) block taken
     → (answer : Result (List ℕ) Sense) × IsSparing block taken old answer new
     × IsBounded before after block taken old × Tells answer to
+
+-- A part of an event passes these on: a phase that the unit allows, its limit and the size of a
+-- packet as they were, and the medium, which comes after what it was by few calls.
+pub record PassesOn {M : Type 0} (state : M → State) (Follows : M → M → Type 0)
+    (old new : UnitValue M) (from to : Wire) : Type 0 where
+  pub phase : IsInPhase (unit_limit new) (intention_of new) to.phase
+  pub limit : unit_limit new ≡ unit_limit old
+  pub size : to.size ≡ from.size
+  pub few : TakesFew (state old.store.medium) (state new.store.medium) old new
+  pub elapses : Elapses (state old.store.medium) (state new.store.medium)
+  pub follows : Follows old.store.medium new.store.medium

@@ -10,7 +10,6 @@ ghost use Rattle.bot_machine.specs.Fitting.{AreWithin, LivesAreWithin};
 ghost use Rattle.bot_machine.specs.PacketBytes.{bytes_of};
 ghost use Rattle.bot_machine.specs.declared.packet_size.PacketSize.TheVariants.{High512};
 ghost use Rattle.bot_machine.specs.Opening.{IsNotOpened};
-ghost use Rattle.bot_machine.specs.declared.stage.Stage.TheVariants.{Rests};
 ghost use Rattle.bot_machine.specs.LivesValue.{
   medium_in,
   state_in,
@@ -18,6 +17,7 @@ ghost use Rattle.bot_machine.specs.LivesValue.{
   IsAtRest,
   LivesGoOn,
   LivesStop,
+  RestsAlone,
 };
 ghost use Rattle.bot_machine.specs.Lifetimes.{
   actions_of,
@@ -113,9 +113,7 @@ fn live(
     requires room { length answers.old.list + length life.now.events.items ≤ answers.old.room }
     ensures ok { OnOk result (AppendsFor run.old run.new answers.old answers.new
         (actions_of life.now) (length life.now.events.items)) }
-    ensures rests { OnOk result (IsAtRest (medium_in run.new.stage)) }
-    ensures unfused { OnOk result ((medium_in run.new.stage).power.fuse ≡ None) }
-    ensures alone { OnOk result (run.new.stage ≡ Rests (medium_in run.new.stage)) }
+    ensures ended { OnOk result (RestsAlone run.new) }
     ensures err { IfErr result (λ fault. LivesStop run.old (armed_by life.now.fuse) [] fault run.new) }
     ensures cause { IfErr result (λ fault.
         IsNotOpened (state_in run.old.stage) (state_in run.new.stage) fault) }

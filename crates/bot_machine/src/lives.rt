@@ -56,7 +56,7 @@ impl Lives {
       HasLimit,
       FitsLives,
       LivesGoOn,
-      IsRefused,
+      LivesRefuseStart,
     };
     ghost use Rattle.bot_machine.specs.declared.stage.Stage.TheVariants.{Rests};
 
@@ -144,7 +144,7 @@ impl Lives {
     pub fn start(&mut self, alloc: Global) -> Result<(), StartFault>
         ensures ok { OnOk result (LivesGoOn self.old (starts ∷ []) [] self.new) }
         ensures begun { OnOk result (HasBegun self.old.stage self.new.stage) }
-        ensures err { IfErr result (λ fault. IsRefused self.old fault self.new) }
+        ensures err { IfErr result (λ fault. LivesRefuseStart self.old fault self.new) }
         ensures follows { ComesAfter (medium_in self.old.stage) (medium_in self.new.stage) }
     {
         match stage::start(alloc, self.stage.take().unwrap(), self.identity, self.size) {
@@ -172,7 +172,7 @@ impl Lives {
         ensures begun { OnOk result (HasBegun self.old.stage self.new.stage) }
         ensures off { IfOk result (λ answer. (answer ≡ Answer.Off)
             ↔ ((medium_in self.new.stage).power.off ≡ true)) }
-        ensures err { IfErr result (λ fault. IsRefused self.old fault self.new) }
+        ensures err { IfErr result (λ fault. LivesRefuseStart self.old fault self.new) }
         ensures follows { ComesAfter (medium_in self.old.stage) (medium_in self.new.stage) }
     {
         self.start(alloc)?;

@@ -8,18 +8,17 @@ ghost use Rattle.scsi_unit.specs.Rules.{Sense};
 ghost use Rattle.scsi_unit.specs.Calls.{IsBounded};
 ghost use Rattle.scsi_unit.specs.Serving.{IsSparing};
 ghost use Rattle.scsi_unit.specs.UnitValue.{unit_limit, intention_of};
-ghost use Rattle.bot_machine.specs.Disk.{Elapses, TakesFew, Tells};
+ghost use Rattle.bot_machine.specs.Disk.{Tells};
 ghost use Rattle.bot_machine.specs.Exchange.{Script, finished};
 ghost use Rattle.bot_machine.specs.Refinement.{
-  IsInPhase,
   IsTaking,
   line_of,
   line_with,
   taking_of,
 };
 ghost use Rattle.bot_machine.specs.PacketBytes.{bytes_of};
-ghost use Rattle.bot_machine.specs.Serving.{IsBegun, CarriesOutOn, OpensOn, TakesOn};
-ghost use Rattle.bot_machine.specs.Serving.{RestsOn, SparesOn};
+ghost use Rattle.bot_machine.specs.Serving.{IsBegun, CarriesOutOn, BeginsOn, TakesOn};
+ghost use Rattle.bot_machine.specs.Serving.{RestsOn, SparesOn, PassesOn};
 
 use crate::exchange::{Exchange, When, after_failure, size_sent, way_of_intent, when_carried_out};
 use crate::wire::{Phase, Taking, Wire};
@@ -51,13 +50,7 @@ fn carry_out<M: Medium>(
         × IsBounded (M.state unit.old.store.medium) (M.state unit.new.store.medium)
         exchange.now.command.block.items bytes.now unit.old
         × ((taken : List ℕ) → Tells answer (line_of wire.new taken staging.new)) }
-    ensures phase { IsInPhase (unit_limit unit.new) (intention_of unit.new) wire.new.phase }
-    ensures limit { unit_limit unit.new ≡ unit_limit unit.old }
-    ensures size { wire.new.size ≡ wire.old.size }
-    ensures few { TakesFew (M.state unit.old.store.medium) (M.state unit.new.store.medium)
-        unit.old unit.new }
-    ensures elapses { Elapses (M.state unit.old.store.medium) (M.state unit.new.store.medium) }
-    ensures follows { M.follows unit.old.store.medium unit.new.store.medium }
+    ensures passes { PassesOn M.state M.follows unit.old unit.new wire.old wire.new }
 {
     match unit.carry_out(exchange.command.block.as_slice(), bytes, staging) {
         Ok(size) => {
@@ -81,8 +74,8 @@ fn read_exchange<M: Medium>(unit: &Unit<M>, packet: &[u8]) -> Option<Exchange>
     })
 }
 
-/// Takes a packet where a command wrapper is expected. It stands apart so that packets of data are
-/// short.
+/// Takes a packet where a command wrapper is expected. It stands apart, so that the code that runs
+/// for a packet of data is short.
 #[inline(never)]
 pub(crate) fn open<M: Medium>(
     unit: &mut Unit<M>,
@@ -92,7 +85,7 @@ pub(crate) fn open<M: Medium>(
 )
     requires expected { wire.old.phase ≡ Phase.Command }
     requires room { length staging.old ≡ 512 * unit_limit unit.old }
-    ensures opens { (taken : List ℕ) → OpensOn
+    ensures opens { (taken : List ℕ) → BeginsOn
         (M.state unit.old.store.medium) (M.state unit.new.store.medium) unit.old unit.new
         (line_of wire.old taken staging.old) (line_of wire.new taken staging.new) packet.now }
     ensures rests { RestsOn (bytes_of wire.old.size) (M.state unit.old.store.medium) unit.old unit.new
@@ -100,13 +93,7 @@ pub(crate) fn open<M: Medium>(
     ensures spares { (taken : List ℕ) → SparesOn (bytes_of wire.old.size)
         (M.state unit.old.store.medium) (M.state unit.new.store.medium) unit.old unit.new
         (line_of wire.new taken staging.new) finished packet.now }
-    ensures phase { IsInPhase (unit_limit unit.new) (intention_of unit.new) wire.new.phase }
-    ensures limit { unit_limit unit.new ≡ unit_limit unit.old }
-    ensures size { wire.new.size ≡ wire.old.size }
-    ensures few { TakesFew (M.state unit.old.store.medium) (M.state unit.new.store.medium)
-        unit.old unit.new }
-    ensures elapses { Elapses (M.state unit.old.store.medium) (M.state unit.new.store.medium) }
-    ensures follows { M.follows unit.old.store.medium unit.new.store.medium }
+    ensures passes { PassesOn M.state M.follows unit.old unit.new wire.old wire.new }
 {
     let Some(exchange) = read_exchange(unit, packet) else {
         wire.lock();
@@ -152,13 +139,7 @@ pub(crate) fn take_data<M: Medium>(
         → SparesOn (bytes_of wire.old.size)
         (M.state unit.old.store.medium) (M.state unit.new.store.medium) unit.old unit.new
         (line_of wire.new taken.new staging.new) (taking_of pending taken.old) packet.now }
-    ensures phase { IsInPhase (unit_limit unit.new) (intention_of unit.new) wire.new.phase }
-    ensures limit { unit_limit unit.new ≡ unit_limit unit.old }
-    ensures size { wire.new.size ≡ wire.old.size }
-    ensures few { TakesFew (M.state unit.old.store.medium) (M.state unit.new.store.medium)
-        unit.old unit.new }
-    ensures elapses { Elapses (M.state unit.old.store.medium) (M.state unit.new.store.medium) }
-    ensures follows { M.follows unit.old.store.medium unit.new.store.medium }
+    ensures passes { PassesOn M.state M.follows unit.old unit.new wire.old wire.new }
 {
     let Phase::DataOut(pending) = &mut wire.phase else {
         unreachable!()
@@ -190,8 +171,8 @@ fn take_more(pending: &mut Taking, taken: &mut [u8], packet: &[u8], most: u32)
     fill(taken, &mut pending.filled, packet, size);
 }
 
-// Takes a packet that ends the data, or has a wrong size. It stands apart so that the others of a
-// transfer are short.
+// Takes a packet that ends the data, or has a wrong size. It stands apart, so that the code that
+// runs for each other packet of a transfer is short.
 #[inline(never)]
 fn end_data<M: Medium>(
     unit: &mut Unit<M>,
@@ -218,13 +199,7 @@ fn end_data<M: Medium>(
         → SparesOn (bytes_of wire.old.size)
         (M.state unit.old.store.medium) (M.state unit.new.store.medium) unit.old unit.new
         (line_of wire.new taken.new staging.new) (taking_of pending taken.old) packet.now }
-    ensures phase { IsInPhase (unit_limit unit.new) (intention_of unit.new) wire.new.phase }
-    ensures limit { unit_limit unit.new ≡ unit_limit unit.old }
-    ensures size { wire.new.size ≡ wire.old.size }
-    ensures few { TakesFew (M.state unit.old.store.medium) (M.state unit.new.store.medium)
-        unit.old unit.new }
-    ensures elapses { Elapses (M.state unit.old.store.medium) (M.state unit.new.store.medium) }
-    ensures follows { M.follows unit.old.store.medium unit.new.store.medium }
+    ensures passes { PassesOn M.state M.follows unit.old unit.new wire.old wire.new }
 {
     let Phase::DataOut(pending) = mem::replace(&mut wire.phase, Phase::Command) else {
         unreachable!()

@@ -11,7 +11,7 @@ ghost use Rattle.bot_machine.specs.LivesValue.{
   TakesEvent,
   HasBegun,
   LivesGoOn,
-  IsRefused,
+  LivesRefuseStart,
 };
 ghost use Rattle.bot_machine.specs.declared.stage.Stage.TheVariants.{Rests, Runs};
 
@@ -90,7 +90,7 @@ pub(crate) fn start(
         (record { device = device_of identity size; stage = stage }) (starts ∷ []) []
         (record { device = device_of identity size; stage = new })) }
     ensures begun { IfOk result (HasBegun stage) }
-    ensures err { IfErr result (λ error. IsRefused
+    ensures err { IfErr result (λ error. LivesRefuseStart
         (record { device = device_of identity size; stage = stage }) error.fault
         (record { device = device_of identity size; stage = Rests error.medium })) }
     ensures follows { MatchResult result (λ new. ComesAfter (medium_in stage) (medium_in new))

@@ -2,7 +2,7 @@
 ghost use Rattle.std.specs.Prelude.{◌≡◌, ◌<◌, [], ◌∷◌, length, IfOk, IfErr, OnOk};
 ghost use Rattle.medium.specs.Sim.{IsFused, IsFailing};
 ghost use Rattle.bot_machine.specs.Lives.{arms, fails, starts};
-ghost use Rattle.bot_machine.specs.LivesValue.{medium_in, LivesGoOn, IsRefused};
+ghost use Rattle.bot_machine.specs.LivesValue.{medium_in, LivesGoOn, LivesRefuseStart};
 ghost use Rattle.bot_machine.specs.declared.stage.Stage.TheVariants.{Rests};
 
 use crate::finding::Finding;
@@ -75,7 +75,7 @@ impl Player {
     pub fn start(&mut self, alloc: Global) -> Result<(), StartFault>
         ensures ok { OnOk result
             (LivesGoOn self.old (starts ∷ []) [] self.new) }
-        ensures err { IfErr result (λ fault. IsRefused self.old fault
+        ensures err { IfErr result (λ fault. LivesRefuseStart self.old fault
             self.new) }
     {
         self.lives.start(alloc)

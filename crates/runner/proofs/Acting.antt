@@ -9,7 +9,7 @@ use Rattle.bot_machine.specs.declared.event.Event.{Event}
 use Rattle.bot_machine.specs.declared.event.Answer.{Answer}
 use Rattle.bot_machine.specs.declared.event.Answer.TheVariants.{Off}
 use Rattle.bot_machine.specs.Lives.{Action, arms, fails, starts, plays, cuts}
-use Rattle.bot_machine.specs.LivesValue.{LivesValue, LivesGoOn, IsRefused, medium_in}
+use Rattle.bot_machine.specs.LivesValue.{LivesValue, LivesGoOn, LivesRefuseStart, medium_in}
 use Rattle.bot_machine.proofs.Playing.{rests, lives_go_on}
 use Rattle.runner.specs.declared.fault.ScriptFault.{ScriptFault}
 use Rattle.runner.specs.declared.fault.ScriptFault.TheVariants.{Line, TooLong, Start, NoMemory, Reader, Writer}
@@ -209,7 +209,7 @@ breaks-before was now old new actions others fault breaks = record {
 }
 
 -- the start before an event was refused
-pub breaks-start : (was : Option (List ℕ)) (old new : LivesValue) (event : Event) (fault : StartFault) → IsRefused old fault new
+pub breaks-start : (was : Option (List ℕ)) (old new : LivesValue) (event : Event) (fault : StartFault) → LivesRefuseStart old fault new
     → BreaksOff was was old (comes event) new (Start fault)
 breaks-start was old new event fault refused = record {
   first = [];

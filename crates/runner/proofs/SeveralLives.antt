@@ -12,7 +12,7 @@ use Rattle.bot_machine.specs.declared.stage.Stage.TheVariants.{Rests}
 use Rattle.bot_machine.specs.Conversation.{refused_events}
 use Rattle.bot_machine.specs.Lifetimes.{first_standing, EndsIn, StopsIn}
 use Rattle.bot_machine.specs.Lives.{Action, plays, Standing, Opens, LivesRun}
-use Rattle.bot_machine.specs.LivesValue.{LivesValue, MayRefuse, IsRefused, HasLimit, LeavesLimit, FitsLives, OpensOn, IsAtRest}
+use Rattle.bot_machine.specs.LivesValue.{LivesValue, MayRefuse, LivesRefuseStart, HasLimit, LeavesLimit, FitsLives, OpensOn, IsAtRest}
 use Rattle.bot_machine.specs.Moving.{medium_in, MovesBy, IsRefusedStart}
 use Rattle.runner.specs.declared.fault.ScriptError.{ScriptError as ErrorOf}
 use Rattle.runner.specs.declared.fault.ScriptFault.{ScriptFault}
@@ -80,7 +80,7 @@ module _ (most : ℕ) (medium : Sim) (rest : IsAtRest medium) (unfused : medium.
           }
 
   stops : (actions : List Action) (answers : List Answer) (mid new : LivesValue) (fault : StartFault)
-      (acted : Acted (first_over most medium) actions answers mid) (refused : IsRefused mid fault new) (limit : ℕ) (book : Book)
+      (acted : Acted (first_over most medium) actions answers mid) (refused : LivesRefuseStart mid fault new) (limit : ℕ) (book : Book)
       → OpensOn (state_of medium) book → HasLimit (state_of medium).size limit (state_of medium).content
       → StopsIn (device most) limit book actions answers acted.goes_on.refusals
       (refused_events acted.goes_on.refusals + (state_of medium).failures) fault (medium_in new.stage)
@@ -102,7 +102,7 @@ module _ (most : ℕ) (medium : Sim) (rest : IsAtRest medium) (unfused : medium.
       }
 
   are_stopped : (actions : List Action) (answers : List Answer) (mid new : LivesValue) (fault : StartFault)
-      → Acted (first_over most medium) actions answers mid → IsRefused mid fault new
+      → Acted (first_over most medium) actions answers mid → LivesRefuseStart mid fault new
       → AreStopped most medium (medium_in new.stage) actions answers fault
   unfolding are_lives
   are_stopped actions answers mid new fault acted refused =

@@ -6,7 +6,7 @@ use Rattle.bot_machine.specs.StartFaults.{StartFault}
 use Rattle.bot_machine.specs.declared.event.Event.{Event}
 use Rattle.bot_machine.specs.declared.event.Answer.{Answer}
 use Rattle.bot_machine.specs.Lives.{Action, starts, plays}
-use Rattle.bot_machine.specs.LivesValue.{LivesValue, LivesGoOn, IsRefused, medium_in}
+use Rattle.bot_machine.specs.LivesValue.{LivesValue, LivesGoOn, LivesRefuseStart, medium_in}
 use Rattle.runner.specs.declared.fault.ScriptFault.{ScriptFault}
 use Rattle.runner.specs.declared.fault.ScriptFault.TheVariants.{Line, TooLong, Start, NoMemory}
 use Rattle.runner.specs.declared.fault.ScriptFault.TheVariants.{Reader, Writer}
@@ -40,7 +40,7 @@ module _ (was now : Option (List ℕ)) (old : LivesValue) where
     pub mid : LivesValue
     pub acted : Acted old actions answers mid
     pub is : last ≡ starts
-    pub refused : IsRefused mid fault new
+    pub refused : LivesRefuseStart mid fault new
     pub written : Appends was now (text_of_lives actions answers)
 
   -- they did, and the text of the answers was appended; then came an event, whose answer was not

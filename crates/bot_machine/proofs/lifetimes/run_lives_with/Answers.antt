@@ -19,9 +19,7 @@ loop-life-init c =
     let answers = c.args.answers.now in
     record {
       run = subst (λ (x : LivesValue). AppendsFor first x answers answers [] 0) (sym c.new_with-run.ensures.value) (none_yet first answers);
-      rests = rw c.new_with-run.ensures.value c.requires.rests;
-      unfused = rw c.new_with-run.ensures.value c.requires.unfused;
-      alone = rw c.new_with-run.ensures.value refl;
+      ended = rw c.new_with-run.ensures.value (record { rests = c.requires.rests; unfused = c.requires.unfused; alone = refl });
     }
 
 pub live-requires-clause-within : goal.live-requires-clause-within
@@ -49,14 +47,15 @@ returns-in-Err-clause-err c =
     let lives = c.args.lives.now in
     let i = c.loop-life.life-index in
     let life = c.life-item.result in
-    let lived = c.loop-life.invariant.run in (
+    let lived = c.loop-life.invariant.run in
+    let ended = c.loop-life.invariant.ended in (
       lived.told,
       c.in-Err.ensures.unanswered ∙ lived.appends,
       rw c.into_medium.ensures
           (lived_up_to c.args.medium (device_of c.args.identity c.args.size) c.requires.rests c.requires.unfused c.loop-life.run
           c.live.new.run lived.told lives (take i lives) (drop (suc i) lives) life c.in-Err.fault
-          (apart lives i life c.loop-life-test.true c.life-item.is) lived.goes_on lived.one_each c.loop-life.invariant.rests
-          c.loop-life.invariant.unfused c.loop-life.invariant.alone c.in-Err.ensures.cause c.in-Err.ensures.err),
+          (apart lives i life c.loop-life-test.true c.life-item.is) lived.goes_on lived.one_each ended.rests ended.unfused
+          ended.alone c.in-Err.ensures.cause c.in-Err.ensures.err),
     )
 
 pub loop-life-preserved : goal.loop-life-preserved
@@ -76,9 +75,7 @@ loop-life-preserved c =
           (λ (l : List Action). AppendsFor first c.live.new.run c.args.answers.now c.live.new.answers l
           (events_in (take i lives) + length life.events.items))
           (sym (actions_more lives i life below c.life-item.is)) more);
-      rests = c.in_default.ensures.rests;
-      unfused = c.in_default.ensures.unfused;
-      alone = c.in_default.ensures.alone;
+      ended = c.in_default.ensures.ended;
     }
 
 pub returns-clause-ok : goal.returns-clause-ok
@@ -87,10 +84,11 @@ returns-clause-ok c =
     let lives = c.args.lives.now in
     let i = c.loop-life.life-index in
     let all : take i lives ≡ lives = take_all i lives c.loop-life-test.false in
-    let run = rw all at c.loop-life.invariant.run in (
+    let run = rw all at c.loop-life.invariant.run in
+    let ended = c.loop-life.invariant.ended in (
       run.told,
       run.appends,
       rw c.into_medium-2.ensures
           (all_lived c.args.medium (device_of c.args.identity c.args.size) c.requires.rests c.requires.unfused c.loop-life.run run.told
-          lives run.goes_on run.one_each c.loop-life.invariant.rests c.loop-life.invariant.unfused c.loop-life.invariant.alone),
+          lives run.goes_on run.one_each ended.rests ended.unfused ended.alone),
     )

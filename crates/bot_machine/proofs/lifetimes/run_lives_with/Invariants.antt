@@ -1,7 +1,7 @@
-use Rattle.std.proofs.Common.{◌≡◌, None, take}
+use Rattle.std.proofs.Common.{take}
 use Rattle.bot_machine.specs.declared.stage.Stage.TheVariants.{Rests}
 use Rattle.bot_machine.specs.Device.{device_of}
-use Rattle.bot_machine.specs.LivesValue.{LivesValue, medium_in, IsAtRest}
+use Rattle.bot_machine.specs.LivesValue.{LivesValue, RestsAlone}
 use Rattle.bot_machine.specs.Lifetimes.{actions_of_all, events_in, AppendsFor}
 use Rattle.bot_machine.proofs.lifetimes.run_lives_with.Given as goal
 
@@ -11,7 +11,5 @@ invariant-loop-life l =
     let first : LivesValue = record { device = device_of l.fn.identity l.fn.size; stage = Rests l.fn.medium } in
     record {
       run : AppendsFor first l.run l.fn.answers l.answers (actions_of_all lived) (events_in lived);
-      rests : IsAtRest (medium_in l.run.stage);
-      unfused : (medium_in l.run.stage).power.fuse ≡ None;
-      alone : l.run.stage ≡ Rests (medium_in l.run.stage);
+      ended : RestsAlone l.run;
     }

@@ -37,10 +37,18 @@ returns-in-Ok-clause-spares g c =
           (c.tell.ensures.line taken out finished (omega (arith, c.in-Ok.ensures.sends.most)))),
     )
 
-pub returns-in-Ok-clause-phase : goal.returns-in-Ok-clause-phase
-returns-in-Ok-clause-phase g c =
-    let stays = c.in-Ok.ensures.serves.limit_stays in
-    c.tell.ensures.phase _ _ (omega (arith, stays, c.in-Ok.ensures.sends.most))
+pub returns-in-Ok-clause-passes : goal.returns-in-Ok-clause-passes
+returns-in-Ok-clause-passes g c =
+    let serves = c.in-Ok.ensures.serves in
+    let stays = serves.limit_stays in
+    record {
+      phase = c.tell.ensures.phase _ _ (omega (arith, stays, c.in-Ok.ensures.sends.most));
+      limit = stays;
+      size = c.tell.ensures.size;
+      few = record { calls = c.in-Ok.ensures.calls.few; layout_stays = serves.layout_stays };
+      elapses = record { failures_stay = serves.failures_stay; size_stays = serves.size_stays };
+      follows = c.in-Ok.ensures.follows;
+    }
 
 pub returns-in-Err-clause-carried_out : goal.returns-in-Err-clause-carried_out
 returns-in-Err-clause-carried_out g c = λ taken left book fits.
@@ -66,5 +74,14 @@ returns-in-Err-clause-spares g c =
           (c.tell-in-Err.ensures.line taken out finished (omega arith))),
     )
 
-pub returns-in-Err-clause-phase : goal.returns-in-Err-clause-phase
-returns-in-Err-clause-phase g c = c.tell-in-Err.ensures.phase _ _ (omega arith)
+pub returns-in-Err-clause-passes : goal.returns-in-Err-clause-passes
+returns-in-Err-clause-passes g c =
+    let serves = c.in-Err.ensures.serves in
+    record {
+      phase = c.tell-in-Err.ensures.phase _ _ (omega arith);
+      limit = serves.limit_stays;
+      size = c.tell-in-Err.ensures.size;
+      few = record { calls = c.in-Err.ensures.calls.few; layout_stays = serves.layout_stays };
+      elapses = record { failures_stay = serves.failures_stay; size_stays = serves.size_stays };
+      follows = c.in-Err.ensures.follows;
+    }

@@ -5,6 +5,7 @@ use Rattle.bot_machine.proofs.Filling.{last_packet, other_packet}
 use Rattle.bot_machine.proofs.Packets.{packets_of-none}
 use Rattle.bot_machine.proofs.Sizes.{some_bytes}
 use Rattle.bot_machine.proofs.Proceeding.{staying_so, proceeding_so}
+use Rattle.bot_machine.proofs.Passing.{unit_stays}
 use Rattle.bot_machine.proofs.Taking.{one_taking}
 use Rattle.bot_machine.proofs.serve.end_data.Goals as goal
 
@@ -23,6 +24,11 @@ returns-then-packet-min-clause-takes g c = λ pending is left book fits.
       after = rw (c.write_csw-status.ensures, packets_of-none most (some_bytes c.args.wire.now.size))
           at (c.lay_out.ensures.line c.args.taken.now c.args.staging.now left (omega arith));
     }))))
+
+pub returns-then-packet-min-clause-passes : goal.returns-then-packet-min-clause-passes
+returns-then-packet-min-clause-passes g c =
+    unit_stays _ _ c.args.unit.now c.args.wire.now c.lay_out.new.self g.met.M.Medium.follows_itself
+    (c.lay_out.ensures.phase _ _ (omega arith)) c.lay_out.ensures.size
 
 pub returns-clause-takes : goal.returns-clause-takes
 returns-clause-takes g c = λ pending is left book fits.

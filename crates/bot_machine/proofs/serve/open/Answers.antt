@@ -3,6 +3,7 @@ use Rattle.bot_machine.specs.PacketBytes.{bytes_of}
 use Rattle.bot_machine.proofs.Packets.{packets_of-none}
 use Rattle.bot_machine.proofs.Sizes.{some_bytes}
 use Rattle.bot_machine.proofs.Proceeding.{staying, proceeding_so}
+use Rattle.bot_machine.proofs.Passing.{unit_stays}
 use Rattle.bot_machine.proofs.Opening.{opens, no_write, carries_out, carried_at_once}
 use Rattle.bot_machine.specs.Exchange.{finished, at_once, after_data, never}
 use Rattle.bot_machine.specs.Refinement.{left_of}
@@ -17,6 +18,11 @@ returns-in_default-clause-opens g c = λ taken book fits.
 pub returns-in_default-clause-spares : goal.returns-in_default-clause-spares
 returns-in_default-clause-spares g c = λ came book fits block taken carries.
     absurd (c.in_default.ensures carries.command carries.spelled)
+
+pub returns-in_default-clause-passes : goal.returns-in_default-clause-passes
+returns-in_default-clause-passes g c =
+    unit_stays _ _ c.args.unit.now c.args.wire.now c.lock.new.self g.met.M.Medium.follows_itself
+    (rw (c.lock.ensures, c.requires.expected) tt) (rw c.lock.ensures refl)
 
 pub returns-in-AtOnce-clause-opens : goal.returns-in-AtOnce-clause-opens
 returns-in-AtOnce-clause-opens g c = λ taken book fits.
@@ -64,5 +70,7 @@ returns-in-Never-clause-spares g c = λ came book fits block taken carries.
     let same = carried_at_once _ _ book fits _ c.in-Some.exchange c.in-Some.ensures block taken carries in
     absurd (let e : never ≡ at_once = c.in-Never.ensures ∙ same.0 in cc)
 
-pub returns-in-Never-clause-phase : goal.returns-in-Never-clause-phase
-returns-in-Never-clause-phase g c = c.tell.ensures.phase _ _ (omega arith)
+pub returns-in-Never-clause-passes : goal.returns-in-Never-clause-passes
+returns-in-Never-clause-passes g c =
+    unit_stays _ _ c.args.unit.now c.args.wire.now c.tell.new.self g.met.M.Medium.follows_itself
+    (c.tell.ensures.phase _ _ (omega arith)) c.tell.ensures.size

@@ -16,8 +16,8 @@ returns-in-Command-clause-step g c =
     let opens = rw c.deref_mut.ensures.value at (c.open.ensures.opens d.taken.items) in
     rw (← c.self.view_is, with_items_is d.staging c.open.new.staging (search (rules, places)))
     (begins _ _ _ _ c.args.packet.now (sym c.if-self.false) left opens c.open.ensures.rests (c.open.ensures.spares d.taken.items)
-    c.open.ensures.few c.open.ensures.elapses c.open.ensures.limit
-    (ap bytes_of c.open.ensures.size))
+    c.open.ensures.passes.few c.open.ensures.passes.elapses c.open.ensures.passes.limit
+    (ap bytes_of c.open.ensures.passes.size))
 
 pub returns-in-DataOut-clause-step : goal.returns-in-DataOut-clause-step
 returns-in-DataOut-clause-step g c =
@@ -34,8 +34,8 @@ returns-in-DataOut-clause-step g c =
     (ap (λ came. taking_of t came) taken ∙ left)
     (c.take_data.ensures.takes t c.in-DataOut.is (left_of (bytes_of d.wire.size) d.wire.phase d.taken.items d.staging.items d.wire.status))
     (c.take_data.ensures.rests t c.in-DataOut.is) (c.take_data.ensures.spares t c.in-DataOut.is)
-    c.take_data.ensures.few c.take_data.ensures.elapses c.take_data.ensures.limit
-    (ap bytes_of c.take_data.ensures.size))
+    c.take_data.ensures.passes.few c.take_data.ensures.passes.elapses c.take_data.ensures.passes.limit
+    (ap bytes_of c.take_data.ensures.passes.size))
 
 pub returns-in_default-clause-step : goal.returns-in_default-clause-step
 returns-in_default-clause-step g c =
