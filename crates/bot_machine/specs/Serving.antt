@@ -14,12 +14,14 @@ use Rattle.scsi_unit.specs.Serving.{has_refused, IsSparing}
 use Rattle.scsi_unit.specs.UnitValue.{UnitValue, unit_limit, state_of, FitsUnit, intention_of}
 use Rattle.bot_machine.specs.declared.exchange.Exchange.{Exchange}
 use Rattle.bot_machine.specs.declared.wire.Taking.{Taking}
+use Rattle.bot_machine.specs.declared.wire.Phase.TheVariants.{DataOut}
 use Rattle.bot_machine.specs.declared.wire.Wire.{Wire}
+use Rattle.bot_machine.specs.PacketBytes.{bytes_of}
 use Rattle.bot_machine.specs.Exchange.{Line, Script}
 use Rattle.bot_machine.specs.Conversation.{IsCarriedOut, Opens, Locks, Takes}
 use Rattle.bot_machine.specs.Intentions.{way_of, Intends}
 use Rattle.bot_machine.specs.Acts.{PacketCarriesOut, write_of_packet}
-use Rattle.bot_machine.specs.Refinement.{taking_of, IsInPhase}
+use Rattle.bot_machine.specs.Refinement.{taking_of, line_with, IsInPhase}
 use Rattle.bot_machine.specs.Disk.{on_line, Proceeds, Elapses, TakesFew, Tells}
 
 -- A packet spells a command wrapper, and begins this exchange: the one of its command, of what the
@@ -78,6 +80,17 @@ SparesOn most before after old new to left packet = (book : Book) → FitsUnit b
     → PacketCarriesOut most false left packet (state_of old book) block taken
     → (answer : Result (List ℕ) Sense) × IsSparing block taken old answer new
     × IsBounded before after block taken old × Tells answer to
+
+-- A packet takes data, of which the first bytes of this buffer came already: by the rules, and the
+-- unit rests where no command is carried out, and makes few calls where one is.
+pub record TakesData {M : Type 0} (before after : State) (old new : UnitValue M) (from : Wire)
+    (to : Line) (taken packet : List ℕ) : Type 0 where
+  pub takes : (pending : Taking) → from.phase ≡ DataOut pending → (left : Script)
+      → TakesOn before after old new (line_with from left) to pending taken packet
+  pub rests : (pending : Taking) → from.phase ≡ DataOut pending
+      → RestsOn (bytes_of from.size) before old new (taking_of pending taken) packet
+  pub spares : (pending : Taking) → from.phase ≡ DataOut pending
+      → SparesOn (bytes_of from.size) before after old new to (taking_of pending taken) packet
 
 -- A part of an event passes these on: a phase that the unit allows, its limit and the size of a
 -- packet as they were, and the medium, which comes after what it was by few calls.

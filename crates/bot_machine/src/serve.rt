@@ -10,15 +10,10 @@ ghost use Rattle.scsi_unit.specs.Serving.{IsSparing};
 ghost use Rattle.scsi_unit.specs.UnitValue.{unit_limit, intention_of};
 ghost use Rattle.bot_machine.specs.Disk.{Tells};
 ghost use Rattle.bot_machine.specs.Exchange.{Script, finished};
-ghost use Rattle.bot_machine.specs.Refinement.{
-  IsTaking,
-  line_of,
-  line_with,
-  taking_of,
-};
+ghost use Rattle.bot_machine.specs.Refinement.{IsTaking, line_of, line_with};
 ghost use Rattle.bot_machine.specs.PacketBytes.{bytes_of};
-ghost use Rattle.bot_machine.specs.Serving.{IsBegun, CarriesOutOn, BeginsOn, TakesOn};
-ghost use Rattle.bot_machine.specs.Serving.{RestsOn, SparesOn, PassesOn};
+ghost use Rattle.bot_machine.specs.Serving.{IsBegun, CarriesOutOn, BeginsOn, RestsOn, SparesOn};
+ghost use Rattle.bot_machine.specs.Serving.{TakesData, PassesOn};
 
 use crate::exchange::{Exchange, When, after_failure, size_sent, way_of_intent, when_carried_out};
 use crate::wire::{Phase, Taking, Wire};
@@ -127,18 +122,8 @@ pub(crate) fn take_data<M: Medium>(
     requires room { length staging.old ≡ 512 * unit_limit unit.old }
     requires taking { (pending : Taking) × (wire.old.phase ≡ Phase.DataOut pending)
         × IsTaking (unit_limit unit.old) (intention_of unit.old) pending }
-    ensures takes { (pending : Taking) → wire.old.phase ≡ Phase.DataOut pending
-        → (left : Script) → TakesOn
-        (M.state unit.old.store.medium) (M.state unit.new.store.medium) unit.old unit.new
-        (line_with wire.old left) (line_of wire.new taken.new staging.new)
-        pending taken.old packet.now }
-    ensures rests { (pending : Taking) → wire.old.phase ≡ Phase.DataOut pending
-        → RestsOn (bytes_of wire.old.size) (M.state unit.old.store.medium) unit.old unit.new
-        (taking_of pending taken.old) packet.now }
-    ensures spares { (pending : Taking) → wire.old.phase ≡ Phase.DataOut pending
-        → SparesOn (bytes_of wire.old.size)
-        (M.state unit.old.store.medium) (M.state unit.new.store.medium) unit.old unit.new
-        (line_of wire.new taken.new staging.new) (taking_of pending taken.old) packet.now }
+    ensures serves { TakesData (M.state unit.old.store.medium) (M.state unit.new.store.medium)
+        unit.old unit.new wire.old (line_of wire.new taken.new staging.new) taken.old packet.now }
     ensures passes { PassesOn M.state M.follows unit.old unit.new wire.old wire.new }
 {
     let Phase::DataOut(pending) = &mut wire.phase else {
@@ -187,18 +172,8 @@ fn end_data<M: Medium>(
         × IsTaking (unit_limit unit.old) (intention_of unit.old) pending }
     requires ends { (pending : Taking) → wire.old.phase ≡ Phase.DataOut pending
         → length packet.now ≡ bytes_of wire.old.size → pending.due ≤ bytes_of wire.old.size }
-    ensures takes { (pending : Taking) → wire.old.phase ≡ Phase.DataOut pending
-        → (left : Script) → TakesOn
-        (M.state unit.old.store.medium) (M.state unit.new.store.medium) unit.old unit.new
-        (line_with wire.old left) (line_of wire.new taken.new staging.new)
-        pending taken.old packet.now }
-    ensures rests { (pending : Taking) → wire.old.phase ≡ Phase.DataOut pending
-        → RestsOn (bytes_of wire.old.size) (M.state unit.old.store.medium) unit.old unit.new
-        (taking_of pending taken.old) packet.now }
-    ensures spares { (pending : Taking) → wire.old.phase ≡ Phase.DataOut pending
-        → SparesOn (bytes_of wire.old.size)
-        (M.state unit.old.store.medium) (M.state unit.new.store.medium) unit.old unit.new
-        (line_of wire.new taken.new staging.new) (taking_of pending taken.old) packet.now }
+    ensures serves { TakesData (M.state unit.old.store.medium) (M.state unit.new.store.medium)
+        unit.old unit.new wire.old (line_of wire.new taken.new staging.new) taken.old packet.now }
     ensures passes { PassesOn M.state M.follows unit.old unit.new wire.old wire.new }
 {
     let Phase::DataOut(pending) = mem::replace(&mut wire.phase, Phase::Command) else {

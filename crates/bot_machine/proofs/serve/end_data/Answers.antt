@@ -1,5 +1,6 @@
-use Rattle.std.proofs.Common.{ℕ, ◌≡◌, ◌≢◌, ◌<◌, ◌≤◌, inl, inr, length, min, refl, sym, arith, ◌∙◌}
+use Rattle.std.proofs.Common.{ℕ, ◌≡◌, ◌≢◌, ◌<◌, ◌≤◌, inl, inr, length, min, refl, sym, ap, arith, ◌∙◌}
 use Rattle.std.proofs.lemmas.Bool.{cases_lt}
+use Rattle.bot_machine.specs.declared.wire.Taking.{Taking}
 use Rattle.bot_machine.specs.PacketBytes.{bytes_of}
 use Rattle.bot_machine.proofs.Filling.{last_packet, other_packet}
 use Rattle.bot_machine.proofs.Packets.{packets_of-none}
@@ -9,31 +10,40 @@ use Rattle.bot_machine.proofs.Passing.{unit_stays}
 use Rattle.bot_machine.proofs.Taking.{one_taking}
 use Rattle.bot_machine.proofs.serve.end_data.Goals as goal
 
-pub returns-then-packet-min-clause-takes : goal.returns-then-packet-min-clause-takes
-returns-then-packet-min-clause-takes g c = λ pending is left book fits.
+pub returns-then-packet-min-clause-serves : goal.returns-then-packet-min-clause-serves
+returns-then-packet-min-clause-serves g c =
     let d = c.in-DataOut.pending in
-    let same : d ≡ pending = one_taking d pending (c.in-DataOut.ensures.value ∙ is) in
     let unit = c.args.unit.now in
     let most : ℕ = bytes_of c.args.wire.now.size in
     let other : length c.args.packet.now ≡ d.due → most < d.due = λ whole. omega arith in
-    rw (← same) (staying_so _ unit _ _ book (g.met.M.Medium.sound unit.store.medium) fits
-    (other_packet most (length c.args.packet.now) d.due _ _ other)
-    (inr (inr (record {
-      size = let s : length c.args.packet.now ≢ min most d.due = omega arith in s;
-      unit = refl;
-      after = rw (c.write_csw-status.ensures, packets_of-none most (some_bytes c.args.wire.now.size))
-          at (c.lay_out.ensures.line c.args.taken.now c.args.staging.now left (omega arith));
-    }))))
+    record {
+      takes = λ pending is left book fits.
+          let same : d ≡ pending = one_taking d pending (c.in-DataOut.ensures.value ∙ is) in
+          rw (← same)
+          (staying_so _ unit _ _ book (g.met.M.Medium.sound unit.store.medium) fits
+          (other_packet most (length c.args.packet.now) d.due _ _ other) (inr (inr (record {
+            size = let s : length c.args.packet.now ≢ min most d.due = omega arith in s;
+            unit = refl;
+            after = rw (c.write_csw-status.ensures, packets_of-none most (some_bytes c.args.wire.now.size))
+                at (c.lay_out.ensures.line c.args.taken.now c.args.staging.now left (omega arith));
+          }))));
+      rests = λ pending is book fits none. refl;
+      spares = λ pending is book fits block taken carries.
+          let due = ap (λ (t : Taking). t.due) (one_taking d pending (c.in-DataOut.ensures.value ∙ is)) in
+          let size = carries.size in
+          let last = carries.last in
+          let more = other (omega (arith, due, size)) in
+          absurd (omega (arith, more, due, last));
+    }
 
 pub returns-then-packet-min-clause-passes : goal.returns-then-packet-min-clause-passes
 returns-then-packet-min-clause-passes g c =
     unit_stays _ _ c.args.unit.now c.args.wire.now c.lay_out.new.self g.met.M.Medium.follows_itself
     (c.lay_out.ensures.phase _ _ (omega arith)) c.lay_out.ensures.size
 
-pub returns-clause-takes : goal.returns-clause-takes
-returns-clause-takes g c = λ pending is left book fits.
+pub returns-clause-serves : goal.returns-clause-serves
+returns-clause-serves g c =
     let d = c.in-DataOut.pending in
-    let same : d ≡ pending = one_taking d pending (c.in-DataOut.ensures.value ∙ is) in
     let most : ℕ = bytes_of c.args.wire.now.size in
     let bytes = rw c.size.ensures at c.fill.ensures.bytes in
     let ends = c.requires.ends d (sym c.in-DataOut.ensures.value) in
@@ -42,24 +52,23 @@ returns-clause-takes g c = λ pending is left book fits.
       | inr h ↦ h
     ] in
     let whole : length c.args.packet.now ≡ d.due = omega (arith, last, c.if-packet-min.false, c.min.ensures, c.bytes-most.ensures) in
-    rw (← same) (proceeding_so _ _ _ _ _ _ _ _ book
-    (rw bytes at (c.carry_out.ensures.carried_out c.fill.new.buffer left book fits))
-    (last_packet most (length c.args.packet.now) d.due _ _ whole last)
-    (λ later moves. inr (inl (record {
-      size = whole;
-      last = last;
-      carried_out = moves;
-    }))))
-
-pub returns-clause-rests : goal.returns-clause-rests
-returns-clause-rests g c = λ pending is book fits none.
-    let d = c.in-DataOut.pending in
-    let same : d ≡ pending = one_taking d pending (c.in-DataOut.ensures.value ∙ is) in
-    let most : ℕ = bytes_of c.args.wire.now.size in
-    let ends = c.requires.ends d (sym c.in-DataOut.ensures.value) in
-    let last : d.due ≤ most = elim (cases_lt most d.due) [
-      | inl h ↦ ends (omega (arith, h, c.if-packet-min.false, c.min.ensures, c.bytes-most.ensures))
-      | inr h ↦ h
-    ] in
-    let whole : length c.args.packet.now ≡ d.due = omega (arith, last, c.if-packet-min.false, c.min.ensures, c.bytes-most.ensures) in
-    absurd ((rw (← same) at none) _ _ (record { size = whole; last = last; block_is = refl; taken_is = refl }))
+    record {
+      takes = λ pending is left book fits.
+          let same : d ≡ pending = one_taking d pending (c.in-DataOut.ensures.value ∙ is) in
+          rw (← same) (proceeding_so _ _ _ _ _ _ _ _ book
+          (rw bytes at (c.carry_out.ensures.carried_out c.fill.new.buffer left book fits))
+          (last_packet most (length c.args.packet.now) d.due _ _ whole last)
+          (λ later moves. inr (inl (record {
+            size = whole;
+            last = last;
+            carried_out = moves;
+          }))));
+      rests = λ pending is book fits none.
+          let same : d ≡ pending = one_taking d pending (c.in-DataOut.ensures.value ∙ is) in
+          absurd ((rw (← same) at none) _ _ (record { size = whole; last = last; block_is = refl; taken_is = refl }));
+      spares = λ pending is book fits block taken carries.
+          let same : d ≡ pending = one_taking d pending (c.in-DataOut.ensures.value ∙ is) in
+          let spared = rw bytes at c.carry_out.ensures.spares in
+          let last_one = rw (← same) at carries in
+          rw (last_one.block_is, last_one.taken_is) (spared.0, spared.1, spared.2, spared.3 c.fill.new.buffer);
+    }

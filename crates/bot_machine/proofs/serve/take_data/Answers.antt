@@ -1,6 +1,7 @@
 use Rattle.std.proofs.Common.{ℕ, ◌≡◌, ◌<◌, ◌-◌, ◌++◌, inl, length, take, refl, sym, arith, ap, ◌∙◌}
 use Rattle.wrappers.specs.Cases.{size_of_way}
-use Rattle.bot_machine.specs.declared.wire.Wire.{Wire}
+use Rattle.bot_machine.specs.declared.wire.Taking.{Taking}
+use Rattle.bot_machine.specs.declared.wire.Phase.{Phase}
 use Rattle.bot_machine.specs.declared.wire.Phase.TheVariants.{DataOut}
 use Rattle.bot_machine.specs.Exchange.{taking}
 use Rattle.bot_machine.specs.Refinement.{line_with}
@@ -12,10 +13,9 @@ use Rattle.bot_machine.proofs.serve.take_data.Goals as goal
 use Rattle.bot_machine.proofs.serve.take_data.Goals.{else-pending-most-via-then-pending-most+else-packet-most}
 use Rattle.bot_machine.proofs.serve.take_data.Goals.{else-pending-most-via-else-pending-most}
 
-pub returns-then-packet-most-clause-takes : goal.returns-then-packet-most-clause-takes
-returns-then-packet-most-clause-takes g c = λ pending is left book fits.
+pub returns-then-packet-most-clause-serves : goal.returns-then-packet-most-clause-serves
+returns-then-packet-most-clause-serves g c =
     let d = c.in-DataOut.pending in
-    let same : d ≡ pending = one_taking d pending (sym c.in-DataOut.is ∙ is) in
     let unit = c.args.unit.now in
     let wire = c.args.wire.now in
     let now = c.take_more.new.pending in
@@ -24,43 +24,36 @@ returns-then-packet-most-clause-takes g c = λ pending is left book fits.
     let more : most < d.due = omega (arith, c.if-pending-most.true, c.bytes-most.ensures) in
     let came = take now.filled c.take_more.new.taken in
     let left_due : now.due ≡ d.due - most = c.take_more.ensures.due ∙ ap (λ n. d.due - n) c.bytes-most.ensures in
-    rw (← same)
-    (staying_so _ unit _ _ book (g.met.M.Medium.sound unit.store.medium) fits
-    (other_packet most (length c.args.packet.now) d.due _ _ (λ whole. more)) (inl (record {
-      size = let s : length c.args.packet.now ≡ most = omega (arith, c.if-packet-most.true, c.bytes-most.ensures) in s;
-      more = more;
-      unit = refl;
-      after = ap (λ x. line_with wire (taking x.case x.command x.intended came now.due)) c.take_more.ensures.exchange
-          ∙ ap (λ x. line_with wire (taking e.case e.command e.intended x now.due)) c.take_more.ensures.bytes
-          ∙ ap
-          (λ n. line_with wire
-          (taking e.case e.command e.intended
-          (take (size_of_way e.intended) (take d.filled c.args.taken.now ++ c.args.packet.now)) n)) left_due;
-    })))
+    record {
+      takes = λ pending is left book fits.
+          let same : d ≡ pending = one_taking d pending (sym c.in-DataOut.is ∙ is) in
+          rw (← same)
+          (staying_so _ unit _ _ book (g.met.M.Medium.sound unit.store.medium) fits
+          (other_packet most (length c.args.packet.now) d.due _ _ (λ whole. more)) (inl (record {
+            size = let s : length c.args.packet.now ≡ most = omega (arith, c.if-packet-most.true, c.bytes-most.ensures) in s;
+            more = more;
+            unit = refl;
+            after = ap (λ x. line_with wire (taking x.case x.command x.intended came now.due)) c.take_more.ensures.exchange
+                ∙ ap (λ x. line_with wire (taking e.case e.command e.intended x now.due)) c.take_more.ensures.bytes
+                ∙ ap
+                (λ n. line_with wire
+                (taking e.case e.command e.intended
+                (take (size_of_way e.intended) (take d.filled c.args.taken.now ++ c.args.packet.now)) n)) left_due;
+          })));
+      rests = λ pending is book fits none. refl;
+      spares = λ pending is book fits block taken carries.
+          let due = ap (λ (t : Taking). t.due) (one_taking d pending (sym c.in-DataOut.is ∙ is)) in
+          let last = carries.last in
+          absurd (omega (arith, more, due, last));
+    }
 
-pub returns-clause-takes : goal.returns-clause-takes
-returns-clause-takes g c = λ pending is.
-    let same : c.else-pending-most.wire ≡ record c.args.wire.now { phase = DataOut c.in-DataOut.pending } =
+pub returns-clause-serves : goal.returns-clause-serves
+returns-clause-serves g c =
+    let wire = c.args.wire.now in
+    let with : c.else-pending-most.wire ≡ record wire { phase = DataOut c.in-DataOut.pending } =
     elim c.else-pending-most.branch [
       | else-pending-most-via-then-pending-most+else-packet-most w ↦ w.wire-is
       | else-pending-most-via-else-pending-most w ↦ w.wire-is
     ] in
-    rw same at (c.end_data.ensures.takes pending (ap (λ (w : Wire). w.phase) same ∙ sym c.in-DataOut.is ∙ is))
-
-pub returns-clause-rests : goal.returns-clause-rests
-returns-clause-rests g c = λ pending is.
-    let same : c.else-pending-most.wire ≡ record c.args.wire.now { phase = DataOut c.in-DataOut.pending } =
-    elim c.else-pending-most.branch [
-      | else-pending-most-via-then-pending-most+else-packet-most w ↦ w.wire-is
-      | else-pending-most-via-else-pending-most w ↦ w.wire-is
-    ] in
-    rw same at (c.end_data.ensures.rests pending (ap (λ (w : Wire). w.phase) same ∙ sym c.in-DataOut.is ∙ is))
-
-pub returns-clause-spares : goal.returns-clause-spares
-returns-clause-spares g c = λ pending is.
-    let same : c.else-pending-most.wire ≡ record c.args.wire.now { phase = DataOut c.in-DataOut.pending } =
-    elim c.else-pending-most.branch [
-      | else-pending-most-via-then-pending-most+else-packet-most w ↦ w.wire-is
-      | else-pending-most-via-else-pending-most w ↦ w.wire-is
-    ] in
-    rw same at (c.end_data.ensures.spares pending (ap (λ (w : Wire). w.phase) same ∙ sym c.in-DataOut.is ∙ is))
+    let same : c.else-pending-most.wire ≡ wire = with ∙ ap (λ (p : Phase). record wire { phase = p }) (sym c.in-DataOut.is) in
+    rw same at c.end_data.ensures.serves

@@ -14,10 +14,10 @@ returns-in-Command-clause-step g c =
     let d = c.self.inside in
     let left = ap (λ p. left_of (bytes_of d.wire.size) p d.taken.items d.staging.items d.wire.status) (sym c.in-Command.is) in
     let opens = rw c.deref_mut.ensures.value at (c.open.ensures.opens d.taken.items) in
+    let passes = c.open.ensures.passes in
     rw (← c.self.view_is, with_items_is d.staging c.open.new.staging (search (rules, places)))
     (begins _ _ _ _ c.args.packet.now (sym c.if-self.false) left opens c.open.ensures.rests (c.open.ensures.spares d.taken.items)
-    c.open.ensures.passes.few c.open.ensures.passes.elapses c.open.ensures.passes.limit
-    (ap bytes_of c.open.ensures.passes.size))
+    passes.few passes.elapses passes.limit (ap bytes_of passes.size))
 
 pub returns-in-DataOut-clause-step : goal.returns-in-DataOut-clause-step
 returns-in-DataOut-clause-step g c =
@@ -25,6 +25,8 @@ returns-in-DataOut-clause-step g c =
     let t = c.in-DataOut.field-0 in
     let left = ap (λ p. left_of (bytes_of d.wire.size) p d.taken.items d.staging.items d.wire.status) (sym c.in-DataOut.is) in
     let taken = c.deref_mut-in-DataOut.ensures.value in
+    let serves = c.take_data.ensures.serves in
+    let passes = c.take_data.ensures.passes in
     rw (
       ← c.self.view_is,
       with_items_is d.taken c.take_data.new.taken (search (rules, places)),
@@ -32,10 +34,8 @@ returns-in-DataOut-clause-step g c =
     )
     (goes_on _ _ _ _ c.args.packet.now t c.deref_mut-in-DataOut.result.now (sym c.if-self.false)
     (ap (λ came. taking_of t came) taken ∙ left)
-    (c.take_data.ensures.takes t c.in-DataOut.is (left_of (bytes_of d.wire.size) d.wire.phase d.taken.items d.staging.items d.wire.status))
-    (c.take_data.ensures.rests t c.in-DataOut.is) (c.take_data.ensures.spares t c.in-DataOut.is)
-    c.take_data.ensures.passes.few c.take_data.ensures.passes.elapses c.take_data.ensures.passes.limit
-    (ap bytes_of c.take_data.ensures.passes.size))
+    (serves.takes t c.in-DataOut.is (left_of (bytes_of d.wire.size) d.wire.phase d.taken.items d.staging.items d.wire.status))
+    (serves.rests t c.in-DataOut.is) (serves.spares t c.in-DataOut.is) passes.few passes.elapses passes.limit (ap bytes_of passes.size))
 
 pub returns-in_default-clause-step : goal.returns-in_default-clause-step
 returns-in_default-clause-step g c =
