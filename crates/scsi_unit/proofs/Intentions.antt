@@ -1,11 +1,10 @@
 -- A command moves what it intended to.
-use Rattle.std.proofs.Common.{◌≡◌, ◌≢◌, ◌<◌, ◌≤◌, ◌+◌, ◌*◌, ⊎_elim, ℕ, zero, suc, Bool, true, false, List, [], ◌∷◌, length, take, Some}
-use Rattle.std.proofs.Common.{None, Option, Result, Ok, Err, refl, ap, sym, ◌∙◌, subst, arith, length-append}
+use Rattle.std.proofs.Common.{◌≡◌, ◌≢◌, ◌<◌, ◌≤◌, ◌*◌, ⊎_elim, ℕ, Bool, true, false, List, [], ◌∷◌, length, Some}
+use Rattle.std.proofs.Common.{None, Result, Ok, Err, refl, ap, sym, ◌∙◌, subst, arith}
 use Rattle.std.specs.Prelude.{IfOk, if◌then◌else◌, ◌||◌, ◌==◌, not, min, unwrap_or, IsTrue}
 use Rattle.std.proofs.lemmas.Result.{IfOk-at_ok}
-use Rattle.std.proofs.lemmas.Bool.{false≢true, eqb-true, eqb-false}
+use Rattle.std.proofs.lemmas.Bool.{false≢true, eqb-true}
 use Rattle.std.proofs.lemmas.List.{length-take}
-use Rattle.medium.specs.Blocks.{Array}
 use Rattle.blocks.specs.Book.{array_of, blocks_at}
 use Rattle.sense.specs.declared.codes.Sense.{Sense}
 use Rattle.sense.specs.Fixed.{fixed_sense}
@@ -16,168 +15,18 @@ use Rattle.cdb.specs.declared.command.Transfer.{Transfer}
 use Rattle.cdb.specs.Supported.{IsSupported, IsWithin}
 use Rattle.cdb.specs.Table.{is_one_of}
 use Rattle.cdb.proofs.Laws.{supported}
-use Rattle.pages.specs.Identification.{Identification}
-use Rattle.pages.specs.Inquiry.{inquiry_data, inquiry_size, standard_data, supported_pages, unit_serial_number, device_identification}
-use Rattle.pages.specs.Inquiry.{block_limits}
-use Rattle.pages.specs.Mode.{mode_data, caching_page}
+use Rattle.pages.specs.Inquiry.{inquiry_data, inquiry_size}
+use Rattle.pages.specs.Mode.{mode_data}
 use Rattle.scsi_unit.specs.declared.intent.Intent.TheVariants as intent
-use Rattle.scsi_unit.specs.Capacity.{capacity_10, capacity_16}
-use Rattle.scsi_unit.specs.Rules.{UnitState, checked, intention, moves, moves_after, sends, takes, effect_of, moves_blocks, selected_by}
+use Rattle.scsi_unit.specs.Capacity.{capacity_16}
+use Rattle.scsi_unit.specs.Rules.{UnitState, checked, intention, moves, moves_after, sends, effect_of, moves_blocks, selected_by}
 use Rattle.scsi_unit.specs.Rules.{selects, write_after, write_of_command, some_write, write_by, IsOutcome}
 use Rattle.scsi_unit.specs.Laws.{IsSized, KeepsIntentions}
 use Rattle.scsi_unit.proofs.Checking.{intention_is, passed_by}
 use Rattle.scsi_unit.proofs.Writing.{written}
-
--- ---- how many bytes an intention has
-
-sends_at : (bytes n : ℕ) (nothing : Bool) → (nothing ≡ false → bytes ≢ 0) → (if nothing then intent.None else intent.In bytes) ≡ intent.In n
-    → (bytes ≡ n) × (0 < n)
-sends_at bytes n true some is = cc
-sends_at bytes n false some is = let same : bytes ≡ n = cc in (same, omega (arith, same, some refl))
-
--- so many bytes are sent where they are intended
-pub sends_is : (bytes n : ℕ) → sends bytes ≡ intent.In n → (bytes ≡ n) × (0 < n)
-sends_is bytes n is = sends_at bytes n (bytes == 0) (λ no. eqb-false bytes 0 no) is
-
-takes_at : (bytes n : ℕ) (nothing : Bool) → (nothing ≡ false → bytes ≢ 0)
-    → (if nothing then intent.None else intent.Out bytes) ≡ intent.Out n → (bytes ≡ n) × (0 < n)
-takes_at bytes n true some is = cc
-takes_at bytes n false some is = let same : bytes ≡ n = cc in (same, omega (arith, same, some refl))
-
-pub takes_is : (bytes n : ℕ) → takes bytes ≡ intent.Out n → (bytes ≡ n) × (0 < n)
-takes_is bytes n is = takes_at bytes n (bytes == 0) (λ no. eqb-false bytes 0 no) is
-
-sends_no_out : (bytes n : ℕ) (nothing : Bool) → (if nothing then intent.None else intent.In bytes) ≡ intent.Out n → ⊥
-sends_no_out bytes n true is = cc
-sends_no_out bytes n false is = cc
-
-takes_no_in : (bytes n : ℕ) (nothing : Bool) → (if nothing then intent.None else intent.Out bytes) ≡ intent.In n → ⊥
-takes_no_in bytes n true is = cc
-takes_no_in bytes n false is = cc
-
--- nothing is sent where nothing is intended
-sends_nothing_at : (bytes : ℕ) (nothing : Bool) → (nothing ≡ true → bytes ≡ 0)
-    → ((n : ℕ) → (if nothing then intent.None else intent.In bytes) ≢ intent.In n) → bytes ≡ 0
-sends_nothing_at bytes true none never = none refl
-sends_nothing_at bytes false none never = absurd (never bytes refl)
-
-pub sends_nothing : (bytes : ℕ) → ((n : ℕ) → sends bytes ≢ intent.In n) → bytes ≡ 0
-sends_nothing bytes never = sends_nothing_at bytes (bytes == 0) (λ yes. eqb-true bytes 0 yes) never
-
-takes_nothing_at : (bytes : ℕ) (nothing : Bool) → (nothing ≡ true → bytes ≡ 0)
-    → ((n : ℕ) → (if nothing then intent.None else intent.Out bytes) ≢ intent.Out n) → bytes ≡ 0
-takes_nothing_at bytes true none never = none refl
-takes_nothing_at bytes false none never = absurd (never bytes refl)
-
-pub takes_nothing : (bytes : ℕ) → ((n : ℕ) → takes bytes ≢ intent.Out n) → bytes ≡ 0
-takes_nothing bytes never = takes_nothing_at bytes (bytes == 0) (λ yes. eqb-true bytes 0 yes) never
-
--- ---- the sizes of data
-
-length-fixed_sense : (sense : Sense) → length (fixed_sense sense) ≡ 18
-unfolding fixed_sense
-length-fixed_sense sense = refl
-
-length-mode_data : (control : ℕ) (write_cache : Bool) → length (mode_data control write_cache) ≡ 24
-unfolding caching_page
-length-mode_data control write_cache = refl
-
-length-capacity_10 : (n : ℕ) → length (capacity_10 n) ≡ 8
-unfolding capacity_10
-length-capacity_10 n = refl
-
-length-capacity_16 : (n : ℕ) → length (capacity_16 n) ≡ 32
-unfolding capacity_16
-length-capacity_16 n = refl
-
-length-standard_data : (who : Identification) → length who.vendor ≡ 8 → length who.product ≡ 16 → length who.revision ≡ 4
-    → length (standard_data who) ≡ 36
-unfolding standard_data
-length-standard_data who vendor product revision = simp length-append (omega (arith, vendor, product, revision))
-
-length-unit_serial_number : (who : Identification) → length who.serial ≡ 12 → length (unit_serial_number who) ≡ 16
-unfolding unit_serial_number
-length-unit_serial_number who serial = simp length-append (omega (arith, serial))
-
-length-device_identification : (who : Identification) → length who.vendor ≡ 8 → length who.product ≡ 16 → length who.serial ≡ 12
-    → length (device_identification who) ≡ 44
-unfolding device_identification
-length-device_identification who vendor product serial = simp length-append (omega (arith, vendor, product, serial))
-
-length-supported_pages : length supported_pages ≡ 8
-unfolding supported_pages
-length-supported_pages = refl
-
-length-block_limits : (most : ℕ) → length (block_limits most) ≡ 64
-unfolding block_limits
-length-block_limits most = refl
-
--- INQUIRY data, by the tests of the page code
-vital_at : (limit : ℕ) (who : Identification) → length who.vendor ≡ 8 → length who.product ≡ 16 → length who.serial ≡ 12 → (a b c d : Bool)
-    → length (unwrap_or
-    (if a then Some supported_pages
-    else if b then Some (unit_serial_number who)
-    else if c then Some (device_identification who) else if d then Some (block_limits limit) else None) [])
-    ≡ unwrap_or (if a then Some 8 else if b then Some 16 else if c then Some 44 else if d then Some 64 else None) 0
-vital_at limit who vendor product serial true b c d = length-supported_pages
-vital_at limit who vendor product serial false true c d = length-unit_serial_number who serial
-vital_at limit who vendor product serial false false true d = length-device_identification who vendor product serial
-vital_at limit who vendor product serial false false false true = length-block_limits limit
-vital_at limit who vendor product serial false false false false = refl
-
-length-inquiry_data : (unit : UnitState) → IsSized unit → (page : Option ℕ)
-    → length (unwrap_or (inquiry_data unit.identity unit.limit page) []) ≡ unwrap_or (inquiry_size page) 0
-length-inquiry_data unit sized None = length-standard_data unit.identity sized.vendor sized.product sized.revision
-length-inquiry_data unit sized (Some code) =
-    vital_at unit.limit unit.identity sized.vendor sized.product sized.serial (code == 0x00) (code == 0x80) (code == 0x83) (code == 0xb0)
-
-vital_most : (a b c d : Bool)
-    → unwrap_or (if a then Some 8 else if b then Some 16 else if c then Some 44 else if d then Some 64 else None) 0 ≤ 64
-vital_most true b c d = omega arith
-vital_most false true c d = omega arith
-vital_most false false true d = omega arith
-vital_most false false false true = omega arith
-vital_most false false false false = omega arith
-
-inquiry_most : (page : Option ℕ) → unwrap_or (inquiry_size page) 0 ≤ 64
-inquiry_most None = omega arith
-inquiry_most (Some code) = vital_most (code == 0x00) (code == 0x80) (code == 0x83) (code == 0xb0)
-
--- nothing is taken of data
-take_none : (k : ℕ) (bytes : List ℕ) → k ≡ 0 → take k bytes ≡ []
-take_none k bytes none = ap (λ (n : ℕ). take n bytes) none
-
-take_nil : (k : ℕ) → take k (let none : List ℕ = [] in none) ≡ []
-take_nil zero = refl
-take_nil (suc k) = refl
-
-vital_none : (limit : ℕ) (who : Identification) (allocation : ℕ) (a b c d : Bool)
-    → min allocation (unwrap_or (if a then Some 8 else if b then Some 16 else if c then Some 44 else if d then Some 64 else None) 0) ≡ 0
-    → take allocation
-    (unwrap_or
-    (if a then Some supported_pages
-    else if b then Some (unit_serial_number who)
-    else if c then Some (device_identification who) else if d then Some (block_limits limit) else None) []) ≡ []
-vital_none limit who allocation true b c d none = take_none allocation _ (omega (arith, none))
-vital_none limit who allocation false true c d none = take_none allocation _ (omega (arith, none))
-vital_none limit who allocation false false true d none = take_none allocation _ (omega (arith, none))
-vital_none limit who allocation false false false true none = take_none allocation _ (omega (arith, none))
-vital_none limit who allocation false false false false none = take_nil allocation
-
-inquiry_none : (limit : ℕ) (who : Identification) (allocation : ℕ) (page : Option ℕ) → min allocation (unwrap_or (inquiry_size page) 0) ≡ 0
-    → take allocation (unwrap_or (inquiry_data who limit page) []) ≡ []
-inquiry_none limit who allocation None none = take_none allocation _ (omega (arith, none))
-inquiry_none limit who allocation (Some code) none =
-    vital_none limit who allocation (code == 0x00) (code == 0x80) (code == 0x83) (code == 0xb0) none
-
--- the blocks of a range, each of 512 bytes
-length-blocks_at : (array : Array) (address count : ℕ) → ((b : ℕ) → address ≤ b → b < address + count → length (array b) ≡ 512)
-    → length (blocks_at array address count) ≡ 512 * count
-length-blocks_at array address zero sized = refl
-length-blocks_at array address (suc count) sized =
-    let rest = length-blocks_at array (address + 1) count (λ b low high. sized b (omega (arith, low)) (omega (arith, high))) in
-    let here = sized address (omega arith) (omega arith) in
-    omega (arith, length-append (array address) (blocks_at array (address + 1) count), rest, here)
+use Rattle.scsi_unit.proofs.DataSizes.{sends_is, takes_is, sends_no_out, takes_no_in, sends_nothing, takes_nothing, length-fixed_sense}
+use Rattle.scsi_unit.proofs.DataSizes.{length-mode_data, length-capacity_10, length-capacity_16, length-inquiry_data, inquiry_most}
+use Rattle.scsi_unit.proofs.DataSizes.{take_none, inquiry_none, length-blocks_at}
 
 -- ---- command by command
 

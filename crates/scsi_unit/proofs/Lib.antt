@@ -7,6 +7,7 @@ pub mod Calling
 pub mod Bounds
 pub mod Effects
 pub mod Outcomes
+pub mod DataSizes
 pub mod Intentions
 pub mod Appending
 pub mod Books
