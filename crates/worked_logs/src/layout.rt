@@ -1,6 +1,16 @@
 //! The layout's bytes as they are written down, and the numbers of its places.
-pub(crate) mod faults;
-pub(crate) mod format_one;
-pub(crate) mod format_two;
+mod faults;
+mod format_one;
+mod format_two;
 mod known;
-pub(crate) mod read_back;
+mod read_back;
+
+use worked::Report;
+
+/// Tells how the calls of the layout went.
+pub(crate) fn tell(report: &mut Report) {
+    report.tell("the bytes and the places of format 1", format_one::play());
+    report.tell("the bytes of format 2", format_two::play());
+    report.tell("sectors that are no super or no head", faults::play());
+    report.tell("values that are read back", read_back::play());
+}

@@ -1,17 +1,17 @@
 //! The numbers that faults have for a caller from outside.
-use crate::difference::{Difference, same};
 use log_layout::SuperFault;
 use medium::{FileError, MediumFault, SimError};
 use recovery::{FormatFault, StartFault};
+use worked::{Mismatch, same};
 
 /// Each fault has its number.
-pub(crate) fn play() -> Result<(), Difference> {
+pub(crate) fn play() -> Result<(), Mismatch> {
     of_media()?;
     of_supers()?;
     of_images()
 }
 
-fn of_media() -> Result<(), Difference> {
+fn of_media() -> Result<(), Mismatch> {
     let faults = [
         MediumFault::Read as u8,
         MediumFault::Write as u8,
@@ -29,7 +29,7 @@ fn of_media() -> Result<(), Difference> {
     same("the errors of an image file", numbers, [1, 2, 3, 4])
 }
 
-fn of_supers() -> Result<(), Difference> {
+fn of_supers() -> Result<(), Mismatch> {
     let numbers = [
         SuperFault::Magic as u8,
         SuperFault::Version as u8,
@@ -39,7 +39,7 @@ fn of_supers() -> Result<(), Difference> {
     same("the faults of a super", numbers, [1, 2, 3, 4])
 }
 
-fn of_images() -> Result<(), Difference> {
+fn of_images() -> Result<(), Mismatch> {
     let formats = [FormatFault::BadSize as u8, FormatFault::Medium as u8];
     same("the faults of a format", formats, [1, 2])?;
     let starts = [

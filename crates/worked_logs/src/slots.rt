@@ -2,12 +2,13 @@
 ghost use Rattle.std.specs.Prelude.{◌≤◌};
 ghost use Rattle.log_layout.specs.Places.{limit_of};
 
-use crate::difference::{Difference, holds, same};
+use crate::difference::Difference;
 use crate::media::filled_medium;
 use log_image::{part, parts, read_copy, slot_place};
 use log_layout::{LogFormat, Super};
 use medium::{Medium, MediumFault, SimMedium};
 use std::alloc::Global;
+use worked::{Mismatch, holds, same};
 
 /// A record stands in its slot, and its block is read from there.
 pub(crate) fn play(alloc: Global) -> Result<(), Difference> {
@@ -23,7 +24,7 @@ fn hold_a_record_of_format_one(alloc: Global) -> Result<(), Difference> {
     same("the block of a record of format 1", to, [0xcc; 512])?;
     begins(&m, 2, b"RDDESCR1\x03\0\0\0\0\0\0\0")?;
     begins(&m, 3, &[0xcc; 16])?;
-    begins(&m, 51, b"RDCOMMIT\x03\0\0\0\0\0\0\0")
+    Ok(begins(&m, 51, b"RDCOMMIT\x03\0\0\0\0\0\0\0")?)
 }
 
 fn hold_a_record_of_format_two(alloc: Global) -> Result<(), Difference> {
@@ -38,14 +39,14 @@ fn hold_a_record_of_format_two(alloc: Global) -> Result<(), Difference> {
         10,
         b"\x03\0\0\0\0\0\0\0\xcc\xcc\xcc\xcc\xcc\xcc\xcc\xcc",
     )?;
-    begins(&m, 250, b"RDCOMMT2\x03\0\0\0\0\0\0\0")
+    Ok(begins(&m, 250, b"RDCOMMT2\x03\0\0\0\0\0\0\0")?)
 }
 
 // This sector begins with these 16 bytes.
-fn begins(m: &SimMedium, sector: usize, bytes: &[u8; 16]) -> Result<(), Difference> {
+fn begins(m: &SimMedium, sector: usize, bytes: &[u8; 16]) -> Result<(), Mismatch> {
     match m.image().chunks(512).nth(sector) {
         Some(found) => holds("the first bytes of a sector", found.starts_with(bytes)),
-        None => Err(Difference::NoSector),
+        None => Err(Mismatch::Missing("a sector")),
     }
 }
 

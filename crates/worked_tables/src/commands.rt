@@ -2,18 +2,14 @@
 pub(crate) mod of_blocks;
 pub(crate) mod of_devices;
 
-use crate::difference::{Difference, same};
 use cdb::{Command, parse};
 use sense::{Sense, SenseKey};
+use worked::{Mismatch, same};
 
 // The block is read as this command, or refused with this sense.
-fn means(
-    what: &'static str,
-    block: &[u8],
-    wanted: Result<Command, Sense>,
-) -> Result<(), Difference> {
+fn means(what: &'static str, block: &[u8], wanted: Result<Command, Sense>) -> Result<(), Mismatch> {
     if block.is_empty() {
-        return Err(Difference::Missing(what));
+        return Err(Mismatch::Missing(what));
     }
     same(what, parse(block, 1000, 48), wanted)
 }

@@ -1,8 +1,9 @@
 //! What comes out of the outbox of a medium, and what is refused.
-use crate::difference::{Difference, same};
+use crate::difference::Difference;
 use medium::{Medium, MediumFault};
 use mirror::{DeviceCall, MirrorError, MirrorMedium, SectorWrite};
 use std::alloc::Global;
+use worked::{Mismatch, same};
 
 /// Calls come out in order, none is taken in without room, and a length of no sectors is refused.
 pub(crate) fn play(alloc: Global) -> Result<(), Difference> {
@@ -24,7 +25,7 @@ fn gives_calls_in_order(alloc: Global) -> Result<(), Difference> {
     writes(&mut m, 0, 9, Ok(()))?;
     gives(&mut m, Some(call(1, 8)))?;
     gives(&mut m, Some(call(0, 9)))?;
-    gives(&mut m, None)
+    Ok(gives(&mut m, None)?)
 }
 
 fn takes_none_in_without_room(alloc: Global) -> Result<(), Difference> {
@@ -40,7 +41,7 @@ fn takes_none_in_without_room(alloc: Global) -> Result<(), Difference> {
     let bytes = m.into_bytes();
     let ends = (bytes.get(511).copied(), bytes.get(512).copied());
     same("the number of bytes", bytes.len(), 1024)?;
-    same("the bytes that come back", ends, (Some(1), Some(0)))
+    Ok(same("the bytes that come back", ends, (Some(1), Some(0)))?)
 }
 
 fn is_refused_for_no_sectors(alloc: Global) -> Result<(), Difference> {
@@ -68,7 +69,7 @@ fn call(sector: u64, byte: u8) -> DeviceCall {
 }
 
 // The next call out of the outbox is this one.
-fn gives(m: &mut MirrorMedium, wanted: Option<DeviceCall>) -> Result<(), Difference> {
+fn gives(m: &mut MirrorMedium, wanted: Option<DeviceCall>) -> Result<(), Mismatch> {
     same("the next call", m.take(), wanted)
 }
 
@@ -78,18 +79,18 @@ fn writes(
     sector: u64,
     byte: u8,
     wanted: Result<(), MediumFault>,
-) -> Result<(), Difference> {
+) -> Result<(), Mismatch> {
     if sector >= m.sectors() {
-        return Err(Difference::NoSector);
+        return Err(Mismatch::Missing("the sector of a write"));
     }
     let answer = m.write(sector, &[byte; 512]);
     same("the answer to a write", answer, wanted)
 }
 
 // Reads a sector, and gives its first byte and its last.
-fn read_ends(m: &mut MirrorMedium, sector: u64) -> Result<(u8, u8), Difference> {
+fn read_ends(m: &mut MirrorMedium, sector: u64) -> Result<(u8, u8), Mismatch> {
     if sector >= m.sectors() {
-        return Err(Difference::NoSector);
+        return Err(Mismatch::Missing("the sector of a read"));
     }
     let mut block = [0; 512];
     same("the answer to a read", m.read(sector, &mut block), Ok(()))?;

@@ -1,6 +1,6 @@
 //! Senses as bytes and as numbers, and what waits for REQUEST SENSE.
-use crate::difference::{Difference, holds, same};
 use sense::{Kept, Sense};
+use worked::{Mismatch, holds, same};
 
 const INVALID_FIELD: [u8; 18] = [
     0x70, 0, 5, 0, 0, 0, 0, 0x0a, 0, 0, 0, 0, 0x24, 0, 0, 0, 0, 0,
@@ -28,7 +28,7 @@ const NAMED: [(Sense, u8, u8); 11] = [
 ];
 
 /// A sense has its 18 bytes, and each named sense its numbers.
-pub(crate) fn play_numbers() -> Result<(), Difference> {
+pub(crate) fn play_numbers() -> Result<(), Mismatch> {
     let bytes = Sense::INVALID_FIELD_IN_CDB.encode18();
     same("an invalid field in the command", bytes, INVALID_FIELD)?;
     for (sense, key, code) in NAMED {
@@ -40,12 +40,12 @@ pub(crate) fn play_numbers() -> Result<(), Difference> {
 }
 
 /// A start reports the power on once, and a later command drops the sense of an earlier one.
-pub(crate) fn play_waiting() -> Result<(), Difference> {
+pub(crate) fn play_waiting() -> Result<(), Mismatch> {
     report_the_power_on_once()?;
     are_dropped_by_a_later_command()
 }
 
-fn report_the_power_on_once() -> Result<(), Difference> {
+fn report_the_power_on_once() -> Result<(), Mismatch> {
     let mut kept = Kept::new();
     holds("the unit attention of a start", kept.attention())?;
     same("the first sense", kept.take().encode18(), POWER_ON)?;
@@ -53,7 +53,7 @@ fn report_the_power_on_once() -> Result<(), Difference> {
     same("the second sense", kept.take().encode18(), NOTHING)
 }
 
-fn are_dropped_by_a_later_command() -> Result<(), Difference> {
+fn are_dropped_by_a_later_command() -> Result<(), Mismatch> {
     let mut kept = Kept::new();
     kept.fail(Sense::POWER_ON_OR_RESET_OCCURRED);
     kept.begin();

@@ -1,8 +1,9 @@
 //! Images that are refused, and by which fault.
 use super::made::{changed, with_next};
-use crate::difference::{Difference, same};
+use crate::difference::Difference;
 use recovery::{StartFault, recover};
 use std::alloc::Global;
+use worked::same;
 
 /// An image is refused by its first fault, and the last stamp is answered once.
 pub(crate) fn play(alloc: Global) -> Result<(), Difference> {
@@ -12,7 +13,7 @@ pub(crate) fn play(alloc: Global) -> Result<(), Difference> {
     same("the last stamp", recover(&mut m), with_next((1 << 63) - 1))?;
     let refused = Err(StartFault::StampsUsedUp);
     same("no stamp", recover(&mut m), refused)?;
-    same("the writes for no stamp", m.unflushed(), 0)
+    Ok(same("the writes for no stamp", m.unflushed(), 0)?)
 }
 
 fn supers_are_refused(alloc: Global) -> Result<(), Difference> {
@@ -40,5 +41,5 @@ fn sizes_and_heads_are_refused(alloc: Global) -> Result<(), Difference> {
 // The fault of an image with these bytes.
 fn refused(alloc: Global, changes: &[(usize, &[u8])], fault: StartFault) -> Result<(), Difference> {
     let mut m = changed(alloc, changes)?;
-    same("a faulty image", recover(&mut m), Err(fault))
+    Ok(same("a faulty image", recover(&mut m), Err(fault))?)
 }

@@ -1,10 +1,11 @@
 //! Images of format 1 that are made, and cuts meanwhile.
 use super::made::{formatted, overwritten};
-use crate::difference::{Difference, holds, same};
+use crate::difference::Difference;
 use crate::media::{byte_of, filled_medium};
 use medium::{Kept, SimMedium, Switch};
 use recovery::{FormatFault, StartFault, format, recover};
 use std::alloc::Global;
+use worked::{holds, same};
 
 const SUPER: &[u8; 48] =
     b"RDSUPER1\x01\0\0\0\0\0\0\0\x10\0\0\0\0\0\0\0\x02\0\0\0\0\0\0\0\x02\0\0\0\0\0\0\0\x66\0\0\0\0\0\0\0";
@@ -33,7 +34,7 @@ fn are_made(alloc: Global) -> Result<(), Difference> {
         let made = format(&mut m, blocks, slots);
         same("an image of bad sizes", made, Err(FormatFault::BadSize))?;
     }
-    same("calls for bad sizes", (m.unflushed(), m.flushes()), (0, 3))
+    Ok(same("calls for bad sizes", (m.unflushed(), m.flushes()), (0, 3))?)
 }
 
 // Each of the 59 calls of a format is the one at which the power goes.
@@ -65,7 +66,7 @@ fn is_cut_while_made(alloc: Global, fuse: u64, kept: &Kept, all: bool) -> Result
     let block = if old { 0x22 } else { 0 };
     let is_kept = byte_of(&m, 53, 0) == Some(block);
     holds("the block of a cut format", is_kept || found.is_err())?;
-    same("the byte behind the image", byte_of(&m, 54, 0), Some(0xa5))
+    Ok(same("the byte behind the image", byte_of(&m, 54, 0), Some(0xa5))?)
 }
 
 // An image of 2 blocks and 1 slot, whose last block begins with a byte that is not zero, and one

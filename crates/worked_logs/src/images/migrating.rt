@@ -1,12 +1,13 @@
 //! Images of 16 blocks and 5 slots of format 1 that are migrated. They have 268 sectors, of which the
 //! first block is at home in sector 252.
 use super::made::overwritten;
-use crate::difference::{Difference, holds, same};
+use crate::difference::Difference;
 use crate::media::{byte_of, filled_medium};
 use log_layout::LogFormat;
 use medium::{Kept, SimMedium, Switch};
 use recovery::{Recovered, StartFault, format, migrate, recover};
 use std::alloc::Global;
+use worked::{Mismatch, holds, same};
 
 /// A migration keeps home and the blocks, a cut leaves either format, and a small log is refused.
 pub(crate) fn play(alloc: Global) -> Result<(), Difference> {
@@ -18,7 +19,7 @@ pub(crate) fn play(alloc: Global) -> Result<(), Difference> {
 fn are_migrated(alloc: Global) -> Result<(), Difference> {
     let mut m = formatted(alloc, 5)?;
     let Ok((recovered, true)) = migrate(&mut m) else {
-        return Err(Difference::Missing("a migration"));
+        return Err(Difference::from(Mismatch::Missing("a migration")));
     };
     same(
         "the stamp and the flushes",
@@ -34,7 +35,7 @@ fn are_migrated(alloc: Global) -> Result<(), Difference> {
     let wanted = Ok(Recovered { sizes, next: 3 });
     same("a recovery after a migration", recover(&mut m), wanted)?;
     let wanted = Ok((Recovered { sizes, next: 4 }, false));
-    same("a second migration", migrate(&mut m), wanted)
+    Ok(same("a second migration", migrate(&mut m), wanted)?)
 }
 
 // A migration makes 259 writes and flushes, of which the last write is that of the super.
@@ -55,7 +56,7 @@ fn are_cut(alloc: Global) -> Result<(), Difference> {
     }
     let mut m = formatted(alloc, 5)?;
     m.fuse(259);
-    holds("a migration within the fuse", migrate(&mut m).is_ok())
+    Ok(holds("a migration within the fuse", migrate(&mut m).is_ok())?)
 }
 
 // A log of 4 slots is too small, and the image stays as it was.
@@ -89,9 +90,9 @@ fn is_refused(
     let m = formatted(alloc, 4)?;
     let place = place.saturating_add(512);
     let mut m = overwritten(alloc, &m, 300, &[(place, bytes)])?;
-    same(
+    Ok(same(
         "a small log with a fault",
         migrate(&mut m).err(),
         Some(fault),
-    )
+    )?)
 }

@@ -1,10 +1,11 @@
 //! Recoveries of images of format 1.
 use super::made::{changed, formatted, with_next};
-use crate::difference::{Difference, same};
+use crate::difference::Difference;
 use crate::media::byte_of;
 use medium::{Kept, SimMedium, Switch};
 use recovery::{StartFault, recover};
 use std::alloc::Global;
+use worked::{Mismatch, same};
 
 // The record of stamp 1, which stands in slot 1: sectors 52 to 101.
 const DESCRIPTOR: &[u8; 40] =
@@ -57,7 +58,7 @@ fn whole_record_goes_home(alloc: Global) -> Result<(), Difference> {
         ],
     )?;
     same("a whole record", recover(&mut m), with_next(3))?;
-    has_at_home(&m, 0x11, 0x22)
+    Ok(has_at_home(&m, 0x11, 0x22)?)
 }
 
 // A record with another count, another number or another commit.
@@ -78,7 +79,7 @@ fn other_records_stay(alloc: Global) -> Result<(), Difference> {
 }
 
 // The two blocks of the record begin with these bytes at home.
-fn has_at_home(m: &SimMedium, first: u8, second: u8) -> Result<(), Difference> {
+fn has_at_home(m: &SimMedium, first: u8, second: u8) -> Result<(), Mismatch> {
     same(
         "the blocks at home",
         (byte_of(m, 107, 0), byte_of(m, 108, 0)),

@@ -1,10 +1,11 @@
 //! Images of format 2 with 40 blocks and 1 slot: 291 sectors, the first block in 251.
 use super::made::put;
-use crate::difference::{Difference, holds, same};
+use crate::difference::Difference;
 use crate::media::{byte_of, filled_medium};
 use medium::SimMedium;
 use recovery::{FormatFault, format2, recover};
 use std::alloc::Global;
+use worked::{Mismatch, holds, same};
 
 const SUPER_TWO: &[u8; 48] =
     b"RDSUPER1\x02\0\0\0\0\0\0\0\xe8\x03\0\0\0\0\0\0\x08\0\0\0\0\0\0\0\x02\0\0\0\0\0\0\0\xca\x07\0\0\0\0\0\0";
@@ -30,7 +31,7 @@ fn writes_its_super(alloc: Global) -> Result<(), Difference> {
     format2(&mut m, 1000, 8)?;
     holds("the super of format 2", m.image().starts_with(SUPER_TWO))?;
     let next = recover(&mut m).map(|recovered| recovered.next);
-    same("a recovery of format 2", next, Ok(2))
+    Ok(same("a recovery of format 2", next, Ok(2))?)
 }
 
 fn whole_record_goes_home(alloc: Global) -> Result<(), Difference> {
@@ -39,7 +40,7 @@ fn whole_record_goes_home(alloc: Global) -> Result<(), Difference> {
     let next = recover(&mut m).map(|recovered| recovered.next);
     same("a whole record of format 2", next, Ok(3))?;
     begins(&m, 251, 0x40, 0x80)?;
-    begins(&m, 281, 0x5e, 0x9e)
+    Ok(begins(&m, 281, 0x5e, 0x9e)?)
 }
 
 // In turn: a data place of another stamp, a descriptor of another index, a number that does not
@@ -93,7 +94,7 @@ fn medium_of(alloc: Global, image: Vec<u8>) -> Result<SimMedium, Difference> {
 }
 
 // The bytes 0 and 8 of a sector are these.
-fn begins(m: &SimMedium, sector: usize, first: u8, later: u8) -> Result<(), Difference> {
+fn begins(m: &SimMedium, sector: usize, first: u8, later: u8) -> Result<(), Mismatch> {
     same(
         "the bytes of a block of format 2",
         (byte_of(m, sector, 0), byte_of(m, sector, 8)),

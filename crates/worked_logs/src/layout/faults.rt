@@ -1,10 +1,10 @@
 //! Sectors that are no super or no head, and which of the faults is told.
 use super::known::{SUPER, sector_of};
-use crate::difference::{Difference, same};
 use log_layout::{Head, LogFormat, Super, SuperFault};
+use worked::{Mismatch, same};
 
 /// A super has the first of its faults, and a head without its mark or with stamp 0 is none.
-pub(crate) fn play() -> Result<(), Difference> {
+pub(crate) fn play() -> Result<(), Mismatch> {
     told("a super of zeros", &[0; 512], Err(SuperFault::Magic))?;
     let version = changed_super(&[(8, 3), (100, 1)]);
     told("another version", &version, Err(SuperFault::Version))?;
@@ -19,7 +19,7 @@ pub(crate) fn play() -> Result<(), Difference> {
     heads_are_none()
 }
 
-fn heads_are_none() -> Result<(), Difference> {
+fn heads_are_none() -> Result<(), Mismatch> {
     let unmarked = sector_of(b"\0DHEAD01\x02\0\0\0\0\0\0\0");
     same("a head without its mark", Head::decode(&unmarked), None)?;
     let stampless = sector_of(b"RDHEAD01\0\0\0\0\0\0\0\0");
@@ -31,7 +31,7 @@ fn told(
     what: &'static str,
     sector: &[u8; 512],
     wanted: Result<Super, SuperFault>,
-) -> Result<(), Difference> {
+) -> Result<(), Mismatch> {
     same(what, Super::decode(sector), wanted)
 }
 

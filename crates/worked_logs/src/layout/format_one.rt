@@ -1,14 +1,14 @@
 //! The sectors of format 1, and where they stand.
 use super::known::{COMMIT, DESCRIPTOR, HEAD, SUPER, sector_of};
-use crate::difference::{Difference, holds, same};
 use log_layout::{
     Commit, Descriptor, Head, LogFormat, Super, commit_place, data_place, place_of, place_of2,
     slot_of, whole_record,
 };
+use worked::{Mismatch, holds, same};
 
 /// A super, a head and a record have the bytes that are written down, and are read back from them.
 /// Stamps and blocks have their places.
-pub(crate) fn play() -> Result<(), Difference> {
+pub(crate) fn play() -> Result<(), Mismatch> {
     let sizes = Super::new(LogFormat::One, 1000, 8);
     same("the bytes of a super", sizes.encode(), sector_of(SUPER))?;
     same("a super", Super::decode(&sector_of(SUPER)), Ok(sizes))?;
@@ -21,7 +21,7 @@ pub(crate) fn play() -> Result<(), Difference> {
 }
 
 // Stamp 3 has its places in 8 slots, and blocks have theirs at home.
-fn has_its_places() -> Result<(), Difference> {
+fn has_its_places() -> Result<(), Mismatch> {
     let slot = slot_of(3, 8);
     same("the slot of a stamp", slot, 3)?;
     same("the place of a slot", place_of(slot), 152)?;
@@ -36,14 +36,14 @@ fn has_its_places() -> Result<(), Difference> {
 }
 
 // The record of stamp 3 with block 0.
-fn has_its_record() -> Result<(), Difference> {
+fn has_its_record() -> Result<(), Mismatch> {
     let commit = Commit::new(3, 1);
     same("the bytes of a commit", commit.encode(), sector_of(COMMIT))?;
     same("a commit", Commit::decode(&sector_of(COMMIT)), Some(commit))?;
     let made = Descriptor::new(3, &[0]).encode();
     same("the bytes of a descriptor", made, sector_of(DESCRIPTOR))?;
     let found = Descriptor::decode(&sector_of(DESCRIPTOR));
-    let found = found.ok_or(Difference::Missing("a descriptor"))?;
+    let found = found.ok_or(Mismatch::Missing("a descriptor"))?;
     same("the stamp of a descriptor", found.stamp, 3)?;
     holds(
         "the blocks of a descriptor",
@@ -56,7 +56,7 @@ fn has_its_record() -> Result<(), Difference> {
     )
 }
 
-fn is_whole_for_its_stamp() -> Result<(), Difference> {
+fn is_whole_for_its_stamp() -> Result<(), Mismatch> {
     let descriptor = sector_of(DESCRIPTOR);
     let commit = sector_of(COMMIT);
     let whole = whole_record(1, 3, &descriptor, &commit);

@@ -1,10 +1,10 @@
 //! The sectors of format 2.
 use super::known::{COMMIT2, DESCRIPTOR2, sector_of};
-use crate::difference::{Difference, holds, same};
 use log_layout::{Commit2, Descriptor2, data_sector2, is_data2};
+use worked::{Mismatch, holds, same};
 
 /// A record has the bytes that are written down, and is read back from them.
-pub(crate) fn play() -> Result<(), Difference> {
+pub(crate) fn play() -> Result<(), Mismatch> {
     let commit = Commit2::new(3, 2);
     same("the bytes of a commit", commit.encode(), sector_of(COMMIT2))?;
     same(
@@ -28,9 +28,9 @@ fn two_blocks() -> [u8; 1024] {
     bytes
 }
 
-fn descriptor_is_read_back() -> Result<(), Difference> {
+fn descriptor_is_read_back() -> Result<(), Mismatch> {
     let found = Descriptor2::decode(&sector_of(DESCRIPTOR2));
-    let found = found.ok_or(Difference::Missing("a descriptor"))?;
+    let found = found.ok_or(Mismatch::Missing("a descriptor"))?;
     same(
         "the numbers of a descriptor",
         (found.stamp, found.count, found.index),
@@ -53,7 +53,7 @@ fn descriptor_is_read_back() -> Result<(), Difference> {
 }
 
 // A descriptor whose index is behind its count is none.
-fn descriptor_has_an_index() -> Result<(), Difference> {
+fn descriptor_has_an_index() -> Result<(), Mismatch> {
     let mut sector = sector_of(DESCRIPTOR2);
     sector[24] = 1;
     holds(
@@ -62,7 +62,7 @@ fn descriptor_has_an_index() -> Result<(), Difference> {
     )
 }
 
-fn data_place_has_its_stamp() -> Result<(), Difference> {
+fn data_place_has_its_stamp() -> Result<(), Mismatch> {
     let sector = data_sector2(3, &[0xcc; 512]);
     same(
         "the bytes of a data place",

@@ -4,11 +4,11 @@ ghost use Rattle.std.specs.Prelude.{◌≡◌, IsOkAnd, IsSomeAnd};
 ghost use Rattle.log_layout.specs.Values.{shape_of};
 
 use super::known::{DESCRIPTOR, DESCRIPTOR2, sector_of};
-use crate::difference::{Difference, holds};
 use log_layout::{Commit, Commit2, Descriptor, Descriptor2, Head, LogFormat, Super, SuperFault};
+use worked::{Mismatch, holds};
 
 /// The greatest values, and two descriptors, are read back.
-pub(crate) fn play() -> Result<(), Difference> {
+pub(crate) fn play() -> Result<(), Mismatch> {
     let sizes = Super::new(LogFormat::Two, 1 << 31, 64);
     holds("the greatest super", read_back_super(&sizes).is_ok())?;
     let head = Head::new((1 << 63) - 1);
@@ -21,10 +21,10 @@ pub(crate) fn play() -> Result<(), Difference> {
         read_back_commit2(&commit).is_some(),
     )?;
     let record = Descriptor::decode(&sector_of(DESCRIPTOR));
-    let record = record.ok_or(Difference::Missing("a descriptor"))?;
+    let record = record.ok_or(Mismatch::Missing("a descriptor"))?;
     holds("a descriptor", read_back_descriptor(&record).is_some())?;
     let record = Descriptor2::decode(&sector_of(DESCRIPTOR2));
-    let record = record.ok_or(Difference::Missing("a descriptor of format 2"))?;
+    let record = record.ok_or(Mismatch::Missing("a descriptor of format 2"))?;
     holds(
         "a descriptor of format 2",
         read_back_descriptor2(&record).is_some(),

@@ -1,7 +1,8 @@
 //! Calls of media, and what they must answer.
-use crate::difference::{Difference, same};
+use crate::difference::Difference;
 use medium::{Medium, MediumFault, SimMedium};
 use std::alloc::Global;
+use worked::{Mismatch, same};
 
 /// So many sectors of this byte, with room for so many unflushed writes.
 pub(crate) fn filled_medium(
@@ -20,9 +21,9 @@ pub(crate) fn writes<M: Medium>(
     sector: u64,
     byte: u8,
     wanted: Result<(), MediumFault>,
-) -> Result<(), Difference> {
+) -> Result<(), Mismatch> {
     if sector >= m.sectors() {
-        return Err(Difference::NoSector);
+        return Err(Mismatch::Missing("a sector"));
     }
     let answer = m.write(sector, &[byte; 512]);
     same("the answer to a write", answer, wanted)
@@ -33,9 +34,9 @@ pub(crate) fn reads<M: Medium>(
     m: &mut M,
     sector: u64,
     wanted: Result<u8, MediumFault>,
-) -> Result<(), Difference> {
+) -> Result<(), Mismatch> {
     if sector >= m.sectors() {
-        return Err(Difference::NoSector);
+        return Err(Mismatch::Missing("a sector"));
     }
     let mut block = [9; 512];
     let answer = m.read(sector, &mut block);
@@ -52,7 +53,7 @@ pub(crate) fn reads<M: Medium>(
 pub(crate) fn flushes<M: Medium>(
     m: &mut M,
     wanted: Result<(), MediumFault>,
-) -> Result<(), Difference> {
+) -> Result<(), Mismatch> {
     same("the answer to a flush", m.flush(), wanted)
 }
 

@@ -1,8 +1,9 @@
 //! Lives of a small medium in memory.
 use super::calls::{byte_at, filled_medium, flushes, reads, writes};
-use crate::difference::{Difference, same};
+use crate::difference::Difference;
 use medium::{Kept, MediumFault, SimMedium, Switch};
 use std::alloc::{AllocError, Global};
+use worked::{Mismatch, same};
 
 /// Cuts keep none, all, those of these numbers, or those of the bits of a mask; a copy goes on like
 /// the medium.
@@ -28,11 +29,11 @@ fn are_on_a_copy(alloc: Global) -> Result<(), Difference> {
     )?;
     writes(&mut copy, 0, 2, Err(MediumFault::Write))?;
     copy.cut(&Kept::All);
-    same(
+    Ok(same(
         "the bytes of a medium and of its copy",
         (byte_at(&m, 0), byte_at(&copy, 0)),
         (Some(0), Some(1)),
-    )
+    )?)
 }
 
 // One write is lost, and then two others are kept.
@@ -55,7 +56,7 @@ fn keep_none_or_all(alloc: Global) -> Result<(), Difference> {
         (byte_at(&m, 511), byte_at(&m, 512)),
         (Some(2), Some(3)),
     )?;
-    same("the flushes", m.flushes(), 0)
+    Ok(same("the flushes", m.flushes(), 0)?)
 }
 
 // Of three writes the first and the last are kept.
@@ -65,11 +66,11 @@ fn keep_those_of_numbers(alloc: Global) -> Result<(), Difference> {
     writes(&mut m, 0, 5, Ok(()))?;
     writes(&mut m, 1, 6, Ok(()))?;
     m.cut(&Kept::These(vec![in alloc; 2, 0, 2, 7]?));
-    same(
+    Ok(same(
         "a cut that keeps those of numbers",
         (byte_at(&m, 0), byte_at(&m, 1023), m.flushes()),
         (Some(4), Some(6), 0),
-    )
+    )?)
 }
 
 // The writes of the bits 0 and 1 are kept, and then that of bit 1.
@@ -83,11 +84,11 @@ fn keep_those_of_bits(alloc: Global) -> Result<(), Difference> {
     writes(&mut m, 0, 4, Ok(()))?;
     writes(&mut m, 1, 5, Ok(()))?;
     m.cut(&Kept::Mask(1 << 63 | 0b10));
-    keeps_bytes(&m, 1, 5)
+    Ok(keeps_bytes(&m, 1, 5)?)
 }
 
 // The first bytes of the two sectors are these.
-fn keeps_bytes(m: &SimMedium, first: u8, second: u8) -> Result<(), Difference> {
+fn keeps_bytes(m: &SimMedium, first: u8, second: u8) -> Result<(), Mismatch> {
     same(
         "a cut with a mask",
         (byte_at(m, 0), byte_at(m, 512)),

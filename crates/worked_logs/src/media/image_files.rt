@@ -1,8 +1,9 @@
 //! Image files from life to life, in the folder for files of a short life.
 use super::calls::{flushes, reads, writes};
-use crate::difference::{Difference, holds, same};
+use crate::difference::Difference;
 use medium::{FileError, FileMedium, Medium};
 use std::{env, fs, process};
+use worked::{Mismatch, holds, same};
 
 /// Files keep what was written, and those of other lengths are refused.
 pub(crate) fn play(rt: HostRuntime) -> Result<(), Difference> {
@@ -48,11 +49,11 @@ fn of_other_lengths_are_refused(rt: HostRuntime) -> Result<(), Difference> {
     same("a refused size empties no file", length, 65_536 * 512)?;
     fs::remove_file(&rt, path)?;
     let folder = path_of(rt, "none/at/all")?;
-    same(
+    Ok(same(
         "a file in no folder",
         FileMedium::create(&rt, folder.as_str(), 1).err(),
         Some(FileError::File),
-    )
+    )?)
 }
 
 // Makes a file, writes one of its sectors, and wants that it is locked.
@@ -68,15 +69,15 @@ fn write_and_lock(rt: HostRuntime, path: &str) -> Result<(), Difference> {
         FileMedium::open(&rt, path).err(),
         Some(FileError::File),
     )?;
-    same(
+    Ok(same(
         "a file that is made over one in use",
         FileMedium::create(&rt, path, 1).err(),
         Some(FileError::File),
-    )
+    )?)
 }
 
 // No file of no sectors or of too many is made.
-fn are_not_made(rt: HostRuntime, path: &str) -> Result<(), Difference> {
+fn are_not_made(rt: HostRuntime, path: &str) -> Result<(), Mismatch> {
     same(
         "a file of no sectors",
         FileMedium::create(&rt, path, 0).err(),

@@ -1,8 +1,9 @@
 //! The power of a medium in memory, and the calls that it refuses.
 use super::calls::{byte_at, filled_medium, flushes, reads, writes};
-use crate::difference::{Difference, same};
+use crate::difference::Difference;
 use medium::{Kept, Medium, MediumFault, SimError, SimMedium, Switch};
 use std::alloc::Global;
+use worked::same;
 
 /// The power goes at the write that a fuse refuses; a failure is refused once; a length that is no
 /// sectors is refused.
@@ -26,7 +27,7 @@ fn is_lost_at_the_fuse(alloc: Global) -> Result<(), Difference> {
         (m.is_off(), m.unflushed(), byte_at(&m, 0)),
         (false, 0, Some(0)),
     )?;
-    writes(&mut m, 0, 1, Ok(()))
+    Ok(writes(&mut m, 0, 1, Ok(()))?)
 }
 
 // The first call fails, and then a write for which there is no room.
@@ -37,11 +38,11 @@ fn fails_once(alloc: Global) -> Result<(), Difference> {
     writes(&mut m, 0, 1, Ok(()))?;
     writes(&mut m, 0, 2, Err(MediumFault::Write))?;
     flushes(&mut m, Ok(()))?;
-    same(
+    Ok(same(
         "the state after a failure",
         (byte_at(&m, 0), m.flushes(), m.is_off()),
         (Some(1), 1, false),
-    )
+    )?)
 }
 
 fn of_other_lengths(alloc: Global) -> Result<(), Difference> {
@@ -58,5 +59,5 @@ fn of_other_lengths(alloc: Global) -> Result<(), Difference> {
         Some(SimError::BadLength),
     )?;
     let m = filled_medium(alloc, 0, 3, 0)?;
-    same("the sectors of a medium", m.sectors(), 3)
+    Ok(same("the sectors of a medium", m.sectors(), 3)?)
 }

@@ -1,9 +1,10 @@
 //! Media over files that refuse calls, or give few bytes at a time.
 use super::calls::{flushes, reads, writes};
 use super::stubborn::{Shelf, Stubborn};
-use crate::difference::{Difference, same};
+use crate::difference::Difference;
 use medium::{FileError, FileMedium, Medium, MediumFault};
 use std::alloc::Global;
+use worked::same;
 
 /// Refused calls are told, and a file is read whole or not at all.
 pub(crate) fn play(alloc: Global) -> Result<(), Difference> {
@@ -26,7 +27,7 @@ fn refuse_writes(alloc: Global) -> Result<(), Difference> {
     same("the sectors of a file", m.sectors(), 2)?;
     writes(&mut m, 1, 7, Err(MediumFault::Write))?;
     reads(&mut m, 1, Ok(0))?;
-    flushes(&mut m, Ok(()))
+    Ok(flushes(&mut m, Ok(()))?)
 }
 
 // A file is read whole where it gives few bytes at a time, and refused where a byte is missing.
@@ -36,7 +37,7 @@ fn are_read_whole(alloc: Global) -> Result<(), Difference> {
     reads(&mut m, 0, Ok(7))?;
     reads(&mut m, 1, Ok(7))?;
     let short = opened(alloc, giving(1023));
-    same("a missing byte", short.err(), Some(FileError::File))
+    Ok(same("a missing byte", short.err(), Some(FileError::File))?)
 }
 
 fn refuse_flushes(alloc: Global) -> Result<(), Difference> {
@@ -52,7 +53,7 @@ fn refuse_flushes(alloc: Global) -> Result<(), Difference> {
     same("the sectors of a file", m.sectors(), 2)?;
     writes(&mut m, 1, 7, Ok(()))?;
     flushes(&mut m, Err(MediumFault::Flush))?;
-    reads(&mut m, 1, Ok(7))
+    Ok(reads(&mut m, 1, Ok(7))?)
 }
 
 // A medium over such a file.

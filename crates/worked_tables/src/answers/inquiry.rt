@@ -1,11 +1,11 @@
 //! INQUIRY data of a disk with known texts.
-use crate::difference::{Difference, holds, same};
 use pages::Identity;
+use worked::{Mismatch, holds, same};
 
 /// Standard data, the vital product data pages and the texts that make no identity.
-pub(crate) fn play() -> Result<(), Difference> {
+pub(crate) fn play() -> Result<(), Mismatch> {
     let Some(disk) = known_disk() else {
-        return Err(Difference::Missing("the identity of a disk"));
+        return Err(Mismatch::Missing("the identity of a disk"));
     };
     names_the_disk(&disk)?;
     gives_vital_pages(&disk)?;
@@ -13,7 +13,7 @@ pub(crate) fn play() -> Result<(), Difference> {
     has_only_printable_characters()
 }
 
-fn names_the_disk(disk: &Identity) -> Result<(), Difference> {
+fn names_the_disk(disk: &Identity) -> Result<(), Mismatch> {
     let mut to = [0xee; 64];
     gives(disk, None, &mut to, Some(36))?;
     begins(&to, b"\x00\x00\x06\x02\x1f\x00\x00\x00")?;
@@ -21,7 +21,7 @@ fn names_the_disk(disk: &Identity) -> Result<(), Difference> {
     continues(&to, 36, 64, &[0xee; 28])
 }
 
-fn gives_vital_pages(disk: &Identity) -> Result<(), Difference> {
+fn gives_vital_pages(disk: &Identity) -> Result<(), Mismatch> {
     let mut to = [0xee; 64];
     gives(disk, Some(0x00), &mut to, Some(8))?;
     begins(&to, b"\x00\x00\x00\x04\x00\x80\x83\xb0")?;
@@ -33,14 +33,14 @@ fn gives_vital_pages(disk: &Identity) -> Result<(), Difference> {
     gives(disk, Some(0x81), &mut to, None)
 }
 
-fn tells_the_longest_transfer(disk: &Identity) -> Result<(), Difference> {
+fn tells_the_longest_transfer(disk: &Identity) -> Result<(), Mismatch> {
     let mut to = [0xee; 64];
     gives(disk, Some(0xb0), &mut to, Some(64))?;
     begins(&to, b"\x00\xb0\x00\x3c\x00\x00\x00\x00\x00\x00\x00\x30")?;
     continues(&to, 12, 64, &[0x00; 52])
 }
 
-fn has_only_printable_characters() -> Result<(), Difference> {
+fn has_only_printable_characters() -> Result<(), Mismatch> {
     let serial = *b"000000000001";
     let printable = Identity::new(*b" !~USB  ", [0x7e; 16], [0x20; 4], serial);
     holds("an identity of printable characters", printable.is_some())?;
@@ -56,7 +56,7 @@ fn gives(
     vital: Option<u8>,
     to: &mut [u8; 64],
     wanted: Option<usize>,
-) -> Result<(), Difference> {
+) -> Result<(), Mismatch> {
     let size = disk.inquiry(vital, 48, to);
     same("the number of bytes of INQUIRY data", size, wanted)
 }
@@ -71,12 +71,12 @@ fn known_disk() -> Option<Identity> {
 }
 
 // The data begin with these bytes.
-fn begins(to: &[u8; 64], bytes: &[u8]) -> Result<(), Difference> {
+fn begins(to: &[u8; 64], bytes: &[u8]) -> Result<(), Mismatch> {
     holds("the first bytes of INQUIRY data", to.starts_with(bytes))
 }
 
 // These bytes stand from one place to another.
-fn continues(to: &[u8; 64], start: usize, end: usize, bytes: &[u8]) -> Result<(), Difference> {
+fn continues(to: &[u8; 64], start: usize, end: usize, bytes: &[u8]) -> Result<(), Mismatch> {
     let found = to.get(start..end) == Some(bytes);
     holds("the other bytes of INQUIRY data", found)
 }

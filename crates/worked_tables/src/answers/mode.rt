@@ -1,20 +1,20 @@
 //! The caching mode page, as MODE SENSE gives it and MODE SELECT takes it.
-use crate::difference::{Difference, holds, same};
 use pages::{mode_select, mode_sense};
 use sense::Sense;
+use worked::{Mismatch, holds, same};
 
 /// The caching page without its values changed, behind a header.
 const LIST: [u8; 24] = *b"\x00\x00\x00\x00\x08\x12\x00\0\0\0\0\0\0\0\0\0\0\0\0\0\0\0\0\0";
 
 /// The page is given and refused by MODE SENSE, and sets the write cache by MODE SELECT.
-pub(crate) fn play() -> Result<(), Difference> {
+pub(crate) fn play() -> Result<(), Mismatch> {
     is_given()?;
     is_refused_before_its_page_control()?;
     sets_the_write_cache()?;
     is_refused_with_other_bytes()
 }
 
-fn is_given() -> Result<(), Difference> {
+fn is_given() -> Result<(), Mismatch> {
     let mut to = [0xee; 24];
     let what = "the answer to MODE SENSE";
     same(what, mode_sense(0, 0x08, 0x00, true, &mut to), Ok(24))?;
@@ -29,7 +29,7 @@ fn is_given() -> Result<(), Difference> {
     same("the default value", to[6], 0x04)
 }
 
-fn is_refused_before_its_page_control() -> Result<(), Difference> {
+fn is_refused_before_its_page_control() -> Result<(), Mismatch> {
     let mut to = [0xee; 24];
     let page = Err(Sense::INVALID_FIELD_IN_CDB);
     let saved = Err(Sense::SAVING_PARAMETERS_NOT_SUPPORTED);
@@ -42,7 +42,7 @@ fn is_refused_before_its_page_control() -> Result<(), Difference> {
     same("the bytes after a refusal", to, [0xee; 24])
 }
 
-fn sets_the_write_cache() -> Result<(), Difference> {
+fn sets_the_write_cache() -> Result<(), Mismatch> {
     selects(&LIST, true, Ok(false))?;
     selects(&LIST[..4], true, Ok(true))?;
     selects(&[], false, Ok(false))?;
@@ -52,7 +52,7 @@ fn sets_the_write_cache() -> Result<(), Difference> {
     selects(&list, false, Ok(true))
 }
 
-fn is_refused_with_other_bytes() -> Result<(), Difference> {
+fn is_refused_with_other_bytes() -> Result<(), Mismatch> {
     let refused = Err(Sense::INVALID_FIELD_IN_PARAMETER_LIST);
     selects(&LIST[..23], true, refused)?;
     let mut list = LIST;
@@ -65,6 +65,6 @@ fn is_refused_with_other_bytes() -> Result<(), Difference> {
 }
 
 // Whether the write cache is enabled after this list, or the sense that refuses it.
-fn selects(list: &[u8], wce: bool, wanted: Result<bool, Sense>) -> Result<(), Difference> {
+fn selects(list: &[u8], wce: bool, wanted: Result<bool, Sense>) -> Result<(), Mismatch> {
     same("the answer to MODE SELECT", mode_select(list, wce), wanted)
 }

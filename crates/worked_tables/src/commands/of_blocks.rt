@@ -1,7 +1,7 @@
 //! The commands of a block device.
 use super::{illegal, means};
-use crate::difference::{Difference, holds};
 use cdb::{BlockRange, Command, Transfer, parse};
+use worked::{Mismatch, holds};
 
 const READ_999: [u8; 10] = [0x28, 0, 0, 0, 0x03, 0xe7, 0, 0, 1, 0];
 
@@ -26,13 +26,13 @@ const WRITES: [(u8, u16, u16, Result<bool, u8>); 8] = [
 
 /// Transfers are read up to their limit and to the end of the medium, and the capacity and the
 /// cache have their commands.
-pub(crate) fn play() -> Result<(), Difference> {
+pub(crate) fn play() -> Result<(), Mismatch> {
     are_transfers()?;
     are_writes()?;
     are_of_capacity_and_cache()
 }
 
-fn are_transfers() -> Result<(), Difference> {
+fn are_transfers() -> Result<(), Mismatch> {
     let read = Command::Read10(Transfer {
         address: 999,
         count: 1,
@@ -45,7 +45,7 @@ fn are_transfers() -> Result<(), Difference> {
     holds("a write of 240 blocks", long.is_ok())
 }
 
-fn are_writes() -> Result<(), Difference> {
+fn are_writes() -> Result<(), Mismatch> {
     for (flags, address, count, fua) in WRITES {
         let block = ten_bytes(0x2a, flags, address, count);
         let wanted = match fua {
@@ -61,7 +61,7 @@ fn are_writes() -> Result<(), Difference> {
     Ok(())
 }
 
-fn are_of_capacity_and_cache() -> Result<(), Difference> {
+fn are_of_capacity_and_cache() -> Result<(), Mismatch> {
     let capacity = Command::ReadCapacity16 { allocation: 32 };
     means("READ CAPACITY (16)", &CAPACITY_16, Ok(capacity))?;
     let block = ten_bytes(0x25, 0, 0, 0);

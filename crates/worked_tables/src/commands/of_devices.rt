@@ -1,7 +1,7 @@
 //! The commands of any device.
 use super::{illegal, means};
-use crate::difference::Difference;
 use cdb::Command;
+use worked::Mismatch;
 
 const READ: [([u8; 6], Command); 7] = [
     ([0x00, 0, 0, 0, 0, 0], Command::TestUnitReady),
@@ -54,19 +54,19 @@ const REFUSED: [([u8; 6], u8); 4] = [
 ];
 
 /// Seven command blocks are read, and four refused.
-pub(crate) fn play() -> Result<(), Difference> {
+pub(crate) fn play() -> Result<(), Mismatch> {
     are_read()?;
     are_refused()
 }
 
-fn are_read() -> Result<(), Difference> {
+fn are_read() -> Result<(), Mismatch> {
     for (block, command) in READ {
         means("a command of the device", &block, Ok(command))?;
     }
     Ok(())
 }
 
-fn are_refused() -> Result<(), Difference> {
+fn are_refused() -> Result<(), Mismatch> {
     for (block, code) in REFUSED {
         means("a refused command", &block, Err(illegal(code)))?;
     }

@@ -1,5 +1,5 @@
 //! The thirteen cases, and what comes of them.
-use crate::difference::{Difference, same};
+use worked::{Mismatch, same};
 use wrappers::{Case, Endpoint, Outcome, Way, case_of, outcome};
 
 /// Each case with what the host announces and the device intends, and then the bytes moved, the
@@ -77,12 +77,12 @@ const ROWS: [(Case, Way, Way, u32, Option<Endpoint>, bool, u32); 13] = [
 ];
 
 /// Each case has its row, and a failed command sends nothing.
-pub(crate) fn play() -> Result<(), Difference> {
+pub(crate) fn play() -> Result<(), Mismatch> {
     have_their_rows()?;
     send_nothing_of_a_failed_command()
 }
 
-fn have_their_rows() -> Result<(), Difference> {
+fn have_their_rows() -> Result<(), Mismatch> {
     for (case, host, intention, moved, halt, phase, residue) in ROWS {
         same("a case", case_of(host, intention), case)?;
         let came = outcome(case_of(host, intention), host, intention);
@@ -97,7 +97,7 @@ fn have_their_rows() -> Result<(), Difference> {
     Ok(())
 }
 
-fn send_nothing_of_a_failed_command() -> Result<(), Difference> {
+fn send_nothing_of_a_failed_command() -> Result<(), Mismatch> {
     let came = outcome(Case::C4, Way::In(512), Way::In(512));
     let wanted = Outcome {
         moved: 0,

@@ -1,6 +1,7 @@
 //! Command block wrappers that are read.
 use super::packets::{TEST_UNIT_READY, WRAPPERS};
-use crate::difference::{Difference, holds, same};
+use crate::difference::Difference;
+use worked::{holds, same};
 use wrappers::{Way, read_cbw};
 
 /// Wrappers are read, and the direction of no bytes is ignored.
@@ -24,5 +25,5 @@ fn have_no_direction_of_no_bytes() -> Result<(), Difference> {
     let mut packet = TEST_UNIT_READY;
     packet[12] = 0x80;
     let host = read_cbw(&packet)?.host;
-    same("the direction of no bytes", host, Way::Nothing)
+    Ok(same("the direction of no bytes", host, Way::Nothing)?)
 }

@@ -1,6 +1,6 @@
 //! Packets that are no valid and meaningful command block wrappers.
 use super::packets::TEST_UNIT_READY;
-use crate::difference::{Difference, same};
+use worked::{Mismatch, same};
 use wrappers::{CbwFault, read_cbw};
 
 /// Flags, unit and length of the command block, of which one is not meaningful.
@@ -28,7 +28,7 @@ const NOT_MEANINGFUL: [(u8, u8, u8); 19] = [
 
 /// Other lengths, other signatures and fields that are not meaningful are refused, and each fault
 /// has its number.
-pub(crate) fn play() -> Result<(), Difference> {
+pub(crate) fn play() -> Result<(), Mismatch> {
     are_of_other_lengths()?;
     are_not_meaningful()?;
     let numbers = [
@@ -39,7 +39,7 @@ pub(crate) fn play() -> Result<(), Difference> {
     same("the numbers of the faults", numbers, [1, 2, 3])
 }
 
-fn are_of_other_lengths() -> Result<(), Difference> {
+fn are_of_other_lengths() -> Result<(), Mismatch> {
     let mut packet = [0; 32];
     packet[..31].copy_from_slice(&TEST_UNIT_READY);
     refuses(&[], CbwFault::Length)?;
@@ -50,7 +50,7 @@ fn are_of_other_lengths() -> Result<(), Difference> {
     refuses(&packet, CbwFault::Length)
 }
 
-fn are_not_meaningful() -> Result<(), Difference> {
+fn are_not_meaningful() -> Result<(), Mismatch> {
     for (flags, unit, size) in NOT_MEANINGFUL {
         let mut packet = TEST_UNIT_READY;
         packet[12] = flags;
@@ -62,6 +62,6 @@ fn are_not_meaningful() -> Result<(), Difference> {
 }
 
 // The packet is refused with this fault.
-fn refuses(packet: &[u8], wanted: CbwFault) -> Result<(), Difference> {
+fn refuses(packet: &[u8], wanted: CbwFault) -> Result<(), Mismatch> {
     same("a refused packet", read_cbw(packet).err(), Some(wanted))
 }

@@ -1,5 +1,5 @@
 //! Command status wrappers.
-use crate::difference::{Difference, same};
+use worked::{Mismatch, same};
 use wrappers::{Status, write_csw};
 
 const FAILED: [u8; 13] = [
@@ -7,7 +7,7 @@ const FAILED: [u8; 13] = [
 ];
 
 /// A wrapper has its bytes, and each status its byte.
-pub(crate) fn play() -> Result<(), Difference> {
+pub(crate) fn play() -> Result<(), Mismatch> {
     let failed = write_csw(4, 512, Status::Failed);
     same("the wrapper of a failed command", failed, FAILED)?;
     let passed = write_csw(4, 512, Status::Passed);
