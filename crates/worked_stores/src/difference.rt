@@ -5,13 +5,14 @@ use recovery::FormatFault;
 use redo_log::LogFault;
 use std::alloc::AllocError;
 use thiserror::Error;
+use worked::Mismatch;
 
 /// What is not as it should be, or why something could not be played.
 #[derive(Debug, Drop, Error)]
 pub(crate) enum Difference {
-    /// Another value came than the one that is wanted.
-    #[error("another value: {0}")]
-    Value(&'static str),
+    /// A value is not the worked one.
+    #[error("{0}")]
+    Mismatch(#[from] Mismatch),
     /// A start that is to be refused was not.
     #[error("nothing was refused")]
     NotRefused,
@@ -45,13 +46,4 @@ pub(crate) enum Difference {
     /// Memory ran out.
     #[error("out of memory")]
     NoMemory(#[from(alloc)] AllocError),
-}
-
-/// Tells what does not hold.
-pub(crate) fn holds(what: &'static str, fact: bool) -> Result<(), Difference> {
-    if fact {
-        Ok(())
-    } else {
-        Err(Difference::Value(what))
-    }
 }

@@ -3,13 +3,14 @@ ghost use Rattle.std.specs.Prelude.{◌≡◌, ◌≤◌, OnOk};
 ghost use Rattle.log_layout.specs.Places.{sectors_of};
 ghost use Rattle.medium.specs.Sim.{state_of};
 
-use crate::difference::{Difference, holds};
+use crate::difference::Difference;
 use crate::record::{begin, has_copy, has_none, idle, log_three, retire, write_out};
 use crate::recorder::{Called, Recorder, begins_with, had_calls, had_so_many, zeros};
 use log_layout::LogFormat;
 use medium::{SimMedium, Switch};
 use redo_log::{Log, LogFault};
 use std::alloc::Global;
+use worked::{Mismatch, holds};
 
 const THREE: [u64; 3] = [0, 7, 9];
 
@@ -83,7 +84,7 @@ pub(crate) fn ends(alloc: Global) -> Result<(), Difference> {
 }
 
 /// The numbers of the faults.
-pub(crate) fn numbers_its_faults() -> Result<(), Difference> {
+pub(crate) fn numbers_its_faults() -> Result<(), Mismatch> {
     holds("the medium's fault", LogFault::Medium as u8 == 1)?;
     holds("that of the stamps", LogFault::StampsUsedUp as u8 == 2)?;
     holds("that of the memory", LogFault::NoMemory as u8 == 3)
@@ -157,7 +158,7 @@ fn writes_two_descriptors(log: &mut Log, m: &mut Recorder<SimMedium>) -> Result<
     begins_with(m, 1, HEAD)?;
     begins_with(m, 529, &[5; 16])?;
     let byte = m.medium.image().get(512 * 530);
-    holds("the last block", byte == Some(&9))
+    Ok(holds("the last block", byte == Some(&9))?)
 }
 
 // The newest copy of a block is found.
@@ -217,7 +218,7 @@ fn refused_call(alloc: Global) -> Result<(), Difference> {
     m.medium.fail(7);
     let written = write_out(&mut log, &mut m, &THREE, &bytes);
     holds("a refused call", written == Err(LogFault::Medium))?;
-    holds("a dead log", (m.calls.len(), log.is_dead()) == (7, true))
+    Ok(holds("a dead log", (m.calls.len(), log.is_dead()) == (7, true))?)
 }
 
 // The last stamp is not a record's.
@@ -225,7 +226,7 @@ fn last_stamp(alloc: Global) -> Result<(), Difference> {
     let mut log = idle(alloc, LogFormat::One, 8, (1 << 63) - 1)?;
     let begun = begin(&mut log, &THREE, &[5; 1536]);
     let refused = matches!(&begun, Err(Difference::Log(LogFault::StampsUsedUp)));
-    holds("the last stamp", refused && log.is_dead())
+    Ok(holds("the last stamp", refused && log.is_dead())?)
 }
 
 // A record of blocks 0 to 30, the last of another byte, is begun and written out.

@@ -15,104 +15,52 @@ mod start;
 mod store;
 mod transfer;
 
-use difference::Difference;
 use std::alloc::Global;
-use std::io;
-use std::io::Write;
 use std::process::ExitCode;
-
-/// Calls that are played together.
-#[derive(Clone, Copy, Debug, PartialEq, Eq)]
-enum Subject {
-    Syncs,
-    Batches,
-    Background,
-    Refusals,
-    FullLog,
-    Starts,
-    RefusedStarts,
-    Sizes,
-    Calls,
-    Copies,
-    DeadLog,
-    Numbers,
-}
-
-impl Subject {
-    const ALL: [Subject; 12] = [
-        Subject::Syncs,
-        Subject::Batches,
-        Subject::Background,
-        Subject::Refusals,
-        Subject::FullLog,
-        Subject::Starts,
-        Subject::RefusedStarts,
-        Subject::Sizes,
-        Subject::Calls,
-        Subject::Copies,
-        Subject::DeadLog,
-        Subject::Numbers,
-    ];
-
-    // What its line begins with.
-    fn name(self) -> &'static str {
-        match self {
-            Subject::Syncs => "writes with a sync and without",
-            Subject::Batches => "a write that needs another batch",
-            Subject::Background => "background steps",
-            Subject::Refusals => "a refused flush and a refused read",
-            Subject::FullLog => "a full log",
-            Subject::Starts => "starts on images",
-            Subject::RefusedStarts => "refused starts",
-            Subject::Sizes => "starts with the fewest and the most slots",
-            Subject::Calls => "the calls of records",
-            Subject::Copies => "the copies in a log",
-            Subject::DeadLog => "the end of a log",
-            Subject::Numbers => "the numbers of the faults",
-        }
-    }
-
-    fn play(self, alloc: Global) -> Result<(), Difference> {
-        match self {
-            Subject::Syncs => store::keeps_what_is_synced(alloc),
-            Subject::Batches => store::writes_the_batch_in_the_way(alloc),
-            Subject::Background => store::comes_to_rest(alloc),
-            Subject::Refusals => store::tells_a_refusal(alloc),
-            Subject::FullLog => retiring::keeps_every_record(alloc),
-            Subject::Starts => start::serves_whole_records(alloc),
-            Subject::RefusedStarts => start::refuses(alloc),
-            Subject::Sizes => start::starts_at_each_size(alloc),
-            Subject::Calls => log::makes_calls(alloc),
-            Subject::Copies => log::finds_copies(alloc),
-            Subject::DeadLog => log::ends(alloc),
-            Subject::Numbers => numbers_of_faults(),
-        }
-    }
-}
-
-fn numbers_of_faults() -> Result<(), Difference> {
-    store::numbers_its_faults()?;
-    log::numbers_its_faults()
-}
+use worked::{Mismatch, Report};
 
 fn main(rt: HostRuntime) -> ExitCode {
-    match play_all(rt.alloc(), &mut rt.stdout()) {
-        Ok(true) => ExitCode::SUCCESS,
-        _ => ExitCode::FAILURE,
-    }
+    let mut report = Report::new(rt.stdout());
+    tell_of_stores(rt.alloc(), &mut report);
+    tell_of_starts(rt.alloc(), &mut report);
+    tell_of_logs(rt.alloc(), &mut report);
+    report.tell("the numbers of the faults", numbers_of_faults());
+    report.exit_code()
 }
 
-// Plays all, and says whether all was as it should be.
-fn play_all<W: Write>(alloc: Global, out: &mut W) -> io::Result<bool> {
-    let mut all = true;
-    for subject in Subject::ALL {
-        match subject.play(alloc) {
-            Ok(()) => writeln!(out, "{}: as it should be", subject.name())?,
-            Err(difference) => {
-                all = false;
-                writeln!(out, "{}: {difference}", subject.name())?;
-            }
-        }
-    }
-    Ok(all)
+fn tell_of_stores(alloc: Global, report: &mut Report) {
+    report.tell(
+        "writes with a sync and without",
+        store::keeps_what_is_synced(alloc),
+    );
+    report.tell(
+        "a write that needs another batch",
+        store::writes_the_batch_in_the_way(alloc),
+    );
+    report.tell("background steps", store::comes_to_rest(alloc));
+    report.tell(
+        "a refused flush and a refused read",
+        store::tells_a_refusal(alloc),
+    );
+    report.tell("a full log", retiring::keeps_every_record(alloc));
+}
+
+fn tell_of_starts(alloc: Global, report: &mut Report) {
+    report.tell("starts on images", start::serves_whole_records(alloc));
+    report.tell("refused starts", start::refuses(alloc));
+    report.tell(
+        "starts with the fewest and the most slots",
+        start::starts_at_each_size(alloc),
+    );
+}
+
+fn tell_of_logs(alloc: Global, report: &mut Report) {
+    report.tell("the calls of records", log::makes_calls(alloc));
+    report.tell("the copies in a log", log::finds_copies(alloc));
+    report.tell("the end of a log", log::ends(alloc));
+}
+
+fn numbers_of_faults() -> Result<(), Mismatch> {
+    store::numbers_its_faults()?;
+    log::numbers_its_faults()
 }

@@ -3,11 +3,12 @@ ghost use Rattle.std.specs.Prelude.{◌≡◌, ◌≤◌, ◌<◌, ◌*◌, ◌^
 ghost use Rattle.log_layout.specs.Places.{sectors_of, new_shape};
 ghost use Rattle.redo_log.specs.Value.{begun, idle_from};
 
-use crate::difference::{Difference, holds};
+use crate::difference::Difference;
 use log_layout::{LogFormat, Super, are_rising};
 use medium::Medium;
 use redo_log::{Log, LogFault, Progress};
 use std::alloc::Global;
+use worked::holds;
 
 const THREE: [u64; 3] = [0, 7, 9];
 
@@ -117,7 +118,7 @@ pub(crate) fn has_copy<M: Medium>(
     let (slot, place) = log.find(block).ok_or(Difference::NoCopy)?;
     let mut bytes = [0; 512];
     log.read_copy(m, slot, place, &mut bytes)?;
-    holds("a copy", (slot, place, bytes[0]) == copy)
+    Ok(holds("a copy", (slot, place, bytes[0]) == copy)?)
 }
 
 /// Tells whether a block has no copy.
@@ -125,5 +126,5 @@ pub(crate) fn has_none(log: &Log, block: u64) -> Result<(), Difference> {
     if log.is_dead() {
         return Err(Difference::NoRoom);
     }
-    holds("no copy", log.find(block) == None)
+    Ok(holds("no copy", log.find(block) == None)?)
 }

@@ -2,9 +2,10 @@
 ghost use Rattle.std.specs.Prelude.{◌≡◌, ◌≤◌, IfOk};
 ghost use Rattle.medium.specs.Sim.{state_of};
 
-use crate::difference::{Difference, holds};
+use crate::difference::Difference;
 use medium::{Medium, MediumFault, SimMedium, Switch};
 use std::alloc::Global;
+use worked::holds;
 
 /// A call of a medium.
 #[derive(Clone, Copy, Debug, PartialEq, Eq)]
@@ -89,5 +90,5 @@ pub(crate) fn begins_with(
 ) -> Result<(), Difference> {
     let from = sector as usize * 512;
     let found = m.medium.image().get(from..from + 16);
-    holds("the bytes of a sector", found == Some(bytes.as_slice()))
+    Ok(holds("the bytes of a sector", found == Some(bytes.as_slice()))?)
 }

@@ -1,10 +1,11 @@
 //! Lives of a store whose eight log slots all hold a record.
-use crate::difference::{Difference, holds};
+use crate::difference::Difference;
 use crate::store::{formatted, started};
 use crate::transfer::{byte_of, lives, rest, restarted, write_through};
 use blocks::Store;
 use medium::{Kept, SimMedium};
 use std::alloc::Global;
+use worked::holds;
 
 const WITHOUT: [u8; 9] = [7, 7, 7, 7, 7, 7, 7, 7, 0];
 
@@ -28,7 +29,7 @@ fn no_record_is_lost(alloc: Global) -> Result<(), Difference> {
     let found = fused_ninth(alloc, &image, 8, &Kept::All)?;
     holds("a record that is kept", found == (false, WITH))?;
     let found = fused_ninth(alloc, &image, 9, &Kept::None)?;
-    holds("a durable record", found == (true, WITH))
+    Ok(holds("a durable record", found == (true, WITH))?)
 }
 
 fn loses_none_that_is_kept(alloc: Global, image: &[u8]) -> Result<(), Difference> {
@@ -52,7 +53,7 @@ fn writes_nine(store: &mut Store<SimMedium>) -> Result<(), Difference> {
     let third = store.medium().flushes();
     holds("eight records", second.checked_sub(first) == Some(16))?;
     holds("a ninth record", third.checked_sub(second) == Some(4))?;
-    holds("nine blocks", nine_bytes(store)? == WITH)
+    Ok(holds("nine blocks", nine_bytes(store)? == WITH)?)
 }
 
 fn retired_by_ticks(alloc: Global) -> Result<(), Difference> {
@@ -67,7 +68,7 @@ fn empties(store: &mut Store<SimMedium>) -> Result<(), Difference> {
     holds("eight retired records", empty.checked_sub(full) == Some(16))?;
     write_through(store, 8, 9)?;
     let last = store.medium().flushes();
-    holds("a record with room", last.checked_sub(empty) == Some(2))
+    Ok(holds("a record with room", last.checked_sub(empty) == Some(2))?)
 }
 
 // Whether a store with a full log lives when it writes block 8 under a fuse, and what a start after

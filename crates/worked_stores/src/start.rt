@@ -1,12 +1,13 @@
 //! Starts of images of 16 blocks and 2 slots: 118 sectors, of which block 0 is at home in sector 102.
 ghost use Rattle.std.specs.Prelude.{◌<◌};
 
-use crate::difference::{Difference, holds};
+use crate::difference::Difference;
 use crate::transfer::{byte_of, read, restarted, started_on, write_through};
 use blocks::{StartError, StartFault, Store};
 use medium::{Kept, Medium, SimMedium, Switch};
 use recovery::format;
 use std::alloc::Global;
+use worked::holds;
 
 const SECTORS: usize = 118;
 
@@ -91,7 +92,7 @@ fn last_stamp(alloc: Global) -> Result<(), Difference> {
     let last = image(alloc, &[(512 + 8, b"\xfe\xff\xff\xff\xff\xff\xff\x7f")])?;
     let store = start(alloc, last)?;
     let error = refused(alloc, store.into_medium())?;
-    holds("the last stamp", error.fault == StartFault::StampsUsedUp)
+    Ok(holds("the last stamp", error.fault == StartFault::StampsUsedUp)?)
 }
 
 /// With the fewest and the most slots, over one block and over many, there is memory for a start.
@@ -99,7 +100,7 @@ pub(crate) fn starts_at_each_size(alloc: Global) -> Result<(), Difference> {
     holds("one block, one slot", one_life(alloc, 1, 1)? == 0x5a)?;
     holds("one block, 64 slots", one_life(alloc, 1, 64)? == 0x5a)?;
     holds("many blocks, one slot", one_life(alloc, 65000, 1)? == 0x5a)?;
-    holds("many blocks, 64 slots", one_life(alloc, 65000, 64)? == 0x5a)
+    Ok(holds("many blocks, 64 slots", one_life(alloc, 65000, 64)? == 0x5a)?)
 }
 
 // A formatted medium with these bytes written over its own, each from its place on.

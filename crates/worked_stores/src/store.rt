@@ -1,10 +1,11 @@
 //! Lives of a store of 1000 blocks and 8 log slots over a medium in memory.
-use crate::difference::{Difference, holds};
+use crate::difference::Difference;
 use crate::transfer::{byte_of, lives, read, rest, restarted, started_on, write};
 use blocks::{Store, StoreFault};
 use medium::{Kept, SimMedium};
 use recovery::{format, format2};
 use std::alloc::Global;
+use worked::{Mismatch, holds};
 
 const SECTORS: usize = 2 + 50 * 8 + 1000;
 
@@ -24,7 +25,7 @@ pub(crate) fn writes_the_batch_in_the_way(alloc: Global) -> Result<(), Differenc
     let found = fused_life(alloc, &image, 34, &Kept::None)?;
     holds("a life with the flush", found == (true, [1, 0, 0]))?;
     let found = fused_life(alloc, &image, 33, &Kept::All)?;
-    holds("a life whose writes are kept", found == (false, [1, 0, 0]))
+    Ok(holds("a life whose writes are kept", found == (false, [1, 0, 0]))?)
 }
 
 /// Background steps bring all to rest, and a store at rest makes no call.
@@ -40,7 +41,7 @@ pub(crate) fn tells_a_refusal(alloc: Global) -> Result<(), Difference> {
 }
 
 /// The numbers of the faults.
-pub(crate) fn numbers_its_faults() -> Result<(), Difference> {
+pub(crate) fn numbers_its_faults() -> Result<(), Mismatch> {
     let numbers = (StoreFault::ReadFault as u8, StoreFault::Dead as u8);
     holds("the numbers of a store's faults", numbers == (2, 3))
 }
@@ -62,24 +63,24 @@ pub(crate) fn started(alloc: Global, image: &[u8]) -> Result<Store<SimMedium>, D
 fn lost_without_a_sync(alloc: Global) -> Result<(), Difference> {
     let mut store = fresh(alloc)?;
     write_and_read(&mut store)?;
-    holds("a lost write", byte_after_a_cut(alloc, store)? == 0)
+    Ok(holds("a lost write", byte_after_a_cut(alloc, store)? == 0)?)
 }
 
 fn write_and_read(store: &mut Store<SimMedium>) -> Result<(), Difference> {
     write_twice(store)?;
-    holds("a write", byte_of(store, 5)? == 0x22)
+    Ok(holds("a write", byte_of(store, 5)? == 0x22)?)
 }
 
 fn kept_by_a_sync(alloc: Global) -> Result<(), Difference> {
     let mut store = fresh(alloc)?;
     sync_and_read(&mut store)?;
-    holds("a kept write", byte_after_a_cut(alloc, store)? == 0x22)
+    Ok(holds("a kept write", byte_after_a_cut(alloc, store)? == 0x22)?)
 }
 
 fn sync_and_read(store: &mut Store<SimMedium>) -> Result<(), Difference> {
     write_twice(store)?;
     store.sync()?;
-    holds("a synced write", byte_of(store, 5)? == 0x22)
+    Ok(holds("a synced write", byte_of(store, 5)? == 0x22)?)
 }
 
 // Whether a store lives through `write_three`, and what a start after a cut finds.
@@ -98,13 +99,13 @@ fn ticks_bring_all_to_rest(alloc: Global) -> Result<(), Difference> {
     let mut store = fresh(alloc)?;
     write_and_rest(&mut store)?;
     let found = bytes_after_a_cut(alloc, store, &Kept::None)?;
-    holds("blocks after a cut", found == [1, 2, 3])
+    Ok(holds("blocks after a cut", found == [1, 2, 3])?)
 }
 
 fn write_and_rest(store: &mut Store<SimMedium>) -> Result<(), Difference> {
     write_three(store, 1000)?;
     rest(store);
-    holds("blocks at rest", bytes_of(store)? == [1, 2, 3])
+    Ok(holds("blocks at rest", bytes_of(store)? == [1, 2, 3])?)
 }
 
 fn no_call_at_rest(alloc: Global) -> Result<(), Difference> {
@@ -116,7 +117,7 @@ fn makes_no_call(store: &mut Store<SimMedium>) -> Result<(), Difference> {
     store.fuse(0);
     store.tick();
     holds("a sync at rest", store.sync() == Ok(()))?;
-    holds("the power at rest", !store.medium().is_off())
+    Ok(holds("the power at rest", !store.medium().is_off())?)
 }
 
 fn refused_flush(alloc: Global) -> Result<(), Difference> {
@@ -131,7 +132,7 @@ fn dies_of_a_flush(store: &mut Store<SimMedium>) -> Result<(), Difference> {
     holds("a write to a dead store", !lives(write_twice(store))?)?;
     let read = byte_of(store, 5);
     let refused = matches!(&read, Err(Difference::Store(StoreFault::Dead)));
-    holds("a read of a dead store", store.is_dead() && refused)
+    Ok(holds("a read of a dead store", store.is_dead() && refused)?)
 }
 
 fn refused_read(alloc: Global) -> Result<(), Difference> {
@@ -150,7 +151,7 @@ fn outlives_a_read(store: &mut Store<SimMedium>) -> Result<(), Difference> {
     let refused = matches!(&first, Err(Difference::Store(StoreFault::ReadFault)));
     holds("a refused read", refused)?;
     read(store, 15, &mut bytes)?;
-    holds("a logged block", (bytes[7], bytes[8]) == (0x5a, 0x5a))
+    Ok(holds("a logged block", (bytes[7], bytes[8]) == (0x5a, 0x5a))?)
 }
 
 // A store on blocks of zeros.

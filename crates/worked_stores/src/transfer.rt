@@ -3,10 +3,11 @@ ghost use Rattle.std.specs.Prelude.{IsTrue};
 ghost use Rattle.blocks.specs.Book.{IsTransfer};
 ghost use Rattle.blocks.specs.StoreValue.{blocks_of, transfer_limit};
 
-use crate::difference::{Difference, holds};
+use crate::difference::Difference;
 use blocks::{Store, StoreFault};
 use medium::{Kept, SimMedium};
 use std::alloc::Global;
+use worked::holds;
 
 /// A store on a medium of so many blocks.
 pub(crate) fn started_on(
