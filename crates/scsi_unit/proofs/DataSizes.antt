@@ -152,7 +152,8 @@ vital_none limit who allocation false false true d none = take_none allocation _
 vital_none limit who allocation false false false true none = take_none allocation _ (omega (arith, none))
 vital_none limit who allocation false false false false none = take_nil allocation
 
-pub inquiry_none : (limit : ℕ) (who : Identification) (allocation : ℕ) (page : Option ℕ) → min allocation (unwrap_or (inquiry_size page) 0) ≡ 0
+pub inquiry_none : (limit : ℕ) (who : Identification) (allocation : ℕ) (page : Option ℕ)
+    → min allocation (unwrap_or (inquiry_size page) 0) ≡ 0
     → take allocation (unwrap_or (inquiry_data who limit page) []) ≡ []
 inquiry_none limit who allocation None none = take_none allocation _ (omega (arith, none))
 inquiry_none limit who allocation (Some code) none =
