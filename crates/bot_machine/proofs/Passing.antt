@@ -4,13 +4,13 @@ use Rattle.medium.specs.Medium.{State}
 use Rattle.scsi_unit.specs.UnitValue.{UnitValue, unit_limit, intention_of}
 use Rattle.bot_machine.specs.declared.wire.Wire.{Wire}
 use Rattle.bot_machine.specs.Refinement.{IsInPhase}
-use Rattle.bot_machine.specs.Serving.{PassesOn}
+use Rattle.bot_machine.specs.Serving.{HandsOn}
 use Rattle.bot_machine.proofs.Stepping.{no_time, no_calls}
 
 -- nothing was done to the unit
 pub unit_stays : {M : Type 0} (state : M → State) (Follows : M → M → Type 0) (unit : UnitValue M) (from to : Wire)
     → ((m : M) → Follows m m) → IsInPhase (unit_limit unit) (intention_of unit) to.phase → to.size ≡ from.size
-    → PassesOn state Follows unit unit from to
+    → HandsOn state Follows unit unit from to
 unit_stays state Follows unit from to itself phase size = record {
   phase = phase;
   limit = refl;

@@ -94,7 +94,7 @@ pub record TakesData {M : Type 0} (before after : State) (old new : UnitValue M)
 
 -- A part of an event passes these on: a phase that the unit allows, its limit and the size of a
 -- packet as they were, and the medium, which comes after what it was by few calls.
-pub record PassesOn {M : Type 0} (state : M → State) (Follows : M → M → Type 0)
+pub record HandsOn {M : Type 0} (state : M → State) (Follows : M → M → Type 0)
     (old new : UnitValue M) (from to : Wire) : Type 0 where
   pub phase : IsInPhase (unit_limit new) (intention_of new) to.phase
   pub limit : unit_limit new ≡ unit_limit old

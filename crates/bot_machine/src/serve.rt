@@ -13,7 +13,7 @@ ghost use Rattle.bot_machine.specs.Exchange.{Script, finished};
 ghost use Rattle.bot_machine.specs.Refinement.{IsTaking, line_of, line_with};
 ghost use Rattle.bot_machine.specs.PacketBytes.{bytes_of};
 ghost use Rattle.bot_machine.specs.Serving.{IsBegun, CarriesOutOn, BeginsOn, RestsOn, SparesOn};
-ghost use Rattle.bot_machine.specs.Serving.{TakesData, PassesOn};
+ghost use Rattle.bot_machine.specs.Serving.{TakesData, HandsOn};
 
 use crate::exchange::{Exchange, When, after_failure, size_sent, way_of_intent, when_carried_out};
 use crate::wire::{Phase, Taking, Wire};
@@ -45,7 +45,7 @@ fn carry_out<M: Medium>(
         × IsBounded (M.state unit.old.store.medium) (M.state unit.new.store.medium)
         exchange.now.command.block.items bytes.now unit.old
         × ((taken : List ℕ) → Tells answer (line_of wire.new taken staging.new)) }
-    ensures passes { PassesOn M.state M.follows unit.old unit.new wire.old wire.new }
+    ensures passes { HandsOn M.state M.follows unit.old unit.new wire.old wire.new }
 {
     match unit.carry_out(exchange.command.block.as_slice(), bytes, staging) {
         Ok(size) => {
@@ -88,7 +88,7 @@ pub(crate) fn open<M: Medium>(
     ensures spares { (taken : List ℕ) → SparesOn (bytes_of wire.old.size)
         (M.state unit.old.store.medium) (M.state unit.new.store.medium) unit.old unit.new
         (line_of wire.new taken staging.new) finished packet.now }
-    ensures passes { PassesOn M.state M.follows unit.old unit.new wire.old wire.new }
+    ensures passes { HandsOn M.state M.follows unit.old unit.new wire.old wire.new }
 {
     let Some(exchange) = read_exchange(unit, packet) else {
         wire.lock();
@@ -124,7 +124,7 @@ pub(crate) fn take_data<M: Medium>(
         × IsTaking (unit_limit unit.old) (intention_of unit.old) pending }
     ensures serves { TakesData (M.state unit.old.store.medium) (M.state unit.new.store.medium)
         unit.old unit.new wire.old (line_of wire.new taken.new staging.new) taken.old packet.now }
-    ensures passes { PassesOn M.state M.follows unit.old unit.new wire.old wire.new }
+    ensures passes { HandsOn M.state M.follows unit.old unit.new wire.old wire.new }
 {
     let Phase::DataOut(pending) = &mut wire.phase else {
         unreachable!()
@@ -174,7 +174,7 @@ fn end_data<M: Medium>(
         → length packet.now ≡ bytes_of wire.old.size → pending.due ≤ bytes_of wire.old.size }
     ensures serves { TakesData (M.state unit.old.store.medium) (M.state unit.new.store.medium)
         unit.old unit.new wire.old (line_of wire.new taken.new staging.new) taken.old packet.now }
-    ensures passes { PassesOn M.state M.follows unit.old unit.new wire.old wire.new }
+    ensures passes { HandsOn M.state M.follows unit.old unit.new wire.old wire.new }
 {
     let Phase::DataOut(pending) = mem::replace(&mut wire.phase, Phase::Command) else {
         unreachable!()

@@ -4,7 +4,7 @@ use Rattle.std.specs.Prelude.{◌*◌, slice_range, vec_capacity}
 use Rattle.std.proofs.lemmas.Bool.{cases_lt}
 use Rattle.std.proofs.lemmas.List.{ext_get_or, get_or-take, length-take-le, take_all}
 use Rattle.cache.specs.Blocks.{block_at, blocks_of, with_range}
-use Rattle.cache.specs.Entries.{Appends}
+use Rattle.cache.specs.Entries.{PutsBehind}
 use Rattle.cache.specs.Index.{no_entry, numbers_of, places_of, entries_of}
 use Rattle.cache.specs.Order.{gathered, ArePlaces}
 use Rattle.cache.specs.Places.{joined, ArePaired}
@@ -198,7 +198,7 @@ module _ (old new : Parts) (cells : List Entry) (row : List (List ℕ)) (number 
         whole_row = rw (row_is, room_stays) laid.row_stays;
       }
 
-  pub appends_after : Appends number count bytes (view_of old) (view_of new)
+  pub appends_after : PutsBehind number count bytes (view_of old) (view_of new)
   appends_after =
       let put = laid.put in
       let after = kept_after in

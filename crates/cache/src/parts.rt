@@ -3,7 +3,7 @@ ghost use Rattle.std.specs.Prelude.{◌≡◌, ◌↔◌, ◌+◌, ◌/◌, ◌%
 ghost use Rattle.std.specs.Prelude.{vec_capacity};
 ghost use Rattle.std.specs.Prelude.{IfOk, IfSome, IsNone};
 ghost use Rattle.cache.specs.Blocks.{absent};
-ghost use Rattle.cache.specs.Entries.{Appends, PutsBlock, map_of};
+ghost use Rattle.cache.specs.Entries.{PutsBehind, PutsBlock, map_of};
 ghost use Rattle.cache.specs.Index.{numbers_of, entries_of};
 ghost use Rattle.cache.specs.Places.{HasPlace};
 ghost use Rattle.cache.specs.View.{view_of, IsKept, IsArranged};
@@ -109,7 +109,7 @@ impl Parts {
         requires room { length (numbers_of (entries_of self.old.index)) + length bytes.now / 512
             ≤ self.old.room }
         ensures kept { IsKept self.new }
-        ensures appends { Appends number (length bytes.now / 512) bytes.now
+        ensures appends { PutsBehind number (length bytes.now / 512) bytes.now
             (view_of self.old) (view_of self.new) }
     {
         let first = self.index.entries().len();
