@@ -1,11 +1,12 @@
 //! The images that are migrated, and the lives that made them.
 use crate::counts::Counts;
-use crate::fault::Finding;
+use crate::fault::Fault;
 use crate::image::Size;
-use crate::oracle::{Array, Block, Write};
 use crate::past::Past;
-use crate::plan::Plan;
 use crate::trial::Choices;
+use abstract_disk::{Block, Write};
+use bot_machine::Event;
+use judging::{Finding, Host};
 use std::alloc::{AllocError, Global};
 
 /// An image that is migrated.
@@ -60,21 +61,20 @@ impl Case {
     }
 
     /// The image after its lives, each of which ends in a cut that keeps nothing.
-    pub(crate) fn past(self, alloc: Global, counts: &mut Counts) -> Result<Past, Finding> {
+    pub(crate) fn past(self, alloc: Global, counts: &mut Counts) -> Result<Past, Fault> {
         let past = Past::new(alloc, self.size())?;
         let [first, second] = match self {
             Case::Small => few_blocks(),
             Case::Large => many_blocks(),
             Case::LogLike => {
-                let plan = log_like(alloc, &past.array)?;
-                return past.live(alloc, &plan, counts);
+                return past.live(alloc, log_like(alloc)?.into_events(), counts);
             }
         };
-        let mut plan = plan_of(alloc, &past.array, &first, 1)?;
-        plan.synchronize()?;
-        let past = past.live(alloc, &plan, counts)?;
-        let plan = plan_of(alloc, &past.array, &second, 17)?;
-        past.live(alloc, &plan, counts)
+        let mut host = host_of(alloc, &first, 1)?;
+        host.synchronize()?;
+        let past = past.live(alloc, host.into_events(), counts)?;
+        let host = host_of(alloc, &second, 17)?;
+        past.live(alloc, host.into_events(), counts)
     }
 }
 
@@ -130,20 +130,29 @@ fn forced(address: u32, count: u32, ticks: u32) -> Stroke {
     }
 }
 
-// A life with these writes.
-fn plan_of(alloc: Global, opening: &Array, strokes: &[Stroke], seed: u8) -> Result<Plan, Finding> {
-    let mut plan = Plan::new(alloc, opening)?;
+// A host that sends these writes.
+fn host_of(alloc: Global, strokes: &[Stroke], seed: u8) -> Result<Host, Finding> {
+    let mut host = Host::new(alloc);
+    host.request_sense()?;
     let mut seed = seed;
     for stroke in strokes {
         let write = Write {
             address: stroke.address,
             blocks: contents(alloc, seed, stroke.count)?,
         };
-        plan.write(write, stroke.forced)?;
-        plan.ticks(stroke.ticks)?;
+        host.write(&write, stroke.forced)?;
+        tick(&mut host, stroke.ticks)?;
         seed = seed.wrapping_add(64);
     }
-    Ok(plan)
+    Ok(host)
+}
+
+// So many steps in the background.
+fn tick(host: &mut Host, count: u32) -> Result<(), Finding> {
+    for _ in 0..count {
+        host.event(Event::Tick)?;
+    }
+    Ok(())
 }
 
 // So many blocks, each of another byte than the one before.
@@ -159,8 +168,9 @@ fn contents(alloc: Global, seed: u8, count: u32) -> Result<Vec<Block>, AllocErro
 
 // Thirteen records of format 1. Three of their blocks stand where format 2 has the descriptor, the
 // first data place and the commit of the record with stamp 17, and are such sectors.
-fn log_like(alloc: Global, opening: &Array) -> Result<Plan, Finding> {
-    let mut plan = Plan::new(alloc, opening)?;
+fn log_like(alloc: Global) -> Result<Host, Finding> {
+    let mut host = Host::new(alloc);
+    host.request_sense()?;
     for record in 1..14 {
         let (place, block) = match record {
             8 => (47, sector_of(b"RDDESCR2", [17, 1, 0, 0, u64::MAX])),
@@ -172,15 +182,13 @@ fn log_like(alloc: Global, opening: &Array) -> Result<Plan, Finding> {
         if let Some(to) = blocks.get_mut(place) {
             *to = block;
         }
-        plan.write(
-            Write {
-                address: 100,
-                blocks,
-            },
-            true,
-        )?;
+        let write = Write {
+            address: 100,
+            blocks,
+        };
+        host.write(&write, true)?;
     }
-    Ok(plan)
+    Ok(host)
 }
 
 // A sector that begins with a mark and numbers of 8 bytes.

@@ -1,5 +1,6 @@
 //! The sizes of an image, and what it must be byte by byte once it is migrated.
-use crate::oracle::Array;
+use abstract_disk::Array;
+use judging::{Format, Shape};
 use std::alloc::{AllocError, Global};
 
 /// How many blocks and log slots an image of format 1 has.
@@ -15,9 +16,13 @@ impl Size {
         u64::from(self.slots) * 50 + 2
     }
 
-    /// How many sectors there are.
-    pub(crate) fn sectors(self) -> u64 {
-        self.home().saturating_add(u64::from(self.blocks))
+    /// The image before the migration.
+    pub(crate) fn shape(self) -> Shape {
+        Shape {
+            format: Format::One,
+            blocks: self.blocks,
+            slots: self.slots,
+        }
     }
 
     /// How many slots of format 2 lie in the log.

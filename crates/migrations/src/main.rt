@@ -18,18 +18,14 @@
 
 mod cases;
 mod counts;
-mod exchange;
 mod fault;
 mod image;
-mod oracle;
 mod past;
-mod plan;
-mod play;
 mod trial;
 
 use cases::Case;
 use counts::Counts;
-use fault::Finding;
+use fault::Fault;
 use image::Size;
 use std::alloc::Global;
 use std::io;
@@ -52,17 +48,17 @@ fn try_all<W: Write>(alloc: Global, out: &mut W) -> io::Result<bool> {
         let mut counts = Counts::default();
         let tried = try_case(alloc, case, &mut counts);
         writeln!(out, "{blocks} blocks, {slots} slots: {counts}")?;
-        if let Err(finding) = tried {
+        if let Err(fault) = tried {
             all = false;
-            writeln!(out, "{finding}")?;
+            writeln!(out, "{fault}")?;
         }
     }
     Ok(all)
 }
 
 // Lives the lives, and cuts the migration.
-fn try_case(alloc: Global, case: Case, counts: &mut Counts) -> Result<(), Finding> {
+fn try_case(alloc: Global, case: Case, counts: &mut Counts) -> Result<(), Fault> {
     let past = case.past(alloc, counts)?;
-    let trial = Trial::new(alloc, case.size(), past)?;
+    let trial = Trial::new(alloc, past)?;
     trial.cut_everywhere(alloc, case.first_fuse(), case.choices(), counts)
 }

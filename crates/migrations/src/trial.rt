@@ -3,18 +3,15 @@ ghost use Rattle.std.specs.Prelude.{◌≡◌, None};
 ghost use Rattle.bot_machine.specs.LivesValue.{IsAtRest};
 
 use crate::counts::{Counts, count};
-use crate::fault::Finding;
+use crate::fault::Fault;
 use crate::image::{Size, format_of, is_image, migrated};
-use crate::past::{LIMIT, Past};
-use crate::plan::{Plan, read_all};
-use crate::play::{copied, cut, play_whole};
+use crate::past::Past;
+use abstract_disk::Array;
+use judging::{Format, blocks_of, copied, cut};
 use medium::{Kept, SimMedium, Switch};
 use recovery::{Recovered, StartFault, migrate};
 use std::alloc::{AllocError, Global};
 use std::ops::Range;
-
-/// How many blocks a READ or a WRITE moves at most on an image of format 2.
-const LIMIT_TWO: usize = 240;
 
 /// Which of the unflushed writes outlive a cut, each choice in a trial of its own.
 #[derive(Clone, Copy, Debug, PartialEq, Eq)]
@@ -45,23 +42,21 @@ pub(crate) struct Trial {
     size: Size,
     // The stamp for which it stands.
     stamp: u64,
-    // Lives that read every block, within the limit of format 1, and within that of format 2.
-    narrow: Plan,
-    wide: Plan,
+    // The blocks for which it stands.
+    array: Array,
     // What its migration makes of it, but for the head.
     wanted: Vec<u8>,
 }
 
 impl Trial {
     /// The image that lives have left. A migration that is not cut tells its stamp.
-    pub(crate) fn new(alloc: Global, size: Size, past: Past) -> Result<Trial, Finding> {
+    pub(crate) fn new(alloc: Global, past: Past) -> Result<Trial, Fault> {
         let mut trial = Trial {
-            narrow: read_all(alloc, &past.array, LIMIT)?,
-            wide: read_all(alloc, &past.array, LIMIT_TWO)?,
-            wanted: migrated(alloc, size, &past.array)?,
+            wanted: migrated(alloc, past.size, &past.array)?,
             medium: past.medium,
-            size,
+            size: past.size,
             stamp: past.least_stamp,
+            array: past.array,
         };
         let mut medium = copied(alloc, &trial.medium)?;
         let stamps = past.least_stamp..past.most_stamp.saturating_add(1);
@@ -77,7 +72,7 @@ impl Trial {
         first_fuse: u64,
         choices: Choices,
         counts: &mut Counts,
-    ) -> Result<(), Finding> {
+    ) -> Result<(), Fault> {
         for fuse in first_fuse..1_000_000 {
             let mut medium = copied(alloc, &self.medium)?;
             medium.fuse(fuse);
@@ -86,7 +81,7 @@ impl Trial {
                 Err(fault) => self.cut_here(alloc, &medium, fault, choices, counts)?,
             }
         }
-        Err(Finding::Endless)
+        Err(Fault::Endless)
     }
 
     // A migration was not cut: each life after it reads the same blocks.
@@ -96,11 +91,11 @@ impl Trial {
         medium: SimMedium,
         answer: &(Recovered, bool),
         counts: &mut Counts,
-    ) -> Result<(), Finding> {
+    ) -> Result<(), Fault> {
         let next = self.stamp.saturating_add(1);
         self.judge(&medium, answer, true, self.stamp..next)?;
-        let medium = self.read(alloc, cut(medium, &Kept::None), &self.wide, counts)?;
-        self.read(alloc, cut(medium, &Kept::None), &self.wide, counts)?;
+        let medium = self.read(alloc, cut(medium, &Kept::None), Format::Two, counts)?;
+        self.read(alloc, cut(medium, &Kept::None), Format::Two, counts)?;
         Ok(())
     }
 
@@ -112,12 +107,12 @@ impl Trial {
         fault: StartFault,
         choices: Choices,
         counts: &mut Counts,
-    ) -> Result<(), Finding> {
+    ) -> Result<(), Fault> {
         if !medium.is_off() {
-            return Err(Finding::Migration(fault));
+            return Err(Fault::Migration(fault));
         }
         if fault != StartFault::Write && fault != StartFault::Flush {
-            return Err(Finding::Blame(fault));
+            return Err(Fault::Blame(fault));
         }
         count(&mut counts.cuts);
         self.restart(alloc, medium, &Kept::None, counts)?;
@@ -136,7 +131,7 @@ impl Trial {
         medium: &SimMedium,
         kept: &Kept,
         counts: &mut Counts,
-    ) -> Result<(), Finding> {
+    ) -> Result<(), Fault> {
         let mut medium = medium.copy(alloc).ok_or(AllocError)?;
         medium.cut(kept);
         count(&mut counts.images);
@@ -146,32 +141,37 @@ impl Trial {
         let opened = self.stamp.saturating_add(1);
         let mut at_once = copied(alloc, &medium)?;
         self.migrate_again(&mut at_once, self.stamp..opened.saturating_add(1))?;
-        let mut medium = self.read(alloc, cut(medium, &Kept::None), &self.narrow, counts)?;
+        let mut medium = self.read(alloc, cut(medium, &Kept::None), Format::One, counts)?;
         count(&mut counts.restarts);
         self.migrate_again(&mut medium, opened..opened.saturating_add(2))?;
-        self.read(alloc, cut(medium, &Kept::None), &self.wide, counts)?;
+        self.read(alloc, cut(medium, &Kept::None), Format::Two, counts)?;
         Ok(())
     }
 
-    // A life that reads every block.
+    // A life that reads every block, within the limit of this format.
     fn read(
         &self,
         alloc: Global,
         medium: SimMedium,
-        plan: &Plan,
+        format: Format,
         counts: &mut Counts,
-    ) -> Result<SimMedium, Finding>
+    ) -> Result<SimMedium, Fault>
         requires rests { IsAtRest medium }
         requires unfused { medium.power.fuse ≡ None }
     {
         count(&mut counts.lives);
-        play_whole(alloc, medium, plan)
+        let (medium, array) = blocks_of(alloc, medium, self.size.blocks, format.limit())?;
+        if array == self.array {
+            Ok(medium)
+        } else {
+            Err(Fault::Blocks)
+        }
     }
 
     // Migrates without a fuse. Gives the stamp.
-    fn migrate_again(&self, medium: &mut SimMedium, stamps: Range<u64>) -> Result<u64, Finding> {
+    fn migrate_again(&self, medium: &mut SimMedium, stamps: Range<u64>) -> Result<u64, Fault> {
         let was_one = format_of(medium.image()) == Some(1);
-        let answer = migrate(medium).map_err(Finding::Migration)?;
+        let answer = migrate(medium).map_err(Fault::Migration)?;
         self.judge(medium, &answer, was_one, stamps)
     }
 
@@ -182,10 +182,10 @@ impl Trial {
         answer: &(Recovered, bool),
         was_one: bool,
         stamps: Range<u64>,
-    ) -> Result<u64, Finding> {
+    ) -> Result<u64, Fault> {
         let (Recovered { sizes, next }, migrated) = *answer;
         if migrated != was_one {
-            return Err(Finding::Format);
+            return Err(Fault::Format);
         }
         let told = (
             sizes.format.version(),
@@ -195,23 +195,23 @@ impl Trial {
         );
         let size = self.size;
         if told != (2, u64::from(size.blocks), size.slots_after(), size.home()) {
-            return Err(Finding::Sizes);
+            return Err(Fault::Sizes);
         }
         if next < stamps.start || next >= stamps.end {
-            return Err(Finding::Stamp(next));
+            return Err(Fault::Stamp(next));
         }
         if medium.unflushed() > 0 || !is_image(medium.image(), &self.wanted, next) {
-            return Err(Finding::Image);
+            return Err(Fault::Image);
         }
         Ok(next)
     }
 }
 
 // A cut that keeps the unflushed write with this number alone.
-fn alone(alloc: Global, number: usize) -> Result<Kept, Finding> {
+fn alone(alloc: Global, number: usize) -> Result<Kept, Fault> {
     if number < 64 {
         return Ok(Kept::Mask(1 << number));
     }
-    let number = u32::try_from(number).map_err(|_| Finding::Range)?;
+    let number = u32::try_from(number).map_err(|_| Fault::Unflushed(number))?;
     Ok(Kept::These(vec![in alloc; number]?))
 }
