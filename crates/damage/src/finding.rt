@@ -1,7 +1,6 @@
 //! What the judge finds.
 use bot_machine::StartFault;
 use medium::SimError;
-use recovery::FormatFault;
 use std::alloc::AllocError;
 use std::fmt;
 use thiserror::Error;
@@ -48,9 +47,6 @@ pub(crate) enum Finding {
     /// An image was not made.
     #[error("no image: {0}")]
     Medium(#[from] SimError),
-    /// An image was not formatted.
-    #[error("no format: {0}")]
-    NoFormat(#[from] FormatFault),
     /// An image was not migrated.
     #[error("no migration: {0}")]
     NoMigration(StartFault),

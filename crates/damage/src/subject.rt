@@ -6,9 +6,9 @@ use crate::finding::Finding;
 use crate::standing::{Standing, Verdict, examine};
 use crate::trial::live;
 use abstract_disk::{Array, Write};
-use judging::cut;
+use judging::{Format, Shape, cut};
 use medium::{Kept, SimMedium};
-use recovery::{format, format2, migrate};
+use recovery::migrate;
 use std::alloc::{AllocError, Global};
 use std::slice;
 
@@ -50,14 +50,19 @@ impl Subject {
         Subject::Migrated,
     ];
 
-    // The version of a fresh image, and how many blocks and slots it has.
-    fn sizes(self) -> (u32, u32, u32) {
-        match self {
-            Subject::Full => (1, 16, 2),
-            Subject::Long => (1, 60, 3),
-            Subject::Single => (1, 5, 1),
-            Subject::Two => (2, 64, 2),
-            Subject::Migrated => (1, 8, 5),
+    // A fresh image.
+    fn shape(self) -> Shape {
+        let (format, blocks, slots) = match self {
+            Subject::Full => (Format::One, 16, 2),
+            Subject::Long => (Format::One, 60, 3),
+            Subject::Single => (Format::One, 5, 1),
+            Subject::Two => (Format::Two, 64, 2),
+            Subject::Migrated => (Format::One, 8, 5),
+        };
+        Shape {
+            format,
+            blocks,
+            slots,
         }
     }
 
@@ -74,7 +79,7 @@ impl Subject {
 
     /// The image after its lives.
     pub(crate) fn make(self, alloc: Global) -> Result<Made, Finding> {
-        let medium = self.lived(alloc, self.fresh(alloc)?)?;
+        let medium = self.lived(alloc, self.shape().fresh(alloc)?)?;
         let image = Vec::from_slice(alloc, medium.image())?;
         match examine(alloc, &image)? {
             Verdict::Stands(standing) if !standing.records.is_empty() => {
@@ -86,34 +91,12 @@ impl Subject {
 }
 
 impl Subject {
-    // A fresh image.
-    fn fresh(self, alloc: Global) -> Result<SimMedium, Finding>
-        ensures rests { IfOk result IsAtRest }
-        ensures unfused { IfOk result (λ m. m.power.fuse ≡ None) }
-    {
-        let (version, blocks, slots) = self.sizes();
-        let slot = if version == 1 { 50 } else { 249 };
-        let sectors = slots
-            .saturating_mul(slot)
-            .saturating_add(blocks)
-            .saturating_add(2);
-        let bytes = vec![in alloc; 0u8; (sectors as usize).saturating_mul(512)]?;
-        let mut medium = SimMedium::new(alloc, bytes, sectors as usize)?;
-        if version == 1 {
-            format(&mut medium, u64::from(blocks), u64::from(slots))?;
-        } else {
-            format2(&mut medium, u64::from(blocks), u64::from(slots))?;
-        }
-        Ok(cut(medium, &Kept::None))
-    }
-
     // The medium after the lives, whose cuts keep no unflushed write.
     fn lived(self, alloc: Global, medium: SimMedium) -> Result<SimMedium, Finding>
         requires rests { IsAtRest medium }
         requires unfused { medium.power.fuse ≡ None }
     {
-        let (_, blocks, _) = self.sizes();
-        let mut array = Array::zeros(alloc, blocks as usize)?;
+        let mut array = Array::zeros(alloc, self.shape().blocks as usize)?;
         let [first, second] = self.strokes();
         let first = first.write(alloc, 0x11)?;
         let second = second.write(alloc, 0x61)?;
