@@ -229,7 +229,7 @@ fn over_blocks(random: &mut Random, block: [u8; 16], length: u8, count: u32) -> 
 
 // Blocks: mostly a few of the disk, sometimes many, none, too many or others.
 fn any_extent(random: &mut Random, shape: &Shape) -> Extent {
-    let blocks = u64::from(shape.blocks);
+    let blocks = u64::from(shape.image.blocks);
     match random.below(40) {
         0 => Extent {
             address: blocks,
@@ -253,7 +253,7 @@ fn any_extent(random: &mut Random, shape: &Shape) -> Extent {
 
 // Blocks of the disk, but perhaps too many or none.
 fn on_the_disk(random: &mut Random, shape: &Shape, kind: u64) -> Extent {
-    let blocks = u64::from(shape.blocks);
+    let blocks = u64::from(shape.image.blocks);
     match kind {
         3 => Extent {
             address: 0,

@@ -1,7 +1,5 @@
 //! What the judge finds.
 use bot_machine::StartFault;
-use medium::SimError;
-use recovery::FormatFault;
 use std::alloc::AllocError;
 use thiserror::Error;
 
@@ -22,12 +20,8 @@ pub(crate) enum Finding {
     Blocks,
     #[error("a packet that is too long")]
     Packet,
-    #[error("no identity")]
-    Identity,
-    #[error("no image: {0}")]
-    Medium(#[from] SimError),
-    #[error("no format: {0}")]
-    NoFormat(#[from] FormatFault),
+    #[error("{0}")]
+    Judged(#[from] judging::Finding),
     #[error("out of memory")]
     NoMemory(#[from(alloc)] AllocError),
 }

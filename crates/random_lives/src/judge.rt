@@ -1,12 +1,13 @@
 //! A script of lives, played and judged step by step.
 use crate::counts::{Counts, count};
 use crate::finding::Finding;
-use crate::player::{Player, identity};
+use crate::player::Player;
 use crate::reading::blocks_of;
 use crate::shape::Shape;
 use crate::step::{Step, copy_of};
 use abstract_disk::{Array, Hearing};
 use bot_machine::{Answer, Disk, Event, StartError};
+use judging::disk_identity;
 use medium::{Kept, SimMedium};
 use std::alloc::{AllocError, Global};
 use std::mem;
@@ -49,7 +50,7 @@ impl Judge {
             alloc,
             shape,
             player: Player::new(medium, shape.size)?,
-            opening: Array::zeros(alloc, shape.blocks as usize)?,
+            opening: Array::zeros(alloc, shape.image.blocks as usize)?,
             stage: Stage::Waits,
             fused: false,
             failing: false,
@@ -202,8 +203,8 @@ impl Judge {
     fn served(&mut self) -> Result<Array, Finding> {
         count(&mut self.counts.restarts);
         let copy = self.player.medium().copy(self.alloc).ok_or(AllocError)?;
-        match Disk::start_with(self.alloc, copy, identity()?, self.shape.size) {
-            Ok(mut disk) => blocks_of(self.alloc, &mut disk, self.shape.blocks),
+        match Disk::start_with(self.alloc, copy, disk_identity()?, self.shape.size) {
+            Ok(mut disk) => blocks_of(self.alloc, &mut disk, self.shape.image.blocks),
             Err(StartError { fault, medium: _ }) => Err(Finding::Start(fault)),
         }
     }

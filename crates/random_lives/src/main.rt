@@ -104,7 +104,7 @@ struct Failed {
 fn try_seed(alloc: Global, seed: u64, counts: &mut Counts) -> Result<Option<Failed>, Finding> {
     let mut random = Random::new(seed);
     let shape = Shape::random(&mut random);
-    let fresh = shape.fresh(alloc)?;
+    let fresh = shape.image.fresh(alloc)?;
     let copy = fresh.copy(alloc).ok_or(AllocError)?;
     let mut host = Host::new(alloc, random, shape, copy)?;
     host.judge.counts = mem::take(counts);

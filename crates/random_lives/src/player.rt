@@ -3,7 +3,8 @@ ghost use Rattle.std.specs.Prelude.{◌≡◌, ◌<◌};
 ghost use Rattle.bot_machine.specs.PacketBytes.{bytes_of};
 
 use crate::finding::Finding;
-use bot_machine::{Answer, Event, Identity, Lives, PacketSize, StartFault};
+use bot_machine::{Answer, Event, Lives, PacketSize, StartFault};
+use judging::disk_identity;
 use medium::{Kept, SimMedium};
 use std::alloc::Global;
 
@@ -20,7 +21,7 @@ impl Player {
     pub(crate) fn new(medium: SimMedium, size: PacketSize) -> Result<Player, Finding> {
         Ok(Player {
             size,
-            lives: Lives::new_with(medium, identity()?, size),
+            lives: Lives::new_with(medium, disk_identity()?, size),
         })
     }
 
@@ -57,15 +58,4 @@ impl Player {
     pub(crate) fn cut(&mut self, kept: &Kept) {
         self.lives.cut(kept);
     }
-}
-
-/// The identity of the disks that are judged.
-pub(crate) fn identity() -> Result<Identity, Finding> {
-    Identity::new(
-        *b"USBDISK ",
-        *b"POWER SAFE DISK ",
-        *b"0001",
-        *b"000000000001",
-    )
-    .ok_or(Finding::Identity)
 }
