@@ -1,6 +1,6 @@
 //! A bounded map from block numbers to blocks.
 ghost use Rattle.std.specs.Prelude.{◌≡◌, ◌⊎◌, ◌↔◌, ◌+◌, ◌*◌, ◌/◌, ◌%◌, ◌^◌, ◌<◌, ◌≤◌, ℕ, [], length, slice_index};
-ghost use Rattle.std.specs.Prelude.{Some, None, IsTrue, IfOk, IfErr, IfSome, IsNone};
+ghost use Rattle.std.specs.Prelude.{Some, None, IsTrue, IfOk, IfErr, IsErrOf, IfSome, IsNone};
 ghost use Rattle.cache.specs.Blocks.{IsRising, with_range, InRange, Listed, absent, unlisted};
 ghost use Rattle.cache.specs.Digits.{GrowsWithinDigits};
 ghost use Rattle.cache.specs.Entries.{IsWellFormed, Fits, PutsBlock, map_of};
@@ -38,10 +38,12 @@ impl Batch {
     /// An empty batch with room for so many blocks.
     ///
     /// # Errors
-    /// `NoMemory` where the room could not be had, or is for more than 65,536 blocks.
+    /// `TooLarge` where the room is for more than 65,536 blocks, and else `NoMemory` alone: a growth
+    /// was refused.
     pub fn new(alloc: Global, room: usize) -> Result<Batch, BatchError>
-        ensures { IfOk result
+        ensures empty { IfOk result
             (λ batch. batch ≡ record { room = room; numbers = []; bytes = [] }) }
+        ensures large { IsErrOf result BatchError.TooLarge ↔ 65536 < room }
     {
         Ok(Batch {
             parts: Parts::new(alloc, room)?,

@@ -1,6 +1,6 @@
 //! A batch whose blocks lie in the order of their numbers.
-ghost use Rattle.std.specs.Prelude.{◌≡◌, ◌↔◌, ◌+◌, ◌^◌, ◌≤◌, [], length, Some, None};
-ghost use Rattle.std.specs.Prelude.{IsTrue, IfOk, IfSome, IsNone};
+ghost use Rattle.std.specs.Prelude.{◌≡◌, ◌↔◌, ◌+◌, ◌^◌, ◌<◌, ◌≤◌, [], length, Some, None};
+ghost use Rattle.std.specs.Prelude.{IsTrue, IfOk, IsErrOf, IfSome, IsNone};
 ghost use Rattle.cache.specs.Blocks.{unlisted};
 ghost use Rattle.cache.specs.Entries.{IsWellFormed, map_of};
 ghost use Rattle.cache.specs.Places.{HasPlace};
@@ -36,10 +36,12 @@ impl Frozen {
     /// An empty batch with room for so many blocks.
     ///
     /// # Errors
-    /// `NoMemory` where the room could not be had, or is for more than 65,536 blocks.
+    /// `TooLarge` where the room is for more than 65,536 blocks, and else `NoMemory` alone: a growth
+    /// was refused.
     pub fn new(alloc: Global, room: usize) -> Result<Frozen, BatchError>
-        ensures { IfOk result
+        ensures empty { IfOk result
             (λ batch. batch ≡ record { room = room; numbers = []; bytes = [] }) }
+        ensures large { IsErrOf result BatchError.TooLarge ↔ 65536 < room }
     {
         Ok(Frozen {
             parts: Parts::new(alloc, room)?,

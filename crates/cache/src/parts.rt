@@ -1,7 +1,7 @@
 //! What a batch is made of, in whichever order its blocks lie.
-ghost use Rattle.std.specs.Prelude.{◌≡◌, ◌↔◌, ◌+◌, ◌/◌, ◌%◌, ◌^◌, ◌≤◌, [], length, Some, None};
+ghost use Rattle.std.specs.Prelude.{◌≡◌, ◌↔◌, ◌+◌, ◌/◌, ◌%◌, ◌^◌, ◌<◌, ◌≤◌, [], length, Some, None};
 ghost use Rattle.std.specs.Prelude.{vec_capacity};
-ghost use Rattle.std.specs.Prelude.{IfOk, IfSome, IsNone};
+ghost use Rattle.std.specs.Prelude.{IfOk, IfSome, IsErrOf, IsNone};
 ghost use Rattle.cache.specs.Blocks.{absent};
 ghost use Rattle.cache.specs.Entries.{PutsBehind, PutsBlock, map_of};
 ghost use Rattle.cache.specs.Index.{numbers_of, entries_of};
@@ -36,12 +36,13 @@ pub(crate) struct Parts {
 impl Parts {
     /// No blocks, with room for so many.
     pub(crate) fn new(alloc: Global, room: usize) -> Result<Parts, BatchError>
+        ensures large { IsErrOf result BatchError.TooLarge ↔ 65536 < room }
         ensures arranged { IfOk result IsArranged }
         ensures value { IfOk result
             (λ parts. view_of parts ≡ record { room = room; numbers = []; bytes = [] }) }
     {
         if room > MOST_ROOM {
-            return Err(BatchError::NoMemory);
+            return Err(BatchError::TooLarge);
         }
         let index = Index::new(alloc, room).map_err(|_| BatchError::NoMemory)?;
         let numbers = Vec::with_capacity(alloc, room).map_err(|_| BatchError::NoMemory)?;
