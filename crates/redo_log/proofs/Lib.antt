@@ -1,5 +1,6 @@
 pub mod Keeping
 pub mod Counting
+pub mod Calling
 pub mod Turning
 pub mod Batching
 pub mod Laying

@@ -93,9 +93,11 @@ pub record WritesOnly (place : ℕ) (bytes : List ℕ) (old new : State) : Type 
   pub moments : StaysWithin (gaining place bytes old.may_leave) old new
   pub sets : Gains place bytes old.may_leave new.may_leave
 
--- calls of a medium, so many at most: none is refused but the last one, which they answer
-pub record CallsUpTo {X E : Type 0} (most : ℕ) (result : Result X E) (old new : State)
+-- Calls of a medium, so many where they are good and else no more: none is refused but the last one,
+-- which they answer.
+pub record CallsUpTo {X E : Type 0} (count : ℕ) (result : Result X E) (old new : State)
     : Type 0 where
-  pub calls : new.calls ≤ old.calls + most
+  pub calls : new.calls ≤ old.calls + count
+  pub exact : OnOk result (new.calls ≡ old.calls + count)
   pub failures : new.failures ≡ (if is_ok result then old.failures else old.failures + 1)
   pub size : new.size ≡ old.size

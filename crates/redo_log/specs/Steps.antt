@@ -1,5 +1,6 @@
 -- What a call of a log answers, and what it leaves of its medium.
-use Rattle.std.specs.Prelude.{◌≡◌, ◌+◌, true, if◌then◌else◌, Result, is_ok, IfOk, IfErr, OnErr}
+use Rattle.std.specs.Prelude.{◌≡◌, ℕ, ◌+◌, ◌≤◌, true, if◌then◌else◌, Result, is_ok}
+use Rattle.std.specs.Prelude.{IfOk, IfErr, OnOk, OnErr}
 use Rattle.medium.specs.Medium.{State}
 use Rattle.medium.specs.Moments.{LeavesOnly, SparesFrom, IsQuiet}
 use Rattle.log_layout.specs.Places.{sectors_of}
@@ -24,6 +25,14 @@ pub record PassesStep {M X : Type 0} (state : M → State) (Follows : M → M �
       ≡ (if is_ok result then (state old).failures else (state old).failures + 1)
   pub size : (state new).size ≡ (state old).size
   pub follows : Follows old new
+
+-- A retire step makes so many calls where it is good, and no more where it is refused. They are never
+-- more than two.
+pub record CountsStep {X E : Type 0} (count : ℕ) (result : Result X E) (old new : State)
+    : Type 0 where
+  pub two : new.calls ≤ old.calls + 2
+  pub most : new.calls ≤ old.calls + count
+  pub exact : OnOk result (new.calls ≡ old.calls + count)
 
 -- a step of this log leaves at each moment what a cut may leave of it
 pub record LeavesLog (log : LogValue) (old new : State) : Type 0 where

@@ -55,6 +55,13 @@ pub record MakesTurn (turn : Turn) (result : Result (Unit {0}) MediumFault) (old
   pub adds : MayTurn turn old new
   pub spares : (first : ℕ) → IsInside first turn → SparesFrom first old new
 
+-- how many calls it makes: one to read or to flush, two to copy, and two for the head
+abbrev pub calls_of : Turn → ℕ
+calls_of (Load from) = 1
+calls_of (Copy from to first) = 2
+calls_of Flush = 1
+calls_of (Head head) = 2
+
 -- which bytes are kept after it
 abbrev pub kept_by : Turn → State → List ℕ → List ℕ
 kept_by (Load from) old kept = old.content from

@@ -1,6 +1,7 @@
 -- What a caller sees of a redo log, and how its calls change that.
-use Rattle.std.specs.Prelude.{◌≡◌, ℕ, ◌+◌, ◌-◌, ◌%◌, ◌<◌, List, [], ◌∷◌, ◌++◌, length, get_or}
-use Rattle.std.specs.Prelude.{slice_index, drop, replicate, sum_by, Contains, Bool, true, false}
+use Rattle.std.specs.Prelude.{◌≡◌, ℕ, zero, suc, ◌+◌, ◌-◌, ◌%◌, ◌<◌, List, [], ◌∷◌, ◌++◌, length}
+use Rattle.std.specs.Prelude.{get_or, slice_index, drop, replicate, sum_by, Contains, Bool}
+use Rattle.std.specs.Prelude.{true, false, if◌then◌else◌, ◌==◌}
 use Rattle.log_layout.specs.declared.log_format.LogFormat.{LogFormat}
 use Rattle.log_layout.specs.declared.log_format.LogFormat.TheVariants.{One, Two}
 use Rattle.log_layout.specs.Places.{Shape}
@@ -108,6 +109,33 @@ behind_oldest log = sum_by (retire_steps_of log.shape.format) (drop 1 log.waitin
 -- how many retire steps the oldest durable record itself still needs
 abbrev pub of_oldest : LogValue → ℕ
 of_oldest log = log.retire_steps_left - behind_oldest log
+
+-- How many calls it takes after so many turns to bring the next block home: it is read and written.
+-- In format 2 the first of 31 turns reads a descriptor, by one call.
+abbrev pub home_calls : LogFormat → ℕ → ℕ
+home_calls One turned = 2
+home_calls Two turned = if turned % 31 == 0 then 1 else 2
+
+-- How many calls the next retire step of a record makes that is home after so many turns, where so
+-- many steps are left: the last one writes the head and flushes it, the one before it flushes.
+abbrev pub turn_calls : LogFormat → ℕ → ℕ → ℕ
+turn_calls format home zero = 0
+turn_calls format home (suc zero) = 2
+turn_calls format home (suc (suc zero)) = 1
+turn_calls format home (suc (suc (suc left))) = home_calls format (home - suc left)
+
+-- how many calls all the steps make that are left of it
+abbrev pub turns_calls : LogFormat → ℕ → ℕ → ℕ
+turns_calls format home zero = 0
+turns_calls format home (suc left) = turn_calls format home (suc left) + turns_calls format home left
+
+-- after how many turns the oldest durable record is home
+abbrev pub home_of_oldest : LogValue → ℕ
+home_of_oldest log = turns_home log.shape.format (length (get_or log.waiting 0 []))
+
+-- how many calls the next retire step makes: none where no record waits
+abbrev pub next_calls : LogValue → ℕ
+next_calls log = turn_calls log.shape.format (home_of_oldest log) (of_oldest log)
 
 -- retire steps are owed for each record that waits, and for the one under way alone where none
 -- waits

@@ -61,11 +61,11 @@ impl Log {
     ghost use Rattle.redo_log.specs.Value.{HasRoom, Owes, HasNoCopy, IsNewestCopy, idle_from};
     ghost use Rattle.log_image.specs.Copies.{copy_reads_of, MakesReads};
     ghost use Rattle.redo_log.specs.Value.{begun, died, most_steps, most_retire_steps};
-    ghost use Rattle.redo_log.specs.Value.{IsStepped, IsRetireStepped};
+    ghost use Rattle.redo_log.specs.Value.{IsStepped, IsRetireStepped, next_calls};
     ghost use Rattle.redo_log.specs.Batch.{IsBatch, entries_of};
     ghost use Rattle.redo_log.specs.Held.{View, HoldsView, HasDurable};
     ghost use Rattle.redo_log.specs.Held.{with_record, view_stepped, view_retired};
-    ghost use Rattle.redo_log.specs.Steps.{AnswersStep, PassesStep, LeavesLog, KeepsLog};
+    ghost use Rattle.redo_log.specs.Steps.{AnswersStep, PassesStep, CountsStep, LeavesLog, KeepsLog};
     ghost use Rattle.redo_log.specs.declared.progress.Progress.TheVariants.{Durable};
 
     /// A log without records on a medium with this super. Its first record takes the stamp `next`.
@@ -223,8 +223,9 @@ impl Log {
             → IsOk result × (self.new ≡ self.old) × (m.new ≡ m.old) }
         ensures answers { AnswersStep (λ _. 0 < length self.old.waiting
             → IsRetireStepped self.old self.new) result self.old self.new }
-        ensures passes { PassesStep M.state M.follows
-            ((M.state m.new).calls ≤ (M.state m.old).calls + 2) result m.old m.new }
+        // One call reads a descriptor or flushes, two copy a block or write the head and flush it.
+        ensures passes { PassesStep M.state M.follows (CountsStep (next_calls self.old) result
+            (M.state m.old) (M.state m.new)) result m.old m.new }
         ensures holds { (view : View) → HoldsView self.old (M.state m.old) view
             → MatchResult result
             (λ _. HoldsView self.new (M.state m.new)

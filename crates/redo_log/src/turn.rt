@@ -10,7 +10,7 @@ ghost use Rattle.log_image.specs.Formats.{layout_of};
 ghost use Rattle.redo_log.specs.Value.{turns_home};
 ghost use Rattle.redo_log.specs.Stages.{IsRecord};
 ghost use Rattle.redo_log.specs.Calls.{CallsUpTo, WritesOnly};
-ghost use Rattle.redo_log.specs.Turns.{begun_with, kept_by, IsInside, MakesTurn};
+ghost use Rattle.redo_log.specs.Turns.{begun_with, kept_by, calls_of, IsInside, MakesTurn};
 ghost use Rattle.redo_log.specs.Turns.{IsCopyOf, IsHomeTurn, IsNextTurn};
 
 use crate::stage::turns_home;
@@ -36,7 +36,7 @@ impl Turn {
         ensures makes { MakesTurn self.now result (M.state m.old) (M.state m.new) }
         ensures keeps { kept.new
             ≡ (if is_ok result then kept_by self.now (M.state m.old) kept.old else kept.old) }
-        ensures counts { CallsUpTo 2 result (M.state m.old) (M.state m.new) }
+        ensures counts { CallsUpTo (calls_of self.now) result (M.state m.old) (M.state m.new) }
         ensures follows { M.follows m.old m.new }
     {
         match self {

@@ -13,6 +13,7 @@ use Rattle.redo_log.specs.Index.{look, outside, IsIndex}
 use Rattle.redo_log.proofs.Entering.{index_fewer}
 use Rattle.redo_log.proofs.Ringing.{front_is, ring_retired, retired_last}
 use Rattle.redo_log.proofs.Closing.{on_ok_here, ok_here, err_here, sizes_sized, turn_moments, turn_cuts, turn_dead, turn_more, turn_retires}
+use Rattle.redo_log.proofs.Calling.{turn_costs, step_costs, turn_refused}
 use Rattle.redo_log.proofs.Sparing.{turn_spares}
 use Rattle.redo_log.proofs.log.Log.retire_step.Goals as goal
 
@@ -233,3 +234,65 @@ returns-clause-holds g c view holds =
     (ok_here c.make.result (sym c.is_err.ensures.value ∙ c.if-is_err.false)))
     (lists_of c.pop_front.new.self.items) (omega (arith, c.if-self-home.false, home))
     (ap (λ (l : List (ArrayVec ℕ)). lists_of l) c.pop_front.ensures.rest)
+
+pub returns-then-is_err-clause-passes : goal.returns-then-is_err-clause-passes
+returns-then-is_err-clause-passes g c =
+    let i = c.self.inside in
+    let some : 0 < length i.waiting.items = search rules in
+    let waits = waits_is i.waiting.items c.in-Some.oldest.now c.as_slice-numbers.result.now some c.in-Some.ensures.lookup
+    c.as_slice-numbers.ensures.value in
+    let oldest : i.turned < turns_home i.sizes.format (length c.as_slice-numbers.result.now) + 2 =
+    (subst (λ (l : List (List ℕ)). IsRing (shape_of i.sizes) l i.turned i.under_way.items i.made) waits c.self.invariant.ring).oldest in
+    let costs = turn_costs (shape_of i.sizes) i.head c.as_slice-numbers.result.now i.kept i.turned c.next_turn-turn.result
+    c.next_turn-turn.ensures.next oldest
+    ∙ step_costs c.args.self.now (shape_of i.sizes) i.head (lists_of i.waiting.items) i.turned i.kept i.under_way.items i.made i.dead
+    c.as_slice-numbers.result.now (lists_of (drop 1 i.waiting.items)) c.self.view_is waits in
+    let few = turn_refused c.next_turn-turn.result _ _ _ costs c.make.ensures.counts.calls in
+    record {
+      calls = record { two = few.0; most = few.1; exact = search rules };
+      failures = search rules;
+      size = search rules;
+      follows = search rules;
+    }
+
+pub returns-then-self-home-clause-passes : goal.returns-then-self-home-clause-passes
+returns-then-self-home-clause-passes g c =
+    let i = c.self.inside in
+    let some : 0 < length i.waiting.items = search rules in
+    let waits = waits_is i.waiting.items c.in-Some.oldest.now c.as_slice-numbers.result.now some c.in-Some.ensures.lookup
+    c.as_slice-numbers.ensures.value in
+    let oldest : i.turned < turns_home i.sizes.format (length c.as_slice-numbers.result.now) + 2 =
+    (subst (λ (l : List (List ℕ)). IsRing (shape_of i.sizes) l i.turned i.under_way.items i.made) waits c.self.invariant.ring).oldest in
+    let costs = turn_costs (shape_of i.sizes) i.head c.as_slice-numbers.result.now i.kept i.turned c.next_turn-turn.result
+    c.next_turn-turn.ensures.next oldest
+    ∙ step_costs c.args.self.now (shape_of i.sizes) i.head (lists_of i.waiting.items) i.turned i.kept i.under_way.items i.made i.dead
+    c.as_slice-numbers.result.now (lists_of (drop 1 i.waiting.items)) c.self.view_is waits in
+    let few = turn_refused c.next_turn-turn.result _ _ _ costs c.make.ensures.counts.calls in
+    let made = on_ok_here c.make.result (sym c.is_err.ensures.value ∙ c.if-is_err.false) c.make.ensures.counts.exact in
+    record {
+      calls = record { two = few.0; most = few.1; exact = omega (arith, made, costs) };
+      failures = search rules;
+      size = search rules;
+      follows = search rules;
+    }
+
+pub returns-clause-passes : goal.returns-clause-passes
+returns-clause-passes g c =
+    let i = c.self.inside in
+    let some : 0 < length i.waiting.items = search rules in
+    let waits = waits_is i.waiting.items c.in-Some.oldest.now c.as_slice-numbers.result.now some c.in-Some.ensures.lookup
+    c.as_slice-numbers.ensures.value in
+    let oldest : i.turned < turns_home i.sizes.format (length c.as_slice-numbers.result.now) + 2 =
+    (subst (λ (l : List (List ℕ)). IsRing (shape_of i.sizes) l i.turned i.under_way.items i.made) waits c.self.invariant.ring).oldest in
+    let costs = turn_costs (shape_of i.sizes) i.head c.as_slice-numbers.result.now i.kept i.turned c.next_turn-turn.result
+    c.next_turn-turn.ensures.next oldest
+    ∙ step_costs c.args.self.now (shape_of i.sizes) i.head (lists_of i.waiting.items) i.turned i.kept i.under_way.items i.made i.dead
+    c.as_slice-numbers.result.now (lists_of (drop 1 i.waiting.items)) c.self.view_is waits in
+    let few = turn_refused c.next_turn-turn.result _ _ _ costs c.make.ensures.counts.calls in
+    let made = on_ok_here c.make.result (sym c.is_err.ensures.value ∙ c.if-is_err.false) c.make.ensures.counts.exact in
+    record {
+      calls = record { two = few.0; most = few.1; exact = omega (arith, made, costs) };
+      failures = search rules;
+      size = search rules;
+      follows = search rules;
+    }
