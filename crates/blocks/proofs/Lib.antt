@@ -8,6 +8,7 @@ pub mod Starting
 pub mod Reading
 pub mod Settling
 pub mod Room
+pub mod Costing
 pub mod Writing
 pub mod Counting
 pub mod Limits

@@ -5,7 +5,7 @@ use Rattle.medium.specs.Medium.{State}
 use Rattle.medium.specs.Moments.{IsUnchanged}
 use Rattle.log_layout.specs.Places.{Shape, sectors_of}
 use Rattle.log_layout.specs.declared.super_sector.Super.{Super}
-use Rattle.redo_log.specs.Value.{LogValue, IsRetireStepped, behind_oldest, died, most_steps, most_retire_steps}
+use Rattle.redo_log.specs.Value.{LogValue, IsRetireStepped, behind_oldest, died, most_steps, most_retire_steps, next_calls}
 use Rattle.blocks.specs.Background.{IsRetiring}
 use Rattle.blocks.specs.Kept.{IsBatchOf, IsKept}
 use Rattle.blocks.specs.StoreValue.{Cached}
@@ -102,13 +102,15 @@ died_kept before after sizes s log' writing same is k =
 
 -- a step that was made is one of retiring
 pub is_retiring : (before after : State) (s : Cached) (log' : LogValue) → (s.log.waiting ≡ [] → (log' ≡ s.log) × IsUnchanged before after)
-    → after.calls ≤ before.calls + 2 → s.log.dead ≡ false → after.failures ≡ before.failures
+    → after.calls ≤ before.calls + 2 → after.calls ≡ before.calls + next_calls s.log → s.log.dead ≡ false
+    → after.failures ≡ before.failures
     → (0 < length s.log.waiting → IsRetireStepped s.log log') → IsRetiring before after s (record s { log = log' })
-is_retiring before after s log' none two live failures some =
+is_retiring before after s log' none two counted live failures some =
     let kept = retained s.log log' (λ e. (none e).0) some in
     record {
       none_waits = λ e. (ap (λ (l : LogValue). record s { log = l }) (none e).0, (none e).1);
       two_calls = two;
+      counted = λ alive. counted;
       active = refl;
       frozen = refl;
       live = λ waits alive. (failures, some waits);
@@ -122,6 +124,7 @@ pub is_dying : (before after : State) (s : Cached) (log' : LogValue) → (s.log.
 is_dying before after s log' none two failures is = record {
   none_waits = λ e. (ap (λ (l : LogValue). record s { log = l }) (none e).0, (none e).1);
   two_calls = two;
+  counted = λ alive. absurd (false≢true (sym alive ∙ ap (λ (l : LogValue). l.dead) is));
   active = refl;
   frozen = refl;
   live = λ waits alive. absurd (false≢true (sym alive ∙ ap (λ (l : LogValue). l.dead) is));

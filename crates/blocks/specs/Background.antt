@@ -5,6 +5,7 @@ use Rattle.medium.specs.Medium.{State}
 use Rattle.medium.specs.Moments.{IsUnchanged}
 use Rattle.cache.specs.Entries.{Entries}
 use Rattle.redo_log.specs.Value.{HasRoom, begun, died, IsStepped, IsRetireStepped}
+use Rattle.redo_log.specs.Value.{next_calls}
 use Rattle.redo_log.specs.declared.progress.Progress.{Progress}
 use Rattle.redo_log.specs.declared.progress.Progress.TheVariants.{More, Durable}
 use Rattle.blocks.specs.declared.fault.StoreFault.{StoreFault}
@@ -73,11 +74,12 @@ pub record IsBeginning (before after : State) (old new : Cached) : Type 0 where
       → (old.log.next < 2 ^ 63 - 1) × (new.log ≡ begun new.frozen.numbers old.log)
   pub dies : is_dead new ≡ true → (old.log.next ≡ 2 ^ 63 - 1) × (new.log ≡ died old.log)
 
--- The oldest record is retired by exactly one step, which is at most two calls, and both batches
--- stay. Where no record waits nothing happens.
+-- The oldest record is retired by exactly one step, which makes that step's calls and never more than
+-- two, and both batches stay. Where no record waits nothing happens.
 pub record IsRetiring (before after : State) (old new : Cached) : Type 0 where
   pub none_waits : old.log.waiting ≡ [] → (new ≡ old) × IsUnchanged before after
   pub two_calls : after.calls ≤ before.calls + 2
+  pub counted : is_dead new ≡ false → after.calls ≡ before.calls + next_calls old.log
   pub active : new.active ≡ old.active
   pub frozen : new.frozen ≡ old.frozen
   pub live : 0 < length old.log.waiting → is_dead new ≡ false

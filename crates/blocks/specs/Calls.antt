@@ -1,11 +1,11 @@
 -- How many calls of the medium a read of a store makes, and what a write does to the batches.
-use Rattle.std.specs.Prelude.{◌≡◌, ℕ, ◌+◌, zero, suc, Bool, true, false, List, [], ◌∷◌}
+use Rattle.std.specs.Prelude.{◌≡◌, ℕ, ◌+◌, ◌*◌, zero, suc, Bool, true, false, List, [], ◌∷◌}
 use Rattle.std.specs.Prelude.{◌≤◌, if◌then◌else◌, Result, OnOk}
 use Rattle.medium.specs.Medium.{State}
 use Rattle.cache.specs.Blocks.{is_listed}
 pub use Rattle.log_image.specs.Copies.{copy_reads_of}
 use Rattle.redo_log.specs.Value.{LogValue}
-use Rattle.blocks.specs.Retiring.{finished}
+use Rattle.blocks.specs.Retiring.{finished, finish_calls}
 use Rattle.blocks.specs.StoreValue.{Cached, layout_of, FitsBeside, TakesRange, transfer_limit}
 use Rattle.blocks.specs.StoreValue.{active_of, batch_steps, steps_left}
 
@@ -50,6 +50,16 @@ pub record TurnsBatches (old new : Cached) (address count : ℕ) : Type 0 where
       → (new.frozen ≡ old.frozen) × (new.log ≡ old.log)
   pub alone : ¬ FitsBeside (transfer_limit old) old.active.numbers address count
       → (new.frozen ≡ old.active) × (new.log ≡ finished old.frozen.numbers old.log)
+
+-- What a good write of so many blocks from this address on costs. One batch more is to become a
+-- record. Where the range does not fit beside the active batch, it makes the calls that make the
+-- frozen one durable, and no other.
+pub record CostsWrite {A E : Type 0} (result : Result A E) (address count : ℕ) (before after : State)
+    (old new : Cached) : Type 0 where
+  pub paid : OnOk result (after.calls + 2 * steps_left new
+      ≤ before.calls + 2 * steps_left old + 2 * batch_steps old)
+  pub alone : ¬ FitsBeside (transfer_limit old) (active_of old) address count
+      → OnOk result (after.calls ≡ before.calls + finish_calls old.frozen.numbers old.log)
 
 -- where a write of so many blocks from this address on is good: the batch that takes it, and the
 -- batches before that

@@ -1,11 +1,14 @@
 -- What is durable after a call of a store that writes its batches out, and which records it retires
 -- for that.
 use Rattle.std.specs.Prelude.{◌≡◌, ◌+◌, ◌≤◌, ◌<◌, [], length, Result, OnOk}
+use Rattle.medium.specs.Medium.{State}
 use Rattle.redo_log.specs.Value.{HasRoom}
 use Rattle.blocks.specs.declared.fault.StoreFault.{StoreFault}
-use Rattle.blocks.specs.StoreValue.{Cached, StoreValue, active_of, unwritten, steps_left}
+use Rattle.blocks.specs.StoreValue.{Cached, StoreValue, active_of, unwritten, wants}
+use Rattle.blocks.specs.StoreValue.{steps_left}
 use Rattle.blocks.specs.Passing.{MayEmpty}
 use Rattle.blocks.specs.Retiring.{RetiresForRoom, finished, with_room, written_out}
+use Rattle.blocks.specs.Retiring.{HasSlots, to_begin, record_calls, calls_from, both_calls}
 
 -- what a call of a store answers that gives nothing
 abbrev pub Answer : Type 0
@@ -41,6 +44,16 @@ pub record FinishesFrozen {M : Type 0} (result : Answer) (old new : StoreValue M
       (new.cached.log ≡ finished old.cached.frozen.numbers old.cached.log)
   pub retires : RetiresForRoom old.cached.log new.cached.log
   pub active : new.cached.active ≡ old.cached.active
+
+-- How many calls a good sync makes: those that make one batch durable, and then the other, and no
+-- other. Where a slot is free for each record that is to be begun, they are those that write the
+-- records.
+pub record CostsSync (result : Answer) (before after : State) (old : Cached) : Type 0 where
+  pub exactly : OnOk result (after.calls
+      ≡ before.calls + both_calls old.frozen.numbers old.active.numbers old.log)
+  pub roomy : HasSlots (to_begin old.frozen.numbers old.log + wants old.active.numbers) old.log
+      → OnOk result (after.calls ≡ before.calls + record_calls old.frozen.numbers old.log
+      + calls_from 0 old.log.shape.format old.active.numbers)
 
 -- what both batches and the log become where each accepted write is made durable
 pub record FinishesBoth {M : Type 0} (result : Answer) (old new : StoreValue M) : Type 0 where

@@ -16,6 +16,9 @@ pub record PassesOn {M : Type 0} (state : M → State) (Follows : M → M → Ty
     : Type 0 where
   pub turn : Turn (state old.medium) (state new.medium) old.cached new.cached
   pub calls : (state new.medium).calls ≤ (state old.medium).calls + most
+  -- a refused call makes the store dead
+  pub none_refused : is_dead new.cached ≡ false
+      → (state new.medium).failures ≡ (state old.medium).failures
   pub follows : Follows old.medium new.medium
 
 -- A call makes a turn, and no more calls of the medium than the background steps that it takes off
@@ -24,6 +27,9 @@ pub record PassesPaid {M : Type 0} (state : M → State) (Follows : M → M → 
     (old new : StoreValue M) : Type 0 where
   pub turn : IsTurn (state old.medium) (state new.medium) old.cached new.cached
   pub paid : IsPaid (state old.medium) (state new.medium) old.cached new.cached
+  -- a refused call makes the store dead
+  pub none_refused : is_dead new.cached ≡ false
+      → (state new.medium).failures ≡ (state old.medium).failures
   pub follows : Follows old.medium new.medium
 
 -- a call makes a turn of this kind, and leaves the medium as it is

@@ -5,6 +5,7 @@ use Rattle.std.specs.Prelude.{replicate, nat_lt}
 use Rattle.std.specs.Prelude.{if◌then◌else◌}
 use Rattle.log_layout.specs.declared.log_format.LogFormat.{LogFormat}
 use Rattle.redo_log.specs.Value.{LogValue, HasRoom, begun, steps_of, behind_oldest}
+use Rattle.redo_log.specs.Value.{of_oldest, home_of_oldest, turns_calls}
 use Rattle.blocks.specs.StoreValue.{wants, waiting}
 
 -- Room is made for one record: none is retired where the log has room, and else one at most.
@@ -55,6 +56,27 @@ calls_from zero format (n ∷ numbers) = steps_of format (n ∷ numbers)
 -- those that are left of the record under way, or those of its own record, and no other.
 abbrev pub record_calls : List ℕ → LogValue → ℕ
 record_calls numbers log = calls_from log.steps_left log.shape.format numbers
+
+-- how many calls make room for one more record: none where a slot is free, and else those of all the
+-- steps that retire the oldest
+abbrev pub room_calls : LogValue → ℕ
+room_calls log = if nat_lt (log.next - log.head) log.shape.slots then 0
+    else turns_calls log.shape.format (home_of_oldest log) (of_oldest log)
+
+-- so many calls make a batch durable, of whose record so many are left: those, or those for room and
+-- for its own record
+abbrev pub finish_from : ℕ → List ℕ → LogValue → ℕ
+finish_from (suc steps) numbers log = suc steps
+finish_from zero [] log = 0
+finish_from zero (n ∷ numbers) log = room_calls log + steps_of log.shape.format (n ∷ numbers)
+
+-- how many calls it takes to make the batch of these blocks durable, whether or not a slot is free
+abbrev pub finish_calls : List ℕ → LogValue → ℕ
+finish_calls numbers log = finish_from log.steps_left numbers log
+
+-- how many for this batch, and then for another one
+abbrev pub both_calls : List ℕ → List ℕ → LogValue → ℕ
+both_calls frozen active log = finish_calls frozen log + finish_calls active (finished frozen log)
 
 -- how many records are to be begun of a batch: none where that is under way, or empty
 abbrev pub to_begin : List ℕ → LogValue → ℕ

@@ -1,10 +1,10 @@
 //! How accepted writes are made durable.
 ghost use Rattle.std.specs.Prelude.{◌≡◌, ◌<◌, ◌+◌, false, OnOk};
 ghost use Rattle.blocks.specs.Book.{Book, promised};
-ghost use Rattle.blocks.specs.StoreValue.{is_dead, wants, FitsBook};
+ghost use Rattle.blocks.specs.StoreValue.{is_dead, FitsBook};
 ghost use Rattle.blocks.specs.Passing.{PassesPaid, TellsLife, Answers};
-ghost use Rattle.blocks.specs.Finishing.{WritesOut, MakesRoom, FinishesFrozen, FinishesBoth};
-ghost use Rattle.blocks.specs.Retiring.{calls_from, record_calls, to_begin, HasSlots};
+ghost use Rattle.blocks.specs.Finishing.{WritesOut, MakesRoom, FinishesFrozen, FinishesBoth, CostsSync};
+ghost use Rattle.blocks.specs.Retiring.{record_calls, room_calls, finish_calls, to_begin, HasSlots};
 
 use crate::{Store, StoreFault};
 use medium::Medium;
@@ -23,13 +23,9 @@ impl<M: Medium> Store<M> {
             → OnOk result (FitsBook (M.state self.new.medium) self.new.cached (promised book)) }
         ensures answers { Answers result self.old self.new }
         ensures batches { FinishesBoth result self.old self.new }
-        // Where a slot is free for each record that is to be begun, it makes the calls that write
-        // the records, and no other.
-        ensures exactly { HasSlots (to_begin self.old.cached.frozen.numbers self.old.cached.log
-            + wants self.old.cached.active.numbers) self.old.cached.log
-            → OnOk result ((M.state self.new.medium).calls ≡ (M.state self.old.medium).calls
-            + record_calls self.old.cached.frozen.numbers self.old.cached.log
-            + calls_from 0 self.old.cached.log.shape.format self.old.cached.active.numbers) }
+        // It makes the calls that write the records and that retire for their room, and no other.
+        ensures cost { CostsSync result (M.state self.old.medium) (M.state self.new.medium)
+            self.old.cached }
     {
         self.finish()?;
         self.freeze();
@@ -45,6 +41,9 @@ impl<M: Medium> Store<M> {
             self.old.cached.log
             → OnOk result ((M.state self.new.medium).calls ≡ (M.state self.old.medium).calls
             + record_calls self.old.cached.frozen.numbers self.old.cached.log) }
+        ensures cost { OnOk result ((M.state self.new.medium).calls
+            ≡ (M.state self.old.medium).calls
+            + finish_calls self.old.cached.frozen.numbers self.old.cached.log) }
     {
         if self.is_dead() {
             return Err(StoreFault::Dead);
@@ -81,6 +80,8 @@ impl<M: Medium> Store<M> {
         ensures passes { PassesPaid M.state M.follows self.old self.new }
         ensures answer { TellsLife result self.new.cached }
         ensures room { MakesRoom result self.old self.new }
+        ensures cost { OnOk result ((M.state self.new.medium).calls
+            ≡ (M.state self.old.medium).calls + room_calls self.old.cached.log) }
     {
         while !self.log.has_room() {
             self.retire()?;

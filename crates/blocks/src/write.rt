@@ -3,10 +3,10 @@ ghost use Rattle.std.specs.Prelude.{◌≡◌, ◌≤◌, ◌+◌, ◌*◌, ◌/
 ghost use Rattle.std.specs.Prelude.{OnOk, IsOk, is_ok};
 ghost use Rattle.blocks.specs.Book.{IsTransfer, write_of};
 ghost use Rattle.blocks.specs.StoreValue.{blocks_of, transfer_limit, is_dead, active_of};
-ghost use Rattle.blocks.specs.StoreValue.{batch_steps, steps_left, FitsBeside};
+ghost use Rattle.blocks.specs.StoreValue.{steps_left, FitsBeside};
 ghost use Rattle.blocks.specs.Turns.{IsWriteTurn};
 ghost use Rattle.blocks.specs.Passing.{PassesOn, KeepsMedium, Answers};
-ghost use Rattle.blocks.specs.Calls.{WritesRange, AppendsRange};
+ghost use Rattle.blocks.specs.Calls.{WritesRange, AppendsRange, CostsWrite};
 
 use crate::{Store, StoreFault};
 use cache::BLOCK;
@@ -35,10 +35,9 @@ impl<M: Medium> Store<M> {
             address (length bytes.now / 512)
             → (self.new.medium ≡ self.old.medium)
             × (is_dead self.old.cached ≡ false → IsOk result) }
-        // One batch more is to become a record.
-        ensures paid { OnOk result ((M.state self.new.medium).calls + 2 * steps_left self.new.cached
-            ≤ (M.state self.old.medium).calls + 2 * steps_left self.old.cached
-            + 2 * batch_steps self.old.cached) }
+        // One that does not fit makes the calls for the batch before it, and no other.
+        ensures cost { CostsWrite result address (length bytes.now / 512)
+            (M.state self.old.medium) (M.state self.new.medium) self.old.cached self.new.cached }
     {
         if self.is_dead() {
             return Err(StoreFault::Dead);

@@ -2,11 +2,13 @@ use Rattle.std.proofs.Common.{◌≡◌, ◌<◌, ◌∙◌, ℕ, [], List, leng
 use Rattle.std.proofs.lemmas.Bool.{false≢true}
 use Rattle.std.proofs.lemmas.Result.{on_ok_weaker}
 use Rattle.cache.specs.Entries.{Entries}
-use Rattle.redo_log.specs.Value.{LogValue, HasRoom, begun}
+use Rattle.redo_log.specs.Value.{LogValue, HasRoom, begun, steps_of}
+use Rattle.log_layout.specs.Places.{Shape}
 use Rattle.blocks.specs.Retiring.{written_out}
 use Rattle.blocks.proofs.Room.{some_listed, finishes_under_way, finishes_none, finishes_begun}
 use Rattle.blocks.specs.StoreValue.{is_dead}
 use Rattle.blocks.proofs.Writing.{calls_under_way, calls_none, calls_begun, slot_free, with_room_is}
+use Rattle.blocks.proofs.Costing.{finish_under_way, finish_none, finish_begun}
 use Rattle.blocks.proofs.Turning.{turns, stays}
 use Rattle.blocks.proofs.store.Store.finish.Goals as goal
 
@@ -14,6 +16,7 @@ pub returns-then-is_dead-clause-passes : goal.returns-then-is_dead-clause-passes
 returns-then-is_dead-clause-passes g c = record {
   turn = stays _ _ (g.met.M.Medium.sound c.args.self.now.medium);
   paid = search rules;
+  none_refused = search rules;
   follows = search rules;
 }
 
@@ -40,6 +43,7 @@ pub returns-then-is_empty-clause-passes : goal.returns-then-is_empty-clause-pass
 returns-then-is_empty-clause-passes g c = record {
   turn = stays _ _ (g.met.M.Medium.sound c.args.self.now.medium);
   paid = search rules;
+  none_refused = search rules;
   follows = search rules;
 }
 
@@ -49,6 +53,7 @@ returns-clause-passes g c = record {
       let written = turns _ _ _ _ _ _ c.begin.ensures.keeps.turn c.write_out-2.ensures.passes.turn in
       turns _ _ _ _ _ _ c.make_room.ensures.passes.turn written;
   paid = search rules;
+  none_refused = search rules;
   follows = search rules;
 }
 
@@ -94,6 +99,7 @@ pub returns-in_err-begin-clause-passes : goal.returns-in_err-begin-clause-passes
 returns-in_err-begin-clause-passes g c = record {
   turn = turns _ _ _ _ _ _ c.make_room.ensures.passes.turn c.begin.ensures.keeps.turn;
   paid = search rules;
+  none_refused = search rules;
   follows = search rules;
 }
 
@@ -138,3 +144,53 @@ returns-clause-exactly g c slots =
     let calls = calls_begun old.log.steps_left old.log.shape.format old.frozen.numbers idle some in
     let quiet = ap (λ m. (g.M.Medium.state m).calls) (c.begin.ensures.keeps.medium ∙ c.make_room.ensures.room.quiet room) in
     on_ok_weaker c.write_out-2.result (λ all. omega (arith, all, steps, calls, quiet)) c.write_out-2.ensures.exactly
+
+pub returns-then-self-clause-cost : goal.returns-then-self-clause-cost
+returns-then-self-clause-cost g c =
+    let old = c.args.self.now.cached in
+    let live : is_dead old ≡ false = sym c.is_dead.ensures ∙ c.if-is_dead.false in
+    let log_is : c.self.inside.log ≡ old.log = ap (λ v. v.cached.log) c.self.view_is in
+    let some =
+    subst (λ (log : LogValue). 0 < log.steps_left) log_is (c.self.invariant.writes (rw (← c.self.view_is) at live) c.if-self.true) in
+    let calls = finish_under_way old.frozen.numbers old.log some in
+    on_ok_weaker c.write_out.result (λ all. omega (arith, all, calls)) c.write_out.ensures.exactly
+
+pub returns-then-is_empty-clause-cost : goal.returns-then-is_empty-clause-cost
+returns-then-is_empty-clause-cost g c =
+    let live : is_dead c.args.self.now.cached ≡ false = sym c.is_dead.ensures ∙ c.if-is_dead.false in
+    let none = finish_none c.self.inside.frozen.numbers c.self.inside.log
+    (c.self.invariant.rests (rw (← c.self.view_is) at live) c.if-self.false) (c.is_empty.ensures.0 c.if-is_empty.true) in
+    rw (← c.self.view_is) (omega (arith, none))
+
+pub returns-clause-cost : goal.returns-clause-cost
+returns-clause-cost g c =
+    let old = c.args.self.now.cached in
+    let mid = c.make_room.new.self.cached in
+    let live : is_dead old ≡ false = sym c.is_dead.ensures ∙ c.if-is_dead.false in
+    let log_is : c.self.inside.log ≡ old.log = ap (λ v. v.cached.log) c.self.view_is in
+    let frozen_is : c.self.inside.frozen ≡ old.frozen = ap (λ v. v.cached.frozen) c.self.view_is in
+    let idle : old.log.steps_left ≡ 0 =
+    subst (λ (log : LogValue). log.steps_left ≡ 0) log_is (c.self.invariant.rests (rw (← c.self.view_is) at live) c.if-self.false) in
+    let some : 0 < length old.frozen.numbers = subst (λ (batch : Entries). 0 < length batch.numbers) frozen_is
+    (some_listed c.self.inside.frozen.numbers (λ none. false≢true (sym c.if-is_empty.false ∙ c.is_empty.ensures.1 none))) in
+    let begun_is = (c.begin.ensures.begins.live c.in_ok-begin.ensures.answer).1
+    ∙ ap (λ (batch : Entries). begun batch.numbers mid.log) c.make_room.ensures.room.frozen in
+    let steps = ap (λ (log : LogValue). log.steps_left) begun_is
+    ∙ ap (λ (shape : Shape). steps_of shape.format old.frozen.numbers) c.make_room.ensures.passes.turn.goes_on.layout_stays in
+    let calls = finish_begun old.frozen.numbers old.log idle some in
+    let quiet = ap (λ m. (g.M.Medium.state m).calls) c.begin.ensures.keeps.medium in
+    let room = c.in_ok-make_room.ensures.cost in
+    on_ok_weaker c.write_out-2.result (λ all. omega (arith, all, steps, calls, quiet, room)) c.write_out-2.ensures.exactly
+
+pub returns-in_err-begin-clause-batch : goal.returns-in_err-begin-clause-batch
+returns-in_err-begin-clause-batch g c = record {
+  done = search rules;
+  rests = search rules;
+  waits = search rules;
+  finishes = search rules;
+  retires =
+      let head = c.begin.ensures.begins.head in
+      let before = c.make_room.ensures.room.retires in
+      record { one = omega (arith, head, before.one); roomy = λ room. head ∙ before.roomy room };
+  active = search rules;
+}

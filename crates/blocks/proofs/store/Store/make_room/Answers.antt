@@ -1,9 +1,10 @@
 use Rattle.std.proofs.Common.{◌≡◌, ◌≤◌, refl, ◌∙◌, ap, sym, subst, inl, arith, false, rules}
 use Rattle.std.proofs.lemmas.Bool.{false≢true}
 use Rattle.log_layout.specs.Places.{Shape}
-use Rattle.redo_log.specs.Value.{LogValue, HasRoom}
+use Rattle.redo_log.specs.Value.{LogValue, HasRoom, next_calls}
 use Rattle.blocks.specs.StoreValue.{Cached}
 use Rattle.blocks.proofs.Room.{one_at_most, most_one, retires_more, room_is_made}
+use Rattle.blocks.proofs.Costing.{CostsOldest, costs_more, costs_room}
 use Rattle.blocks.proofs.Turning.{turns, stays}
 use Rattle.blocks.proofs.Paying.{pays, pays_both, pays_step, must_retire}
 use Rattle.blocks.proofs.store.Store.make_room.Goals as goal
@@ -17,6 +18,8 @@ loop-self-init g c = record {
   quiet = λ room. refl;
   one = inl refl;
   retires = inl refl;
+  costs = inl (refl, refl);
+  none_refused = refl;
   idle = c.requires.idle;
   active = refl;
   frozen = refl;
@@ -51,6 +54,18 @@ loop-self-preserved g c =
       retires = retires_more c.args.self.now.cached.log c.self.inside.log c.retire.new.self.cached.log full under_way idle
           (rw (← c.self.view_is) at stepped) (rw (← c.self.view_is) at c.loop-self.invariant.one)
           (rw (← c.self.view_is) at c.loop-self.invariant.retires);
+      costs =
+          let counted = c.retire.ensures.retiring.counted c.in_ok-retire.ensures.answer in
+          let next = ap (λ (l : LogValue). next_calls l) log_is in
+          costs_more c.args.self.now.cached.log c.self.inside.log c.retire.new.self.cached.log
+          (g.M.Medium.state c.args.self.now.medium).calls (g.M.Medium.state c.loop-self.self.medium).calls
+          (g.M.Medium.state c.retire.new.self.medium).calls full under_way idle (rw (← c.self.view_is) at stepped)
+          (rw (← c.self.view_is) at c.loop-self.invariant.one) (omega (arith, counted, next))
+          (subst (λ (l : LogValue). CostsOldest c.args.self.now.cached.log l (g.M.Medium.state c.args.self.now.medium).calls
+          (g.M.Medium.state c.loop-self.self.medium).calls) (sym log_is) c.loop-self.invariant.costs);
+      none_refused =
+          let none = c.retire.ensures.passes.none_refused c.in_ok-retire.ensures.answer in
+          omega (arith, none, c.loop-self.invariant.none_refused);
       turn = turns _ _ _ _ _ _ c.loop-self.invariant.turn c.retire.ensures.passes.turn;
       paid = pays_both _ _ _ _ _ _ c.loop-self.invariant.paid c.loop-self.invariant.live
           (pays_step (g.M.Medium.state c.loop-self.self.medium) (g.M.Medium.state c.retire.new.self.medium) c.loop-self.self.cached
@@ -66,7 +81,15 @@ loop-self-preserved g c =
 pub returns-in_err-retire-clause-passes : goal.returns-in_err-retire-clause-passes
 returns-in_err-retire-clause-passes g c = record {
   turn = turns _ _ _ _ _ _ c.loop-self.invariant.turn c.retire.ensures.passes.turn;
-  paid = search rules;
+  paid =
+      let refused : c.has_room.result ≡ false = c.loop-self-test.true in
+      let left = must_retire (record { log = c.self.inside.log; active = c.self.inside.active; frozen = c.self.inside.frozen })
+      c.has_room.result refused c.has_room.ensures.full c.has_room.ensures.always (rw (← c.self.view_is) at c.loop-self.invariant.idle) in
+      pays_both _ _ _ _ _ _ c.loop-self.invariant.paid c.loop-self.invariant.live
+      (pays_step (g.M.Medium.state c.loop-self.self.medium) (g.M.Medium.state c.retire.new.self.medium) c.loop-self.self.cached
+      c.retire.new.self.cached (rw (← c.self.view_is) left.1) c.retire.ensures.passes.calls
+      (c.retire.ensures.counts.falls (rw (← c.self.view_is) left.0)));
+  none_refused = search rules;
   follows = search rules;
 }
 
@@ -107,3 +130,12 @@ returns-clause-room g c = record {
   active = search rules;
   frozen = search rules;
 }
+
+pub returns-clause-cost : goal.returns-clause-cost
+returns-clause-cost g c =
+    let log_is = ap (λ v. v.cached.log) c.self.view_is in
+    let room : HasRoom c.loop-self.self.cached.log =
+    subst (λ (log : LogValue). HasRoom log) log_is (c.has_room.ensures.room.0 c.loop-self-test.false) in
+    costs_room c.args.self.now.cached.log c.loop-self.self.cached.log (g.M.Medium.state c.args.self.now.medium).calls
+    (g.M.Medium.state c.loop-self.self.medium).calls c.loop-self.invariant.stays
+    (λ had. ap (λ m. (g.M.Medium.state m).calls) (c.loop-self.invariant.quiet had)) room c.loop-self.invariant.costs

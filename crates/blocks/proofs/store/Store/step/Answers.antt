@@ -14,6 +14,7 @@ returns-in-Ok-More-clause-passes g c = record {
       (rw (c.numbers-numbers.ensures.value, c.bytes.ensures.value) (f.under_way (rw (← c.self.view_is) at c.requires.under_way)))))
       called.leaves.cuts called.leaves.spares);
   calls = search rules;
+  none_refused = search rules;
   follows = search rules;
 }
 
@@ -30,6 +31,7 @@ returns-in-Ok-Durable-clause-passes g c = record {
       (rw (c.numbers-numbers.ensures.value, c.bytes.ensures.value) (f.under_way (rw (← c.self.view_is) at c.requires.under_way)))))
       called.leaves.cuts called.leaves.spares);
   calls = search rules;
+  none_refused = search rules;
   follows = search rules;
 }
 
@@ -44,5 +46,6 @@ returns-in-Err-clause-passes g c = record {
       (rw (c.numbers-numbers.ensures.value, c.bytes.ensures.value) (f.under_way (rw (← c.self.view_is) at c.requires.under_way))))
       called.leaves.cuts called.leaves.spares);
   calls = search rules;
+  none_refused = search rules;
   follows = search rules;
 }

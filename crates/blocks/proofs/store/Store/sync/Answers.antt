@@ -3,7 +3,7 @@ use Rattle.std.proofs.lemmas.Result.{on_ok_weaker}
 use Rattle.cache.specs.Entries.{Entries}
 use Rattle.redo_log.specs.Value.{LogValue}
 use Rattle.log_layout.specs.Places.{Shape}
-use Rattle.blocks.specs.Retiring.{finished, calls_from, record_calls, to_begin, HasSlots}
+use Rattle.blocks.specs.Retiring.{finished, finish_calls, calls_from, record_calls, to_begin, HasSlots}
 use Rattle.blocks.specs.StoreValue.{Cached, wants}
 use Rattle.blocks.proofs.Writing.{waits_idle, slots_after}
 use Rattle.blocks.proofs.Fitting.{settles}
@@ -14,6 +14,7 @@ pub returns-clause-passes : goal.returns-clause-passes
 returns-clause-passes g c = record {
   turn = turns _ _ _ _ _ _ c.finish.ensures.passes.turn (turns _ _ _ _ _ _ c.freeze.ensures.keeps.turn c.finish-2.ensures.passes.turn);
   paid = search rules;
+  none_refused = search rules;
   follows = search rules;
 }
 
@@ -42,27 +43,43 @@ returns-clause-batches g c = record {
   retires = search rules;
 }
 
-pub returns-clause-exactly : goal.returns-clause-exactly
-returns-clause-exactly g c slots =
-    let old = c.args.self.now.cached in
-    let half = c.finish.new.self.cached in
-    let idle = c.in_ok-finish.ensures.batch.done.0 in
-    let first = c.in_ok-finish.ensures.batch.finishes in
-    let active = c.finish.ensures.batch.active in
-    let waits = waits_idle half.log.steps_left (wants old.active.numbers) idle in
-    let left : HasSlots (wants old.active.numbers) half.log =
-    subst (λ (log : LogValue). HasSlots (wants old.active.numbers) log) (sym first)
-    (slots_after old.frozen.numbers old.log (wants old.active.numbers) slots) in
-    let for_next : HasSlots (to_begin old.active.numbers half.log) half.log = omega (arith, left, waits) in
-    let of_half : HasSlots (to_begin half.active.numbers half.log) half.log =
-    subst (λ (batch : Entries). HasSlots (to_begin batch.numbers half.log) half.log) (sym active) for_next in
-    let of_swapped = subst (λ (cached : Cached). HasSlots (to_begin cached.frozen.numbers cached.log) cached.log)
-    (sym c.freeze.ensures.swapped) of_half in
-    let calls = ap (λ (cached : Cached). record_calls cached.frozen.numbers cached.log) c.freeze.ensures.swapped
-    ∙ ap (λ (batch : Entries). record_calls batch.numbers half.log) active
-    ∙ ap (λ (steps : ℕ). calls_from steps half.log.shape.format old.active.numbers) idle
-    ∙ ap (λ (shape : Shape). calls_from 0 shape.format old.active.numbers) c.finish.ensures.passes.turn.goes_on.layout_stays in
-    let quiet = ap (λ m. (g.M.Medium.state m).calls) c.freeze.ensures.keeps.medium in
-    let begin : HasSlots (to_begin old.frozen.numbers old.log) old.log = omega (arith, slots) in
-    let before = c.in_ok-finish.ensures.exactly begin in
-    on_ok_weaker c.finish-2.result (λ all. omega (arith, all, calls, quiet, before)) (c.finish-2.ensures.exactly of_swapped)
+pub returns-in_err-finish-clause-cost : goal.returns-in_err-finish-clause-cost
+returns-in_err-finish-clause-cost g c = record { exactly = search rules; roomy = λ slots. search rules }
+
+pub returns-clause-cost : goal.returns-clause-cost
+returns-clause-cost g c = record {
+  exactly =
+      let old = c.args.self.now.cached in
+      let half = c.finish.new.self.cached in
+      let first = c.in_ok-finish.ensures.batch.finishes in
+      let active = c.finish.ensures.batch.active in
+      let calls = ap (λ (cached : Cached). finish_calls cached.frozen.numbers cached.log) c.freeze.ensures.swapped
+      ∙ ap (λ (batch : Entries). finish_calls batch.numbers half.log) active
+      ∙ ap (λ (log : LogValue). finish_calls old.active.numbers log) first in
+      let quiet = ap (λ m. (g.M.Medium.state m).calls) c.freeze.ensures.keeps.medium in
+      let before = c.in_ok-finish.ensures.cost in
+      on_ok_weaker c.finish-2.result (λ all. omega (arith, all, calls, quiet, before)) c.finish-2.ensures.cost;
+  roomy = λ slots.
+      let old = c.args.self.now.cached in
+      let half = c.finish.new.self.cached in
+      let idle = c.in_ok-finish.ensures.batch.done.0 in
+      let first = c.in_ok-finish.ensures.batch.finishes in
+      let active = c.finish.ensures.batch.active in
+      let waits = waits_idle half.log.steps_left (wants old.active.numbers) idle in
+      let left : HasSlots (wants old.active.numbers) half.log =
+      subst (λ (log : LogValue). HasSlots (wants old.active.numbers) log) (sym first)
+      (slots_after old.frozen.numbers old.log (wants old.active.numbers) slots) in
+      let for_next : HasSlots (to_begin old.active.numbers half.log) half.log = omega (arith, left, waits) in
+      let of_half : HasSlots (to_begin half.active.numbers half.log) half.log =
+      subst (λ (batch : Entries). HasSlots (to_begin batch.numbers half.log) half.log) (sym active) for_next in
+      let of_swapped = subst (λ (cached : Cached). HasSlots (to_begin cached.frozen.numbers cached.log) cached.log)
+      (sym c.freeze.ensures.swapped) of_half in
+      let calls = ap (λ (cached : Cached). record_calls cached.frozen.numbers cached.log) c.freeze.ensures.swapped
+      ∙ ap (λ (batch : Entries). record_calls batch.numbers half.log) active
+      ∙ ap (λ (steps : ℕ). calls_from steps half.log.shape.format old.active.numbers) idle
+      ∙ ap (λ (shape : Shape). calls_from 0 shape.format old.active.numbers) c.finish.ensures.passes.turn.goes_on.layout_stays in
+      let quiet = ap (λ m. (g.M.Medium.state m).calls) c.freeze.ensures.keeps.medium in
+      let begin : HasSlots (to_begin old.frozen.numbers old.log) old.log = omega (arith, slots) in
+      let before = c.in_ok-finish.ensures.exactly begin in
+      on_ok_weaker c.finish-2.result (λ all. omega (arith, all, calls, quiet, before)) (c.finish-2.ensures.exactly of_swapped);
+}

@@ -10,6 +10,7 @@ pub returns-then-is_dead-clause-passes : goal.returns-then-is_dead-clause-passes
 returns-then-is_dead-clause-passes g c = record {
   turn = not_written _ _ _ _ _ (stays _ _ (g.met.M.Medium.sound c.args.self.now.medium));
   calls = search rules;
+  none_refused = search rules;
   follows = search rules;
 }
 
@@ -19,6 +20,7 @@ returns-in_err-finish-clause-passes g c = record {
       let refused = err_from_is_err_and c.from_residual.result c.from_residual.ensures.1 in
       rw refused.1 (not_written _ _ _ _ _ c.finish.ensures.passes.turn);
   calls = search rules;
+  none_refused = search rules;
   follows = search rules;
 }
 
@@ -36,5 +38,6 @@ returns-clause-passes g c = record {
       let frozen = turns _ _ _ _ _ _ c.finish.ensures.passes.turn c.freeze.ensures.keeps.turn in
       then_written _ _ _ _ _ _ _ frozen c.append-2.ensures.keeps.turn;
   calls = search rules;
+  none_refused = search rules;
   follows = search rules;
 }

@@ -14,6 +14,7 @@ loop-init g c = record {
   under_way = c.requires.under_way;
   so_far = refl;
   exactly = refl;
+  none_refused = refl;
   head = refl;
   active = refl;
   follows = g.met.M.Medium.follows_itself c.args.self.now.medium;
@@ -23,6 +24,7 @@ pub returns-in_err-step-clause-passes : goal.returns-in_err-step-clause-passes
 returns-in_err-step-clause-passes g c = record {
   turn = turns _ _ _ _ _ _ c.loop.invariant.turn c.step.ensures.passes.turn;
   paid = search rules;
+  none_refused = search rules;
   follows = search rules;
 }
 
@@ -42,6 +44,9 @@ loop-preserved g c = record {
       let gone = c.step.ensures.record_step.live c.in_ok-step.ensures.answer in
       let less = one_less gone.1 c.loop.self.cached.log c.step.new.self.cached.log gone.2.log in
       omega (arith, less, c.step.ensures.record_step.one_call, c.loop.invariant.exactly);
+  none_refused =
+      let none = c.step.ensures.passes.none_refused c.in_ok-step.ensures.answer in
+      omega (arith, none, c.loop.invariant.none_refused);
   head = c.step.ensures.writes.head ∙ c.loop.invariant.head;
   active = c.step.ensures.writes.active ∙ c.loop.invariant.active;
   follows = g.met.M.Medium.follows_through _ _ _ c.loop.invariant.follows c.step.ensures.passes.follows;
@@ -51,6 +56,7 @@ pub returns-clause-passes : goal.returns-clause-passes
 returns-clause-passes g c = record {
   turn = turns _ _ _ _ _ _ c.loop.invariant.turn c.step.ensures.passes.turn;
   paid = search rules;
+  none_refused = search rules;
   follows = search rules;
 }
 

@@ -12,6 +12,7 @@ invariant-loop g l = record {
   so_far : l.self.cached.log ≡ record l.fn.self.cached.log { steps_left = l.self.cached.log.steps_left };
   exactly : (g.M.Medium.state l.self.medium).calls + l.self.cached.log.steps_left
       ≡ (g.M.Medium.state l.fn.self.medium).calls + l.fn.self.cached.log.steps_left;
+  none_refused : (g.M.Medium.state l.self.medium).failures ≡ (g.M.Medium.state l.fn.self.medium).failures;
   head : l.self.cached.log.head ≡ l.fn.self.cached.log.head;
   active : l.self.cached.active ≡ l.fn.self.cached.active;
   follows : g.M.Medium.follows l.fn.self.medium l.self.medium;
