@@ -74,8 +74,8 @@ pub record IsBeginning (before after : State) (old new : Cached) : Type 0 where
       → (old.log.next < 2 ^ 63 - 1) × (new.log ≡ begun new.frozen.numbers old.log)
   pub dies : is_dead new ≡ true → (old.log.next ≡ 2 ^ 63 - 1) × (new.log ≡ died old.log)
 
--- The oldest record is retired by exactly one step, which makes that step's calls and never more than
--- two, and both batches stay. Where no record waits nothing happens.
+-- The oldest record is retired by exactly one step, which makes that step's calls and never more
+-- than two, and both batches stay. Where no record waits nothing happens.
 pub record IsRetiring (before after : State) (old new : Cached) : Type 0 where
   pub none_waits : old.log.waiting ≡ [] → (new ≡ old) × IsUnchanged before after
   pub two_calls : after.calls ≤ before.calls + 2

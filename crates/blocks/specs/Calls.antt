@@ -54,8 +54,8 @@ pub record TurnsBatches (old new : Cached) (address count : ℕ) : Type 0 where
 -- What a good write of so many blocks from this address on costs. One batch more is to become a
 -- record. Where the range does not fit beside the active batch, it makes the calls that make the
 -- frozen one durable, and no other.
-pub record CostsWrite {A E : Type 0} (result : Result A E) (address count : ℕ) (before after : State)
-    (old new : Cached) : Type 0 where
+pub record CostsWrite {A E : Type 0} (result : Result A E) (address count : ℕ)
+    (before after : State) (old new : Cached) : Type 0 where
   pub paid : OnOk result (after.calls + 2 * steps_left new
       ≤ before.calls + 2 * steps_left old + 2 * batch_steps old)
   pub alone : ¬ FitsBeside (transfer_limit old) (active_of old) address count

@@ -57,14 +57,14 @@ calls_from zero format (n ∷ numbers) = steps_of format (n ∷ numbers)
 abbrev pub record_calls : List ℕ → LogValue → ℕ
 record_calls numbers log = calls_from log.steps_left log.shape.format numbers
 
--- how many calls make room for one more record: none where a slot is free, and else those of all the
--- steps that retire the oldest
+-- how many calls make room for one more record: none where a slot is free, and else those of all
+-- the steps that retire the oldest
 abbrev pub room_calls : LogValue → ℕ
 room_calls log = if nat_lt (log.next - log.head) log.shape.slots then 0
     else turns_calls log.shape.format (home_of_oldest log) (of_oldest log)
 
--- so many calls make a batch durable, of whose record so many are left: those, or those for room and
--- for its own record
+-- so many calls make a batch durable, of whose record so many are left: those, or those for room
+-- and for its own record
 abbrev pub finish_from : ℕ → List ℕ → LogValue → ℕ
 finish_from (suc steps) numbers log = suc steps
 finish_from zero [] log = 0

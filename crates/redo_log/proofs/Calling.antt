@@ -55,7 +55,8 @@ home_turn Two shape stamp numbers kept turned turn is = ⊎_elim
 -- the next turn of a record makes as many calls as its step
 pub turn_costs : (shape : Shape) (stamp : ℕ) (numbers kept : List ℕ) (turned : ℕ) (turn : Turn)
     → IsNextTurn shape stamp numbers kept turned turn → turned < turns_home shape.format (length numbers) + 2
-    → calls_of turn ≡ turn_calls shape.format (turns_home shape.format (length numbers)) (turns_home shape.format (length numbers) + 2 - turned)
+    → calls_of turn
+    ≡ turn_calls shape.format (turns_home shape.format (length numbers)) (turns_home shape.format (length numbers) + 2 - turned)
 turn_costs shape stamp numbers kept turned turn next below =
     from (turns_home shape.format (length numbers)) (turns_home shape.format (length numbers) + 2 - turned) refl refl
   where
@@ -70,9 +71,11 @@ turn_costs shape stamp numbers kept turned turn next below =
 
 -- a log of which the oldest record has come so far makes as many by its next step
 pub step_costs : (log : LogValue) (shape : Shape) (head : ℕ) (waiting : List (List ℕ)) (turned : ℕ) (kept under_way : List ℕ)
-    (made : Option ℕ) (dead : Bool) (numbers : List ℕ) (newer : List (List ℕ)) → value_at shape head waiting turned kept under_way made dead ≡ log
+    (made : Option ℕ) (dead : Bool) (numbers : List ℕ) (newer : List (List ℕ))
+    → value_at shape head waiting turned kept under_way made dead ≡ log
     → waiting ≡ numbers ∷ newer
-    → turn_calls shape.format (turns_home shape.format (length numbers)) (turns_home shape.format (length numbers) + 2 - turned) ≡ next_calls log
+    → turn_calls shape.format (turns_home shape.format (length numbers)) (turns_home shape.format (length numbers) + 2 - turned)
+    ≡ next_calls log
 step_costs log shape head waiting turned kept under_way made dead numbers newer shown waits =
     ap (λ (n : ℕ). turn_calls shape.format (turns_home shape.format (length numbers)) n) (omega arith)
     ∙ ap (λ (l : List (List ℕ)). next_calls (value_at shape head l turned kept under_way made dead)) (sym waits)

@@ -93,8 +93,8 @@ pub record WritesOnly (place : ℕ) (bytes : List ℕ) (old new : State) : Type 
   pub moments : StaysWithin (gaining place bytes old.may_leave) old new
   pub sets : Gains place bytes old.may_leave new.may_leave
 
--- Calls of a medium, so many where they are good and else no more: none is refused but the last one,
--- which they answer.
+-- Calls of a medium, so many where they are good and else no more: none is refused but the last
+-- one, which they answer.
 pub record CallsUpTo {X E : Type 0} (count : ℕ) (result : Result X E) (old new : State)
     : Type 0 where
   pub calls : new.calls ≤ old.calls + count

@@ -26,8 +26,8 @@ pub record PassesStep {M X : Type 0} (state : M → State) (Follows : M → M �
   pub size : (state new).size ≡ (state old).size
   pub follows : Follows old new
 
--- A retire step makes so many calls where it is good, and no more where it is refused. They are never
--- more than two.
+-- A retire step makes so many calls where it is good, and no more where it is refused. They are
+-- never more than two.
 pub record CountsStep {X E : Type 0} (count : ℕ) (result : Result X E) (old new : State)
     : Type 0 where
   pub two : new.calls ≤ old.calls + 2

@@ -127,7 +127,8 @@ turn_calls format home (suc (suc (suc left))) = home_calls format (home - suc le
 -- how many calls all the steps make that are left of it
 abbrev pub turns_calls : LogFormat → ℕ → ℕ → ℕ
 turns_calls format home zero = 0
-turns_calls format home (suc left) = turn_calls format home (suc left) + turns_calls format home left
+turns_calls format home (suc left) =
+    turn_calls format home (suc left) + turns_calls format home left
 
 -- after how many turns the oldest durable record is home
 abbrev pub home_of_oldest : LogValue → ℕ
