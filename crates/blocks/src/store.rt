@@ -1,5 +1,6 @@
 //! What a store is made of.
-ghost use Rattle.std.specs.Prelude.{◌≡◌, ◌↔◌, ◌<◌, ◌≤◌, ℕ, true, false, IsTrue};
+ghost use Rattle.std.specs.Prelude.{◌≡◌, ◌↔◌, ◌<◌, ◌≤◌, ◌/◌, ℕ, true, false, length, IsTrue};
+ghost use Rattle.inlet.specs.Inlet.{AreHeld};
 ghost use Rattle.medium.specs.Moments.{EachCut};
 ghost use Rattle.blocks.specs.Book.{Book};
 ghost use Rattle.blocks.specs.Finding.{MayFind};
@@ -9,6 +10,7 @@ ghost use Rattle.blocks.specs.Settled.{IsSettled};
 ghost use Rattle.blocks.specs.Passing.{IsUntouched};
 
 use cache::{Batch, Frozen};
+use inlet::Inlet;
 use log_layout::Super;
 use medium::{Medium, Outlet, Switch};
 use redo_log::Log;
@@ -136,5 +138,17 @@ impl<M: Outlet> Store<M> {
         ensures untouched { IsUntouched M.state self.old self.new }
     {
         self.medium.give();
+    }
+}
+
+impl<M: Inlet> Store<M> {
+    /// Shows sectors to the medium as its device holds them.
+    pub fn show(&mut self, first: u64, bytes: &[u8]) -> bool
+        ensures shown { M.shown first bytes.now result self.old.medium self.new.medium }
+        ensures cached { self.new.cached ≡ self.old.cached }
+        ensures untouched { AreHeld (M.state self.old.medium).content first (length bytes.now / 512)
+            bytes.now → IsUntouched M.state self.old self.new }
+    {
+        self.medium.show(first, bytes)
     }
 }

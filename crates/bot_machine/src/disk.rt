@@ -1,5 +1,6 @@
 //! A disk: the transport over a logical unit.
-ghost use Rattle.std.specs.Prelude.{⊤, ◌↔◌, ◌≡◌, ◌⊎◌, ◌≤◌, ◌<◌, ℕ, false, true, length};
+ghost use Rattle.std.specs.Prelude.{⊤, ◌↔◌, ◌≡◌, ◌⊎◌, ◌≤◌, ◌<◌, ◌/◌, ℕ, false, true, length};
+ghost use Rattle.inlet.specs.Inlet.{AreHeld};
 ghost use Rattle.std.specs.Prelude.{IsTrue, IfOk, IfErr, MatchResult};
 ghost use Rattle.std.specs.Borrow.{sem, follows_so};
 ghost use mathlib.Core.Option.{none};
@@ -26,6 +27,7 @@ use crate::packet_size::PacketSize;
 use crate::request::{ControlRequest, read_request};
 use crate::serve::{open, take_data};
 use crate::wire::{Phase, Wire};
+use inlet::Inlet;
 use medium::{Medium, Outlet, Switch};
 use scsi_unit::{Identity, StartError, StartFault, Unit};
 use std::alloc::Global;
@@ -357,5 +359,24 @@ impl<M: Outlet> Disk<M> {
             → FitsDisk (M.state self.new.unit.store.medium) self.new book }
     {
         self.unit.give();
+    }
+}
+
+impl<M: Inlet> Disk<M> {
+    /// Shows sectors to the medium as its device holds them: where they are, the disk fits what it
+    /// fitted before, and where they are not, nothing but the medium has changed.
+    pub fn show(&mut self, first: u64, bytes: &[u8]) -> bool
+        ensures shown { M.shown first bytes.now result self.old.unit.store.medium
+            self.new.unit.store.medium }
+        ensures others { IsRearmed self.old self.new }
+        ensures unchanged { AreHeld (M.state self.old.unit.store.medium).content first
+            (length bytes.now / 512) bytes.now → IsUnchanged (M.state self.old.unit.store.medium)
+            (M.state self.new.unit.store.medium) }
+        ensures fits { AreHeld (M.state self.old.unit.store.medium).content first
+            (length bytes.now / 512) bytes.now
+            → (book : Book) → FitsDisk (M.state self.old.unit.store.medium) self.old book
+            → FitsDisk (M.state self.new.unit.store.medium) self.new book }
+    {
+        self.unit.show(first, bytes)
     }
 }

@@ -1,6 +1,7 @@
 //! A unit over its store.
-ghost use Rattle.std.specs.Prelude.{◌≡◌, ◌<◌, ◌≤◌, ◌+◌, ◌*◌, ℕ, List, None, false, true, length};
+ghost use Rattle.std.specs.Prelude.{◌≡◌, ◌<◌, ◌≤◌, ◌+◌, ◌*◌, ◌/◌, ℕ, List, None, false, true, length};
 ghost use Rattle.std.specs.Prelude.{◌↔◌, IfOk, IsTrue};
+ghost use Rattle.inlet.specs.Inlet.{AreHeld};
 ghost use Rattle.medium.specs.Moments.{EachCut, IsUnchanged};
 ghost use Rattle.blocks.specs.Book.{Book};
 ghost use Rattle.blocks.specs.Finding.{MayFind};
@@ -18,6 +19,7 @@ use crate::Intent;
 use crate::checks::moves;
 use crate::store_calls::step;
 use blocks::Store;
+use inlet::Inlet;
 use medium::{Medium, Outlet, Switch};
 use pages::Identity;
 use sense::{Kept, Sense};
@@ -218,6 +220,25 @@ impl<M: Outlet> Unit<M> {
             → FitsUnit (M.state self.new.store.medium) self.new book }
     {
         self.store.give();
+    }
+}
+
+impl<M: Inlet> Unit<M> {
+    /// Shows sectors to the medium as its device holds them.
+    pub fn show(&mut self, first: u64, bytes: &[u8]) -> bool
+        ensures shown { M.shown first bytes.now result self.old.store.medium self.new.store.medium }
+        ensures others { self.new ≡ record self.old {
+          store = record self.old.store { medium = self.new.store.medium };
+        } }
+        ensures unchanged { AreHeld (M.state self.old.store.medium).content first
+            (length bytes.now / 512) bytes.now → IsUnchanged (M.state self.old.store.medium)
+            (M.state self.new.store.medium) }
+        ensures fits { AreHeld (M.state self.old.store.medium).content first
+            (length bytes.now / 512) bytes.now
+            → (book : Book) → FitsUnit (M.state self.old.store.medium) self.old book
+            → FitsUnit (M.state self.new.store.medium) self.new book }
+    {
+        self.store.show(first, bytes)
     }
 }
 

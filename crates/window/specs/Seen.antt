@@ -1,0 +1,94 @@
+-- What a medium that reads on demand was asked since the beginning.
+use Rattle.std.specs.Prelude.{◌+◌, ◌-◌, ◌*◌, ◌/◌, ℕ, zero, suc, Bool, true, false, List, [], ◌∷◌}
+use Rattle.std.specs.Prelude.{◌++◌}
+use Rattle.std.specs.Prelude.{length, take, replicate, Option, None, if◌then◌else◌, ◌==◌, ◌&&◌}
+use Rattle.std.specs.Prelude.{nat_lt, nat_le}
+use Rattle.medium.specs.Medium.{Image}
+use Rattle.medium.specs.Tally.{Tally, one_more}
+use Rattle.medium.specs.Writes.{sector_of}
+use Rattle.medium.specs.declared.fault.MediumFault.TheVariants as fault
+use Rattle.mirror.specs.Story as story
+use Rattle.mirror.specs.Story.{Told}
+use Rattle.mirror.specs.Mirror.{device_of}
+use Rattle.mirror.specs.declared.call.DeviceCall.{DeviceCall}
+
+pub record Seen : Type 0 where
+  -- as a medium that has all bytes in memory tells it
+  pub told : Told
+  -- the sectors that reads named, in order
+  pub looked : List ℕ
+
+-- whether a sector lies among so many from the first on
+abbrev pub lies_in : ℕ → ℕ → ℕ → Bool
+lies_in first count s = nat_le first s && nat_lt s (first + count)
+
+-- so many bytes: those of the list, and zeros where it ends
+abbrev pub filled : ℕ → List ℕ → List ℕ
+filled count bytes = take count (bytes ++ replicate count 0)
+
+-- the bytes of a device of so many sectors: the first as they were read, the rest as it holds them
+abbrev pub opened : ℕ → List ℕ → List ℕ → List ℕ
+opened size near holds = near ++ filled (512 * size - length near) holds
+
+abbrev pub begun : ℕ → List ℕ → List ℕ → Seen
+begun size near holds = record { told = story.begun (opened size near holds); looked = [] }
+
+abbrev pub read : Seen → ℕ → Seen
+read t s = record { told = story.read t.told; looked = t.looked ++ s ∷ [] }
+
+abbrev pub missed : Seen → ℕ → Seen
+missed t s = record {
+  told = record (story.read t.told) { refused = one_more t.told.refused fault.Read };
+  looked = t.looked ++ s ∷ [];
+}
+
+abbrev pub gave : Seen → DeviceCall → Seen
+gave t call = record t { told = story.gave t.told call }
+
+abbrev pub refused : Seen → DeviceCall → Seen
+refused t call = record t { told = story.refused t.told call }
+
+abbrev pub took : Seen → DeviceCall → Seen
+took t call = record t { told = story.took t.told call }
+
+-- whether two lists are the same
+abbrev pub same : List ℕ → List ℕ → Bool
+same [] [] = true
+same [] (y ∷ ys) = false
+same (x ∷ xs) [] = false
+same (x ∷ xs) (y ∷ ys) = (x == y) && same xs ys
+
+-- whether each of so many sectors from the first on is in the image as it is shown
+abbrev pub agrees : Image → ℕ → ℕ → List ℕ → Bool
+agrees image first zero bytes = true
+agrees image first (suc count) bytes =
+    same (sector_of bytes count) (image (first + count)) && agrees image first count bytes
+
+-- the image with these sectors as they are shown
+abbrev pub overlaid : Image → ℕ → ℕ → List ℕ → Image
+overlaid image first count bytes s =
+    if lies_in first count s then sector_of bytes (s - first) else image s
+
+-- the bytes of the first so many sectors
+abbrev pub bytes_of : ℕ → Image → List ℕ
+bytes_of zero image = []
+bytes_of (suc count) image = bytes_of count image ++ image count
+
+abbrev pub nothings : ℕ → List (Option DeviceCall)
+nothings zero = []
+nothings (suc count) = None ∷ nothings count
+
+-- A device that holds what is shown, and else what was thought: it begins anew. Of a device that
+-- keeps what it holds it is never made.
+abbrev pub reborn : Told → ℕ → ℕ → List ℕ → Told
+reborn t first count bytes = record t {
+  opening = bytes_of (length t.opening / 512) (overlaid (device_of t).content first count bytes);
+  asked = nothings (length t.asked);
+  taken = [];
+}
+
+-- Sectors that were shown change nothing, where the device holds what was thought.
+abbrev pub shown : Seen → ℕ → ℕ → List ℕ → Seen
+shown t first count bytes =
+    if agrees (device_of t.told).content first count bytes then t
+    else record t { told = reborn t.told first count bytes }

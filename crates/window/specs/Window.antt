@@ -1,0 +1,141 @@
+-- A medium that has some sectors in memory, and the device behind it.
+use Rattle.std.specs.Prelude.{◌+◌, ◌*◌, ◌/◌, ◌%◌, ◌≡◌, ◌<◌, ◌≤◌, ◌⊎◌, ◌↔◌, ℕ, Bool, true, false}
+use Rattle.std.specs.Prelude.{List, [], ◌∷◌, ◌++◌}
+use Rattle.std.specs.Prelude.{length, Option, ◌||◌, nat_lt, IsTrue}
+use Rattle.std.specs.List.{list_all}
+use Rattle.medium.specs.Medium.{State}
+use Rattle.medium.specs.Tally.{Tally}
+use Rattle.inlet.specs.Inlet.{AreHeld}
+use Rattle.mirror.specs.Mirror as mirror
+use Rattle.mirror.specs.Mirror.{Mirror}
+use Rattle.mirror.specs.Story.{given}
+use Rattle.mirror.specs.declared.call.DeviceCall.{DeviceCall}
+use Rattle.window.specs.Seen as seen
+use Rattle.window.specs.Seen.{Seen}
+
+pub record Window : Type 0 where
+  -- what it was asked, and what waits, as of a medium that has all bytes in memory
+  pub seen : Seen
+  pub outbox : List DeviceCall
+  pub room : ℕ
+  -- so many first sectors lie in memory
+  pub near : ℕ
+  -- and of the others so many from this one on, of so many at most
+  pub from : ℕ
+  pub held : ℕ
+  pub span : ℕ
+
+abbrev pub mirror_of : Window → Mirror
+mirror_of w = record { story = w.seen.told; outbox = w.outbox; room = w.room }
+
+abbrev pub lies_in : ℕ → ℕ → ℕ → Bool
+lies_in first count s = seen.lies_in first count s
+
+-- content, sets and moments are those of the whole device
+abbrev pub state_of : Window → State
+state_of w = mirror.state_of (mirror_of w)
+
+-- a read finds this sector in memory
+abbrev pub is_in_sight : Window → ℕ → Bool
+is_in_sight w s = nat_lt s w.near || lies_in w.from w.held s
+
+abbrev pub fits : Window → Bool
+fits w = nat_lt (length w.outbox) w.room
+
+-- a medium of a device of so many sectors, before the first call
+abbrev pub fresh : ℕ → List ℕ → List ℕ → ℕ → ℕ → Window
+fresh size near holds span room = record {
+  seen = seen.begun size near holds;
+  outbox = [];
+  room = room;
+  near = length near / 512;
+  from = 0;
+  held = 0;
+  span = span;
+}
+
+abbrev pub reads : Window → ℕ → Window
+reads w s = record w { seen = seen.read w.seen s }
+
+abbrev pub misses : Window → ℕ → Window
+misses w s = record w { seen = seen.missed w.seen s }
+
+abbrev pub gives : Window → DeviceCall → Window
+gives w call = record w { seen = seen.gave w.seen call; outbox = w.outbox ++ call ∷ [] }
+
+abbrev pub refuses : Window → DeviceCall → Window
+refuses w call = record w { seen = seen.refused w.seen call }
+
+-- the first call is taken out of what waits, if there is one
+abbrev pub take_first : List DeviceCall → Window → Window
+take_first [] w = w
+take_first (call ∷ calls) w = record w { seen = seen.took w.seen call; outbox = calls }
+
+abbrev pub without_first : Window → Window
+without_first w = take_first w.outbox w
+
+-- sectors are shown as the device holds them: nothing changes but where the window stands
+abbrev pub moved : Window → ℕ → ℕ → Window
+moved w first count = record w { from = first; held = count }
+
+abbrev pub kept_out : Tally → ℕ
+kept_out t = t.writes + t.flushes
+
+-- The second comes after the first, by calls of a medium alone.
+pub record ComesAfter (old new : Window) : Type 0 where
+  pub since : List (Option DeviceCall)
+  pub asked : new.seen.told.asked ≡ old.seen.told.asked ++ since
+  pub outbox : new.outbox ≡ old.outbox ++ given since
+  pub opening_stays : new.seen.told.opening ≡ old.seen.told.opening
+  pub taken_stays : new.seen.told.taken ≡ old.seen.told.taken
+  pub room_stays : new.room ≡ old.room
+  pub near_stays : new.near ≡ old.near
+  pub from_stays : new.from ≡ old.from
+  pub held_stays : new.held ≡ old.held
+  pub span_stays : new.span ≡ old.span
+  -- the sectors that reads named since
+  pub looks : List ℕ
+  pub looked : new.seen.looked ≡ old.seen.looked ++ looks
+  -- no read is refused where each names a sector that is in sight
+  pub in_sight : list_all (is_in_sight old) looks ≡ true
+      → new.seen.told.refused.reads ≡ old.seen.told.refused.reads
+  -- and no other call as long as what waited and these calls have room together
+  pub refuses : kept_out old.seen.told.refused < kept_out new.seen.told.refused
+      → new.room < length old.outbox + length since
+  pub failures_stay : kept_out old.seen.told.refused ≤ kept_out new.seen.told.refused
+  pub misses_stay : old.seen.told.refused.reads ≤ new.seen.told.refused.reads
+
+-- a device that has carried out what was sent until the first moment, and any first part of what
+-- was sent since
+abbrev pub CoversDevice : Window → Window → Type 0
+CoversDevice old new = mirror.CoversDevice (mirror_of old) (mirror_of new)
+
+-- Where each sector that was read since is in sight, and what waits at the first moment and all
+-- calls since have room together, none of these is refused.
+abbrev pub IsServed : Window → Window → Type 0
+IsServed old new = (looks : List ℕ) → new.seen.looked ≡ old.seen.looked ++ looks
+    → list_all (is_in_sight old) looks ≡ true
+    → length old.outbox + (state_of new).calls ≤ (state_of old).calls + old.room
+    → (state_of new).failures ≡ (state_of old).failures
+
+-- what holds of every such medium
+pub record IsWellFormed (w : Window) : Type 0 where
+  pub mirror : mirror.IsWellFormed (mirror_of w)
+  pub near : 512 * w.near ≤ length w.seen.told.opening
+  pub held : w.held ≤ w.span
+  pub behind : w.near ≤ w.from ⊎ (w.held ≡ 0)
+
+-- Sectors were shown, and taken or not. Where they are what was thought, nothing but the window has
+-- changed; where they are not, the medium is one of a device that holds them.
+pub record IsShown (first : ℕ) (bytes : List ℕ) (taken : Bool) (old new : Window) : Type 0 where
+  pub refused : taken ≡ false → new ≡ old
+  pub fits : IsTrue taken ↔ ((length old.outbox ≡ 0) × (length bytes % 512 ≡ 0)
+      × (length bytes / 512 ≤ old.span) × (old.near ≤ first)
+      × (512 * first + length bytes ≤ length old.seen.told.opening))
+  pub honest : taken ≡ true → AreHeld (state_of old).content first (length bytes / 512) bytes
+      → new ≡ moved old first (length bytes / 512)
+  pub content : taken ≡ true → AreHeld (state_of new).content first (length bytes / 512) bytes
+  pub others : new ≡ record old { seen = new.seen; from = new.from; held = new.held }
+  pub there : taken ≡ true → (new.from ≡ first) × (new.held ≡ length bytes / 512)
+  pub calls : (state_of new).calls ≡ (state_of old).calls
+  pub size : (state_of new).size ≡ (state_of old).size

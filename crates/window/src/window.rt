@@ -1,0 +1,304 @@
+//! A medium that reads on demand, and an outbox for the device behind it.
+ghost use Rattle.std.specs.Prelude.{◌≡◌, ◌≢◌, ◌⊎◌, ◌+◌, ◌*◌, ◌/◌, ◌<◌, ◌≤◌, ◌%◌, ◌↔◌, ℕ, length};
+ghost use Rattle.std.specs.Prelude.{true, false, IfOk, IsErrOf, IsTrue};
+ghost use Rattle.medium.specs.Moments.{IsFlushed};
+ghost use Rattle.medium.specs.Writes.{sector_of};
+ghost use Rattle.mirror.specs.Mirror.{first_of};
+ghost use Rattle.window.specs.Window.{Window, state_of, fresh, without_first, ComesAfter};
+ghost use Rattle.window.specs.Window.{CoversDevice, IsServed, IsShown, is_in_sight};
+
+use crate::holds::DeviceHolds;
+use crate::look::Look;
+use crate::pane::{Pane, keep, load};
+use crate::sectors::{SECTOR, Sectors};
+use crate::story::{Opening, Story};
+use inlet::Inlet;
+use medium::{Medium, MediumFault, Outlet};
+use mirror::{DeviceCall, SectorWrite};
+use std::alloc::Global;
+use std::collections::VecDeque;
+use std::marker::Model;
+use thiserror::Error;
+
+/// Why no medium was made.
+#[derive(Error, Clone, Copy, Debug, PartialEq, Eq)]
+pub enum WindowError {
+    #[error("the first sectors are none, no whole ones, or more than the device has")]
+    BadLength = 1,
+    #[error("out of memory")]
+    NoMemory = 2,
+}
+
+/// The first sectors of a device in memory, room for some of the others, and an outbox: every
+/// write and every flush, in order, until it is taken out and carried out on the device.
+///
+/// Reads of the first sectors, and of those that were shown last, are answered from memory. Any
+/// other read is refused, and so are a write and a flush for which the outbox has no room; they
+/// change nothing then. After `new` no call takes memory, and what was taken is the same for every
+/// size of the device.
+#[derive(Drop)]
+pub struct WindowMedium {
+    near: Sectors,
+    size: u64,
+    pane: Pane,
+    outbox: VecDeque<DeviceCall>,
+    room: usize,
+    story: Story,
+}
+
+impl Model for WindowMedium {
+    ghost use Rattle.window.specs.Window.{Window};
+
+    ghost Value = { Window };
+
+    ghost use Rattle.window.specs.WindowView.{view_of, IsKept};
+
+    ghost view = { view_of };
+
+    ghost invariant = { IsKept };
+}
+
+impl WindowMedium {
+    /// A medium of a device of so many sectors, of which the first hold these bytes and the others
+    /// what it holds, all durably. There is room to show so many sectors at a time, and for so many
+    /// writes and flushes in the outbox.
+    ///
+    /// # Errors
+    /// `BadLength` where the bytes are none, no whole sectors, or more than the device has, and
+    /// otherwise `NoMemory` where the room could not be had.
+    pub fn new(
+        alloc: Global,
+        near: Vec<u8>,
+        size: u64,
+        device: &DeviceHolds,
+        span: u32,
+        room: usize,
+    ) -> Result<WindowMedium, WindowError>
+        ensures ok { IfOk result (λ m. m ≡ fresh size near.items device.now.bytes span room) }
+        ensures flushed { IfOk result (λ m. IsFlushed (state_of m)) }
+        ensures length { IsErrOf result WindowError.BadLength
+            ↔ ((length near.items ≡ 0) ⊎ (length near.items % 512 ≢ 0)
+            ⊎ (512 * size < length near.items)) }
+    {
+        if near.len() == 0 || near.len() % SECTOR != 0 || (near.len() / SECTOR) as u64 > size {
+            return Err(WindowError::BadLength);
+        }
+        let Ok(outbox) = VecDeque::with_capacity(alloc, room) else {
+            return Err(WindowError::NoMemory);
+        };
+        let Ok(bytes) = vec![in alloc; 0u8; span as usize * SECTOR] else {
+            return Err(WindowError::NoMemory);
+        };
+        let near = Sectors { bytes: near };
+        let opening = Opening { near, size };
+        let story = Story::new(&opening, device);
+        Ok(WindowMedium {
+            near: opening.near,
+            size,
+            pane: Pane {
+                sectors: Sectors { bytes },
+                from: 0,
+                held: 0,
+            },
+            outbox,
+            room,
+            story,
+        })
+    }
+
+    /// Shows these sectors as the device holds them, in place of those that were shown before.
+    /// Where they are as it held them, nothing else changes. It is no call of a medium.
+    ///
+    /// It answers false, and nothing changes, where calls wait in the outbox, or the bytes are no
+    /// whole sectors, more than there is room for, or not all of them of the device and behind the
+    /// first ones.
+    pub fn fill(&mut self, first: u64, bytes: &[u8]) -> bool
+        ensures { IsShown first bytes.now result self.old self.new }
+    {
+        if self.outbox.len() > 0 || bytes.len() % SECTOR != 0 {
+            return false;
+        }
+        let count = (bytes.len() / SECTOR) as u64;
+        if bytes.len() > self.pane.sectors.bytes.len() || first < self.near() {
+            return false;
+        }
+        if count > self.size || first > self.size - count {
+            return false;
+        }
+        self.pane.fill(first, bytes);
+        self.story = self.story.shown(&self.pane);
+        true
+    }
+
+    /// How many of the first sectors lie in memory.
+    pub fn near(&self) -> u64
+        ensures { result ≡ self.now.near }
+    {
+        (self.near.bytes.len() / SECTOR) as u64
+    }
+
+    /// Whether a read finds this sector in memory.
+    pub fn has(&self, sector: u64) -> bool
+        ensures { result ≡ is_in_sight self.now sector }
+    {
+        sector < self.near() || self.pane.has(sector)
+    }
+
+    /// Whether reads find all of these sectors among those that were shown.
+    pub fn holds(&self, first: u64, count: u64) -> bool
+        ensures { result ≡ true → (s : ℕ) → first ≤ s → s < first + count
+            → is_in_sight self.now s ≡ true }
+    {
+        count == 0 || (self.pane.has(first) && count <= self.pane.held - (first - self.pane.from))
+    }
+
+    /// Takes the first call out of the outbox. It is no call of a medium: content, moments and what
+    /// a cut may leave stay.
+    pub fn take(&mut self) -> Option<DeviceCall>
+        ensures first { result ≡ first_of self.old.outbox }
+        ensures rest { self.new ≡ without_first self.old }
+    {
+        let call = self.outbox.pop_front()?;
+        self.story = self.story.took(&call);
+        Some(call)
+    }
+
+    /// The call that waits first.
+    pub fn first(&self) -> Option<DeviceCall>
+        ensures { result ≡ first_of self.now.outbox }
+    {
+        self.outbox.front().copied()
+    }
+
+    /// How many calls wait in the outbox.
+    ///
+    /// Whatever calls of a medium are made from here on: a device that has carried out what was
+    /// sent until now, and any first part of what is sent from now on, is in a state that the
+    /// medium was in since. And none of these calls is refused, as long as they have room beside
+    /// what waits now and each read names a sector that is in memory or was shown.
+    pub fn waiting(&self) -> usize
+        ensures is { result ≡ length self.now.outbox }
+        ensures most { result ≤ self.now.room }
+        ensures device { (new : Window) → ComesAfter self.now new → CoversDevice self.now new }
+        ensures served { (new : Window) → ComesAfter self.now new → IsServed self.now new }
+    {
+        self.outbox.len()
+    }
+}
+
+impl Medium for WindowMedium {
+    ghost use Rattle.std.specs.Prelude.{◌≡◌, ◌⊎◌, ◌<◌, IsOk, is_ok, OnOk, OnErr};
+    ghost use Rattle.medium.specs.Medium.{Stays, Holds, Within, Gains, Only, Passes};
+    ghost use Rattle.medium.specs.declared.fault.MediumFault.TheVariants.{Read, Write, Flush};
+    ghost use Rattle.window.specs.Window.{state_of, fits, reads, misses, gives, refuses};
+    ghost use Rattle.window.specs.Window.{ComesAfter, is_in_sight};
+    ghost use Rattle.window.specs.WindowLaws.{is_sound, comes_after_itself, comes_after_through};
+    ghost use Rattle.mirror.specs.declared.call.DeviceCall.TheVariants as call;
+
+    ghost state = { state_of };
+
+    ghost follows = { ComesAfter };
+
+    ghost sound = { is_sound };
+
+    ghost follows_itself = { comes_after_itself };
+
+    ghost follows_through = { comes_after_through };
+
+    fn sectors(&self) -> u64 {
+        self.size
+    }
+
+    fn read(&mut self, sector: u64, to: &mut [u8; 512]) -> Result<(), MediumFault>
+        requires { sector < (state_of self.old).size }
+        ensures exact { OnOk result (self.new ≡ reads self.old sector) }
+        ensures refused { OnErr result (self.new ≡ misses self.old sector) }
+        ensures happens { is_ok result ≡ is_in_sight self.old sector }
+        ensures ok { OnOk result (to.new ≡ (state_of self.old).content sector) }
+        ensures content { Stays (state_of self.old).content (state_of self.new).content }
+        ensures sets { Within (state_of self.new).may_leave (state_of self.old).may_leave }
+        ensures passes { Passes Read result (state_of self.old) (state_of self.new) }
+        ensures follows { ComesAfter self.old self.new }
+    {
+        let look = Look { sector };
+        if !self.has(sector) {
+            self.story = self.story.missed(&look);
+            return Err(MediumFault::Read);
+        }
+        self.story = self.story.read(&look);
+        load(&self.near, &self.pane, sector, to);
+        Ok(())
+    }
+
+    fn write(&mut self, sector: u64, from: &[u8; 512]) -> Result<(), MediumFault>
+        requires { sector < (state_of self.old).size }
+        ensures exact { OnOk result (self.new
+            ≡ gives self.old (call.Write (record { sector = sector; block = from.now }))) }
+        ensures refused { OnErr result (self.new
+            ≡ refuses self.old (call.Write (record { sector = sector; block = from.now }))) }
+        ensures happens { is_ok result ≡ fits self.old }
+        ensures ok { OnOk result
+            (Holds sector from.now (state_of self.old).content (state_of self.new).content) }
+        ensures err { OnErr result (Stays (state_of self.old).content (state_of self.new).content
+            ⊎ Holds sector from.now (state_of self.old).content (state_of self.new).content) }
+        ensures sets { Gains sector from.now
+            (state_of self.old).may_leave (state_of self.new).may_leave }
+        ensures passes { Passes Write result (state_of self.old) (state_of self.new) }
+        ensures follows { ComesAfter self.old self.new }
+    {
+        let call = DeviceCall::Write(SectorWrite {
+            sector,
+            block: *from,
+        });
+        if self.outbox.len() >= self.room {
+            self.story = self.story.refused(&call);
+            return Err(MediumFault::Write);
+        }
+        self.story = self.story.gave(&call);
+        keep(&mut self.near, &mut self.pane, sector, from);
+        self.outbox.push_back_reserved(call);
+        Ok(())
+    }
+
+    fn flush(&mut self) -> Result<(), MediumFault>
+        ensures exact { OnOk result (self.new ≡ gives self.old call.Flush) }
+        ensures refused { OnErr result (self.new ≡ refuses self.old call.Flush) }
+        ensures happens { is_ok result ≡ fits self.old }
+        ensures ok { OnOk result (Only (state_of self.old).content (state_of self.new).may_leave) }
+        ensures content { Stays (state_of self.old).content (state_of self.new).content }
+        ensures sets { Within (state_of self.new).may_leave (state_of self.old).may_leave }
+        ensures passes { Passes Flush result (state_of self.old) (state_of self.new) }
+        ensures follows { ComesAfter self.old self.new }
+    {
+        if self.outbox.len() >= self.room {
+            self.story = self.story.refused(&DeviceCall::Flush);
+            return Err(MediumFault::Flush);
+        }
+        self.story = self.story.gave(&DeviceCall::Flush);
+        self.outbox.push_back_reserved(DeviceCall::Flush);
+        Ok(())
+    }
+}
+
+// What stands over a medium lends it out by no `&mut`, and takes calls out of it by this trait.
+impl Outlet for WindowMedium {
+    ghost use Rattle.std.specs.Prelude.{◌≡◌};
+    ghost use Rattle.window.specs.Window.{without_first};
+
+    ghost given = { λ old new. new ≡ without_first old };
+
+    fn give(&mut self) {
+        let _call = self.take();
+    }
+}
+
+// And shows it sectors by this one.
+impl Inlet for WindowMedium {
+    ghost use Rattle.window.specs.Window.{IsShown};
+
+    ghost shown = { IsShown };
+
+    fn show(&mut self, first: u64, bytes: &[u8]) -> bool {
+        self.fill(first, bytes)
+    }
+}
