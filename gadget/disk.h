@@ -1,0 +1,75 @@
+/* What both gadgets share: a disk of the library over an image file or a block device.
+ *
+ * Each call that plays an event carries out the outbox before it answers. So an answer may go to the host as soon as it is
+ * there. Where a call answers DISK_LOST the device refused a read, a write or a flush, and the cause was said: that is a loss
+ * of power. No answer may go to the host then; end with `status`. */
+#ifndef DISK_H
+#define DISK_H
+
+#include "usbdisk.h"
+
+/* What a call answers beside USBDISK_ACK, USBDISK_NAK and USBDISK_STALL. */
+enum {
+    DISK_LOST = 64,    /* the device refused a call, which was said: end */
+    DISK_OVERFLOW = 65 /* the disk sent a packet that is longer than what the host has room for (a babble) */
+};
+
+/* Exit statuses, as those of `usbdisk`. */
+enum { STATUS_USAGE = 2, STATUS_REFUSED = 3, STATUS_FILE = 4, STATUS_MEMORY = 5 };
+
+/* A disk. The fields are disk.c's own, but those with a comment may be read. */
+struct disk {
+    struct usbdisk core;
+    struct usbdisk_device device;
+    struct usbdisk_identity identity;
+    const char *path;
+    int file;
+    uint8_t (*window)[512];
+    uint64_t sectors, near, slots;
+    uint64_t blocks;  /* how many blocks the host sees */
+    uint32_t format;  /* 1 or 2 */
+    uint32_t packet;  /* bytes of a packet, 64 or 512; 0 while no disk is started */
+    char serial[13];  /* 12 hexadecimal digits, always the same for the same path */
+    int status;       /* the exit status that belongs to the last refusal */
+};
+
+/* Opens and locks an image file or a block device, and reads what it is. False: said why. Starts nothing. */
+bool disk_open(struct disk *disk, const char *path);
+
+/* Starts the disk for packets of so many bytes, on what the device holds, and carries out its recovery. Where one is started
+ * already it is stopped first, which is a loss of power: settle it before. False: said why. */
+bool disk_start(struct disk *disk, uint32_t packet);
+
+/* Bytes of one Bulk-Out transfer came: plays them packet by packet (0 bytes are one empty packet), and tells how many were
+ * taken. ACK: all. NAK: the host has to wait; call again with the rest. STALL: the endpoint is halted. Or DISK_LOST. */
+uint32_t disk_out(struct disk *disk, const uint8_t *bytes, size_t size, size_t *taken);
+
+/* The host waits for so many bytes from Bulk-In: collects packets, and tells how many bytes there are. ACK: the room is full,
+ * or a short packet ended the transfer. NAK: nothing more is there now; call again with the rest of the room. STALL: the
+ * endpoint is halted behind these bytes. DISK_OVERFLOW: a packet did not fit, and is lost; never so where the room is a
+ * multiple of the packet. It makes no call of the device. */
+uint32_t disk_in(struct disk *disk, uint8_t *bytes, size_t size, size_t *got);
+
+/* A setup packet for the mass storage interface or one of its two endpoints (81h and 02h). Answers ACK with 0 to 2 bytes,
+ * or STALL. It makes no call of the device. */
+uint32_t disk_setup(struct disk *disk, const uint8_t setup[8], uint8_t data[2], uint32_t *size);
+
+/* The host clears the halt of this endpoint, 81h or 02h. */
+void disk_clear_halt(struct disk *disk, uint8_t endpoint);
+
+/* A bus reset: a class reset, both halts cleared. What was accepted stays. */
+void disk_bus_reset(struct disk *disk);
+
+/* A step in the background. Answers 1 while steps are left, 0 where all is at home, or DISK_LOST. */
+uint32_t disk_tick(struct disk *disk);
+
+/* Steps until all is at home and durable, and says so. False: said why. Not for a signal's handler. */
+bool disk_settle(struct disk *disk);
+
+/* Stops the disk. What was neither promised nor settled is lost as by a cut. */
+void disk_stop(struct disk *disk);
+
+/* Stops the disk, and lets the device go. */
+void disk_close(struct disk *disk);
+
+#endif
