@@ -238,6 +238,7 @@ static uint32_t bulk_out(struct disk *disk, const uint8_t *packet, size_t size)
 {
     uint64_t first = 0;
     uint32_t count = 0, code;
+    disk->steps = 0;
     while ((code = usbdisk_bulk_out(&disk->core, packet, size, &first, &count)) == USBDISK_NEEDS)
         if (!show(disk, first, count) && !lose(disk, "a read was refused"))
             return DISK_LOST;
@@ -301,8 +302,17 @@ void disk_bus_reset(struct disk *disk)
     disk_clear_halt(disk, 0x02);
 }
 
+/* More steps are never left, but on a disk that faulted, where they are left for ever. */
+static uint64_t most_steps(const struct disk *disk)
+{
+    return (disk->slots + 4) * (2 * SPAN + 16);
+}
+
 uint32_t disk_tick(struct disk *disk)
 {
+    if (disk->steps > most_steps(disk))
+        return 0;
+    disk->steps++;
     uint32_t left = usbdisk_tick(&disk->core);
     return persist(disk) ? left : DISK_LOST;
 }
@@ -310,12 +320,12 @@ uint32_t disk_tick(struct disk *disk)
 bool disk_settle(struct disk *disk)
 {
     uint32_t left = 1;
-    size_t most = room_of(disk);
-    for (size_t tick = 0; left == 1 && tick < most; tick++)
+    disk->steps = 0;
+    while (left == 1)
         left = disk_tick(disk);
     if (left == DISK_LOST)
         return false;
-    if (left)
+    if (disk->steps > most_steps(disk))
         return refuse(disk, STATUS_FILE, "the disk has faulted: what was not synchronised may be lost");
     say("%s: all is written and at home", disk->path);
     return true;

@@ -25,7 +25,7 @@ struct disk {
     const char *path;
     int file;
     uint8_t (*window)[512];
-    uint64_t sectors, near, slots;
+    uint64_t sectors, near, slots, steps;
     uint64_t blocks;  /* how many blocks the host sees */
     uint32_t format;  /* 1 or 2 */
     uint32_t packet;  /* bytes of a packet, 64 or 512; 0 while no disk is started */
@@ -60,7 +60,8 @@ void disk_clear_halt(struct disk *disk, uint8_t endpoint);
 /* A bus reset: a class reset, both halts cleared. What was accepted stays. */
 void disk_bus_reset(struct disk *disk);
 
-/* A step in the background. Answers 1 while steps are left, 0 where all is at home, or DISK_LOST. */
+/* A step in the background. Answers 1 while steps are left, 0 where all is at home or the disk has faulted and will get no
+ * further, or DISK_LOST. */
 uint32_t disk_tick(struct disk *disk);
 
 /* Steps until all is at home and durable, and says so. False: said why. Not for a signal's handler. */

@@ -1,0 +1,82 @@
+/* The parts of usbdisk-usbip: messages (usbip_messages.c), the device as its host sees it (usbip_device.c), one client
+ * (usbip_client.c), and the server (usbip.c). */
+#ifndef USBIP_H
+#define USBIP_H
+
+#include "disk.h"
+
+/* The bounds on what a client may ask for: bytes of a transfer, and transfers that wait, with their bytes. */
+enum { TRANSFER_MOST = 1 << 20, WAITING_MOST = 256, WAITING_BYTES_MOST = 16 << 20 };
+
+/* How long the messages are. */
+enum { HEAD = 48, REQUEST = 8, BUS_ID = 32, DEVICE = 312, INTERFACE = 4, REPLY_MOST = REQUEST + 4 + DEVICE + INTERFACE };
+
+/* Commands of an attached client, and requests of one that is not. */
+enum { SUBMIT = 1, UNLINK = 2, ASKS_LIST = 0x8005, ASKS_IMPORT = 0x8003 };
+
+/* The status of a transfer, as Linux numbers them, and that of an import that is refused. */
+enum { GOOD = 0, STALLED = -32, OVERFLOWED = -75, UNLINKED = -104, CUT_SHORT = -121, DEVICE_BUSY = 2, NO_DEVICE = 4 };
+
+/* The endpoints of the one interface. */
+enum { CONTROL = 0, BULK_IN = 1, BULK_OUT = 2 };
+
+/* A command of an attached client. */
+struct message {
+    uint32_t command, number, device, endpoint;
+    bool in;
+    uint32_t flags, length, packets; /* of SUBMIT */
+    uint32_t victim;                 /* of UNLINK: the number of the transfer */
+    uint8_t setup[8];
+};
+
+/* usbip_messages.c */
+struct message read_message(const uint8_t head[HEAD]);
+void put_submit_reply(uint8_t head[HEAD], uint32_t number, int32_t status, uint32_t length);
+void put_unlink_reply(uint8_t head[HEAD], uint32_t number, int32_t status);
+bool is_version(const uint8_t request[REQUEST]);
+unsigned request_code(const uint8_t request[REQUEST]);
+bool names_device(const uint8_t bus[BUS_ID]);
+size_t put_list_reply(uint8_t reply[REPLY_MOST], uint32_t packet);
+size_t put_import_reply(uint8_t reply[REPLY_MOST], uint32_t status, uint32_t packet);
+uint32_t device_number(void);
+
+/* usbip_device.c: plays a control request. Answers how many bytes go to the host, or STALLED. */
+enum { CONTROL_MOST = 64 };
+struct usb_device {
+    struct disk *disk;
+    uint8_t configuration;
+};
+int play_control(struct usb_device *device, const uint8_t setup[8], bool in, uint8_t data[CONTROL_MOST]);
+
+/* A transfer that came. In front of its bytes there is room for its answer's head, so that both go out at once. */
+struct transfer {
+    struct transfer *next;
+    uint32_t number, endpoint, flags, size, done;
+    bool in;
+    uint8_t setup[8];
+    uint8_t answer[];
+};
+
+/* A client: first one that makes a request, later perhaps the one that has the device attached. */
+struct client {
+    int socket; /* -1: none */
+    bool is_attached;
+    uint64_t deadline; /* of the request, in milliseconds */
+    uint8_t head[HEAD];
+    size_t have; /* how much of the head came */
+    struct transfer *coming;
+    size_t came; /* how many bytes of it */
+    struct transfer *waiting[3]; /* of each endpoint, the oldest first */
+    size_t count, bytes;         /* of all that wait, and of the one that comes */
+};
+
+/* What became of a client: it goes on, it is to be ended for the cause that stands in `cause`, or the disk is lost. */
+enum outcome { GOES_ON, ENDS, LOST };
+
+/* usbip_client.c */
+enum outcome serve_attached(struct client *client, struct usb_device *device, const char **cause);
+bool receive(struct client *client, uint8_t *to, size_t size, size_t *have, enum outcome *outcome);
+bool send_bytes(struct client *client, const uint8_t *bytes, size_t size);
+void end_client(struct client *client);
+
+#endif
