@@ -74,8 +74,12 @@ int wait_for(struct pollfd *files, unsigned count, int milliseconds)
     return 0;
 }
 
+/* A signal that waits counts too: where something is always ready, wait_for lets none in. */
 bool is_asked_to_end(void)
 {
+    sigset_t waiting;
+    if (!asked_to_end && sigpending(&waiting) == 0)
+        asked_to_end = sigismember(&waiting, SIGTERM) == 1 || sigismember(&waiting, SIGINT) == 1;
     return asked_to_end;
 }
 

@@ -130,10 +130,23 @@ static bool open_listener(struct server *server, const struct options *options)
     return true;
 }
 
+/* What is sent goes out at once. A peer that is silently gone is found within a minute. */
+static void set_up(int socket)
+{
+    static const struct {
+        int level, name, value;
+    } options[] = {
+        { IPPROTO_TCP, TCP_NODELAY, 1 },    { SOL_SOCKET, SO_KEEPALIVE, 1 }, { IPPROTO_TCP, TCP_KEEPIDLE, 30 },
+        { IPPROTO_TCP, TCP_KEEPINTVL, 10 }, { IPPROTO_TCP, TCP_KEEPCNT, 3 },
+    };
+    for (size_t i = 0; i < sizeof options / sizeof *options; i++)
+        setsockopt(socket, options[i].level, options[i].name, &options[i].value, sizeof options[i].value);
+}
+
 /* A client has come. Where too many are there it is let go. */
 static void greet(struct server *server)
 {
-    int one = 1, socket = accept4(server->listener, NULL, NULL, SOCK_CLOEXEC | SOCK_NONBLOCK);
+    int socket = accept4(server->listener, NULL, NULL, SOCK_CLOEXEC | SOCK_NONBLOCK);
     struct client *client = server->clients;
     while (client < server->clients + CLIENTS && client->socket >= 0)
         client++;
@@ -141,8 +154,7 @@ static void greet(struct server *server)
         close(socket);
     if (socket < 0 || client == server->clients + CLIENTS)
         return;
-    setsockopt(socket, IPPROTO_TCP, TCP_NODELAY, &one, sizeof one);
-    setsockopt(socket, SOL_SOCKET, SO_KEEPALIVE, &one, sizeof one);
+    set_up(socket);
     *client = (struct client){ .socket = socket, .deadline = now() + REQUEST_WAIT };
 }
 

@@ -19,7 +19,7 @@ struct stranger {
     uint64_t seed;
     uint32_t number;
     uint16_t port;
-    unsigned long messages, attachments;
+    unsigned long messages, requests, attachments;
 };
 
 static uint32_t below(struct stranger *it, uint32_t most)
@@ -119,7 +119,7 @@ static void request(struct stranger *it)
     if (below(it, 8) == 0)
         size = 40;
     hand_over(it, bytes, size);
-    it->messages++;
+    it->requests++;
     if (below(it, 2))
         leave(it);
 }
@@ -228,6 +228,6 @@ int main(int count, char **words)
     }
     come(&it);
     leave(&it);
-    printf("%lu messages, %lu attachments\n", it.messages, it.attachments);
+    printf("%lu messages of %lu attached hosts, %lu other requests\n", it.messages, it.attachments, it.requests);
     return EXIT_SUCCESS;
 }

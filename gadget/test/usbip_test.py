@@ -1,5 +1,6 @@
 #!/usr/bin/env python3
-"""Tests of usbdisk-usbip by a host of its own: usbip_test.py PROGRAM HOSTILE [MESSAGES]. Each test is a function `it_..`."""
+"""Tests of usbdisk-usbip by a host of its own: usbip_test.py PROGRAM FOLDER [MESSAGES]. Each test is a function `it_..`. In the
+folder lie `hostile` and `refuse_flush.so`, made of the sources beside this file."""
 
 import fcntl
 import os
@@ -14,7 +15,7 @@ import time
 
 from usbip_host import CUT_SHORT, IN, OUT, OVERFLOWED, STALLED, UNLINKED, Gone, Host, Server, attached, make_image
 
-PROGRAM, HOSTILE = (os.path.abspath(it) for it in sys.argv[1:3])
+PROGRAM, FOLDER = (os.path.abspath(it) for it in sys.argv[1:3])
 MESSAGES = sys.argv[3] if len(sys.argv) > 3 else "100000"
 BLOCKS, SLOTS = 2000, 6
 
@@ -307,13 +308,110 @@ def it_ends_where_the_device_refuses_a_write():
         ends_well(server)
 
 
+def it_ends_where_the_device_refuses_a_flush():
+    make_image("disk.img", 2, BLOCKS, SLOTS)
+    promised = bytes(5120)
+    for number in range(1, 8):
+        refusing = {"LD_PRELOAD": f"{FOLDER}/refuse_flush.so", "FLUSHES": str(number), "ASAN_OPTIONS": "verify_asan_link_order=0"}
+        server = Server(PROGRAM, "disk.img", env=os.environ | refusing)
+        data = pattern(number, 10)
+        try:
+            if server.port:
+                host = attached(server.port).set_up()
+                assert host.write(0, data, forced=True) == 0
+                promised = data
+        except (Gone, ConnectionError):
+            pass
+        assert server.wait() == 4 and "a flush was refused" in server.text(), (number, server.text())
+        server = again()
+        found = attached(server.port).set_up().read_blocks(0, 10)
+        assert found in (promised, data), number
+        promised = found
+        ends_well(server)
+    assert promised != bytes(5120)
+
+
+def it_ends_at_a_signal_also_while_hosts_ask():
+    server = served()
+    host = attached(server.port).set_up()
+    assert host.write(0, pattern(1, 240)) == 0
+    flood = subprocess.Popen([f"{FOLDER}/hostile", str(server.port), "100000000"], stderr=subprocess.DEVNULL)
+    host.close()
+    time.sleep(0.3)
+    ends_well(server)
+    flood.wait(timeout=60)
+
+
+def it_ends_where_the_device_refuses_a_read():
+    server = served()
+    host = attached(server.port).set_up()
+    os.truncate("disk.img", 512 * (server.home + 100))
+    host.read_blocks(0, 100)
+    try:
+        host.read_blocks(50, 51)
+        raise AssertionError("blocks were read that are not there")
+    except Gone:
+        pass
+    assert server.wait() == 4 and "a read was refused" in server.text(), server.text()
+
+
+def it_bounds_what_a_host_leaves_waiting():
+    server = served()
+    for size, most in ((13, 256), (1 << 20, 16)):
+        host = attached(server.port).set_up()
+        for _ in range(most):
+            host.submit(IN, size=size)
+        host.submit(0, size=4, setup=bytes([0x80, 6, 0, 3, 0, 0, 4, 0]))
+        try:
+            host.next_reply()
+            raise AssertionError("more transfers wait than may")
+        except Gone:
+            pass
+    host = attached(server.port).set_up()
+    for fields in ((1, 7, 2, 0, 1, 0, 13), (3, 7, 0x10002, 1, 1, 0, 13), (1, 7, 0x10002, 1, 2, 0, 13), (1, 7, 0x10002, 0, 1, 0, 0),
+                   (1, 7, 0x10002, 1, 3, 0, 13), (1, 7, 0x10002, 1, 1, 0, (1 << 20) + 1), (1, 7, 0x10002, 1, 1, 0, 13, 0, 1)):
+        host.send(struct.pack(f">{len(fields)}I", *fields).ljust(48, b"\0"))
+        try:
+            host.read(1)
+            raise AssertionError("a malformed message is answered")
+        except Gone:
+            host = attached(server.port).set_up()
+    ends_well(server)
+
+
+def it_lets_go_of_clients_that_ask_nothing():
+    server = served()
+    silent = [Host(server.port) for _ in range(16)]
+    time.sleep(0.2)
+    try:
+        Host(server.port).list()
+        raise AssertionError("more clients are served than may")
+    except Gone:
+        pass
+    time.sleep(6)
+    assert Host(server.port).list()[8:12] == struct.pack(">I", 1) and silent
+    ends_well(server)
+
+
+def it_listens_where_it_is_told():
+    for address, warns in (("127.0.0.2", False), ("0.0.0.0", True)):
+        server = served(2, "--listen", address)
+        assert ("warning: USB/IP knows no access control" in server.text()) == warns, server.text()
+        refused(4, "locked")
+        ends_well(server)
+    make_image("disk.img", 2, BLOCKS, SLOTS)
+    for words, text in ((["--listen", "localhost"], "no address in digits"), (["--listen", "192.0.2.1"], "not to be listened on")):
+        run = subprocess.run([PROGRAM, "disk.img", *words], stderr=subprocess.PIPE, timeout=20, check=False)
+        assert run.returncode == 4 and text in run.stderr.decode(), run
+
+
 def it_outlives_hostile_clients():
     server = served()
     host = attached(server.port).set_up()
     data = pattern(9, 240)
     assert host.write(0, data) == 0 and host.synchronize() == 0
     host.close()
-    subprocess.run([HOSTILE, str(server.port), MESSAGES], check=True, timeout=300)
+    subprocess.run([f"{FOLDER}/hostile", str(server.port), MESSAGES], check=True, timeout=300)
     host = attached(server.port).set_up()
     assert host.read_blocks(0, 240) == data
     assert host.write(5, data[:5120], forced=True) == 0
