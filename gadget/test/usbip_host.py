@@ -31,7 +31,7 @@ class Server:
         self.said = open(f"{words[0]}.said", "w+b")
         self.process = subprocess.Popen([program, *words, "--port", "0"], stdin=subprocess.DEVNULL, stderr=self.said, **more)
         self.port = None
-        until = time.monotonic() + 20
+        until = time.monotonic() + 60
         while self.port is None and self.process.poll() is None and time.monotonic() < until:
             found = re.search(r" port (\d+),", self.text())
             self.port = int(found[1]) if found else None
@@ -61,7 +61,7 @@ class Host:
     """One connection. `attach` imports the device."""
 
     def __init__(self, port):
-        self.socket = socket.create_connection(("127.0.0.1", port), timeout=20)
+        self.socket = socket.create_connection(("127.0.0.1", port), timeout=60)
         self.socket.setsockopt(socket.IPPROTO_TCP, socket.TCP_NODELAY, 1)
         self.number = 0
         self.replies = {}
@@ -192,7 +192,7 @@ class Host:
 
 def attached(port):
     """A host that has the device attached. The one before it may still be on its way out."""
-    for _ in range(200):
+    for _ in range(2000):
         host = Host(port)
         status, _ = host.attach()
         if status == 0:
