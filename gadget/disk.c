@@ -11,9 +11,8 @@
 #include <sys/stat.h>
 #include <unistd.h>
 
-/* SPAN: how many sectors are shown to the disk at a time, which is the longest READ. NEAR_MOST: no image has its first home
- * sector behind this (64 slots of 249 sectors, and at most 248 unused ones). */
-enum { SPAN = 240, NEAR_MOST = 2 + 64 * 249 + 248 };
+/* How many sectors are shown to the disk at a time, which is the longest READ, and how many are written by one write. */
+enum { SPAN = 240 };
 
 /* Says what is wrong with the image or the device, and notes the exit status. */
 static bool refuse(struct disk *disk, int status, const char *cause)
@@ -162,9 +161,9 @@ static bool read_super(struct disk *disk)
     disk->format = number_at(sector, 1) == 1 ? 1 : 2;
     disk->blocks = number_at(sector, 2);
     disk->slots = number_at(sector, 3);
-    if (disk->near <= disk->sectors && disk->near <= NEAR_MOST)
-        return true;
-    return refuse(disk, STATUS_REFUSED, "refused: the sizes in sector 0 do not fit; it was cut off, or changed");
+    if (disk->near > disk->sectors)
+        disk->near = disk->sectors;
+    return true;
 }
 
 bool disk_open(struct disk *disk, const char *path)

@@ -302,7 +302,7 @@ def it_refuses_by_name():
     for length in (0, 511, 700, 512, 1024, 512 * 300, 512 * (2 + 249 * SLOTS + BLOCKS - 1)):
         patched(0, b"R")
         os.truncate("disk.img", length)
-        refused(3, "")
+        refused(3, "no image" if length % 512 or not length else "the sizes in sector 0 do not fit")
     for words in ([], ["a", "b"], ["--port"], ["a", "--port", "x"], ["a", "--port", "65536"], ["a", "--packet", "63"], ["a", "--no", "1"]):
         run = subprocess.run([PROGRAM, *words], stderr=subprocess.PIPE, timeout=120, check=False)
         assert run.returncode == 2 and run.stderr.startswith(b"usbdisk-usbip IMAGE"), words
