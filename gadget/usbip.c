@@ -1,6 +1,7 @@
 /* usbdisk-usbip: an image file or a block device as a USB disk for hosts that attach it over USB/IP. */
 #include "program.h"
 #include "usbip.h"
+#include <errno.h>
 #include <netdb.h>
 #include <netinet/in.h>
 #include <netinet/tcp.h>
@@ -24,7 +25,7 @@ static const char usage[] =
     "  --packet 64|512   full speed, or high speed, which it is where nothing else is said\n"
     "  --listen ADDRESS  another address of this machine. USB/IP knows no access control: who reaches it has the disk\n"
     "\n"
-    "On the host: modprobe vhci-hcd; usbip attach -r 127.0.0.1 -b 1-1. SIGTERM and SIGINT end it cleanly.\n";
+    "On the host: modprobe vhci-hcd; usbip attach -r 127.0.0.1 -b 1-1. SIGTERM and SIGINT end it cleanly.";
 
 struct options {
     const char *image, *address;
@@ -119,11 +120,11 @@ static bool open_listener(struct server *server, const struct options *options)
     if (!is_loopback(found))
         say("warning: USB/IP knows no access control: who reaches %s has the disk", options->address);
     server->listener = listen_at(found);
+    if (server->listener < 0)
+        say("%s port %s: not to be listened on: %s", options->address, port, strerror(errno));
     freeaddrinfo(found);
-    if (server->listener < 0) {
-        say("%s port %s: not to be listened on: %m", options->address, port);
+    if (server->listener < 0)
         return false;
-    }
     say("%s: format %u, %llu blocks, at %s speed on %s port %u, bus id 1-1", options->image, server->disk.format,
         (unsigned long long)server->disk.blocks, options->packet == 512 ? "high" : "full", options->address,
         port_of(server->listener));
@@ -270,6 +271,24 @@ static bool end(struct server *server, bool is_whole)
     return is_whole && disk_settle(&server->disk);
 }
 
+/* Opens, serves and ends. Answers the exit status. */
+static int run(struct server *server, const struct options *options)
+{
+    int status = STATUS_FILE;
+    for (int i = 0; i < CLIENTS; i++)
+        server->clients[i].socket = -1;
+    server->device.disk = &server->disk;
+    server->has_steps = true;
+    if (!disk_open(&server->disk, options->image))
+        return server->disk.status;
+    if (!disk_start(&server->disk, (uint32_t)options->packet))
+        status = server->disk.status;
+    else if (open_listener(server, options) && end(server, serve(server)))
+        status = 0;
+    disk_close(&server->disk);
+    return status;
+}
+
 int main(int count, char **words)
 {
     static struct server server;
@@ -277,24 +296,11 @@ int main(int count, char **words)
     if (!program_begin("usbdisk-usbip"))
         return STATUS_FILE;
     if (count == 2 && (!strcmp(words[1], "--help") || !strcmp(words[1], "--version"))) {
-        printf("%s%s", words[1][2] == 'h' ? usage : version, words[1][2] == 'h' ? "" : "\n");
+        puts(words[1][2] == 'h' ? usage : version);
         return fflush(stdout) ? STATUS_FILE : 0;
     }
-    if (!read_options(&options, words + 1)) {
-        fputs(usage, stderr);
-        return STATUS_USAGE;
-    }
-    for (int i = 0; i < CLIENTS; i++)
-        server.clients[i].socket = -1;
-    server.device.disk = &server.disk;
-    server.has_steps = true;
-    if (!disk_open(&server.disk, options.image))
-        return server.disk.status;
-    int status = STATUS_FILE;
-    if (!disk_start(&server.disk, (uint32_t)options.packet))
-        status = server.disk.status;
-    else if (open_listener(&server, &options) && end(&server, serve(&server)))
-        status = 0;
-    disk_close(&server.disk);
-    return status;
+    if (read_options(&options, words + 1))
+        return run(&server, &options);
+    fprintf(stderr, "%s\n", usage);
+    return STATUS_USAGE;
 }
