@@ -1,11 +1,22 @@
 /* A USB disk that keeps whole writes when power is lost: the device side of the bulk-only transport
  * (USB Mass Storage Class Bulk-Only Transport 1.0), behind any USB controller, over any medium of
- * sectors of 512 bytes.
+ * sectors of 512 bytes, of any size.
  *
- * The disk owns a copy of the medium's bytes and reads from it. What it writes comes out of an
- * outbox. After each call that may write (start, bulk_out, tick) take the calls out with
- * usbdisk_take, one by one, carry each out on the device, in order, and only then let the answer of
- * the call go to the host, or make the next one. docs/MAKERS.md tells what the device must promise.
+ * The disk has the device's first sectors in memory: the super, the head and the log. The blocks lie
+ * in home sectors behind these, and stay on the device. Before a READ of some of them the disk asks
+ * for their bytes, by the answer NEEDS of usbdisk_bulk_out: read them, show them, and hand the same
+ * packet in again.
+ *
+ *     while ((code = usbdisk_bulk_out(&disk, packet, size, &first, &count)) == USBDISK_NEEDS) {
+ *         (read `count` sectors from sector `first` on into `buffer`: one read of the device)
+ *         if (usbdisk_show(&disk, first, buffer, count * 512))
+ *             break;
+ *     }
+ *
+ * What the disk writes comes out of an outbox. After each call that may write (start, bulk_out, tick)
+ * take the calls out with usbdisk_take, one by one, carry each out on the device, in order, and only
+ * then let the answer of the call go to the host, or make the next one. docs/MAKERS.md tells what the
+ * device must promise.
  *
  * Link the program with libusbdisk_c.a, and define the two functions at the end of this file.
  *
@@ -27,6 +38,12 @@
 extern "C" {
 #endif
 
+/* The version, 0.8.0: two bytes for the first number, and one for each other. The library tells its
+ * own: where the two differ, header and library are not of one version. */
+#define USBDISK_VERSION 0x000800u
+
+uint32_t usbdisk_version(void);
+
 /* A handle. Set it to USBDISK_NONE before usbdisk_start; never write or copy it after. */
 struct usbdisk {
     void *at;
@@ -42,22 +59,29 @@ struct usbdisk_identity {
     char serial[12];
 };
 
-/* What an endpoint is to answer. */
+/* The device, as a name for what the contracts speak of: the bytes that it holds when the disk starts
+ * on it. The library never reads it. Any object will do. */
+struct usbdisk_device {
+    unsigned char mark;
+};
+
+/* What an endpoint is to answer; or, at NEEDS, what is to be done before it answers. */
 enum {
     USBDISK_ACK = 0,   /* taken, or here is the packet */
     USBDISK_NAK = 1,   /* nothing now: the host tries again */
-    USBDISK_STALL = 2  /* the endpoint is halted, or the request is refused */
+    USBDISK_STALL = 2, /* the endpoint is halted, or the request is refused */
+    USBDISK_NEEDS = 3  /* show some sectors first, and hand the same packet in again */
 };
 
-/* Why usbdisk_start found no disk on the medium. */
+/* Why usbdisk_start found no disk on the device. */
 enum {
     USBDISK_NO_MEMORY = 1,
-    USBDISK_READ_REFUSED = 2,    /* never of this medium */
+    USBDISK_READ_REFUSED = 2,    /* it read a sector that is not in memory: pass all of usbdisk_near */
     USBDISK_WRITE_REFUSED = 3,   /* the outbox has too little room for the recovery */
     USBDISK_FLUSH_REFUSED = 4,   /* the same */
     USBDISK_BAD_SUPER = 5,       /* sector 0 is no super: no image, or a format was cut off */
     USBDISK_BAD_VERSION = 6,
-    USBDISK_BAD_SIZE = 7,        /* bad sizes, or the medium is too short for them */
+    USBDISK_BAD_SIZE = 7,        /* bad sizes, or the device is too short for them */
     USBDISK_BAD_HEAD = 8,        /* sector 1 is no head */
     USBDISK_STAMPS_USED_UP = 9,
     USBDISK_LOG_TOO_SMALL = 10   /* never of a start */
@@ -70,8 +94,9 @@ enum {
     USBDISK_TOO_LONG = 18,        /* a packet has more bytes than those of the disk */
     USBDISK_BAD_IDENTITY = 19,    /* a character is not printable ASCII (20h to 7Eh) */
     USBDISK_BAD_PACKET_SIZE = 20, /* neither 64 nor 512 */
-    USBDISK_BAD_LENGTH = 21,      /* a medium of no sectors or a part of one, or other room than its bytes */
-    USBDISK_BAD_SIZES = 22        /* sizes out of their limits, or too few bytes for them */
+    USBDISK_BAD_LENGTH = 21,      /* bytes of no sectors or a part of one, or more than the device has */
+    USBDISK_BAD_SIZES = 22,       /* sizes out of their limits, or too few bytes for them */
+    USBDISK_NOT_TAKEN = 23        /* sectors that cannot be shown */
 };
 
 /* What usbdisk_take took out. */
@@ -85,36 +110,56 @@ enum {
  * it: for an image of this format (1 or 2) with so many log slots. 0 where these are no such. */
 uint64_t usbdisk_room(uint32_t format, uint64_t slots);
 
-/* How many bytes of memory a start takes for a medium of so many bytes, of this format, with so many
- * log slots, and an outbox of so much room. 0 where these are no such. */
-uint64_t usbdisk_memory(uint64_t medium_size, uint32_t format, uint64_t slots, uint64_t room);
+/* How many bytes of memory a start takes where it is given so many bytes of the first sectors: for an
+ * image of this format, with so many log slots, a window of this span, and an outbox of so much room.
+ * It is the same for every size of the device. 0 where these are no such. */
+uint64_t usbdisk_memory(uint64_t near_size, uint32_t format, uint64_t slots, uint32_t span, uint64_t room);
 
-/* Makes an image in memory, for a new device: so many blocks of zeros, 1 to 2^31, and so many log
- * slots, 1 to 64. Format 1 takes 2 + 50 * slots + blocks sectors, format 2 takes 2 + 249 * slots +
- * blocks. Takes memory of about twice the size, and gives it back.
+/* Makes an image in memory, for a new device that fits there: so many blocks of zeros, 1 to 2^31, and
+ * so many log slots, 1 to 64. Format 1 takes 2 + 50 * slots + blocks sectors, format 2 takes
+ * 2 + 249 * slots + blocks. Takes memory of about twice the size, and gives it back.
  *
  * Answers 0, NO_MEMORY, BAD_LENGTH or BAD_SIZES. At an error the image stays as it was. */
 uint32_t usbdisk_format(uint8_t *image, size_t size, uint32_t format, uint64_t blocks, uint64_t slots);
 
-/* Starts a disk on the bytes that the device holds: copies them, and recovers the disk from whatever
- * a loss of power left. The recovery's own writes are in the outbox then.
+/* How many of the device's first sectors go into memory, from the bytes of sector 0: all before the
+ * first home sector. Where sector 0 is no super it tells 2, and a start on these tells what is wrong. */
+uint64_t usbdisk_near(const uint8_t sector[512]);
+
+/* Starts a disk on a device of so many sectors: copies the first ones, and recovers the disk from
+ * whatever a loss of power left. The recovery's own writes are in the outbox then.
  *
- * packet: 64 at full speed, 512 at high speed. room: how many calls the outbox has room for.
+ * near: the device's first sectors, as many as usbdisk_near tells, or as the device has where these
+ * are fewer. span: how many sectors are shown at a time at most: 48 in format 1, 240 in format 2, as
+ * one READ may have; with less a longer READ is never served, since usbdisk_show takes no more. packet: 64 at full speed, 512 at high speed. room: how many calls the
+ * outbox has room for.
  *
  * Answers 0, a number from 1 to 10, or STARTED, BAD_IDENTITY, BAD_PACKET_SIZE or BAD_LENGTH. At all
  * but 0 the handle stays as it was, and no memory is kept. */
-uint32_t usbdisk_start(struct usbdisk *disk, const uint8_t *medium, size_t size,
-                       const struct usbdisk_identity *identity, uint32_t packet, size_t room);
+uint32_t usbdisk_start(struct usbdisk *disk, const uint8_t *near, size_t near_size, uint64_t sectors,
+                       const struct usbdisk_device *device, const struct usbdisk_identity *identity,
+                       uint32_t packet, uint32_t span, size_t room);
 
-/* Stops the disk, gives the bytes of the medium back and frees all memory. It writes nothing: what
- * was not synchronised is lost as by a cut. What still waits in the outbox is let go; the bytes have
- * it. size: that of the medium.
+/* Stops the disk, and frees all memory. It writes nothing: what was not synchronised is lost as by a
+ * cut. What still waits in the outbox is let go: carry it out before.
  *
- * Answers 0, EMPTY or BAD_LENGTH. */
-uint32_t usbdisk_stop(struct usbdisk *disk, uint8_t *medium, size_t size);
+ * Answers 0 or EMPTY. */
+uint32_t usbdisk_stop(struct usbdisk *disk);
 
-/* A packet came to the Bulk-Out endpoint. Answers ACK, NAK, STALL, EMPTY or TOO_LONG. */
-uint32_t usbdisk_bulk_out(struct usbdisk *disk, const uint8_t *packet, size_t size);
+/* A packet came to the Bulk-Out endpoint. Answers ACK, NAK, STALL, EMPTY or TOO_LONG; or NEEDS, and
+ * nothing happened: show the `*count` sectors from `*first` on, and call it again with the same
+ * packet. At all but NEEDS `*first` and `*count` stay. It needs sectors before a READ alone, and these
+ * are home sectors, at most 240. Where the device cannot read them, do as after a loss of power: stop,
+ * and start anew. */
+uint32_t usbdisk_bulk_out(struct usbdisk *disk, const uint8_t *packet, size_t size, uint64_t *first,
+                          uint32_t *count);
+
+/* Shows sectors as the device holds them, from `first` on, in place of those that were shown before.
+ * size: 512 for each of them.
+ *
+ * Answers 0, NOT_TAKEN or EMPTY. They are not taken where calls wait in the outbox, or the bytes are no
+ * whole sectors or more than the span, or not all of them are home sectors of the device. */
+uint32_t usbdisk_show(struct usbdisk *disk, uint64_t first, const uint8_t *bytes, size_t size);
 
 /* The host asks the Bulk-In endpoint for a packet. At ACK the packet lies in `packet`, and has
  * `*size` bytes; it is the disk's own no more. At NAK and STALL `*size` is 0. The bytes behind

@@ -61,3 +61,15 @@ BAD_LENGTH = 21
 
 abbrev pub BAD_SIZES : ℕ
 BAD_SIZES = 22
+
+-- sectors are to be shown before this packet is taken
+abbrev pub NEEDS : ℕ
+NEEDS = 3
+
+-- sectors that were shown are not taken
+abbrev pub NOT_TAKEN : ℕ
+NOT_TAKEN = 23
+
+-- the version of the library, by two bytes for the first number and one for each other
+abbrev pub VERSION : ℕ
+VERSION = 0x000800

@@ -1,10 +1,11 @@
 -- What each export answers, and what it leaves in the handle.
-use Rattle.std.specs.Prelude.{◌≡◌, ◌≢◌, ◌⊎◌, ◌↔◌, ℕ, ◌/◌, ◌%◌, Bool, true, false, List, length}
-use Rattle.std.specs.Prelude.{Option}
-use Rattle.std.specs.Prelude.{Some, None}
+use Rattle.std.specs.Prelude.{◌≡◌, ◌≢◌, ◌⊎◌, ◌↔◌, ℕ, ◌*◌, ◌/◌, ◌%◌, ◌<◌, Bool, true, false, List}
+use Rattle.std.specs.Prelude.{length, Option, Some, None}
 use Rattle.medium.specs.Writes.{sector_of}
 use Rattle.mirror.specs.Mirror.{Mirror, state_of, first_of}
-use Rattle.log_layout.specs.Places.{new_shape}
+use Rattle.window.specs.Window.{Window}
+use Rattle.log_layout.specs.Places.{Shape, first_home, new_shape}
+use Rattle.log_layout.specs.Sectors.{IsSuper}
 use Rattle.log_layout.specs.declared.log_format.LogFormat.{LogFormat}
 use Rattle.log_layout.specs.declared.log_format.LogFormat.TheVariants.{One, Two}
 use Rattle.recovery.specs.Formatted.{IsFormatted, AreSizes}
@@ -14,9 +15,9 @@ use Rattle.bot_machine.specs.Device.{device_of}
 use Rattle.bot_machine.specs.PacketBytes.{bytes_of}
 use Rattle.bot_machine.specs.declared.packet_size.PacketSize.{PacketSize}
 use Rattle.usbdisk_c.specs.Codes.{number_of, EMPTY, STARTED, BAD_IDENTITY, BAD_PACKET_SIZE}
-use Rattle.usbdisk_c.specs.Codes.{BAD_LENGTH, BAD_SIZES}
+use Rattle.usbdisk_c.specs.Codes.{BAD_LENGTH, BAD_SIZES, NOT_TAKEN}
 use Rattle.usbdisk_c.specs.Plays.{Disk, medium_of, Begins, BeginsNot, TakesPacket, SendsPacket}
-use Rattle.usbdisk_c.specs.Plays.{AnswersRequest, MakesStep, Shows, LetsGo}
+use Rattle.usbdisk_c.specs.Plays.{AnswersRequest, MakesStep, Shows, LetsGo, Sees}
 use Rattle.usbdisk_c.specs.declared.start.UsbDiskIdentity.{UsbDiskIdentity}
 use Rattle.usbdisk_c.specs.declared.start.Refusal.{Refusal}
 use Rattle.usbdisk_c.specs.declared.start.Refusal.TheVariants as refusal
@@ -31,20 +32,24 @@ identity_of who = record {
 }
 
 -- a disk for packets of so many bytes, with these texts, was started on these bytes
-abbrev pub BeginsOn : List ℕ → Identification → ℕ → ℕ → Disk → Type 0
-BeginsOn bytes who packet room new = (size : PacketSize) × (packet ≡ bytes_of size)
-    × IsLegible who × Begins bytes room (device_of who size) new
+abbrev pub BeginsOn : Window → Identification → ℕ → Disk → Type 0
+BeginsOn first who packet new = (size : PacketSize) × (packet ≡ bytes_of size)
+    × IsLegible who × Begins first (device_of who size) new
 
 -- so many bytes are no whole sectors, or none
-abbrev pub IsNoLength : ℕ → Type 0
-IsNoLength size = (size ≡ 0) ⊎ (size % 512 ≢ 0)
+abbrev pub IsNoSize : ℕ → Type 0
+IsNoSize size = (size ≡ 0) ⊎ (size % 512 ≢ 0)
+
+-- these bytes are no first sectors of a device of so many
+abbrev pub IsNoLength : List ℕ → ℕ → Type 0
+IsNoLength near sectors = IsNoSize (length near) ⊎ (512 * sectors < length near)
 
 -- why none was
-abbrev pub IsRefusal : List ℕ → Identification → ℕ → ℕ → Refusal → Type 0
-IsRefusal bytes who packet room refusal.Identity = ¬ IsLegible who
-IsRefusal bytes who packet room refusal.PacketSize = (packet ≢ 64) × (packet ≢ 512)
-IsRefusal bytes who packet room refusal.Length = IsNoLength (length bytes)
-IsRefusal bytes who packet room (refusal.Fault fault) = BeginsNot bytes room fault
+abbrev pub IsRefusal : List ℕ → ℕ → Window → Identification → ℕ → Refusal → Type 0
+IsRefusal near sectors first who packet refusal.Identity = ¬ IsLegible who
+IsRefusal near sectors first who packet refusal.PacketSize = (packet ≢ 64) × (packet ≢ 512)
+IsRefusal near sectors first who packet refusal.Length = IsNoLength near sectors
+IsRefusal near sectors first who packet (refusal.Fault fault) = BeginsNot first fault
 
 abbrev pub code_of_refusal : Refusal → ℕ
 code_of_refusal refusal.Identity = BAD_IDENTITY
@@ -54,32 +59,26 @@ code_of_refusal (refusal.Fault fault) = number_of fault
 
 -- A disk that is there stays. Else there is one and the answer is 0, or there is none and the
 -- answer is the number of the refusal.
-abbrev pub Starts : List ℕ → Identification → ℕ → ℕ → Option Disk → Option Disk → ℕ → Type 0
-Starts bytes who packet room (Some old) new code = (code ≡ STARTED) × (new ≡ Some old)
-Starts bytes who packet room None (Some new) code =
-    (code ≡ 0) × BeginsOn bytes who packet room new
-Starts bytes who packet room None None code =
-    (why : Refusal) × (code ≡ code_of_refusal why) × IsRefusal bytes who packet room why
+abbrev pub Starts : List ℕ → ℕ → Window → Identification → ℕ → Option Disk → Option Disk → ℕ
+    → Type 0
+Starts near sectors first who packet (Some old) new code = (code ≡ STARTED) × (new ≡ Some old)
+Starts near sectors first who packet None (Some new) code =
+    (code ≡ 0) × BeginsOn first who packet new
+Starts near sectors first who packet None None code = (why : Refusal)
+    × (code ≡ code_of_refusal why) × IsRefusal near sectors first who packet why
 
--- the bytes of the medium, as reads give them, where there is just the room for them
-pub record GivesBytes (m : Mirror) (old new : List ℕ) (gives : Bool) : Type 0 where
-  pub fits : (gives ≡ true) ↔ (length m.story.opening ≡ length old)
-  pub given : gives ≡ true → (s : ℕ) → sector_of new s ≡ (state_of m).content s
-  pub kept : gives ≡ false → new ≡ old
-
--- the disk goes, and its medium's bytes are given back; without just the room for them it stays
-abbrev pub Stops : Option Disk → List ℕ → Option Disk → List ℕ → ℕ → Type 0
-Stops (Some old) room (Some new) filled code =
-    (code ≡ BAD_LENGTH) × (new ≡ old) × GivesBytes (medium_of old) room filled false
-Stops (Some old) room None filled code =
-    (code ≡ 0) × GivesBytes (medium_of old) room filled true
-Stops None room new filled code = (code ≡ EMPTY) × (new ≡ None) × (filled ≡ room)
+-- the disk goes
+abbrev pub Stops : Option Disk → Option Disk → ℕ → Type 0
+Stops (Some old) new code = (code ≡ 0) × (new ≡ None)
+Stops None new code = (code ≡ EMPTY) × (new ≡ None)
 
 -- Where there is no disk, each of the others answers EMPTY, and nothing changes.
-abbrev pub TakesOut : Option Disk → List ℕ → Option Disk → ℕ → Type 0
-TakesOut (Some old) packet (Some new) code = TakesPacket old packet new code
-TakesOut (Some old) packet None code = ⊥
-TakesOut None packet new code = (code ≡ EMPTY) × (new ≡ None)
+abbrev pub TakesOut : Option Disk → List ℕ → ℕ → ℕ → Option Disk → ℕ → ℕ → ℕ → Type 0
+TakesOut (Some old) packet first count (Some new) first' count' code =
+    TakesPacket old packet first count new first' count' code
+TakesOut (Some old) packet first count None first' count' code = ⊥
+TakesOut None packet first count new first' count' code =
+    (code ≡ EMPTY) × (new ≡ None) × (first' ≡ first) × (count' ≡ count)
 
 abbrev pub SendsIn : Option Disk → List ℕ → ℕ → Option Disk → List ℕ → ℕ → ℕ → Type 0
 SendsIn (Some old) room was (Some new) filled size code = SendsPacket old room new filled size code
@@ -107,6 +106,28 @@ HandsOut (Some old) sector room None sector' filled code = ⊥
 HandsOut None sector room new sector' filled code =
     (code ≡ EMPTY) × (new ≡ None) × (sector' ≡ sector) × (filled ≡ room)
 
+abbrev pub IsTaken : Bool → ℕ → Type 0
+IsTaken true code = code ≡ 0
+IsTaken false code = code ≡ NOT_TAKEN
+
+abbrev pub IsShownTo : Option Disk → ℕ → List ℕ → Option Disk → ℕ → Type 0
+IsShownTo (Some old) first bytes (Some new) code =
+    (taken : Bool) × IsTaken taken code × Sees old first bytes new taken
+IsShownTo (Some old) first bytes None code = ⊥
+IsShownTo None first bytes new code = (code ≡ EMPTY) × (new ≡ None)
+
+-- how many of the first sectors lie in memory: where this one is a super, all before the first home
+-- sector
+pub record TellsNear (sector : List ℕ) (told : ℕ) : Type 0 where
+  pub home : (shape : Shape) → IsSuper shape sector → told ≡ first_home shape
+  pub none : ((shape : Shape) → ¬ IsSuper shape sector) → told ≡ 2
+
+-- the bytes of the medium, as reads give them, where there is just the room for them
+pub record GivesBytes (m : Mirror) (old new : List ℕ) (gives : Bool) : Type 0 where
+  pub fits : (gives ≡ true) ↔ (length m.story.opening ≡ length old)
+  pub given : gives ≡ true → (s : ℕ) → sector_of new s ≡ (state_of m).content s
+  pub kept : gives ≡ false → new ≡ old
+
 -- these bytes are a new image of this format
 pub record AreFormatted (format : LogFormat) (blocks slots : ℕ) (bytes : List ℕ) : Type 0 where
   pub medium : Mirror
@@ -122,7 +143,7 @@ AreNoSizes format blocks slots sectors = ((format ≢ 1) × (format ≢ 2))
 -- why no image was made, by its number
 abbrev pub IsNotFormatted : ℕ → ℕ → ℕ → ℕ → ℕ → Type 0
 IsNotFormatted format blocks slots size code = (code ≡ number_of NoMemory)
-    ⊎ ((code ≡ BAD_LENGTH) × IsNoLength size)
+    ⊎ ((code ≡ BAD_LENGTH) × IsNoSize size)
     ⊎ ((code ≡ BAD_SIZES) × AreNoSizes format blocks slots (size / 512))
 
 -- a new image, or nothing has changed, for one of these reasons

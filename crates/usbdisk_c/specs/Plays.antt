@@ -1,12 +1,15 @@
--- What each call does to a disk over a medium in memory with an outbox.
-use Rattle.std.specs.Prelude.{◌≡◌, ◌⊎◌, ◌↔◌, ℕ, ◌+◌, ◌<◌, ◌≤◌, ◌++◌, false, List, length, drop}
-use Rattle.std.specs.Prelude.{Option, Some, None}
+-- What each call does to a disk over a medium that reads on demand.
+use Rattle.std.specs.Prelude.{◌≡◌, ◌⊎◌, ◌↔◌, ℕ, ◌+◌, ◌/◌, ◌<◌, ◌≤◌, ◌++◌, Bool, true, false, List}
+use Rattle.std.specs.Prelude.{length, drop, Option, Some, None}
+use Rattle.std.specs.List.{list_all}
 use Rattle.log_layout.specs.Places.{Shape, sectors_of}
 use Rattle.log_layout.specs.Sectors.{IsSuper}
 use Rattle.log_layout.specs.declared.log_format.LogFormat.TheVariants.{Two}
-use Rattle.mirror.specs.Mirror.{Mirror, state_of, fresh, without_first, ComesAfter}
-use Rattle.mirror.specs.Mirror.{CoversDevice, HasRoomFor}
 use Rattle.medium.specs.Medium.{State}
+use Rattle.medium.specs.Moments.{IsUnchanged}
+use Rattle.inlet.specs.Inlet.{AreHeld}
+use Rattle.window.specs.Window.{Window, state_of, without_first, ComesAfter}
+use Rattle.window.specs.Window.{CoversDevice, IsServed, IsShown, is_in_sight, kept_out}
 use Rattle.mirror.specs.declared.call.DeviceCall.{DeviceCall}
 use Rattle.mirror.specs.declared.call.DeviceCall.TheVariants.{Write, Flush}
 use Rattle.scsi_unit.specs.Background.{IsSettled, is_dead, steps_left}
@@ -20,7 +23,7 @@ use Rattle.bot_machine.specs.declared.event.Event.{Event}
 use Rattle.bot_machine.specs.declared.event.Event.TheVariants as event
 use Rattle.bot_machine.specs.declared.event.Answer.{Answer}
 use Rattle.bot_machine.specs.declared.event.Answer.TheVariants as answer
-use Rattle.usbdisk_c.specs.Codes.{code_of, bytes_of, TOO_LONG}
+use Rattle.usbdisk_c.specs.Codes.{code_of, bytes_of, TOO_LONG, NEEDS}
 use Rattle.usbdisk_c.specs.DiskRow.{disk_row}
 use Rattle.usbdisk_c.specs.Room.{room_of, room_for}
 
@@ -29,13 +32,21 @@ abbrev pub Disk : Type 0
 Disk = disk_row.Denot
 
 -- the disk's medium
-abbrev pub medium_of : Disk → Mirror
+abbrev pub medium_of : Disk → Window
 medium_of disk = disk.unit.store.medium
 
--- what an outbox says of all calls of the medium that may come
-pub record Foresees (m : Mirror) : Type 0 where
-  pub covers : (new : Mirror) → ComesAfter m new → CoversDevice m new
-  pub room : (new : Mirror) → ComesAfter m new → HasRoomFor m new
+-- what a medium says of all calls of it that may come
+pub record Foresees (m : Window) : Type 0 where
+  pub covers : (new : Window) → ComesAfter m new → CoversDevice m new
+  pub served : (new : Window) → ComesAfter m new → IsServed m new
+
+-- No write and no flush was refused since; and where each sector that was read since was in sight,
+-- nothing was.
+pub record NothingIsRefused (old new : Window) : Type 0 where
+  pub kept : kept_out new.seen.told.refused ≡ kept_out old.seen.told.refused
+  pub served : (looks : List ℕ) → new.seen.looked ≡ old.seen.looked ++ looks
+      → list_all (is_in_sight old) looks ≡ true
+      → (state_of new).failures ≡ (state_of old).failures
 
 -- the layout of the image, with its format and its slots
 abbrev pub layout_on : Disk → Shape
@@ -47,16 +58,43 @@ pub record Plays (old : Disk) (event : Event) (answer : Answer) (new : Disk) : T
   pub follows : ComesAfter (medium_of old) (medium_of new)
   -- wherever in the outbox the device is, a cut of it leaves what a cut at some moment could
   pub covers : CoversDevice (medium_of old) (medium_of new)
-  -- none of its calls is refused where `usbdisk_room` tells no more than what is left of the room
+  -- none of its calls is refused where the sectors that it read were in sight, and the outbox had
+  -- room for all of its calls,
+  pub served : IsServed (medium_of old) (medium_of new)
+  -- as it has where `usbdisk_room` tells no more than what is left of the room
   pub fits : length (medium_of old).outbox + room_for (layout_on old) ≤ (medium_of old).room
-      → (state_of (medium_of new)).failures ≡ (state_of (medium_of old)).failures
+      → NothingIsRefused (medium_of old) (medium_of new)
 
--- a packet that is too long changes nothing
-abbrev pub TakesPacket : Disk → List ℕ → Disk → ℕ → Type 0
-TakesPacket old packet new code =
-    ((old.line.packet_size < length packet) × (code ≡ TOO_LONG) × (new ≡ old))
+-- home sectors of the device, not all of them among those that were shown last
+pub record AreWanted (m : Window) (first count : ℕ) : Type 0 where
+  pub some : 0 < count
+  pub few : count ≤ 240
+  pub home : m.near ≤ first
+  pub on_device : first + count ≤ (state_of m).size
+  pub unseen : m.from ≤ first → m.from + m.held < first + count
+
+-- A packet that is too long changes nothing; nor does one before which sectors are to be shown, and
+-- they are told then alone.
+abbrev pub TakesPacket : Disk → List ℕ → ℕ → ℕ → Disk → ℕ → ℕ → ℕ → Type 0
+TakesPacket old packet first count new first' count' code =
+    ((old.line.packet_size < length packet) × (code ≡ TOO_LONG) × (new ≡ old)
+    × (first' ≡ first) × (count' ≡ count))
+    ⊎ ((length packet ≤ old.line.packet_size) × (code ≡ NEEDS) × (new ≡ old)
+    × AreWanted (medium_of old) first' count')
     ⊎ ((length packet ≤ old.line.packet_size) × (answer : Answer)
-    × Plays old (event.Out (record { items = packet })) answer new × (code ≡ code_of answer))
+    × Plays old (event.Out (record { items = packet })) answer new × (code ≡ code_of answer)
+    × (first' ≡ first) × (count' ≡ count))
+
+-- Sectors are shown, and taken or not. Where they are what the medium holds, the disk fits what it
+-- fitted; where they are not, nothing but the medium has changed.
+pub record Sees (old : Disk) (first : ℕ) (bytes : List ℕ) (new : Disk) (taken : Bool) : Type 0 where
+  pub shown : IsShown first bytes taken (medium_of old) (medium_of new)
+  pub others : IsRearmed old new
+  pub unchanged : AreHeld (state_of (medium_of old)).content first (length bytes / 512) bytes
+      → IsUnchanged (state_of (medium_of old)) (state_of (medium_of new))
+  pub fits : AreHeld (state_of (medium_of old)).content first (length bytes / 512) bytes
+      → (book : Book) → FitsDisk (state_of (medium_of old)) old book
+      → FitsDisk (state_of (medium_of new)) new book
 
 -- the answer's number, its bytes at the front of the room, and how many they are
 pub record Tells (answer : Answer) (old new : List ℕ) (size code : ℕ) : Type 0 where
@@ -97,25 +135,26 @@ pub record LetsGo (old new : Disk) : Type 0 where
   pub fits : (book : Book) → FitsDisk (state_of (medium_of old)) old book
       → FitsDisk (state_of (medium_of new)) new book
 
--- What a start on these bytes leaves, good or refused: none of its calls was refused where the room
--- is what `usbdisk_room` tells for the format and the slots of the super; nor, whatever the bytes,
--- where it is what that tells for format 2.
-pub record IsSpared (bytes : List ℕ) (room : ℕ) (after : Mirror) : Type 0 where
-  pub fits : let before : State = state_of (fresh bytes room) in
+-- What a start on this medium leaves, good or refused: no write and no flush was refused where the
+-- room is what `usbdisk_room` tells for the format and the slots of the super; nor, whatever the
+-- bytes, where it is what that tells for format 2; nor a read whose sector lies in memory.
+pub record IsSpared (first after : Window) : Type 0 where
+  pub fits : let before : State = state_of first in
       (shape : Shape) → IsSuper shape (before.content 0) → sectors_of shape ≤ before.size
-      → room_for shape ≤ room → (state_of after).failures ≡ 0
-  pub fits_any : (slots : ℕ) → room_of Two slots ≤ room → (state_of after).failures ≡ 0
+      → room_for shape ≤ first.room → NothingIsRefused first after
+  pub fits_any : (slots : ℕ) → room_of Two slots ≤ first.room → NothingIsRefused first after
 
--- a disk was started on these bytes
-pub record Begins (bytes : List ℕ) (room : ℕ) (device : Device) (new : Disk) : Type 0 where
-  pub opened : IsOpened (state_of (fresh bytes room)) (state_of (medium_of new)) device new
-  pub leaves : StartLeaves (state_of (fresh bytes room)) (state_of (medium_of new))
-  pub follows : ComesAfter (fresh bytes room) (medium_of new)
-  pub covers : CoversDevice (fresh bytes room) (medium_of new)
-  pub spared : IsSpared bytes room (medium_of new)
+-- a disk was started on this medium
+pub record Begins (first : Window) (device : Device) (new : Disk) : Type 0 where
+  pub opened : IsOpened (state_of first) (state_of (medium_of new)) device new
+  pub leaves : StartLeaves (state_of first) (state_of (medium_of new))
+  pub follows : ComesAfter first (medium_of new)
+  pub covers : CoversDevice first (medium_of new)
+  pub served : IsServed first (medium_of new)
+  pub spared : IsSpared first (medium_of new)
 
--- no disk was started on these bytes
-abbrev pub BeginsNot : List ℕ → ℕ → StartFault → Type 0
-BeginsNot bytes room fault = (fault ≡ NoMemory)
-    ⊎ ((after : Mirror) × IsNotOpened (state_of (fresh bytes room)) (state_of after) fault
-    × IsSpared bytes room after)
+-- no disk was started on this medium
+abbrev pub BeginsNot : Window → StartFault → Type 0
+BeginsNot first fault = (fault ≡ NoMemory)
+    ⊎ ((after : Window) × IsNotOpened (state_of first) (state_of after) fault
+    × IsSpared first after)

@@ -41,13 +41,13 @@ abbrev pub slot_memory : LogFormat → ℕ
 slot_memory One = 2312
 slot_memory Two = 3848
 
--- How many bytes of memory a start takes, by measure: the medium, the outbox, two batches and two
--- buffers of a transfer each, so many for each slot, and the disk.
-abbrev pub memory_of : ℕ → ℕ → ℕ → LogFormat → ℕ
-memory_of size slots room format =
-    size + 528 * room + 2096 * limit_of format + slot_memory format * slots + 3080
+-- How many bytes of memory a start takes, by measure: the first sectors, the window, the outbox,
+-- two batches and two buffers of a transfer each, so many for each slot, and the disk.
+abbrev pub memory_of : ℕ → ℕ → ℕ → ℕ → LogFormat → ℕ
+memory_of size slots span room format =
+    size + 512 * span + 528 * room + 2096 * limit_of format + slot_memory format * slots + 3128
 
-abbrev pub TellsMemory : ℕ → ℕ → ℕ → ℕ → ℕ → Type 0
-TellsMemory size format slots room told =
-    (size ≤ 2 ^ 48 → room ≤ 2 ^ 32 → Tells (memory_of size slots room) format slots told)
+abbrev pub TellsMemory : ℕ → ℕ → ℕ → ℕ → ℕ → ℕ → Type 0
+TellsMemory size format slots span room told =
+    (size ≤ 2 ^ 48 → room ≤ 2 ^ 32 → Tells (memory_of size slots span room) format slots told)
     × TellsNone format slots told

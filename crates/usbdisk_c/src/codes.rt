@@ -10,6 +10,8 @@ pub(crate) const NAK: u32 = 1;
 
 pub(crate) const STALL: u32 = 2;
 
+pub(crate) const NEEDS: u32 = 3;
+
 pub(crate) const EMPTY: u32 = 16;
 
 pub(crate) const STARTED: u32 = 17;
@@ -23,6 +25,11 @@ pub(crate) const BAD_PACKET_SIZE: u32 = 20;
 pub(crate) const BAD_LENGTH: u32 = 21;
 
 pub(crate) const BAD_SIZES: u32 = 22;
+
+pub(crate) const NOT_TAKEN: u32 = 23;
+
+/// The version: two bytes for the first number, and one for each other.
+pub(crate) const VERSION: u32 = 0x000800;
 
 /// The number of the fault for which a start is refused.
 pub(crate) fn number_of(fault: StartFault) -> u32

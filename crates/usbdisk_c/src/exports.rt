@@ -1,15 +1,27 @@
 //! One export for each call of include/usbdisk.h, which tells what each does.
 ghost use Rattle.usbdisk_c.specs.Exports.{identity_of, Starts, Stops, TakesOut, SendsIn};
-ghost use Rattle.usbdisk_c.specs.Exports.{AnswersSetup, Ticks, HandsOut, Formats};
+ghost use Rattle.usbdisk_c.specs.Exports.{AnswersSetup, Ticks, HandsOut, IsShownTo, Formats};
+ghost use Rattle.usbdisk_c.specs.Exports.{TellsNear};
+ghost use Rattle.usbdisk_c.specs.Codes.{VERSION};
 ghost use Rattle.usbdisk_c.specs.Room.{TellsRoom, TellsMemory};
+ghost use Rattle.std.specs.Prelude.{◌≡◌};
+ghost use Rattle.window.specs.Window.{fresh};
 
-use crate::codes::{ACK, BAD_LENGTH, EMPTY, STARTED};
+use crate::codes::{ACK, EMPTY, NOT_TAKEN, STARTED, VERSION};
 use crate::format::{make_image, memory_for, room_for};
 use crate::handle::UsbDisk;
 use crate::moves::{adopt, reclaim};
-use crate::play::{answer_request, make_step, next_call, send_packet, take_packet};
-use crate::start::{UsbDiskIdentity, begin, give_bytes};
+use crate::play::{answer_request, make_step, next_call, send_packet, show_sectors, take_packet};
+use crate::start::{UsbDiskIdentity, begin, near_for};
 use std::alloc::Global;
+use window::DeviceHolds;
+
+#[unsafe(no_mangle)]
+pub extern "C" fn usbdisk_version() -> u32
+    ensures { result ≡ VERSION }
+{
+    VERSION
+}
 
 #[unsafe(no_mangle)]
 pub extern "C" fn usbdisk_room(format: u32, slots: u64) -> u64
@@ -19,10 +31,16 @@ pub extern "C" fn usbdisk_room(format: u32, slots: u64) -> u64
 }
 
 #[unsafe(no_mangle)]
-pub extern "C" fn usbdisk_memory(medium_size: u64, format: u32, slots: u64, room: u64) -> u64
-    ensures { TellsMemory medium_size format slots room result }
+pub extern "C" fn usbdisk_memory(
+    near_size: u64,
+    format: u32,
+    slots: u64,
+    span: u32,
+    room: u64,
+) -> u64
+    ensures { TellsMemory near_size format slots span room result }
 {
-    memory_for(medium_size, format, slots, room)
+    memory_for(near_size, format, slots, span, room)
 }
 
 #[unsafe(no_mangle)]
@@ -39,22 +57,32 @@ pub extern "C" fn usbdisk_format(
 }
 
 #[unsafe(no_mangle)]
+pub extern "C" fn usbdisk_near(sector: &[u8; 512]) -> u64
+    ensures { TellsNear sector.now result }
+{
+    near_for(sector)
+}
+
+#[unsafe(no_mangle)]
 pub extern "C" fn usbdisk_start(
     alloc: Global,
     disk: &mut UsbDisk,
-    medium: &[u8],
+    near: &[u8],
+    sectors: u64,
+    device: &DeviceHolds,
     identity: &UsbDiskIdentity,
     packet: u32,
+    span: u32,
     room: usize,
 ) -> u32
-    ensures { Starts medium.now (identity_of identity.now) packet room
-        disk.old.disk disk.new.disk result }
+    ensures { Starts near.now sectors (fresh sectors near.now device.now.bytes span room)
+        (identity_of identity.now) packet disk.old.disk disk.new.disk result }
 {
     if let Some(there) = reclaim(disk, alloc) {
         adopt(disk, alloc, there);
         return STARTED;
     }
-    match begin(alloc, medium, identity, packet, room) {
+    match begin(alloc, near, sectors, device, identity, packet, span, room) {
         Ok(held) => {
             adopt(disk, alloc, held);
             0
@@ -64,29 +92,44 @@ pub extern "C" fn usbdisk_start(
 }
 
 #[unsafe(no_mangle)]
-pub extern "C" fn usbdisk_stop(alloc: Global, disk: &mut UsbDisk, medium: &mut [u8]) -> u32
-    ensures { Stops disk.old.disk medium.old disk.new.disk medium.new result }
+pub extern "C" fn usbdisk_stop(alloc: Global, disk: &mut UsbDisk) -> u32
+    ensures { Stops disk.old.disk disk.new.disk result }
 {
-    let Some(held) = reclaim(disk, alloc) else {
+    let Some(_held) = reclaim(disk, alloc) else {
         return EMPTY;
     };
-    if give_bytes(&held, medium) {
-        return ACK;
-    }
-    adopt(disk, alloc, held);
-    BAD_LENGTH
+    ACK
 }
 
 #[unsafe(no_mangle)]
-pub extern "C" fn usbdisk_bulk_out(alloc: Global, disk: &mut UsbDisk, packet: &[u8]) -> u32
-    ensures { TakesOut disk.old.disk packet.now disk.new.disk result }
+pub extern "C" fn usbdisk_bulk_out(
+    alloc: Global,
+    disk: &mut UsbDisk,
+    packet: &[u8],
+    first: &mut u64,
+    count: &mut u32,
+) -> u32
+    ensures { TakesOut disk.old.disk packet.now first.old count.old
+        disk.new.disk first.new count.new result }
 {
     let Some(mut held) = reclaim(disk, alloc) else {
         return EMPTY;
     };
-    let code = take_packet(&mut held, packet);
+    let code = take_packet(&mut held, packet, first, count);
     adopt(disk, alloc, held);
     code
+}
+
+#[unsafe(no_mangle)]
+pub extern "C" fn usbdisk_show(alloc: Global, disk: &mut UsbDisk, first: u64, bytes: &[u8]) -> u32
+    ensures { IsShownTo disk.old.disk first bytes.now disk.new.disk result }
+{
+    let Some(mut held) = reclaim(disk, alloc) else {
+        return EMPTY;
+    };
+    let taken = show_sectors(&mut held, first, bytes);
+    adopt(disk, alloc, held);
+    if taken { ACK } else { NOT_TAKEN }
 }
 
 #[unsafe(no_mangle)]

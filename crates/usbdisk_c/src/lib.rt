@@ -12,8 +12,9 @@ mod start;
 mod turns;
 
 pub use exports::{
-    usbdisk_bulk_in, usbdisk_bulk_out, usbdisk_format, usbdisk_memory, usbdisk_room, usbdisk_setup,
-    usbdisk_start, usbdisk_stop, usbdisk_take, usbdisk_tick,
+    usbdisk_bulk_in, usbdisk_bulk_out, usbdisk_format, usbdisk_memory, usbdisk_near, usbdisk_room,
+    usbdisk_setup, usbdisk_show, usbdisk_start, usbdisk_stop, usbdisk_take, usbdisk_tick,
+    usbdisk_version,
 };
 pub use handle::{Opaque, UsbDisk};
 pub use start::UsbDiskIdentity;

@@ -3,26 +3,45 @@ ghost use Rattle.usbdisk_c.specs.Plays.{TakesPacket, Tells, SendsPacket, Answers
 ghost use Rattle.usbdisk_c.specs.Plays.{MakesStep, Shows, LetsGo, Plays, Foresees, medium_of};
 ghost use Rattle.bot_machine.specs.declared.event.Answer.TheVariants as answer;
 ghost use Rattle.bot_machine.specs.declared.event.Event.TheVariants as event;
+ghost use Rattle.std.specs.Prelude.{IfSome};
+ghost use Rattle.cdb.specs.Supported.{IsWithin};
+ghost use Rattle.usbdisk_c.specs.Plays.{Sees, AreWanted};
 ghost use Rattle.mirror.specs.Mirror.{first_of};
 
-use crate::codes::{ACK, NAK, STALL, TOO_LONG};
+use crate::codes::{ACK, NAK, NEEDS, STALL, TOO_LONG};
 use bot_machine::{Answer, Disk, Event, OutAnswer, SetupAnswer, answer_to};
-use mirror::{DeviceCall, MirrorMedium};
+use cdb::{Command, Transfer, parse};
+use medium::Medium;
+use mirror::DeviceCall;
+use window::WindowMedium;
+use wrappers::read_cbw;
 
 // Does nothing. The laws of the outbox say of all that may come what it is for the device, and that
 // none of it is refused for which there is room.
-fn foresee(disk: &Disk<MirrorMedium>)
+fn foresee(disk: &Disk<WindowMedium>)
     ensures { Foresees (medium_of disk.now) }
 {
     let _waiting = disk.medium().waiting();
 }
 
-/// A packet to Bulk-Out. One that is longer than those of the disk changes nothing.
-pub(crate) fn take_packet(disk: &mut Disk<MirrorMedium>, packet: &[u8]) -> u32
-    ensures { TakesPacket disk.old packet.now disk.new result }
+/// A packet to Bulk-Out. One that is longer than those of the disk changes nothing, and one before
+/// which sectors are to be shown tells them, and changes nothing else.
+pub(crate) fn take_packet(
+    disk: &mut Disk<WindowMedium>,
+    packet: &[u8],
+    first: &mut u64,
+    count: &mut u32,
+) -> u32
+    ensures { TakesPacket disk.old packet.now first.old count.old
+        disk.new first.new count.new result }
 {
     if packet.len() > disk.packet_size() as usize {
         return TOO_LONG;
+    }
+    if let Some((at, blocks)) = unseen(disk, packet) {
+        *first = at;
+        *count = blocks;
+        return NEEDS;
     }
     foresee(disk);
     match disk.bulk_out(packet) {
@@ -32,15 +51,53 @@ pub(crate) fn take_packet(disk: &mut Disk<MirrorMedium>, packet: &[u8]) -> u32
     }
 }
 
+// The home sectors that a READ in this packet would read, where they are not in sight: the first, and
+// how many.
+fn unseen(disk: &Disk<WindowMedium>, packet: &[u8]) -> Option<(u64, u32)>
+    ensures { IfSome result (λ asked. AreWanted (medium_of disk.now) asked.0 asked.1) }
+{
+    let medium = disk.medium();
+    let near = medium.near();
+    let blocks = medium.sectors().saturating_sub(near);
+    let transfer = transfer_of(packet, blocks, disk.limit())?;
+    let first = near.checked_add(transfer.address)?;
+    if transfer.count == 0 || medium.holds(first, u64::from(transfer.count)) {
+        return None;
+    }
+    Some((first, transfer.count))
+}
+
+// What a READ in this packet moves.
+fn transfer_of(packet: &[u8], blocks: u64, limit: u32) -> Option<Transfer>
+    ensures { IfSome result (IsWithin blocks limit) }
+{
+    let wrapper = read_cbw(packet).ok()?;
+    let block = wrapper.block.as_slice();
+    if block.is_empty() {
+        return None;
+    }
+    match parse(block, blocks, limit) {
+        Ok(Command::Read10(transfer) | Command::Read16(transfer)) => Some(transfer),
+        _ => None,
+    }
+}
+
+/// Sectors as the device holds them.
+pub(crate) fn show_sectors(disk: &mut Disk<WindowMedium>, first: u64, bytes: &[u8]) -> bool
+    ensures { Sees disk.old first bytes.now disk.new result }
+{
+    disk.show(first, bytes)
+}
+
 /// A token to Bulk-In.
-pub(crate) fn send_packet(disk: &mut Disk<MirrorMedium>, to: &mut [u8; 512], size: &mut u32) -> u32
+pub(crate) fn send_packet(disk: &mut Disk<WindowMedium>, to: &mut [u8; 512], size: &mut u32) -> u32
     ensures { SendsPacket disk.old to.old disk.new to.new size.new result }
 {
     let answer = take_token(disk);
     tell(&answer, to, size)
 }
 
-fn take_token(disk: &mut Disk<MirrorMedium>) -> Answer
+fn take_token(disk: &mut Disk<WindowMedium>) -> Answer
     ensures { Plays disk.old event.In result disk.new }
 {
     foresee(disk);
@@ -77,7 +134,7 @@ fn tell(answer: &Answer, to: &mut [u8; 512], size: &mut u32) -> u32
 
 /// A control request.
 pub(crate) fn answer_request(
-    disk: &mut Disk<MirrorMedium>,
+    disk: &mut Disk<WindowMedium>,
     packet: &[u8; 8],
     to: &mut [u8; 2],
     size: &mut u32,
@@ -103,14 +160,14 @@ pub(crate) fn answer_request(
 }
 
 /// A step in the background: 1 while steps are left, 0 where all is at home.
-pub(crate) fn make_step(disk: &mut Disk<MirrorMedium>) -> u32
+pub(crate) fn make_step(disk: &mut Disk<WindowMedium>) -> u32
     ensures { MakesStep disk.old disk.new result }
 {
     tick(disk);
     if disk.is_settled() { 0 } else { 1 }
 }
 
-fn tick(disk: &mut Disk<MirrorMedium>)
+fn tick(disk: &mut Disk<WindowMedium>)
     ensures { Plays disk.old event.Tick answer.Ticked disk.new }
 {
     foresee(disk);
@@ -118,7 +175,7 @@ fn tick(disk: &mut Disk<MirrorMedium>)
 }
 
 /// The next call for the device leaves the outbox.
-pub(crate) fn next_call(disk: &mut Disk<MirrorMedium>, sector: &mut u64, to: &mut [u8; 512]) -> u32
+pub(crate) fn next_call(disk: &mut Disk<WindowMedium>, sector: &mut u64, to: &mut [u8; 512]) -> u32
     ensures shows { Shows (first_of (medium_of disk.old).outbox)
         sector.old to.old sector.new to.new result }
     ensures lets_go { LetsGo disk.old disk.new }

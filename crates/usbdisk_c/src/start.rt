@@ -1,17 +1,16 @@
-//! How a disk starts on the bytes of a medium, and how it gives them back.
-ghost use Rattle.std.specs.Prelude.{◌≡◌, ◌≢◌, ◌⊎◌, ◌%◌, IfOk, IfErr, IfSome, MatchOption, length};
-ghost use Rattle.bot_machine.specs.Device.{device_of};
+//! How a disk starts on the first sectors of a device.
+ghost use Rattle.std.specs.Prelude.{◌≡◌, ◌≢◌, ◌⊎◌, IfOk, IfErr, MatchOption};
 ghost use Rattle.bot_machine.specs.PacketBytes.{bytes_of};
-ghost use Rattle.usbdisk_c.specs.Exports.{BeginsOn, IsRefusal, code_of_refusal};
-ghost use Rattle.usbdisk_c.specs.Exports.{identity_of, GivesBytes};
-ghost use Rattle.usbdisk_c.specs.Plays.{medium_of};
-ghost use Rattle.mirror.specs.Mirror.{fresh};
+ghost use Rattle.usbdisk_c.specs.Exports.{BeginsOn, IsRefusal, code_of_refusal, identity_of};
+ghost use Rattle.usbdisk_c.specs.Exports.{IsNoLength, TellsNear};
+ghost use Rattle.window.specs.Window.{fresh};
 ghost use Rattle.scsi_unit.specs.Identification.{IsLegible};
 
 use crate::codes::{BAD_IDENTITY, BAD_LENGTH, BAD_PACKET_SIZE, number_of};
 use bot_machine::{Disk, Identity, PacketSize, StartFault};
-use mirror::{MirrorError, MirrorMedium};
+use log_layout::Super;
 use std::alloc::Global;
+use window::{DeviceHolds, WindowError, WindowMedium};
 
 /// C's `struct usbdisk_identity`: four texts of printable ASCII, padded with spaces.
 #[repr(C)]
@@ -70,35 +69,55 @@ fn read_identity(identity: &UsbDiskIdentity) -> Option<Identity>
     Identity::new(vendor, product, revision, serial)
 }
 
-/// A medium of a copy of these bytes.
-pub(crate) fn mirror_of(alloc: Global, bytes: &[u8], room: usize) -> Result<MirrorMedium, Refusal>
-    ensures ok { IfOk result (λ m. m ≡ fresh bytes.now room) }
-    ensures err { IfErr result (λ refusal. (refusal ≡ Refusal.Fault StartFault.NoMemory)
-        ⊎ ((refusal ≡ Refusal.Length)
-        × ((length bytes.now ≡ 0) ⊎ (length bytes.now % 512 ≢ 0)))) }
+/// How many of the device's first sectors lie in memory, from what its first one holds.
+pub(crate) fn near_for(sector: &[u8; 512]) -> u64
+    ensures { TellsNear sector.now result }
 {
-    let Ok(copy) = Vec::from_slice(alloc, bytes) else {
-        return Err(Refusal::Fault(StartFault::NoMemory));
-    };
-    match MirrorMedium::new(alloc, copy, room) {
-        Ok(medium) => Ok(medium),
-        Err(MirrorError::BadLength) => Err(Refusal::Length),
-        Err(MirrorError::NoMemory) => Err(Refusal::Fault(StartFault::NoMemory)),
+    match Super::decode(sector) {
+        Ok(sup) => sup.home,
+        Err(_) => 2,
     }
 }
 
-/// A disk on a copy of these bytes.
+/// A medium of a device of so many sectors, of which these are the first.
+pub(crate) fn window_of(
+    alloc: Global,
+    near: &[u8],
+    sectors: u64,
+    device: &DeviceHolds,
+    span: u32,
+    room: usize,
+) -> Result<WindowMedium, Refusal>
+    ensures ok { IfOk result (λ m. m ≡ fresh sectors near.now device.now.bytes span room) }
+    ensures err { IfErr result (λ refusal. (refusal ≡ Refusal.Fault StartFault.NoMemory)
+        ⊎ ((refusal ≡ Refusal.Length) × IsNoLength near.now sectors)) }
+{
+    let Ok(copy) = Vec::from_slice(alloc, near) else {
+        return Err(Refusal::Fault(StartFault::NoMemory));
+    };
+    match WindowMedium::new(alloc, copy, sectors, device, span, room) {
+        Ok(medium) => Ok(medium),
+        Err(WindowError::BadLength) => Err(Refusal::Length),
+        Err(WindowError::NoMemory) => Err(Refusal::Fault(StartFault::NoMemory)),
+    }
+}
+
+/// A disk on a device of so many sectors, of which these are the first.
 pub(crate) fn begin(
     alloc: Global,
-    bytes: &[u8],
+    near: &[u8],
+    sectors: u64,
+    device: &DeviceHolds,
     identity: &UsbDiskIdentity,
     packet: u32,
+    span: u32,
     room: usize,
-) -> Result<Box<Disk<MirrorMedium>>, Refusal>
-    ensures ok { IfOk result (λ disk.
-        BeginsOn bytes.now (identity_of identity.now) packet room disk.value) }
-    ensures err { IfErr result (λ refusal.
-        IsRefusal bytes.now (identity_of identity.now) packet room refusal) }
+) -> Result<Box<Disk<WindowMedium>>, Refusal>
+    ensures ok { IfOk result (λ disk. BeginsOn (fresh sectors near.now device.now.bytes span room)
+        (identity_of identity.now) packet disk.value) }
+    ensures err { IfErr result (λ refusal. IsRefusal near.now sectors
+        (fresh sectors near.now device.now.bytes span room)
+        (identity_of identity.now) packet refusal) }
 {
     let Some(size) = packet_size(packet) else {
         return Err(Refusal::PacketSize);
@@ -106,8 +125,8 @@ pub(crate) fn begin(
     let Some(who) = read_identity(identity) else {
         return Err(Refusal::Identity);
     };
-    let medium = mirror_of(alloc, bytes, room)?;
-    // The law of the outbox, from the first call on.
+    let medium = window_of(alloc, near, sectors, device, span, room)?;
+    // The law of the medium, from the first call on.
     let _waiting = medium.waiting();
     let disk = match Disk::start_with(alloc, medium, who, size) {
         Ok(disk) => disk,
@@ -117,23 +136,4 @@ pub(crate) fn begin(
         Ok(held) => Ok(held),
         Err(_) => Err(Refusal::Fault(StartFault::NoMemory)),
     }
-}
-
-/// Copies the bytes of a medium out, where there is just the room for them.
-pub(crate) fn copy_out(medium: &MirrorMedium, to: &mut [u8]) -> bool
-    ensures { GivesBytes medium.now to.old to.new result }
-{
-    let bytes = medium.bytes();
-    let fits = bytes.len() == to.len();
-    if fits {
-        to.copy_from_slice(bytes);
-    }
-    fits
-}
-
-/// Copies the bytes of the disk's medium out, where there is just the room for them.
-pub(crate) fn give_bytes(disk: &Disk<MirrorMedium>, to: &mut [u8]) -> bool
-    ensures { GivesBytes (medium_of disk.now) to.old to.new result }
-{
-    copy_out(disk.medium(), to)
 }

@@ -146,8 +146,10 @@ impl WindowMedium {
 
     /// Whether reads find all of these sectors among those that were shown.
     pub fn holds(&self, first: u64, count: u64) -> bool
-        ensures { result ≡ true → (s : ℕ) → first ≤ s → s < first + count
+        ensures all { result ≡ true → (s : ℕ) → first ≤ s → s < first + count
             → is_in_sight self.now s ≡ true }
+        ensures some { result ≡ false → (0 < count)
+            × (self.now.from ≤ first → self.now.from + self.now.held < first + count) }
     {
         count == 0 || (self.pane.has(first) && count <= self.pane.held - (first - self.pane.from))
     }

@@ -1,8 +1,8 @@
 use Rattle.std.proofs.Common.{◌≡◌, ◌∷◌, [], ◌++◌, List, ℕ, ◌<◌, length, drop, refl, sym, ap, ◌∙◌, subst, arith, slice_set}
 use Rattle.std.proofs.lemmas.List.{append-nil, drop_all}
 use Rattle.bot_machine.specs.declared.event.Answer.TheVariants.{Ack, Byte, Two, Stall}
-use Rattle.mirror.specs.Mirror.{ComesAfter}
-use Rattle.mirror.specs.MirrorLaws.{comes_after_itself}
+use Rattle.window.specs.Window.{ComesAfter}
+use Rattle.window.specs.WindowLaws.{comes_after_itself}
 use Rattle.usbdisk_c.specs.Plays.{Disk, medium_of}
 use Rattle.usbdisk_c.proofs.Rooms.{played}
 use Rattle.usbdisk_c.proofs.play.answer_request.Goals as goal

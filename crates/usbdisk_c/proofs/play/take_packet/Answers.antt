@@ -6,14 +6,14 @@ use Rattle.usbdisk_c.proofs.play.take_packet.Goals as goal
 pub returns-in-Ack : goal.returns-in-Ack
 returns-in-Ack c =
     let step = c.in-Ack.ensures in
-    inr (omega arith, Ack, played _ _ _ _ c.foresee.ensures step.step step.follows, refl)
+    inr (inr (omega arith, Ack, played _ _ _ _ c.foresee.ensures step.step step.follows, refl, refl, refl))
 
 pub returns-in-Nak : goal.returns-in-Nak
 returns-in-Nak c =
     let step = c.in-Nak.ensures in
-    inr (omega arith, Nak, played _ _ _ _ c.foresee.ensures step.step step.follows, refl)
+    inr (inr (omega arith, Nak, played _ _ _ _ c.foresee.ensures step.step step.follows, refl, refl, refl))
 
 pub returns-in-Stall : goal.returns-in-Stall
 returns-in-Stall c =
     let step = c.in-Stall.ensures in
-    inr (omega arith, Stall, played _ _ _ _ c.foresee.ensures step.step step.follows, refl)
+    inr (inr (omega arith, Stall, played _ _ _ _ c.foresee.ensures step.step step.follows, refl, refl, refl))
