@@ -7,11 +7,46 @@
 #include <stdlib.h>
 #include <unistd.h>
 
-enum { FORMAT = 1, BLOCKS = 64, SLOTS = 2, PACKET = 512 };
+enum { FORMAT = 1, BLOCKS = 64, SLOTS = 2, PACKET = 512, SPAN = 48, SECTORS = 2 + 50 * SLOTS + BLOCKS };
 
 static const struct usbdisk_identity who = { "EXAMPLE ", "IMAGE FILE      ", "0001",
                                              "000000000001" };
+static const struct usbdisk_device name;
 static unsigned writes, flushes;
+
+/* So many sectors of the device, by one read. */
+static bool read_sectors(FILE *device, uint64_t first, uint8_t *bytes, size_t count)
+{
+    return !fseek(device, (long)(first * 512), SEEK_SET) && fread(bytes, 512, count, device) == count;
+}
+
+/* Starts a disk on what the device holds, of which the first sectors go into memory. */
+static uint32_t start(struct usbdisk *disk, FILE *device)
+{
+    uint8_t sector[512];
+    if (!read_sectors(device, 0, sector, 1))
+        return USBDISK_READ_REFUSED;
+    uint64_t near = usbdisk_near(sector) < SECTORS ? usbdisk_near(sector) : SECTORS;
+    uint8_t *bytes = malloc(near * 512);
+    uint32_t code = !bytes                                   ? USBDISK_NO_MEMORY
+                    : !read_sectors(device, 0, bytes, near) ? USBDISK_READ_REFUSED
+                    : usbdisk_start(disk, bytes, near * 512, SECTORS, &name, &who, PACKET, SPAN,
+                                    usbdisk_room(FORMAT, SLOTS));
+    free(bytes);
+    return code;
+}
+
+/* A packet to Bulk-Out: the disk is shown what it needs of the device. */
+static bool bulk_out(struct usbdisk *disk, FILE *device, const struct event *event, uint32_t *code)
+{
+    static uint8_t buffer[SPAN * 512];
+    uint64_t first;
+    uint32_t count;
+    while ((*code = usbdisk_bulk_out(disk, event->bytes, event->size, &first, &count)) == USBDISK_NEEDS)
+        if (!read_sectors(device, first, buffer, count) || usbdisk_show(disk, first, buffer, count * 512))
+            return false;
+    return true;
+}
 
 /* Persist first, then send: carries out all that waits, in order. A device that refuses a call is
  * treated as a loss of power: stop, read the device again, start. */
@@ -62,7 +97,8 @@ static bool serve(struct usbdisk *disk, FILE *device)
         next_event(&event);
         switch (event.kind) {
         case BULK_OUT:
-            code = usbdisk_bulk_out(disk, event.bytes, event.size);
+            if (!bulk_out(disk, device, &event, &code))
+                return false;
             break;
         case BULK_IN:
             code = usbdisk_bulk_in(disk, packet, &size);
@@ -90,27 +126,28 @@ static bool serve(struct usbdisk *disk, FILE *device)
 
 int main(int count, char **words)
 {
-    static uint8_t medium[512 * (2 + 50 * SLOTS + BLOCKS)], found[sizeof medium];
+    static uint8_t image[512 * SECTORS];
     struct usbdisk disk = USBDISK_NONE;
+    uint64_t first;
+    uint32_t needed;
     FILE *device = count == 2 ? fopen(words[1], "w+b") : NULL;
-    if (!device)
+    if (!device || usbdisk_version() != USBDISK_VERSION)
         return EXIT_FAILURE;
-    printf("format %u\n", usbdisk_format(medium, sizeof medium, FORMAT, BLOCKS, SLOTS));
-    if (fwrite(medium, sizeof medium, 1, device) != 1)
+    printf("format %u\n", usbdisk_format(image, sizeof image, FORMAT, BLOCKS, SLOTS));
+    if (fwrite(image, sizeof image, 1, device) != 1)
         return EXIT_FAILURE;
-    printf("start %u\n", usbdisk_start(&disk, medium, sizeof medium, &who, PACKET,
-                                       usbdisk_room(FORMAT, SLOTS)));
-    printf("start again %u\n", usbdisk_start(&disk, medium, sizeof medium, &who, PACKET, 1));
-    printf("a long packet %u\n", usbdisk_bulk_out(&disk, medium, 513));
+    printf("start %u\n", start(&disk, device));
+    printf("start again %u\n", start(&disk, device));
+    printf("a long packet %u\n", usbdisk_bulk_out(&disk, image, 513, &first, &needed));
+    printf("the log is shown %u\n", usbdisk_show(&disk, 2, image, 512));
     if (!persist(&disk, device) || !serve(&disk, device))
         return EXIT_FAILURE;
-    printf("stop %u\n", usbdisk_stop(&disk, medium, sizeof medium));
-    printf("stop again %u, %zu blocks of memory left\n",
-           usbdisk_stop(&disk, medium, sizeof medium), heap_blocks);
-    rewind(device);
-    bool same = fread(found, sizeof found, 1, device) == 1;
-    for (size_t i = 0; i < sizeof found; i++)
-        same = same && found[i] == medium[i];
-    printf("the device holds what the disk held: %s\n", same ? "yes" : "no");
+    printf("stop %u\n", usbdisk_stop(&disk));
+    printf("stop again %u, %zu blocks of memory left\n", usbdisk_stop(&disk), heap_blocks);
+    /* Block 5 is at home, on the device. */
+    bool same = read_sectors(device, SECTORS - BLOCKS + 5, image, 1);
+    for (size_t i = 0; i < 512; i++)
+        same = same && image[i] == 0xA5;
+    printf("the device holds what was written: %s\n", same ? "yes" : "no");
     return fclose(device) || !same;
 }

@@ -13,6 +13,7 @@
 #include <string.h>
 
 enum { BLOCKS = 40, SLOTS = 2, MOST = 4, WRITES = 400, SECTORS = 2 + 249 * SLOTS + BLOCKS };
+enum { SPAN = 8 };
 
 static const struct usbdisk_identity who = { "EXAMPLE ", "JUDGE           ", "0001",
                                              "000000000001" };
@@ -32,6 +33,7 @@ static struct {
     bool in_progress;
 } book;
 
+static const struct usbdisk_device name;
 static uint8_t image[SECTORS * 512];
 static uint64_t seed;
 static long left;
@@ -68,6 +70,26 @@ static bool persist(struct usbdisk *disk)
     }
 }
 
+static bool read_sectors(uint64_t first, uint8_t *bytes, uint64_t count)
+{
+    for (uint64_t i = 0; i < count; i++)
+        if (!device_read(first + i, bytes + i * 512))
+            return fails("the device refuses a read");
+    return true;
+}
+
+/* A packet to Bulk-Out. The disk is shown what it needs of the device. */
+static uint32_t bulk_out(struct usbdisk *disk, const void *packet, size_t size)
+{
+    static uint8_t shown[SPAN * 512];
+    uint64_t first;
+    uint32_t count, code;
+    while ((code = usbdisk_bulk_out(disk, packet, size, &first, &count)) == USBDISK_NEEDS)
+        if (!read_sectors(first, shown, count) || usbdisk_show(disk, first, shown, count * 512))
+            return USBDISK_NOT_TAKEN;
+    return code;
+}
+
 /* A command block wrapper for a command of ten bytes. */
 static bool ask(struct usbdisk *disk, uint8_t code, uint8_t flags, unsigned address, unsigned count,
                 unsigned bytes)
@@ -81,7 +103,7 @@ static bool ask(struct usbdisk *disk, uint8_t code, uint8_t flags, unsigned addr
     wrapper[16] = flags;
     wrapper[20] = (uint8_t)address;
     wrapper[23] = (uint8_t)count;
-    if (usbdisk_bulk_out(disk, wrapper, sizeof wrapper) != USBDISK_ACK)
+    if (bulk_out(disk, wrapper, sizeof wrapper) != USBDISK_ACK)
         return fails("a wrapper is not taken");
     return persist(disk);
 }
@@ -115,7 +137,7 @@ static bool write_some(struct usbdisk *disk, bool forced)
         return false;
     for (unsigned i = 0; i < count; i++) {
         book.in_progress = i + 1 == count;
-        if (usbdisk_bulk_out(disk, (uint8_t *)block, 512) != USBDISK_ACK)
+        if (bulk_out(disk, block, 512) != USBDISK_ACK)
             return fails("data is not taken");
         if (!persist(disk))
             return false;
@@ -172,10 +194,13 @@ static bool read_some(struct usbdisk *disk)
 /* Starts a disk on what the device holds. */
 static bool start(struct usbdisk *disk, uint32_t format)
 {
-    for (uint64_t i = 0; i < SECTORS; i++)
-        if (!device_read(i, image + i * 512))
-            return fails("the device refuses a read");
-    if (usbdisk_start(disk, image, sizeof image, &who, 512, usbdisk_room(format, SLOTS)))
+    if (!read_sectors(0, image, 1))
+        return false;
+    uint64_t near = usbdisk_near(image) < SECTORS ? usbdisk_near(image) : SECTORS;
+    if (!read_sectors(0, image, near))
+        return false;
+    if (usbdisk_start(disk, image, near * 512, SECTORS, &name, &who, 512, SPAN,
+                      usbdisk_room(format, SLOTS)))
         return fails("a start is refused");
     return true;
 }
@@ -206,12 +231,12 @@ static void live(struct usbdisk *disk)
 static bool finds_what_it_may(uint32_t format)
 {
     struct usbdisk disk = USBDISK_NONE;
-    uint32_t found[BLOCKS], blocks[BLOCKS];
+    uint32_t found[BLOCKS] = { 0 }, blocks[BLOCKS];
     size_t most = book.accepted + book.in_progress;
     bool good = start(&disk, format) && hear_attention(&disk);
     for (unsigned i = 0; good && i < BLOCKS; i++)
         good = read_block(&disk, i, &found[i]);
-    usbdisk_stop(&disk, image, sizeof image);
+    usbdisk_stop(&disk);
     bool allowed = false;
     for (size_t k = book.promised; good && k <= most && !allowed; k++) {
         blocks_after(k, blocks);
@@ -247,7 +272,7 @@ int main(int count, char **words)
             left = random_below(300);
             if (good)
                 live(&disk);
-            usbdisk_stop(&disk, image, sizeof image);
+            usbdisk_stop(&disk);
             left = -1;
             good = !wrong && device_cut() && finds_what_it_may(format);
             if (!good)

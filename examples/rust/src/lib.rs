@@ -7,8 +7,16 @@ mod raw;
 
 use std::io;
 
-/// A device of sectors of 512 bytes.
+/// The version of usbdisk.h that this wrapper is written for.
+pub const VERSION: u32 = 0x000800;
+
+const NEEDS: u32 = 3;
+
+/// A device of sectors of 512 bytes, of any size.
 pub trait Device {
+    fn sectors(&self) -> u64;
+    /// Fills the bytes with the sectors from the first one on.
+    fn read(&mut self, first: u64, bytes: &mut [u8]) -> io::Result<()>;
     fn write(&mut self, sector: u64, bytes: &[u8; 512]) -> io::Result<()>;
     /// All that was written before is durable when it is done.
     fn flush(&mut self) -> io::Result<()>;
@@ -50,8 +58,8 @@ impl From<io::Error> for Error {
 /// A disk. It holds a pointer, so it is neither `Send` nor `Sync`: it stays on its thread.
 pub struct UsbDisk {
     raw: raw::UsbDisk,
-    size: usize,
     packet: [u8; 512],
+    shown: Vec<u8>,
 }
 
 /// Makes an image of format 1 or 2 with so many blocks and log slots.
@@ -66,6 +74,23 @@ pub fn room(format: u32, slots: u64) -> usize {
     unsafe { raw::usbdisk_room(format, slots) as usize }
 }
 
+/// The version of the library.
+pub fn version() -> u32 {
+    // SAFETY: the call takes nothing.
+    unsafe { raw::usbdisk_version() }
+}
+
+// The sectors that go into memory.
+fn first_sectors(device: &mut impl Device) -> io::Result<Vec<u8>> {
+    let mut sector = [0; 512];
+    device.read(0, &mut sector)?;
+    // SAFETY: 512 bytes are lent.
+    let near = unsafe { raw::usbdisk_near(sector.as_ptr()) }.min(device.sectors());
+    let mut bytes = vec![0; near as usize * 512];
+    device.read(0, &mut bytes)?;
+    Ok(bytes)
+}
+
 fn check(code: u32) -> Result<(), Error> {
     match code {
         0 => Ok(()),
@@ -74,38 +99,77 @@ fn check(code: u32) -> Result<(), Error> {
 }
 
 impl UsbDisk {
-    /// Starts a disk on the bytes that the device holds.
+    /// Starts a disk on what the device holds. Its first sectors are read into memory. At most `span`
+    /// others are read at a time.
     pub fn start(
         device: &mut impl Device,
-        medium: &[u8],
         who: &Identity,
         packet: u32,
+        span: u32,
         room: usize,
     ) -> Result<UsbDisk, Error> {
         let mut raw = raw::UsbDisk::none();
+        let sectors = device.sectors();
+        let near = first_sectors(device)?;
+        let name = raw::Device { mark: 0 };
         // SAFETY: all that is pointed to is lent for the call, and the handle is empty.
         check(unsafe {
-            raw::usbdisk_start(&mut raw, medium.as_ptr(), medium.len(), who, packet, room)
+            raw::usbdisk_start(
+                &mut raw,
+                near.as_ptr(),
+                near.len(),
+                sectors,
+                &name,
+                who,
+                packet,
+                span,
+                room,
+            )
         })?;
         let mut disk = UsbDisk {
             raw,
-            size: medium.len(),
             packet: [0; 512],
+            shown: vec![0; span as usize * 512],
         };
         disk.persist(device)?;
         Ok(disk)
     }
 
-    /// A packet to Bulk-Out.
+    /// A packet to Bulk-Out. The disk is shown what it needs of the device.
     pub fn bulk_out(
         &mut self,
         device: &mut impl Device,
         packet: &[u8],
     ) -> Result<Answer<'static>, Error> {
-        // SAFETY: the handle is that of `start`, and `&mut self` lends it to this call alone.
-        let code = unsafe { raw::usbdisk_bulk_out(&mut self.raw, packet.as_ptr(), packet.len()) };
-        self.persist(device)?;
-        answer(code, &[])
+        let (mut first, mut count) = (0, 0);
+        loop {
+            // SAFETY: the handle is that of `start`, and `&mut self` lends it to this call alone.
+            let code = unsafe {
+                raw::usbdisk_bulk_out(
+                    &mut self.raw,
+                    packet.as_ptr(),
+                    packet.len(),
+                    &mut first,
+                    &mut count,
+                )
+            };
+            if code != NEEDS {
+                self.persist(device)?;
+                return answer(code, &[]);
+            }
+            self.show(device, first, count as usize)?;
+        }
+    }
+
+    // Reads these sectors of the device, and shows them to the disk.
+    fn show(&mut self, device: &mut impl Device, first: u64, count: usize) -> Result<(), Error> {
+        if self.shown.len() < count * 512 {
+            return Err(Error::Refused(NEEDS));
+        }
+        let bytes = &mut self.shown[..count * 512];
+        device.read(first, bytes)?;
+        // SAFETY: as in `bulk_out`; pointer and length are of one slice, lent for the call.
+        check(unsafe { raw::usbdisk_show(&mut self.raw, first, bytes.as_ptr(), bytes.len()) })
     }
 
     /// A token to Bulk-In.
@@ -148,12 +212,10 @@ impl UsbDisk {
         Ok(code == 1)
     }
 
-    /// Stops the disk, and gives the bytes of the medium back.
-    pub fn stop(mut self) -> Result<Vec<u8>, Error> {
-        let mut medium = vec![0; self.size];
-        // SAFETY: as in `bulk_out`; as many bytes are lent as the medium has.
-        check(unsafe { raw::usbdisk_stop(&mut self.raw, medium.as_mut_ptr(), medium.len()) })?;
-        Ok(medium)
+    /// Stops the disk.
+    pub fn stop(mut self) -> Result<(), Error> {
+        // SAFETY: as in `bulk_out`.
+        check(unsafe { raw::usbdisk_stop(&mut self.raw) })
     }
 
     fn persist(&mut self, device: &mut impl Device) -> io::Result<()> {
@@ -171,9 +233,8 @@ impl UsbDisk {
 
 impl Drop for UsbDisk {
     fn drop(&mut self) {
-        let mut medium = vec![0; self.size];
         // SAFETY: as in `stop`, after which the handle is empty and this call does nothing.
-        unsafe { raw::usbdisk_stop(&mut self.raw, medium.as_mut_ptr(), medium.len()) };
+        unsafe { raw::usbdisk_stop(&mut self.raw) };
     }
 }
 

@@ -16,20 +16,38 @@ impl UsbDisk {
     }
 }
 
+/// A name for what the contracts speak of, which nobody reads.
+#[repr(C)]
+pub struct Device {
+    pub mark: u8,
+}
+
 extern "C" {
+    pub fn usbdisk_version() -> u32;
+    pub fn usbdisk_near(sector: *const u8) -> u64;
     pub fn usbdisk_room(format: u32, slots: u64) -> u64;
     pub fn usbdisk_format(image: *mut u8, size: usize, format: u32, blocks: u64, slots: u64)
         -> u32;
     pub fn usbdisk_start(
         disk: *mut UsbDisk,
-        medium: *const u8,
-        size: usize,
+        near: *const u8,
+        near_size: usize,
+        sectors: u64,
+        device: *const Device,
         identity: *const Identity,
         packet: u32,
+        span: u32,
         room: usize,
     ) -> u32;
-    pub fn usbdisk_stop(disk: *mut UsbDisk, medium: *mut u8, size: usize) -> u32;
-    pub fn usbdisk_bulk_out(disk: *mut UsbDisk, packet: *const u8, size: usize) -> u32;
+    pub fn usbdisk_stop(disk: *mut UsbDisk) -> u32;
+    pub fn usbdisk_bulk_out(
+        disk: *mut UsbDisk,
+        packet: *const u8,
+        size: usize,
+        first: *mut u64,
+        count: *mut u32,
+    ) -> u32;
+    pub fn usbdisk_show(disk: *mut UsbDisk, first: u64, bytes: *const u8, size: usize) -> u32;
     pub fn usbdisk_bulk_in(disk: *mut UsbDisk, packet: *mut u8, size: *mut u32) -> u32;
     pub fn usbdisk_setup(
         disk: *mut UsbDisk,

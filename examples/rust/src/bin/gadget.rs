@@ -1,10 +1,11 @@
 //! The program of examples/c over a device in memory: REQUEST SENSE, a WRITE with FUA, a READ, a class
 //! reset and a bus reset.
 use std::io;
-use usbdisk::{format, room, Answer, Device, Error, Identity, UsbDisk};
+use usbdisk::{format, room, version, Answer, Device, Error, Identity, UsbDisk, VERSION};
 
 const BLOCKS: u64 = 64;
 const SLOTS: u64 = 2;
+const SPAN: u32 = 48;
 const WHO: Identity = Identity {
     vendor: *b"EXAMPLE ",
     product: *b"MEMORY          ",
@@ -19,6 +20,16 @@ struct Memory {
 }
 
 impl Device for Memory {
+    fn sectors(&self) -> u64 {
+        self.bytes.len() as u64 / 512
+    }
+
+    fn read(&mut self, first: u64, bytes: &mut [u8]) -> io::Result<()> {
+        let at = first as usize * 512;
+        bytes.copy_from_slice(&self.bytes[at..at + bytes.len()]);
+        Ok(())
+    }
+
     fn write(&mut self, sector: u64, bytes: &[u8; 512]) -> io::Result<()> {
         let at = sector as usize * 512;
         self.bytes[at..at + 512].copy_from_slice(bytes);
@@ -61,14 +72,15 @@ fn show(what: &str, answer: Answer<'_>) {
 }
 
 fn main() -> Result<(), Error> {
+    assert_eq!(version(), VERSION);
     let mut bytes = vec![0; 512 * (2 + 50 * SLOTS + BLOCKS) as usize];
     format(&mut bytes, 1, BLOCKS, SLOTS)?;
     let mut device = Memory {
-        bytes: bytes.clone(),
+        bytes,
         writes: 0,
         flushes: 0,
     };
-    let mut disk = UsbDisk::start(&mut device, &bytes, &WHO, 512, room(1, SLOTS))?;
+    let mut disk = UsbDisk::start(&mut device, &WHO, 512, SPAN, room(1, SLOTS))?;
     let read = [0x28, 0, 0, 0, 0, 5, 0, 0, 1, 0];
     show(
         "REQUEST SENSE",
@@ -107,10 +119,10 @@ fn main() -> Result<(), Error> {
         "all at home: {} writes, {} flushes",
         device.writes, device.flushes
     );
-    let held = disk.stop()?;
-    println!(
-        "the device holds what the disk held: {}",
-        held == device.bytes
-    );
+    disk.stop()?;
+    // Block 5 is at home, on the device.
+    let mut home = [0; 512];
+    device.read(2 + 50 * SLOTS + 5, &mut home)?;
+    println!("the device holds what was written: {}", home == [0xA5; 512]);
     Ok(())
 }
