@@ -199,6 +199,9 @@ int main(int count, char **words)
         status = gadget.disk.status;
     else if (begin(&gadget))
         status = serve(&gadget);
+    bulk_close(&gadget.bulk);
+    if (gadget.control > 0)
+        close(gadget.control);
     disk_close(&gadget.disk);
     return status;
 }

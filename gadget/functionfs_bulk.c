@@ -19,6 +19,15 @@ bool bulk_open(struct bulk *bulk, struct disk *disk, const char *folder)
     return queue_open(&bulk->out, path, false);
 }
 
+void bulk_close(struct bulk *bulk)
+{
+    queue_cancel(&bulk->engine, &bulk->in);
+    queue_cancel(&bulk->engine, &bulk->out);
+    queue_close(&bulk->in);
+    queue_close(&bulk->out);
+    engine_close(&bulk->engine);
+}
+
 static void submit(struct bulk *bulk, struct queue *queue, size_t size)
 {
     if (!queue_submit(&bulk->engine, queue, size))

@@ -23,6 +23,9 @@ struct bulk {
 /* Opens both endpoints in the folder of FunctionFS. False: the system refused. */
 bool bulk_open(struct bulk *bulk, struct disk *disk, const char *folder);
 
+/* Takes all transfers back, and gives memory and files back. */
+void bulk_close(struct bulk *bulk);
+
 /* Does all that can be done without waiting. Answers how many milliseconds later it wants to be called at the latest, where
  * nothing comes before; or -1. */
 int bulk_play(struct bulk *bulk);

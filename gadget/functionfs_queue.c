@@ -107,3 +107,21 @@ int queue_halt(struct queue *queue)
         return EINVAL;
     return errno == EBADMSG ? 0 : errno;
 }
+
+void queue_close(struct queue *queue)
+{
+    for (int i = 0; i < DEPTH; i++)
+        free(queue->ring[i].bytes);
+    if (queue->file > 0)
+        close(queue->file);
+    memset(queue, 0, sizeof *queue);
+}
+
+void engine_close(struct engine *engine)
+{
+    if (engine->context)
+        syscall(SYS_io_destroy, engine->context);
+    if (engine->ready > 0)
+        close(engine->ready);
+    memset(engine, 0, sizeof *engine);
+}

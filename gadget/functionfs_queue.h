@@ -59,4 +59,8 @@ void queue_cancel(struct engine *engine, struct queue *queue);
  * another error. */
 int queue_halt(struct queue *queue);
 
+/* Gives the memory and the file back. The kernel has let all transfers go. */
+void queue_close(struct queue *queue);
+void engine_close(struct engine *engine);
+
 #endif
