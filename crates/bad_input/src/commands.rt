@@ -112,7 +112,7 @@ pub(crate) fn ends<R: Files<File = File> + AllocGlobal>(
 ) -> Result<(), Finding> {
     let mut out = Vec::new(rt.alloc());
     let mut err = Vec::new(rt.alloc());
-    let found = command(rt, words, &mut out, &mut err);
+    let found = command(rt, words, &mut out, &mut err).status;
     if found == status && out.as_slice() == text.as_bytes() && err.as_slice() == told.as_bytes() {
         Ok(())
     } else {

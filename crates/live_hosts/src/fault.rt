@@ -20,9 +20,9 @@ pub(crate) enum Fault {
     /// A line of the recording names no block.
     #[error("no block has the number in '{0}'")]
     Block(String),
-    /// The lines of the recording could not be read.
-    #[error("the lines were not read")]
-    Reader,
+    /// More was asked for before this answer came to a line that was sent.
+    #[error("a line was asked for before answer {0}")]
+    Early(u64),
     /// The texts of the disk are not printable.
     #[error("no identity")]
     Identity,

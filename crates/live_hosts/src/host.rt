@@ -1,6 +1,7 @@
 //! A host that sends recorded lines, and compares the answers.
 ghost use Rattle.std.specs.Prelude.{◌≤◌, length};
 
+use std::cell::Cell;
 use std::io::{ErrorKind, Read, Write};
 use std::{fmt, io};
 
@@ -22,11 +23,18 @@ impl fmt::Display for Pace {
     }
 }
 
-/// The lines that are still to be sent.
+/// The lines that are still to be sent. It fails where more of them is asked for before all answers
+/// came to those lines that were sent whole.
 #[derive(Drop)]
 pub(crate) struct Sender<'a> {
     pub(crate) lines: &'a [u8],
     pub(crate) pace: Pace,
+    /// How many lines were sent whole.
+    pub(crate) sent: usize,
+    /// How many answers each line and those before it have.
+    pub(crate) due: &'a [u64],
+    /// How many answers came.
+    pub(crate) came: &'a Cell<u64>,
 }
 
 impl<'a> Sender<'a> {
@@ -39,12 +47,26 @@ impl<'a> Sender<'a> {
             Pace::RunsAhead => self.lines.len(),
         }
     }
+
+    // Whether all answers came to the lines that were sent whole.
+    fn is_answered(&self) -> bool {
+        let due = match self.sent.checked_sub(1) {
+            None => Some(&0),
+            Some(last) => self.due.get(last),
+        };
+        due == Some(&self.came.get())
+    }
 }
 
 impl<'a> Read for Sender<'a> {
     fn read(&mut self, buf: &mut [u8]) -> io::Result<usize> {
+        if !self.is_answered() {
+            return Err(io::Error::from(ErrorKind::WouldBlock));
+        }
         let count = self.next_length().min(buf.len());
         buf[..count].copy_from_slice(&self.lines[..count]);
+        let ended = buf[..count].iter().filter(|byte| **byte == b'\n').count();
+        self.sent = self.sent.saturating_add(ended);
         self.lines = &self.lines[count..];
         Ok(count)
     }
@@ -64,7 +86,7 @@ fn line_length(lines: &[u8]) -> usize
 #[derive(Drop)]
 pub(crate) struct Comparer<'a> {
     pub(crate) recorded: &'a [u8],
-    pub(crate) count: u64,
+    pub(crate) came: &'a Cell<u64>,
 }
 
 impl<'a> Write for Comparer<'a> {
@@ -75,7 +97,7 @@ impl<'a> Write for Comparer<'a> {
             return Err(io::Error::from(ErrorKind::InvalidData));
         }
         self.recorded = &self.recorded[end..];
-        self.count = self.count.saturating_add(1);
+        self.came.set(self.came.get().saturating_add(1));
         Ok(buf.len())
     }
 

@@ -6,6 +6,7 @@ use bot_machine::{Disk, Identity};
 use medium::SimMedium;
 use runner::{LineFault, serve_lines};
 use std::alloc::Global;
+use std::cell::Cell;
 
 /// The blocks and log slots of the image.
 const BLOCKS: u64 = 65_000;
@@ -35,20 +36,26 @@ pub(crate) fn play_part(
         Ok(disk) => disk,
         Err(error) => return Err(Fault::Start(error.fault)),
     };
+    let came = Cell::new(0);
     let mut sender = Sender {
         lines: recording.sent.as_slice(),
         pace,
+        sent: 0,
+        due: recording.due.as_slice(),
+        came: &came,
     };
     let mut comparer = Comparer {
         recorded: recording.answered.as_slice(),
-        count: 0,
+        came: &came,
     };
-    match serve_lines(&mut disk, &mut sender, &mut comparer) {
-        Ok(()) if comparer.recorded.is_empty() => Ok((disk.into_medium(), comparer.count)),
-        Ok(()) => Err(Fault::Missing(comparer.count)),
+    let served = serve_lines(&mut disk, &mut sender, &mut comparer);
+    let next = came.get().saturating_add(1);
+    match served {
+        Ok(()) if comparer.recorded.is_empty() => Ok((disk.into_medium(), came.get())),
+        Ok(()) => Err(Fault::Missing(came.get())),
         Err(LineFault::Line(number)) => Err(Fault::Line(number)),
-        Err(LineFault::Reader) => Err(Fault::Reader),
-        Err(LineFault::Writer) => Err(Fault::Answer(comparer.count.saturating_add(1))),
+        Err(LineFault::Reader) => Err(Fault::Early(next)),
+        Err(LineFault::Writer) => Err(Fault::Answer(next)),
     }
 }
 

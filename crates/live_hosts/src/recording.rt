@@ -12,6 +12,8 @@ const BLOCK: usize = 512;
 pub(crate) struct Recording {
     pub(crate) sent: Vec<u8>,
     pub(crate) answered: Vec<u8>,
+    /// How many answers each line and those before it have.
+    pub(crate) due: Vec<u64>,
 }
 
 impl Recording {
@@ -29,7 +31,41 @@ impl Recording {
         Ok(Recording {
             sent: expand(alloc, script.as_str(), blocks)?,
             answered: expand(alloc, expect.as_str(), blocks)?,
+            due: count_answers(alloc, script.as_str())?,
         })
+    }
+}
+
+// How many answers each line of a script and those before it have.
+fn count_answers(alloc: Global, script: &str) -> Result<Vec<u64>, Fault> {
+    let mut due = Vec::new(alloc);
+    let mut all: u64 = 0;
+    for line in script.lines() {
+        all = all.saturating_add(answers_to(line));
+        due.push(all)?;
+    }
+    Ok(due)
+}
+
+// How many answers a line has: a fill has one a packet, and a comment none.
+fn answers_to(line: &str) -> u64 {
+    if line.is_empty() || line.starts_with('#') {
+        return 0;
+    }
+    match line.strip_prefix("fill ") {
+        None => 1,
+        Some(fill) => match fill.split_once(' ') {
+            None => 0,
+            Some((_byte, count)) => packets_of(count),
+        },
+    }
+}
+
+// The packets of so many bytes.
+fn packets_of(count: &str) -> u64 {
+    match count.parse::<u64>() {
+        Ok(bytes) => bytes.div_ceil(BLOCK as u64),
+        Err(_) => 0,
     }
 }
 

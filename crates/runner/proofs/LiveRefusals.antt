@@ -1,5 +1,6 @@
 -- Which refusals the serving of an image file may have.
 use Rattle.std.proofs.Common.{◌≡◌, ◌≤◌, ℕ, List, Option, sym, ◌∙◌, ap, inl, inr, arith}
+use Rattle.medium.specs.ImageFile.{Copied}
 use Rattle.runner.specs.declared.refusal.Refusal.{Refusal}
 use Rattle.runner.specs.declared.refusal.Refusal.TheVariants as refused
 use Rattle.runner.specs.declared.serve.LineFault.{LineFault}
@@ -24,10 +25,10 @@ line_not_words (line.Line number) is = cc
 line_not_words line.Reader is = cc
 line_not_words line.Writer is = cc
 
-module _ (was now left after : Option (List ℕ)) (words : List (List ℕ)) (refusal : Refusal) where
-  not_words : IsLiveRefusedFor was now left after words refusal → refusal ≡ refused.Words → IsLiveLine words → ⊥
-  not_words (inl (is, none, kept)) same = none
-  not_words (inr (image, size, are, inl (unread, kept))) same = absurd (unread_not_words refusal unread same)
+module _ (was now left after : Option (List ℕ)) (back : Option Copied) (words : List (List ℕ)) (refusal : Refusal) where
+  not_words : IsLiveRefusedFor was now left after back words refusal → refusal ≡ refused.Words → IsLiveLine words → ⊥
+  not_words (inl (is, none, opened, kept)) same = none
+  not_words (inr (image, size, are, inl without)) same = absurd (unread_not_words refusal without.unread same)
   not_words (inr (image, size, are, inr stopped)) same =
       elim stopped.refused [
         | inl start ↦ absurd (start_not_words start.fault (sym start.told ∙ same))
@@ -35,9 +36,9 @@ module _ (was now left after : Option (List ℕ)) (words : List (List ℕ)) (ref
       ]
 
   -- at status 2 the words are no command line, and where they are none the status is 2
-  pub no_line_at_two : IsLiveRefusedFor was now left after words refusal → status_of refusal ≡ 2 → IsLiveLine words → ⊥
+  pub no_line_at_two : IsLiveRefusedFor was now left after back words refusal → status_of refusal ≡ 2 → IsLiveLine words → ⊥
   no_line_at_two why two = not_words why (status_of_words refusal two)
 
-  pub two_without_line : IsLiveRefusedFor was now left after words refusal → (IsLiveLine words → ⊥) → status_of refusal ≡ 2
-  two_without_line (inl (is, none, kept)) never = ap status_of is
+  pub two_without_line : IsLiveRefusedFor was now left after back words refusal → (IsLiveLine words → ⊥) → status_of refusal ≡ 2
+  two_without_line (inl (is, none, opened, kept)) never = ap status_of is
   two_without_line (inr (image, size, are, why)) never = absurd (never (image, size, are))

@@ -1,5 +1,6 @@
 -- Which refusals a command may have.
 use Rattle.std.proofs.Common.{◌≡◌, ◌⊎◌, ℕ, List, Option, refl, sym, ◌∙◌, ap, inl, inr, arith}
+use Rattle.medium.specs.ImageFile.{Copied}
 use Rattle.bot_machine.specs.StartFaults.{StartFault}
 use Rattle.bot_machine.specs.StartFaults as start
 use Rattle.runner.specs.declared.fault.ScriptFault.{ScriptFault}
@@ -56,34 +57,41 @@ unread_not_words refusal (inl is) words = cc
 unread_not_words refusal (inr (inl is)) words = cc
 unread_not_words refusal (inr (inr is)) words = cc
 
-module _ (was now : Option (List ℕ)) (words : List (List ℕ)) (refusal : Refusal) where
+file_not_words : (refusal : Refusal) → refusal ≡ refused.File → refusal ≡ refused.Words → ⊥
+file_not_words refusal is words = cc
+
+module _ (was now : Option (List ℕ)) (back : Option Copied) (words : List (List ℕ)) (refusal : Refusal) where
   -- what is not done for other causes is no refusal of words
-  not_words : HasNotDone was now words refusal → refusal ≡ refused.Words → ⊥
-  not_words (inl (image, format, blocks, slots, are, inl (is, sizes, kept))) same = cc
-  not_words (inl (image, format, blocks, slots, are, inr (sizes, inl (is, kept)))) same = cc
+  not_words : HasNotDone was now back words refusal → refusal ≡ refused.Words → ⊥
+  not_words (inl (image, format, blocks, slots, are, inl (is, sizes, none, kept))) same = cc
+  not_words (inl (image, format, blocks, slots, are, inr (sizes, inl (is, none, kept)))) same = cc
   not_words (inl (image, format, blocks, slots, are, inr (sizes, inr (is, some)))) same = cc
-  not_words (inr (inl (line, inl (unread, kept)))) same = unread_not_words refusal unread same
-  not_words (inr (inl (line, inr (inl stopped)))) same = start_not_words stopped.fault (sym stopped.told ∙ same)
-  not_words (inr (inl (line, inr (inr untold)))) same = let is = untold.failed in cc
-  not_words (inr (inr (inl (size, line, inl (unread, kept))))) same = unread_not_words refusal unread same
-  not_words (inr (inr (inl (size, line, inr play)))) same = script_not_words play.fault (sym play.told ∙ same)
-  not_words (inr (inr (inr (size, line, inl (unread, kept))))) same = unread_not_words refusal unread same
+  not_words (inr (inl (line, inl without))) same = unread_not_words refusal without.unread same
+  not_words (inr (inl (line, inr stopped))) same =
+      elim stopped.refused [
+        | inl refused ↦ start_not_words refused.fault (sym refused.told ∙ same)
+        | inr untold ↦ file_not_words refusal untold.failed same
+      ]
+  not_words (inr (inr (inl (size, line, inl without)))) same = unread_not_words refusal without.unread same
+  not_words (inr (inr (inl (size, line, inr (inl script))))) same = file_not_words refusal script.failed same
+  not_words (inr (inr (inl (size, line, inr (inr play))))) same = script_not_words play.fault (sym play.told ∙ same)
+  not_words (inr (inr (inr (size, line, inl without)))) same = unread_not_words refusal without.unread same
   not_words (inr (inr (inr (size, line, inr play)))) same = script_not_words play.fault (sym play.told ∙ same)
 
   -- what is not done was asked for
-  not_asked : HasNotDone was now words refusal → (IsCommandLine words → ⊥) → ⊥
+  not_asked : HasNotDone was now back words refusal → (IsCommandLine words → ⊥) → ⊥
   not_asked (inl (image, format, blocks, slots, are, not_done)) never = never (inl (image, format, blocks, slots, are))
   not_asked (inr (inl (line, not_done))) never = never (inr (inl line))
   not_asked (inr (inr (inl (size, line, not_done)))) never = never (inr (inr (inl (size, line))))
   not_asked (inr (inr (inr (size, line, not_done)))) never = never (inr (inr (inr (size, line))))
 
   -- at status 2 the words are no command line, and where they are none the status is 2 or 5
-  pub no_line_at_two : IsRefusedFor was now words refusal → status_of refusal ≡ 2 → IsCommandLine words → ⊥
-  no_line_at_two (inl (is, kept)) two = absurd (omega (arith, ap status_of is, two))
-  no_line_at_two (inr (inl (is, none, kept))) two = none
+  pub no_line_at_two : IsRefusedFor was now back words refusal → status_of refusal ≡ 2 → IsCommandLine words → ⊥
+  no_line_at_two (inl (is, opened, kept)) two = absurd (omega (arith, ap status_of is, two))
+  no_line_at_two (inr (inl (is, none, opened, kept))) two = none
   no_line_at_two (inr (inr not_done)) two = absurd (not_words not_done (status_of_words refusal two))
 
-  pub two_or_five : IsRefusedFor was now words refusal → (IsCommandLine words → ⊥) → (status_of refusal ≡ 2) ⊎ (status_of refusal ≡ 5)
-  two_or_five (inl (is, kept)) never = inr (ap status_of is)
-  two_or_five (inr (inl (is, none, kept))) never = inl (ap status_of is)
+  pub two_or_five : IsRefusedFor was now back words refusal → (IsCommandLine words → ⊥) → (status_of refusal ≡ 2) ⊎ (status_of refusal ≡ 5)
+  two_or_five (inl (is, opened, kept)) never = inr (ap status_of is)
+  two_or_five (inr (inl (is, none, opened, kept))) never = inl (ap status_of is)
   two_or_five (inr (inr not_done)) never = absurd (not_asked not_done never)

@@ -1,9 +1,9 @@
 -- What the program that serves an image file line by line does.
-use Rattle.std.specs.Prelude.{◌≡◌, ◌⊎◌, ℕ, List, ◌∷◌, Option}
+use Rattle.std.specs.Prelude.{◌≡◌, ◌⊎◌, ℕ, List, ◌∷◌, Option, Some, None}
 use Rattle.std.specs.Io.KnownBytes.{Keeps}
 use Rattle.medium.specs.Medium.{State}
 use Rattle.medium.specs.ImageFile as file
-use Rattle.medium.specs.ImageFile.{Copied, IsImage, fresh}
+use Rattle.medium.specs.ImageFile.{Copied}
 use Rattle.bot_machine.specs.Disk.{DiskValue}
 use Rattle.bot_machine.specs.Opening.{IsOpened, IsNotOpened, StartLeaves}
 use Rattle.bot_machine.specs.PacketBytes.{bytes_of}
@@ -12,7 +12,7 @@ use Rattle.bot_machine.specs.declared.packet_size.PacketSize.{PacketSize}
 use Rattle.runner.specs.declared.refusal.Refusal.{Refusal}
 use Rattle.runner.specs.declared.refusal.Refusal.TheVariants as refused
 use Rattle.runner.specs.declared.serve.LineFault.{LineFault}
-use Rattle.runner.specs.Program.{IsUnread}
+use Rattle.runner.specs.Program.{IsJustOpened, NoImage}
 use Rattle.runner.specs.Script.{device}
 use Rattle.runner.specs.Served.{IsServed, IsStopped}
 use Rattle.runner.specs.Status.{refusal_of_line, refusal_of_start}
@@ -33,51 +33,59 @@ IsLiveLine words = (image : List ℕ) × (size : PacketSize) × AreLiveWords wor
 -- many bytes.
 module _ {M : Type 0} (state : M → State) (most : ℕ) (medium : M)
     (was now left after : Option (List ℕ)) where
-  -- a disk started on the medium, and its input was served to its end; nothing was done afterwards
-  pub record IsServedOn : Type 0 where
+  -- A disk started on the medium, and its input was served to its end. The medium comes back as the
+  -- last event left it: nothing was done to it afterwards.
+  pub record IsServedOn (back : M) : Type 0 where
     pub first : DiskValue M
     pub opens : IsOpened (state medium) (state first.unit.store.medium) (device most) first
     pub leaves : StartLeaves (state medium) (state first.unit.store.medium)
     pub last : DiskValue M
     pub served : IsServed state most was now first last left after
+    pub given : back ≡ last.unit.store.medium
 
-  -- no disk started on the medium, and nothing was read or written
-  pub record IsNotStartedOn (refusal : Refusal) : Type 0 where
+  -- No disk started on the medium, and nothing was read or written. It comes back as the start left
+  -- it.
+  pub record IsNotStartedOn (back : M) (refusal : Refusal) : Type 0 where
     pub fault : StartFault
-    pub back : M
     pub cause : IsNotOpened (state medium) (state back) fault
     pub leaves : StartLeaves (state medium) (state back)
     pub told : refusal ≡ refusal_of_start fault
     pub unread : after ≡ left
     pub kept : Keeps was now
 
-  -- a disk started on the medium, and its input was served in part
-  pub record IsStoppedOn (refusal : Refusal) : Type 0 where
+  -- A disk started on the medium, and its input was served in part. The medium comes back as the
+  -- last event left it.
+  pub record IsStoppedOn (back : M) (refusal : Refusal) : Type 0 where
     pub first : DiskValue M
     pub opens : IsOpened (state medium) (state first.unit.store.medium) (device most) first
     pub leaves : StartLeaves (state medium) (state first.unit.store.medium)
     pub last : DiskValue M
     pub fault : LineFault
     pub stopped : IsStopped state most was now first last left after fault
+    pub given : back ≡ last.unit.store.medium
     pub told : refusal ≡ refusal_of_line fault
 
-  abbrev pub IsRefusedOn : Refusal → Type 0
-  IsRefusedOn refusal = IsNotStartedOn refusal ⊎ IsStoppedOn refusal
+  abbrev pub IsRefusedOn : M → Refusal → Type 0
+  IsRefusedOn back refusal = IsNotStartedOn back refusal ⊎ IsStoppedOn back refusal
 
-module _ (was now left after : Option (List ℕ)) where
+-- The medium of the image file comes back, where one was opened: with exactly what its disk has
+-- left.
+module _ (was now left after : Option (List ℕ)) (back : Option Copied) where
   -- the input was served to its end by a disk on some image file
   pub record IsLive (most : ℕ) : Type 0 where
     pub opened : Copied
-    pub is_fresh : opened ≡ fresh opened.bytes
-    pub is_image : IsImage opened.bytes
-    pub served : IsServedOn file.state_of most opened was now left after
+    pub is_opened : IsJustOpened opened
+    pub last : Copied
+    pub given : back ≡ Some last
+    pub served : IsServedOn file.state_of most opened was now left after last
 
   -- why it was not
   pub record IsLiveStopped (most : ℕ) (refusal : Refusal) : Type 0 where
     pub opened : Copied
-    pub is_fresh : opened ≡ fresh opened.bytes
-    pub is_image : IsImage opened.bytes
-    pub refused : IsRefusedOn file.state_of most opened was now left after refusal
+    pub is_opened : IsJustOpened opened
+    pub last : Copied
+    pub given : back ≡ Some last
+    pub refused : IsRefusedOn file.state_of most opened was now left after last refusal
 
   -- what the words ask for was done
   abbrev pub HasDoneLive : List (List ℕ) → Type 0
@@ -89,6 +97,6 @@ module _ (was now left after : Option (List ℕ)) where
   -- was not done to its end
   abbrev pub IsLiveRefusedFor : List (List ℕ) → Refusal → Type 0
   IsLiveRefusedFor words refusal =
-      ((refusal ≡ refused.Words) × (¬ IsLiveLine words) × Keeps was now)
+      ((refusal ≡ refused.Words) × (¬ IsLiveLine words) × (back ≡ None) × Keeps was now)
       ⊎ ((image : List ℕ) × (size : PacketSize) × AreLiveWords words image size
-      × ((IsUnread refusal × Keeps was now) ⊎ IsLiveStopped (bytes_of size) refusal))
+      × (NoImage was now back refusal ⊎ IsLiveStopped (bytes_of size) refusal))

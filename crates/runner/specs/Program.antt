@@ -1,6 +1,8 @@
 -- What the program's commands do.
-use Rattle.std.specs.Prelude.{◌≡◌, ◌⊎◌, ◌*◌, ℕ, Bool, true, false, List, [], length, codes, Option}
+use Rattle.std.specs.Prelude.{◌≡◌, ◌⊎◌, ◌*◌, ℕ, Bool, true, false, List, [], length, codes}
+use Rattle.std.specs.Prelude.{Option, Some, None}
 use Rattle.std.specs.Io.KnownBytes.{Appends, Keeps}
+use Rattle.medium.specs.Medium.{State}
 use Rattle.medium.specs.ImageFile as file
 use Rattle.medium.specs.ImageFile.{Copied, IsImage, fresh}
 use Rattle.medium.specs.Sim.{Sim}
@@ -9,7 +11,7 @@ use Rattle.medium.specs.Tally.{none}
 use Rattle.log_layout.specs.declared.log_format.LogFormat.{LogFormat}
 use Rattle.log_layout.specs.Places.{new_shape, sectors_of}
 use Rattle.recovery.specs.Formatted.{AreSizes, IsFormatted}
-use Rattle.recovery.specs.Migrated.{IsMigrationBy, IsMigrationCause}
+use Rattle.recovery.specs.Migrated.{IsMigrationBy, IsMigrationCause, MigrationLeaves}
 use Rattle.recovery.specs.declared.recovered.Recovered.{Recovered}
 use Rattle.bot_machine.specs.PacketBytes.{bytes_of}
 use Rattle.bot_machine.specs.StartFaults.{StartFault}
@@ -58,131 +60,179 @@ abbrev pub migration_text : Bool → List ℕ
 migration_text true = ended (codes "migrated")
 migration_text false = ended (codes "already format 2")
 
--- An image file was opened and brought to format 2. The truth value says that it was of format 1;
--- else it was recovered.
-pub record IsBroughtToTwo (was_one : Bool) : Type 0 where
-  pub opened : Copied
+-- an image file was opened, and this is its medium before the first call
+pub record IsJustOpened (opened : Copied) : Type 0 where
   pub is_fresh : opened ≡ fresh opened.bytes
   pub is_image : IsImage opened.bytes
-  pub after : Copied
-  pub answer : Recovered
-  pub migrated : IsMigrationBy was_one (file.state_of opened) (file.state_of after) answer
 
+-- What was written then, and now.
 module _ (was now : Option (List ℕ)) where
-  -- an image file of this format and these sizes was made, and exactly this was appended
-  pub record IsFormat (format : LogFormat) (blocks slots : ℕ) : Type 0 where
-    pub made : Copied
-    pub is_made : IsMade format blocks slots made
-    pub written : Appends was now (ended (codes "formatted"))
+  module _ {M : Type 0} (state : M → State) (medium : M) where
+    -- The medium was brought to format 2, exactly what is told of it was appended, and nothing was
+    -- done to it afterwards. The truth value says that it was of format 1; else it was recovered.
+    pub record IsMigrated (back : M) : Type 0 where
+      pub was_one : Bool
+      pub answer : Recovered
+      pub migrated : IsMigrationBy was_one (state medium) (state back) answer
+      pub leaves : MigrationLeaves (state medium) (state back)
+      pub written : Appends was now (migration_text was_one)
 
-  -- some image file is of format 2 now, and exactly what is told of it was appended
-  pub record IsMigration : Type 0 where
-    pub was_one : Bool
-    pub brought : IsBroughtToTwo was_one
-    pub written : Appends was now (migration_text was_one)
+    -- It was not: the device refused a call, or the image has a fault, and then nothing was written
+    -- to it.
+    pub record IsMigrationStopped (back : M) (refusal : Refusal) : Type 0 where
+      pub fault : StartFault
+      pub cause : IsMigrationCause (state medium) (state back) fault
+      pub leaves : MigrationLeaves (state medium) (state back)
+      pub told : refusal ≡ refusal_of_start fault
+      pub kept : Keeps was now
 
-  -- exactly the text of a life of some script's events on some image file was appended, with
-  -- packets of at most so many bytes
-  pub record IsRun (most : ℕ) : Type 0 where
-    pub opened : Copied
-    pub is_fresh : opened ≡ fresh opened.bytes
-    pub is_image : IsImage opened.bytes
-    pub left : Option (List ℕ)
-    pub after : Copied
-    pub played : IsPlayed file.state_of most left was now opened after
+    -- it was, but not all of what is told of it was written
+    pub record IsMigrationUntold (back : M) (refusal : Refusal) : Type 0 where
+      pub was_one : Bool
+      pub answer : Recovered
+      pub migrated : IsMigrationBy was_one (state medium) (state back) answer
+      pub leaves : MigrationLeaves (state medium) (state back)
+      pub failed : refusal ≡ refused.File
+      pub written : AppendsSome was now (migration_text was_one)
 
-  -- exactly the text of lives by some script's lines over a copy of some image was appended, with
-  -- packets of at most so many bytes
-  pub record IsSim (most : ℕ) : Type 0 where
-    pub image : List ℕ
-    pub is_image : IsImage image
-    pub left : Option (List ℕ)
-    pub after : Sim
-    pub played : ArePlayed most left was now (simulated image) after
+    abbrev pub IsNotMigrated : M → Refusal → Type 0
+    IsNotMigrated back refusal = IsMigrationStopped back refusal ⊎ IsMigrationUntold back refusal
 
-  -- what the words ask for was done
-  abbrev pub HasDone : List (List ℕ) → Type 0
-  HasDone words = (
-      (image : List ℕ) × (format : LogFormat) × (blocks : ℕ) × (slots : ℕ)
-      × AreFormatWords words image format blocks slots × IsFormat format blocks slots)
-      ⊎ ((IsMigrateLine words × IsMigration)
-      ⊎ (((size : PacketSize) × IsScriptCommand (codes "run") words size × IsRun (bytes_of size))
-      ⊎ ((size : PacketSize) × IsScriptCommand (codes "sim") words size × IsSim (bytes_of size))))
+  -- The medium of the image file comes back, where one was opened or made: with exactly what the
+  -- work on it has left.
+  module _ (back : Option Copied) where
+    -- an image file of this format and these sizes was made, and exactly this was appended
+    pub record IsFormat (format : LogFormat) (blocks slots : ℕ) : Type 0 where
+      pub made : Copied
+      pub given : back ≡ Some made
+      pub is_made : IsMade format blocks slots made
+      pub written : Appends was now (ended (codes "formatted"))
 
-  -- No image file was made: the sizes are out of their limits. Or they are not, and there was no
-  -- memory, or a file failed, the output perhaps.
-  abbrev pub IsFormatRefused : LogFormat → ℕ → ℕ → Refusal → Type 0
-  IsFormatRefused format blocks slots refusal =
-      ((refusal ≡ refused.ImageSize) × (¬ AreImageSizes format blocks slots) × Keeps was now)
-      ⊎ ((¬ (¬ AreImageSizes format blocks slots))
-      × (((refusal ≡ refused.NoMemory) × Keeps was now)
-      ⊎ ((refusal ≡ refused.File) × AppendsSome was now (ended (codes "formatted")))))
+    -- some image file is of format 2 now, and exactly what is told of it was appended
+    pub record IsMigration : Type 0 where
+      pub opened : Copied
+      pub is_opened : IsJustOpened opened
+      pub after : Copied
+      pub given : back ≡ Some after
+      pub migrated : IsMigrated file.state_of opened after
 
-  -- An image file was not brought to format 2: the device refused a call, or the image has a fault,
-  -- and then nothing was written to it.
-  pub record IsMigrationStopped (refusal : Refusal) : Type 0 where
-    pub opened : Copied
-    pub is_fresh : opened ≡ fresh opened.bytes
-    pub is_image : IsImage opened.bytes
-    pub fault : StartFault
-    pub back : Copied
-    pub cause : IsMigrationCause (file.state_of opened) (file.state_of back) fault
-    pub told : refusal ≡ refusal_of_start fault
-    pub kept : Keeps was now
+    -- exactly the text of a life of some script's events on some image file was appended, with
+    -- packets of at most so many bytes
+    pub record IsRun (most : ℕ) : Type 0 where
+      pub opened : Copied
+      pub is_opened : IsJustOpened opened
+      pub left : Option (List ℕ)
+      pub after : Copied
+      pub given : back ≡ Some after
+      pub played : IsPlayed file.state_of most left was now opened after
 
-  -- some image file is of format 2 now, but not all of what is told of it was written
-  pub record IsMigrationUntold (refusal : Refusal) : Type 0 where
-    pub was_one : Bool
-    pub brought : IsBroughtToTwo was_one
-    pub failed : refusal ≡ refused.File
-    pub written : AppendsSome was now (migration_text was_one)
+    -- exactly the text of lives by some script's lines over a copy of some image was appended, with
+    -- packets of at most so many bytes
+    pub record IsSim (most : ℕ) : Type 0 where
+      pub none : back ≡ None
+      pub image : List ℕ
+      pub is_image : IsImage image
+      pub left : Option (List ℕ)
+      pub after : Sim
+      pub played : ArePlayed most left was now (simulated image) after
 
-  abbrev pub IsMigrationRefused : Refusal → Type 0
-  IsMigrationRefused refusal = (IsUnread refusal × Keeps was now)
-      ⊎ (IsMigrationStopped refusal ⊎ IsMigrationUntold refusal)
+    -- what the words ask for was done
+    abbrev pub HasDone : List (List ℕ) → Type 0
+    HasDone words = (
+        (image : List ℕ) × (format : LogFormat) × (blocks : ℕ) × (slots : ℕ)
+        × AreFormatWords words image format blocks slots × IsFormat format blocks slots)
+        ⊎ ((IsMigrateLine words × IsMigration)
+        ⊎ (((size : PacketSize) × IsScriptCommand (codes "run") words size × IsRun (bytes_of size))
+        ⊎ ((size : PacketSize) × IsScriptCommand (codes "sim") words size
+        × IsSim (bytes_of size))))
 
-  -- a script on an image file was refused, and this is why
-  pub record IsPlayRefused (most : ℕ) (refusal : Refusal) : Type 0 where
-    pub opened : Copied
-    pub is_fresh : opened ≡ fresh opened.bytes
-    pub is_image : IsImage opened.bytes
-    pub left : Option (List ℕ)
-    pub fault : ScriptFault
-    pub back : Copied
-    pub refused : IsRefused file.state_of most left was now opened fault back
-    pub told : refusal ≡ refusal_of_fault fault
+    -- an image was made, but not all of what is told of it was written
+    pub record IsFormatUntold (format : LogFormat) (blocks slots : ℕ) : Type 0 where
+      pub made : Copied
+      pub given : back ≡ Some made
+      pub is_made : IsMade format blocks slots made
+      pub written : AppendsSome was now (ended (codes "formatted"))
 
-  -- a script over a copy of an image was refused, and this is why
-  pub record ArePlaysRefused (most : ℕ) (refusal : Refusal) : Type 0 where
-    pub image : List ℕ
-    pub is_image : IsImage image
-    pub left : Option (List ℕ)
-    pub fault : ScriptFault
-    pub back : Sim
-    pub refused : AreRefused most left was now (simulated image) fault back
-    pub told : refusal ≡ refusal_of_fault fault
+    -- No image file was made: the sizes are out of their limits. Or they are not, and there was no
+    -- memory, or a file failed, the output perhaps.
+    abbrev pub IsFormatRefused : LogFormat → ℕ → ℕ → Refusal → Type 0
+    IsFormatRefused format blocks slots refusal =
+        ((refusal ≡ refused.ImageSize) × (¬ AreImageSizes format blocks slots)
+        × (back ≡ None) × Keeps was now)
+        ⊎ ((¬ (¬ AreImageSizes format blocks slots))
+        × (((refusal ≡ refused.NoMemory) × (back ≡ None) × Keeps was now)
+        ⊎ ((refusal ≡ refused.File)
+        × (((back ≡ None) × Keeps was now) ⊎ IsFormatUntold format blocks slots))))
 
-  abbrev pub IsRunRefused : ℕ → Refusal → Type 0
-  IsRunRefused most refusal = (IsUnread refusal × Keeps was now) ⊎ IsPlayRefused most refusal
+    -- no image file was opened, and nothing was written
+    pub record NoImage (refusal : Refusal) : Type 0 where
+      pub unread : IsUnread refusal
+      pub none : back ≡ None
+      pub kept : Keeps was now
 
-  abbrev pub IsSimRefused : ℕ → Refusal → Type 0
-  IsSimRefused most refusal = (IsUnread refusal × Keeps was now) ⊎ ArePlaysRefused most refusal
+    -- an image file was not brought to format 2, or not all was told of it
+    pub record IsNotMigration (refusal : Refusal) : Type 0 where
+      pub opened : Copied
+      pub is_opened : IsJustOpened opened
+      pub after : Copied
+      pub given : back ≡ Some after
+      pub refused : IsNotMigrated file.state_of opened after refusal
 
-  -- what the words ask for was not done
-  abbrev pub HasNotDone : List (List ℕ) → Refusal → Type 0
-  HasNotDone words refusal =
-      ((image : List ℕ) × (format : LogFormat) × (blocks : ℕ) × (slots : ℕ)
-      × AreFormatWords words image format blocks slots
-      × IsFormatRefused format blocks slots refusal)
-      ⊎ ((IsMigrateLine words × IsMigrationRefused refusal)
-      ⊎ (((size : PacketSize) × IsScriptCommand (codes "run") words size
-      × IsRunRefused (bytes_of size) refusal)
-      ⊎ ((size : PacketSize) × IsScriptCommand (codes "sim") words size
-      × IsSimRefused (bytes_of size) refusal)))
+    abbrev pub IsMigrationRefused : Refusal → Type 0
+    IsMigrationRefused refusal = NoImage refusal ⊎ IsNotMigration refusal
 
-  -- why words were refused: there was no memory to read them; or they are no command line; or what
-  -- they ask for was not done
-  abbrev pub IsRefusedFor : List (List ℕ) → Refusal → Type 0
-  IsRefusedFor words refusal = ((refusal ≡ refused.NoMemory) × Keeps was now)
-      ⊎ (((refusal ≡ refused.Words) × (¬ IsCommandLine words) × Keeps was now)
-      ⊎ HasNotDone words refusal)
+    -- a script file was not opened: the image file is as it was
+    pub record IsWithoutScript (refusal : Refusal) : Type 0 where
+      pub opened : Copied
+      pub is_opened : IsJustOpened opened
+      pub given : back ≡ Some opened
+      pub failed : refusal ≡ refused.File
+      pub kept : Keeps was now
+
+    -- a script on an image file was refused, and this is why
+    pub record IsPlayRefused (most : ℕ) (refusal : Refusal) : Type 0 where
+      pub opened : Copied
+      pub is_opened : IsJustOpened opened
+      pub left : Option (List ℕ)
+      pub fault : ScriptFault
+      pub after : Copied
+      pub given : back ≡ Some after
+      pub refused : IsRefused file.state_of most left was now opened fault after
+      pub told : refusal ≡ refusal_of_fault fault
+
+    -- a script over a copy of an image was refused, and this is why
+    pub record ArePlaysRefused (most : ℕ) (refusal : Refusal) : Type 0 where
+      pub none : back ≡ None
+      pub image : List ℕ
+      pub is_image : IsImage image
+      pub left : Option (List ℕ)
+      pub fault : ScriptFault
+      pub after : Sim
+      pub refused : AreRefused most left was now (simulated image) fault after
+      pub told : refusal ≡ refusal_of_fault fault
+
+    abbrev pub IsRunRefused : ℕ → Refusal → Type 0
+    IsRunRefused most refusal =
+        NoImage refusal ⊎ (IsWithoutScript refusal ⊎ IsPlayRefused most refusal)
+
+    abbrev pub IsSimRefused : ℕ → Refusal → Type 0
+    IsSimRefused most refusal = NoImage refusal ⊎ ArePlaysRefused most refusal
+
+    -- what the words ask for was not done
+    abbrev pub HasNotDone : List (List ℕ) → Refusal → Type 0
+    HasNotDone words refusal =
+        ((image : List ℕ) × (format : LogFormat) × (blocks : ℕ) × (slots : ℕ)
+        × AreFormatWords words image format blocks slots
+        × IsFormatRefused format blocks slots refusal)
+        ⊎ ((IsMigrateLine words × IsMigrationRefused refusal)
+        ⊎ (((size : PacketSize) × IsScriptCommand (codes "run") words size
+        × IsRunRefused (bytes_of size) refusal)
+        ⊎ ((size : PacketSize) × IsScriptCommand (codes "sim") words size
+        × IsSimRefused (bytes_of size) refusal)))
+
+    -- why words were refused: there was no memory to read them; or they are no command line; or
+    -- what they ask for was not done
+    abbrev pub IsRefusedFor : List (List ℕ) → Refusal → Type 0
+    IsRefusedFor words refusal = ((refusal ≡ refused.NoMemory) × (back ≡ None) × Keeps was now)
+        ⊎ (((refusal ≡ refused.Words) × (¬ IsCommandLine words) × (back ≡ None) × Keeps was now)
+        ⊎ HasNotDone words refusal)

@@ -127,3 +127,13 @@ module _ {M : Type 0} (state : M → State) (most : ℕ) (was now : Option (List
     pub stands : StandsFor held line
     pub counted : number ≡ line_number (length before)
     pub answered : AreAnswered before
+
+-- A source may be asked for more at least where nothing waits: of the bytes that it has given from
+-- a beginning on, all lines with their line feed were answered, and this is written now.
+abbrev pub MayAskInTurn : {M S : Type 0} (state : M → State) (most : ℕ) (was : Option (List ℕ))
+    (old : DiskValue M) (beginning : Option (List ℕ)) (left : S → Option (List ℕ))
+    (may_ask : S → Option (List ℕ) → Type 0) → Type 0
+MayAskInTurn {M} {S} state most was old beginning left may_ask =
+    (source : S) (now : Option (List ℕ)) (new : DiskValue M) (read : List ℕ)
+    → Consumes beginning (left source) read → StopsUnread state most was now old new read
+    → may_ask source now

@@ -2,6 +2,7 @@
 #![tactic(auto)]
 
 mod check;
+mod ended;
 mod events;
 mod fault;
 mod held;
@@ -28,11 +29,12 @@ mod task;
 mod text;
 mod words;
 
+pub use ended::Ended;
 pub use fault::{ScriptError, ScriptFault};
 pub use laws::lives_laws;
 pub use live::{live_command, run_live};
 pub use program::{command, run_program};
 pub use read_script::SCRIPT_LIMIT;
 pub use script::run_script;
-pub use serve::{LineFault, serve_lines};
+pub use serve::{LineFault, LineSource, serve_lines, serve_source};
 pub use sim::sim_script;

@@ -1,20 +1,22 @@
 //! The work of the program that serves an image file line by line.
-ghost use Rattle.std.specs.Prelude.{◌≡◌, ◌≢◌, ◌⊎◌, ◌≤◌, List, ℕ, IfErr, IfSome, IfNone, OnOk, map, drop};
+ghost use Rattle.std.specs.Prelude.{◌≡◌, ◌≢◌, ◌⊎◌, ◌≤◌, List, ℕ, None, IfOk, IfErr, IfSome, IfNone, map, drop};
+ghost use Rattle.std.specs.Io.KnownBytes.{Keeps};
 ghost use Rattle.bot_machine.specs.PacketBytes.{bytes_of};
 ghost use Rattle.bot_machine.specs.declared.packet_size.PacketSize.{PacketSize};
 ghost use Rattle.runner.specs.declared.refusal.Refusal.{Refusal};
 ghost use Rattle.runner.specs.Live.{AreLiveWords, HasDoneLive, IsLiveLine, IsLiveRefusedFor, IsRefusedOn, IsServedOn};
 ghost use Rattle.runner.specs.Status.{status_of};
 
+use crate::ended::{Ended, Stopped};
 use crate::identity::disk_identity;
 use crate::image::open_image;
-use crate::program::{arguments, tell, words_of};
+use crate::program::{arguments, refuse, tell, words_of};
 use crate::refusal::Refusal;
 use crate::serve::serve_lines;
 use crate::streams::hold_streams;
 use crate::task::{is_file_word, read_packet_ending};
 use bot_machine::{Disk, PacketSize};
-use medium::Medium;
+use medium::{FileMedium, Medium};
 use std::alloc::Global;
 use std::env::Env;
 use std::fs::{File, Files};
@@ -30,20 +32,25 @@ pub fn live_command<R: Files<File = File> + AllocGlobal, I: Read, O: Write, E: W
     input: &mut I,
     out: &mut O,
     err: &mut E,
-) -> u8
-    ensures statuses { result ≤ 5 }
-    ensures done { result ≡ 0 → HasDoneLive (O.contents out.old) (O.contents out.new)
-        (I.remaining input.old) (I.remaining input.new) (map (λ word. word.now) words.now)
-        × (err.new ≡ err.old) }
-    ensures words { result ≡ 2 → IsLiveLine (map (λ word. word.now) words.now) → ⊥ }
-    ensures other_words { (IsLiveLine (map (λ word. word.now) words.now) → ⊥) → result ≡ 2 }
-    ensures refused { result ≢ 0 → (refusal : Refusal) × (result ≡ status_of refusal)
+) -> Ended
+    ensures statuses { result.status ≤ 5 }
+    ensures done { result.status ≡ 0 → HasDoneLive (O.contents out.old) (O.contents out.new)
+        (I.remaining input.old) (I.remaining input.new) result.medium
+        (map (λ word. word.now) words.now) × (err.new ≡ err.old) }
+    ensures words { result.status ≡ 2 → IsLiveLine (map (λ word. word.now) words.now) → ⊥ }
+    ensures other_words { (IsLiveLine (map (λ word. word.now) words.now) → ⊥)
+        → result.status ≡ 2 }
+    ensures refused { result.status ≢ 0
+        → (refusal : Refusal) × (result.status ≡ status_of refusal)
         × IsLiveRefusedFor (O.contents out.old) (O.contents out.new) (I.remaining input.old)
-        (I.remaining input.new) (map (λ word. word.now) words.now) refusal }
+        (I.remaining input.new) result.medium (map (λ word. word.now) words.now) refusal }
 {
     match serve_image(rt, words, input, out) {
-        Ok(()) => 0,
-        Err(refusal) => tell(refusal, err),
+        Ok(medium) => Ended { status: 0, medium },
+        Err(stopped) => Ended {
+            status: tell(stopped.refusal, err),
+            medium: stopped.medium,
+        },
     }
 }
 
@@ -53,19 +60,24 @@ pub fn run_live<R: Env + Files<File = File> + AllocGlobal, I: Read, O: Write, E:
     input: &mut I,
     out: &mut O,
     err: &mut E,
-) -> u8
-    ensures statuses { result ≤ 5 }
-    ensures done { result ≡ 0 → ((args : List (List ℕ))
+) -> Ended
+    ensures statuses { result.status ≤ 5 }
+    ensures done { result.status ≡ 0 → ((args : List (List ℕ))
         × HasDoneLive (O.contents out.old) (O.contents out.new) (I.remaining input.old)
-        (I.remaining input.new) (drop 1 args)) × (err.new ≡ err.old) }
+        (I.remaining input.new) result.medium (drop 1 args)) × (err.new ≡ err.old) }
+    ensures refused { result.status ≢ 0 → ((result.medium ≡ None) × Keeps (O.contents out.old)
+        (O.contents out.new)) ⊎ ((args : List (List ℕ)) × (refusal : Refusal)
+        × (result.status ≡ status_of refusal)
+        × IsLiveRefusedFor (O.contents out.old) (O.contents out.new) (I.remaining input.old)
+        (I.remaining input.new) result.medium (drop 1 args) refusal) }
 {
     let args = match arguments(rt) {
         Ok(args) => args,
-        Err(refusal) => return tell(refusal, err),
+        Err(refusal) => return refuse(refusal, err),
     };
     match words_of(rt.alloc(), args.as_slice()) {
         Ok(words) => live_command(rt, words.as_slice(), input, out, err),
-        Err(_) => tell(Refusal::NoMemory, err),
+        Err(_) => refuse(Refusal::NoMemory, err),
     }
 }
 
@@ -75,40 +87,56 @@ fn serve_image<R: Files<File = File> + AllocGlobal, I: Read, O: Write>(
     words: &[&str],
     input: &mut I,
     out: &mut O,
-) -> Result<(), Refusal>
-    ensures done { OnOk result (HasDoneLive (O.contents out.old) (O.contents out.new)
-        (I.remaining input.old) (I.remaining input.new) (map (λ word. word.now) words.now)) }
-    ensures refused { IfErr result (IsLiveRefusedFor (O.contents out.old) (O.contents out.new)
-        (I.remaining input.old) (I.remaining input.new) (map (λ word. word.now) words.now)) }
+) -> Result<Option<FileMedium<File>>, Stopped<Option<FileMedium<File>>>>
+    ensures done { IfOk result (λ back. HasDoneLive (O.contents out.old) (O.contents out.new)
+        (I.remaining input.old) (I.remaining input.new) back (map (λ word. word.now) words.now)) }
+    ensures refused { IfErr result (λ stopped. IsLiveRefusedFor (O.contents out.old)
+        (O.contents out.new) (I.remaining input.old) (I.remaining input.new) stopped.medium
+        (map (λ word. word.now) words.now) stopped.refusal) }
 {
     let Some((image, size)) = read_live_words(words) else {
-        return Err(Refusal::Words);
+        return Err(Stopped::from(Refusal::Words));
     };
     let _streams = hold_streams(rt)?;
     let medium = open_image(rt, image)?;
-    serve_medium(rt.alloc(), medium, size, input, out)
+    match serve_medium(rt.alloc(), medium, size, input, out) {
+        Ok(medium) => Ok(Some(medium)),
+        Err(stopped) => Err(Stopped {
+            refusal: stopped.refusal,
+            medium: Some(stopped.medium),
+        }),
+    }
 }
 
-// Starts a disk on a medium, and serves its input.
+// Starts a disk on a medium, serves its input, and gives the medium back as the last answer left it.
 fn serve_medium<M: Medium + Drop, I: Read, O: Write>(
     alloc: Global,
     medium: M,
     size: PacketSize,
     input: &mut I,
     out: &mut O,
-) -> Result<(), Refusal>
-    ensures served { OnOk result (IsServedOn M.state (bytes_of size) medium (O.contents out.old)
+) -> Result<M, Stopped<M>>
+    ensures served { IfOk result (IsServedOn M.state (bytes_of size) medium (O.contents out.old)
         (O.contents out.new) (I.remaining input.old) (I.remaining input.new)) }
-    ensures refused { IfErr result (IsRefusedOn M.state (bytes_of size) medium (O.contents out.old)
-        (O.contents out.new) (I.remaining input.old) (I.remaining input.new)) }
+    ensures refused { IfErr result (λ stopped. IsRefusedOn M.state (bytes_of size) medium
+        (O.contents out.old) (O.contents out.new) (I.remaining input.old) (I.remaining input.new)
+        stopped.medium stopped.refusal) }
 {
     let mut disk = match Disk::start_with(alloc, medium, disk_identity(), size) {
         Ok(disk) => disk,
-        Err(error) => return Err(Refusal::from(error.fault)),
+        Err(error) => {
+            return Err(Stopped {
+                refusal: Refusal::from(error.fault),
+                medium: error.medium,
+            });
+        }
     };
     match serve_lines(&mut disk, input, out) {
-        Ok(()) => Ok(()),
-        Err(fault) => Err(Refusal::from(fault)),
+        Ok(()) => Ok(disk.into_medium()),
+        Err(fault) => Err(Stopped {
+            refusal: Refusal::from(fault),
+            medium: disk.into_medium(),
+        }),
     }
 }
 

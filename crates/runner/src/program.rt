@@ -1,5 +1,5 @@
 //! From the words of a command to its exit status.
-ghost use Rattle.std.specs.Prelude.{◌≡◌, ◌≢◌, ◌⊎◌, ◌≤◌, List, ℕ, IfOk, IfErr, OnOk, map, drop, string_bytes};
+ghost use Rattle.std.specs.Prelude.{◌≡◌, ◌≢◌, ◌⊎◌, ◌≤◌, List, ℕ, None, IfOk, IfErr, map, drop, string_bytes};
 ghost use Rattle.bot_machine.specs.PacketBytes.{bytes_of};
 ghost use Rattle.runner.specs.declared.refusal.Refusal.{Refusal};
 ghost use Rattle.runner.specs.Status.{status_of};
@@ -8,8 +8,10 @@ ghost use Rattle.runner.specs.Program.{
   HasDone,
   IsFormat,
   IsFormatRefused,
+  IsMigrated,
   IsMigration,
   IsMigrationRefused,
+  IsNotMigrated,
   IsRefusedFor,
   IsRun,
   IsRunRefused,
@@ -18,6 +20,7 @@ ghost use Rattle.runner.specs.Program.{
   migration_text,
 };
 
+use crate::ended::{Ended, Stopped};
 use crate::fault::ScriptError;
 use crate::image::{make_image, open_image, sim_medium};
 use crate::output::write_out;
@@ -28,11 +31,15 @@ use crate::streams::hold_streams;
 use crate::task::{Task, read_words};
 use bot_machine::PacketSize;
 use log_layout::LogFormat;
+use medium::{FileMedium, Medium};
 use std::alloc::{AllocError, Global};
 use std::env::Env;
 use std::fs::{File, Files};
 use std::io::{ErrorKind, Write};
 use std::{env, fs};
+
+/// The medium of an image file, where one was opened or made.
+type LeftImage = Option<FileMedium<File>>;
 
 /// Does what the words after the program's name ask for, and gives the exit status.
 ///
@@ -47,20 +54,24 @@ pub fn command<R: Files<File = File> + AllocGlobal, O: Write, E: Write>(
     words: &[&str],
     out: &mut O,
     err: &mut E,
-) -> u8
-    ensures statuses { result ≤ 5 }
-    ensures done { result ≡ 0 → HasDone (O.contents out.old) (O.contents out.new)
-        (map (λ word. word.now) words.now) × (err.new ≡ err.old) }
-    ensures words { result ≡ 2 → IsCommandLine (map (λ word. word.now) words.now) → ⊥ }
+) -> Ended
+    ensures statuses { result.status ≤ 5 }
+    ensures done { result.status ≡ 0 → HasDone (O.contents out.old) (O.contents out.new)
+        result.medium (map (λ word. word.now) words.now) × (err.new ≡ err.old) }
+    ensures words { result.status ≡ 2 → IsCommandLine (map (λ word. word.now) words.now) → ⊥ }
     ensures other_words { (IsCommandLine (map (λ word. word.now) words.now) → ⊥)
-        → (result ≡ 2) ⊎ (result ≡ 5) }
-    ensures refused { result ≢ 0 → (refusal : Refusal) × (result ≡ status_of refusal)
-        × IsRefusedFor (O.contents out.old) (O.contents out.new)
+        → (result.status ≡ 2) ⊎ (result.status ≡ 5) }
+    ensures refused { result.status ≢ 0
+        → (refusal : Refusal) × (result.status ≡ status_of refusal)
+        × IsRefusedFor (O.contents out.old) (O.contents out.new) result.medium
         (map (λ word. word.now) words.now) refusal }
 {
     match obey(rt, words, out) {
-        Ok(()) => 0,
-        Err(refusal) => tell(refusal, err),
+        Ok(medium) => Ended { status: 0, medium },
+        Err(stopped) => Ended {
+            status: tell(stopped.refusal, err),
+            medium: stopped.medium,
+        },
     }
 }
 
@@ -69,21 +80,34 @@ pub fn run_program<R: Env + Files<File = File> + AllocGlobal, O: Write, E: Write
     rt: &R,
     out: &mut O,
     err: &mut E,
-) -> u8
-    ensures statuses { result ≤ 5 }
-    ensures done { result ≡ 0 → ((args : List (List ℕ))
-        × HasDone (O.contents out.old) (O.contents out.new) (drop 1 args)) × (err.new ≡ err.old) }
-    ensures refused { result ≢ 0 → (args : List (List ℕ)) × (refusal : Refusal)
-        × (result ≡ status_of refusal)
-        × IsRefusedFor (O.contents out.old) (O.contents out.new) (drop 1 args) refusal }
+) -> Ended
+    ensures statuses { result.status ≤ 5 }
+    ensures done { result.status ≡ 0 → ((args : List (List ℕ))
+        × HasDone (O.contents out.old) (O.contents out.new) result.medium (drop 1 args))
+        × (err.new ≡ err.old) }
+    ensures refused { result.status ≢ 0 → (args : List (List ℕ)) × (refusal : Refusal)
+        × (result.status ≡ status_of refusal)
+        × IsRefusedFor (O.contents out.old) (O.contents out.new) result.medium (drop 1 args)
+        refusal }
 {
     let args = match arguments(rt) {
         Ok(args) => args,
-        Err(refusal) => return tell(refusal, err),
+        Err(refusal) => return refuse(refusal, err),
     };
     match words_of(rt.alloc(), args.as_slice()) {
         Ok(words) => command(rt, words.as_slice(), out, err),
-        Err(_) => tell(Refusal::NoMemory, err),
+        Err(_) => refuse(Refusal::NoMemory, err),
+    }
+}
+
+/// Refuses a command that has opened no image file.
+pub(crate) fn refuse<E: Write>(refusal: Refusal, err: &mut E) -> Ended
+    ensures status { result.status ≡ status_of refusal }
+    ensures medium { result.medium ≡ None }
+{
+    Ended {
+        status: tell(refusal, err),
+        medium: None,
     }
 }
 
@@ -121,16 +145,17 @@ pub(crate) fn tell<E: Write>(refusal: Refusal, err: &mut E) -> u8
     refusal.status()
 }
 
-// Does what the words ask for.
+// Does what the words ask for. Its callees keep frames of their own, so that the stack has room for
+// one of them and not for all.
 fn obey<R: Files<File = File> + AllocGlobal, O: Write>(
     rt: &R,
     words: &[&str],
     out: &mut O,
-) -> Result<(), Refusal>
-    ensures done { OnOk result (HasDone (O.contents out.old) (O.contents out.new)
+) -> Result<LeftImage, Stopped<LeftImage>>
+    ensures done { IfOk result (λ back. HasDone (O.contents out.old) (O.contents out.new) back
         (map (λ word. word.now) words.now)) }
-    ensures refused { IfErr result (IsRefusedFor (O.contents out.old) (O.contents out.new)
-        (map (λ word. word.now) words.now)) }
+    ensures refused { IfErr result (λ stopped. IsRefusedFor (O.contents out.old)
+        (O.contents out.new) stopped.medium (map (λ word. word.now) words.now) stopped.refusal) }
 {
     match read_words(rt.alloc(), words)? {
         Task::Format {
@@ -154,6 +179,7 @@ fn obey<R: Files<File = File> + AllocGlobal, O: Write>(
 }
 
 // Makes an image file, and says so.
+#[inline(never)]
 fn make<R: Files<File = File> + AllocGlobal, O: Write>(
     rt: &R,
     image: &str,
@@ -161,34 +187,66 @@ fn make<R: Files<File = File> + AllocGlobal, O: Write>(
     blocks: u64,
     slots: u64,
     out: &mut O,
-) -> Result<(), Refusal>
-    ensures done { OnOk result (IsFormat (O.contents out.old) (O.contents out.new)
+) -> Result<LeftImage, Stopped<LeftImage>>
+    ensures done { IfOk result (λ back. IsFormat (O.contents out.old) (O.contents out.new) back
         format blocks slots) }
-    ensures refused { IfErr result (IsFormatRefused (O.contents out.old) (O.contents out.new)
-        format blocks slots) }
+    ensures refused { IfErr result (λ stopped. IsFormatRefused (O.contents out.old)
+        (O.contents out.new) stopped.medium format blocks slots stopped.refusal) }
 {
-    make_image(rt, image, format, blocks, slots)?;
+    let medium = make_image(rt, image, format, blocks, slots)?;
     match write_out(out, b"formatted\n") {
-        Ok(()) => Ok(()),
-        Err(_) => Err(Refusal::File),
+        Ok(()) => Ok(Some(medium)),
+        Err(_) => Err(Stopped {
+            refusal: Refusal::File,
+            medium: Some(medium),
+        }),
     }
 }
 
 // Brings an image file to format 2, and says whether it was of format 1.
+#[inline(never)]
 fn migrate<R: Files<File = File> + AllocGlobal, O: Write>(
     rt: &R,
     image: &str,
     out: &mut O,
-) -> Result<(), Refusal>
-    ensures done { OnOk result (IsMigration (O.contents out.old) (O.contents out.new)) }
-    ensures refused { IfErr result (IsMigrationRefused (O.contents out.old) (O.contents out.new)) }
+) -> Result<LeftImage, Stopped<LeftImage>>
+    ensures done { IfOk result (IsMigration (O.contents out.old) (O.contents out.new)) }
+    ensures refused { IfErr result (λ stopped. IsMigrationRefused (O.contents out.old)
+        (O.contents out.new) stopped.medium stopped.refusal) }
 {
     let _streams = hold_streams(rt)?;
-    let mut medium = open_image(rt, image)?;
-    let (_, was_one) = recovery::migrate(&mut medium)?;
+    let medium = open_image(rt, image)?;
+    match migrate_medium(medium, out) {
+        Ok(medium) => Ok(Some(medium)),
+        Err(stopped) => Err(Stopped {
+            refusal: stopped.refusal,
+            medium: Some(stopped.medium),
+        }),
+    }
+}
+
+// Brings a medium to format 2, says whether it was of format 1, and gives the medium back.
+fn migrate_medium<M: Medium + Drop, O: Write>(mut medium: M, out: &mut O) -> Result<M, Stopped<M>>
+    ensures done { IfOk result (IsMigrated (O.contents out.old) (O.contents out.new) M.state
+        medium) }
+    ensures refused { IfErr result (λ stopped. IsNotMigrated (O.contents out.old)
+        (O.contents out.new) M.state medium stopped.medium stopped.refusal) }
+{
+    let was_one = match recovery::migrate(&mut medium) {
+        Ok((_, was_one)) => was_one,
+        Err(fault) => {
+            return Err(Stopped {
+                refusal: Refusal::from(fault),
+                medium,
+            });
+        }
+    };
     match write_out(out, migration_line(was_one)) {
-        Ok(()) => Ok(()),
-        Err(_) => Err(Refusal::File),
+        Ok(()) => Ok(medium),
+        Err(_) => Err(Stopped {
+            refusal: Refusal::File,
+            medium,
+        }),
     }
 }
 
@@ -204,49 +262,57 @@ fn migration_line(was_one: bool) -> &'static [u8]
 }
 
 // Plays a script file on a disk over an image file, with packets of a size.
+#[inline(never)]
 fn run<R: Files<File = File> + AllocGlobal, O: Write>(
     rt: &R,
     image: &str,
     script: &str,
     size: PacketSize,
     out: &mut O,
-) -> Result<(), Refusal>
-    ensures done { OnOk result
-        (IsRun (O.contents out.old) (O.contents out.new) (bytes_of size)) }
-    ensures refused { IfErr result
-        (IsRunRefused (O.contents out.old) (O.contents out.new) (bytes_of size)) }
+) -> Result<LeftImage, Stopped<LeftImage>>
+    ensures done { IfOk result (λ back.
+        IsRun (O.contents out.old) (O.contents out.new) back (bytes_of size)) }
+    ensures refused { IfErr result (λ stopped. IsRunRefused (O.contents out.old)
+        (O.contents out.new) stopped.medium (bytes_of size) stopped.refusal) }
 {
     let _streams = hold_streams(rt)?;
     let medium = open_image(rt, image)?;
     let Ok(mut script) = fs::open(rt, script) else {
-        return Err(Refusal::File);
+        return Err(Stopped {
+            refusal: Refusal::File,
+            medium: Some(medium),
+        });
     };
     match run_script(rt.alloc(), medium, &mut script, out, size) {
-        Ok(_) => Ok(()),
-        Err(ScriptError { fault, medium: _ }) => Err(Refusal::from(fault)),
+        Ok(medium) => Ok(Some(medium)),
+        Err(ScriptError { fault, medium }) => Err(Stopped {
+            refusal: Refusal::from(fault),
+            medium: Some(medium),
+        }),
     }
 }
 
 // Plays a script file on a disk over a copy of an image file, with packets of a size.
+#[inline(never)]
 fn sim<R: Files<File = File> + AllocGlobal, O: Write>(
     rt: &R,
     image: &str,
     script: &str,
     size: PacketSize,
     out: &mut O,
-) -> Result<(), Refusal>
-    ensures done { OnOk result
-        (IsSim (O.contents out.old) (O.contents out.new) (bytes_of size)) }
-    ensures refused { IfErr result
-        (IsSimRefused (O.contents out.old) (O.contents out.new) (bytes_of size)) }
+) -> Result<LeftImage, Stopped<LeftImage>>
+    ensures done { IfOk result (λ back.
+        IsSim (O.contents out.old) (O.contents out.new) back (bytes_of size)) }
+    ensures refused { IfErr result (λ stopped. IsSimRefused (O.contents out.old)
+        (O.contents out.new) stopped.medium (bytes_of size) stopped.refusal) }
 {
     let _streams = hold_streams(rt)?;
     let medium = sim_medium(rt, image)?;
     let Ok(mut script) = fs::open(rt, script) else {
-        return Err(Refusal::File);
+        return Err(Stopped::from(Refusal::File));
     };
     match sim_script(rt.alloc(), medium, &mut script, out, size) {
-        Ok(_) => Ok(()),
-        Err(ScriptError { fault, medium: _ }) => Err(Refusal::from(fault)),
+        Ok(_) => Ok(None),
+        Err(ScriptError { fault, medium: _ }) => Err(Stopped::from(Refusal::from(fault))),
     }
 }

@@ -1,8 +1,10 @@
 //! A disk served line by line: each line is answered as soon as it is there.
-ghost use Rattle.std.specs.Prelude.{◌≡◌, ◌⊎◌, ◌++◌, ◌<◌, ℕ, List, Option, OnOk, OnErr, IfOk, IfErr};
+ghost use Rattle.std.specs.Prelude.{◌≡◌, ◌⊎◌, ◌++◌, ◌<◌, ℕ, List, Option, OnOk, OnErr, IfOk, IfErr, ⊤};
+ghost use Rattle.std.specs.Io.{ReadsAtMost};
+ghost use Rattle.std.specs.Io.KnownBytes.{ReadConsumes};
 ghost use Rattle.bot_machine.specs.PacketBytes.{bytes_of};
 ghost use Rattle.bot_machine.specs.Disk.{DiskValue};
-ghost use Rattle.runner.specs.Served.{HasServed, IsAnswered, IsLineStopped, IsServed, IsStopped, StopsIn};
+ghost use Rattle.runner.specs.Served.{HasServed, IsAnswered, IsLineStopped, IsServed, IsStopped, MayAskInTurn, StopsIn};
 ghost use Rattle.runner.specs.Line.{IsScriptLine};
 
 use crate::held::HeldLine;
@@ -10,6 +12,7 @@ use crate::line::{ScriptKind, read_line};
 use crate::play::play_asked;
 use bot_machine::{Disk, PacketSize};
 use medium::Medium;
+use std::io;
 use std::io::{ErrorKind, Read, Write};
 use thiserror::Error;
 
@@ -27,6 +30,32 @@ pub enum LineFault {
     Writer,
 }
 
+/// Where lines come from. Who asks it for more shows it what was answered by then.
+pub trait LineSource<W: Write> {
+    /// The bytes that reads will give from here on, where they are known.
+    ghost left: { Self → Option (List ℕ) };
+
+    /// It may be asked for more while this is written.
+    ghost may_ask: { Self → Option (List ℕ) → Type 0 };
+
+    /// Reads some bytes, as `Read::read` does.
+    fn read_behind(&mut self, answered: &W, buf: &mut [u8]) -> io::Result<usize>
+        requires { may_ask self.old (W.contents answered.now) }
+        ensures bound { ReadsAtMost result buf.new }
+        ensures bytes { ReadConsumes (left self.old) (left self.new) result buf.new };
+}
+
+// A reader may always be asked.
+impl<R: Read, W: Write> LineSource<W> for R {
+    ghost left = { λ reader. R.remaining reader };
+
+    ghost may_ask = { λ _ _. ⊤ };
+
+    fn read_behind(&mut self, _answered: &W, buf: &mut [u8]) -> io::Result<usize> {
+        self.read(buf)
+    }
+}
+
 /// Plays the lines of a script on a disk, and writes the line of each answer by one write, before
 /// more is read.
 pub fn serve_lines<M: Medium, R: Read, W: Write>(
@@ -39,11 +68,29 @@ pub fn serve_lines<M: Medium, R: Read, W: Write>(
     ensures stopped { IfErr result (IsStopped M.state disk.old.line.packet_size (W.contents out.old)
         (W.contents out.new) disk.old disk.new (R.remaining reader.old) (R.remaining reader.new)) }
 {
+    serve_source(disk, reader, out)
+}
+
+/// Serves a disk as `serve_lines` does, over any source that may be asked for more at least where
+/// nothing waits for an answer. So at each read all lines of which the line feed was read are
+/// answered.
+pub fn serve_source<M: Medium, S: LineSource<W>, W: Write>(
+    disk: &mut Disk<M>,
+    source: &mut S,
+    out: &mut W,
+) -> Result<(), LineFault>
+    requires asks { MayAskInTurn M.state disk.old.line.packet_size (W.contents out.old) disk.old
+        (S.left source.old) S.left S.may_ask }
+    ensures served { OnOk result (IsServed M.state disk.old.line.packet_size (W.contents out.old)
+        (W.contents out.new) disk.old disk.new (S.left source.old) (S.left source.new)) }
+    ensures stopped { IfErr result (IsStopped M.state disk.old.line.packet_size (W.contents out.old)
+        (W.contents out.new) disk.old disk.new (S.left source.old) (S.left source.new)) }
+{
     let size = packet_size(disk);
     let mut line = HeldLine::new();
     let mut chunk = [0; 4096];
     'reads: for _ in 0..u64::MAX {
-        match reader.read(&mut chunk) {
+        match source.read_behind(out, &mut chunk) {
             Ok(0) => return answer_line(disk, size, &line, out),
             Ok(count) => serve_bytes(disk, size, &chunk[..count], &mut line, out)?,
             Err(error) if error.kind() == ErrorKind::Interrupted => {}

@@ -53,6 +53,7 @@ pub(crate) enum Task<'a> {
 /// `--format 1` or `--format 2` may stand, `migrate IMAGE`, `run IMAGE SCRIPT` or
 /// `sim IMAGE SCRIPT`, behind which `--packet 64` or `--packet 512` may stand. No file word begins
 /// with a hyphen.
+#[inline(never)]
 pub(crate) fn read_words<'a>(alloc: Global, words: &'a [&'a str]) -> Result<Task<'a>, Refusal>
     ensures spelled { IfOk result (SpellsTask (map (λ word. word.now) words.entry.now)) }
     ensures refused { IfErr result (λ refusal. (refusal ≡ Refusal.NoMemory)

@@ -44,7 +44,7 @@ fn make_image<R: Files<File = File> + AllocGlobal>(rt: &R, image: &Image) -> Res
             ];
             let mut out = Vec::new(rt.alloc());
             let mut err = Vec::new(rt.alloc());
-            if command(rt, &words, &mut out, &mut err) != 0 {
+            if command(rt, &words, &mut out, &mut err).status != 0 {
                 return Err(Fault::Image);
             }
         }
@@ -93,7 +93,7 @@ fn play_step<R: Files<File = File> + AllocGlobal>(
     let words: Vec<&str> = step.words.split_whitespace().collect(rt.alloc())?;
     let mut out = Vec::new(rt.alloc());
     let mut err = Vec::new(rt.alloc());
-    let status = command(rt, words.as_slice(), &mut out, &mut err);
+    let status = command(rt, words.as_slice(), &mut out, &mut err).status;
     match compare(rt.alloc(), step, status, out.as_slice(), err.as_slice())? {
         None => Ok(()),
         Some(difference) => Err(Fault::Command { number, difference }),

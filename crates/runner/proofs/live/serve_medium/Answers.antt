@@ -7,7 +7,6 @@ use Rattle.runner.proofs.live.serve_medium.Goals as goal
 pub returns-in-Err-clause-refused : goal.returns-in-Err-clause-refused
 returns-in-Err-clause-refused g c = inl (record {
   fault = c.in-Err.error.fault;
-  back = c.in-Err.error.medium;
   cause = c.in-Err.ensures.err;
   leaves = c.in-Err.ensures.leaves;
   told = c.from.ensures;
@@ -28,10 +27,11 @@ returns-in-Ok-serve_lines-clause-served g c =
           (λ (most : ℕ). IsServed g.M.Medium.state most (contents c.args.out.now) (contents c.serve_lines.new.out) c.in-Ok.disk
           c.serve_lines.new.disk (remaining c.args.input.now) (remaining c.serve_lines.new.reader))
           (ap (λ (l : Line). l.packet_size) c.in-Ok.ensures.ok.line) c.in-Ok-serve_lines.ensures.served;
+      given = c.into_medium.ensures;
     }
 
-pub returns-clause-refused : goal.returns-clause-refused
-returns-clause-refused g c =
+pub returns-in-Err-serve_lines-clause-refused : goal.returns-in-Err-serve_lines-clause-refused
+returns-in-Err-serve_lines-clause-refused g c =
     let contents = g.O.Write.contents in
     let remaining = g.I.Read.remaining in
     inr (record {
@@ -44,5 +44,6 @@ returns-clause-refused g c =
           (λ (most : ℕ). IsStopped g.M.Medium.state most (contents c.args.out.now) (contents c.serve_lines.new.out) c.in-Ok.disk
           c.serve_lines.new.disk (remaining c.args.input.now) (remaining c.serve_lines.new.reader) c.in-Err-serve_lines.fault)
           (ap (λ (l : Line). l.packet_size) c.in-Ok.ensures.ok.line) c.in-Err-serve_lines.ensures.stopped;
+      given = c.into_medium-in-Err-serve_lines.ensures;
       told = c.from-in-Err-serve_lines.ensures;
     })

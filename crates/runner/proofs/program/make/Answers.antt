@@ -1,5 +1,5 @@
-use Rattle.std.proofs.Common.{◌≡◌, ◌⊎◌, ◌↔◌, ℕ, List, [], Option, Result, Err, refl, ap, inl, inr, arith}
-use Rattle.std.proofs.KnownBytes.{Appends-nil, Keeps-refl}
+use Rattle.std.proofs.Common.{◌≡◌, ◌⊎◌, ◌↔◌, ℕ, List, Option, None, Result, Err, refl, ap, inl, inr, subst, sym}
+use Rattle.std.proofs.KnownBytes.{Keeps-refl}
 use Rattle.runner.specs.declared.refusal.Refusal.{Refusal}
 use Rattle.runner.specs.declared.refusal.Refusal.TheVariants.{ImageSize, File, NoMemory}
 use Rattle.log_layout.specs.declared.log_format.LogFormat.{LogFormat}
@@ -10,29 +10,18 @@ use Rattle.runner.proofs.program.make.Goals as goal
 -- why no image was made, where nothing was written
 not_made : {M : Type 0} (was : Option (List ℕ)) (format : LogFormat) (blocks slots : ℕ) (refusal : Refusal)
     → (◌≡◌ {A = Result M Refusal} (Err refusal) (Err ImageSize)) ↔ ¬ AreImageSizes format blocks slots
-    → (refusal ≡ ImageSize) ⊎ ((refusal ≡ File) ⊎ (refusal ≡ NoMemory)) → IsFormatRefused was was format blocks slots refusal
-not_made was format blocks slots refusal size (inl is) = inl (is, size.0 (ap Err is), Keeps-refl was)
+    → (refusal ≡ ImageSize) ⊎ ((refusal ≡ File) ⊎ (refusal ≡ NoMemory)) → IsFormatRefused was was None format blocks slots refusal
+not_made was format blocks slots refusal size (inl is) = inl (is, size.0 (ap Err is), refl, Keeps-refl was)
 not_made was format blocks slots refusal size (inr (inl is)) =
-    inr (
-      λ none. (let same = size.1 none in absurd (cc)),
-      inr (
-        is,
-        record {
-          written = [];
-          rest = _;
-          parts = refl;
-          missing = omega arith;
-          appended = Appends-nil was;
-        },
-      ),
-    )
+    inr (λ none. (let same = size.1 none in absurd (cc)), inr (is, inl (refl, Keeps-refl was)))
 not_made was format blocks slots refusal size (inr (inr is)) =
-    inr (λ none. (let same = size.1 none in absurd (cc)), inl (is, Keeps-refl was))
+    inr (λ none. (let same = size.1 none in absurd (cc)), inl (is, refl, Keeps-refl was))
 
-pub returns-in_err-make_image-clause-refused : goal.returns-in_err-make_image-clause-refused
-returns-in_err-make_image-clause-refused g c =
-    let made = c.in_err-make_image.ensures in
+pub returns-in_err-medium-clause-refused : goal.returns-in_err-medium-clause-refused
+returns-in_err-medium-clause-refused g c =
+    let made = c.in_err-medium.ensures in
     let out = g.O.Write.contents c.args.out.now in
-    let refused = IsFormatRefused out out c.args.format c.args.blocks c.args.slots in
-    if-err c.from_residual.result (λ refusal. refusal ≡ c.in_err-make_image.field-0.0) refused c.from_residual.ensures.1
-    (λ refusal same. rw same (not_made out c.args.format c.args.blocks c.args.slots c.in_err-make_image.field-0.0 made.size made.refused))
+    if-err c.from_residual.result (λ stopped. stopped ≡ record { refusal = c.in_err-medium.field-0.0; medium = None })
+    (λ stopped. IsFormatRefused out out stopped.medium c.args.format c.args.blocks c.args.slots stopped.refusal)
+    c.from_residual.ensures.1
+    (λ stopped same. rw same (not_made out c.args.format c.args.blocks c.args.slots c.in_err-medium.field-0.0 made.size made.refused))

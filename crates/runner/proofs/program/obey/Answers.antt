@@ -1,30 +1,30 @@
 use Rattle.std.proofs.Common.{inl, inr}
-use Rattle.runner.proofs.Options.{on_ok_weaker, if_err}
+use Rattle.runner.proofs.Options.{if_ok, if_err}
 use Rattle.runner.proofs.program.obey.Goals as goal
 
 pub returns-in-Format-clause-done : goal.returns-in-Format-clause-done
 returns-in-Format-clause-done g c =
     let spelled = rw c.in-Format.is at c.in_ok-image.ensures.spelled in
-    on_ok_weaker c.make.result (λ done. inl (c.in-Format.image.now, _, _, _, spelled, done)) c.make.ensures.done
+    if_ok c.make.result (λ back done. inl (c.in-Format.image.now, _, _, _, spelled, done)) c.make.ensures.done
 
 pub returns-in-Migrate-clause-done : goal.returns-in-Migrate-clause-done
 returns-in-Migrate-clause-done g c =
     let spelled = rw c.in-Migrate.is at c.in_ok-image.ensures.spelled in
-    on_ok_weaker c.migrate.result (λ done. inr (inl ((c.in-Migrate.image.now, spelled), done))) c.migrate.ensures.done
+    if_ok c.migrate.result (λ back done. inr (inl ((c.in-Migrate.image.now, spelled), done))) c.migrate.ensures.done
 
 pub returns-in-Migrate-clause-refused : goal.returns-in-Migrate-clause-refused
 returns-in-Migrate-clause-refused g c =
     let spelled = rw c.in-Migrate.is at c.in_ok-image.ensures.spelled in
-    if_err c.migrate.result (λ refusal why. inr (inr (inr (inl ((c.in-Migrate.image.now, spelled), why))))) c.migrate.ensures.refused
+    if_err c.migrate.result (λ stopped why. inr (inr (inr (inl ((c.in-Migrate.image.now, spelled), why))))) c.migrate.ensures.refused
 
 pub returns-in-Run-clause-done : goal.returns-in-Run-clause-done
 returns-in-Run-clause-done g c =
     let spelled = rw c.in-Run.is at c.in_ok-image.ensures.spelled in
-    on_ok_weaker c.run.result (λ done. inr (inr (inl (c.in-Run.size, (c.in-Run.image.now, c.in-Run.script.now, spelled), done))))
+    if_ok c.run.result (λ back done. inr (inr (inl (c.in-Run.size, (c.in-Run.image.now, c.in-Run.script.now, spelled), done))))
     c.run.ensures.done
 
 pub returns-in-Sim-clause-done : goal.returns-in-Sim-clause-done
 returns-in-Sim-clause-done g c =
     let spelled = rw c.in-Sim.is at c.in_ok-image.ensures.spelled in
-    on_ok_weaker c.sim.result (λ done. inr (inr (inr (c.in-Sim.size, (c.in-Sim.image.now, c.in-Sim.script.now, spelled), done))))
+    if_ok c.sim.result (λ back done. inr (inr (inr (c.in-Sim.size, (c.in-Sim.image.now, c.in-Sim.script.now, spelled), done))))
     c.sim.ensures.done

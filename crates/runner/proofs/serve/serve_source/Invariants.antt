@@ -2,12 +2,12 @@ use Rattle.std.proofs.Common.{ℕ, List}
 use Rattle.std.specs.Io.KnownBytes.{Consumes}
 use Rattle.bot_machine.specs.PacketBytes.{bytes_of}
 use Rattle.runner.specs.Served.{HasServed}
-use Rattle.runner.proofs.serve.serve_lines.Given as goal
+use Rattle.runner.proofs.serve.serve_source.Given as goal
 
 -- what was read so far was served
 abbrev pub invariant-reads : goal.invariant-reads
 invariant-reads g l = record {
-  so_far : (read : List ℕ) × Consumes (g.R.Read.remaining l.fn.reader) (g.R.Read.remaining l.reader) read
+  so_far : (read : List ℕ) × Consumes (g.S.LineSource.left l.fn.source) (g.S.LineSource.left l.source) read
       × HasServed g.M.Medium.state (bytes_of l.size) (g.W.Write.contents l.fn.out) (g.W.Write.contents l.out) l.fn.disk l.disk
       l.line.bytes.items l.line.number read;
 }
