@@ -118,8 +118,8 @@ struct record {
 
 static int lose(const char *image, const char *journal, const char *how, uint64_t seed)
 {
-    static uint64_t stays[1 << 17];
-    size_t count, stayed = 0, lost = 0, room = 1 << 17;
+    static bool stays[1 << 17];
+    size_t count, lost = 0, room = 1 << 17;
     FILE *from = fopen(journal, "rb");
     int to = open(image, O_RDWR);
     struct record *records = malloc(room * sizeof *records);
@@ -130,15 +130,13 @@ static int lose(const char *image, const char *journal, const char *how, uint64_
     if (count == room)
         return 1;
     for (size_t i = count; i-- > 0;) {
-        bool is_kept = false;
-        for (size_t k = 0; k < stayed && !is_kept; k++)
-            is_kept = stays[k] == records[i].place;
-        if (!is_kept && (!strcmp(how, "all") || (!strcmp(how, "some") && next(&seed) >> 40 & 1)))
-            stays[stayed++] = records[i].place;
-        else if (!is_kept && pwrite(to, records[i].was, SECTOR, (off_t)records[i].place) != SECTOR)
+        uint64_t sector = records[i].place / SECTOR % (sizeof stays / sizeof *stays);
+        stays[sector] |= !strcmp(how, "all") || (!strcmp(how, "some") && next(&seed) >> 40 & 1);
+        if (stays[sector])
+            continue;
+        if (pwrite(to, records[i].was, SECTOR, (off_t)records[i].place) != SECTOR)
             return 1;
-        else if (!is_kept)
-            lost++;
+        lost++;
     }
     printf("%zu writes of sectors were not flushed, %zu lost\n", count, lost);
     return fclose(from) || close(to);
