@@ -9,7 +9,8 @@
 #include <string.h>
 #include <unistd.h>
 
-enum { SECTOR = 512, MOST = 512 };
+/* FLUSH: how many microseconds a flush takes, as of a card, so that a kill comes before one as often as behind it. */
+enum { SECTOR = 512, MOST = 512, FLUSH = 4000 };
 
 struct record {
     uint64_t place;
@@ -55,6 +56,8 @@ ssize_t pwrite(int file, const void *bytes, size_t size, off_t place)
 int fdatasync(int file)
 {
     int (*next)(int) = (int (*)(int))dlsym(RTLD_NEXT, "fdatasync");
+    if (journal.file >= 0)
+        usleep(FLUSH);
     if (journal.file >= 0 && !getenv("LOSSY_LIES") && ftruncate(journal.file, 0))
         return -1;
     return next(file);
