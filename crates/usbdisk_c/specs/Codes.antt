@@ -1,5 +1,5 @@
 -- The numbers that C sees.
-use Rattle.std.specs.Prelude.{ℕ, List, [], ◌∷◌}
+use Rattle.std.specs.Prelude.{ℕ, List, [], ◌∷◌, ◌≡◌}
 use Rattle.bot_machine.specs.declared.event.Answer.{Answer}
 use Rattle.bot_machine.specs.declared.event.Answer.TheVariants as answer
 use Rattle.scsi_unit.specs.StartFaults.{StartFault}
@@ -73,3 +73,7 @@ NOT_TAKEN = 23
 -- the version of the library, by two bytes for the first number and one for each other
 abbrev pub VERSION : ℕ
 VERSION = 0x000800
+
+-- (a clause that names VERSION itself would mean the constant of the source)
+abbrev pub TellsVersion : ℕ → Type 0
+TellsVersion code = code ≡ VERSION

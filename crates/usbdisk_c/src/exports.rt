@@ -2,9 +2,8 @@
 ghost use Rattle.usbdisk_c.specs.Exports.{identity_of, Starts, Stops, TakesOut, SendsIn};
 ghost use Rattle.usbdisk_c.specs.Exports.{AnswersSetup, Ticks, HandsOut, IsShownTo, Formats};
 ghost use Rattle.usbdisk_c.specs.Exports.{TellsNear};
-ghost use Rattle.usbdisk_c.specs.Codes.{VERSION};
+ghost use Rattle.usbdisk_c.specs.Codes.{TellsVersion};
 ghost use Rattle.usbdisk_c.specs.Room.{TellsRoom, TellsMemory};
-ghost use Rattle.std.specs.Prelude.{◌≡◌};
 ghost use Rattle.window.specs.Window.{fresh};
 
 use crate::codes::{ACK, EMPTY, NOT_TAKEN, STARTED, VERSION};
@@ -18,7 +17,7 @@ use window::DeviceHolds;
 
 #[unsafe(no_mangle)]
 pub extern "C" fn usbdisk_version() -> u32
-    ensures { result ≡ VERSION }
+    ensures { TellsVersion result }
 {
     VERSION
 }
