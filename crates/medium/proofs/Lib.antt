@@ -7,5 +7,6 @@ pub mod Masks
 pub mod Moments
 pub mod Remembering
 pub mod Rows
+pub mod Sending
 pub mod Sparing
 pub mod Walks

@@ -7,6 +7,7 @@ pub mod ImageFileView
 pub mod Medium
 pub mod Moments
 pub mod Power
+pub mod Sent
 pub mod Sim
 pub mod SimLaws
 pub mod SimView

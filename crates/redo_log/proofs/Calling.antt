@@ -39,7 +39,7 @@ home_two : (turned : ℕ) (b : Bool) → (turned % 31 == 0) ≡ b → home_calls
 home_two turned b e = ap (λ (t : Bool). if t then 1 else 2) e
 
 -- a turn that brings a block home, or reads a descriptor
-home_turn : (format : LogFormat) (shape : Shape) (stamp : ℕ) (numbers kept : List ℕ) (turned : ℕ) (turn : Turn)
+pub home_turn : (format : LogFormat) (shape : Shape) (stamp : ℕ) (numbers kept : List ℕ) (turned : ℕ) (turn : Turn)
     → IsHomeTurn format shape stamp numbers kept turned turn → calls_of turn ≡ home_calls format turned
 home_turn One shape stamp numbers kept turned turn is = copy_calls _ _ _ turn is
 home_turn Two shape stamp numbers kept turned turn is = ⊎_elim

@@ -19,3 +19,4 @@ pub mod Entering
 pub mod Adding
 pub mod Sparing
 pub mod Writing
+pub mod Sending

@@ -3,6 +3,7 @@ use Rattle.std.specs.Prelude.{◌≡◌, ◌⊎◌, ℕ, ◌+◌, ◌<◌, ◌�
 use Rattle.std.specs.Prelude.{if◌then◌else◌}
 use Rattle.medium.specs.Medium.{State, Sets, Stays, Holds, Within, Gains, Only, Passes}
 use Rattle.medium.specs.Moments.{StaysWithin, SparesFrom}
+use Rattle.medium.specs.Sent.{SendsUpTo}
 use Rattle.medium.specs.declared.fault.MediumFault.{MediumFault}
 use Rattle.medium.specs.declared.fault.MediumFault.TheVariants as fault
 use Rattle.log_layout.specs.declared.log_format.LogFormat.{LogFormat}
@@ -93,11 +94,12 @@ pub record WritesOnly (place : ℕ) (bytes : List ℕ) (old new : State) : Type 
   pub moments : StaysWithin (gaining place bytes old.may_leave) old new
   pub sets : Gains place bytes old.may_leave new.may_leave
 
--- Calls of a medium, so many where they are good and else no more: none is refused but the last
--- one, which they answer.
-pub record CallsUpTo {X E : Type 0} (count : ℕ) (result : Result X E) (old new : State)
+-- Calls of a medium, so many where they are good and else no more, and so many writes and flushes
+-- among them at most: none is refused but the last one, which they answer.
+pub record CallsUpTo {X E : Type 0} (count sends : ℕ) (result : Result X E) (old new : State)
     : Type 0 where
   pub calls : new.calls ≤ old.calls + count
+  pub sent : SendsUpTo sends old new
   pub exact : OnOk result (new.calls ≡ old.calls + count)
   pub failures : new.failures ≡ (if is_ok result then old.failures else old.failures + 1)
   pub size : new.size ≡ old.size

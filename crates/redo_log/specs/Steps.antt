@@ -3,6 +3,7 @@ use Rattle.std.specs.Prelude.{◌≡◌, ℕ, ◌+◌, ◌≤◌, true, if◌the
 use Rattle.std.specs.Prelude.{IfOk, IfErr, OnOk, OnErr}
 use Rattle.medium.specs.Medium.{State}
 use Rattle.medium.specs.Moments.{LeavesOnly, SparesFrom, IsQuiet}
+use Rattle.medium.specs.Sent.{SendsUpTo}
 use Rattle.log_layout.specs.Places.{sectors_of}
 use Rattle.redo_log.specs.declared.fault.LogFault.{LogFault}
 use Rattle.redo_log.specs.declared.fault.LogFault.TheVariants.{Medium}
@@ -26,13 +27,19 @@ pub record PassesStep {M X : Type 0} (state : M → State) (Follows : M → M �
   pub size : (state new).size ≡ (state old).size
   pub follows : Follows old new
 
+-- a step makes one call, which is a write or a flush
+pub record CountsOne (old new : State) : Type 0 where
+  pub one : new.calls ≡ old.calls + 1
+  pub sent : SendsUpTo 1 old new
+
 -- A retire step makes so many calls where it is good, and no more where it is refused. They are
--- never more than two.
-pub record CountsStep {X E : Type 0} (count : ℕ) (result : Result X E) (old new : State)
+-- never more than two. So many of them are writes and flushes at most.
+pub record CountsStep {X E : Type 0} (count sends : ℕ) (result : Result X E) (old new : State)
     : Type 0 where
   pub two : new.calls ≤ old.calls + 2
   pub most : new.calls ≤ old.calls + count
   pub exact : OnOk result (new.calls ≡ old.calls + count)
+  pub sent : SendsUpTo sends old new
 
 -- a step of this log leaves at each moment what a cut may leave of it
 pub record LeavesLog (log : LogValue) (old new : State) : Type 0 where

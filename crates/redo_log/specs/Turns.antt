@@ -62,6 +62,13 @@ calls_of (Copy from to first) = 2
 calls_of Flush = 1
 calls_of (Head head) = 2
 
+-- how many of them are writes and flushes: all but reads
+abbrev pub sends_of : Turn → ℕ
+sends_of (Load from) = 0
+sends_of (Copy from to first) = 1
+sends_of Flush = 1
+sends_of (Head head) = 2
+
 -- which bytes are kept after it
 abbrev pub kept_by : Turn → State → List ℕ → List ℕ
 kept_by (Load from) old kept = old.content from

@@ -4,7 +4,7 @@ use Rattle.std.specs.Prelude.{get_or, slice_index, drop, replicate, sum_by, Cont
 use Rattle.std.specs.Prelude.{true, false, if◌then◌else◌, ◌==◌}
 use Rattle.log_layout.specs.declared.log_format.LogFormat.{LogFormat}
 use Rattle.log_layout.specs.declared.log_format.LogFormat.TheVariants.{One, Two}
-use Rattle.log_layout.specs.Places.{Shape}
+use Rattle.log_layout.specs.Places.{Shape, limit_of}
 use Rattle.log_layout.specs.SectorsTwo.{descriptors_of}
 use Rattle.redo_log.specs.declared.progress.Progress.{Progress}
 use Rattle.redo_log.specs.declared.progress.Progress.TheVariants.{More, Durable}
@@ -137,6 +137,32 @@ home_of_oldest log = turns_home log.shape.format (length (get_or log.waiting 0 [
 -- how many calls the next retire step makes: none where no record waits
 abbrev pub next_calls : LogValue → ℕ
 next_calls log = turn_calls log.shape.format (home_of_oldest log) (of_oldest log)
+
+-- How many writes and flushes the next retire step makes, of which the same is known: all of its
+-- calls but the read with which it brings a block home, or reads a descriptor.
+abbrev pub turn_sends : LogFormat → ℕ → ℕ → ℕ
+turn_sends format home zero = 0
+turn_sends format home (suc zero) = 2
+turn_sends format home (suc (suc zero)) = 1
+turn_sends format home (suc (suc (suc left))) = home_calls format (home - suc left) - 1
+
+-- how many all the steps make that are left of it
+abbrev pub turns_sends : LogFormat → ℕ → ℕ → ℕ
+turns_sends format home zero = 0
+turns_sends format home (suc left) =
+    turn_sends format home (suc left) + turns_sends format home left
+
+-- how many the next retire step makes
+abbrev pub next_sends : LogValue → ℕ
+next_sends log = turn_sends log.shape.format (home_of_oldest log) (of_oldest log)
+
+-- how many retire the oldest durable record
+abbrev pub sends_of_oldest : LogValue → ℕ
+sends_of_oldest log = turns_sends log.shape.format (home_of_oldest log) (of_oldest log)
+
+-- They are never more: each block is written home once, and a flush, the head and a flush follow.
+abbrev pub most_retire_sends : LogFormat → ℕ
+most_retire_sends format = limit_of format + 3
 
 -- retire steps are owed for each record that waits, and for the one under way alone where none
 -- waits

@@ -61,11 +61,13 @@ impl Log {
     ghost use Rattle.redo_log.specs.Value.{HasRoom, Owes, HasNoCopy, IsNewestCopy, idle_from};
     ghost use Rattle.log_image.specs.Copies.{copy_reads_of, MakesReads};
     ghost use Rattle.redo_log.specs.Value.{begun, died, most_steps, most_retire_steps};
-    ghost use Rattle.redo_log.specs.Value.{IsStepped, IsRetireStepped, next_calls};
+    ghost use Rattle.redo_log.specs.Value.{IsStepped, IsRetireStepped, next_calls, next_sends};
+    ghost use Rattle.redo_log.specs.Value.{sends_of_oldest, most_retire_sends};
     ghost use Rattle.redo_log.specs.Batch.{IsBatch, entries_of};
     ghost use Rattle.redo_log.specs.Held.{View, HoldsView, HasDurable};
     ghost use Rattle.redo_log.specs.Held.{with_record, view_stepped, view_retired};
-    ghost use Rattle.redo_log.specs.Steps.{AnswersStep, PassesStep, CountsStep, LeavesLog, KeepsLog};
+    ghost use Rattle.redo_log.specs.Steps.{AnswersStep, PassesStep, CountsOne, CountsStep};
+    ghost use Rattle.redo_log.specs.Steps.{LeavesLog, KeepsLog};
     ghost use Rattle.redo_log.specs.declared.progress.Progress.TheVariants.{Durable};
 
     /// A log without records on a medium with this super. Its first record takes the stamp `next`.
@@ -114,6 +116,7 @@ impl Log {
         ensures full { result ≡ false → 0 < self.now.steps_left + length self.now.waiting }
         ensures always { self.now.steps_left + self.now.retire_steps_left ≡ 0 → result ≡ true }
         ensures owes { Owes self.now }
+        ensures few { sends_of_oldest self.now ≤ most_retire_sends self.now.shape.format }
     {
         self.made.is_none() && (self.waiting.len() as u64) < self.sizes.slots
     }
@@ -177,7 +180,7 @@ impl Log {
         ensures answers { AnswersStep (λ progress. IsStepped progress self.old self.new) result
             self.old self.new }
         ensures passes { PassesStep M.state M.follows
-            ((M.state m.new).calls ≡ (M.state m.old).calls + 1) result m.old m.new }
+            (CountsOne (M.state m.old) (M.state m.new)) result m.old m.new }
         ensures holds { (view : View) → HoldsView self.old (M.state m.old) view
             → view.under_way ≡ entries_of numbers.now bytes.now
             → MatchResult result
@@ -224,8 +227,8 @@ impl Log {
         ensures answers { AnswersStep (λ _. 0 < length self.old.waiting
             → IsRetireStepped self.old self.new) result self.old self.new }
         // One call reads a descriptor or flushes, two copy a block or write the head and flush it.
-        ensures passes { PassesStep M.state M.follows (CountsStep (next_calls self.old) result
-            (M.state m.old) (M.state m.new)) result m.old m.new }
+        ensures passes { PassesStep M.state M.follows (CountsStep (next_calls self.old)
+            (next_sends self.old) result (M.state m.old) (M.state m.new)) result m.old m.new }
         ensures holds { (view : View) → HoldsView self.old (M.state m.old) view
             → MatchResult result
             (λ _. HoldsView self.new (M.state m.new)

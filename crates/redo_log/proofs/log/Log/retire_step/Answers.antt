@@ -14,6 +14,7 @@ use Rattle.redo_log.proofs.Entering.{index_fewer}
 use Rattle.redo_log.proofs.Ringing.{front_is, ring_retired, retired_last}
 use Rattle.redo_log.proofs.Closing.{on_ok_here, ok_here, err_here, sizes_sized, turn_moments, turn_cuts, turn_dead, turn_more, turn_retires}
 use Rattle.redo_log.proofs.Calling.{turn_costs, step_costs, turn_refused}
+use Rattle.redo_log.proofs.Sending.{turn_sent, step_sends}
 use Rattle.redo_log.proofs.Sparing.{turn_spares}
 use Rattle.redo_log.proofs.log.Log.retire_step.Goals as goal
 
@@ -248,8 +249,12 @@ returns-then-is_err-clause-passes g c =
     ∙ step_costs c.args.self.now (shape_of i.sizes) i.head (lists_of i.waiting.items) i.turned i.kept i.under_way.items i.made i.dead
     c.as_slice-numbers.result.now (lists_of (drop 1 i.waiting.items)) c.self.view_is waits in
     let few = turn_refused c.next_turn-turn.result _ _ _ costs c.make.ensures.counts.calls in
+    let sends = turn_sent (shape_of i.sizes) i.head c.as_slice-numbers.result.now i.kept i.turned c.next_turn-turn.result
+    c.next_turn-turn.ensures.next oldest
+    ∙ step_sends c.args.self.now (shape_of i.sizes) i.head (lists_of i.waiting.items) i.turned i.kept i.under_way.items i.made i.dead
+    c.as_slice-numbers.result.now (lists_of (drop 1 i.waiting.items)) c.self.view_is waits in
     record {
-      calls = record { two = few.0; most = few.1; exact = search rules };
+      calls = record { two = few.0; most = few.1; exact = search rules; sent = omega (arith, c.make.ensures.counts.sent, sends) };
       failures = search rules;
       size = search rules;
       follows = search rules;
@@ -268,9 +273,18 @@ returns-then-self-home-clause-passes g c =
     ∙ step_costs c.args.self.now (shape_of i.sizes) i.head (lists_of i.waiting.items) i.turned i.kept i.under_way.items i.made i.dead
     c.as_slice-numbers.result.now (lists_of (drop 1 i.waiting.items)) c.self.view_is waits in
     let few = turn_refused c.next_turn-turn.result _ _ _ costs c.make.ensures.counts.calls in
+    let sends = turn_sent (shape_of i.sizes) i.head c.as_slice-numbers.result.now i.kept i.turned c.next_turn-turn.result
+    c.next_turn-turn.ensures.next oldest
+    ∙ step_sends c.args.self.now (shape_of i.sizes) i.head (lists_of i.waiting.items) i.turned i.kept i.under_way.items i.made i.dead
+    c.as_slice-numbers.result.now (lists_of (drop 1 i.waiting.items)) c.self.view_is waits in
     let made = on_ok_here c.make.result (sym c.is_err.ensures.value ∙ c.if-is_err.false) c.make.ensures.counts.exact in
     record {
-      calls = record { two = few.0; most = few.1; exact = omega (arith, made, costs) };
+      calls = record {
+        two = few.0;
+        most = few.1;
+        exact = omega (arith, made, costs);
+        sent = omega (arith, c.make.ensures.counts.sent, sends);
+      };
       failures = search rules;
       size = search rules;
       follows = search rules;
@@ -289,9 +303,18 @@ returns-clause-passes g c =
     ∙ step_costs c.args.self.now (shape_of i.sizes) i.head (lists_of i.waiting.items) i.turned i.kept i.under_way.items i.made i.dead
     c.as_slice-numbers.result.now (lists_of (drop 1 i.waiting.items)) c.self.view_is waits in
     let few = turn_refused c.next_turn-turn.result _ _ _ costs c.make.ensures.counts.calls in
+    let sends = turn_sent (shape_of i.sizes) i.head c.as_slice-numbers.result.now i.kept i.turned c.next_turn-turn.result
+    c.next_turn-turn.ensures.next oldest
+    ∙ step_sends c.args.self.now (shape_of i.sizes) i.head (lists_of i.waiting.items) i.turned i.kept i.under_way.items i.made i.dead
+    c.as_slice-numbers.result.now (lists_of (drop 1 i.waiting.items)) c.self.view_is waits in
     let made = on_ok_here c.make.result (sym c.is_err.ensures.value ∙ c.if-is_err.false) c.make.ensures.counts.exact in
     record {
-      calls = record { two = few.0; most = few.1; exact = omega (arith, made, costs) };
+      calls = record {
+        two = few.0;
+        most = few.1;
+        exact = omega (arith, made, costs);
+        sent = omega (arith, c.make.ensures.counts.sent, sends);
+      };
       failures = search rules;
       size = search rules;
       follows = search rules;
