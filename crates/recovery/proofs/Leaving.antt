@@ -1,7 +1,6 @@
 -- What a recovery leaves at each moment of it, and how many calls it makes, up to each of its exits.
-use Rattle.std.proofs.Common.{◌≡◌, ◌⊎◌, ℕ, ◌+◌, ◌*◌, ◌<◌, ◌≤◌, List, [], length, get_or, sym, subst, arith, Result}
-use Rattle.std.specs.Prelude.{min}
-use Rattle.medium.specs.Medium.{State, Image, CutLeaves, Only, IsSound}
+use Rattle.std.proofs.Common.{◌≡◌, ℕ, ◌+◌, ◌*◌, ◌<◌, ◌≤◌, List, [], length, get_or, sym, subst, arith, Result}
+use Rattle.medium.specs.Medium.{State, Only, IsSound}
 use Rattle.medium.specs.Moments.{EachCut, IsFlushed, LeavesOnly, IsQuiet, SparesFrom}
 use Rattle.medium.specs.Blocks.{Array}
 use Rattle.medium.specs.declared.fault.MediumFault.{MediumFault}
@@ -15,7 +14,7 @@ use Rattle.log_image.specs.ImageFaults.{HasShape}
 use Rattle.recovery.specs.Calls.{CopiesPass, MovesHead}
 use Rattle.recovery.specs.Copies.{most_calls_of, most_start_of, AreCopied, IsHomeInRecords, HasNewHead}
 use Rattle.recovery.specs.Found.{IsFound, IsSurvey, SurveysAtMost}
-use Rattle.recovery.specs.Recovered.{IsRecoveredFrom, IsFresh, RecoveryLeaves}
+use Rattle.recovery.specs.Recovered.{IsRecoveredFrom, IsFresh, RecoverySends, RecoveryLeaves}
 use Rattle.recovery.specs.declared.found.Found.{Found}
 use Rattle.recovery.proofs.Finding.{found_before, shape_after}
 use Rattle.recovery.proofs.Recovering.{quiet_cuts, quiet_made, calls_made, made_joined, seen_cuts, seen_after, later_cuts, later_after}
@@ -24,14 +23,16 @@ use Rattle.recovery.proofs.Sparing.{quiet_spares, copies_spare, moves_spare, fou
 use Rattle.recovery.proofs.Trying.{most_start, few_start, few_starts}
 
 -- a flush
-pub flush_leaves : (old mid : State) → IsSound old → IsQuiet old mid → mid.calls ≡ old.calls + 1 → RecoveryLeaves old mid
-flush_leaves old mid sound flushed counted = record {
+pub flush_leaves : (old mid : State) → IsSound old → IsQuiet old mid → mid.calls ≡ old.calls + 1 → RecoverySends old mid
+    → RecoveryLeaves old mid
+flush_leaves old mid sound flushed counted sends = record {
   cuts = quiet_cuts old mid sound flushed;
   after_flush = λ shape array next ours more. absurd (omega (arith, counted, more));
   spares = quiet_spares old mid sound flushed;
   moments = quiet_made old mid sound flushed;
   calls = omega (arith, counted);
   most = λ shape has. omega (arith, counted);
+  sends = sends;
 }
 
 module _ (old mid seen : State) (sound : IsSound old) (sound_mid : IsSound mid) (flushed : IsQuiet old mid)
@@ -40,8 +41,8 @@ module _ (old mid seen : State) (sound : IsSound old) (sound_mid : IsSound mid) 
   quiet = quiet_joined old mid seen flushed reads.quiet
 
   -- and the survey
-  pub survey_leaves : RecoveryLeaves old seen
-  survey_leaves = record {
+  pub survey_leaves : RecoverySends old seen → RecoveryLeaves old seen
+  survey_leaves sends = record {
     cuts = seen_cuts old mid seen sound sound_mid flushed counted only reads.quiet;
     after_flush = λ shape array next ours more image since.
         seen_after old mid seen sound sound_mid flushed counted only reads.quiet shape array next ours image since;
@@ -50,6 +51,7 @@ module _ (old mid seen : State) (sound : IsSound old) (sound_mid : IsSound mid) 
     calls = let most = reads.calls in omega (arith, counted, most);
     most = λ shape has.
         few_start shape.format old.calls mid.calls seen.calls counted (reads.most shape (shape_after old mid shape flushed has));
+    sends = sends;
   }
 
   module _ (least : ℕ) (found : Found) (survey : IsSurvey least mid seen found) (copied : State) (sound_copied : IsSound copied)
@@ -82,8 +84,8 @@ module _ (old mid seen : State) (sound : IsSound old) (sound_mid : IsSound mid) 
     made = made_joined old seen copied (quiet_made old seen sound quiet) (calls_made _ seen copied copies.moments)
 
     -- and the copies
-    pub copies_leave : RecoveryLeaves old copied
-    copies_leave =
+    pub copies_leave : RecoverySends old copied → RecoveryLeaves old copied
+    copies_leave sends =
         let ours = copied_leaves old mid seen sound sound_mid flushed counted only reads.quiet found survey.is
         copied sound_copied copies.moments in
         let same = one_shape old mid seen sound sound_mid flushed counted only reads.quiet found survey.is in
@@ -96,6 +98,7 @@ module _ (old mid seen : State) (sound : IsSound old) (sound_mid : IsSound mid) 
           moments = made;
           calls = few_starts found.sizes.format old.calls copied.calls (few_made copied (omega arith));
           most = few_by_shape copied (omega arith);
+          sends = sends;
         }
 
     module _ (done : (records : List (List Entry)) → found.count ≡ length records
@@ -104,8 +107,8 @@ module _ (old mid seen : State) (sound : IsSound old) (sound_mid : IsSound mid) 
         (new : State) {Y : Type 0} {answer : Result Y MediumFault}
         (moves : MovesHead (found.head + found.count + 1) copied new answer) where
       -- and the new head
-      pub moves_leave : RecoveryLeaves old new
-      moves_leave =
+      pub moves_leave : RecoverySends old new → RecoveryLeaves old new
+      moves_leave sends =
           let ours = moved_leaves old mid seen sound sound_mid flushed counted only reads.quiet found survey.is copied sound_copied
           copies.moments
           copies.elsewhere done new moves.moments in
@@ -119,6 +122,7 @@ module _ (old mid seen : State) (sound : IsSound old) (sound_mid : IsSound mid) 
             moments = made_joined old copied new made (calls_made _ copied new moves.moments);
             calls = few_starts found.sizes.format old.calls new.calls (few_made new moves.calls);
             most = few_by_shape new moves.calls;
+            sends = sends;
           }
 
       module _ (moved : HasNewHead (found.head + found.count + 1) copied.content new.content) (flush : IsFlushed new) where

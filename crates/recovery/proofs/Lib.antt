@@ -15,3 +15,4 @@ pub mod Homing
 pub mod Leaving
 pub mod Migrating
 pub mod Naming
+pub mod Sending

@@ -5,6 +5,7 @@ use Rattle.std.proofs.lemmas.Bool.{cases_lt}
 use Rattle.medium.specs.Medium.{State, Image, CutLeaves, Holds, IsSound}
 use Rattle.medium.specs.Moments.{EachCut, IsFlushed, LeavesOnly, StaysWithin, SparesFrom}
 use Rattle.medium.specs.Blocks.{Array}
+use Rattle.medium.specs.Sent.{sent, SendsUpTo}
 use Rattle.medium.proofs.Moments.{weaker, joined_same, at_exit, only_image}
 use Rattle.medium.proofs.Sparing.{spared_behind, spared_joined}
 use Rattle.log_layout.specs.declared.log_format.LogFormat.{LogFormat}
@@ -22,11 +23,13 @@ use Rattle.recovery.specs.Causes.{HasFewSlots}
 use Rattle.recovery.specs.Copies.{cleared_at, WithOrWithout, IsBetween, HasNewHead, AreTries, copy_calls, most_start_of}
 use Rattle.recovery.specs.Recovered.{IsRecoveredFrom, IsFresh, IsOursForSome, StandsForOneOf, LeavesAtLeast}
 use Rattle.recovery.specs.Migrated.{CanMigrate, IsMadeTwo, IsMigratedFrom, IsFreshInEither, IsOursInEither, StandsInEither, MigrationLeaves}
+use Rattle.recovery.specs.Migrated.{most_migration_sends}
 use Rattle.recovery.specs.declared.recovered.Recovered.{Recovered}
 use Rattle.recovery.proofs.Carrying.{zeros_carry}
 use Rattle.recovery.proofs.Copying.{log_ends}
 use Rattle.recovery.proofs.Recovering.{calls_made, made_joined}
 use Rattle.recovery.proofs.Replaying.{fresh_ours}
+use Rattle.recovery.proofs.Sending.{start_migrates, made_migrates}
 
 module _ (shape : Shape) (array : Array) (next : ℕ) (before image : Image) (fresh : IsFresh shape array next before) where
   ends : 2 + (layout_of shape.format).slot_sectors * shape.slots ≤ first_home shape
@@ -151,6 +154,7 @@ recovery_leaves old new leaves = record {
   small = leaves.small;
   moments = leaves.all.moments;
   calls = leaves.all.calls;
+  sends = λ shape has. start_migrates shape.format shape.slots (sent old) (sent new) (leaves.all.sends.most shape has);
 }
 
 module _ (old mid : State) (found : Recovered) (recovered : IsRecoveredFrom old mid found) (enough : ¬ HasFewSlots 5 old.size old.content)
@@ -237,8 +241,9 @@ module _ (old mid : State) (found : Recovered) (recovered : IsRecoveredFrom old 
           (here_ours array (subst (λ (n : ℕ). IsOurs old.size (shape_of found.sizes) old.content array n) same.1
           (subst (λ (s : Shape). IsOurs old.size s old.content array next) same.0 ours))))
 
-      pub migration_leaves : LeavesAtLeast 5 old mid → new.calls ≤ mid.calls + (50 * found.sizes.slots + 5) → MigrationLeaves old new
-      migration_leaves start last = record {
+      pub migration_leaves : LeavesAtLeast 5 old mid → new.calls ≤ mid.calls + (50 * found.sizes.slots + 5)
+          → SendsUpTo (50 * found.sizes.slots + 5) mid new → MigrationLeaves old new
+      migration_leaves start last making = record {
         cuts = λ each. joined_same (StandsInEither old) old mid new (first.cuts each) (later each);
         after_flush = λ shape array next ours more image since. ⊎_elim
             (λ was. first.after_flush shape array next ours some_calls image was) (λ now. now)
@@ -258,6 +263,13 @@ module _ (old mid : State) (found : Recovered) (recovered : IsRecoveredFrom old 
         small = λ few. absurd (enough few);
         moments = made_joined old mid new start.all.moments (calls_made _ mid new spares.moments);
         calls = few_calls new start.all.most last;
+        sends = λ shape has.
+            let same : shape ≡ shape_of found.sizes =
+            IsSuper-one shape (shape_of found.sizes) (old.content 0) has.super recovered.stood.keeps.super in
+            subst (λ (s : Shape). SendsUpTo (most_migration_sends s.format s.slots) old new) (sym same)
+            (made_migrates found.sizes.format found.sizes.slots (sent old) (sent mid) (sent new) one
+            (start.all.sends.most (shape_of found.sizes)
+            (StandsFor-shape old.size (shape_of found.sizes) old.content recovered.array found.next recovered.stood)) making);
       }
         where
           first : MigrationLeaves old mid

@@ -4,7 +4,7 @@ use Rattle.std.specs.Prelude.{slice_index, get_or, replicate}
 use Rattle.medium.specs.Medium.{State, Image, Sets, CutLeaves, Holds}
 use Rattle.log_layout.specs.declared.log_format.LogFormat.{LogFormat}
 use Rattle.log_layout.specs.declared.log_format.LogFormat.TheVariants.{One, Two}
-use Rattle.log_layout.specs.Places.{Shape, first_home}
+use Rattle.log_layout.specs.Places.{Shape, first_home, limit_of}
 use Rattle.log_layout.specs.Sectors.{IsHead}
 use Rattle.log_layout.specs.SectorsTwo.{descriptors_of}
 use Rattle.log_image.specs.Record.{Entry, numbers_of, block_of, with_records, home_of}
@@ -80,6 +80,11 @@ most_reads_of Two = 249
 abbrev pub most_start_of : LogFormat → ℕ
 most_start_of One = 100
 most_start_of Two = 738
+
+-- how many writes and flushes it makes at most: one for each block of a record in each slot, a flush
+-- before them, and a flush, the head and a flush behind them
+abbrev pub most_start_sends : LogFormat → ℕ → ℕ
+most_start_sends format slots = limit_of format * slots + 4
 
 -- By so many tries to find a whole record one count of calls becomes another: by two reads each in
 -- format 1, and in format 2 by as many as it takes, up to all sectors of a slot.

@@ -4,13 +4,16 @@ use Rattle.std.specs.Prelude.{Bool, true, false}
 use Rattle.medium.specs.Medium.{State, Image, CutLeaves}
 use Rattle.medium.specs.Moments.{EachCut, IsFlushed, LeavesOnly, SparesFrom}
 use Rattle.medium.specs.Blocks.{Array}
+use Rattle.medium.specs.Sent.{SendsUpTo}
+use Rattle.log_layout.specs.declared.log_format.LogFormat.{LogFormat}
 use Rattle.log_layout.specs.declared.log_format.LogFormat.TheVariants.{One, Two}
 use Rattle.log_layout.specs.Places.{Shape, first_home, sectors_of, migrated}
 use Rattle.log_layout.specs.Sectors.{IsSuper, IsHead}
 use Rattle.log_layout.specs.Values.{shape_of}
 use Rattle.log_image.specs.Standing.{StandsFor, IsOurs}
 use Rattle.recovery.specs.Causes.{HasFewSlots, WritesNothing, IsRefusalBy, IsDeviceFault}
-use Rattle.recovery.specs.Copies.{copy_calls, AreTries}
+use Rattle.log_image.specs.ImageFaults.{HasShape}
+use Rattle.recovery.specs.Copies.{copy_calls, most_start_sends, AreTries}
 use Rattle.recovery.specs.Recovered.{IsRecoveredFrom, IsFresh, SparesTheRest}
 use Rattle.recovery.specs.Recovered.{IsOursForSome, IsOursWithNext}
 use Rattle.recovery.specs.declared.recovered.Recovered.{Recovered}
@@ -49,6 +52,8 @@ pub record MakingLeaves (shape : Shape) (next : ℕ) (old new : State) : Type 0 
   pub cuts : (array : Array) → IsFresh shape array next old.content
       → LeavesOnly (IsFreshInEither shape array next) old new
   pub spares : SparesFrom (first_home shape) old new
+  -- a write for each sector of the log, a flush, the head, a flush, the super and a flush
+  pub sends : SendsUpTo (50 * shape.slots + 5) old new
 
 -- The answer is what contents of format 1 stood for, with a stamp left for the next record, and the
 -- sizes of format 2. They have become format 2, with the head at that stamp and the array at home,
@@ -101,6 +106,12 @@ pub record StandsInEither (old : State) (image : Image) : Type 0 where
   pub was : IsOurs old.size shape before array next
   pub is : IsOursInEither old.size shape array next image
 
+-- how many writes and flushes a migration makes at most: those of a recovery, and of format 1 those
+-- that make format 2 of it
+abbrev pub most_migration_sends : LogFormat → ℕ → ℕ
+most_migration_sends One slots = most_start_sends One slots + (50 * slots + 5)
+most_migration_sends Two slots = most_start_sends Two slots
+
 -- What a migration leaves at each moment of it, good or refused, and how many calls it makes.
 pub record MigrationLeaves (old new : State) : Type 0 where
   -- Where every image is ours, a cut leaves one that is ours for one of the arrays.
@@ -116,3 +127,5 @@ pub record MigrationLeaves (old new : State) : Type 0 where
   -- Whatever the image: no count falls, and the size stays.
   pub moments : LeavesOnly (λ _. Unit {0}) old new
   pub calls : new.calls ≤ old.calls + 6 + 738 * 64
+  pub sends : (shape : Shape) → HasShape old.size shape old.content
+      → SendsUpTo (most_migration_sends shape.format shape.slots) old new

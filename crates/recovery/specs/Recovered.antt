@@ -3,6 +3,8 @@ use Rattle.std.specs.Prelude.{◌≡◌, ◌≢◌, ◌⊎◌, ℕ, ◌+◌, ◌
 use Rattle.medium.specs.Medium.{State, Image, CutLeaves}
 use Rattle.medium.specs.Moments.{EachCut, IsFlushed, LeavesOnly, SparesFrom}
 use Rattle.medium.specs.Blocks.{Array}
+use Rattle.medium.specs.Sent.{SendsUpTo}
+use Rattle.log_layout.specs.declared.log_format.LogFormat.TheVariants.{Two}
 use Rattle.log_layout.specs.Places.{Shape, first_home, sectors_of}
 use Rattle.log_layout.specs.Values.{shape_of}
 use Rattle.log_layout.specs.Sectors.{IsSuper, IsHead}
@@ -10,7 +12,7 @@ use Rattle.log_image.specs.Formats.{CarriesBelow}
 use Rattle.log_image.specs.Standing.{StandsFor, IsOurs}
 use Rattle.log_image.specs.ImageFaults.{HasShape}
 use Rattle.recovery.specs.Causes.{HasFewSlots, IsCause, IsDeviceFault}
-use Rattle.recovery.specs.Copies.{copy_calls, most_start_of, AreTries}
+use Rattle.recovery.specs.Copies.{copy_calls, most_start_of, most_start_sends, AreTries}
 use Rattle.recovery.specs.declared.recovered.Recovered.{Recovered}
 use Rattle.recovery.specs.declared.start_fault.StartFault.{StartFault}
 
@@ -69,6 +71,13 @@ pub record SparesTheRest (old new : State) : Type 0 where
   pub unserved : ((shape : Shape) (array : Array) (next : ℕ)
       → StandsFor old.size shape old.content array next → 2 ^ 63 ≤ next) → SparesFrom 0 old new
 
+-- How many writes and flushes a recovery makes at most, good or refused: where the image has a super,
+-- by its format and its slots, and whatever the image.
+pub record RecoverySends (old new : State) : Type 0 where
+  pub most : (shape : Shape) → HasShape old.size shape old.content
+      → SendsUpTo (most_start_sends shape.format shape.slots) old new
+  pub any : SendsUpTo (most_start_sends Two 64) old new
+
 -- What a recovery leaves at each moment of it, good or refused, and how many calls it makes.
 pub record RecoveryLeaves (old new : State) : Type 0 where
   -- Where every image is ours, a cut at any moment leaves one that is ours for one of the arrays.
@@ -86,6 +95,7 @@ pub record RecoveryLeaves (old new : State) : Type 0 where
   pub calls : new.calls ≤ old.calls + 6 + 738 * 64
   pub most : (shape : Shape) → HasShape old.size shape old.content
       → new.calls ≤ old.calls + 6 + most_start_of shape.format * 64
+  pub sends : RecoverySends old new
 
 -- Why a recovery is refused. Contents that stand for something with a stamp left are refused by the
 -- device alone.

@@ -1,6 +1,7 @@
 //! The copying of the whole records home.
 ghost use Rattle.std.specs.Prelude.{◌≡◌, ◌<◌, ◌≤◌, ◌+◌, ◌*◌, ◌^◌, List, ℕ, OnOk, length, [], ◌++◌, get_or, drop};
-ghost use Rattle.log_layout.specs.Places.{sectors_of};
+ghost use Rattle.medium.specs.Sent.{SendsUpTo};
+ghost use Rattle.log_layout.specs.Places.{sectors_of, limit_of};
 ghost use Rattle.log_layout.specs.Values.{shape_of};
 ghost use Rattle.log_image.specs.Record.{Entry};
 ghost use Rattle.log_image.specs.Formats.{IsWhole, HasWhole};
@@ -25,6 +26,7 @@ pub(crate) fn copy_sector<M: Medium>(
     ensures done { OnOk result ((M.state m.new).content to
         ≡ first.now ++ drop (length first.now) ((M.state m.old).content from)) }
     ensures copies { CopiesAllPass (λ x. x ≡ to) 2 (M.state m.old) (M.state m.new) result }
+    ensures sends { SendsUpTo 1 (M.state m.old) (M.state m.new) }
     ensures follows { M.follows m.old m.new }
 {
     let mut sector = [0; 512];
@@ -44,6 +46,7 @@ fn copy_record<M: Medium>(m: &mut M, sizes: &Super, stamp: u64) -> Result<(), Me
     ensures copies { CopiesPass
         (IsHomeInRecord (shape_of sizes.now) (M.state m.old).content stamp)
         (most_calls_of sizes.now.format) (M.state m.old) (M.state m.new) result }
+    ensures sends { SendsUpTo (limit_of sizes.now.format) (M.state m.old) (M.state m.new) }
     ensures follows { M.follows m.old m.new }
 {
     match sizes.format {
@@ -67,6 +70,8 @@ pub(crate) fn copy_records<M: Medium>(m: &mut M, found: &Found) -> Result<(), Me
         (M.state m.old).content found.now.head found.now.count)
         (most_calls_of found.now.sizes.format * found.now.count)
         (M.state m.old) (M.state m.new) result }
+    ensures sends { SendsUpTo (limit_of found.now.sizes.format * found.now.count)
+        (M.state m.old) (M.state m.new) }
     ensures follows { M.follows m.old m.new }
 {
     for j in 0..found.count {

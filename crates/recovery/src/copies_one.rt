@@ -1,5 +1,6 @@
 //! The copying of a whole record home, in format 1.
 ghost use Rattle.std.specs.Prelude.{◌≡◌, ◌<◌, ◌≤◌, ◌+◌, ◌*◌, List, ℕ, OnOk, length, slice_index, All};
+ghost use Rattle.medium.specs.Sent.{SendsUpTo};
 ghost use Rattle.log_layout.specs.declared.log_format.LogFormat.TheVariants.{One};
 ghost use Rattle.log_layout.specs.Places.{first_home, sectors_of};
 ghost use Rattle.log_layout.specs.Sectors.{IsRising};
@@ -32,6 +33,7 @@ fn copy_blocks<M: Medium>(
         ≡ (M.state m.old).content (2 + 50 * slot + 1 + i)) }
     ensures copies { CopiesAllPass (IsHomeOf (shape_of sizes.now) numbers.now)
         (2 * length numbers.now) (M.state m.old) (M.state m.new) result }
+    ensures sends { SendsUpTo (length numbers.now) (M.state m.old) (M.state m.new) }
     ensures follows { M.follows m.old m.new }
 {
     for i in 0..numbers.len() {
@@ -61,6 +63,7 @@ pub(crate) fn copy_record<M: Medium>(
     ensures copies { CopiesPass
         (IsHomeInRecord (shape_of sizes.now) (M.state m.old).content stamp) 98
         (M.state m.old) (M.state m.new) result }
+    ensures sends { SendsUpTo 48 (M.state m.old) (M.state m.new) }
     ensures follows { M.follows m.old m.new }
 {
     match read_record(m, sizes, stamp)? {

@@ -1,5 +1,6 @@
 //! The move of the head.
 ghost use Rattle.std.specs.Prelude.{◌<◌, ◌≤◌, ◌^◌, OnOk};
+ghost use Rattle.medium.specs.Sent.{SendsUpTo};
 ghost use Rattle.medium.specs.Moments.{IsFlushed};
 ghost use Rattle.recovery.specs.Calls.{MovesHead};
 ghost use Rattle.recovery.specs.Copies.{HasNewHead};
@@ -16,6 +17,7 @@ pub(crate) fn move_head<M: Medium>(m: &mut M, stamp: u64) -> Result<(), MediumFa
         (HasNewHead stamp (M.state m.old).content (M.state m.new).content
         × IsFlushed (M.state m.new)) }
     ensures moves { MovesHead stamp (M.state m.old) (M.state m.new) result }
+    ensures sends { SendsUpTo 3 (M.state m.old) (M.state m.new) }
     ensures follows { M.follows m.old m.new }
 {
     m.flush()?;

@@ -1,5 +1,6 @@
 use Rattle.std.proofs.Common.{◌≡◌, ◌∙◌, ◌+◌, ◌<◌, List, ℕ, [], length, get_or, refl, sym, ap, arith, rules}
 use Rattle.std.proofs.lemmas.List.{take_all}
+use Rattle.medium.specs.Sent.{sent}
 use Rattle.log_layout.specs.Places.{first_home}
 use Rattle.log_layout.specs.Values.{shape_of}
 use Rattle.log_image.specs.Record.{Entry, with_records, home_of}
@@ -8,6 +9,7 @@ use Rattle.recovery.specs.Copies.{copy_calls, IsHomeInRecord, IsHomeInRecords}
 use Rattle.recovery.proofs.Copying.{none_copied, copies_joined, record_home, one_more_home, not_in_log, whole_same, home_same}
 use Rattle.recovery.proofs.Copying.{copy_calls-more}
 use Rattle.recovery.proofs.Trying.{no_calls, most_more, most_stays}
+use Rattle.recovery.proofs.Sending.{no_sends, sends_more, sends_stay}
 use Rattle.recovery.proofs.copies.copy_records.Goals as goal
 
 pub copy_record-requires-clause-fits : goal.copy_record-requires-clause-fits
@@ -36,6 +38,7 @@ loop-j-init g c = record {
       (g.M.Medium.state c.args.m.now) (g.met.M.Medium.sound c.args.m.now);
   calls = no_calls c.args.found.now.sizes.format (g.M.Medium.state c.args.m.now).calls;
   exact = λ records count whole. omega arith;
+  sends = no_sends c.args.found.now.sizes.format (sent (g.M.Medium.state c.args.m.now));
   follows = g.met.M.Medium.follows_itself c.args.m.now;
 }
 
@@ -104,6 +107,7 @@ loop-j-preserved g c =
           let made = (c.in_ok-copy_record.ensures.done (get_or records j []) here).exact in
           let more = copy_calls-more found.sizes.format j records short in
           omega (arith, before, made, more);
+      sends = sends_more found.sizes.format j (sent old) (sent mid) (sent new) inv.sends c.copy_record.ensures.sends;
       follows = g.met.M.Medium.follows_through c.args.m.now c.loop-j.m c.copy_record.new.m inv.follows c.copy_record.ensures.follows;
     }
 
@@ -117,3 +121,20 @@ returns-clause-done g c records count whole =
       home = λ b. inv.home records count whole b ∙ ap (λ (l : List (List Entry)). with_records l (home_of shape old.content) b) all;
       exact = inv.exact records count whole ∙ ap (λ (l : List (List Entry)). old.calls + copy_calls shape.format l) all;
     }
+
+pub returns-in_err-copy_record-clause-sends : goal.returns-in_err-copy_record-clause-sends
+returns-in_err-copy_record-clause-sends g c =
+    let format = c.args.found.now.sizes.format in
+    let old = g.M.Medium.state c.args.m.now in
+    let mid = g.M.Medium.state c.loop-j.m in
+    let new = g.M.Medium.state c.copy_record.new.m in
+    let j = c.loop-j.j in
+    sends_stay format (j + 1) c.args.found.now.count (sent old) (sent new) (omega (arith, c.loop-j-test.true))
+    (sends_more format j (sent old) (sent mid) (sent new) c.loop-j.invariant.sends c.copy_record.ensures.sends)
+
+pub returns-clause-sends : goal.returns-clause-sends
+returns-clause-sends g c =
+    let format = c.args.found.now.sizes.format in
+    let old = g.M.Medium.state c.args.m.now in
+    let new = g.M.Medium.state c.loop-j.m in
+    sends_stay format c.loop-j.j c.args.found.now.count (sent old) (sent new) (omega arith) c.loop-j.invariant.sends

@@ -1,10 +1,11 @@
 use Rattle.std.proofs.Common.{◌≡◌, ◌<◌, ◌≤◌, ◌+◌, ◌*◌, List, ℕ, length, take, get_or, []}
 use Rattle.medium.specs.Moments.{StaysWithin}
-use Rattle.log_layout.specs.Places.{first_home}
+use Rattle.log_layout.specs.Places.{first_home, limit_of}
 use Rattle.log_layout.specs.Values.{shape_of}
 use Rattle.log_image.specs.Record.{Entry, with_records, home_of}
 use Rattle.log_image.specs.Formats.{IsWhole}
 use Rattle.recovery.specs.Copies.{freed_at, copy_calls, most_calls_of, IsHomeInRecords}
+use Rattle.medium.specs.Sent.{SendsUpTo}
 use Rattle.recovery.proofs.copies.copy_records.Given as goal
 
 abbrev pub invariant-loop-j : goal.invariant-loop-j
@@ -26,5 +27,6 @@ invariant-loop-j g l = record {
       → ((k : ℕ) → k < length records
       → IsWhole (shape_of l.found.sizes) (g.M.Medium.state l.fn.m).content (l.found.head + k) (get_or records k []))
       → (g.M.Medium.state l.m).calls ≡ (g.M.Medium.state l.fn.m).calls + copy_calls l.found.sizes.format (take l.j records);
+  sends : SendsUpTo (limit_of l.found.sizes.format * l.j) (g.M.Medium.state l.fn.m) (g.M.Medium.state l.m);
   follows : g.M.Medium.follows l.fn.m l.m;
 }

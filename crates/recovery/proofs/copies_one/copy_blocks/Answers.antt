@@ -26,6 +26,7 @@ loop-i-init g c = record {
   within = none_copied (IsHomeOf (shape_of c.args.sizes.now) c.args.numbers.now) (g.M.Medium.state c.args.m.now)
       (g.met.M.Medium.sound c.args.m.now);
   calls = omega arith;
+  sends = omega arith;
   follows = g.met.M.Medium.follows_itself c.args.m.now;
 }
 
@@ -79,5 +80,6 @@ loop-i-preserved g c =
           copies_joined (IsHomeOf shape ns) (λ x. x ≡ c.home_of.result) (IsHomeOf shape ns) old mid new (g.met.M.Medium.sound c.loop-i.m)
           (λ x h. h) (λ x e. (i, inside, e ∙ to)) inv.within c.copy_sector.ensures.copies.moments;
       calls = omega (arith, inv.calls, c.in_ok-copy_sector.ensures.copies.exact);
+      sends = omega (arith, inv.sends, c.copy_sector.ensures.sends);
       follows = g.met.M.Medium.follows_through c.args.m.now c.loop-i.m c.copy_sector.new.m inv.follows c.copy_sector.ensures.follows;
     }

@@ -3,6 +3,7 @@ use Rattle.medium.specs.Moments.{StaysWithin}
 use Rattle.log_layout.specs.Places.{first_home}
 use Rattle.log_layout.specs.Values.{shape_of}
 use Rattle.recovery.specs.Copies.{freed_at, IsHomeOf}
+use Rattle.medium.specs.Sent.{SendsUpTo}
 use Rattle.recovery.proofs.copies_one.copy_blocks.Given as goal
 
 abbrev pub invariant-loop-i : goal.invariant-loop-i
@@ -14,5 +15,6 @@ invariant-loop-i g l = record {
   within : StaysWithin (freed_at (IsHomeOf (shape_of l.sizes) l.numbers) (g.M.Medium.state l.fn.m).may_leave) (g.M.Medium.state l.fn.m)
       (g.M.Medium.state l.m);
   calls : (g.M.Medium.state l.m).calls ≡ (g.M.Medium.state l.fn.m).calls + 2 * l.i;
+  sends : SendsUpTo l.i (g.M.Medium.state l.fn.m) (g.M.Medium.state l.m);
   follows : g.M.Medium.follows l.fn.m l.m;
 }

@@ -71,5 +71,6 @@ loop-e-preserved g c =
           copies_joined (IsHomeOf shape ns) (λ x. x ≡ c.home_of.result) (IsHomeOf shape ns) old mid new (g.met.M.Medium.sound c.loop-e.m)
           (λ x h. h) (λ x is. (e, inside, is ∙ to)) inv.within c.copy_sector.ensures.copies.moments;
       calls = omega (arith, inv.calls, c.in_ok-copy_sector.ensures.copies.exact);
+      sends = omega (arith, inv.sends, c.copy_sector.ensures.sends);
       follows = g.met.M.Medium.follows_through c.args.m.now c.loop-e.m c.copy_sector.new.m inv.follows c.copy_sector.ensures.follows;
     }

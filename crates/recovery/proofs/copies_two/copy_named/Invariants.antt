@@ -3,6 +3,7 @@ use Rattle.medium.specs.Moments.{StaysWithin}
 use Rattle.log_layout.specs.Places.{first_home}
 use Rattle.log_layout.specs.Values.{shape_of}
 use Rattle.recovery.specs.Copies.{freed_at, IsHomeOf}
+use Rattle.medium.specs.Sent.{SendsUpTo}
 use Rattle.recovery.proofs.copies_two.copy_named.Given as goal
 
 abbrev pub invariant-loop-e : goal.invariant-loop-e
@@ -16,5 +17,6 @@ invariant-loop-e g l = record {
   within : StaysWithin (freed_at (IsHomeOf (shape_of l.sizes) l.descriptor.numbers.items) (g.M.Medium.state l.fn.m).may_leave)
       (g.M.Medium.state l.fn.m) (g.M.Medium.state l.m);
   calls : (g.M.Medium.state l.m).calls ≡ (g.M.Medium.state l.fn.m).calls + 2 * l.e;
+  sends : SendsUpTo l.e (g.M.Medium.state l.fn.m) (g.M.Medium.state l.m);
   follows : g.M.Medium.follows l.fn.m l.m;
 }

@@ -2,6 +2,7 @@ use Rattle.std.proofs.Common.{◌≡◌, inl, inr, ◌∙◌, ◌+◌, ◌*◌, 
 use Rattle.std.specs.Prelude.{IfSome}
 use Rattle.std.proofs.lemmas.Bool.{cases_lt}
 use Rattle.log_layout.specs.SectorsTwo.{descriptors_of, IsDescriptorTwo, IsCommitTwo}
+use Rattle.medium.proofs.Sending.{none_sent}
 use Rattle.log_layout.specs.Values.{shape_of}
 use Rattle.recovery.specs.Copies.{calls_of, IsHomeOf, IsHomeInRecord}
 use Rattle.recovery.proofs.Copying.{quiet_within, copies_joined}
@@ -161,6 +162,16 @@ loop-j-preserved g c =
         counted r c.in_ok-count.ensures.all c.in-Some.is,
         length_named r names,
       );
+      sends =
+          let none = none_sent mid read passes.reads in
+          omega (
+            arith,
+            inv.sends,
+            none,
+            c.copy_named.ensures.sends,
+            counted r c.in_ok-count.ensures.all c.in-Some.is,
+            length_named r names,
+          );
       follows = g.met.M.Medium.follows_through c.args.m.now c.read_descriptor.new.m c.copy_named.new.m
           (g.met.M.Medium.follows_through c.args.m.now c.loop-j.m c.read_descriptor.new.m inv.follows c.read_descriptor.ensures.follows)
           c.copy_named.ensures.follows;

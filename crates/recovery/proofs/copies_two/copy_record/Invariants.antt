@@ -6,6 +6,7 @@ use Rattle.log_layout.specs.Values.{shape_of}
 use Rattle.log_image.specs.Record.{Entry, block_of}
 use Rattle.log_image.specs.Formats.{IsWhole}
 use Rattle.recovery.specs.Copies.{freed_at, IsHomeInRecord}
+use Rattle.medium.specs.Sent.{SendsUpTo}
 use Rattle.recovery.proofs.copies_two.copy_record.Given as goal
 
 abbrev pub invariant-loop-j : goal.invariant-loop-j
@@ -19,5 +20,6 @@ invariant-loop-j g l = record {
       (freed_at (IsHomeInRecord (shape_of l.sizes) (g.M.Medium.state l.fn.m).content l.stamp) (g.M.Medium.state l.fn.m).may_leave)
       (g.M.Medium.state l.fn.m) (g.M.Medium.state l.m);
   calls : (g.M.Medium.state l.m).calls ≡ (g.M.Medium.state l.fn.m).calls + 1 + l.j + 2 * min (30 * l.j) l.count;
+  sends : SendsUpTo (min (30 * l.j) l.count) (g.M.Medium.state l.fn.m) (g.M.Medium.state l.m);
   follows : g.M.Medium.follows l.fn.m l.m;
 }

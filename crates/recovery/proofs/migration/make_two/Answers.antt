@@ -1,7 +1,8 @@
 use Rattle.std.proofs.Common.{◌≡◌, ℕ, ap, subst, ◌∙◌, arith}
 use Rattle.medium.specs.Moments.{StaysWithin, SparesFrom}
 use Rattle.medium.proofs.Sparing.{spared_behind, spared_joined}
-use Rattle.log_layout.specs.Places.{Shape}
+use Rattle.log_layout.specs.declared.log_format.LogFormat.{LogFormat}
+use Rattle.log_layout.specs.Places.{Shape, IsFirstHome}
 use Rattle.log_layout.specs.Sectors.{IsSuper}
 use Rattle.log_layout.specs.Values.{shape_of}
 use Rattle.recovery.specs.Copies.{cleared_at, IsBetween}
@@ -23,9 +24,12 @@ returns-in_err-clear-clause-leaves g c =
     let within = subst (λ (n : ℕ). StaysWithin (cleared_at (IsBetween 2 n) old.may_leave) old cleared) same clears.moments in
     let spared = clear_spares 2 home old cleared sound_cleared clears.elsewhere clears.moments in
     let wiped = subst (λ (n : ℕ). SparesFrom n old cleared) same spared in
+    let log = subst (λ (f : LogFormat). IsFirstHome f c.args.found.now.sizes.slots c.args.found.now.sizes.home) c.requires.can.one
+    c.args.found.now.sizes.home_is in
     record {
       cuts = λ array fresh. wiped_leaves shape array next old cleared c.requires.least c.requires.flushed fresh sound_cleared within;
       spares = wiped;
+      sends = omega (arith, c.clear.ensures.sends, same, log);
     }
 
 pub returns-in_err-move_head-clause-leaves : goal.returns-in_err-move_head-clause-leaves
@@ -46,10 +50,13 @@ returns-in_err-move_head-clause-leaves g c =
     let ends = log_ends shape c.args.found.now.sizes.home_is in
     let behind = spared_behind 2 shape.home cleared headed (omega (arith, ends)) moves.spares in
     let moved = spared_joined shape.home old cleared headed wiped behind in
+    let log = subst (λ (f : LogFormat). IsFirstHome f c.args.found.now.sizes.slots c.args.found.now.sizes.home) c.requires.can.one
+    c.args.found.now.sizes.home_is in
     record {
       cuts = λ array fresh. headed_leaves shape array next old cleared c.requires.least c.requires.flushed fresh sound_cleared within
           headed moves.moments;
       spares = moved;
+      sends = omega (arith, c.clear.ensures.sends, c.move_head.ensures.sends, same, log);
     }
 
 pub returns-in_err-write_through-clause-leaves : goal.returns-in_err-write_through-clause-leaves
@@ -76,6 +83,8 @@ returns-in_err-write_through-clause-leaves g c =
     let head = c.in_ok-move_head.ensures in
     let zeros = c.in_ok-clear.ensures.zeros in
     let super = subst (λ (s : Shape). IsSuper s c.encode.result) c.migrated-sizes.ensures c.encode.ensures in
+    let log = subst (λ (f : LogFormat). IsFirstHome f c.args.found.now.sizes.slots c.args.found.now.sizes.home) c.requires.can.one
+    c.args.found.now.sizes.home_is in
     record {
       cuts = λ array fresh. made_leaves shape array next old cleared c.requires.least c.requires.flushed fresh sound_cleared within
           headed moves.moments new c.encode.result sound_headed head.done.1
@@ -83,6 +92,7 @@ returns-in_err-write_through-clause-leaves g c =
       spares = spared_joined shape.home old headed new moved
           (through_spares shape.home 0 c.encode.result headed new (omega (arith, ends)) (g.met.M.Medium.sound c.write_through.new.m)
           last.elsewhere last.moments);
+      sends = omega (arith, c.clear.ensures.sends, c.move_head.ensures.sends, c.write_through.ensures.sends, same, log);
     }
 
 pub returns-clause-leaves : goal.returns-clause-leaves
@@ -109,6 +119,8 @@ returns-clause-leaves g c =
     let head = c.in_ok-move_head.ensures in
     let zeros = c.in_ok-clear.ensures.zeros in
     let super = subst (λ (s : Shape). IsSuper s c.encode.result) c.migrated-sizes.ensures c.encode.ensures in
+    let log = subst (λ (f : LogFormat). IsFirstHome f c.args.found.now.sizes.slots c.args.found.now.sizes.home) c.requires.can.one
+    c.args.found.now.sizes.home_is in
     record {
       cuts = λ array fresh. made_leaves shape array next old cleared c.requires.least c.requires.flushed fresh sound_cleared within
           headed moves.moments new c.encode.result sound_headed head.done.1
@@ -116,4 +128,5 @@ returns-clause-leaves g c =
       spares = spared_joined shape.home old headed new moved
           (through_spares shape.home 0 c.encode.result headed new (omega (arith, ends)) (g.met.M.Medium.sound c.write_through.new.m)
           last.elsewhere last.moments);
+      sends = omega (arith, c.clear.ensures.sends, c.move_head.ensures.sends, c.write_through.ensures.sends, same, log);
     }

@@ -1,12 +1,14 @@
-use Rattle.std.proofs.Common.{◌≡◌, ◌≤◌, ◌+◌, ◌*◌, arith, sym, subst}
+use Rattle.std.proofs.Common.{◌+◌, arith}
 use Rattle.std.proofs.lemmas.Result.{err_from_is_err_and}
 use Rattle.medium.proofs.Moments.{quiet_call, quiet_joined}
+use Rattle.medium.proofs.Sending.{none_sent, flush_sends}
 use Rattle.medium.proofs.Sparing.{spared_quiet}
 use Rattle.log_layout.specs.Values.{shape_of}
 use Rattle.recovery.proofs.Causes.{few_after, refusal_before}
 use Rattle.recovery.proofs.Copying.{log_ends}
-use Rattle.recovery.proofs.Finding.{has_whole_same}
+use Rattle.recovery.proofs.Finding.{has_whole_same, found_before}
 use Rattle.recovery.proofs.Leaving.{flush_leaves, survey_leaves, copies_leave, moves_leave, recovery_fresh, recovery_from}
+use Rattle.recovery.proofs.Sending.{few_sent, found_sent}
 use Rattle.recovery.proofs.recovery.recover_at_least.Goals as goal
 
 pub copy_records-requires-clause-fits : goal.copy_records-requires-clause-fits
@@ -42,7 +44,8 @@ returns-in_err-flush-clause-leaves g c =
     let flushed = quiet_call old mid c.flush.ensures.passes c.flush.ensures.content c.flush.ensures.sets in
     let sound = g.met.M.Medium.sound c.args.m.now in
     record {
-      all = flush_leaves old mid sound flushed c.flush.ensures.passes.calls_are;
+      all = flush_leaves old mid sound flushed c.flush.ensures.passes.calls_are
+          (few_sent old mid (omega (arith, flush_sends old mid c.flush.ensures.passes)));
       small = λ few. spared_quiet 0 old mid sound flushed;
     }
 
@@ -58,7 +61,8 @@ returns-in_err-found-clause-leaves g c =
     let only = c.in_ok-flush.ensures.ok in
     let reads = c.inspect.ensures.reads in
     record {
-      all = survey_leaves old mid seen sound sound_mid flushed counted only reads;
+      all = survey_leaves old mid seen sound sound_mid flushed counted only reads
+          (few_sent old seen (omega (arith, flush_sends old mid c.flush.ensures.passes, none_sent mid seen reads.reads)));
       small = λ few. spared_quiet 0 old seen sound (quiet_joined old mid seen flushed reads.quiet);
     }
 
@@ -79,7 +83,13 @@ returns-in_err-copy_records-clause-leaves g c =
     let found = c.in_ok-found.found in
     let survey = c.in_ok-found.ensures.ok in
     record {
-      all = copies_leave old mid seen sound sound_mid flushed counted only reads c.args.least found survey copied sound_copied copies;
+      all = copies_leave old mid seen sound sound_mid flushed counted only reads c.args.least found survey copied sound_copied copies
+          (found_sent old copied found (found_before old mid found flushed survey.is) (omega (
+            arith,
+            flush_sends old mid c.flush.ensures.passes,
+            none_sent mid seen reads.reads,
+            c.copy_records.ensures.sends,
+          )));
       small = λ few. absurd (survey.room (few_after old mid seen c.flush.ensures.passes flushed reads.reads c.args.least few));
     }
 
@@ -103,7 +113,14 @@ returns-in_err-move_head-clause-leaves g c =
     let done = c.in_ok-copy_records.ensures.done in
     record {
       all = moves_leave old mid seen sound sound_mid flushed counted only reads c.args.least found survey copied sound_copied copies
-          done new c.move_head.ensures.moves;
+          done new c.move_head.ensures.moves
+          (found_sent old new found (found_before old mid found flushed survey.is) (omega (
+            arith,
+            flush_sends old mid c.flush.ensures.passes,
+            none_sent mid seen reads.reads,
+            c.copy_records.ensures.sends,
+            c.move_head.ensures.sends,
+          )));
       small = λ few. absurd (survey.room (few_after old mid seen c.flush.ensures.passes flushed reads.reads c.args.least few));
     }
 
@@ -127,7 +144,14 @@ returns-clause-leaves g c =
     let done = c.in_ok-copy_records.ensures.done in
     record {
       all = moves_leave old mid seen sound sound_mid flushed counted only reads c.args.least found survey copied sound_copied copies
-          done new c.move_head.ensures.moves;
+          done new c.move_head.ensures.moves
+          (found_sent old new found (found_before old mid found flushed survey.is) (omega (
+            arith,
+            flush_sends old mid c.flush.ensures.passes,
+            none_sent mid seen reads.reads,
+            c.copy_records.ensures.sends,
+            c.move_head.ensures.sends,
+          )));
       small = λ few. absurd (survey.room (few_after old mid seen c.flush.ensures.passes flushed reads.reads c.args.least few));
     }
 

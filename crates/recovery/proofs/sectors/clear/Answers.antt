@@ -1,5 +1,6 @@
 use Rattle.std.proofs.Common.{◌≡◌, inl, inr, ⊎_elim, ◌∙◌, ap, arith, rules}
 use Rattle.std.proofs.lemmas.Bool.{cases_eq}
+use Rattle.medium.proofs.Sending.{write_sends}
 use Rattle.recovery.specs.Copies.{IsBetween}
 use Rattle.recovery.proofs.Making.{one_more_cleared}
 use Rattle.recovery.proofs.sectors.clear.Goals as goal
@@ -43,5 +44,6 @@ loop-sector-preserved g c =
           (omega (arith, past), omega (arith, inside)) inv.within c.write.ensures.passes c.write.ensures.sets;
       size = c.write.ensures.passes.size_stays ∙ inv.size;
       calls = omega (arith, c.write.ensures.passes.calls_are, inv.calls, past);
+      sends = omega (arith, write_sends mid new c.write.ensures.passes, inv.sends, past);
       follows = g.met.M.Medium.follows_through c.args.m.now c.loop-sector.m c.write.new.self inv.follows c.write.ensures.follows;
     }

@@ -2,6 +2,7 @@ use Rattle.std.proofs.Common.{◌≡◌, ◌<◌, ◌≤◌, ◌+◌, ◌-◌, �
 use Rattle.std.specs.Prelude.{replicate}
 use Rattle.medium.specs.Moments.{StaysWithin}
 use Rattle.recovery.specs.Copies.{cleared_at, IsBetween}
+use Rattle.medium.specs.Sent.{SendsUpTo}
 use Rattle.recovery.proofs.sectors.clear.Given as goal
 
 abbrev pub invariant-loop-sector : goal.invariant-loop-sector
@@ -12,5 +13,6 @@ invariant-loop-sector g l = record {
       (g.M.Medium.state l.m);
   size : (g.M.Medium.state l.m).size ≡ (g.M.Medium.state l.fn.m).size;
   calls : (g.M.Medium.state l.m).calls ≡ (g.M.Medium.state l.fn.m).calls + (l.sector - l.from);
+  sends : SendsUpTo (l.sector - l.from) (g.M.Medium.state l.fn.m) (g.M.Medium.state l.m);
   follows : g.M.Medium.follows l.fn.m l.m;
 }
