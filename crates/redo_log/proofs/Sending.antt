@@ -10,7 +10,7 @@ use Rattle.log_layout.specs.declared.log_format.LogFormat.{LogFormat}
 use Rattle.log_layout.specs.declared.log_format.LogFormat.TheVariants.{One, Two}
 use Rattle.log_layout.specs.Places.{Shape, limit_of}
 use Rattle.redo_log.specs.Calls.{Call, Write, Flush, fault_of}
-use Rattle.redo_log.specs.Value.{LogValue, turns_home, home_calls, turn_sends, turns_sends, next_sends, sends_of_oldest, most_retire_sends}
+use Rattle.redo_log.specs.Value.{LogValue, turns_home, home_calls, turn_sends, turns_sends, next_sends, sends_of_oldest, most_retire_sends, home_of_oldest, of_oldest}
 use Rattle.redo_log.specs.Stages.{value_at, AreInside, IsRing}
 use Rattle.redo_log.specs.Turns.{calls_of, sends_of, IsFlushTurn, IsHeadTurn, IsHomeTurn, IsLoadOf, IsCopyOf, IsNextTurn}
 use Rattle.redo_log.specs.declared.turn.Turn.{Turn}
@@ -149,3 +149,20 @@ few_of_oldest log shape head waiting turned kept under_way made dead shown ring 
         → sends_of_oldest (value_at shape head records turned kept under_way made dead) ≤ most_retire_sends shape.format
     from [] r = few_sends shape.format 0 _ (omega arith) (omega arith)
     from (numbers ∷ newer) r = few_sends shape.format (length numbers) _ (r.each 0 [] (omega arith)).few (omega arith)
+
+-- no step makes more than two
+pub few_next : (log : LogValue) → next_sends log ≤ 2
+few_next log = from log.shape.format (home_of_oldest log) (of_oldest log)
+  where
+    one : (format : LogFormat) (turned : ℕ) → home_calls format turned - 1 ≤ 1
+    one One turned = omega arith
+    one Two turned = ⊎_elim
+        (λ (first : turned % 31 ≡ 0). let none = eq-eqb (turned % 31) 0 first in rw none (omega arith))
+        (λ (not : turned % 31 ≡ 0 → ⊥). let some = ne_eqb (turned % 31) 0 not in rw some (omega arith))
+        (cases_eq (turned % 31) 0)
+
+    from : (format : LogFormat) (home left : ℕ) → turn_sends format home left ≤ 2
+    from format home zero = omega arith
+    from format home (suc zero) = omega arith
+    from format home (suc (suc zero)) = omega arith
+    from format home (suc (suc (suc left))) = omega (arith, one format (home - suc left))
