@@ -14,3 +14,4 @@ pub mod Counting
 pub mod Limits
 pub mod ImageLimit
 pub mod Retired
+pub mod Sending

@@ -2,6 +2,7 @@
 use Rattle.std.specs.Prelude.{◌≡◌, ℕ, ◌+◌, ◌*◌, zero, suc, Bool, true, false, List, [], ◌∷◌}
 use Rattle.std.specs.Prelude.{◌≤◌, if◌then◌else◌, Result, OnOk}
 use Rattle.medium.specs.Medium.{State}
+use Rattle.medium.specs.Sent.{SendsUpTo}
 use Rattle.cache.specs.Blocks.{is_listed}
 pub use Rattle.log_image.specs.Copies.{copy_reads_of}
 use Rattle.redo_log.specs.Value.{LogValue}
@@ -35,12 +36,14 @@ reads_of s address zero = 0
 reads_of s address (suc count) = block_reads s address + reads_of s (address + 1) count
 
 -- A read makes so many calls at most, whatever becomes of it, and exactly so many where it is good.
--- They are never more than a bound that does not look into the log.
+-- They are never more than a bound that does not look into the log, and no write or flush is among
+-- them.
 pub record CostsReads {A E : Type 0} (result : Result A E) (most count : ℕ) (before after : State)
     : Type 0 where
   pub calls : after.calls ≤ before.calls + most
   pub reads : after.calls ≤ before.calls + count
   pub exactly : OnOk result (after.calls ≡ before.calls + count)
+  pub none_sent : SendsUpTo 0 before after
 
 -- A good write whose range fits beside the active batch changes that batch alone. After any other
 -- the frozen batch is what the active one was, and the log is that with the batch before it

@@ -4,29 +4,33 @@ use Rattle.std.specs.Prelude.{◌≡◌, ◌⊎◌, ℕ, ◌+◌, ◌≤◌, tru
 use Rattle.std.specs.Prelude.{Result, Err, IfErr, MatchResult}
 use Rattle.medium.specs.Medium.{State}
 use Rattle.medium.specs.Moments.{IsQuiet, IsUnchanged}
+use Rattle.medium.specs.Sent.{SendsUpTo}
 use Rattle.blocks.specs.declared.fault.StoreFault.{StoreFault}
 use Rattle.blocks.specs.declared.fault.StoreFault.TheVariants.{Dead}
 use Rattle.blocks.specs.StoreValue.{Cached, StoreValue, is_dead}
 use Rattle.blocks.specs.Turns.{IsTurn, IsReadCause, IsPaid}
 
--- A call makes a turn of this kind, and so many calls of the medium at most. The medium comes after
--- what it was, by calls alone.
+-- A call makes a turn of this kind, and so many calls of the medium at most, and so many writes and
+-- flushes among them. The medium comes after what it was, by calls alone.
 pub record PassesOn {M : Type 0} (state : M → State) (Follows : M → M → Type 0)
-    (Turn : State → State → Cached → Cached → Type 0) (most : ℕ) (old new : StoreValue M)
+    (Turn : State → State → Cached → Cached → Type 0) (most sends : ℕ) (old new : StoreValue M)
     : Type 0 where
   pub turn : Turn (state old.medium) (state new.medium) old.cached new.cached
   pub calls : (state new.medium).calls ≤ (state old.medium).calls + most
+  pub sent : SendsUpTo sends (state old.medium) (state new.medium)
   -- a refused call makes the store dead
   pub none_refused : is_dead new.cached ≡ false
       → (state new.medium).failures ≡ (state old.medium).failures
   pub follows : Follows old.medium new.medium
 
 -- A call makes a turn, and no more calls of the medium than the background steps that it takes off
--- pay for. The medium comes after what it was, by calls alone.
-pub record PassesPaid {M : Type 0} (state : M → State) (Follows : M → M → Type 0)
+-- pay for, and so many writes and flushes among them at most. The medium comes after what it was, by
+-- calls alone.
+pub record PassesPaid {M : Type 0} (state : M → State) (Follows : M → M → Type 0) (sends : ℕ)
     (old new : StoreValue M) : Type 0 where
   pub turn : IsTurn (state old.medium) (state new.medium) old.cached new.cached
   pub paid : IsPaid (state old.medium) (state new.medium) old.cached new.cached
+  pub sent : SendsUpTo sends (state old.medium) (state new.medium)
   -- a refused call makes the store dead
   pub none_refused : is_dead new.cached ≡ false
       → (state new.medium).failures ≡ (state old.medium).failures

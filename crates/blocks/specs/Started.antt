@@ -9,7 +9,7 @@ use Rattle.log_image.specs.ImageFaults.{HasShape}
 use Rattle.recovery.specs.Causes.{IsCause}
 use Rattle.recovery.specs.Copies.{most_start_of}
 use Rattle.recovery.specs.Recovered.{IsRecoveredFrom, IsOursForSome, IsOursWithNext, StandsForOneOf}
-use Rattle.recovery.specs.Recovered.{SparesTheRest}
+use Rattle.recovery.specs.Recovered.{RecoverySends, SparesTheRest}
 use Rattle.recovery.specs.declared.recovered.Recovered.{Recovered}
 use Rattle.recovery.specs.declared.start_fault.StartFault.{StartFault}
 use Rattle.recovery.specs.declared.start_fault.StartFault.TheVariants.{NoMemory}
@@ -48,13 +48,15 @@ abbrev pub IsOursSince : (Image → Type 0) → State → State → Type 0
 IsOursSince P before after = before.calls + 2 ≤ after.calls
     → (image : Image) → after.left_since (before.calls + 1) image → P image
 
--- no count falls, the size stays, and the calls are those of a recovery at most
+-- no count falls, the size stays, and the calls are those of a recovery at most, and the writes and
+-- flushes among them
 pub record IsBounded (before after : State) : Type 0 where
   pub moments : LeavesOnly (λ _. Unit {0}) before after
   pub calls : after.calls ≤ before.calls + 6 + 738 * 64
   -- fewer in format 1
   pub most : (shape : Shape) → HasShape before.size shape before.content
       → after.calls ≤ before.calls + 6 + most_start_of shape.format * 64
+  pub sends : RecoverySends before after
 
 -- What a start leaves at each moment, whether it is good or refused.
 pub record StartLeaves (before after : State) : Type 0 where

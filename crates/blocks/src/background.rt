@@ -19,7 +19,7 @@ impl<M: Medium> Store<M> {
     ///
     /// Where it makes the store dead, the next call that writes tells.
     pub fn tick(&mut self)
-        ensures passes { PassesOn M.state M.follows IsTurn 2 self.old self.new }
+        ensures passes { PassesOn M.state M.follows IsTurn 2 2 self.old self.new }
         ensures order { IsBackgroundStep (M.state self.old.medium) (M.state self.new.medium)
             self.old.cached self.new.cached }
         ensures steps { CountsDown self.old self.new }
@@ -35,7 +35,7 @@ impl<M: Medium> Store<M> {
     #[inline(never)]
     fn work(&mut self)
         requires live { is_dead self.old.cached ≡ false }
-        ensures passes { PassesOn M.state M.follows IsTurn 2 self.old self.new }
+        ensures passes { PassesOn M.state M.follows IsTurn 2 2 self.old self.new }
         ensures order { IsBackgroundStep (M.state self.old.medium) (M.state self.new.medium)
             self.old.cached self.new.cached }
         ensures left { LeavesFewer self.old.cached self.new.cached }
@@ -108,7 +108,7 @@ impl<M: Medium> Store<M> {
     pub(crate) fn step(&mut self) -> Result<Progress, StoreFault>
         requires live { is_dead self.old.cached ≡ false }
         requires under_way { 0 < self.old.cached.log.steps_left }
-        ensures passes { PassesOn M.state M.follows IsTurn 1 self.old self.new }
+        ensures passes { PassesOn M.state M.follows IsTurn 1 1 self.old self.new }
         ensures record_step { IsRecordStep (M.state self.old.medium) (M.state self.new.medium)
             self.old.cached self.new.cached }
         ensures answer { TellsLife result self.new.cached }
@@ -134,7 +134,7 @@ impl<M: Medium> Store<M> {
     pub(crate) fn retire(&mut self) -> Result<(), StoreFault>
         requires live { is_dead self.old.cached ≡ false }
         requires idle { self.old.cached.log.steps_left ≡ 0 }
-        ensures passes { PassesOn M.state M.follows IsTurn 2 self.old self.new }
+        ensures passes { PassesOn M.state M.follows IsTurn 2 2 self.old self.new }
         ensures retiring { IsRetiring (M.state self.old.medium) (M.state self.new.medium)
             self.old.cached self.new.cached }
         ensures answer { TellsLife result self.new.cached }

@@ -1,7 +1,9 @@
 //! How accepted writes are made durable.
-ghost use Rattle.std.specs.Prelude.{◌≡◌, ◌<◌, ◌+◌, false, OnOk};
+ghost use Rattle.std.specs.Prelude.{◌≡◌, ◌<◌, ◌+◌, ◌*◌, false, OnOk};
+ghost use Rattle.redo_log.specs.Value.{most_retire_sends};
 ghost use Rattle.blocks.specs.Book.{Book, promised};
-ghost use Rattle.blocks.specs.StoreValue.{is_dead, FitsBook};
+ghost use Rattle.blocks.specs.StoreValue.{layout_of, is_dead, FitsBook};
+ghost use Rattle.blocks.specs.Sent.{batch_sends};
 ghost use Rattle.blocks.specs.Passing.{PassesPaid, TellsLife, Answers};
 ghost use Rattle.blocks.specs.Finishing.{WritesOut, MakesRoom, FinishesFrozen, FinishesBoth, CostsSync};
 ghost use Rattle.blocks.specs.Retiring.{record_calls, room_calls, finish_calls, to_begin, HasSlots};
@@ -18,7 +20,8 @@ impl<M: Medium> Store<M> {
     ///
     /// `Dead` on a dead store, and where the store dies in this call.
     pub fn sync(&mut self) -> Result<(), StoreFault>
-        ensures passes { PassesPaid M.state M.follows self.old self.new }
+        ensures passes { PassesPaid M.state M.follows
+            (2 * batch_sends self.old.cached) self.old self.new }
         ensures ok { (book : Book) → FitsBook (M.state self.old.medium) self.old.cached book
             → OnOk result (FitsBook (M.state self.new.medium) self.new.cached (promised book)) }
         ensures answers { Answers result self.old self.new }
@@ -34,7 +37,8 @@ impl<M: Medium> Store<M> {
 
     /// Makes the frozen batch durable.
     pub(crate) fn finish(&mut self) -> Result<(), StoreFault>
-        ensures passes { PassesPaid M.state M.follows self.old self.new }
+        ensures passes { PassesPaid M.state M.follows
+            (batch_sends self.old.cached) self.old self.new }
         ensures answers { Answers result self.old self.new }
         ensures batch { FinishesFrozen result self.old self.new }
         ensures exactly { HasSlots (to_begin self.old.cached.frozen.numbers self.old.cached.log)
@@ -63,7 +67,8 @@ impl<M: Medium> Store<M> {
     fn write_out(&mut self) -> Result<(), StoreFault>
         requires live { is_dead self.old.cached ≡ false }
         requires under_way { 0 < self.old.cached.log.steps_left }
-        ensures passes { PassesPaid M.state M.follows self.old self.new }
+        ensures passes { PassesPaid M.state M.follows
+            self.old.cached.log.steps_left self.old self.new }
         ensures answer { TellsLife result self.new.cached }
         ensures batch { WritesOut result self.old.cached self.new.cached }
         ensures exactly { OnOk result ((M.state self.new.medium).calls
@@ -77,12 +82,15 @@ impl<M: Medium> Store<M> {
     fn make_room(&mut self) -> Result<(), StoreFault>
         requires live { is_dead self.old.cached ≡ false }
         requires idle { self.old.cached.log.steps_left ≡ 0 }
-        ensures passes { PassesPaid M.state M.follows self.old self.new }
+        ensures passes { PassesPaid M.state M.follows
+            (most_retire_sends (layout_of self.old.cached).format) self.old self.new }
         ensures answer { TellsLife result self.new.cached }
         ensures room { MakesRoom result self.old self.new }
         ensures cost { OnOk result ((M.state self.new.medium).calls
             ≡ (M.state self.old.medium).calls + room_calls self.old.cached.log) }
     {
+        // The log says here how many writes and flushes retire its oldest record at most.
+        let _few = self.log.has_room();
         while !self.log.has_room() {
             self.retire()?;
         }

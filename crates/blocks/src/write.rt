@@ -5,6 +5,7 @@ ghost use Rattle.blocks.specs.Book.{IsTransfer, write_of};
 ghost use Rattle.blocks.specs.StoreValue.{blocks_of, transfer_limit, is_dead, active_of};
 ghost use Rattle.blocks.specs.StoreValue.{steps_left, FitsBeside};
 ghost use Rattle.blocks.specs.Turns.{IsWriteTurn};
+ghost use Rattle.blocks.specs.Sent.{batch_sends};
 ghost use Rattle.blocks.specs.Passing.{PassesOn, KeepsMedium, Answers};
 ghost use Rattle.blocks.specs.Calls.{WritesRange, AppendsRange, CostsWrite};
 
@@ -27,7 +28,8 @@ impl<M: Medium> Store<M> {
         requires { IsTransfer (transfer_limit self.old.cached) (blocks_of self.old.cached)
             address (length bytes.now) }
         ensures passes { PassesOn M.state M.follows (IsWriteTurn (write_of address bytes.now)
-            (is_ok result)) (2 * steps_left self.old.cached) self.old self.new }
+            (is_ok result)) (2 * steps_left self.old.cached) (batch_sends self.old.cached)
+            self.old self.new }
         ensures answers { Answers result self.old self.new }
         ensures batches { WritesRange result address (length bytes.now / 512)
             self.old.cached self.new.cached }

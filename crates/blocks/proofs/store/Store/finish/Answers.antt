@@ -1,9 +1,11 @@
-use Rattle.std.proofs.Common.{◌≡◌, ◌<◌, ◌∙◌, ℕ, [], List, length, ap, sym, subst, arith, false, rules}
+use Rattle.std.proofs.Common.{◌≡◌, ◌<◌, ◌≤◌, ◌∙◌, ℕ, [], List, length, ap, sym, subst, arith, false, rules}
 use Rattle.std.proofs.lemmas.Bool.{false≢true}
 use Rattle.std.proofs.lemmas.Result.{on_ok_weaker}
 use Rattle.cache.specs.Entries.{Entries}
-use Rattle.redo_log.specs.Value.{LogValue, HasRoom, begun, steps_of}
-use Rattle.log_layout.specs.Places.{Shape}
+use Rattle.medium.specs.Sent.{sent}
+use Rattle.redo_log.specs.Value.{LogValue, HasRoom, begun, steps_of, most_steps}
+use Rattle.redo_log.proofs.Counting.{few_steps_for}
+use Rattle.log_layout.specs.Places.{Shape, limit_of}
 use Rattle.blocks.specs.Retiring.{written_out}
 use Rattle.blocks.proofs.Room.{some_listed, finishes_under_way, finishes_none, finishes_begun}
 use Rattle.blocks.specs.StoreValue.{is_dead}
@@ -16,6 +18,7 @@ pub returns-then-is_dead-clause-passes : goal.returns-then-is_dead-clause-passes
 returns-then-is_dead-clause-passes g c = record {
   turn = stays _ _ (g.met.M.Medium.sound c.args.self.now.medium);
   paid = search rules;
+  sent = search rules;
   none_refused = search rules;
   follows = search rules;
 }
@@ -43,6 +46,7 @@ pub returns-then-is_empty-clause-passes : goal.returns-then-is_empty-clause-pass
 returns-then-is_empty-clause-passes g c = record {
   turn = stays _ _ (g.met.M.Medium.sound c.args.self.now.medium);
   paid = search rules;
+  sent = search rules;
   none_refused = search rules;
   follows = search rules;
 }
@@ -53,6 +57,21 @@ returns-clause-passes g c = record {
       let written = turns _ _ _ _ _ _ c.begin.ensures.keeps.turn c.write_out-2.ensures.passes.turn in
       turns _ _ _ _ _ _ c.make_room.ensures.passes.turn written;
   paid = search rules;
+  sent =
+      let old = c.args.self.now.cached in
+      let mid = c.make_room.new.self.cached in
+      let frozen_is : c.self.inside.frozen ≡ old.frozen = ap (λ v. v.cached.frozen) c.self.view_is in
+      let log_is : c.self.inside.log ≡ old.log = ap (λ v. v.cached.log) c.self.view_is in
+      let begun_is = (c.begin.ensures.begins.live c.in_ok-begin.ensures.answer).1
+      ∙ ap (λ (batch : Entries). begun batch.numbers mid.log) c.make_room.ensures.room.frozen in
+      let steps = ap (λ (log : LogValue). log.steps_left) begun_is
+      ∙ ap (λ (shape : Shape). steps_of shape.format old.frozen.numbers) c.make_room.ensures.passes.turn.goes_on.layout_stays in
+      let long = ap (λ (batch : Entries). length batch.numbers) frozen_is in
+      let format = ap (λ (log : LogValue). limit_of log.shape.format) log_is in
+      let few = few_steps_for old.log.shape.format (length old.frozen.numbers)
+      (omega (arith, c.self.invariant.frozen.well_formed.within, c.self.invariant.frozen.room, long, format)) in
+      let quiet = ap (λ m. sent (g.M.Medium.state m)) c.begin.ensures.keeps.medium in
+      omega (arith, c.make_room.ensures.passes.sent, c.write_out-2.ensures.passes.sent, steps, few, quiet);
   none_refused = search rules;
   follows = search rules;
 }
@@ -99,6 +118,9 @@ pub returns-in_err-begin-clause-passes : goal.returns-in_err-begin-clause-passes
 returns-in_err-begin-clause-passes g c = record {
   turn = turns _ _ _ _ _ _ c.make_room.ensures.passes.turn c.begin.ensures.keeps.turn;
   paid = search rules;
+  sent =
+      let quiet = ap (λ m. sent (g.M.Medium.state m)) c.begin.ensures.keeps.medium in
+      omega (arith, c.make_room.ensures.passes.sent, quiet);
   none_refused = search rules;
   follows = search rules;
 }
@@ -193,4 +215,25 @@ returns-in_err-begin-clause-batch g c = record {
       let before = c.make_room.ensures.room.retires in
       record { one = omega (arith, head, before.one); roomy = λ room. head ∙ before.roomy room };
   active = search rules;
+}
+
+pub returns-then-self-clause-passes : goal.returns-then-self-clause-passes
+returns-then-self-clause-passes g c = record {
+  turn = c.write_out.ensures.passes.turn;
+  paid = c.write_out.ensures.passes.paid;
+  sent =
+      let log_is : c.self.inside.log ≡ c.args.self.now.cached.log = ap (λ v. v.cached.log) c.self.view_is in
+      let few = subst (λ (log : LogValue). log.steps_left ≤ most_steps log.shape.format) log_is c.self.invariant.few_steps in
+      omega (arith, c.write_out.ensures.passes.sent, few);
+  none_refused = c.write_out.ensures.passes.none_refused;
+  follows = c.write_out.ensures.passes.follows;
+}
+
+pub returns-in_err-make_room-clause-passes : goal.returns-in_err-make_room-clause-passes
+returns-in_err-make_room-clause-passes g c = record {
+  turn = c.make_room.ensures.passes.turn;
+  paid = c.make_room.ensures.passes.paid;
+  sent = omega (arith, c.make_room.ensures.passes.sent);
+  none_refused = c.make_room.ensures.passes.none_refused;
+  follows = c.make_room.ensures.passes.follows;
 }

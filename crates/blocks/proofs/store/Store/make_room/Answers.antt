@@ -1,10 +1,12 @@
 use Rattle.std.proofs.Common.{◌≡◌, ◌≤◌, refl, ◌∙◌, ap, sym, subst, inl, arith, false, rules}
 use Rattle.std.proofs.lemmas.Bool.{false≢true}
 use Rattle.log_layout.specs.Places.{Shape}
-use Rattle.redo_log.specs.Value.{LogValue, HasRoom, next_calls}
+use Rattle.medium.specs.Sent.{sent}
+use Rattle.redo_log.specs.Value.{LogValue, HasRoom, next_calls, next_sends, sends_of_oldest, most_retire_sends}
 use Rattle.blocks.specs.StoreValue.{Cached}
 use Rattle.blocks.proofs.Room.{one_at_most, most_one, retires_more, room_is_made}
 use Rattle.blocks.proofs.Costing.{CostsOldest, costs_more, costs_room}
+use Rattle.blocks.proofs.Sending.{SendsOldest, sends_more, sends_refused, sends_room}
 use Rattle.blocks.proofs.Turning.{turns, stays}
 use Rattle.blocks.proofs.Paying.{pays, pays_both, pays_step, must_retire}
 use Rattle.blocks.proofs.store.Store.make_room.Goals as goal
@@ -19,6 +21,7 @@ loop-self-init g c = record {
   one = inl refl;
   retires = inl refl;
   costs = inl (refl, refl);
+  sends = inl (refl, omega arith);
   none_refused = refl;
   idle = c.requires.idle;
   active = refl;
@@ -29,48 +32,56 @@ loop-self-init g c = record {
 pub loop-self-smaller : goal.loop-self-smaller
 loop-self-smaller g c =
     let refused : c.has_room.result ≡ false = c.loop-self-test.true in
-    let left = must_retire (record { log = c.self.inside.log; active = c.self.inside.active; frozen = c.self.inside.frozen })
-    c.has_room.result refused c.has_room.ensures.full c.has_room.ensures.always (rw (← c.self.view_is) at c.loop-self.invariant.idle) in
-    c.in_ok-retire.ensures.counts.falls (rw (← c.self.view_is) left.0) c.in_ok-retire.ensures.answer
+    let left = must_retire (record { log = c.self-in-loop-self.inside.log; active = c.self-in-loop-self.inside.active; frozen = c.self-in-loop-self.inside.frozen })
+    c.has_room.result refused c.has_room.ensures.full c.has_room.ensures.always (rw (← c.self-in-loop-self.view_is) at c.loop-self.invariant.idle) in
+    c.in_ok-retire.ensures.counts.falls (rw (← c.self-in-loop-self.view_is) left.0) c.in_ok-retire.ensures.answer
 
 pub loop-self-preserved : goal.loop-self-preserved
 loop-self-preserved g c =
     let refused : c.has_room.result ≡ false = c.loop-self-test.true in
-    let left = must_retire (record { log = c.self.inside.log; active = c.self.inside.active; frozen = c.self.inside.frozen })
-    c.has_room.result refused c.has_room.ensures.full c.has_room.ensures.always (rw (← c.self.view_is) at c.loop-self.invariant.idle) in
-    let full : HasRoom c.self.inside.log → ⊥ = λ room. false≢true (sym refused ∙ c.has_room.ensures.room.1 room) in
-    let kept = c.self.invariant in
-    let live = rw (← c.self.view_is) at c.loop-self.invariant.live in
-    let idle = rw (← c.self.view_is) at c.loop-self.invariant.idle in
+    let left = must_retire (record { log = c.self-in-loop-self.inside.log; active = c.self-in-loop-self.inside.active; frozen = c.self-in-loop-self.inside.frozen })
+    c.has_room.result refused c.has_room.ensures.full c.has_room.ensures.always (rw (← c.self-in-loop-self.view_is) at c.loop-self.invariant.idle) in
+    let full : HasRoom c.self-in-loop-self.inside.log → ⊥ = λ room. false≢true (sym refused ∙ c.has_room.ensures.room.1 room) in
+    let kept = c.self-in-loop-self.invariant in
+    let live = rw (← c.self-in-loop-self.view_is) at c.loop-self.invariant.live in
+    let idle = rw (← c.self-in-loop-self.view_is) at c.loop-self.invariant.idle in
     let under_way = kept.none_under_way live idle in
-    let slots : 1 ≤ c.self.inside.log.shape.slots = omega (arith, ap (λ (s : Shape). s.slots) kept.shape, c.self.inside.sizes.some_slots) in
-    let stepped = (c.retire.ensures.retiring.live (rw (← c.self.view_is) left.0) c.in_ok-retire.ensures.answer).1 in
-    let log_is = ap (λ v. v.cached.log) c.self.view_is in
+    let slots : 1 ≤ c.self-in-loop-self.inside.log.shape.slots = omega (arith, ap (λ (s : Shape). s.slots) kept.shape, c.self-in-loop-self.inside.sizes.some_slots) in
+    let stepped = (c.retire.ensures.retiring.live (rw (← c.self-in-loop-self.view_is) left.0) c.in_ok-retire.ensures.answer).1 in
+    let log_is = ap (λ v. v.cached.log) c.self-in-loop-self.view_is in
     record {
       stays = λ room. absurd (full (subst (λ (log : LogValue). HasRoom log) (sym (c.loop-self.invariant.stays room) ∙ sym log_is) room));
       quiet = λ room. absurd (full (subst (λ (log : LogValue). HasRoom log) (sym (c.loop-self.invariant.stays room) ∙ sym log_is) room));
-      one = one_at_most c.args.self.now.cached.log c.self.inside.log c.retire.new.self.cached.log full under_way idle kept.ring slots
-          (rw (← c.self.view_is) at stepped) (rw (← c.self.view_is) at c.loop-self.invariant.one);
-      retires = retires_more c.args.self.now.cached.log c.self.inside.log c.retire.new.self.cached.log full under_way idle
-          (rw (← c.self.view_is) at stepped) (rw (← c.self.view_is) at c.loop-self.invariant.one)
-          (rw (← c.self.view_is) at c.loop-self.invariant.retires);
+      one = one_at_most c.args.self.now.cached.log c.self-in-loop-self.inside.log c.retire.new.self.cached.log full under_way idle kept.ring slots
+          (rw (← c.self-in-loop-self.view_is) at stepped) (rw (← c.self-in-loop-self.view_is) at c.loop-self.invariant.one);
+      retires = retires_more c.args.self.now.cached.log c.self-in-loop-self.inside.log c.retire.new.self.cached.log full under_way idle
+          (rw (← c.self-in-loop-self.view_is) at stepped) (rw (← c.self-in-loop-self.view_is) at c.loop-self.invariant.one)
+          (rw (← c.self-in-loop-self.view_is) at c.loop-self.invariant.retires);
       costs =
           let counted = c.retire.ensures.retiring.counted c.in_ok-retire.ensures.answer in
           let next = ap (λ (l : LogValue). next_calls l) log_is in
-          costs_more c.args.self.now.cached.log c.self.inside.log c.retire.new.self.cached.log
+          costs_more c.args.self.now.cached.log c.self-in-loop-self.inside.log c.retire.new.self.cached.log
           (g.M.Medium.state c.args.self.now.medium).calls (g.M.Medium.state c.loop-self.self.medium).calls
-          (g.M.Medium.state c.retire.new.self.medium).calls full under_way idle (rw (← c.self.view_is) at stepped)
-          (rw (← c.self.view_is) at c.loop-self.invariant.one) (omega (arith, counted, next))
+          (g.M.Medium.state c.retire.new.self.medium).calls full under_way idle (rw (← c.self-in-loop-self.view_is) at stepped)
+          (rw (← c.self-in-loop-self.view_is) at c.loop-self.invariant.one) (omega (arith, counted, next))
           (subst (λ (l : LogValue). CostsOldest c.args.self.now.cached.log l (g.M.Medium.state c.args.self.now.medium).calls
           (g.M.Medium.state c.loop-self.self.medium).calls) (sym log_is) c.loop-self.invariant.costs);
+      sends =
+          let next = ap (λ (l : LogValue). next_sends l) log_is in
+          sends_more c.args.self.now.cached.log c.self-in-loop-self.inside.log c.retire.new.self.cached.log
+          (sent (g.M.Medium.state c.args.self.now.medium)) (sent (g.M.Medium.state c.loop-self.self.medium))
+          (sent (g.M.Medium.state c.retire.new.self.medium)) full under_way idle (rw (← c.self-in-loop-self.view_is) at stepped)
+          (rw (← c.self-in-loop-self.view_is) at c.loop-self.invariant.one) (omega (arith, c.retire.ensures.retiring.sent, next))
+          (subst (λ (l : LogValue). SendsOldest c.args.self.now.cached.log l (sent (g.M.Medium.state c.args.self.now.medium))
+          (sent (g.M.Medium.state c.loop-self.self.medium))) (sym log_is) c.loop-self.invariant.sends);
       none_refused =
           let none = c.retire.ensures.passes.none_refused c.in_ok-retire.ensures.answer in
           omega (arith, none, c.loop-self.invariant.none_refused);
       turn = turns _ _ _ _ _ _ c.loop-self.invariant.turn c.retire.ensures.passes.turn;
       paid = pays_both _ _ _ _ _ _ c.loop-self.invariant.paid c.loop-self.invariant.live
           (pays_step (g.M.Medium.state c.loop-self.self.medium) (g.M.Medium.state c.retire.new.self.medium) c.loop-self.self.cached
-          c.retire.new.self.cached (rw (← c.self.view_is) left.1) c.retire.ensures.passes.calls
-          (c.retire.ensures.counts.falls (rw (← c.self.view_is) left.0)));
+          c.retire.new.self.cached (rw (← c.self-in-loop-self.view_is) left.1) c.retire.ensures.passes.calls
+          (c.retire.ensures.counts.falls (rw (← c.self-in-loop-self.view_is) left.0)));
       live = c.in_ok-retire.ensures.answer;
       idle = c.retire.ensures.counts.idle;
       active = c.retire.ensures.retiring.active ∙ c.loop-self.invariant.active;
@@ -83,14 +94,45 @@ returns-in_err-retire-clause-passes g c = record {
   turn = turns _ _ _ _ _ _ c.loop-self.invariant.turn c.retire.ensures.passes.turn;
   paid =
       let refused : c.has_room.result ≡ false = c.loop-self-test.true in
-      let left = must_retire (record { log = c.self.inside.log; active = c.self.inside.active; frozen = c.self.inside.frozen })
-      c.has_room.result refused c.has_room.ensures.full c.has_room.ensures.always (rw (← c.self.view_is) at c.loop-self.invariant.idle) in
+      let left = must_retire (record { log = c.self-in-loop-self.inside.log; active = c.self-in-loop-self.inside.active; frozen = c.self-in-loop-self.inside.frozen })
+      c.has_room.result refused c.has_room.ensures.full c.has_room.ensures.always (rw (← c.self-in-loop-self.view_is) at c.loop-self.invariant.idle) in
       pays_both _ _ _ _ _ _ c.loop-self.invariant.paid c.loop-self.invariant.live
       (pays_step (g.M.Medium.state c.loop-self.self.medium) (g.M.Medium.state c.retire.new.self.medium) c.loop-self.self.cached
-      c.retire.new.self.cached (rw (← c.self.view_is) left.1) c.retire.ensures.passes.calls
-      (c.retire.ensures.counts.falls (rw (← c.self.view_is) left.0)));
+      c.retire.new.self.cached (rw (← c.self-in-loop-self.view_is) left.1) c.retire.ensures.passes.calls
+      (c.retire.ensures.counts.falls (rw (← c.self-in-loop-self.view_is) left.0)));
+  sent =
+      let refused : c.has_room.result ≡ false = c.loop-self-test.true in
+      let full : HasRoom c.self-in-loop-self.inside.log → ⊥ = λ room. false≢true (sym refused ∙ c.has_room.ensures.room.1 room) in
+      let kept = c.self-in-loop-self.invariant in
+      let live = rw (← c.self-in-loop-self.view_is) at c.loop-self.invariant.live in
+      let idle = rw (← c.self-in-loop-self.view_is) at c.loop-self.invariant.idle in
+      let under_way = kept.none_under_way live idle in
+      let log_is = ap (λ v. v.cached.log) c.self-in-loop-self.view_is in
+      let next = ap (λ (l : LogValue). next_sends l) log_is in
+      let all = sends_refused c.args.self.now.cached.log c.self-in-loop-self.inside.log (sent (g.M.Medium.state c.args.self.now.medium))
+      (sent (g.M.Medium.state c.loop-self.self.medium)) (sent (g.M.Medium.state c.retire.new.self.medium)) full under_way idle
+      (rw (← c.self-in-loop-self.view_is) at c.loop-self.invariant.one) (omega (arith, c.retire.ensures.retiring.sent, next))
+      (subst (λ (l : LogValue). SendsOldest c.args.self.now.cached.log l (sent (g.M.Medium.state c.args.self.now.medium))
+      (sent (g.M.Medium.state c.loop-self.self.medium))) (sym log_is) c.loop-self.invariant.sends) in
+      let few = subst (λ (log : LogValue). sends_of_oldest log ≤ most_retire_sends log.shape.format) (ap (λ v. v.cached.log) c.self.view_is)
+      c.has_room-few.ensures.few in
+      omega (arith, all, few);
   none_refused = search rules;
-  follows = search rules;
+  follows = g.met.M.Medium.follows_through _ _ _ c.loop-self.invariant.follows c.retire.ensures.passes.follows;
+}
+
+pub returns-clause-passes : goal.returns-clause-passes
+returns-clause-passes g c = record {
+  turn = c.loop-self.invariant.turn;
+  paid = c.loop-self.invariant.paid;
+  sent =
+      let all = sends_room c.args.self.now.cached.log c.loop-self.self.cached.log (sent (g.M.Medium.state c.args.self.now.medium))
+      (sent (g.M.Medium.state c.loop-self.self.medium)) c.loop-self.invariant.sends in
+      let few = subst (λ (log : LogValue). sends_of_oldest log ≤ most_retire_sends log.shape.format) (ap (λ v. v.cached.log) c.self.view_is)
+      c.has_room-few.ensures.few in
+      omega (arith, all, few);
+  none_refused = λ live. c.loop-self.invariant.none_refused;
+  follows = c.loop-self.invariant.follows;
 }
 
 pub returns-in_err-retire-clause-room : goal.returns-in_err-retire-clause-room
@@ -107,8 +149,8 @@ returns-in_err-retire-clause-room g c = record {
   made = search rules;
   quiet = λ room.
       let refused : c.has_room.result ≡ false = c.loop-self-test.true in
-      let full : HasRoom c.self.inside.log → ⊥ = λ still. false≢true (sym refused ∙ c.has_room.ensures.room.1 still) in
-      let log_is = sym (c.loop-self.invariant.stays room) ∙ sym (ap (λ v. v.cached.log) c.self.view_is) in
+      let full : HasRoom c.self-in-loop-self.inside.log → ⊥ = λ still. false≢true (sym refused ∙ c.has_room.ensures.room.1 still) in
+      let log_is = sym (c.loop-self.invariant.stays room) ∙ sym (ap (λ v. v.cached.log) c.self-in-loop-self.view_is) in
       absurd (full (subst (λ (log : LogValue). HasRoom log) log_is room));
   active = search rules;
   frozen = search rules;
@@ -122,7 +164,7 @@ returns-clause-room g c = record {
   };
   room = search rules;
   made =
-      let log_is = ap (λ v. v.cached.log) c.self.view_is in
+      let log_is = ap (λ v. v.cached.log) c.self-in-loop-self.view_is in
       let room : HasRoom c.loop-self.self.cached.log =
       subst (λ (log : LogValue). HasRoom log) log_is (c.has_room.ensures.room.0 c.loop-self-test.false) in
       room_is_made c.args.self.now.cached.log c.loop-self.self.cached.log c.loop-self.invariant.stays room c.loop-self.invariant.retires;
@@ -133,7 +175,7 @@ returns-clause-room g c = record {
 
 pub returns-clause-cost : goal.returns-clause-cost
 returns-clause-cost g c =
-    let log_is = ap (λ v. v.cached.log) c.self.view_is in
+    let log_is = ap (λ v. v.cached.log) c.self-in-loop-self.view_is in
     let room : HasRoom c.loop-self.self.cached.log =
     subst (λ (log : LogValue). HasRoom log) log_is (c.has_room.ensures.room.0 c.loop-self-test.false) in
     costs_room c.args.self.now.cached.log c.loop-self.self.cached.log (g.M.Medium.state c.args.self.now.medium).calls

@@ -62,6 +62,7 @@ loop-i-preserved g c =
       stays = c.read_block.ensures.keeps.stays ∙ c.loop-i.invariant.stays;
       quiet = quiet_joined before mid after c.loop-i.invariant.quiet c.read_block.ensures.keeps.quiet;
       calls = omega (arith, c.loop-i.invariant.calls, c.read_block.ensures.cost.calls);
+      none_sent = omega (arith, c.loop-i.invariant.none_sent, c.read_block.ensures.cost.none_sent);
       reads =
           let one = c.in_ok-read_block.ensures.cost.exactly in
           let same = ap (λ (s : Cached). block_reads s (c.args.address + c.loop-i.i)) c.loop-i.invariant.stays in
@@ -85,6 +86,7 @@ loop-i-preserved g c =
 pub returns-in_err-read_block-clause-cost : goal.returns-in_err-read_block-clause-cost
 returns-in_err-read_block-clause-cost g c = record {
   calls = search rules;
+  none_sent = omega (arith, c.loop-i.invariant.none_sent, c.read_block.ensures.cost.none_sent);
   reads =
       let same = ap (λ (s : Cached). block_reads s (c.args.address + c.loop-i.i)) c.loop-i.invariant.stays in
       let more : c.loop-i.i + 1 ≤ length c.args.to.now / 512 = omega (arith, c.loop-i-test.true) in

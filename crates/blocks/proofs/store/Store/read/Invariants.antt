@@ -1,5 +1,6 @@
 use Rattle.std.proofs.Common.{◌≡◌, ◌≤◌, ◌+◌, ◌*◌, take}
 use Rattle.medium.specs.Moments.{IsQuiet}
+use Rattle.medium.specs.Sent.{SendsUpTo}
 use Rattle.cache.specs.Places.{HasPlace}
 use Rattle.blocks.specs.Book.{Book, array_of, blocks_at}
 use Rattle.blocks.specs.StoreValue.{FitsBook}
@@ -12,6 +13,7 @@ invariant-loop-i g l = record {
   quiet : IsQuiet (g.M.Medium.state l.fn.self.medium) (g.M.Medium.state l.self.medium);
   calls : (g.M.Medium.state l.self.medium).calls ≤ (g.M.Medium.state l.fn.self.medium).calls + 2 * l.i;
   reads : (g.M.Medium.state l.self.medium).calls ≡ (g.M.Medium.state l.fn.self.medium).calls + reads_of l.fn.self.cached l.address l.i;
+  none_sent : SendsUpTo 0 (g.M.Medium.state l.fn.self.medium) (g.M.Medium.state l.self.medium);
   follows : g.M.Medium.follows l.fn.self.medium l.self.medium;
   so_far : (book : Book) → FitsBook (g.M.Medium.state l.fn.self.medium) l.fn.self.cached book
       → take (512 * l.i) l.to ≡ blocks_at (array_of book) l.address l.i;

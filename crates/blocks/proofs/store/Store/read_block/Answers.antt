@@ -20,6 +20,7 @@ pub returns-in-Some-clause-cost : goal.returns-in-Some-clause-cost
 returns-in-Some-clause-cost g c = record {
   calls = search rules;
   reads = search rules;
+  none_sent = search rules;
   exactly =
       let same = ap (λ v. v.cached.active) c.self.view_is in
       let there = same_map _ _ c.args.block (Some c.in-Some.bytes.now) same c.in-Some.ensures.some in
@@ -30,6 +31,7 @@ pub returns-in-Some-older-clause-cost : goal.returns-in-Some-older-clause-cost
 returns-in-Some-older-clause-cost g c = record {
   calls = search rules;
   reads = search rules;
+  none_sent = search rules;
   exactly =
       let same = ap (λ v. v.cached.frozen) c.self.view_is in
       let there = same_map _ _ c.args.block (Some c.in-Some-older.bytes.now) same c.in-Some-older.ensures.some in
@@ -39,6 +41,7 @@ returns-in-Some-older-clause-cost g c = record {
 pub returns-in-Ok-clause-cost : goal.returns-in-Ok-clause-cost
 returns-in-Ok-clause-cost g c = record {
   calls = omega (arith, c.read_durable.ensures.cost.calls);
+  none_sent = omega (arith, c.read_durable.ensures.cost.none_sent);
   reads =
       let active = same_map _ _ c.args.block None (ap (λ v. v.cached.active) c.self.view_is) (c.in_default.ensures.none.0 refl) in
       let frozen = same_map _ _ c.args.block None (ap (λ v. v.cached.frozen) c.self.view_is) (c.in_default-older.ensures.none.0 refl) in
@@ -54,6 +57,7 @@ returns-in-Ok-clause-cost g c = record {
 pub returns-in-Err-clause-cost : goal.returns-in-Err-clause-cost
 returns-in-Err-clause-cost g c = record {
   calls = omega (arith, c.read_durable.ensures.cost.calls);
+  none_sent = omega (arith, c.read_durable.ensures.cost.none_sent);
   reads =
       let active = same_map _ _ c.args.block None (ap (λ v. v.cached.active) c.self.view_is) (c.in_default.ensures.none.0 refl) in
       let frozen = same_map _ _ c.args.block None (ap (λ v. v.cached.frozen) c.self.view_is) (c.in_default-older.ensures.none.0 refl) in

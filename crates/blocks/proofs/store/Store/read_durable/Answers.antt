@@ -1,5 +1,7 @@
 use Rattle.std.proofs.Common.{◌≡◌, ℕ, ◌+◌, ◌∙◌, ap, arith, subst}
 use Rattle.std.proofs.lemmas.Result.{on_ok_weaker}
+use Rattle.medium.specs.Sent.{sent}
+use Rattle.medium.proofs.Sending.{none_sent, read_sends}
 use Rattle.log_layout.specs.Places.{Shape, first_home}
 use Rattle.redo_log.specs.Value.{LogValue, HasNoCopy}
 use Rattle.redo_log.proofs.Handing.{home_is}
@@ -33,6 +35,11 @@ returns-in-Some-clause-cost g c =
       calls = omega (arith, c.read_copy.ensures.passes.few_calls, before, few);
       reads = omega (arith, c.read_copy.ensures.passes.few_calls, log, before, logged);
       exactly = on_ok_weaker c.read_copy.result (λ all. omega (arith, all, log, before, logged)) c.read_copy.ensures.passes.all_calls;
+      none_sent =
+          let same = ap (λ v. sent (g.M.Medium.state v.medium)) c.self.view_is in
+          let none = none_sent (g.M.Medium.state c.self.inside.medium) (g.M.Medium.state c.read_copy.new.m)
+          c.read_copy.ensures.passes.others_made in
+          omega (arith, none, same);
     }
 
 pub returns-in-None-clause-cost : goal.returns-in-None-clause-cost
@@ -45,4 +52,8 @@ returns-in-None-clause-cost g c =
       calls = omega (arith, one, before);
       reads = omega (arith, one, log, before, home);
       exactly = on_ok_weaker c.read.result (λ _. omega (arith, one, log, before, home)) c.read.ensures.ok;
+      none_sent =
+          let same = ap (λ v. sent (g.M.Medium.state v.medium)) c.self.view_is in
+          let none = read_sends (g.M.Medium.state c.self.inside.medium) (g.M.Medium.state c.read.new.self) c.read.ensures.passes in
+          omega (arith, none, same);
     }

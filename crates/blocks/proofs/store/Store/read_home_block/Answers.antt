@@ -1,5 +1,7 @@
 use Rattle.std.proofs.Common.{◌≡◌, ◌∙◌, ℕ, ◌+◌, List, [], length, None, ap, arith, rules}
 use Rattle.medium.proofs.Moments.{quiet_call}
+use Rattle.medium.specs.Sent.{sent}
+use Rattle.medium.proofs.Sending.{read_sends}
 use Rattle.log_layout.specs.Places.{Shape, first_home}
 use Rattle.redo_log.specs.Value.{LogValue, HasNoCopy}
 use Rattle.redo_log.proofs.Handing.{home_is}
@@ -41,6 +43,10 @@ returns-clause-cost g c =
     record {
       calls = omega (arith, one, before);
       reads = omega (arith, one, before, cost);
+      none_sent =
+          let same = ap (λ v. sent (g.M.Medium.state v.medium)) c.self.view_is in
+          let none = read_sends (g.M.Medium.state c.self.inside.medium) (g.M.Medium.state c.read.new.self) c.read.ensures.passes in
+          omega (arith, none, same);
       exactly = omega (arith, one, before, cost);
     }
 
@@ -52,6 +58,10 @@ returns-in_default-read-clause-cost g c =
     record {
       calls = omega (arith, one, before);
       reads = omega (arith, one, before, cost);
+      none_sent =
+          let same = ap (λ v. sent (g.M.Medium.state v.medium)) c.self.view_is in
+          let none = read_sends (g.M.Medium.state c.self.inside.medium) (g.M.Medium.state c.read.new.self) c.read.ensures.passes in
+          omega (arith, none, same);
       exactly = search rules;
     }
 

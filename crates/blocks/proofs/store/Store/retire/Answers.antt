@@ -2,6 +2,7 @@ use Rattle.std.proofs.Common.{◌∙◌, arith, ap, sym, subst, rules}
 use Rattle.std.proofs.lemmas.Bool.{false≢true}
 use Rattle.medium.specs.Moments.{IsUnchanged}
 use Rattle.medium.proofs.Moments.{unchanged}
+use Rattle.redo_log.proofs.Sending.{few_next}
 use Rattle.blocks.proofs.Stepping.{retires, dies}
 use Rattle.blocks.proofs.Retired.{retained, still_kept, died_kept, is_retiring, is_dying}
 use Rattle.blocks.proofs.store.Store.retire.Goals as goal
@@ -36,11 +37,11 @@ returns-clause-retiring g c =
             subst (λ m. IsUnchanged (g.M.Medium.state c.self.inside.medium) (g.M.Medium.state m))
                 (sym (w.in-Ok.ensures.none none).2) (unchanged before),
           ))
-          w.in-Ok.ensures.passes.calls.two w.in-Ok.ensures.passes.calls.exact live w.in-Ok.ensures.passes.failures
+          w.in-Ok.ensures.passes.calls.two w.in-Ok.ensures.passes.calls.exact w.in-Ok.ensures.passes.calls.sent live w.in-Ok.ensures.passes.failures
           w.in-Ok.ensures.answers.ok)
       | in-Err w ↦ rw (← c.self.view_is)
           (is_dying before after _ c.retire_step.new.self (λ none. absurd (false≢true (w.in-Err.ensures.none none).0))
-          w.in-Err.ensures.passes.calls.two w.in-Err.ensures.passes.failures w.in-Err.ensures.answers.err)
+          w.in-Err.ensures.passes.calls.two w.in-Err.ensures.passes.calls.sent w.in-Err.ensures.passes.failures w.in-Err.ensures.answers.err)
     ]
 
 pub returns-clause-passes : goal.returns-clause-passes
@@ -61,6 +62,12 @@ returns-clause-passes g c = record {
             w.in-Err.ensures.leaves.spares)
       ];
   calls = search rules;
+  sent =
+      let few = few_next c.self.inside.log in
+      elim c.match-retire_step.branch [
+        | in-Ok w ↦ rw (← c.self.view_is) (omega (arith, w.in-Ok.ensures.passes.calls.sent, few))
+        | in-Err w ↦ rw (← c.self.view_is) (omega (arith, w.in-Err.ensures.passes.calls.sent, few))
+      ];
   none_refused = search rules;
   follows = search rules;
 }

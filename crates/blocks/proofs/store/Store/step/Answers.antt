@@ -14,6 +14,7 @@ returns-in-Ok-More-clause-passes g c = record {
       (rw (c.numbers-numbers.ensures.value, c.bytes.ensures.value) (f.under_way (rw (← c.self.view_is) at c.requires.under_way)))))
       called.leaves.cuts called.leaves.spares);
   calls = search rules;
+  sent = search rules;
   none_refused = search rules;
   follows = search rules;
 }
@@ -31,6 +32,7 @@ returns-in-Ok-Durable-clause-passes g c = record {
       (rw (c.numbers-numbers.ensures.value, c.bytes.ensures.value) (f.under_way (rw (← c.self.view_is) at c.requires.under_way)))))
       called.leaves.cuts called.leaves.spares);
   calls = search rules;
+  sent = search rules;
   none_refused = search rules;
   follows = search rules;
 }
@@ -46,6 +48,7 @@ returns-in-Err-clause-passes g c = record {
       (rw (c.numbers-numbers.ensures.value, c.bytes.ensures.value) (f.under_way (rw (← c.self.view_is) at c.requires.under_way))))
       called.leaves.cuts called.leaves.spares);
   calls = search rules;
+  sent = search rules;
   none_refused = search rules;
   follows = search rules;
 }

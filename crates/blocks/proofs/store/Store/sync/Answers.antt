@@ -4,6 +4,8 @@ use Rattle.cache.specs.Entries.{Entries}
 use Rattle.redo_log.specs.Value.{LogValue}
 use Rattle.log_layout.specs.Places.{Shape}
 use Rattle.blocks.specs.Retiring.{finished, finish_calls, calls_from, record_calls, to_begin, HasSlots}
+use Rattle.medium.specs.Sent.{sent}
+use Rattle.blocks.specs.Sent.{most_sent}
 use Rattle.blocks.specs.StoreValue.{Cached, wants}
 use Rattle.blocks.proofs.Writing.{waits_idle, slots_after}
 use Rattle.blocks.proofs.Fitting.{settles}
@@ -14,6 +16,11 @@ pub returns-clause-passes : goal.returns-clause-passes
 returns-clause-passes g c = record {
   turn = turns _ _ _ _ _ _ c.finish.ensures.passes.turn (turns _ _ _ _ _ _ c.freeze.ensures.keeps.turn c.finish-2.ensures.passes.turn);
   paid = search rules;
+  sent =
+      let quiet = ap (λ m. sent (g.M.Medium.state m)) c.freeze.ensures.keeps.medium in
+      let layout = c.freeze.ensures.keeps.turn.goes_on.layout_stays ∙ c.finish.ensures.passes.turn.goes_on.layout_stays in
+      let same = ap (λ (shape : Shape). most_sent shape.format) layout in
+      omega (arith, c.finish.ensures.passes.sent, c.finish-2.ensures.passes.sent, quiet, same);
   none_refused = search rules;
   follows = search rules;
 }
@@ -82,4 +89,13 @@ returns-clause-cost g c = record {
       let begin : HasSlots (to_begin old.frozen.numbers old.log) old.log = omega (arith, slots) in
       let before = c.in_ok-finish.ensures.exactly begin in
       on_ok_weaker c.finish-2.result (λ all. omega (arith, all, calls, quiet, before)) (c.finish-2.ensures.exactly of_swapped);
+}
+
+pub returns-in_err-finish-clause-passes : goal.returns-in_err-finish-clause-passes
+returns-in_err-finish-clause-passes g c = record {
+  turn = c.finish.ensures.passes.turn;
+  paid = c.finish.ensures.passes.paid;
+  sent = omega (arith, c.finish.ensures.passes.sent);
+  none_refused = c.finish.ensures.passes.none_refused;
+  follows = c.finish.ensures.passes.follows;
 }

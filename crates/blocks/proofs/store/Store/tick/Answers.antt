@@ -6,6 +6,7 @@ pub returns-then-is_dead-clause-passes : goal.returns-then-is_dead-clause-passes
 returns-then-is_dead-clause-passes g c = record {
   turn = stays _ _ (g.met.M.Medium.sound c.args.self.now.medium);
   calls = search rules;
+  sent = search rules;
   none_refused = search rules;
   follows = search rules;
 }

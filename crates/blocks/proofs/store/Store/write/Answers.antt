@@ -1,6 +1,7 @@
 use Rattle.std.proofs.Common.{◌≡◌, ◌∙◌, ◌/◌, ap, [], length, arith, rules}
 use Rattle.std.proofs.lemmas.Result.{err_from_is_err_and}
 use Rattle.log_layout.specs.Places.{Shape, limit_of}
+use Rattle.medium.specs.Sent.{sent}
 use Rattle.cache.proofs.Arrays.{unlisted_empty}
 use Rattle.blocks.specs.StoreValue.{transfer_limit}
 use Rattle.blocks.proofs.Turning.{turns, stays, not_written, then_written}
@@ -10,6 +11,7 @@ pub returns-then-is_dead-clause-passes : goal.returns-then-is_dead-clause-passes
 returns-then-is_dead-clause-passes g c = record {
   turn = not_written _ _ _ _ _ (stays _ _ (g.met.M.Medium.sound c.args.self.now.medium));
   calls = search rules;
+  sent = search rules;
   none_refused = search rules;
   follows = search rules;
 }
@@ -20,6 +22,7 @@ returns-in_err-finish-clause-passes g c = record {
       let refused = err_from_is_err_and c.from_residual.result c.from_residual.ensures.1 in
       rw refused.1 (not_written _ _ _ _ _ c.finish.ensures.passes.turn);
   calls = search rules;
+  sent = search rules;
   none_refused = search rules;
   follows = search rules;
 }
@@ -38,6 +41,9 @@ returns-clause-passes g c = record {
       let frozen = turns _ _ _ _ _ _ c.finish.ensures.passes.turn c.freeze.ensures.keeps.turn in
       then_written _ _ _ _ _ _ _ frozen c.append-2.ensures.keeps.turn;
   calls = search rules;
+  sent =
+      let quiet = ap (λ m. sent (g.M.Medium.state m)) (c.append-2.ensures.keeps.medium ∙ c.freeze.ensures.keeps.medium) in
+      omega (arith, c.finish.ensures.passes.sent, quiet);
   none_refused = search rules;
   follows = search rules;
 }

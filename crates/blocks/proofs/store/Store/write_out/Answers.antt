@@ -14,6 +14,7 @@ loop-init g c = record {
   under_way = c.requires.under_way;
   so_far = refl;
   exactly = refl;
+  sends = omega arith;
   none_refused = refl;
   head = refl;
   active = refl;
@@ -24,6 +25,7 @@ pub returns-in_err-step-clause-passes : goal.returns-in_err-step-clause-passes
 returns-in_err-step-clause-passes g c = record {
   turn = turns _ _ _ _ _ _ c.loop.invariant.turn c.step.ensures.passes.turn;
   paid = search rules;
+  sent = omega (arith, c.loop.invariant.sends, c.step.ensures.passes.sent, c.loop.invariant.under_way);
   none_refused = search rules;
   follows = search rules;
 }
@@ -44,6 +46,10 @@ loop-preserved g c = record {
       let gone = c.step.ensures.record_step.live c.in_ok-step.ensures.answer in
       let less = one_less gone.1 c.loop.self.cached.log c.step.new.self.cached.log gone.2.log in
       omega (arith, less, c.step.ensures.record_step.one_call, c.loop.invariant.exactly);
+  sends =
+      let gone = c.step.ensures.record_step.live c.in_ok-step.ensures.answer in
+      let less = one_less gone.1 c.loop.self.cached.log c.step.new.self.cached.log gone.2.log in
+      omega (arith, less, c.step.ensures.passes.sent, c.loop.invariant.sends);
   none_refused =
       let none = c.step.ensures.passes.none_refused c.in_ok-step.ensures.answer in
       omega (arith, none, c.loop.invariant.none_refused);
@@ -56,6 +62,7 @@ pub returns-clause-passes : goal.returns-clause-passes
 returns-clause-passes g c = record {
   turn = turns _ _ _ _ _ _ c.loop.invariant.turn c.step.ensures.passes.turn;
   paid = search rules;
+  sent = omega (arith, c.loop.invariant.sends, c.step.ensures.passes.sent, c.loop.invariant.under_way);
   none_refused = search rules;
   follows = search rules;
 }

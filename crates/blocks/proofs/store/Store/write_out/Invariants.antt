@@ -1,4 +1,5 @@
-use Rattle.std.proofs.Common.{◌≡◌, ◌<◌, ◌+◌, false}
+use Rattle.std.proofs.Common.{◌≡◌, ◌<◌, ◌≤◌, ◌+◌, false}
+use Rattle.medium.specs.Sent.{sent}
 use Rattle.blocks.specs.StoreValue.{is_dead, steps_left}
 use Rattle.blocks.specs.Turns.{IsTurn, IsPaid}
 use Rattle.blocks.proofs.store.Store.write_out.Given as goal
@@ -12,6 +13,8 @@ invariant-loop g l = record {
   so_far : l.self.cached.log ≡ record l.fn.self.cached.log { steps_left = l.self.cached.log.steps_left };
   exactly : (g.M.Medium.state l.self.medium).calls + l.self.cached.log.steps_left
       ≡ (g.M.Medium.state l.fn.self.medium).calls + l.fn.self.cached.log.steps_left;
+  sends : sent (g.M.Medium.state l.self.medium) + l.self.cached.log.steps_left
+      ≤ sent (g.M.Medium.state l.fn.self.medium) + l.fn.self.cached.log.steps_left;
   none_refused : (g.M.Medium.state l.self.medium).failures ≡ (g.M.Medium.state l.fn.self.medium).failures;
   head : l.self.cached.log.head ≡ l.fn.self.cached.log.head;
   active : l.self.cached.active ≡ l.fn.self.cached.active;

@@ -1,0 +1,14 @@
+-- How many writes and flushes a call of a store makes at most.
+use Rattle.std.specs.Prelude.{ℕ, ◌+◌}
+pub use Rattle.log_layout.specs.declared.log_format.LogFormat.{LogFormat}
+use Rattle.redo_log.specs.Value.{most_steps, most_retire_sends}
+use Rattle.blocks.specs.StoreValue.{Cached, layout_of}
+
+-- Those that make a batch durable: its record, each step of which is a write or a flush, and before
+-- it the retiring of the oldest record.
+abbrev pub most_sent : LogFormat → ℕ
+most_sent format = most_steps format + most_retire_sends format
+
+-- for a batch of this store: 103 in format 1, and 493 in format 2
+abbrev pub batch_sends : Cached → ℕ
+batch_sends s = most_sent (layout_of s).format
