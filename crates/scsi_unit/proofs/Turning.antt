@@ -2,6 +2,7 @@
 use Rattle.std.proofs.Common.{◌≡◌, ◌⊎◌, ◌<◌, ◌≤◌, ◌+◌, [], inl, inr, ⊎_elim, ℕ, Bool, true, false, arith, refl, ap, subst, ◌∙◌}
 use Rattle.std.proofs.lemmas.Bool.Decides.{nat_tests}
 use Rattle.medium.specs.Medium.{State}
+use Rattle.medium.specs.Sent.{SendsUpTo}
 use Rattle.blocks.specs.Limit.{Shape, limit_of}
 use Rattle.blocks.specs.Background.{IsBackgroundStep}
 use Rattle.blocks.specs.Book.{Book}
@@ -60,11 +61,11 @@ ticks_line before after old store book on fits =
 -- a unit over a store that made a step in the background
 pub ticks_over : {M : Type 0} (before after : State) (old : UnitValue M) (store : StoreValue M)
     → IsTurn before after old.store.cached store.cached → IsBackgroundStep before after old.store.cached store.cached
-    → after.calls ≤ before.calls + 2
+    → after.calls ≤ before.calls + 2 → SendsUpTo 2 before after
     → (is_dead store.cached ≡ false → (steps_left store.cached < steps_left old.store.cached) ⊎ (steps_left old.store.cached ≡ 0))
     → (active_of store.cached ≡ active_of old.store.cached) ⊎ (active_of store.cached ≡ [])
     → TicksOver before after old (record old { store = store })
-ticks_over before after old store turn step few left active = record {
+ticks_over before after old store turn step few sends left active = record {
   step = step;
   line = λ book fits. (ticks_line before after old store book turn.goes_on fits, turn.fits book fits);
   cuts = turn.cuts;
@@ -79,6 +80,7 @@ ticks_over before after old store turn step few left active = record {
       (subst (λ (s : Shape). intention_by s.blocks (limit_of s.format) old.kept.attention (is_dead store.cached) block ≡ intent.Out n)
       turn.goes_on.layout_stays out);
   few = few;
+  sent = sends;
   left = left;
   active = active;
 }

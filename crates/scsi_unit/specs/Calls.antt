@@ -2,7 +2,9 @@
 use Rattle.std.specs.Prelude.{◌≡◌, ℕ, ◌+◌, ◌*◌, ◌≤◌, ◌||◌, not, Bool, List, Result, Ok, Err}
 use Rattle.std.specs.Prelude.{IfOk, if◌then◌else◌}
 use Rattle.medium.specs.Medium.{State}
-use Rattle.blocks.specs.StoreValue.{Cached, slots_of, batch_steps, steps_left}
+use Rattle.medium.specs.Sent.{SendsUpTo}
+use Rattle.blocks.specs.Sent.{LogFormat, most_sent}
+use Rattle.blocks.specs.StoreValue.{Cached, layout_of, slots_of, batch_steps, steps_left}
 -- handed on to the layers above: for each block that no batch has, one call from home, and from
 -- the log one in format 1 and two in format 2
 pub use Rattle.blocks.specs.Calls.{reads_of, most_reads}
@@ -70,11 +72,28 @@ most_calls_of slots limit = 2 * (slots + 5) * (2 * limit + 16) + 2 * limit
 abbrev pub most_calls : {M : Type 0} → UnitValue M → ℕ
 most_calls unit = most_calls_of (slots_of unit.store.cached) (unit_limit unit)
 
--- The calls of a command block: no more than its command makes, nor than any makes.
+-- The most writes and flushes that any command makes over a log of this format: a WRITE that does not
+-- fit beside the batch that takes writes, and is made durable, makes three batches durable.
+abbrev pub most_sends_of : LogFormat → ℕ
+most_sends_of format = 3 * most_sent format
+
+-- the most that any command of a unit makes, whatever the unit holds
+abbrev pub most_sends : {M : Type 0} → UnitValue M → ℕ
+most_sends unit = most_sends_of (layout_of unit.store.cached).format
+
+-- a command makes so many calls at most, and no more writes and flushes than any
+pub record MakesAtMost {M : Type 0} (count : ℕ) (before after : State) (old : UnitValue M)
+    : Type 0 where
+  pub calls : after.calls ≤ before.calls + count
+  pub sent : SendsUpTo (most_sends old) before after
+
+-- The calls of a command block: no more than its command makes, nor than any makes; and no more
+-- writes and flushes than any makes.
 pub record MakesFew {M : Type 0} (before after : State) (block taken : List ℕ) (old : UnitValue M)
     : Type 0 where
   pub bounded : IsBounded before after block taken old
   pub few : after.calls ≤ before.calls + most_calls old
+  pub sent : SendsUpTo (most_sends old) before after
 
 -- How many bytes a command sends: as many as it is meant to, and no more than a transfer has.
 pub record SendsAsMeant (intention : Intent) (limit : ℕ) (result : Result ℕ Sense) : Type 0 where

@@ -4,6 +4,7 @@ use Rattle.std.specs.Prelude.{false}
 use Rattle.std.specs.Prelude.{List, [], Option, Some, None, Result, Ok, Err, is_ok, if◌then◌else◌}
 use Rattle.medium.specs.Medium.{State}
 use Rattle.medium.specs.Moments.{LeavesOnly}
+use Rattle.medium.specs.Sent.{SendsUpTo}
 use Rattle.blocks.specs.Background.{IsBackgroundStep}
 use Rattle.blocks.specs.Book.{Book}
 use Rattle.blocks.specs.Finding.{MayFind, FoundWith}
@@ -169,6 +170,7 @@ pub record TicksOver {M : Type 0} (before after : State) (old new : UnitValue M)
       → intention_of old block ≡ intent.Out n
   -- at most two calls, and there is less left to do, or there was nothing
   pub few : after.calls ≤ before.calls + 2
+  pub sent : SendsUpTo 2 before after
   pub left : is_dead new.store.cached ≡ false
       → (steps_left new.store.cached < steps_left old.store.cached)
       ⊎ (steps_left old.store.cached ≡ 0)

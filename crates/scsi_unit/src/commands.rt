@@ -12,7 +12,7 @@ ghost use Rattle.scsi_unit.specs.Capacity.{capacity_10, capacity_16};
 ghost use Rattle.scsi_unit.specs.Rules.{needs_medium, moves};
 ghost use Rattle.scsi_unit.specs.UnitValue.{unit_limit, intention_of, answer_of};
 ghost use Rattle.scsi_unit.specs.Serving.{command_for};
-ghost use Rattle.scsi_unit.specs.Calls.{calls_of, MakesFew, SendsAsMeant};
+ghost use Rattle.scsi_unit.specs.Calls.{calls_of, MakesAtMost, MakesFew, SendsAsMeant};
 ghost use Rattle.scsi_unit.specs.Performing.{Performs, Spares, silent};
 
 use crate::Unit;
@@ -107,9 +107,9 @@ impl<M: Medium> Unit<M> {
             (answer_of result out.new) self.new }
         ensures spares { Spares (Ok command) taken.now self.old
             (answer_of result out.new) self.new }
-        ensures bounded { (M.state self.new.store.medium).calls
-            ≤ (M.state self.old.store.medium).calls
-            + calls_of command taken.now self.old.write_cache self.old.store.cached }
+        ensures bounded { MakesAtMost
+            (calls_of command taken.now self.old.write_cache self.old.store.cached)
+            (M.state self.old.store.medium) (M.state self.new.store.medium) self.old }
         ensures sends { SendsAsMeant (moves command) (unit_limit self.old) result }
         ensures follows { M.follows self.old.store.medium self.new.store.medium }
     {

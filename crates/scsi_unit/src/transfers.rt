@@ -6,6 +6,7 @@ ghost use Rattle.cdb.specs.declared.command.BlockRange.{BlockRange};
 ghost use Rattle.cdb.specs.declared.command.Command.TheVariants as command;
 ghost use Rattle.scsi_unit.specs.UnitValue.{unit_limit, answer_of};
 ghost use Rattle.scsi_unit.specs.Calls.{calls_of_sync, calls_of_read, calls_of_write, calls_of};
+ghost use Rattle.scsi_unit.specs.Calls.{MakesAtMost};
 ghost use Rattle.scsi_unit.specs.Performing.{Performs, Spares, silent};
 
 use crate::Unit;
@@ -27,8 +28,8 @@ impl<M: Medium> Unit<M> {
             (answer_of result out.new) self.new }
         ensures spares { (taken : List ℕ) → Spares (Ok (command.Read10 transfer)) taken self.old
             (answer_of result out.new) self.new }
-        ensures bounded { (M.state self.new.store.medium).calls
-            ≤ (M.state self.old.store.medium).calls + calls_of_read transfer self.old.store.cached }
+        ensures bounded { MakesAtMost (calls_of_read transfer self.old.store.cached)
+            (M.state self.old.store.medium) (M.state self.new.store.medium) self.old }
         ensures sent { IfOk result (λ sent. sent ≡ 512 * transfer.count) }
         ensures follows { M.follows self.old.store.medium self.new.store.medium }
     {
@@ -50,9 +51,9 @@ impl<M: Medium> Unit<M> {
             (silent result) self.new }
         ensures spares { Spares (Ok (command.Write10 transfer)) taken.now self.old
             (silent result) self.new }
-        ensures bounded { (M.state self.new.store.medium).calls
-            ≤ (M.state self.old.store.medium).calls
-            + calls_of_write transfer self.old.write_cache self.old.store.cached }
+        ensures bounded { MakesAtMost
+            (calls_of_write transfer self.old.write_cache self.old.store.cached)
+            (M.state self.old.store.medium) (M.state self.new.store.medium) self.old }
         ensures follows { M.follows self.old.store.medium self.new.store.medium }
     {
         if transfer.count == 0 {
@@ -72,8 +73,8 @@ impl<M: Medium> Unit<M> {
         ensures spares { (range : BlockRange) (taken : List ℕ)
             → Spares (Ok (command.SynchronizeCache10 range)) taken
             self.old (silent result) self.new }
-        ensures bounded { (M.state self.new.store.medium).calls
-            ≤ (M.state self.old.store.medium).calls + calls_of_sync self.old.store.cached }
+        ensures bounded { MakesAtMost (calls_of_sync self.old.store.cached)
+            (M.state self.old.store.medium) (M.state self.new.store.medium) self.old }
         ensures follows { M.follows self.old.store.medium self.new.store.medium }
     {
         make_durable(&mut self.store, true)
@@ -88,10 +89,9 @@ impl<M: Medium> Unit<M> {
             (silent result) self.new }
         ensures spares { Spares (Ok (command.ModeSelect list_len)) taken.now self.old
             (silent result) self.new }
-        ensures bounded { (M.state self.new.store.medium).calls
-            ≤ (M.state self.old.store.medium).calls
-            + calls_of (command.ModeSelect list_len) taken.now self.old.write_cache
-            self.old.store.cached }
+        ensures bounded { MakesAtMost (calls_of (command.ModeSelect list_len) taken.now
+            self.old.write_cache self.old.store.cached)
+            (M.state self.old.store.medium) (M.state self.new.store.medium) self.old }
         ensures follows { M.follows self.old.store.medium self.new.store.medium }
     {
         let enabled = mode_select(&taken[..usize::from(list_len)], self.write_cache)?;

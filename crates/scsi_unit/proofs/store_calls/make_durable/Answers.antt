@@ -1,5 +1,5 @@
 use Rattle.std.proofs.Common.{◌≡◌, ◌≤◌, ◌+◌, ℕ, Bool, false, Ok, refl, sym, subst, arith}
-use Rattle.medium.specs.Medium.{State, IsSound}
+use Rattle.medium.specs.Medium.{State}
 use Rattle.blocks.specs.StoreValue.{Cached, is_dead}
 use Rattle.blocks.specs.Turns.{IsTurn}
 use Rattle.blocks.proofs.Turning.{stays}
@@ -18,6 +18,7 @@ not_wanted m s turn live = record {
   active = refl;
   log = refl;
   calls = no_more m.calls;
+  sent = omega arith;
 }
 
 pub returns-else-wanted-clause-makes : goal.returns-else-wanted-clause-makes

@@ -1,10 +1,10 @@
-use Rattle.std.proofs.Common.{◌≡◌, ◌≤◌, ◌+◌, false, Ok, refl, subst, sym, ap}
+use Rattle.std.proofs.Common.{◌≡◌, false, Ok, refl, subst, sym, ap, arith}
 use Rattle.std.proofs.lemmas.Result.{err_from_is_err_and}
 use Rattle.cdb.specs.declared.command.Command.TheVariants as command
 use Rattle.blocks.specs.StoreValue.{StoreValue, is_dead}
 use Rattle.scsi_unit.specs.UnitValue.{UnitValue, answer_of}
 use Rattle.scsi_unit.specs.Performing.{Performs}
-use Rattle.scsi_unit.specs.Calls.{calls_of_read}
+use Rattle.scsi_unit.specs.Calls.{calls_of_read, MakesAtMost}
 use Rattle.scsi_unit.proofs.Calling.{read_stops, read_ends}
 use Rattle.scsi_unit.proofs.Performing.{durable_error, moves_some, forces_as, reads_nothing, reads_blocks_of}
 use Rattle.scsi_unit.proofs.unit.Unit.read.Goals as goal
@@ -56,10 +56,13 @@ returns-in_err-make_durable-clause-bounded g c =
     let i = c.self.inside in
     let last = c.make_durable.new.store in
     let P = λ (u : UnitValue g.row.M.Denot).
-    (state last.medium).calls ≤ (state u.store.medium).calls + calls_of_read c.args.transfer u.store.cached in
+    MakesAtMost (calls_of_read c.args.transfer u.store.cached) (state u.store.medium) (state last.medium) u in
     subst P c.self.view_is
-    (read_stops c.args.transfer i.store.cached (state i.store.medium).calls (state last.medium).calls
-    (moves_some c.args.transfer c.if-transfer-eq0.false) c.make_durable.ensures.makes.calls)
+    (record {
+      calls = read_stops c.args.transfer i.store.cached (state i.store.medium).calls (state last.medium).calls
+          (moves_some c.args.transfer c.if-transfer-eq0.false) c.make_durable.ensures.makes.calls;
+      sent = omega (arith, c.make_durable.ensures.makes.sent);
+    })
 
 pub returns-clause-bounded : goal.returns-clause-bounded
 returns-clause-bounded g c =
@@ -68,9 +71,12 @@ returns-clause-bounded g c =
     let half = c.make_durable.new.store in
     let last = c.read_blocks.new.store in
     let P = λ (u : UnitValue g.row.M.Denot).
-    (state last.medium).calls ≤ (state u.store.medium).calls + calls_of_read c.args.transfer u.store.cached in
+    MakesAtMost (calls_of_read c.args.transfer u.store.cached) (state u.store.medium) (state last.medium) u in
     subst P c.self.view_is
-    (read_ends c.args.transfer i.store.cached half.cached (state i.store.medium).calls (state half.medium).calls
-    (state last.medium).calls (moves_some c.args.transfer c.if-transfer-eq0.false) c.make_durable.ensures.makes.calls
-    (λ plain. ap (λ (s : StoreValue g.row.M.Denot). s.cached) (c.make_durable.ensures.unwanted plain).0)
-    c.make_durable.ensures.makes.turn.goes_on.layout_stays c.read_blocks.ensures.reads.calls)
+    (record {
+      calls = read_ends c.args.transfer i.store.cached half.cached (state i.store.medium).calls (state half.medium).calls
+          (state last.medium).calls (moves_some c.args.transfer c.if-transfer-eq0.false) c.make_durable.ensures.makes.calls
+          (λ plain. ap (λ (s : StoreValue g.row.M.Denot). s.cached) (c.make_durable.ensures.unwanted plain).0)
+          c.make_durable.ensures.makes.turn.goes_on.layout_stays c.read_blocks.ensures.reads.calls;
+      sent = omega (arith, c.make_durable.ensures.makes.sent, c.read_blocks.ensures.reads.sent);
+    })

@@ -1,4 +1,4 @@
-use Rattle.std.proofs.Common.{◌≡◌, ◌≤◌, ◌+◌, Bool, ℕ, false, [], Ok, Err, refl, subst, sym, ◌∙◌, ap}
+use Rattle.std.proofs.Common.{◌≡◌, Bool, ℕ, false, [], Ok, Err, refl, subst, sym, ◌∙◌, ap, arith}
 use Rattle.std.specs.Prelude.{◌&&◌, not, if◌then◌else◌, OnOk}
 use Rattle.std.proofs.lemmas.Result.{err_from_is_err_and}
 use Rattle.cdb.specs.declared.command.Command.TheVariants as command
@@ -7,7 +7,7 @@ use Rattle.blocks.specs.StoreValue.{is_dead, FitsBook}
 use Rattle.scsi_unit.specs.Rules.{selected_by}
 use Rattle.scsi_unit.specs.UnitValue.{UnitValue}
 use Rattle.scsi_unit.specs.Performing.{Performs, silent}
-use Rattle.scsi_unit.specs.Calls.{calls_of}
+use Rattle.scsi_unit.specs.Calls.{calls_of, MakesAtMost}
 use Rattle.scsi_unit.proofs.Calling.{select_calls}
 use Rattle.scsi_unit.proofs.Performing.{durable_error}
 use Rattle.scsi_unit.proofs.Writing.{selects_nothing, selects_bit, clears_as}
@@ -92,12 +92,17 @@ returns-in_err-make_durable-clause-bounded g c =
       | then-self w ↦ rw w.if-self.true w.clears-is
       | else-self w ↦ rw w.if-self.false (w.clears-is ∙ w.if-self.false)
     ] in
-    let P = λ (u : UnitValue g.row.M.Denot). (state last.medium).calls
-    ≤ (state u.store.medium).calls + calls_of (command.ModeSelect c.args.list_len) c.args.taken.now u.write_cache u.store.cached in
+    let P = λ (u : UnitValue g.row.M.Denot).
+    MakesAtMost (calls_of (command.ModeSelect c.args.list_len) c.args.taken.now u.write_cache u.store.cached) (state u.store.medium)
+    (state last.medium) u in
     subst P c.self.view_is
-    (select_calls c.args.list_len c.args.taken.now i.write_cache i.store.cached (state i.store.medium).calls (state last.medium).calls
-    c.if-self.clears (clears_as c.args.list_len c.args.taken.now i.write_cache c.in_ok-enabled.enabled chosen ∙ sym wanted)
-    c.make_durable.ensures.makes.calls)
+    (record {
+      calls = select_calls c.args.list_len c.args.taken.now i.write_cache i.store.cached (state i.store.medium).calls
+          (state last.medium).calls c.if-self.clears
+          (clears_as c.args.list_len c.args.taken.now i.write_cache c.in_ok-enabled.enabled chosen ∙ sym wanted)
+          c.make_durable.ensures.makes.calls;
+      sent = omega (arith, c.make_durable.ensures.makes.sent);
+    })
 
 pub returns-clause-bounded : goal.returns-clause-bounded
 returns-clause-bounded g c =
@@ -112,9 +117,14 @@ returns-clause-bounded g c =
       | then-self w ↦ rw w.if-self.true w.clears-is
       | else-self w ↦ rw w.if-self.false (w.clears-is ∙ w.if-self.false)
     ] in
-    let P = λ (u : UnitValue g.row.M.Denot). (state last.medium).calls
-    ≤ (state u.store.medium).calls + calls_of (command.ModeSelect c.args.list_len) c.args.taken.now u.write_cache u.store.cached in
+    let P = λ (u : UnitValue g.row.M.Denot).
+    MakesAtMost (calls_of (command.ModeSelect c.args.list_len) c.args.taken.now u.write_cache u.store.cached) (state u.store.medium)
+    (state last.medium) u in
     subst P c.self.view_is
-    (select_calls c.args.list_len c.args.taken.now i.write_cache i.store.cached (state i.store.medium).calls (state last.medium).calls
-    c.if-self.clears (clears_as c.args.list_len c.args.taken.now i.write_cache c.in_ok-enabled.enabled chosen ∙ sym wanted)
-    c.make_durable.ensures.makes.calls)
+    (record {
+      calls = select_calls c.args.list_len c.args.taken.now i.write_cache i.store.cached (state i.store.medium).calls
+          (state last.medium).calls c.if-self.clears
+          (clears_as c.args.list_len c.args.taken.now i.write_cache c.in_ok-enabled.enabled chosen ∙ sym wanted)
+          c.make_durable.ensures.makes.calls;
+      sent = omega (arith, c.make_durable.ensures.makes.sent);
+    })

@@ -1,4 +1,4 @@
-use Rattle.std.proofs.Common.{◌≡◌, ◌≤◌, ◌+◌, Bool, false, Ok, subst, sym, ◌∙◌}
+use Rattle.std.proofs.Common.{◌≡◌, ◌≤◌, ◌+◌, Bool, false, Ok, subst, sym, ap, arith, ◌∙◌}
 use Rattle.std.specs.Prelude.{◌||◌, not, if◌then◌else◌, OnOk}
 use Rattle.blocks.specs.Book.{Book, promised}
 use Rattle.std.proofs.lemmas.Result.{err_from_is_err_and}
@@ -6,7 +6,9 @@ use Rattle.cdb.specs.declared.command.Command.TheVariants as command
 use Rattle.blocks.specs.StoreValue.{is_dead, FitsBook}
 use Rattle.scsi_unit.specs.UnitValue.{UnitValue}
 use Rattle.scsi_unit.specs.Performing.{Performs, silent}
-use Rattle.scsi_unit.specs.Calls.{calls_of_sync, calls_of_write}
+use Rattle.blocks.specs.Limit.{Shape}
+use Rattle.blocks.specs.Sent.{most_sent}
+use Rattle.scsi_unit.specs.Calls.{calls_of_sync, calls_of_write, MakesAtMost}
 use Rattle.scsi_unit.proofs.Calling.{write_stops, write_ends, OnOk-at}
 use Rattle.scsi_unit.proofs.Performing.{moves_some}
 use Rattle.scsi_unit.proofs.Writing.{writes_nothing, write_refused, writes_blocks}
@@ -65,10 +67,13 @@ returns-in_err-write_blocks-clause-bounded g c =
     let i = c.self.inside in
     let last = c.write_blocks.new.store in
     let P = λ (u : UnitValue g.row.M.Denot).
-    (state last.medium).calls ≤ (state u.store.medium).calls + calls_of_write c.args.transfer u.write_cache u.store.cached in
+    MakesAtMost (calls_of_write c.args.transfer u.write_cache u.store.cached) (state u.store.medium) (state last.medium) u in
     subst P c.self.view_is
-    (write_stops c.args.transfer i.write_cache i.store.cached (state i.store.medium).calls (state last.medium).calls
-    (moves_some c.args.transfer c.if-transfer-eq0.false) c.write_blocks.ensures.writes.calls)
+    (record {
+      calls = write_stops c.args.transfer i.write_cache i.store.cached (state i.store.medium).calls (state last.medium).calls
+          (moves_some c.args.transfer c.if-transfer-eq0.false) c.write_blocks.ensures.writes.calls;
+      sent = omega (arith, c.write_blocks.ensures.writes.sent);
+    })
 
 pub returns-clause-bounded : goal.returns-clause-bounded
 returns-clause-bounded g c =
@@ -84,7 +89,12 @@ returns-clause-bounded g c =
     let more = subst (λ (b : Bool). (state last.medium).calls ≤ (state half.medium).calls + (if b then calls_of_sync half.cached else 0))
     wanted c.make_durable.ensures.makes.calls in
     let P = λ (u : UnitValue g.row.M.Denot).
-    (state last.medium).calls ≤ (state u.store.medium).calls + calls_of_write c.args.transfer u.write_cache u.store.cached in
+    MakesAtMost (calls_of_write c.args.transfer u.write_cache u.store.cached) (state u.store.medium) (state last.medium) u in
     subst P c.self.view_is
-    (write_ends c.args.transfer i.write_cache i.store.cached half.cached (state i.store.medium).calls (state half.medium).calls
-    (state last.medium).calls (moves_some c.args.transfer c.if-transfer-eq0.false) c.write_blocks.ensures.writes.calls paid more)
+    (record {
+      calls = write_ends c.args.transfer i.write_cache i.store.cached half.cached (state i.store.medium).calls (state half.medium).calls
+          (state last.medium).calls (moves_some c.args.transfer c.if-transfer-eq0.false) c.write_blocks.ensures.writes.calls paid more;
+      sent =
+          let same = ap (λ (s : Shape). most_sent s.format) c.write_blocks.ensures.writes.turn.goes_on.layout_stays in
+          omega (arith, c.write_blocks.ensures.writes.sent, c.make_durable.ensures.makes.sent, same);
+    })
