@@ -37,7 +37,7 @@ pub no_time : (m : State) → Elapses m m
 no_time m = record { failures_stay = omega arith; size_stays = refl }
 
 pub no_calls : {M : Type 0} (m : State) (unit : UnitValue M) → TakesFew m m unit unit
-no_calls m unit = record { calls = omega arith; layout_stays = refl }
+no_calls m unit = record { calls = omega arith; sent = omega arith; layout_stays = refl }
 
 module _ {M : Type 0} (before after : State) (old new : DiskValue M) (packet : List ℕ) (told : Answer) where
   -- what a packet does where Bulk-Out is halted or not, and so much is left of the exchange
@@ -158,6 +158,7 @@ ticked before after old new ticks line = record {
   spares = λ book fits block taken carries. absurd carries;
   few = record {
     calls = few_ticks before.calls after.calls old.unit ticks.few;
+    sent = omega (arith, ticks.sent);
     layout_stays = ticks.layout_stays;
   };
   elapses = record {

@@ -8,11 +8,12 @@ use Rattle.wrappers.specs.Status.{status_wrapper}
 use Rattle.medium.specs.Blocks.{Write}
 use Rattle.medium.specs.Medium.{State, Image}
 use Rattle.medium.specs.Moments.{LeavesOnly, EachCut}
+use Rattle.medium.specs.Sent.{SendsUpTo}
 use Rattle.scsi_unit.specs.Rules.{Sense}
 use Rattle.scsi_unit.specs.Books.{Book}
 use Rattle.scsi_unit.specs.Books.{MayFind, FoundWith}
 use Rattle.scsi_unit.specs.Rules.{UnitState, CarriesOut, Ticks}
-use Rattle.scsi_unit.specs.Calls.{IsBounded, most_calls}
+use Rattle.scsi_unit.specs.Calls.{IsBounded, most_calls, most_sends}
 use Rattle.scsi_unit.specs.Serving.{has_refused, IsSparing, TicksOver}
 use Rattle.scsi_unit.specs.Starting.{layout_of}
 use Rattle.scsi_unit.specs.UnitValue.{UnitValue, unit_limit, state_of, FitsUnit}
@@ -58,10 +59,11 @@ pub record Elapses (before after : State) : Type 0 where
   pub failures_stay : before.failures ≤ after.failures
   pub size_stays : after.size ≡ before.size
 
--- No more calls of the medium were made than the most of a command. The layout, which tells that
--- number, stays.
+-- No more calls of the medium were made than the most of a command, and no more writes and flushes.
+-- The layout, which tells these numbers, stays.
 pub record TakesFew {M : Type 0} (before after : State) (old new : UnitValue M) : Type 0 where
   pub calls : after.calls ≤ before.calls + most_calls old
+  pub sent : SendsUpTo (most_sends old) before after
   pub layout_stays : layout_of new.store.cached ≡ layout_of old.store.cached
 
 -- A unit proceeds from one moment to another: from a book that it fits, as Moves says, to one that

@@ -45,7 +45,7 @@ returns-in-Ok-clause-passes g c =
       phase = c.tell.ensures.phase _ _ (omega (arith, stays, c.in-Ok.ensures.sends.most));
       limit = stays;
       size = c.tell.ensures.size;
-      few = record { calls = c.in-Ok.ensures.calls.few; layout_stays = serves.layout_stays };
+      few = record { calls = c.in-Ok.ensures.calls.few; sent = c.in-Ok.ensures.calls.sent; layout_stays = serves.layout_stays };
       elapses = record { failures_stay = serves.failures_stay; size_stays = serves.size_stays };
       follows = c.in-Ok.ensures.follows;
     }
@@ -81,7 +81,7 @@ returns-in-Err-clause-passes g c =
       phase = c.tell-in-Err.ensures.phase _ _ (omega arith);
       limit = serves.limit_stays;
       size = c.tell-in-Err.ensures.size;
-      few = record { calls = c.in-Err.ensures.calls.few; layout_stays = serves.layout_stays };
+      few = record { calls = c.in-Err.ensures.calls.few; sent = c.in-Err.ensures.calls.sent; layout_stays = serves.layout_stays };
       elapses = record { failures_stay = serves.failures_stay; size_stays = serves.size_stays };
       follows = c.in-Err.ensures.follows;
     }
