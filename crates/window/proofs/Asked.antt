@@ -1,5 +1,5 @@
 -- One call more of a medium that reads on demand.
-use Rattle.std.proofs.Common.{◌≡◌, ◌≢◌, ◌≤◌, ◌⊎◌, ℕ, ◌+◌, true, false, List, [], ◌∷◌, ◌++◌, length, Option, None, Some, Ok, Err, refl, sym}
+use Rattle.std.proofs.Common.{◌≡◌, ◌≢◌, ◌≤◌, ℕ, ◌+◌, true, false, [], ◌∷◌, ◌++◌, length, None, Some, Err, refl, sym}
 use Rattle.std.proofs.Common.{◌∙◌, ap, subst, arith}
 use Rattle.std.proofs.Common.{length-append}
 use Rattle.std.proofs.lemmas.List.{append-nil}
@@ -78,6 +78,7 @@ module _ (now new : Window) (s : ℕ) where
     looks = s ∷ [];
     looked = refl;
     in_sight = λ all. refl;
+    sent = omega arith;
     refuses = λ more. absurd (omega (arith, more));
     failures_stay = omega arith;
     misses_stay = omega arith;
@@ -98,6 +99,7 @@ module _ (now new : Window) (s : ℕ) where
     looks = s ∷ [];
     looked = refl;
     in_sight = λ all. let parts = and_parts (is_in_sight now s) true all in absurd (cc (parts.0, not));
+    sent = omega arith;
     refuses = λ more. absurd (omega (arith, more));
     failures_stay = omega arith;
     misses_stay = omega arith;
@@ -112,6 +114,12 @@ module _ (now new : Window) (call : DeviceCall) where
       ≤ (one_more now.seen.told.refused (story.kind_of kind)).writes + (one_more now.seen.told.refused (story.kind_of kind)).flushes
   kept_more (Write w) = omega arith
   kept_more Flush = omega arith
+
+  made_more : (kind : DeviceCall) → (one_more now.seen.told.made (story.kind_of kind)).writes
+      + (one_more now.seen.told.made (story.kind_of kind)).flushes
+      ≡ now.seen.told.made.writes + now.seen.told.made.flushes + 1
+  made_more (Write w) = omega arith
+  made_more Flush = omega arith
 
   pub follows_refused : new ≡ refuses now call → now.room ≤ length now.outbox → ComesAfter now new
   follows_refused e full = subst (λ (n : Window). ComesAfter now n) (sym e) (record {
@@ -128,7 +136,8 @@ module _ (now new : Window) (call : DeviceCall) where
     looks = [];
     looked = sym (append-nil now.seen.looked);
     in_sight = λ all. refused_reads call;
-    refuses = λ more. omega (arith, full);
+    sent = omega (arith, made_more call);
+    refuses = λ more. omega (arith, full, made_more call);
     failures_stay = kept_more call;
     misses_stay = omega (arith, refused_reads call);
   })
@@ -148,6 +157,7 @@ module _ (now new : Window) (call : DeviceCall) where
     looks = [];
     looked = sym (append-nil now.seen.looked);
     in_sight = λ all. refl;
+    sent = omega (arith, made_more call);
     refuses = λ more. absurd (omega (arith, more));
     failures_stay = omega arith;
     misses_stay = omega arith;

@@ -4,6 +4,7 @@ use Rattle.std.specs.Prelude.{List, [], ◌∷◌, ◌++◌}
 use Rattle.std.specs.Prelude.{length, Option, ◌||◌, nat_lt, IsTrue}
 use Rattle.std.specs.List.{list_all}
 use Rattle.medium.specs.Medium.{State}
+use Rattle.medium.specs.Sent.{sent}
 use Rattle.medium.specs.Tally.{Tally}
 use Rattle.inlet.specs.Inlet.{AreHeld}
 use Rattle.mirror.specs.Mirror as mirror
@@ -78,6 +79,7 @@ without_first w = take_first w.outbox w
 abbrev pub moved : Window → ℕ → ℕ → Window
 moved w first count = record w { from = first; held = count }
 
+-- how many writes and flushes
 abbrev pub kept_out : Tally → ℕ
 kept_out t = t.writes + t.flushes
 
@@ -99,9 +101,12 @@ pub record ComesAfter (old new : Window) : Type 0 where
   -- no read is refused where each names a sector that is in sight
   pub in_sight : list_all (is_in_sight old) looks ≡ true
       → new.seen.told.refused.reads ≡ old.seen.told.refused.reads
-  -- and no other call as long as what waited and these calls have room together
+  -- what was given to the device are writes and flushes
+  pub sent : kept_out old.seen.told.made + length (given since) ≤ kept_out new.seen.told.made
+  -- and none of these is refused as long as what waited and they have room together
   pub refuses : kept_out old.seen.told.refused < kept_out new.seen.told.refused
-      → new.room < length old.outbox + length since
+      → new.room + kept_out old.seen.told.made
+      < length old.outbox + kept_out new.seen.told.made
   pub failures_stay : kept_out old.seen.told.refused ≤ kept_out new.seen.told.refused
   pub misses_stay : old.seen.told.refused.reads ≤ new.seen.told.refused.reads
 
@@ -111,11 +116,11 @@ abbrev pub CoversDevice : Window → Window → Type 0
 CoversDevice old new = mirror.CoversDevice (mirror_of old) (mirror_of new)
 
 -- Where each sector that was read since is in sight, and what waits at the first moment and all
--- calls since have room together, none of these is refused.
+-- writes and flushes since have room together, no call is refused.
 abbrev pub IsServed : Window → Window → Type 0
 IsServed old new = (looks : List ℕ) → new.seen.looked ≡ old.seen.looked ++ looks
     → list_all (is_in_sight old) looks ≡ true
-    → length old.outbox + (state_of new).calls ≤ (state_of old).calls + old.room
+    → length old.outbox + sent (state_of new) ≤ sent (state_of old) + old.room
     → (state_of new).failures ≡ (state_of old).failures
 
 -- what holds of every such medium

@@ -1,14 +1,14 @@
 -- What holds of a medium that reads on demand at each moment.
-use Rattle.std.specs.Prelude.{◌+◌, ◌≡◌, ◌⊎◌, ℕ, ◌<◌, ◌≤◌, true, List, [], ◌∷◌, ◌++◌, length, Option}
+use Rattle.std.specs.Prelude.{◌+◌, ◌≡◌, ℕ, ◌<◌, ◌≤◌, true, List, [], ◌++◌, length, Option}
 use Rattle.std.specs.List.{list_all}
-use Rattle.std.proofs.Common.{inl, inr, refl, sym, ◌∙◌, ap, subst, arith, append_assoc}
+use Rattle.std.proofs.Common.{inl, inr, refl, sym, ◌∙◌, ap, arith, append_assoc}
 use Rattle.std.proofs.Common.{length-append}
 use Rattle.std.proofs.lemmas.List.{append-nil}
 use Rattle.std.proofs.lemmas.Bool.{and_parts, cases_lt}
 use Rattle.std.proofs.lemmas.List.Folds.{list_all-append}
 use Rattle.medium.specs.Medium.{IsSound}
 use Rattle.mirror.specs.MirrorLaws as mirror
-use Rattle.mirror.specs.MirrorLaws.{given-append, given_fewer}
+use Rattle.mirror.specs.MirrorLaws.{given-append}
 use Rattle.mirror.specs.Story.{given}
 use Rattle.mirror.specs.declared.call.DeviceCall.{DeviceCall}
 use Rattle.window.specs.Window.{Window, mirror_of, state_of, is_in_sight, kept_out, ComesAfter}
@@ -31,6 +31,7 @@ comes_after_itself w = record {
   looks = [];
   looked = sym (append-nil w.seen.looked);
   in_sight = λ all. refl;
+  sent = omega arith;
   refuses = λ more. absurd (omega (arith, more));
   failures_stay = omega arith;
   misses_stay = omega arith;
@@ -47,19 +48,28 @@ same_sight a b f looks = λ i. list_all (is_in_sight (record b {
 
 refuses_through : (a b c : Window) → (f : ComesAfter a b) (g : ComesAfter b c)
     → kept_out a.seen.told.refused < kept_out c.seen.told.refused
-    → c.room < length a.outbox + length (f.since ++ g.since)
+    → c.room + kept_out a.seen.told.made < length a.outbox + kept_out c.seen.told.made
 refuses_through a b c f g more = elim
     (cases_lt (kept_out a.seen.told.refused) (kept_out b.seen.told.refused)) [
-      | inl before ↦ simp length-append
-          (omega (arith, f.refuses before, g.room_stays))
-      | inr after ↦ simp length-append (omega (
+      | inl before ↦ omega (arith, f.refuses before, g.sent, g.room_stays)
+      | inr after ↦ omega (
         arith,
         g.refuses (omega (arith, more, after)),
-        given_fewer f.since,
+        f.sent,
         length-append a.outbox (given f.since),
         ap (λ (l : List DeviceCall). length l) f.outbox,
-      ))
+      )
     ]
+
+sent_through : (a b c : Window) → (f : ComesAfter a b) (g : ComesAfter b c)
+    → kept_out a.seen.told.made + length (given (f.since ++ g.since)) ≤ kept_out c.seen.told.made
+sent_through a b c f g = omega (
+  arith,
+  f.sent,
+  g.sent,
+  ap (λ (l : List DeviceCall). length l) (given-append f.since g.since),
+  length-append (given f.since) (given g.since),
+)
 
 sight_through : (a b c : Window) → (f : ComesAfter a b) (g : ComesAfter b c)
     → list_all (is_in_sight a) (f.looks ++ g.looks) ≡ true
@@ -88,6 +98,7 @@ comes_after_through a b c f g = record {
   looked = g.looked ∙ ap (λ (l : List ℕ). l ++ g.looks) f.looked
       ∙ append_assoc a.seen.looked f.looks g.looks;
   in_sight = sight_through a b c f g;
+  sent = sent_through a b c f g;
   refuses = refuses_through a b c f g;
   failures_stay = omega (arith, f.failures_stay, g.failures_stay);
   misses_stay = omega (arith, f.misses_stay, g.misses_stay);

@@ -176,8 +176,9 @@ impl WindowMedium {
     ///
     /// Whatever calls of a medium are made from here on: a device that has carried out what was
     /// sent until now, and any first part of what is sent from now on, is in a state that the
-    /// medium was in since. And none of these calls is refused, as long as they have room beside
-    /// what waits now and each read names a sector that is in memory or was shown.
+    /// medium was in since. And none of these calls is refused, as long as the writes and flushes
+    /// among them have room beside what waits now and each read names a sector that is in memory or
+    /// was shown.
     pub fn waiting(&self) -> usize
         ensures is { result ≡ length self.now.outbox }
         ensures most { result ≤ self.now.room }

@@ -1,13 +1,11 @@
-use Rattle.std.proofs.Common.{ℕ, ◌+◌, ◌≡◌, ◌≤◌, ◌<◌, true, List, ◌++◌, Option, length, drop, length-append, inl, inr, refl, sym, ◌∙◌, ap}
+use Rattle.std.proofs.Common.{ℕ, ◌≡◌, List, ◌++◌, length, drop, inl, inr, refl, sym, ◌∙◌, ap}
 use Rattle.std.proofs.Common.{subst, arith}
 use Rattle.std.specs.List.{list_all}
 use Rattle.std.proofs.lemmas.Bool.{cases_lt}
 use Rattle.std.proofs.lemmas.List.{drop_at}
-use Rattle.medium.specs.Tally.{of_all}
-use Rattle.mirror.specs.declared.call.DeviceCall.{DeviceCall}
 use Rattle.mirror.specs.Mirror as mirror
 use Rattle.mirror.proofs.Devices.{covers}
-use Rattle.window.specs.Window.{Window, mirror_of, is_in_sight, kept_out, ComesAfter, CoversDevice, IsServed, state_of}
+use Rattle.window.specs.Window.{Window, mirror_of, is_in_sight, kept_out, ComesAfter, CoversDevice, IsServed}
 use Rattle.window.proofs.window.WindowMedium.waiting.Goals as goal
 
 -- what a device is covered by does not depend on what was refused
@@ -46,8 +44,6 @@ served old new follows looks looked all few =
         few,
         follows.refuses more,
         follows.room_stays,
-        length-append old.seen.told.asked follows.since,
-        ap (λ (l : List (Option DeviceCall)). length l) follows.asked,
       ))
       | inr none ↦ omega (arith, none, reads, follows.failures_stay)
     ]
