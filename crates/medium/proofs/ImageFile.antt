@@ -32,4 +32,5 @@ module _ (s : ℕ) (block : List ℕ) (old new : Copied) (written : IsWritten s 
     size_stays = ap (λ n. n / 512) written.length_stays;
     named = tt;
     nothing_else = λ t image le since. inr since;
+    looked_stays = λ other. refl;
   }

@@ -3,6 +3,7 @@ pub mod Blocks
 pub mod Flushed
 pub mod ImageFile
 pub mod Keeping
+pub mod Looking
 pub mod Masks
 pub mod Moments
 pub mod Remembering

@@ -1,5 +1,5 @@
 -- A medium over an image file: its copy in memory, from which reads are answered.
-use Rattle.std.specs.Prelude.{◌≡◌, ℕ, ◌+◌, ◌*◌, ◌/◌, ◌%◌, ◌<◌, ◌≤◌, List, length}
+use Rattle.std.specs.Prelude.{◌≡◌, ℕ, ◌+◌, ◌*◌, ◌/◌, ◌%◌, ◌<◌, ◌≤◌, List, [], length}
 use Rattle.medium.specs.Medium.{State, Holds, CutLeaves}
 use Rattle.medium.specs.Tally.{Tally, none, of_kind, of_all, one_more}
 use Rattle.medium.specs.Writes.{sector_of}
@@ -26,6 +26,7 @@ state_of m = record {
   made = of_kind m.made;
   failures = of_all m.refused;
   refused = of_kind m.refused;
+  looked = [];
 }
 
 -- a copy of these bytes, before the first call

@@ -1,7 +1,8 @@
 -- A medium of sectors: what a read gives, and what a loss of power may leave.
 use Rattle.std.specs.Prelude.{◌≡◌, ◌≢◌, ◌⊎◌, ◌<◌, ◌≤◌, ℕ, ◌+◌, List, length, Result, IfErr, is_ok}
-use Rattle.std.specs.Prelude.{if◌then◌else◌}
+use Rattle.std.specs.Prelude.{if◌then◌else◌, All, ◌++◌}
 use Rattle.medium.specs.declared.fault.MediumFault.{MediumFault}
+use Rattle.medium.specs.declared.fault.MediumFault.TheVariants.{Read}
 
 -- the bytes of every sector, by its number
 abbrev pub Image : Type 0
@@ -29,6 +30,8 @@ pub record State : Type 1 where
   pub failures : ℕ
   -- how many calls of each kind were refused
   pub refused : MediumFault → ℕ
+  -- the sectors that reads named, in order, of a medium that keeps account of them, else none
+  pub looked : List ℕ
 
 -- a cut may leave this image: each sector by itself
 abbrev pub CutLeaves : Sets → Image → Type 0
@@ -73,6 +76,14 @@ pub record Passes (fault : MediumFault) (result : Result (Unit {0}) MediumFault)
   -- what a cut since t may have left is what it was before the call, or what a cut may leave now
   pub nothing_else : (t : ℕ) (image : Image) → t ≤ old.calls → new.left_since t image
       → old.left_since t image ⊎ CutLeaves new.may_leave image
+  -- reads alone name sectors to be read
+  pub looked_stays : fault ≢ Read → new.looked ≡ old.looked
+
+-- Reads that each named a sector with P, and any other calls.
+pub record LooksOnly (P : ℕ → Type 0) (old new : State) : Type 0 where
+  pub looks : List ℕ
+  pub looked : new.looked ≡ old.looked ++ looks
+  pub only : All P looks
 
 -- what holds of a medium at each moment
 pub record IsSound (m : State) : Type 0 where

@@ -50,6 +50,7 @@ state_of m = record {
   made = of_kind m.made;
   failures = of_all m.refused;
   refused = of_kind m.refused;
+  looked = [];
 }
 
 -- there is room for one more write

@@ -207,7 +207,7 @@ fn write_through<F: SectorFile>(
 
 impl<F: SectorFile> Medium for FileMedium<F> {
     ghost use Rattle.std.specs.Prelude.{◌≡◌, ◌⊎◌, ◌<◌, IsOk, OnOk, OnErr};
-    ghost use Rattle.medium.specs.Medium.{Stays, Holds, Within, Gains, Only, Passes};
+    ghost use Rattle.medium.specs.Medium.{Stays, Holds, Within, Gains, Only, Passes, LooksOnly};
     ghost use Rattle.medium.specs.ImageFile.{state_of, called, refused, IsWritten, ComesAfter};
     ghost use Rattle.medium.specs.ImageFileLaws.{is_sound, comes_after_itself, comes_after_through};
     ghost use Rattle.medium.specs.declared.fault.MediumFault.TheVariants.{Read, Write, Flush};
@@ -234,7 +234,8 @@ impl<F: SectorFile> Medium for FileMedium<F> {
         ensures content { Stays (state_of self.old).content (state_of self.new).content }
         ensures sets { Within (state_of self.new).may_leave (state_of self.old).may_leave }
         ensures passes { Passes Read result (state_of self.old) (state_of self.new) }
-        ensures follows { ComesAfter self.old self.new }
+        ensures follows { ComesAfter self.old self.new
+            × LooksOnly (λ s. s ≡ sector) (state_of self.old) (state_of self.new) }
     {
         self.calls = self.calls.next();
         self.made.add(MediumFault::Read);

@@ -1,7 +1,7 @@
 //! Sectors that can be read, written and flushed.
 ghost use Rattle.std.specs.Prelude.{◌≡◌, ◌⊎◌, ◌<◌, ℕ, OnOk, OnErr};
 ghost use Rattle.medium.specs.declared.fault.MediumFault.TheVariants.{Read, Write, Flush};
-ghost use Rattle.medium.specs.Medium.{State, Stays, Holds, Within, Gains, Only, Passes, IsSound};
+ghost use Rattle.medium.specs.Medium.{State, Stays, Holds, Within, Gains, Only, Passes, LooksOnly, IsSound};
 
 use crate::fault::MediumFault;
 
@@ -24,7 +24,8 @@ pub trait Medium {
         ensures content { Stays (state self.old).content (state self.new).content }
         ensures sets { Within (state self.new).may_leave (state self.old).may_leave }
         ensures passes { Passes Read result (state self.old) (state self.new) }
-        ensures follows { follows self.old self.new };
+        ensures follows { follows self.old self.new
+            × LooksOnly (λ s. s ≡ sector) (state self.old) (state self.new) };
 
     /// Writes one sector. A cut may lose the write until a good flush.
     /// At an `Err` it may have happened or not.

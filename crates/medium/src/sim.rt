@@ -170,7 +170,7 @@ impl SimMedium {
 
 impl Medium for SimMedium {
     ghost use Rattle.std.specs.Prelude.{◌≡◌, ◌⊎◌, ◌<◌, true, is_ok, OnOk, OnErr};
-    ghost use Rattle.medium.specs.Medium.{Stays, Holds, Within, Gains, Only, Passes};
+    ghost use Rattle.medium.specs.Medium.{Stays, Holds, Within, Gains, Only, Passes, LooksOnly};
     ghost use Rattle.medium.specs.Power.{admits};
     ghost use Rattle.medium.specs.Sim.{state_of, fits, after_call, after_write, IsFlush};
     ghost use Rattle.medium.specs.Sim.{ComesAfter};
@@ -199,7 +199,8 @@ impl Medium for SimMedium {
         ensures content { Stays (state_of self.old).content (state_of self.new).content }
         ensures sets { Within (state_of self.new).may_leave (state_of self.old).may_leave }
         ensures passes { Passes Read result (state_of self.old) (state_of self.new) }
-        ensures follows { ComesAfter self.old self.new }
+        ensures follows { ComesAfter self.old self.new
+            × LooksOnly (λ s. s ≡ sector) (state_of self.old) (state_of self.new) }
     {
         if !self.admit(MediumFault::Read, true) {
             return Err(MediumFault::Read);
