@@ -95,6 +95,7 @@ module _ (m : Mirror) where
     size_stays = quiet_size;
     named = tt;
     nothing_else = λ t image le since. one_moment_more m.story (reads m).story None refl refl t image since;
+    looked_stays = λ other. refl;
   }
 
   pub refused_passes : (call : DeviceCall) → Passes (kind_of call) (Err (kind_of call)) (state_of m) (state_of (refuses m call))
@@ -108,6 +109,7 @@ module _ (m : Mirror) where
     size_stays = quiet_size;
     named = refl;
     nothing_else = λ t image le since. one_moment_more m.story (refuses m call).story None refl refl t image since;
+    looked_stays = λ other. refl;
   }
 
   given_size : (call : DeviceCall) → are_whole (given m.story.asked) ≡ true → is_whole call ≡ true
@@ -127,6 +129,7 @@ module _ (m : Mirror) where
     size_stays = given_size call whole one;
     named = tt;
     nothing_else = λ t image le since. one_moment_more m.story (gives m call).story (Some call) refl refl t image since;
+    looked_stays = λ other. refl;
   }
 
   pub quiet_content : Stays (state_of m).content (state_of (reads m)).content

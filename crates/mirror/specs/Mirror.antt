@@ -38,8 +38,8 @@ pub record LeftSince (t : Told) (moment : ℕ) (image : Image) : Type 0 where
 abbrev pub size_of : Told → ℕ
 size_of t = if are_whole (given t.asked) then length t.opening / 512 else 0
 
--- its content and sets are those of the device that has carried out all, and its moments those of
--- the device on its way there
+-- Its content and sets are those of the device that has carried out all, and its moments those of
+-- the device on its way there. It keeps no account of what reads name, since none is refused.
 abbrev pub state_of : Mirror → State
 state_of m = record {
   size = size_of m.story;
@@ -50,6 +50,7 @@ state_of m = record {
   made = of_kind m.story.made;
   failures = of_all m.story.refused;
   refused = of_kind m.story.refused;
+  looked = [];
 }
 
 -- a medium of these bytes, which was asked nothing yet

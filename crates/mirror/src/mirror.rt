@@ -143,7 +143,7 @@ impl MirrorMedium {
 
 impl Medium for MirrorMedium {
     ghost use Rattle.std.specs.Prelude.{◌≡◌, ◌⊎◌, ◌<◌, IsOk, is_ok, OnOk, OnErr};
-    ghost use Rattle.medium.specs.Medium.{Stays, Holds, Within, Gains, Only, Passes};
+    ghost use Rattle.medium.specs.Medium.{Stays, Holds, Within, Gains, Only, Passes, LooksOnly};
     ghost use Rattle.medium.specs.declared.fault.MediumFault.TheVariants.{Read, Write, Flush};
     ghost use Rattle.mirror.specs.Mirror.{state_of, fits, reads, gives, refuses, ComesAfter};
     ghost use Rattle.mirror.specs.MirrorLaws.{is_sound, comes_after_itself, comes_after_through};
@@ -171,7 +171,8 @@ impl Medium for MirrorMedium {
         ensures content { Stays (state_of self.old).content (state_of self.new).content }
         ensures sets { Within (state_of self.new).may_leave (state_of self.old).may_leave }
         ensures passes { Passes Read result (state_of self.old) (state_of self.new) }
-        ensures follows { ComesAfter self.old self.new }
+        ensures follows { ComesAfter self.old self.new
+            × LooksOnly (λ s. s ≡ sector) (state_of self.old) (state_of self.new) }
     {
         self.story = self.story.read(&self.sectors);
         self.sectors.load(sector, to);

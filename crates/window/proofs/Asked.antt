@@ -15,6 +15,7 @@ use Rattle.mirror.specs.declared.call.DeviceCall.{DeviceCall}
 use Rattle.mirror.specs.declared.call.DeviceCall.TheVariants.{Write, Flush}
 use Rattle.mirror.proofs.Asked.{one_moment_more, read_passes, quiet_content, quiet_sets}
 use Rattle.window.specs.Seen.{Seen, gave}
+use Rattle.window.proofs.Looking.{as_seen}
 use Rattle.window.specs.Window.{Window, mirror_of, state_of, is_in_sight, reads, misses, gives, refuses, ComesAfter}
 
 others_read : (kind : MediumFault) (t : Tally) → kind ≢ fault.Read → of_kind (one_more t fault.Read) kind ≡ of_kind t kind
@@ -37,6 +38,7 @@ missed_passes m = record {
   size_stays = (read_passes m).size_stays;
   named = refl;
   nothing_else = λ t image le since. one_moment_more m.story (missed m).story None refl refl t image since;
+  looked_stays = λ other. refl;
 }
 
 -- the value of a medium whose story went on
@@ -55,7 +57,7 @@ given_on call was now new seen outbox room near from held span same =
 module _ (now new : Window) (s : ℕ) where
   pub passes_missed : new ≡ misses now s → Passes fault.Read (Err fault.Read) (state_of now) (state_of new)
   passes_missed e = subst (λ (n : Window). Passes fault.Read (Err fault.Read) (state_of now) (state_of n)) (sym e)
-      (missed_passes (mirror_of now))
+      (as_seen now (misses now s) (missed_passes (mirror_of now)) (λ other. absurd (other refl)))
 
   pub content_missed : new ≡ misses now s → Stays (state_of now).content (state_of new).content
   content_missed e = subst (λ (n : Window). Stays (state_of now).content (state_of n).content) (sym e) (quiet_content (mirror_of now))

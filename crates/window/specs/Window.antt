@@ -32,9 +32,9 @@ mirror_of w = record { story = w.seen.told; outbox = w.outbox; room = w.room }
 abbrev pub lies_in : ℕ → ℕ → ℕ → Bool
 lies_in first count s = seen.lies_in first count s
 
--- content, sets and moments are those of the whole device
+-- content, sets and moments are those of the whole device, and it keeps account of what reads name
 abbrev pub state_of : Window → State
-state_of w = mirror.state_of (mirror_of w)
+state_of w = record (mirror.state_of (mirror_of w)) { looked = w.seen.looked }
 
 -- a read finds this sector in memory
 abbrev pub is_in_sight : Window → ℕ → Bool

@@ -14,7 +14,12 @@ use Rattle.mirror.specs.declared.call.DeviceCall.{DeviceCall}
 use Rattle.window.specs.Window.{Window, mirror_of, state_of, is_in_sight, kept_out, ComesAfter}
 
 pub is_sound : (w : Window) → IsSound (state_of w)
-is_sound w = mirror.is_sound (mirror_of w)
+is_sound w = let sound = mirror.is_sound (mirror_of w) in record {
+  holds_content = sound.holds_content;
+  counts_now = sound.counts_now;
+  only_now = sound.only_now;
+  sized = sound.sized;
+}
 
 pub comes_after_itself : (w : Window) → ComesAfter w w
 comes_after_itself w = record {

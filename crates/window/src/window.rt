@@ -191,7 +191,7 @@ impl WindowMedium {
 
 impl Medium for WindowMedium {
     ghost use Rattle.std.specs.Prelude.{◌≡◌, ◌⊎◌, ◌<◌, IsOk, is_ok, OnOk, OnErr};
-    ghost use Rattle.medium.specs.Medium.{Stays, Holds, Within, Gains, Only, Passes};
+    ghost use Rattle.medium.specs.Medium.{Stays, Holds, Within, Gains, Only, Passes, LooksOnly};
     ghost use Rattle.medium.specs.declared.fault.MediumFault.TheVariants.{Read, Write, Flush};
     ghost use Rattle.window.specs.Window.{state_of, fits, reads, misses, gives, refuses};
     ghost use Rattle.window.specs.Window.{ComesAfter, is_in_sight};
@@ -221,7 +221,8 @@ impl Medium for WindowMedium {
         ensures content { Stays (state_of self.old).content (state_of self.new).content }
         ensures sets { Within (state_of self.new).may_leave (state_of self.old).may_leave }
         ensures passes { Passes Read result (state_of self.old) (state_of self.new) }
-        ensures follows { ComesAfter self.old self.new }
+        ensures follows { ComesAfter self.old self.new
+            × LooksOnly (λ s. s ≡ sector) (state_of self.old) (state_of self.new) }
     {
         let look = Look { sector };
         if !self.has(sector) {

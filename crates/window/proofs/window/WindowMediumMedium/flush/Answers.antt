@@ -4,10 +4,11 @@ use Rattle.mirror.specs.Device.{Device}
 use Rattle.mirror.specs.Story.{given, are_whole}
 use Rattle.mirror.specs.Mirror.{Mirror, device_of}
 use Rattle.mirror.specs.MirrorLaws.{is_sound}
-use Rattle.mirror.proofs.Asked.{passes_refused, content_refused, sets_refused, passes_given, content_given, sets_given, holds_given}
+use Rattle.mirror.proofs.Asked.{content_refused, sets_refused, content_given, sets_given, holds_given}
 use Rattle.window.specs.Seen.{Seen, refused}
 use Rattle.window.specs.Window.{Window, mirror_of}
 use Rattle.window.proofs.Asked.{seen_on, given_on, follows_refused, follows_given}
+use Rattle.window.proofs.Looking.{passes_refused, passes_given}
 use Rattle.window.proofs.Kept.{kept_quiet, kept_given}
 use Rattle.window.proofs.window.WindowMediumMedium.flush.Goals as goal
 
@@ -31,8 +32,8 @@ returns-then-len-self-clause-sets c =
 
 pub returns-then-len-self-clause-passes : goal.returns-then-len-self-clause-passes
 returns-then-len-self-clause-passes c =
-    passes_refused (mirror_of c.args.self.now) _ Flush
-    (ap mirror_of (seen_on (λ t. refused t Flush) _ c.args.self.now _ c.refused-self-inside.ensures c.self.view_is))
+    passes_refused c.args.self.now _ Flush
+    (seen_on (λ t. refused t Flush) _ c.args.self.now _ c.refused-self-inside.ensures c.self.view_is)
 
 pub returns-then-len-self-clause-follows : goal.returns-then-len-self-clause-follows
 returns-then-len-self-clause-follows c =
@@ -65,9 +66,9 @@ returns-clause-sets c s bytes left =
 
 pub returns-clause-passes : goal.returns-clause-passes
 returns-clause-passes c =
-    passes_given (mirror_of c.args.self.now) _ Flush
-    (ap mirror_of (given_on Flush _ c.args.self.now _ c.gave-self-inside.ensures c.push_back_reserved.ensures.items refl refl refl refl refl
-    c.self.view_is))
+    passes_given c.args.self.now _ Flush
+    (given_on Flush _ c.args.self.now _ c.gave-self-inside.ensures c.push_back_reserved.ensures.items refl refl refl refl refl
+    c.self.view_is)
     (subst (λ (w : Window). are_whole (given w.seen.told.asked) ≡ true) c.self.view_is c.self.invariant.well_formed.mirror.whole_writes)
     refl
 

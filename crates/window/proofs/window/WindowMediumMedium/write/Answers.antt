@@ -4,10 +4,11 @@ use Rattle.mirror.specs.Device.{Device}
 use Rattle.mirror.specs.Story.{given, are_whole}
 use Rattle.mirror.specs.Mirror.{Mirror, device_of}
 use Rattle.mirror.specs.MirrorLaws.{is_sound}
-use Rattle.mirror.proofs.Asked.{passes_refused, content_refused, sets_refused, passes_given, content_given, sets_given, holds_given}
+use Rattle.mirror.proofs.Asked.{content_refused, sets_refused, content_given, sets_given, holds_given}
 use Rattle.window.specs.Seen.{Seen, refused}
 use Rattle.window.specs.Window.{Window, mirror_of}
 use Rattle.window.proofs.Asked.{seen_on, given_on, follows_refused, follows_given}
+use Rattle.window.proofs.Looking.{passes_refused, passes_given}
 use Rattle.window.proofs.Kept.{kept_quiet, kept_given}
 use Rattle.window.proofs.window.WindowMediumMedium.write.Goals as goal
 
@@ -33,9 +34,9 @@ returns-then-len-self-clause-sets c =
 
 pub returns-then-len-self-clause-passes : goal.returns-then-len-self-clause-passes
 returns-then-len-self-clause-passes c =
-    passes_refused (mirror_of c.args.self.now) _ (Write (record { sector = c.args.sector; block = c.args.from.now }))
-    (ap mirror_of (seen_on (λ t. refused t (Write (record { sector = c.args.sector; block = c.args.from.now }))) _ c.args.self.now _
-    c.refused-self-inside.ensures c.self.view_is))
+    passes_refused c.args.self.now _ (Write (record { sector = c.args.sector; block = c.args.from.now }))
+    (seen_on (λ t. refused t (Write (record { sector = c.args.sector; block = c.args.from.now }))) _ c.args.self.now _
+    c.refused-self-inside.ensures c.self.view_is)
 
 pub returns-then-len-self-clause-follows : goal.returns-then-len-self-clause-follows
 returns-then-len-self-clause-follows c =
@@ -71,11 +72,11 @@ returns-clause-sets c =
 
 pub returns-clause-passes : goal.returns-clause-passes
 returns-clause-passes c =
-    passes_given (mirror_of c.args.self.now) _ (Write (record { sector = c.args.sector; block = c.args.from.now }))
-    (ap mirror_of (given_on (Write (record { sector = c.args.sector; block = c.args.from.now })) _ c.args.self.now _
+    passes_given c.args.self.now _ (Write (record { sector = c.args.sector; block = c.args.from.now }))
+    (given_on (Write (record { sector = c.args.sector; block = c.args.from.now })) _ c.args.self.now _
     c.gave-self-inside.ensures c.push_back_reserved.ensures.items refl
     (ap (λ k. k / 512) c.keep.ensures.lengths.0) c.keep.ensures.place.0 c.keep.ensures.place.1 (ap (λ k. k / 512) c.keep.ensures.lengths.1)
-    c.self.view_is))
+    c.self.view_is)
     (subst (λ (w : Window). are_whole (given w.seen.told.asked) ≡ true) c.self.view_is c.self.invariant.well_formed.mirror.whole_writes)
     (rw c.told-from refl)
 

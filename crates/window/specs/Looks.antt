@@ -1,0 +1,27 @@
+-- Where the sectors that reads name are in sight, no call is refused.
+use Rattle.std.specs.Prelude.{◌≡◌, ◌<◌, ◌≤◌, ℕ, ◌+◌, true, length}
+use Rattle.std.proofs.Common.{arith, ◌∙◌}
+use Rattle.std.proofs.lemmas.Bool.Decides.{nat_tests}
+use Rattle.std.proofs.lemmas.List.Elements.{All-weaker}
+use Rattle.std.proofs.lemmas.List.Sums.{list_all-from_AllPass}
+use Rattle.medium.specs.Medium.{LooksOnly}
+use Rattle.window.specs.Window.{Window, state_of, is_in_sight, IsServed}
+
+-- the first sectors are in sight
+pub near_in_sight : (w : Window) (s : ℕ) → s < w.near → is_in_sight w s ≡ true
+near_in_sight w s below = grind (arith, nat_tests)
+
+-- and those that were shown last
+pub shown_in_sight : (w : Window) (s : ℕ) → w.from ≤ s → s < w.from + w.held
+    → is_in_sight w s ≡ true
+shown_in_sight w s low high = grind (arith, nat_tests)
+
+-- Calls of which each read names a sector with P: where all such sectors are in sight, and what
+-- waits and these calls have room together, none of them is refused.
+pub none_refused : (P : ℕ → Type 0) (old new : Window) → IsServed old new
+    → ((s : ℕ) → P s → is_in_sight old s ≡ true) → LooksOnly P (state_of old) (state_of new)
+    → length old.outbox + (state_of new).calls ≤ (state_of old).calls + old.room
+    → (state_of new).failures ≡ (state_of old).failures
+none_refused P old new served sight named few = served named.looks named.looked
+    (list_all-from_AllPass (is_in_sight old) named.looks
+    (All-weaker P (λ s. is_in_sight old s ≡ true) sight named.looks named.only)) few
