@@ -1,11 +1,11 @@
 -- What a recovery leaves at each moment of it, and how many calls it makes, up to each of its exits.
 use Rattle.std.proofs.Common.{◌≡◌, ℕ, ◌+◌, ◌*◌, ◌<◌, ◌≤◌, List, [], length, get_or, sym, subst, arith, Result}
-use Rattle.medium.specs.Medium.{State, Only, IsSound}
+use Rattle.medium.specs.Medium.{State, Only, LooksOnly, IsSound}
 use Rattle.medium.specs.Moments.{EachCut, IsFlushed, LeavesOnly, IsQuiet, SparesFrom}
 use Rattle.medium.specs.Blocks.{Array}
 use Rattle.medium.specs.declared.fault.MediumFault.{MediumFault}
 use Rattle.medium.proofs.Moments.{quiet_joined}
-use Rattle.log_layout.specs.Places.{Shape, sectors_of}
+use Rattle.log_layout.specs.Places.{Shape, first_home, sectors_of}
 use Rattle.log_layout.specs.Values.{shape_of}
 use Rattle.log_image.specs.Record.{Entry}
 use Rattle.log_image.specs.Formats.{IsWhole}
@@ -14,18 +14,20 @@ use Rattle.log_image.specs.ImageFaults.{HasShape}
 use Rattle.recovery.specs.Calls.{CopiesPass, MovesHead}
 use Rattle.recovery.specs.Copies.{most_calls_of, most_start_of, AreCopied, IsHomeInRecords, HasNewHead}
 use Rattle.recovery.specs.Found.{IsFound, IsSurvey, SurveysAtMost}
+use Rattle.recovery.specs.Looks.{LooksAtLog}
 use Rattle.recovery.specs.Recovered.{IsRecoveredFrom, IsFresh, RecoverySends, RecoveryLeaves}
 use Rattle.recovery.specs.declared.found.Found.{Found}
 use Rattle.recovery.proofs.Finding.{found_before, shape_after}
 use Rattle.recovery.proofs.Recovering.{quiet_cuts, quiet_made, calls_made, made_joined, seen_cuts, seen_after, later_cuts, later_after}
 use Rattle.recovery.proofs.Recovering.{one_shape, copied_leaves, moved_leaves, recovered_fresh, recovered_from}
+use Rattle.recovery.proofs.Sighting.{none_looked, looked_later, looked_on}
 use Rattle.recovery.proofs.Sparing.{quiet_spares, copies_spare, moves_spare, found_spares}
 use Rattle.recovery.proofs.Trying.{most_start, few_start, few_starts}
 
 -- a flush
 pub flush_leaves : (old mid : State) → IsSound old → IsQuiet old mid → mid.calls ≡ old.calls + 1 → RecoverySends old mid
-    → RecoveryLeaves old mid
-flush_leaves old mid sound flushed counted sends = record {
+    → mid.looked ≡ old.looked → RecoveryLeaves old mid
+flush_leaves old mid sound flushed counted sends same = record {
   cuts = quiet_cuts old mid sound flushed;
   after_flush = λ shape array next ours more. absurd (omega (arith, counted, more));
   spares = quiet_spares old mid sound flushed;
@@ -33,6 +35,7 @@ flush_leaves old mid sound flushed counted sends = record {
   calls = omega (arith, counted);
   most = λ shape has. omega (arith, counted);
   sends = sends;
+  looks = none_looked old mid same;
 }
 
 module _ (old mid seen : State) (sound : IsSound old) (sound_mid : IsSound mid) (flushed : IsQuiet old mid)
@@ -41,8 +44,8 @@ module _ (old mid seen : State) (sound : IsSound old) (sound_mid : IsSound mid) 
   quiet = quiet_joined old mid seen flushed reads.quiet
 
   -- and the survey
-  pub survey_leaves : RecoverySends old seen → RecoveryLeaves old seen
-  survey_leaves sends = record {
+  pub survey_leaves : RecoverySends old seen → mid.looked ≡ old.looked → RecoveryLeaves old seen
+  survey_leaves sends same = record {
     cuts = seen_cuts old mid seen sound sound_mid flushed counted only reads.quiet;
     after_flush = λ shape array next ours more image since.
         seen_after old mid seen sound sound_mid flushed counted only reads.quiet shape array next ours image since;
@@ -52,6 +55,7 @@ module _ (old mid seen : State) (sound : IsSound old) (sound_mid : IsSound mid) 
     most = λ shape has.
         few_start shape.format old.calls mid.calls seen.calls counted (reads.most shape (shape_after old mid shape flushed has));
     sends = sends;
+    looks = looked_later old mid seen flushed same reads.looks;
   }
 
   module _ (least : ℕ) (found : Found) (survey : IsSurvey least mid seen found) (copied : State) (sound_copied : IsSound copied)
@@ -83,9 +87,14 @@ module _ (old mid seen : State) (sound : IsSound old) (sound_mid : IsSound mid) 
     made : LeavesOnly (λ _. Unit {0}) old copied
     made = made_joined old seen copied (quiet_made old seen sound quiet) (calls_made _ seen copied copies.moments)
 
+    -- each read before the head moves names a sector of the log
+    pub copies_look : mid.looked ≡ old.looked → LooksOnly (λ s. s < first_home (shape_of found.sizes)) seen copied → LooksAtLog old copied
+    copies_look same named =
+        looked_on (shape_of found.sizes) old seen copied found_old.shape (looked_later old mid seen flushed same reads.looks) named
+
     -- and the copies
-    pub copies_leave : RecoverySends old copied → RecoveryLeaves old copied
-    copies_leave sends =
+    pub copies_leave : RecoverySends old copied → LooksAtLog old copied → RecoveryLeaves old copied
+    copies_leave sends looks =
         let ours = copied_leaves old mid seen sound sound_mid flushed counted only reads.quiet found survey.is
         copied sound_copied copies.moments in
         let same = one_shape old mid seen sound sound_mid flushed counted only reads.quiet found survey.is in
@@ -99,6 +108,7 @@ module _ (old mid seen : State) (sound : IsSound old) (sound_mid : IsSound mid) 
           calls = few_starts found.sizes.format old.calls copied.calls (few_made copied (omega arith));
           most = few_by_shape copied (omega arith);
           sends = sends;
+          looks = looks;
         }
 
     module _ (done : (records : List (List Entry)) → found.count ≡ length records
@@ -107,8 +117,8 @@ module _ (old mid seen : State) (sound : IsSound old) (sound_mid : IsSound mid) 
         (new : State) {Y : Type 0} {answer : Result Y MediumFault}
         (moves : MovesHead (found.head + found.count + 1) copied new answer) where
       -- and the new head
-      pub moves_leave : RecoverySends old new → RecoveryLeaves old new
-      moves_leave sends =
+      pub moves_leave : RecoverySends old new → LooksAtLog old new → RecoveryLeaves old new
+      moves_leave sends looks =
           let ours = moved_leaves old mid seen sound sound_mid flushed counted only reads.quiet found survey.is copied sound_copied
           copies.moments
           copies.elsewhere done new moves.moments in
@@ -123,6 +133,7 @@ module _ (old mid seen : State) (sound : IsSound old) (sound_mid : IsSound mid) 
             calls = few_starts found.sizes.format old.calls new.calls (few_made new moves.calls);
             most = few_by_shape new moves.calls;
             sends = sends;
+            looks = looks;
           }
 
       module _ (moved : HasNewHead (found.head + found.count + 1) copied.content new.content) (flush : IsFlushed new) where

@@ -86,6 +86,7 @@ nothing_done shape m sound = record {
   cuts = started (IsMidFormat shape m) m sound (λ image cut. inl cut);
   after_flush = λ many. absurd (omega (arith, many));
   spares = spared_start (sectors_of shape) m sound;
+  looked_stays = λ i. m.looked;
 }
 
 module _ (shape : Shape) (old first : State) (some : 2 ≤ sectors_of shape) (zeros : List ℕ) (are : zeros ≡ replicate 512 0)
@@ -99,21 +100,23 @@ module _ (shape : Shape) (old first : State) (some : 2 ≤ sectors_of shape) (ze
   first_spares : SparesFrom (sectors_of shape) old first
   first_spares = through_spares (sectors_of shape) 0 zeros old first (omega (arith, some)) sound elsewhere moments
 
-  pub first_leaves : first.calls ≤ old.calls + 2 → FormatLeaves shape old first
-  first_leaves few = record {
+  pub first_leaves : first.calls ≤ old.calls + 2 → first.looked ≡ old.looked → FormatLeaves shape old first
+  first_leaves few looked = record {
     cuts = first_cuts;
     after_flush = λ many. absurd (omega (arith, few, many));
     spares = first_spares;
+    looked_stays = looked;
   }
 
   -- what follows
   pub then_leaves : (new : State) → first.calls ≡ old.calls + 2 → LeavesOnly (IsNoneOrNew old.size shape) first new
-      → SparesFrom (sectors_of shape) first new → FormatLeaves shape old new
-  then_leaves new counted later spares = record {
+      → SparesFrom (sectors_of shape) first new → new.looked ≡ old.looked → FormatLeaves shape old new
+  then_leaves new counted later spares looked = record {
     cuts = joined_same (IsMidFormat shape old) old first new first_cuts
         (weaker (IsNoneOrNew old.size shape) (IsMidFormat shape old) first new (λ image is. inr is) later);
     after_flush = λ many image since. later.each image (subst (λ (t : ℕ). new.left_since t image) (sym counted) since);
     spares = spared_joined (sectors_of shape) old first new first_spares spares;
+    looked_stays = looked;
   }
 
 -- sector 0 has zeros

@@ -30,6 +30,7 @@ use Rattle.recovery.proofs.Copying.{log_ends}
 use Rattle.recovery.proofs.Recovering.{calls_made, made_joined}
 use Rattle.recovery.proofs.Replaying.{fresh_ours}
 use Rattle.recovery.proofs.Sending.{start_migrates, made_migrates}
+use Rattle.recovery.proofs.Sighting.{looked_before}
 
 module _ (shape : Shape) (array : Array) (next : ℕ) (before image : Image) (fresh : IsFresh shape array next before) where
   ends : 2 + (layout_of shape.format).slot_sectors * shape.slots ≤ first_home shape
@@ -155,6 +156,7 @@ recovery_leaves old new leaves = record {
   moments = leaves.all.moments;
   calls = leaves.all.calls;
   sends = λ shape has. start_migrates shape.format shape.slots (sent old) (sent new) (leaves.all.sends.most shape has);
+  looks = leaves.all.looks;
 }
 
 module _ (old mid : State) (found : Recovered) (recovered : IsRecoveredFrom old mid found) (enough : ¬ HasFewSlots 5 old.size old.content)
@@ -242,8 +244,8 @@ module _ (old mid : State) (found : Recovered) (recovered : IsRecoveredFrom old 
           (subst (λ (s : Shape). IsOurs old.size s old.content array next) same.0 ours))))
 
       pub migration_leaves : LeavesAtLeast 5 old mid → new.calls ≤ mid.calls + (50 * found.sizes.slots + 5)
-          → SendsUpTo (50 * found.sizes.slots + 5) mid new → MigrationLeaves old new
-      migration_leaves start last making = record {
+          → SendsUpTo (50 * found.sizes.slots + 5) mid new → new.looked ≡ mid.looked → MigrationLeaves old new
+      migration_leaves start last making same = record {
         cuts = λ each. joined_same (StandsInEither old) old mid new (first.cuts each) (later each);
         after_flush = λ shape array next ours more image since. ⊎_elim
             (λ was. first.after_flush shape array next ours some_calls image was) (λ now. now)
@@ -270,6 +272,7 @@ module _ (old mid : State) (found : Recovered) (recovered : IsRecoveredFrom old 
             (made_migrates found.sizes.format found.sizes.slots (sent old) (sent mid) (sent new) one
             (start.all.sends.most (shape_of found.sizes)
             (StandsFor-shape old.size (shape_of found.sizes) old.content recovered.array found.next recovered.stood)) making);
+        looks = looked_before old mid new start.all.looks same;
       }
         where
           first : MigrationLeaves old mid

@@ -43,6 +43,8 @@ pub record FormatLeaves (shape : Shape) (old new : State) : Type 0 where
       → new.left_since (old.calls + 2) image
       → IsNoneOrNew old.size shape image
   pub spares : SparesFrom (sectors_of shape) old new
+  -- nothing is read
+  pub looked_stays : new.looked ≡ old.looked
 
 -- why a format is refused: by the sizes, or, where they are good, by the medium
 abbrev pub IsFormatCause : Shape → State → State → FormatFault → Type 0

@@ -9,6 +9,7 @@ use Rattle.log_image.specs.Standing.{IsCount}
 use Rattle.log_image.specs.ImageFaults.{HasShape}
 use Rattle.recovery.specs.Causes.{HasFewSlots, MakesReadsAlone}
 use Rattle.recovery.specs.Copies.{AreTries, most_reads_of}
+use Rattle.recovery.specs.Looks.{LooksAtLog}
 use Rattle.recovery.specs.declared.found.Found.{Found}
 
 -- the image of a medium of so many sectors has none of the faults, and this is what it has
@@ -34,3 +35,4 @@ pub record SurveysAtMost (old new : State) : Type 0 where
   pub calls : new.calls ≤ old.calls + 2 + 249 * 64
   pub most : (shape : Shape) → HasShape old.size shape old.content
       → new.calls ≤ old.calls + 2 + most_reads_of shape.format * 64
+  pub looks : LooksAtLog old new

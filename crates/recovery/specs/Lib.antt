@@ -1,7 +1,8 @@
-pub mod Causes
 pub mod Calls
-pub mod Found
+pub mod Causes
 pub mod Copies
-pub mod Recovered
 pub mod Formatted
+pub mod Found
+pub mod Looks
 pub mod Migrated
+pub mod Recovered

@@ -14,6 +14,7 @@ use Rattle.log_image.specs.Standing.{StandsFor, IsOurs}
 use Rattle.recovery.specs.Causes.{HasFewSlots, WritesNothing, IsRefusalBy, IsDeviceFault}
 use Rattle.log_image.specs.ImageFaults.{HasShape}
 use Rattle.recovery.specs.Copies.{copy_calls, most_start_sends, AreTries}
+use Rattle.recovery.specs.Looks.{LooksAtLog}
 use Rattle.recovery.specs.Recovered.{IsRecoveredFrom, IsFresh, SparesTheRest}
 use Rattle.recovery.specs.Recovered.{IsOursForSome, IsOursWithNext}
 use Rattle.recovery.specs.declared.recovered.Recovered.{Recovered}
@@ -54,6 +55,8 @@ pub record MakingLeaves (shape : Shape) (next : ℕ) (old new : State) : Type 0 
   pub spares : SparesFrom (first_home shape) old new
   -- a write for each sector of the log, a flush, the head, a flush, the super and a flush
   pub sends : SendsUpTo (50 * shape.slots + 5) old new
+  -- nothing is read
+  pub looked_stays : new.looked ≡ old.looked
 
 -- The answer is what contents of format 1 stood for, with a stamp left for the next record, and the
 -- sizes of format 2. They have become format 2, with the head at that stamp and the array at home,
@@ -129,3 +132,4 @@ pub record MigrationLeaves (old new : State) : Type 0 where
   pub calls : new.calls ≤ old.calls + 6 + 738 * 64
   pub sends : (shape : Shape) → HasShape old.size shape old.content
       → SendsUpTo (most_migration_sends shape.format shape.slots) old new
+  pub looks : LooksAtLog old new

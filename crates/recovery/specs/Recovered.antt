@@ -13,6 +13,7 @@ use Rattle.log_image.specs.Standing.{StandsFor, IsOurs}
 use Rattle.log_image.specs.ImageFaults.{HasShape}
 use Rattle.recovery.specs.Causes.{HasFewSlots, IsCause, IsDeviceFault}
 use Rattle.recovery.specs.Copies.{copy_calls, most_start_of, most_start_sends, AreTries}
+use Rattle.recovery.specs.Looks.{LooksAtLog}
 use Rattle.recovery.specs.declared.recovered.Recovered.{Recovered}
 use Rattle.recovery.specs.declared.start_fault.StartFault.{StartFault}
 
@@ -96,6 +97,8 @@ pub record RecoveryLeaves (old new : State) : Type 0 where
   pub most : (shape : Shape) → HasShape old.size shape old.content
       → new.calls ≤ old.calls + 6 + most_start_of shape.format * 64
   pub sends : RecoverySends old new
+  -- Whatever the image: a sector that is no part of the log is not read.
+  pub looks : LooksAtLog old new
 
 -- Why a recovery is refused. Contents that stand for something with a stamp left are refused by the
 -- device alone.

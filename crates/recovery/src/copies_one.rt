@@ -1,5 +1,6 @@
 //! The copying of a whole record home, in format 1.
 ghost use Rattle.std.specs.Prelude.{◌≡◌, ◌<◌, ◌≤◌, ◌+◌, ◌*◌, List, ℕ, OnOk, length, slice_index, All};
+ghost use Rattle.medium.specs.Medium.{LooksOnly};
 ghost use Rattle.medium.specs.Sent.{SendsUpTo};
 ghost use Rattle.log_layout.specs.declared.log_format.LogFormat.TheVariants.{One};
 ghost use Rattle.log_layout.specs.Places.{first_home, sectors_of};
@@ -34,7 +35,8 @@ fn copy_blocks<M: Medium>(
     ensures copies { CopiesAllPass (IsHomeOf (shape_of sizes.now) numbers.now)
         (2 * length numbers.now) (M.state m.old) (M.state m.new) result }
     ensures sends { SendsUpTo (length numbers.now) (M.state m.old) (M.state m.new) }
-    ensures follows { M.follows m.old m.new }
+    ensures follows { M.follows m.old m.new
+        × LooksOnly (λ s. s < first_home (shape_of sizes.now)) (M.state m.old) (M.state m.new) }
 {
     for i in 0..numbers.len() {
         copy_sector(
@@ -64,7 +66,8 @@ pub(crate) fn copy_record<M: Medium>(
         (IsHomeInRecord (shape_of sizes.now) (M.state m.old).content stamp) 98
         (M.state m.old) (M.state m.new) result }
     ensures sends { SendsUpTo 48 (M.state m.old) (M.state m.new) }
-    ensures follows { M.follows m.old m.new }
+    ensures follows { M.follows m.old m.new
+        × LooksOnly (λ s. s < first_home (shape_of sizes.now)) (M.state m.old) (M.state m.new) }
 {
     match read_record(m, sizes, stamp)? {
         None => Ok(()),

@@ -1,5 +1,6 @@
 //! The copying of a whole record home, in format 2.
 ghost use Rattle.std.specs.Prelude.{◌≡◌, ◌<◌, ◌≤◌, ◌+◌, ◌*◌, List, ℕ, OnOk, [], ◌++◌, length, slice_index, get_or, drop, All};
+ghost use Rattle.medium.specs.Medium.{LooksOnly};
 ghost use Rattle.medium.specs.Sent.{SendsUpTo};
 ghost use Rattle.log_layout.specs.declared.log_format.LogFormat.TheVariants.{Two};
 ghost use Rattle.log_layout.specs.Places.{first_home, sectors_of};
@@ -34,7 +35,8 @@ fn copy_named<M: Medium>(
         (2 * length descriptor.now.numbers.items) (M.state m.old) (M.state m.new) result }
     ensures sends { SendsUpTo (length descriptor.now.numbers.items)
         (M.state m.old) (M.state m.new) }
-    ensures follows { M.follows m.old m.new }
+    ensures follows { M.follows m.old m.new
+        × LooksOnly (λ s. s < first_home (shape_of sizes.now)) (M.state m.old) (M.state m.new) }
 {
     for e in 0..descriptor.numbers.len() {
         copy_sector(
@@ -64,7 +66,8 @@ pub(crate) fn copy_record<M: Medium>(
         (IsHomeInRecord (shape_of sizes.now) (M.state m.old).content stamp) 489
         (M.state m.old) (M.state m.new) result }
     ensures sends { SendsUpTo 240 (M.state m.old) (M.state m.new) }
-    ensures follows { M.follows m.old m.new }
+    ensures follows { M.follows m.old m.new
+        × LooksOnly (λ s. s < first_home (shape_of sizes.now)) (M.state m.old) (M.state m.new) }
 {
     let slot = slot_of(stamp, sizes.slots);
     let Some(count) = read_count(m, slot, stamp)? else {

@@ -1,5 +1,5 @@
 //! The move of the head.
-ghost use Rattle.std.specs.Prelude.{◌<◌, ◌≤◌, ◌^◌, OnOk};
+ghost use Rattle.std.specs.Prelude.{◌≡◌, ◌<◌, ◌≤◌, ◌^◌, OnOk};
 ghost use Rattle.medium.specs.Sent.{SendsUpTo};
 ghost use Rattle.medium.specs.Moments.{IsFlushed};
 ghost use Rattle.recovery.specs.Calls.{MovesHead};
@@ -18,7 +18,8 @@ pub(crate) fn move_head<M: Medium>(m: &mut M, stamp: u64) -> Result<(), MediumFa
         × IsFlushed (M.state m.new)) }
     ensures moves { MovesHead stamp (M.state m.old) (M.state m.new) result }
     ensures sends { SendsUpTo 3 (M.state m.old) (M.state m.new) }
-    ensures follows { M.follows m.old m.new }
+    ensures follows { M.follows m.old m.new
+        × ((M.state m.new).looked ≡ (M.state m.old).looked) }
 {
     m.flush()?;
     m.write(1, &Head::new(stamp).encode())?;

@@ -1,7 +1,8 @@
 //! The record of a stamp, in format 1.
-ghost use Rattle.std.specs.Prelude.{◌≡◌, ◌≤◌, List, IfOk, IfSome, IsSomeAnd};
+ghost use Rattle.std.specs.Prelude.{◌≡◌, ◌<◌, ◌≤◌, List, IfOk, IfSome, IsSomeAnd};
+ghost use Rattle.medium.specs.Medium.{LooksOnly};
 ghost use Rattle.log_layout.specs.declared.log_format.LogFormat.TheVariants.{One};
-ghost use Rattle.log_layout.specs.Places.{sectors_of};
+ghost use Rattle.log_layout.specs.Places.{first_home, sectors_of};
 ghost use Rattle.log_layout.specs.Values.{shape_of};
 ghost use Rattle.log_image.specs.Record.{Entry, numbers_of};
 ghost use Rattle.log_image.specs.Formats.{IsWhole};
@@ -25,7 +26,8 @@ pub(crate) fn read_record<M: Medium>(
     ensures all { (entries : List Entry)
         → IsWhole (shape_of sizes.now) (M.state m.old).content stamp entries
         → IfOk result (λ found. IsSomeAnd found (λ d. d.numbers.items ≡ numbers_of entries)) }
-    ensures follows { M.follows m.old m.new }
+    ensures follows { M.follows m.old m.new
+        × LooksOnly (λ s. s < first_home (shape_of sizes.now)) (M.state m.old) (M.state m.new) }
 {
     let slot = slot_of(stamp, sizes.slots);
     let mut descriptor = [0; 512];

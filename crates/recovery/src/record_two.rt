@@ -1,7 +1,8 @@
 //! Whether the record of a stamp is whole, in format 2.
 ghost use Rattle.std.specs.Prelude.{◌≡◌, ◌≤◌, ◌<◌, ◌+◌, ◌*◌, ℕ, List, length, All, IfOk, IfSome, IsSomeAnd, IsTrue, ◌↔◌};
+ghost use Rattle.medium.specs.Medium.{LooksOnly};
 ghost use Rattle.log_layout.specs.declared.log_format.LogFormat.TheVariants.{Two};
-ghost use Rattle.log_layout.specs.Places.{sectors_of};
+ghost use Rattle.log_layout.specs.Places.{first_home, sectors_of};
 ghost use Rattle.log_layout.specs.Sectors.{IsRising};
 ghost use Rattle.log_layout.specs.SectorsTwo.{IsDescriptorTwo, IsCommitTwo};
 ghost use Rattle.log_layout.specs.Values.{shape_of};
@@ -44,7 +45,8 @@ pub(crate) fn read_count<M: Medium>(
         IsCommitTwo stamp count ((M.state m.old).content (2 + 249 * slot + 248)))) }
     ensures all { (n : ℕ) → IsCommitTwo stamp n ((M.state m.old).content (2 + 249 * slot + 248))
         → IfOk result (λ found. IsSomeAnd found (λ k. k ≡ n)) }
-    ensures follows { M.follows m.old m.new }
+    ensures follows { M.follows m.old m.new
+        × LooksOnly (λ s. s < 2 + 249 * slot + 249) (M.state m.old) (M.state m.new) }
 {
     let mut commit = [0; 512];
     m.read(place_of2(slot) + COMMIT, &mut commit)?;
@@ -72,7 +74,8 @@ pub(crate) fn read_descriptor<M: Medium>(
     ensures all { (numbers : List ℕ) (firsts : List (List ℕ)) → IsDescriptorTwo stamp count j
         numbers firsts ((M.state m.old).content (2 + 249 * slot + j)) → IfOk result (λ found.
         IsSomeAnd found (λ d. (d.numbers.items ≡ numbers) × (d.firsts.items ≡ firsts))) }
-    ensures follows { M.follows m.old m.new }
+    ensures follows { M.follows m.old m.new
+        × LooksOnly (λ s. s < 2 + 249 * slot + 249) (M.state m.old) (M.state m.new) }
 {
     let mut sector = [0; 512];
     m.read(place_of2(slot) + j, &mut sector)?;
@@ -102,7 +105,8 @@ fn read_numbers<M: Medium>(
     ensures all { (numbers : List ℕ) → length numbers ≡ count
         → HasDescriptors (M.state m.old).content (2 + 249 * slot) stamp numbers
         → IfOk result (λ found. IsSomeAnd found (λ read. read.items ≡ numbers)) }
-    ensures follows { M.follows m.old m.new }
+    ensures follows { M.follows m.old m.new
+        × LooksOnly (λ s. s < 2 + 249 * slot + 249) (M.state m.old) (M.state m.new) }
 {
     let mut numbers = ArrayVec::new();
     for j in 0..count.div_ceil(ENTRIES) {
@@ -131,7 +135,8 @@ fn are_stamped<M: Medium>(m: &mut M, slot: u64, stamp: u64, count: u64) -> Resul
     ensures passes { ReadsPass count (M.state m.old) (M.state m.new) result }
     ensures stamped { IfOk result (λ good. IsTrue good
         ↔ HasPlaces (M.state m.old).content (2 + 249 * slot) stamp count) }
-    ensures follows { M.follows m.old m.new }
+    ensures follows { M.follows m.old m.new
+        × LooksOnly (λ s. s < 2 + 249 * slot + 249) (M.state m.old) (M.state m.new) }
 {
     let mut sector = [0; 512];
     for i in 0..count {
@@ -150,7 +155,8 @@ pub(crate) fn is_whole<M: Medium>(m: &mut M, sizes: &Super, stamp: u64) -> Resul
     ensures passes { ReadsPass 249 (M.state m.old) (M.state m.new) result }
     ensures whole { IfOk result (λ whole. IsTrue whole
         ↔ HasWhole (shape_of sizes.now) (M.state m.old).content stamp) }
-    ensures follows { M.follows m.old m.new }
+    ensures follows { M.follows m.old m.new
+        × LooksOnly (λ s. s < first_home (shape_of sizes.now)) (M.state m.old) (M.state m.new) }
 {
     let slot = slot_of(stamp, sizes.slots);
     let Some(count) = read_count(m, slot, stamp)? else {

@@ -17,7 +17,8 @@ pub(crate) fn clear<M: Medium>(m: &mut M, from: u64, end: u64) -> Result<(), Med
     ensures clears { ClearsAllPass (IsBetween from end) (end - from)
         (M.state m.old) (M.state m.new) result }
     ensures sends { SendsUpTo (end - from) (M.state m.old) (M.state m.new) }
-    ensures follows { M.follows m.old m.new }
+    ensures follows { M.follows m.old m.new
+        × ((M.state m.new).looked ≡ (M.state m.old).looked) }
 {
     for sector in from..end {
         m.write(sector, &[0; 512])?;
@@ -39,7 +40,8 @@ pub(crate) fn write_through<M: Medium>(
         (WithOrWithout place sector.now (M.state m.old).may_leave) 2
         (M.state m.old) (M.state m.new) result }
     ensures sends { SendsUpTo 2 (M.state m.old) (M.state m.new) }
-    ensures follows { M.follows m.old m.new }
+    ensures follows { M.follows m.old m.new
+        × ((M.state m.new).looked ≡ (M.state m.old).looked) }
 {
     m.write(place, sector)?;
     m.flush()

@@ -1,8 +1,9 @@
 //! What recovery reads before its first write.
 ghost use Rattle.std.specs.Prelude.{◌≡◌, ◌<◌, ◌≤◌, ◌+◌, ◌*◌, ◌^◌, ℕ, OnOk, IfOk, IfErr, min, IsTrue, ◌↔◌};
+ghost use Rattle.medium.specs.Medium.{LooksOnly};
 ghost use Rattle.medium.specs.Moments.{IsQuiet};
 ghost use Rattle.log_layout.specs.declared.log_format.LogFormat.TheVariants.{One};
-ghost use Rattle.log_layout.specs.Places.{sectors_of};
+ghost use Rattle.log_layout.specs.Places.{first_home, sectors_of};
 ghost use Rattle.log_layout.specs.Values.{shape_of};
 ghost use Rattle.log_image.specs.Formats.{HasWhole};
 ghost use Rattle.log_image.specs.Standing.{IsCount};
@@ -27,7 +28,8 @@ fn is_whole<M: Medium>(m: &mut M, sizes: &Super, stamp: u64) -> Result<bool, Med
         (AreTries sizes.now.format 1 (M.state m.old).calls (M.state m.new).calls) }
     ensures whole { IfOk result (λ whole. IsTrue whole
         ↔ HasWhole (shape_of sizes.now) (M.state m.old).content stamp) }
-    ensures follows { M.follows m.old m.new }
+    ensures follows { M.follows m.old m.new
+        × LooksOnly (λ s. s < first_home (shape_of sizes.now)) (M.state m.old) (M.state m.new) }
 {
     match sizes.format {
         LogFormat::One => Ok(read_record(m, sizes, stamp)?.is_some()),
@@ -44,7 +46,8 @@ fn count_whole<M: Medium>(m: &mut M, sizes: &Super, head: u64) -> Result<u64, Me
     ensures exact { IfOk result (λ count. AreTries sizes.now.format
         (min (count + 1) sizes.now.slots) (M.state m.old).calls (M.state m.new).calls) }
     ensures count { IfOk result (IsCount (shape_of sizes.now) (M.state m.old).content head) }
-    ensures follows { M.follows m.old m.new }
+    ensures follows { M.follows m.old m.new
+        × LooksOnly (λ s. s < first_home (shape_of sizes.now)) (M.state m.old) (M.state m.new) }
 {
     for j in 0..sizes.slots {
         if !is_whole(m, sizes, head + j)? {
@@ -62,7 +65,8 @@ fn read_super<M: Medium>(m: &mut M) -> Result<Super, StartFault>
         → IfErr result (IsRefusalBy least IsQuiet (M.state m.old) (M.state m.new)) }
     ensures ok { IfOk result (λ sizes.
         HasShape (M.state m.old).size (shape_of sizes) (M.state m.old).content) }
-    ensures follows { M.follows m.old m.new }
+    ensures follows { M.follows m.old m.new
+        × LooksOnly (λ s. s ≡ 0) (M.state m.old) (M.state m.new) }
 {
     if m.sectors() == 0 {
         return Err(StartFault::BadSize);

@@ -1,5 +1,5 @@
 -- What one call more of a medium that reads on demand is counted as, and which sector it names.
-use Rattle.std.proofs.Common.{◌≡◌, ◌≢◌, ℕ, true, List, [], ◌∷◌, ◌++◌, Result, Ok, Err, refl, sym, ap, subst}
+use Rattle.std.proofs.Common.{◌≡◌, ◌≢◌, ℕ, true, [], ◌∷◌, ◌++◌, Result, Ok, Err, refl, ap}
 use Rattle.std.proofs.lemmas.List.Elements.{All-nil, All-cons}
 use Rattle.medium.specs.Medium.{Passes, LooksOnly}
 use Rattle.medium.specs.declared.fault.MediumFault.{MediumFault}

@@ -10,6 +10,7 @@ use Rattle.recovery.proofs.Copying.{none_copied, copies_joined, record_home, one
 use Rattle.recovery.proofs.Copying.{copy_calls-more}
 use Rattle.recovery.proofs.Trying.{no_calls, most_more, most_stays}
 use Rattle.recovery.proofs.Sending.{no_sends, sends_more, sends_stay}
+use Rattle.medium.proofs.Looking.{no_looks, looks_joined}
 use Rattle.recovery.proofs.copies.copy_records.Goals as goal
 
 pub copy_record-requires-clause-fits : goal.copy_record-requires-clause-fits
@@ -40,6 +41,8 @@ loop-j-init g c = record {
   exact = λ records count whole. omega arith;
   sends = no_sends c.args.found.now.sizes.format (sent (g.M.Medium.state c.args.m.now));
   follows = g.met.M.Medium.follows_itself c.args.m.now;
+  looks = no_looks (λ s. s < first_home (shape_of c.args.found.now.sizes)) (g.M.Medium.state c.args.m.now)
+      (g.M.Medium.state c.args.m.now) refl;
 }
 
 pub returns-in_err-copy_record-clause-copies : goal.returns-in_err-copy_record-clause-copies
@@ -108,7 +111,8 @@ loop-j-preserved g c =
           let more = copy_calls-more found.sizes.format j records short in
           omega (arith, before, made, more);
       sends = sends_more found.sizes.format j (sent old) (sent mid) (sent new) inv.sends c.copy_record.ensures.sends;
-      follows = g.met.M.Medium.follows_through c.args.m.now c.loop-j.m c.copy_record.new.m inv.follows c.copy_record.ensures.follows;
+      follows = g.met.M.Medium.follows_through c.args.m.now c.loop-j.m c.copy_record.new.m inv.follows c.copy_record.ensures.follows.0;
+      looks = looks_joined (λ s. s < first_home shape) old mid new inv.looks c.copy_record.ensures.follows.1;
     }
 
 pub returns-clause-done : goal.returns-clause-done
@@ -138,3 +142,11 @@ returns-clause-sends g c =
     let old = g.M.Medium.state c.args.m.now in
     let new = g.M.Medium.state c.loop-j.m in
     sends_stay format c.loop-j.j c.args.found.now.count (sent old) (sent new) (omega arith) c.loop-j.invariant.sends
+
+pub returns-in_err-copy_record-clause-follows : goal.returns-in_err-copy_record-clause-follows
+returns-in_err-copy_record-clause-follows g c =
+    let inv = c.loop-j.invariant in (
+      g.met.M.Medium.follows_through c.args.m.now c.loop-j.m c.copy_record.new.m inv.follows c.copy_record.ensures.follows.0,
+      looks_joined (λ s. s < first_home (shape_of c.args.found.now.sizes)) (g.M.Medium.state c.args.m.now) (g.M.Medium.state c.loop-j.m)
+          (g.M.Medium.state c.copy_record.new.m) inv.looks c.copy_record.ensures.follows.1,
+    )

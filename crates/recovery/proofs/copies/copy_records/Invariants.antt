@@ -1,4 +1,5 @@
 use Rattle.std.proofs.Common.{◌≡◌, ◌<◌, ◌≤◌, ◌+◌, ◌*◌, List, ℕ, length, take, get_or, []}
+use Rattle.medium.specs.Medium.{LooksOnly}
 use Rattle.medium.specs.Moments.{StaysWithin}
 use Rattle.log_layout.specs.Places.{first_home, limit_of}
 use Rattle.log_layout.specs.Values.{shape_of}
@@ -29,4 +30,5 @@ invariant-loop-j g l = record {
       → (g.M.Medium.state l.m).calls ≡ (g.M.Medium.state l.fn.m).calls + copy_calls l.found.sizes.format (take l.j records);
   sends : SendsUpTo (limit_of l.found.sizes.format * l.j) (g.M.Medium.state l.fn.m) (g.M.Medium.state l.m);
   follows : g.M.Medium.follows l.fn.m l.m;
+  looks : LooksOnly (λ s. s < first_home (shape_of l.found.sizes)) (g.M.Medium.state l.fn.m) (g.M.Medium.state l.m);
 }

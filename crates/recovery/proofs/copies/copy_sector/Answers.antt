@@ -1,5 +1,6 @@
-use Rattle.std.proofs.Common.{ℕ, List, ◌++◌, length, drop, rules}
+use Rattle.std.proofs.Common.{◌≡◌, ℕ, List, ◌++◌, length, drop, rules}
 use Rattle.recovery.proofs.Copying.{sector_copied}
+use Rattle.medium.proofs.Looking.{write_looks, looks_joined}
 use Rattle.recovery.proofs.copies.copy_sector.Goals as goal
 
 pub returns-clause-copies : goal.returns-clause-copies
@@ -16,3 +17,13 @@ returns-clause-copies g c =
       exact = search rules;
       cause = search rules;
     }
+
+pub returns-clause-follows : goal.returns-clause-follows
+returns-clause-follows g c =
+    let old = g.M.Medium.state c.args.m.now in
+    let mid = g.M.Medium.state c.read.new.self in
+    let new = g.M.Medium.state c.write.new.self in (
+      g.met.M.Medium.follows_through c.args.m.now c.read.new.self c.write.new.self c.read.ensures.follows.0 c.write.ensures.follows,
+      looks_joined (λ s. s ≡ c.args.from) old mid new c.read.ensures.follows.1
+          (write_looks (λ s. s ≡ c.args.from) mid new c.write.ensures.passes),
+    )

@@ -1,10 +1,11 @@
-use Rattle.std.proofs.Common.{◌≡◌, ◌≢◌, inl, inr, ◌∙◌, ◌+◌, ◌*◌, ℕ, get_or, refl, sym, ap, arith, rules}
+use Rattle.std.proofs.Common.{◌≡◌, ◌≢◌, ◌<◌, inl, inr, ◌∙◌, ◌+◌, ◌*◌, ℕ, get_or, refl, sym, ap, arith, rules}
 use Rattle.std.proofs.lemmas.Bool.{cases_eq}
 use Rattle.log_layout.specs.Places.{first_home}
 use Rattle.log_layout.specs.Values.{shape_of}
 use Rattle.recovery.specs.Copies.{IsHomeOf}
 use Rattle.recovery.proofs.Copying.{none_copied, copies_joined}
 use Rattle.recovery.proofs.WholeOne.{slot_one}
+use Rattle.medium.proofs.Looking.{no_looks, looks_joined, look_below}
 use Rattle.recovery.proofs.copies_one.copy_blocks.Goals as goal
 
 pub copy_sector-requires-clause-from_inside : goal.copy_sector-requires-clause-from_inside
@@ -28,6 +29,7 @@ loop-i-init g c = record {
   calls = omega arith;
   sends = omega arith;
   follows = g.met.M.Medium.follows_itself c.args.m.now;
+  looks = no_looks (λ s. s < first_home (shape_of c.args.sizes.now)) (g.M.Medium.state c.args.m.now) (g.M.Medium.state c.args.m.now) refl;
 }
 
 pub returns-in_err-copy_sector-clause-copies : goal.returns-in_err-copy_sector-clause-copies
@@ -81,5 +83,23 @@ loop-i-preserved g c =
           (λ x h. h) (λ x e. (i, inside, e ∙ to)) inv.within c.copy_sector.ensures.copies.moments;
       calls = omega (arith, inv.calls, c.in_ok-copy_sector.ensures.copies.exact);
       sends = omega (arith, inv.sends, c.copy_sector.ensures.sends);
-      follows = g.met.M.Medium.follows_through c.args.m.now c.loop-i.m c.copy_sector.new.m inv.follows c.copy_sector.ensures.follows;
+      follows = g.met.M.Medium.follows_through c.args.m.now c.loop-i.m c.copy_sector.new.m inv.follows c.copy_sector.ensures.follows.0;
+      looks = looks_joined (λ s. s < first_home shape) old mid new inv.looks
+          (look_below (first_home shape) mid new c.data_place.result (omega (arith, from, ends, few, inside))
+          c.copy_sector.ensures.follows.1);
     }
+
+pub returns-in_err-copy_sector-clause-follows : goal.returns-in_err-copy_sector-clause-follows
+returns-in_err-copy_sector-clause-follows g c =
+    let old = g.M.Medium.state c.args.m.now in
+    let mid = g.M.Medium.state c.loop-i.m in
+    let new = g.M.Medium.state c.copy_sector.new.m in
+    let shape = shape_of c.args.sizes.now in
+    let inv = c.loop-i.invariant in
+    let from : c.data_place.result ≡ 2 + 50 * c.args.slot + 1 + c.loop-i.i = c.data_place.ensures in
+    let ends = slot_one shape c.args.slot c.requires.format c.args.sizes.now.home_is c.requires.slot in (
+      g.met.M.Medium.follows_through c.args.m.now c.loop-i.m c.copy_sector.new.m inv.follows c.copy_sector.ensures.follows.0,
+      looks_joined (λ s. s < first_home shape) old mid new inv.looks
+          (look_below (first_home shape) mid new c.data_place.result
+          (omega (arith, from, ends, c.requires.few, c.loop-i-test.true)) c.copy_sector.ensures.follows.1),
+    )

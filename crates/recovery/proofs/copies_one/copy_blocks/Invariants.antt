@@ -1,4 +1,5 @@
 use Rattle.std.proofs.Common.{◌≡◌, ◌<◌, ◌+◌, ◌*◌, ℕ, get_or}
+use Rattle.medium.specs.Medium.{LooksOnly}
 use Rattle.medium.specs.Moments.{StaysWithin}
 use Rattle.log_layout.specs.Places.{first_home}
 use Rattle.log_layout.specs.Values.{shape_of}
@@ -17,4 +18,5 @@ invariant-loop-i g l = record {
   calls : (g.M.Medium.state l.m).calls ≡ (g.M.Medium.state l.fn.m).calls + 2 * l.i;
   sends : SendsUpTo l.i (g.M.Medium.state l.fn.m) (g.M.Medium.state l.m);
   follows : g.M.Medium.follows l.fn.m l.m;
+  looks : LooksOnly (λ s. s < first_home (shape_of l.sizes)) (g.M.Medium.state l.fn.m) (g.M.Medium.state l.m);
 }

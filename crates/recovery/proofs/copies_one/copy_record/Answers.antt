@@ -1,6 +1,7 @@
 use Rattle.std.proofs.Common.{◌≡◌, ◌∙◌, ◌+◌, ◌*◌, ◌%◌, ◌<◌, List, ℕ, length, sym, ap, subst, arith, rules, Result, Ok, Err}
 use Rattle.std.specs.Prelude.{All, IfSome, IsSomeAnd, OnOk}
 use Rattle.std.proofs.lemmas.Nat.{mod_below}
+use Rattle.log_layout.specs.Places.{first_home}
 use Rattle.log_layout.specs.Values.{shape_of}
 use Rattle.log_layout.specs.Sectors.{IsRising}
 use Rattle.log_image.specs.Record.{Entry, numbers_of}
@@ -9,6 +10,7 @@ use Rattle.log_image.proofs.ReadingOne.{place_there}
 use Rattle.recovery.specs.Copies.{calls_of, IsHomeOf, IsHomeInRecord}
 use Rattle.recovery.proofs.Copying.{quiet_within, copies_joined, number_of, long_as}
 use Rattle.recovery.proofs.WholeOne.{as_one}
+use Rattle.medium.proofs.Looking.{looks_joined}
 use Rattle.recovery.proofs.copies_one.copy_record.Goals as goal
 
 -- what follows from two facts at an `Ok`
@@ -119,3 +121,11 @@ returns-in-Some-clause-done g c entries whole =
           ∙ place_there shape old.content c.args.stamp entries w i below;
       exact = omega (arith, made, many, found.passes.exact, one);
     }) c.copy_blocks.ensures.done c.copy_blocks.ensures.copies.exact
+
+pub returns-in-Some-clause-follows : goal.returns-in-Some-clause-follows
+returns-in-Some-clause-follows g c = (
+  g.met.M.Medium.follows_through c.args.m.now c.read_record.new.m c.copy_blocks.new.m c.read_record.ensures.follows.0
+      c.copy_blocks.ensures.follows.0,
+  looks_joined (λ s. s < first_home (shape_of c.args.sizes.now)) (g.M.Medium.state c.args.m.now) (g.M.Medium.state c.read_record.new.m)
+      (g.M.Medium.state c.copy_blocks.new.m) c.read_record.ensures.follows.1 c.copy_blocks.ensures.follows.1,
+)

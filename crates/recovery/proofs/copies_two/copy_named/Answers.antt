@@ -1,9 +1,10 @@
-use Rattle.std.proofs.Common.{◌≡◌, ◌≢◌, inl, inr, ◌∙◌, ◌+◌, ◌*◌, ◌++◌, ◌<◌, ℕ, List, [], length, drop, get_or, sym, ap, arith, rules}
+use Rattle.std.proofs.Common.{◌≡◌, ◌≢◌, inl, inr, ◌∙◌, ◌+◌, ◌*◌, ◌++◌, ◌<◌, ℕ, List, [], length, drop, get_or, refl, sym, ap, arith, rules}
 use Rattle.std.proofs.lemmas.Bool.{cases_eq}
 use Rattle.log_layout.specs.Places.{first_home}
 use Rattle.log_layout.specs.Values.{shape_of}
 use Rattle.recovery.specs.Copies.{IsHomeOf}
-use Rattle.recovery.proofs.Copying.{copies_joined}
+use Rattle.recovery.proofs.Copying.{none_copied, copies_joined}
+use Rattle.medium.proofs.Looking.{no_looks, looks_joined, look_below}
 use Rattle.recovery.proofs.copies_two.copy_named.Goals as goal
 
 pub returns-in_err-copy_sector-clause-copies : goal.returns-in_err-copy_sector-clause-copies
@@ -72,5 +73,38 @@ loop-e-preserved g c =
           (λ x h. h) (λ x is. (e, inside, is ∙ to)) inv.within c.copy_sector.ensures.copies.moments;
       calls = omega (arith, inv.calls, c.in_ok-copy_sector.ensures.copies.exact);
       sends = omega (arith, inv.sends, c.copy_sector.ensures.sends);
-      follows = g.met.M.Medium.follows_through c.args.m.now c.loop-e.m c.copy_sector.new.m inv.follows c.copy_sector.ensures.follows;
+      follows = g.met.M.Medium.follows_through c.args.m.now c.loop-e.m c.copy_sector.new.m inv.follows c.copy_sector.ensures.follows.0;
+      looks = looks_joined (λ s. s < first_home shape) old mid new inv.looks
+          (look_below (first_home shape) mid new c.data_place.result (omega (arith, from, log, few, many, inside))
+          c.copy_sector.ensures.follows.1);
     }
+
+pub loop-e-init : goal.loop-e-init
+loop-e-init g c = record {
+  copied = λ k below. absurd (omega arith);
+  elsewhere = λ x not. refl;
+  within = none_copied (IsHomeOf (shape_of c.args.sizes.now) c.args.descriptor.now.numbers.items) (g.M.Medium.state c.args.m.now)
+      (g.met.M.Medium.sound c.args.m.now);
+  calls = omega arith;
+  sends = omega arith;
+  follows = g.met.M.Medium.follows_itself c.args.m.now;
+  looks = no_looks (λ s. s < first_home (shape_of c.args.sizes.now)) (g.M.Medium.state c.args.m.now) (g.M.Medium.state c.args.m.now) refl;
+}
+
+pub returns-in_err-copy_sector-clause-follows : goal.returns-in_err-copy_sector-clause-follows
+returns-in_err-copy_sector-clause-follows g c =
+    let old = g.M.Medium.state c.args.m.now in
+    let mid = g.M.Medium.state c.loop-e.m in
+    let new = g.M.Medium.state c.copy_sector.new.m in
+    let shape = shape_of c.args.sizes.now in
+    let inv = c.loop-e.invariant in
+    let inside : c.loop-e.e < length c.args.descriptor.now.numbers.items = omega (arith, c.loop-e-test.true, c.len-e-end.ensures.value) in
+    let from : c.data_place.result ≡ 2 + 249 * c.args.slot + (8 + (30 * c.args.descriptor.now.index + c.loop-e.e)) = c.data_place.ensures in
+    let few = c.args.descriptor.now.entries.few in
+    let many = c.args.descriptor.now.entries.many in
+    let log = c.requires.log in (
+      g.met.M.Medium.follows_through c.args.m.now c.loop-e.m c.copy_sector.new.m inv.follows c.copy_sector.ensures.follows.0,
+      looks_joined (λ s. s < first_home shape) old mid new inv.looks
+          (look_below (first_home shape) mid new c.data_place.result (omega (arith, from, log, few, many, inside))
+          c.copy_sector.ensures.follows.1),
+    )

@@ -1,4 +1,5 @@
 use Rattle.std.proofs.Common.{◌≡◌, ◌<◌, ◌+◌, ◌*◌, ◌++◌, ℕ, [], drop, get_or}
+use Rattle.medium.specs.Medium.{LooksOnly}
 use Rattle.medium.specs.Moments.{StaysWithin}
 use Rattle.log_layout.specs.Places.{first_home}
 use Rattle.log_layout.specs.Values.{shape_of}
@@ -19,4 +20,5 @@ invariant-loop-e g l = record {
   calls : (g.M.Medium.state l.m).calls ≡ (g.M.Medium.state l.fn.m).calls + 2 * l.e;
   sends : SendsUpTo l.e (g.M.Medium.state l.fn.m) (g.M.Medium.state l.m);
   follows : g.M.Medium.follows l.fn.m l.m;
+  looks : LooksOnly (λ s. s < first_home (shape_of l.sizes)) (g.M.Medium.state l.fn.m) (g.M.Medium.state l.m);
 }

@@ -1,13 +1,16 @@
-use Rattle.std.proofs.Common.{◌≡◌, inl, inr, ◌∙◌, ◌+◌, ◌*◌, ℕ, [], length, get_or, ap, subst, arith, rules}
+use Rattle.std.proofs.Common.{◌≡◌, ◌<◌, inl, inr, ◌∙◌, ◌+◌, ◌*◌, ℕ, [], length, get_or, ap, subst, arith, rules}
 use Rattle.std.specs.Prelude.{IfSome}
 use Rattle.std.proofs.lemmas.Bool.{cases_lt}
 use Rattle.log_layout.specs.SectorsTwo.{descriptors_of, IsDescriptorTwo, IsCommitTwo}
 use Rattle.medium.proofs.Sending.{none_sent}
+use Rattle.log_layout.specs.Places.{first_home}
 use Rattle.log_layout.specs.Values.{shape_of}
 use Rattle.recovery.specs.Copies.{calls_of, IsHomeOf, IsHomeInRecord}
 use Rattle.recovery.proofs.Copying.{quiet_within, copies_joined}
 use Rattle.recovery.proofs.Homing.{stands, counted, not_counted, named, not_named, length_named, inside_named, home_named, apart}
 use Rattle.recovery.proofs.Homing.{copied_here}
+use Rattle.medium.proofs.Looking.{looks_joined, looks_below}
+use Rattle.recovery.proofs.Sighting.{within_two}
 use Rattle.recovery.proofs.copies_two.copy_record.Goals as goal
 
 -- there is a record
@@ -173,8 +176,14 @@ loop-j-preserved g c =
             length_named r names,
           );
       follows = g.met.M.Medium.follows_through c.args.m.now c.read_descriptor.new.m c.copy_named.new.m
-          (g.met.M.Medium.follows_through c.args.m.now c.loop-j.m c.read_descriptor.new.m inv.follows c.read_descriptor.ensures.follows)
-          c.copy_named.ensures.follows;
+          (g.met.M.Medium.follows_through c.args.m.now c.loop-j.m c.read_descriptor.new.m inv.follows c.read_descriptor.ensures.follows.0)
+          c.copy_named.ensures.follows.0;
+      looks = looks_joined (λ s. s < first_home shape) old read new
+          (looks_joined (λ s. s < first_home shape) old mid read inv.looks
+          (looks_below (2 + 249 * c.slot_of-slot.result + 249) shape.home mid read
+          (within_two shape c.args.stamp c.slot_of-slot.result c.requires.format c.args.sizes.now.home_is c.args.sizes.now.some_slots
+          c.slot_of-slot.ensures) c.read_descriptor.ensures.follows.1))
+          c.copy_named.ensures.follows.1;
     }
 
 pub returns-clause-done : goal.returns-clause-done
@@ -191,3 +200,68 @@ returns-clause-done g c entries whole =
       home = λ i inside. inv.copied entries whole i inside (omega (arith, count, inside, past, c.div_ceil-j-end.ensures));
       exact = omega (arith, count, inv.calls, past, c.div_ceil-j-end.ensures, c.loop-j.auto.j-end, two);
     }
+
+pub returns-in_err-count-clause-follows : goal.returns-in_err-count-clause-follows
+returns-in_err-count-clause-follows g c =
+    let shape = shape_of c.args.sizes.now in (
+      c.read_count.ensures.follows.0,
+      looks_below (2 + 249 * c.slot_of-slot.result + 249) shape.home (g.M.Medium.state c.args.m.now) (g.M.Medium.state c.read_count.new.m)
+          (within_two shape c.args.stamp c.slot_of-slot.result c.requires.format c.args.sizes.now.home_is c.args.sizes.now.some_slots
+          c.slot_of-slot.ensures) c.read_count.ensures.follows.1,
+    )
+
+pub returns-in_default-clause-follows : goal.returns-in_default-clause-follows
+returns-in_default-clause-follows g c =
+    let shape = shape_of c.args.sizes.now in (
+      c.read_count.ensures.follows.0,
+      looks_below (2 + 249 * c.slot_of-slot.result + 249) shape.home (g.M.Medium.state c.args.m.now) (g.M.Medium.state c.read_count.new.m)
+          (within_two shape c.args.stamp c.slot_of-slot.result c.requires.format c.args.sizes.now.home_is c.args.sizes.now.some_slots
+          c.slot_of-slot.ensures) c.read_count.ensures.follows.1,
+    )
+
+pub returns-in_err-descriptor-clause-follows : goal.returns-in_err-descriptor-clause-follows
+returns-in_err-descriptor-clause-follows g c =
+    let shape = shape_of c.args.sizes.now in
+    let old = g.M.Medium.state c.args.m.now in
+    let mid = g.M.Medium.state c.loop-j.m in
+    let read = g.M.Medium.state c.read_descriptor.new.m in
+    let inv = c.loop-j.invariant in (
+      g.met.M.Medium.follows_through c.args.m.now c.loop-j.m c.read_descriptor.new.m inv.follows c.read_descriptor.ensures.follows.0,
+      looks_joined (λ s. s < first_home shape) old mid read inv.looks
+          (looks_below (2 + 249 * c.slot_of-slot.result + 249) shape.home mid read
+          (within_two shape c.args.stamp c.slot_of-slot.result c.requires.format c.args.sizes.now.home_is c.args.sizes.now.some_slots
+          c.slot_of-slot.ensures) c.read_descriptor.ensures.follows.1),
+    )
+
+pub returns-in_default-2-clause-follows : goal.returns-in_default-2-clause-follows
+returns-in_default-2-clause-follows g c =
+    let shape = shape_of c.args.sizes.now in
+    let old = g.M.Medium.state c.args.m.now in
+    let mid = g.M.Medium.state c.loop-j.m in
+    let read = g.M.Medium.state c.read_descriptor.new.m in
+    let inv = c.loop-j.invariant in (
+      g.met.M.Medium.follows_through c.args.m.now c.loop-j.m c.read_descriptor.new.m inv.follows c.read_descriptor.ensures.follows.0,
+      looks_joined (λ s. s < first_home shape) old mid read inv.looks
+          (looks_below (2 + 249 * c.slot_of-slot.result + 249) shape.home mid read
+          (within_two shape c.args.stamp c.slot_of-slot.result c.requires.format c.args.sizes.now.home_is c.args.sizes.now.some_slots
+          c.slot_of-slot.ensures) c.read_descriptor.ensures.follows.1),
+    )
+
+pub returns-in_err-copy_named-clause-follows : goal.returns-in_err-copy_named-clause-follows
+returns-in_err-copy_named-clause-follows g c =
+    let shape = shape_of c.args.sizes.now in
+    let old = g.M.Medium.state c.args.m.now in
+    let mid = g.M.Medium.state c.loop-j.m in
+    let read = g.M.Medium.state c.read_descriptor.new.m in
+    let new = g.M.Medium.state c.copy_named.new.m in
+    let inv = c.loop-j.invariant in (
+      g.met.M.Medium.follows_through c.args.m.now c.read_descriptor.new.m c.copy_named.new.m
+          (g.met.M.Medium.follows_through c.args.m.now c.loop-j.m c.read_descriptor.new.m inv.follows c.read_descriptor.ensures.follows.0)
+          c.copy_named.ensures.follows.0,
+      looks_joined (λ s. s < first_home shape) old read new
+          (looks_joined (λ s. s < first_home shape) old mid read inv.looks
+          (looks_below (2 + 249 * c.slot_of-slot.result + 249) shape.home mid read
+          (within_two shape c.args.stamp c.slot_of-slot.result c.requires.format c.args.sizes.now.home_is c.args.sizes.now.some_slots
+          c.slot_of-slot.ensures) c.read_descriptor.ensures.follows.1))
+          c.copy_named.ensures.follows.1,
+    )

@@ -1,5 +1,6 @@
 use Rattle.std.proofs.Common.{◌≡◌, ◌<◌, ◌+◌, ◌*◌, ℕ, List, [], length, get_or}
 use Rattle.std.specs.Prelude.{min}
+use Rattle.medium.specs.Medium.{LooksOnly}
 use Rattle.medium.specs.Moments.{StaysWithin}
 use Rattle.log_layout.specs.Places.{first_home}
 use Rattle.log_layout.specs.Values.{shape_of}
@@ -22,4 +23,5 @@ invariant-loop-j g l = record {
   calls : (g.M.Medium.state l.m).calls ≡ (g.M.Medium.state l.fn.m).calls + 1 + l.j + 2 * min (30 * l.j) l.count;
   sends : SendsUpTo (min (30 * l.j) l.count) (g.M.Medium.state l.fn.m) (g.M.Medium.state l.m);
   follows : g.M.Medium.follows l.fn.m l.m;
+  looks : LooksOnly (λ s. s < first_home (shape_of l.sizes)) (g.M.Medium.state l.fn.m) (g.M.Medium.state l.m);
 }

@@ -40,6 +40,7 @@ returns-in_err-write_through-clause-leaves g c =
     let wrote = c.write_through.ensures.writes in
     let home = c.args.sizes.now.home_is.0 in
     first_leaves shape old first (omega (arith, home)) (replicate 512 0) refl sound wrote.elsewhere wrote.moments wrote.calls
+    c.write_through.ensures.follows.1
 
 pub returns-in_err-clear-clause-leaves : goal.returns-in_err-clear-clause-leaves
 returns-in_err-clear-clause-leaves g c =
@@ -59,6 +60,7 @@ returns-in_err-clear-clause-leaves g c =
     let spared = subst (λ (n : ℕ). SparesFrom n first cleared) c.sectors.ensures wiped in
     then_leaves shape old first (omega (arith, home)) (replicate 512 0) refl sound wrote.elsewhere wrote.moments
     cleared counted (none_leaves old.size shape first cleared clearing) spared
+    (c.clear.ensures.follows.1 ∙ c.write_through.ensures.follows.1)
 
 pub returns-in_err-write_through-2-clause-leaves : goal.returns-in_err-write_through-2-clause-leaves
 returns-in_err-write_through-2-clause-leaves g c =
@@ -84,6 +86,7 @@ returns-in_err-write_through-2-clause-leaves g c =
     let spared_too = spared_joined (sectors_of shape) first cleared headed spared spared_head in
     then_leaves shape old first (omega (arith, home)) (replicate 512 0) refl sound wrote.elsewhere wrote.moments
     headed counted (none_leaves old.size shape first headed heading) spared_too
+    (c.write_through-2.ensures.follows.1 ∙ (c.clear.ensures.follows.1 ∙ c.write_through.ensures.follows.1))
 
 pub returns-clause-leaves : goal.returns-clause-leaves
 returns-clause-leaves g c =
@@ -121,3 +124,5 @@ returns-clause-leaves g c =
     (λ x low high. head.0.elsewhere x (λ e. omega (arith, low, e)) ∙ zeros x (omega (arith, low)) (omega (arith, c.sectors.ensures, high)))
     heading last.moments)
     (spared_joined (sectors_of shape) first headed new spared_too spared_super)
+    (c.write_through-3.ensures.follows.1 ∙ (c.write_through-2.ensures.follows.1
+    ∙ (c.clear.ensures.follows.1 ∙ c.write_through.ensures.follows.1)))

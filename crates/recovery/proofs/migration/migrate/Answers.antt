@@ -69,6 +69,7 @@ returns-in_err-make_two-in-One-clause-leaves g c =
     let sound_mid = g.met.M.Medium.sound c.recover_at_least.new.m in
     migration_leaves old mid found start.ok.from start.ok.room c.in-One.is new making.leaves.spares start.fresh sound sound_mid
     making.leaves.cuts c.recover_at_least.ensures.leaves making.calls.calls making.leaves.sends
+    making.leaves.looked_stays
 
 pub returns-in_ok-make_two-in-One-clause-leaves : goal.returns-in_ok-make_two-in-One-clause-leaves
 returns-in_ok-make_two-in-One-clause-leaves g c =
@@ -82,6 +83,7 @@ returns-in_ok-make_two-in-One-clause-leaves g c =
     let sound_mid = g.met.M.Medium.sound c.recover_at_least.new.m in
     migration_leaves old mid found start.ok.from start.ok.room c.in-One.is new making.leaves.spares start.fresh sound sound_mid
     making.leaves.cuts c.recover_at_least.ensures.leaves making.calls.calls making.leaves.sends
+    making.leaves.looked_stays
 
 pub returns-in_ok-make_two-in-One-clause-ok : goal.returns-in_ok-make_two-in-One-clause-ok
 returns-in_ok-make_two-in-One-clause-ok g c =

@@ -1,4 +1,4 @@
-use Rattle.std.proofs.Common.{ℕ, inr, subst, arith, rules}
+use Rattle.std.proofs.Common.{ℕ, ◌∙◌, inr, subst, arith, rules}
 use Rattle.log_layout.specs.Sectors.{IsHead}
 use Rattle.medium.proofs.Sparing.{spared_silent, spared_write, spared_joined}
 use Rattle.recovery.proofs.Moving.{head_written, head_flushed}
@@ -60,3 +60,21 @@ returns-clause-moves g c =
       exact = search rules;
       cause = search rules;
     }
+
+pub returns-in_err-flush-clause-follows : goal.returns-in_err-flush-clause-follows
+returns-in_err-flush-clause-follows g c = (c.flush.ensures.follows, c.flush.ensures.passes.looked_stays (λ e. cc e))
+
+pub returns-in_err-write-clause-follows : goal.returns-in_err-write-clause-follows
+returns-in_err-write-clause-follows g c = (
+  g.met.M.Medium.follows_through c.args.m.now c.flush.new.self c.write.new.self c.flush.ensures.follows c.write.ensures.follows,
+  c.write.ensures.passes.looked_stays (λ e. cc e) ∙ c.flush.ensures.passes.looked_stays (λ e. cc e),
+)
+
+pub returns-clause-follows : goal.returns-clause-follows
+returns-clause-follows g c = (
+  g.met.M.Medium.follows_through c.args.m.now c.write.new.self c.flush-2.new.self
+      (g.met.M.Medium.follows_through c.args.m.now c.flush.new.self c.write.new.self c.flush.ensures.follows c.write.ensures.follows)
+      c.flush-2.ensures.follows,
+  c.flush-2.ensures.passes.looked_stays (λ e. cc e)
+      ∙ (c.write.ensures.passes.looked_stays (λ e. cc e) ∙ c.flush.ensures.passes.looked_stays (λ e. cc e)),
+)

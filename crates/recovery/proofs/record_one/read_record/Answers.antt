@@ -1,10 +1,13 @@
 use Rattle.std.proofs.Common.{◌≡◌, ◌∙◌, ◌+◌, ◌*◌, ◌%◌, ◌<◌, ℕ, Option, Some, None, IfSome, length, sym, ap, subst, arith}
 use Rattle.std.proofs.lemmas.Nat.{mod_below}
+use Rattle.log_layout.specs.Places.{first_home}
 use Rattle.log_layout.specs.Values.{shape_of}
 use Rattle.log_layout.specs.Sectors.{IsDescriptor, IsCommit}
 use Rattle.log_image.specs.Record.{entries_in, numbers_of}
 use Rattle.log_image.proofs.ReadingOne.{descriptor_there, numbers_of-entries_in}
 use Rattle.recovery.proofs.WholeOne.{as_one, of_one, slot_one, whole_in, commit_there}
+use Rattle.medium.proofs.Looking.{looks_joined, look_below}
+use Rattle.recovery.proofs.Sighting.{within_one}
 use Rattle.recovery.proofs.record_one.read_record.Goals as goal
 
 -- what follows from three facts of the value in a `Some`
@@ -77,3 +80,44 @@ returns-clause-all g c entries whole =
     (subst (IsCommit c.args.stamp (length (numbers_of entries)))
     (sym (c.in_ok-read-2.ensures.ok ∙ ap mid.content last ∙ c.read.ensures.content (at + 49)))
     (commit_there shape old.content c.args.stamp entries w)) w.fit.inside
+
+pub returns-in_err-read-clause-follows : goal.returns-in_err-read-clause-follows
+returns-in_err-read-clause-follows g c =
+    let shape = shape_of c.args.sizes.now in
+    let end = within_one shape c.args.stamp c.slot_of-slot.result c.requires.format c.args.sizes.now.home_is c.args.sizes.now.some_slots
+    c.slot_of-slot.ensures in
+    let old = g.M.Medium.state c.args.m.now in
+    let mid = g.M.Medium.state c.read.new.self in (
+      c.read.ensures.follows.0,
+      look_below (first_home shape) old mid c.place_of.result (omega (arith, end, c.place_of.ensures)) c.read.ensures.follows.1,
+    )
+
+pub returns-in_err-read-2-clause-follows : goal.returns-in_err-read-2-clause-follows
+returns-in_err-read-2-clause-follows g c =
+    let shape = shape_of c.args.sizes.now in
+    let end = within_one shape c.args.stamp c.slot_of-slot.result c.requires.format c.args.sizes.now.home_is c.args.sizes.now.some_slots
+    c.slot_of-slot.ensures in
+    let old = g.M.Medium.state c.args.m.now in
+    let mid = g.M.Medium.state c.read.new.self in
+    let new = g.M.Medium.state c.read-2.new.self in (
+      g.met.M.Medium.follows_through c.args.m.now c.read.new.self c.read-2.new.self c.read.ensures.follows.0 c.read-2.ensures.follows.0,
+      looks_joined (λ s. s < first_home shape) old mid new
+          (look_below (first_home shape) old mid c.place_of.result (omega (arith, end, c.place_of.ensures)) c.read.ensures.follows.1)
+          (look_below (first_home shape) mid new c.commit_place.result (omega (arith, end, c.commit_place.ensures))
+          c.read-2.ensures.follows.1),
+    )
+
+pub returns-clause-follows : goal.returns-clause-follows
+returns-clause-follows g c =
+    let shape = shape_of c.args.sizes.now in
+    let end = within_one shape c.args.stamp c.slot_of-slot.result c.requires.format c.args.sizes.now.home_is c.args.sizes.now.some_slots
+    c.slot_of-slot.ensures in
+    let old = g.M.Medium.state c.args.m.now in
+    let mid = g.M.Medium.state c.read.new.self in
+    let new = g.M.Medium.state c.read-2.new.self in (
+      g.met.M.Medium.follows_through c.args.m.now c.read.new.self c.read-2.new.self c.read.ensures.follows.0 c.read-2.ensures.follows.0,
+      looks_joined (λ s. s < first_home shape) old mid new
+          (look_below (first_home shape) old mid c.place_of.result (omega (arith, end, c.place_of.ensures)) c.read.ensures.follows.1)
+          (look_below (first_home shape) mid new c.commit_place.result (omega (arith, end, c.commit_place.ensures))
+          c.read-2.ensures.follows.1),
+    )

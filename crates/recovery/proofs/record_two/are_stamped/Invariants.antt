@@ -1,4 +1,5 @@
-use Rattle.std.proofs.Common.{◌≡◌, ◌+◌, ◌*◌}
+use Rattle.std.proofs.Common.{◌≡◌, ◌<◌, ◌+◌, ◌*◌}
+use Rattle.medium.specs.Medium.{LooksOnly}
 use Rattle.medium.specs.Moments.{IsQuiet}
 use Rattle.recovery.specs.Causes.{MakesReadsAlone}
 use Rattle.log_image.specs.SlotTwo.{HasPlaces}
@@ -11,4 +12,5 @@ invariant-loop-i g l = record {
   calls : (g.M.Medium.state l.m).calls ≡ (g.M.Medium.state l.fn.m).calls + l.i;
   stamped : HasPlaces (g.M.Medium.state l.fn.m).content (2 + 249 * l.slot) l.stamp l.i;
   follows : g.M.Medium.follows l.fn.m l.m;
+  looks : LooksOnly (λ s. s < 2 + 249 * l.slot + 249) (g.M.Medium.state l.fn.m) (g.M.Medium.state l.m);
 }

@@ -6,10 +6,13 @@ use Rattle.medium.specs.Medium.{Image}
 use Rattle.medium.proofs.Moments.{quiet_joined}
 use Rattle.log_layout.specs.Sectors.{IsRising}
 use Rattle.log_layout.specs.SectorsTwo.{IsCommitTwo}
+use Rattle.log_layout.specs.Places.{first_home}
 use Rattle.log_layout.specs.Values.{shape_of}
 use Rattle.log_image.specs.Record.{numbers_of}
 use Rattle.log_image.specs.SlotTwo.{HasDescriptors, HasPlaces}
 use Rattle.recovery.proofs.WholeTwo.{untrue, slot_two, two_whole, two_says}
+use Rattle.medium.proofs.Looking.{looks_joined, looks_below}
+use Rattle.recovery.proofs.Sighting.{within_two}
 use Rattle.recovery.proofs.record_two.is_whole.Goals as goal
 
 pub returns-in_default-clause-whole : goal.returns-in_default-clause-whole
@@ -136,3 +139,87 @@ returns-clause-whole g c =
           (subst (λ (i : Image). HasPlaces i at s (length (numbers_of h.0))) (sym second) says.placed)),
     ))
     c.are_stamped.ensures.stamped
+
+pub returns-in_err-count-clause-follows : goal.returns-in_err-count-clause-follows
+returns-in_err-count-clause-follows g c =
+    let shape = shape_of c.args.sizes.now in
+    let end : ℕ = 2 + 249 * c.slot_of-slot.result + 249 in
+    let ends = within_two shape c.args.stamp c.slot_of-slot.result c.requires.format c.args.sizes.now.home_is c.args.sizes.now.some_slots
+    c.slot_of-slot.ensures in
+    let old = g.M.Medium.state c.args.m.now in
+    let counted = g.M.Medium.state c.read_count.new.m in
+    (c.read_count.ensures.follows.0, looks_below end (first_home shape) old counted ends c.read_count.ensures.follows.1)
+
+pub returns-in_default-clause-follows : goal.returns-in_default-clause-follows
+returns-in_default-clause-follows g c =
+    let shape = shape_of c.args.sizes.now in
+    let end : ℕ = 2 + 249 * c.slot_of-slot.result + 249 in
+    let ends = within_two shape c.args.stamp c.slot_of-slot.result c.requires.format c.args.sizes.now.home_is c.args.sizes.now.some_slots
+    c.slot_of-slot.ensures in
+    let old = g.M.Medium.state c.args.m.now in
+    let counted = g.M.Medium.state c.read_count.new.m in
+    (c.read_count.ensures.follows.0, looks_below end (first_home shape) old counted ends c.read_count.ensures.follows.1)
+
+pub returns-in_err-numbers-clause-follows : goal.returns-in_err-numbers-clause-follows
+returns-in_err-numbers-clause-follows g c =
+    let shape = shape_of c.args.sizes.now in
+    let end : ℕ = 2 + 249 * c.slot_of-slot.result + 249 in
+    let ends = within_two shape c.args.stamp c.slot_of-slot.result c.requires.format c.args.sizes.now.home_is c.args.sizes.now.some_slots
+    c.slot_of-slot.ensures in
+    let old = g.M.Medium.state c.args.m.now in
+    let counted = g.M.Medium.state c.read_count.new.m in
+    let read = g.M.Medium.state c.read_numbers.new.m in (
+      g.met.M.Medium.follows_through c.args.m.now c.read_count.new.m c.read_numbers.new.m c.read_count.ensures.follows.0
+          c.read_numbers.ensures.follows.0,
+      looks_below end (first_home shape) old read ends
+          (looks_joined (λ s. s < end) old counted read c.read_count.ensures.follows.1 c.read_numbers.ensures.follows.1),
+    )
+
+pub returns-in_default-2-clause-follows : goal.returns-in_default-2-clause-follows
+returns-in_default-2-clause-follows g c =
+    let shape = shape_of c.args.sizes.now in
+    let end : ℕ = 2 + 249 * c.slot_of-slot.result + 249 in
+    let ends = within_two shape c.args.stamp c.slot_of-slot.result c.requires.format c.args.sizes.now.home_is c.args.sizes.now.some_slots
+    c.slot_of-slot.ensures in
+    let old = g.M.Medium.state c.args.m.now in
+    let counted = g.M.Medium.state c.read_count.new.m in
+    let read = g.M.Medium.state c.read_numbers.new.m in (
+      g.met.M.Medium.follows_through c.args.m.now c.read_count.new.m c.read_numbers.new.m c.read_count.ensures.follows.0
+          c.read_numbers.ensures.follows.0,
+      looks_below end (first_home shape) old read ends
+          (looks_joined (λ s. s < end) old counted read c.read_count.ensures.follows.1 c.read_numbers.ensures.follows.1),
+    )
+
+pub returns-then-not-are_blocks-clause-follows : goal.returns-then-not-are_blocks-clause-follows
+returns-then-not-are_blocks-clause-follows g c =
+    let shape = shape_of c.args.sizes.now in
+    let end : ℕ = 2 + 249 * c.slot_of-slot.result + 249 in
+    let ends = within_two shape c.args.stamp c.slot_of-slot.result c.requires.format c.args.sizes.now.home_is c.args.sizes.now.some_slots
+    c.slot_of-slot.ensures in
+    let old = g.M.Medium.state c.args.m.now in
+    let counted = g.M.Medium.state c.read_count.new.m in
+    let read = g.M.Medium.state c.read_numbers.new.m in (
+      g.met.M.Medium.follows_through c.args.m.now c.read_count.new.m c.read_numbers.new.m c.read_count.ensures.follows.0
+          c.read_numbers.ensures.follows.0,
+      looks_below end (first_home shape) old read ends
+          (looks_joined (λ s. s < end) old counted read c.read_count.ensures.follows.1 c.read_numbers.ensures.follows.1),
+    )
+
+pub returns-clause-follows : goal.returns-clause-follows
+returns-clause-follows g c =
+    let shape = shape_of c.args.sizes.now in
+    let end : ℕ = 2 + 249 * c.slot_of-slot.result + 249 in
+    let ends = within_two shape c.args.stamp c.slot_of-slot.result c.requires.format c.args.sizes.now.home_is c.args.sizes.now.some_slots
+    c.slot_of-slot.ensures in
+    let old = g.M.Medium.state c.args.m.now in
+    let counted = g.M.Medium.state c.read_count.new.m in
+    let read = g.M.Medium.state c.read_numbers.new.m in
+    let new = g.M.Medium.state c.are_stamped.new.m in (
+      g.met.M.Medium.follows_through c.args.m.now c.read_numbers.new.m c.are_stamped.new.m
+          (g.met.M.Medium.follows_through c.args.m.now c.read_count.new.m c.read_numbers.new.m c.read_count.ensures.follows.0
+          c.read_numbers.ensures.follows.0)
+          c.are_stamped.ensures.follows.0,
+      looks_below end (first_home shape) old new ends (looks_joined (λ s. s < end) old read new
+          (looks_joined (λ s. s < end) old counted read c.read_count.ensures.follows.1 c.read_numbers.ensures.follows.1)
+          c.are_stamped.ensures.follows.1),
+    )

@@ -5,6 +5,7 @@ use Rattle.std.proofs.lemmas.List.{length-append}
 use Rattle.medium.proofs.Moments.{quiet_joined}
 use Rattle.log_layout.specs.SectorsTwo.{descriptors_of, IsDescriptorTwo}
 use Rattle.recovery.proofs.Naming.{described_more}
+use Rattle.medium.proofs.Looking.{looks_joined}
 use Rattle.recovery.proofs.record_two.read_numbers.Goals as goal
 
 pub returns-in_default-clause-all : goal.returns-in_default-clause-all
@@ -65,7 +66,9 @@ loop-j-preserved g c =
           ∙ sym (take-add (30 * j) 30 numbers)
           ∙ ap (λ (k : ℕ). take k numbers) next;
       follows =
-          g.met.M.Medium.follows_through c.args.m.now c.loop-j.m c.read_descriptor.new.m inv.follows c.read_descriptor.ensures.follows;
+          g.met.M.Medium.follows_through c.args.m.now c.loop-j.m c.read_descriptor.new.m inv.follows
+          c.read_descriptor.ensures.follows.0;
+      looks = looks_joined (λ s. s < 2 + 249 * c.args.slot + 249) old mid new inv.looks c.read_descriptor.ensures.follows.1;
     }
 
 pub returns-clause-some : goal.returns-clause-some
@@ -83,4 +86,20 @@ returns-clause-some g c =
                 ((g.M.Medium.state c.args.m.now).content (2 + 249 * c.args.slot + j)))
                 (sym long) was.1,
           ),
+    )
+
+pub returns-in_err-found-clause-follows : goal.returns-in_err-found-clause-follows
+returns-in_err-found-clause-follows g c =
+    let inv = c.loop-j.invariant in (
+      g.met.M.Medium.follows_through c.args.m.now c.loop-j.m c.read_descriptor.new.m inv.follows c.read_descriptor.ensures.follows.0,
+      looks_joined (λ s. s < 2 + 249 * c.args.slot + 249) (g.M.Medium.state c.args.m.now) (g.M.Medium.state c.loop-j.m)
+          (g.M.Medium.state c.read_descriptor.new.m) inv.looks c.read_descriptor.ensures.follows.1,
+    )
+
+pub returns-in_default-clause-follows : goal.returns-in_default-clause-follows
+returns-in_default-clause-follows g c =
+    let inv = c.loop-j.invariant in (
+      g.met.M.Medium.follows_through c.args.m.now c.loop-j.m c.read_descriptor.new.m inv.follows c.read_descriptor.ensures.follows.0,
+      looks_joined (λ s. s < 2 + 249 * c.args.slot + 249) (g.M.Medium.state c.args.m.now) (g.M.Medium.state c.loop-j.m)
+          (g.M.Medium.state c.read_descriptor.new.m) inv.looks c.read_descriptor.ensures.follows.1,
     )

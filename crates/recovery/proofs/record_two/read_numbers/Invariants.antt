@@ -1,5 +1,6 @@
 use Rattle.std.proofs.Common.{◌≡◌, ◌<◌, ◌+◌, ◌*◌, ℕ, List, length, take, drop}
 use Rattle.std.specs.Prelude.{min}
+use Rattle.medium.specs.Medium.{LooksOnly}
 use Rattle.medium.specs.Moments.{IsQuiet}
 use Rattle.log_layout.specs.SectorsTwo.{IsDescriptorTwo}
 use Rattle.log_image.specs.SlotTwo.{HasDescriptors}
@@ -19,4 +20,5 @@ invariant-loop-j g l = record {
   all : (numbers : List ℕ) → length numbers ≡ l.count → HasDescriptors (g.M.Medium.state l.fn.m).content (2 + 249 * l.slot) l.stamp numbers
       → l.numbers.items ≡ take (30 * l.j) numbers;
   follows : g.M.Medium.follows l.fn.m l.m;
+  looks : LooksOnly (λ s. s < 2 + 249 * l.slot + 249) (g.M.Medium.state l.fn.m) (g.M.Medium.state l.m);
 }

@@ -7,8 +7,9 @@ use Rattle.log_layout.specs.Values.{shape_of}
 use Rattle.recovery.proofs.Causes.{few_after, refusal_before}
 use Rattle.recovery.proofs.Copying.{log_ends}
 use Rattle.recovery.proofs.Finding.{has_whole_same, found_before}
-use Rattle.recovery.proofs.Leaving.{flush_leaves, survey_leaves, copies_leave, moves_leave, recovery_fresh, recovery_from}
+use Rattle.recovery.proofs.Leaving.{flush_leaves, survey_leaves, copies_look, copies_leave, moves_leave, recovery_fresh, recovery_from}
 use Rattle.recovery.proofs.Sending.{few_sent, found_sent}
+use Rattle.recovery.proofs.Sighting.{looked_before}
 use Rattle.recovery.proofs.recovery.recover_at_least.Goals as goal
 
 pub copy_records-requires-clause-fits : goal.copy_records-requires-clause-fits
@@ -45,7 +46,8 @@ returns-in_err-flush-clause-leaves g c =
     let sound = g.met.M.Medium.sound c.args.m.now in
     record {
       all = flush_leaves old mid sound flushed c.flush.ensures.passes.calls_are
-          (few_sent old mid (omega (arith, flush_sends old mid c.flush.ensures.passes)));
+          (few_sent old mid (omega (arith, flush_sends old mid c.flush.ensures.passes)))
+          (c.flush.ensures.passes.looked_stays (λ e. cc e));
       small = λ few. spared_quiet 0 old mid sound flushed;
     }
 
@@ -62,7 +64,8 @@ returns-in_err-found-clause-leaves g c =
     let reads = c.inspect.ensures.reads in
     record {
       all = survey_leaves old mid seen sound sound_mid flushed counted only reads
-          (few_sent old seen (omega (arith, flush_sends old mid c.flush.ensures.passes, none_sent mid seen reads.reads)));
+          (few_sent old seen (omega (arith, flush_sends old mid c.flush.ensures.passes, none_sent mid seen reads.reads)))
+          (c.flush.ensures.passes.looked_stays (λ e. cc e));
       small = λ few. spared_quiet 0 old seen sound (quiet_joined old mid seen flushed reads.quiet);
     }
 
@@ -89,7 +92,9 @@ returns-in_err-copy_records-clause-leaves g c =
             flush_sends old mid c.flush.ensures.passes,
             none_sent mid seen reads.reads,
             c.copy_records.ensures.sends,
-          )));
+          )))
+          (copies_look old mid seen sound sound_mid flushed counted only reads c.args.least found survey copied sound_copied copies
+          (c.flush.ensures.passes.looked_stays (λ e. cc e)) c.copy_records.ensures.follows.1);
       small = λ few. absurd (survey.room (few_after old mid seen c.flush.ensures.passes flushed reads.reads c.args.least few));
     }
 
@@ -120,7 +125,11 @@ returns-in_err-move_head-clause-leaves g c =
             none_sent mid seen reads.reads,
             c.copy_records.ensures.sends,
             c.move_head.ensures.sends,
-          )));
+          )))
+          (looked_before old copied new
+          (copies_look old mid seen sound sound_mid flushed counted only reads c.args.least found survey copied sound_copied copies
+          (c.flush.ensures.passes.looked_stays (λ e. cc e)) c.copy_records.ensures.follows.1)
+          c.move_head.ensures.follows.1);
       small = λ few. absurd (survey.room (few_after old mid seen c.flush.ensures.passes flushed reads.reads c.args.least few));
     }
 
@@ -151,7 +160,11 @@ returns-clause-leaves g c =
             none_sent mid seen reads.reads,
             c.copy_records.ensures.sends,
             c.move_head.ensures.sends,
-          )));
+          )))
+          (looked_before old copied new
+          (copies_look old mid seen sound sound_mid flushed counted only reads c.args.least found survey copied sound_copied copies
+          (c.flush.ensures.passes.looked_stays (λ e. cc e)) c.copy_records.ensures.follows.1)
+          c.move_head.ensures.follows.1);
       small = λ few. absurd (survey.room (few_after old mid seen c.flush.ensures.passes flushed reads.reads c.args.least few));
     }
 

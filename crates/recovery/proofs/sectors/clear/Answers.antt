@@ -46,4 +46,12 @@ loop-sector-preserved g c =
       calls = omega (arith, c.write.ensures.passes.calls_are, inv.calls, past);
       sends = omega (arith, write_sends mid new c.write.ensures.passes, inv.sends, past);
       follows = g.met.M.Medium.follows_through c.args.m.now c.loop-sector.m c.write.new.self inv.follows c.write.ensures.follows;
+      looked_stays = c.write.ensures.passes.looked_stays (λ e. cc e) ∙ inv.looked_stays;
     }
+
+pub returns-in_err-write-clause-follows : goal.returns-in_err-write-clause-follows
+returns-in_err-write-clause-follows g c =
+    let inv = c.loop-sector.invariant in (
+      g.met.M.Medium.follows_through c.args.m.now c.loop-sector.m c.write.new.self inv.follows c.write.ensures.follows,
+      c.write.ensures.passes.looked_stays (λ e. cc e) ∙ inv.looked_stays,
+    )

@@ -15,4 +15,5 @@ invariant-loop-sector g l = record {
   calls : (g.M.Medium.state l.m).calls ≡ (g.M.Medium.state l.fn.m).calls + (l.sector - l.from);
   sends : SendsUpTo (l.sector - l.from) (g.M.Medium.state l.fn.m) (g.M.Medium.state l.m);
   follows : g.M.Medium.follows l.fn.m l.m;
+  looked_stays : (g.M.Medium.state l.m).looked ≡ (g.M.Medium.state l.fn.m).looked;
 }

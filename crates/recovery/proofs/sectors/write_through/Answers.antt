@@ -30,3 +30,12 @@ returns-clause-writes g c =
       exact = search rules;
       cause = search rules;
     }
+
+pub returns-in_err-write-clause-follows : goal.returns-in_err-write-clause-follows
+returns-in_err-write-clause-follows g c = (c.write.ensures.follows, c.write.ensures.passes.looked_stays (λ e. cc e))
+
+pub returns-clause-follows : goal.returns-clause-follows
+returns-clause-follows g c = (
+  g.met.M.Medium.follows_through c.args.m.now c.write.new.self c.flush.new.self c.write.ensures.follows c.flush.ensures.follows,
+  c.flush.ensures.passes.looked_stays (λ e. cc e) ∙ c.write.ensures.passes.looked_stays (λ e. cc e),
+)

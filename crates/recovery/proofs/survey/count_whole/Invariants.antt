@@ -1,5 +1,7 @@
 use Rattle.std.proofs.Common.{◌<◌, ◌+◌, ℕ}
+use Rattle.medium.specs.Medium.{LooksOnly}
 use Rattle.medium.specs.Moments.{IsQuiet}
+use Rattle.log_layout.specs.Places.{first_home}
 use Rattle.log_layout.specs.Values.{shape_of}
 use Rattle.log_image.specs.Formats.{HasWhole}
 use Rattle.recovery.specs.Causes.{MakesReadsAlone}
@@ -13,4 +15,5 @@ invariant-loop-j g l = record {
   tries : AreTries l.sizes.format l.j (g.M.Medium.state l.fn.m).calls (g.M.Medium.state l.m).calls;
   whole : (k : ℕ) → k < l.j → HasWhole (shape_of l.sizes) (g.M.Medium.state l.fn.m).content (l.head + k);
   follows : g.M.Medium.follows l.fn.m l.m;
+  looks : LooksOnly (λ s. s < first_home (shape_of l.sizes)) (g.M.Medium.state l.fn.m) (g.M.Medium.state l.m);
 }

@@ -1,12 +1,15 @@
 use Rattle.std.proofs.Common.{◌∙◌, ◌+◌, sym, subst, arith, rules}
 use Rattle.std.proofs.lemmas.Result.{err_from_is_err_and}
 use Rattle.medium.proofs.Moments.{quiet_call, quiet_joined}
+use Rattle.log_layout.specs.Places.{first_home}
 use Rattle.log_layout.specs.Values.{shape_of}
 use Rattle.log_layout.specs.Sectors.{IsHead}
 use Rattle.log_layout.proofs.Decoding.{IsSuper-one}
 use Rattle.log_image.proofs.StandingLaws.{IsCount-same, count_stands}
 use Rattle.recovery.proofs.Causes.{enough_slots}
 use Rattle.recovery.proofs.Trying.{most_found}
+use Rattle.medium.proofs.Looking.{look_below}
+use Rattle.recovery.proofs.Sighting.{looked_on, super_looked}
 use Rattle.recovery.proofs.survey.inspect.Goals as goal
 
 pub returns-then-head-count-clause-ok : goal.returns-then-head-count-clause-ok
@@ -65,6 +68,11 @@ returns-in_err-count-clause-reads g c =
       most = λ shape has. most_found shape (shape_of sizes) sizes.slots old.calls second.calls last.calls
           (IsSuper-one shape (shape_of sizes) (old.content 0) has.super c.in_ok-sizes.ensures.ok.super) few
           (omega (arith, c.read_super.ensures.reads.calls, c.read.ensures.passes.calls_are)) rest.calls;
+      looks = looked_on (shape_of sizes) old second last c.in_ok-sizes.ensures.ok
+          (looked_on (shape_of sizes) old first second c.in_ok-sizes.ensures.ok
+          (super_looked old first c.read_super.ensures.follows.1)
+          (look_below (first_home (shape_of sizes)) first second 1 (omega (arith, sizes.home_is.0)) c.read.ensures.follows.1))
+          c.count_whole.ensures.follows.1;
     }
 
 pub returns-then-head-count-clause-reads : goal.returns-then-head-count-clause-reads
@@ -84,6 +92,11 @@ returns-then-head-count-clause-reads g c =
       most = λ shape has. most_found shape (shape_of sizes) sizes.slots old.calls second.calls last.calls
           (IsSuper-one shape (shape_of sizes) (old.content 0) has.super c.in_ok-sizes.ensures.ok.super) few
           (omega (arith, c.read_super.ensures.reads.calls, c.read.ensures.passes.calls_are)) rest.calls;
+      looks = looked_on (shape_of sizes) old second last c.in_ok-sizes.ensures.ok
+          (looked_on (shape_of sizes) old first second c.in_ok-sizes.ensures.ok
+          (super_looked old first c.read_super.ensures.follows.1)
+          (look_below (first_home (shape_of sizes)) first second 1 (omega (arith, sizes.home_is.0)) c.read.ensures.follows.1))
+          c.count_whole.ensures.follows.1;
     }
 
 pub returns-else-head-count-clause-reads : goal.returns-else-head-count-clause-reads
@@ -103,9 +116,77 @@ returns-else-head-count-clause-reads g c =
       most = λ shape has. most_found shape (shape_of sizes) sizes.slots old.calls second.calls last.calls
           (IsSuper-one shape (shape_of sizes) (old.content 0) has.super c.in_ok-sizes.ensures.ok.super) few
           (omega (arith, c.read_super.ensures.reads.calls, c.read.ensures.passes.calls_are)) rest.calls;
+      looks = looked_on (shape_of sizes) old second last c.in_ok-sizes.ensures.ok
+          (looked_on (shape_of sizes) old first second c.in_ok-sizes.ensures.ok
+          (super_looked old first c.read_super.ensures.follows.1)
+          (look_below (first_home (shape_of sizes)) first second 1 (omega (arith, sizes.home_is.0)) c.read.ensures.follows.1))
+          c.count_whole.ensures.follows.1;
     }
 
 pub returns-in_err-sizes-clause-err : goal.returns-in_err-sizes-clause-err
 returns-in_err-sizes-clause-err g c =
     let p = err_from_is_err_and c.from_residual.result c.from_residual.ensures.1 in
     rw (p.1, p.2) (c.in_err-sizes.ensures.err c.args.least)
+
+pub returns-in_err-read-clause-reads : goal.returns-in_err-read-clause-reads
+returns-in_err-read-clause-reads g c =
+    let old = g.M.Medium.state c.args.m.now in
+    let first = g.M.Medium.state c.read_super.new.m in
+    let second = g.M.Medium.state c.read.new.self in
+    let sizes = c.in_ok-sizes.sizes in
+    record {
+      quiet = quiet_joined old first second c.read_super.ensures.reads.quiet
+          (quiet_call first second c.read.ensures.passes c.read.ensures.content c.read.ensures.sets);
+      reads = search rules;
+      calls = search rules;
+      most = search rules;
+      looks = looked_on (shape_of sizes) old first second c.in_ok-sizes.ensures.ok
+          (super_looked old first c.read_super.ensures.follows.1)
+          (look_below (first_home (shape_of sizes)) first second 1 (omega (arith, sizes.home_is.0)) c.read.ensures.follows.1);
+    }
+
+pub returns-in_default-clause-reads : goal.returns-in_default-clause-reads
+returns-in_default-clause-reads g c =
+    let old = g.M.Medium.state c.args.m.now in
+    let first = g.M.Medium.state c.read_super.new.m in
+    let second = g.M.Medium.state c.read.new.self in
+    let sizes = c.in_ok-sizes.sizes in
+    record {
+      quiet = quiet_joined old first second c.read_super.ensures.reads.quiet
+          (quiet_call first second c.read.ensures.passes c.read.ensures.content c.read.ensures.sets);
+      reads = search rules;
+      calls = search rules;
+      most = search rules;
+      looks = looked_on (shape_of sizes) old first second c.in_ok-sizes.ensures.ok
+          (super_looked old first c.read_super.ensures.follows.1)
+          (look_below (first_home (shape_of sizes)) first second 1 (omega (arith, sizes.home_is.0)) c.read.ensures.follows.1);
+    }
+
+pub returns-then-has_few_slots-clause-reads : goal.returns-then-has_few_slots-clause-reads
+returns-then-has_few_slots-clause-reads g c =
+    let old = g.M.Medium.state c.args.m.now in
+    let first = g.M.Medium.state c.read_super.new.m in
+    let second = g.M.Medium.state c.read.new.self in
+    let sizes = c.in_ok-sizes.sizes in
+    record {
+      quiet = quiet_joined old first second c.read_super.ensures.reads.quiet
+          (quiet_call first second c.read.ensures.passes c.read.ensures.content c.read.ensures.sets);
+      reads = search rules;
+      calls = search rules;
+      most = search rules;
+      looks = looked_on (shape_of sizes) old first second c.in_ok-sizes.ensures.ok
+          (super_looked old first c.read_super.ensures.follows.1)
+          (look_below (first_home (shape_of sizes)) first second 1 (omega (arith, sizes.home_is.0)) c.read.ensures.follows.1);
+    }
+
+pub returns-in_err-sizes-clause-reads : goal.returns-in_err-sizes-clause-reads
+returns-in_err-sizes-clause-reads g c =
+    let old = g.M.Medium.state c.args.m.now in
+    let first = g.M.Medium.state c.read_super.new.m in
+    record {
+      quiet = c.read_super.ensures.reads.quiet;
+      reads = search rules;
+      calls = search rules;
+      most = search rules;
+      looks = super_looked old first c.read_super.ensures.follows.1;
+    }

@@ -1,10 +1,8 @@
-use Rattle.std.proofs.Common.{length, ◌≤◌, ◌≡◌, ◌/◌, ℕ, List, inl, true, refl, ap, sym, subst, arith}
-use Rattle.mirror.specs.declared.call.DeviceCall.TheVariants.{Write, Flush}
-use Rattle.mirror.specs.Device.{Device}
+use Rattle.std.proofs.Common.{length, ◌≤◌, ◌≡◌, ◌/◌, inl, true, refl, ap, subst, arith}
+use Rattle.mirror.specs.declared.call.DeviceCall.TheVariants.{Write}
 use Rattle.mirror.specs.Story.{given, are_whole}
-use Rattle.mirror.specs.Mirror.{Mirror, device_of}
-use Rattle.mirror.specs.MirrorLaws.{is_sound}
-use Rattle.mirror.proofs.Asked.{content_refused, sets_refused, content_given, sets_given, holds_given}
+use Rattle.mirror.specs.Mirror.{device_of}
+use Rattle.mirror.proofs.Asked.{content_refused, sets_refused, sets_given, holds_given}
 use Rattle.window.specs.Seen.{Seen, refused}
 use Rattle.window.specs.Window.{Window, mirror_of}
 use Rattle.window.proofs.Asked.{seen_on, given_on, follows_refused, follows_given}
