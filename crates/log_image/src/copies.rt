@@ -1,9 +1,9 @@
 //! The copies of blocks in the log.
 ghost use Rattle.std.specs.Prelude.{◌≡◌, ◌≤◌, ◌<◌, ◌+◌, ◌*◌, ◌/◌, ◌%◌, ◌++◌, ℕ, List, drop, length, slice_range, OnOk};
 ghost use Rattle.medium.specs.declared.fault.MediumFault.TheVariants.{Read};
-ghost use Rattle.medium.specs.Medium.{Passes};
+ghost use Rattle.medium.specs.Medium.{Passes, LooksOnly};
 ghost use Rattle.medium.specs.Moments.{IsQuiet};
-ghost use Rattle.log_layout.specs.Places.{limit_of, sectors_of};
+ghost use Rattle.log_layout.specs.Places.{first_home, limit_of, sectors_of};
 ghost use Rattle.log_layout.specs.Values.{shape_of};
 ghost use Rattle.log_image.specs.Copies.{copy_reads_of, MakesReads};
 ghost use Rattle.log_image.specs.Formats.{IsWhole};
@@ -35,7 +35,8 @@ pub fn read_copy<M: Medium>(
     ensures passes { MakesReads (copy_reads_of sizes.now.format) result
         (M.state m.old) (M.state m.new) }
     ensures quiet { IsQuiet (M.state m.old) (M.state m.new) }
-    ensures follows { M.follows m.old m.new }
+    ensures follows { M.follows m.old m.new
+        × LooksOnly (λ s. s < first_home (shape_of sizes.now)) (M.state m.old) (M.state m.new) }
 {
     m.read(copy_place(sizes.format, slot, i), to)?;
     match sizes.format {
@@ -59,7 +60,8 @@ fn read_begin<M: Medium>(
         (40 + 16 * (i % 30)) (40 + 16 * (i % 30) + 8) ++ drop 8 to.old) }
     ensures passes { Passes Read result (M.state m.old) (M.state m.new) }
     ensures quiet { IsQuiet (M.state m.old) (M.state m.new) }
-    ensures follows { M.follows m.old m.new }
+    ensures follows { M.follows m.old m.new
+        × LooksOnly (λ s. s ≡ 2 + 249 * slot + i / 30) (M.state m.old) (M.state m.new) }
 {
     let mut descriptor = [0; 512];
     let place = slot_place(LogFormat::Two, slot) + (i / 30) as u64;

@@ -1,10 +1,10 @@
 -- What a call of a log answers, and what it leaves of its medium.
-use Rattle.std.specs.Prelude.{◌≡◌, ℕ, ◌+◌, ◌≤◌, true, if◌then◌else◌, Result, is_ok}
+use Rattle.std.specs.Prelude.{◌≡◌, ℕ, ◌+◌, ◌<◌, ◌≤◌, true, if◌then◌else◌, Result, is_ok}
 use Rattle.std.specs.Prelude.{IfOk, IfErr, OnOk, OnErr}
-use Rattle.medium.specs.Medium.{State}
+use Rattle.medium.specs.Medium.{State, LooksOnly}
 use Rattle.medium.specs.Moments.{LeavesOnly, SparesFrom, IsQuiet}
 use Rattle.medium.specs.Sent.{SendsUpTo}
-use Rattle.log_layout.specs.Places.{sectors_of}
+use Rattle.log_layout.specs.Places.{first_home, sectors_of}
 use Rattle.redo_log.specs.declared.fault.LogFault.{LogFault}
 use Rattle.redo_log.specs.declared.fault.LogFault.TheVariants.{Medium}
 use Rattle.redo_log.specs.Value.{LogValue, died}
@@ -48,6 +48,8 @@ pub record LeavesLog (log : LogValue) (old new : State) : Type 0 where
   pub moments : LeavesOnly (λ _. Unit {0}) old new
   -- no sector behind the image is written
   pub spares : SparesFrom (sectors_of log.shape) old new
+  -- no sector at home or behind is read
+  pub looks : LooksOnly (λ s. s < first_home log.shape) old new
 
 -- a call writes nothing: the medium holds what it held of this log, and a cut leaves no more
 pub record KeepsLog (log : LogValue) (old new : State) : Type 0 where
@@ -55,3 +57,5 @@ pub record KeepsLog (log : LogValue) (old new : State) : Type 0 where
   pub holds : (view : View) → HoldsView log old view → HoldsView log new view
   pub cuts : (view : View) → HoldsView log old view → view.ours ≡ true
       → LeavesOnly (MayLeave old.size log view) old new
+  -- no sector at home or behind is read
+  pub looks : LooksOnly (λ s. s < first_home log.shape) old new

@@ -32,6 +32,13 @@ IsInside size (Copy from to first) = (from < size) × (to < size)
 IsInside size Flush = Unit {0}
 IsInside size (Head head) = 1 < size
 
+-- the turn reads no sector from this one on
+abbrev pub ReadsBefore : ℕ → Turn → Type 0
+ReadsBefore end (Load from) = from < end
+ReadsBefore end (Copy from to first) = from < end
+ReadsBefore end Flush = Unit {0}
+ReadsBefore end (Head head) = Unit {0}
+
 -- what it may add, at any moment, to what a cut leaves
 abbrev pub MayTurn : Turn → State → State → Type 0
 MayTurn (Load from) old new = IsQuiet old new

@@ -1,9 +1,9 @@
 //! The turns that retire a durable record, one after the other.
 ghost use Rattle.std.specs.Prelude.{◌≡◌, ℕ, ◌≤◌, ◌<◌, ◌+◌, ◌*◌, length, slice_index, slice_range};
 ghost use Rattle.std.specs.Prelude.{OnOk, is_ok, if◌then◌else◌};
-ghost use Rattle.medium.specs.Medium.{Holds, Only};
+ghost use Rattle.medium.specs.Medium.{Holds, Only, LooksOnly};
 ghost use Rattle.medium.specs.Moments.{SparesFrom};
-ghost use Rattle.log_layout.specs.Places.{sectors_of, first_data_of};
+ghost use Rattle.log_layout.specs.Places.{first_home, sectors_of, first_data_of};
 ghost use Rattle.log_layout.specs.Values.{shape_of};
 ghost use Rattle.log_image.specs.Layout.{slot_at};
 ghost use Rattle.log_image.specs.Formats.{layout_of};
@@ -11,6 +11,7 @@ ghost use Rattle.redo_log.specs.Value.{turns_home};
 ghost use Rattle.redo_log.specs.Stages.{IsRecord};
 ghost use Rattle.redo_log.specs.Calls.{CallsUpTo, WritesOnly};
 ghost use Rattle.redo_log.specs.Turns.{begun_with, kept_by, calls_of, sends_of, IsInside, MakesTurn};
+ghost use Rattle.redo_log.specs.Turns.{ReadsBefore};
 ghost use Rattle.redo_log.specs.Turns.{IsCopyOf, IsHomeTurn, IsNextTurn};
 
 use crate::stage::turns_home;
@@ -38,7 +39,8 @@ impl Turn {
             ≡ (if is_ok result then kept_by self.now (M.state m.old) kept.old else kept.old) }
         ensures counts { CallsUpTo (calls_of self.now) (sends_of self.now) result
             (M.state m.old) (M.state m.new) }
-        ensures follows { M.follows m.old m.new }
+        ensures follows { M.follows m.old m.new × ((end : ℕ) → ReadsBefore end self.now
+            → LooksOnly (λ s. s < end) (M.state m.old) (M.state m.new)) }
     {
         match self {
             Turn::Load(from) => {
@@ -70,7 +72,8 @@ fn copy_sector<M: Medium>(
     ensures counts { CallsUpTo 2 1 result (M.state m.old) (M.state m.new) }
     ensures spares { (first : ℕ) → to < first
         → SparesFrom first (M.state m.old) (M.state m.new) }
-    ensures follows { M.follows m.old m.new }
+    ensures follows { M.follows m.old m.new
+        × LooksOnly (λ s. s ≡ from) (M.state m.old) (M.state m.new) }
 {
     let mut sector = [0; 512];
     m.read(from, &mut sector)?;
@@ -97,7 +100,8 @@ fn write_through<M: Medium>(m: &mut M, place: u64, sector: &[u8; 512]) -> Result
     ensures counts { CallsUpTo 2 2 result (M.state m.old) (M.state m.new) }
     ensures spares { (first : ℕ) → place < first
         → SparesFrom first (M.state m.old) (M.state m.new) }
-    ensures follows { M.follows m.old m.new }
+    ensures follows { M.follows m.old m.new
+        × ((M.state m.new).looked ≡ (M.state m.old).looked) }
 {
     m.write(place, sector)?;
     m.flush()
@@ -115,6 +119,7 @@ pub(crate) fn next_turn(
     requires turned { turned < turns_home sizes.now.format (length numbers.now) + 2 }
     ensures next { IsNextTurn (shape_of sizes.now) stamp numbers.now kept.now turned result }
     ensures inside { IsInside (sectors_of (shape_of sizes.now)) result }
+    ensures reads { ReadsBefore (first_home (shape_of sizes.now)) result }
 {
     let home = turns_home(sizes.format, numbers.len());
     if turned < home {
@@ -134,6 +139,7 @@ fn home_turn(sizes: &Super, stamp: u64, numbers: &[u64], kept: &[u8; 512], turne
     ensures next { IsHomeTurn sizes.now.format (shape_of sizes.now) stamp numbers.now kept.now
         turned result }
     ensures inside { IsInside (sectors_of (shape_of sizes.now)) result }
+    ensures reads { ReadsBefore (first_home (shape_of sizes.now)) result }
 {
     match sizes.format {
         LogFormat::One => copy_turn(sizes, stamp, numbers, turned, None),
@@ -167,6 +173,7 @@ fn copy_turn(sizes: &Super, stamp: u64, numbers: &[u64], i: usize, first: Option
         + first_data_of sizes.now.format + i)
         (sizes.now.home + slice_index numbers.now i) first result }
     ensures inside { IsInside (sectors_of (shape_of sizes.now)) result }
+    ensures reads { ReadsBefore (first_home (shape_of sizes.now)) result }
 {
     let from = copy_place(sizes.format, slot_of(stamp, sizes.slots), i);
     Turn::Copy(from, sizes.home_of(numbers[i]), first)

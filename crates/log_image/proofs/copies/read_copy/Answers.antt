@@ -1,13 +1,15 @@
-use Rattle.std.proofs.Common.{◌≡◌, ◌+◌, ◌*◌, ◌/◌, ◌%◌, ℕ, refl, ap, subst, ◌∙◌, arith}
+use Rattle.std.proofs.Common.{◌≡◌, ◌+◌, ◌*◌, ◌/◌, ◌%◌, ◌<◌, ℕ, refl, ap, subst, ◌∙◌, arith}
 use Rattle.std.proofs.lemmas.Result.{on_ok_weaker}
+use Rattle.medium.proofs.Looking.{looks_joined, look_below}
 use Rattle.medium.proofs.Moments.{quiet_call, quiet_joined}
 use Rattle.log_layout.specs.declared.log_format.LogFormat.{LogFormat}
-use Rattle.log_layout.specs.Places.{first_data_of}
+use Rattle.log_layout.specs.Places.{first_home, first_data_of}
 use Rattle.log_layout.specs.Values.{shape_of}
 use Rattle.log_image.specs.Formats.{layout_of}
 use Rattle.log_image.specs.Layout.{IsWholeIn}
 use Rattle.log_image.proofs.Copying.{descriptor_there, place_there, copy_is}
 use Rattle.log_image.proofs.ReadingOne.{place_there as place_there_one}
+use Rattle.log_image.proofs.Sighting.{place_before, descriptor_before}
 use Rattle.log_image.proofs.copies.read_copy.Goals as goal
 
 pub returns-in-One-clause-ok : goal.returns-in-One-clause-ok
@@ -46,3 +48,52 @@ returns-in-Two-clause-quiet g c =
     let new = g.M.Medium.state c.read_begin.new.m in
     quiet_joined old mid new (quiet_call old mid c.read.ensures.passes c.read.ensures.content c.read.ensures.sets)
     c.read_begin.ensures.quiet
+
+pub returns-in_err-read-clause-follows : goal.returns-in_err-read-clause-follows
+returns-in_err-read-clause-follows g c =
+    let old = g.M.Medium.state c.args.m.now in
+    let mid = g.M.Medium.state c.read.new.self in (
+      c.read.ensures.follows.0,
+      look_below (first_home (shape_of c.args.sizes.now)) old mid c.copy_place.result
+          (omega (
+            arith,
+            c.copy_place.ensures,
+            place_before c.args.sizes.now.format c.args.sizes.now.slots c.args.sizes.now.home c.args.slot
+                c.args.i c.args.sizes.now.home_is c.requires.slot c.requires.inside,
+          )) c.read.ensures.follows.1,
+    )
+
+pub returns-in-One-clause-follows : goal.returns-in-One-clause-follows
+returns-in-One-clause-follows g c =
+    let old = g.M.Medium.state c.args.m.now in
+    let mid = g.M.Medium.state c.read.new.self in (
+      c.read.ensures.follows.0,
+      look_below (first_home (shape_of c.args.sizes.now)) old mid c.copy_place.result
+          (omega (
+            arith,
+            c.copy_place.ensures,
+            place_before c.args.sizes.now.format c.args.sizes.now.slots c.args.sizes.now.home c.args.slot
+                c.args.i c.args.sizes.now.home_is c.requires.slot c.requires.inside,
+          )) c.read.ensures.follows.1,
+    )
+
+pub returns-in-Two-clause-follows : goal.returns-in-Two-clause-follows
+returns-in-Two-clause-follows g c =
+    let old = g.M.Medium.state c.args.m.now in
+    let mid = g.M.Medium.state c.read.new.self in
+    let new = g.M.Medium.state c.read_begin.new.m in
+    let home = first_home (shape_of c.args.sizes.now) in (
+      g.met.M.Medium.follows_through c.args.m.now c.read.new.self c.read_begin.new.m c.read.ensures.follows.0
+          c.read_begin.ensures.follows.0,
+      looks_joined (λ s. s < home) old mid new
+          (look_below (first_home (shape_of c.args.sizes.now)) old mid c.copy_place.result
+          (omega (
+            arith,
+            c.copy_place.ensures,
+            place_before c.args.sizes.now.format c.args.sizes.now.slots c.args.sizes.now.home c.args.slot
+                c.args.i c.args.sizes.now.home_is c.requires.slot c.requires.inside,
+          )) c.read.ensures.follows.1)
+          (look_below home mid new (2 + 249 * c.args.slot + c.args.i / 30)
+          (descriptor_before c.args.sizes.now.format c.args.sizes.now.slots c.args.sizes.now.home c.args.slot c.args.i c.in-Two.is
+          c.args.sizes.now.home_is c.requires.slot c.requires.inside) c.read_begin.ensures.follows.1),
+    )

@@ -1,4 +1,5 @@
-use Rattle.std.proofs.Common.{ℕ, List, ◌∙◌, ap}
+use Rattle.std.proofs.Common.{◌≡◌, ℕ, List, ◌∙◌, ap}
+use Rattle.medium.proofs.Looking.{write_looks, looks_joined}
 use Rattle.redo_log.specs.Turns.{begun_with}
 use Rattle.redo_log.proofs.Adding.{quiet_write}
 use Rattle.redo_log.proofs.turn.copy_sector.Goals as goal
@@ -12,3 +13,13 @@ returns-clause-adds g c =
     (g.met.M.Medium.sound c.args.m.now)
     (c.put_first.ensures ∙ ap (λ (l : List ℕ). begun_with c.args.first.now l) c.in_ok-read.ensures.ok) c.read.ensures.passes
     c.read.ensures.sets c.write.ensures.passes c.write.ensures.sets
+
+pub returns-clause-follows : goal.returns-clause-follows
+returns-clause-follows g c =
+    let old = g.M.Medium.state c.args.m.now in
+    let mid = g.M.Medium.state c.read.new.self in
+    let new = g.M.Medium.state c.write.new.self in (
+      g.met.M.Medium.follows_through c.args.m.now c.read.new.self c.write.new.self c.read.ensures.follows.0 c.write.ensures.follows,
+      looks_joined (λ s. s ≡ c.args.from) old mid new c.read.ensures.follows.1
+          (write_looks (λ s. s ≡ c.args.from) mid new c.write.ensures.passes),
+    )

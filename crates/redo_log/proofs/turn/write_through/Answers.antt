@@ -1,3 +1,4 @@
+use Rattle.std.proofs.Common.{◌∙◌}
 use Rattle.redo_log.proofs.Adding.{write_quiet}
 use Rattle.redo_log.proofs.turn.write_through.Goals as goal
 
@@ -8,3 +9,12 @@ returns-clause-adds g c =
     let new = g.M.Medium.state c.flush.new.self in
     write_quiet c.args.place c.args.sector.now old mid new (g.met.M.Medium.sound c.args.m.now) c.write.ensures.passes c.write.ensures.sets
     c.flush.ensures.passes c.flush.ensures.sets
+
+pub returns-in_err-write-clause-follows : goal.returns-in_err-write-clause-follows
+returns-in_err-write-clause-follows g c = (c.write.ensures.follows, c.write.ensures.passes.looked_stays (λ e. cc e))
+
+pub returns-clause-follows : goal.returns-clause-follows
+returns-clause-follows g c = (
+  g.met.M.Medium.follows_through c.args.m.now c.write.new.self c.flush.new.self c.write.ensures.follows c.flush.ensures.follows,
+  c.flush.ensures.passes.looked_stays (λ e. cc e) ∙ c.write.ensures.passes.looked_stays (λ e. cc e),
+)

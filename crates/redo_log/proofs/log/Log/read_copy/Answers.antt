@@ -10,6 +10,7 @@ use Rattle.redo_log.specs.Value.{LogValue}
 use Rattle.redo_log.specs.Held.{MayLeave}
 use Rattle.redo_log.specs.Shown.{lists_of}
 use Rattle.redo_log.proofs.Closing.{quiet_held, copy_read, sizes_sized}
+use Rattle.redo_log.proofs.Sighting.{shape_looks}
 use Rattle.redo_log.proofs.log.Log.read_copy.Goals as goal
 
 -- as many lists as records
@@ -41,4 +42,7 @@ returns-clause-keeps g c = record {
       let old = g.M.Medium.state c.args.m.now in
       quiet_leaves (MayLeave old.size c.args.self.now view) old (g.M.Medium.state c.read_copy.new.m) (g.met.M.Medium.sound c.args.m.now)
       (holds.leaves ours) c.read_copy.ensures.quiet;
+  looks =
+      shape_looks (shape_of c.self.inside.sizes) c.args.self.now (g.M.Medium.state c.args.m.now) (g.M.Medium.state c.read_copy.new.m)
+      (ap (λ (v : LogValue). v.shape) c.self.view_is) c.read_copy.ensures.follows.1;
 }

@@ -1,8 +1,10 @@
 use Rattle.std.proofs.Common.{◌≡◌, ℕ, suc, ◌+◌, ◌-◌, ◌<◌, List, length, [], ◌∷◌, drop, subst, sym, ◌∙◌, ap, arith, rules, length-drop}
 use Rattle.std.specs.Prelude.{All, replicate, Bool, true, false, slice_index_or, if◌then◌else◌}
 use Rattle.std.proofs.lemmas.List.{length-map}
+use Rattle.medium.proofs.Looking.{no_looks}
 use Rattle.medium.proofs.Moments.{started}
 use Rattle.arrayvec.specs.ArrayVec.{ArrayVec}
+use Rattle.log_layout.specs.Places.{first_home}
 use Rattle.log_layout.specs.Values.{shape_of}
 use Rattle.redo_log.specs.Value.{LogValue, turns_home, died, IsRetireStepped}
 use Rattle.redo_log.specs.Stages.{value_at, IsRing, AreInside}
@@ -15,6 +17,7 @@ use Rattle.redo_log.proofs.Ringing.{front_is, ring_retired, retired_last}
 use Rattle.redo_log.proofs.Closing.{on_ok_here, ok_here, err_here, sizes_sized, turn_moments, turn_cuts, turn_dead, turn_more, turn_retires}
 use Rattle.redo_log.proofs.Calling.{turn_costs, step_costs, turn_refused}
 use Rattle.redo_log.proofs.Sending.{turn_sent, step_sends}
+use Rattle.redo_log.proofs.Sighting.{turn_looks}
 use Rattle.redo_log.proofs.Sparing.{turn_spares}
 use Rattle.redo_log.proofs.log.Log.retire_step.Goals as goal
 
@@ -30,6 +33,8 @@ returns-in_default-clause-leaves g c = record {
   moments =
       started (λ _. Unit {0}) (g.M.Medium.state c.args.m.now) (g.met.M.Medium.sound c.args.m.now) (λ image cut. tt);
   spares = search rules;
+  looks = no_looks (λ s. s < first_home c.args.self.now.shape) (g.M.Medium.state c.args.m.now) (g.M.Medium.state c.args.m.now)
+      (λ i. (g.M.Medium.state c.args.m.now).looked);
 }
 
 -- the oldest record stands first
@@ -88,6 +93,9 @@ returns-then-is_err-clause-leaves g c = record {
   spares =
       turn_spares (shape_of c.self.inside.sizes) c.args.self.now (g.M.Medium.state c.args.m.now) (g.M.Medium.state c.make.new.m)
       (ap (λ (v : LogValue). v.shape) c.self.view_is) c.next_turn-turn.result c.next_turn-turn.ensures.inside c.make.ensures.makes.spares;
+  looks =
+      turn_looks (shape_of c.self.inside.sizes) c.args.self.now (g.M.Medium.state c.args.m.now) (g.M.Medium.state c.make.new.m)
+      (ap (λ (v : LogValue). v.shape) c.self.view_is) c.next_turn-turn.result c.next_turn-turn.ensures.reads c.make.ensures.follows.1;
 }
 
 pub returns-then-self-home-clause-leaves : goal.returns-then-self-home-clause-leaves
@@ -108,6 +116,9 @@ returns-then-self-home-clause-leaves g c = record {
   spares =
       turn_spares (shape_of c.self.inside.sizes) c.args.self.now (g.M.Medium.state c.args.m.now) (g.M.Medium.state c.make.new.m)
       (ap (λ (v : LogValue). v.shape) c.self.view_is) c.next_turn-turn.result c.next_turn-turn.ensures.inside c.make.ensures.makes.spares;
+  looks =
+      turn_looks (shape_of c.self.inside.sizes) c.args.self.now (g.M.Medium.state c.args.m.now) (g.M.Medium.state c.make.new.m)
+      (ap (λ (v : LogValue). v.shape) c.self.view_is) c.next_turn-turn.result c.next_turn-turn.ensures.reads c.make.ensures.follows.1;
 }
 
 pub returns-clause-leaves : goal.returns-clause-leaves
@@ -128,6 +139,9 @@ returns-clause-leaves g c = record {
   spares =
       turn_spares (shape_of c.self.inside.sizes) c.args.self.now (g.M.Medium.state c.args.m.now) (g.M.Medium.state c.make.new.m)
       (ap (λ (v : LogValue). v.shape) c.self.view_is) c.next_turn-turn.result c.next_turn-turn.ensures.inside c.make.ensures.makes.spares;
+  looks =
+      turn_looks (shape_of c.self.inside.sizes) c.args.self.now (g.M.Medium.state c.args.m.now) (g.M.Medium.state c.make.new.m)
+      (ap (λ (v : LogValue). v.shape) c.self.view_is) c.next_turn-turn.result c.next_turn-turn.ensures.reads c.make.ensures.follows.1;
 }
 
 pub returns-then-self-home-clause-holds : goal.returns-then-self-home-clause-holds

@@ -13,6 +13,7 @@ use Rattle.redo_log.specs.Index.{look, with_copies, IsIndex}
 use Rattle.redo_log.proofs.Ringing.{lists_more, ring_durable}
 use Rattle.redo_log.proofs.Entering.{record_room, index_more}
 use Rattle.redo_log.proofs.Closing.{on_ok_here, sizes_sized, step_cuts, step_dead, step_goes_on, step_durable, step_whole}
+use Rattle.redo_log.proofs.Sighting.{call_looks}
 use Rattle.redo_log.proofs.Sparing.{call_spares}
 use Rattle.redo_log.proofs.log.Log.step.Goals as goal
 
@@ -51,6 +52,8 @@ returns-then-is_err-clause-leaves g c = record {
       call_spares (shape_of c.self.inside.sizes) c.args.self.now (g.M.Medium.state c.args.m.now) (g.M.Medium.state c.make_next.new.m)
       (ap (λ (v : LogValue). v.shape) c.self.view_is) c.make_next.ensures.makes.call c.make_next.ensures.makes.inside
       c.make_next.ensures.makes.makes.spares;
+  looks = call_looks c.args.self.now (g.M.Medium.state c.args.m.now) (g.M.Medium.state c.make_next.new.m)
+      c.make_next.ensures.makes.call c.make_next.ensures.makes.makes.passes;
 }
 
 pub returns-then-made-steps_for-clause-leaves : goal.returns-then-made-steps_for-clause-leaves
@@ -71,6 +74,8 @@ returns-then-made-steps_for-clause-leaves g c = record {
       call_spares (shape_of c.self.inside.sizes) c.args.self.now (g.M.Medium.state c.args.m.now) (g.M.Medium.state c.make_next.new.m)
       (ap (λ (v : LogValue). v.shape) c.self.view_is) c.make_next.ensures.makes.call c.make_next.ensures.makes.inside
       c.make_next.ensures.makes.makes.spares;
+  looks = call_looks c.args.self.now (g.M.Medium.state c.args.m.now) (g.M.Medium.state c.make_next.new.m)
+      c.make_next.ensures.makes.call c.make_next.ensures.makes.makes.passes;
 }
 
 pub returns-clause-leaves : goal.returns-clause-leaves
@@ -91,6 +96,8 @@ returns-clause-leaves g c = record {
       call_spares (shape_of c.self.inside.sizes) c.args.self.now (g.M.Medium.state c.args.m.now) (g.M.Medium.state c.make_next.new.m)
       (ap (λ (v : LogValue). v.shape) c.self.view_is) c.make_next.ensures.makes.call c.make_next.ensures.makes.inside
       c.make_next.ensures.makes.makes.spares;
+  looks = call_looks c.args.self.now (g.M.Medium.state c.args.m.now) (g.M.Medium.state c.make_next.new.m)
+      c.make_next.ensures.makes.call c.make_next.ensures.makes.makes.passes;
 }
 
 pub returns-then-made-steps_for-clause-holds : goal.returns-then-made-steps_for-clause-holds

@@ -1,6 +1,7 @@
-use Rattle.std.proofs.Common.{sym, subst}
+use Rattle.std.proofs.Common.{ℕ, ◌<◌, sym, subst}
+use Rattle.medium.proofs.Looking.{no_looks, flush_looks, look_below}
 use Rattle.redo_log.specs.declared.turn.Turn.{Turn}
-use Rattle.redo_log.specs.Turns.{MakesTurn}
+use Rattle.redo_log.specs.Turns.{MakesTurn, ReadsBefore}
 use Rattle.redo_log.proofs.turn.Turn.make.Goals as goal
 
 pub returns-in-Copy-clause-makes : goal.returns-in-Copy-clause-makes
@@ -12,3 +13,37 @@ returns-in-Copy-clause-makes g c =
       adds = c.copy_sector.ensures.adds;
       spares = λ first inside. c.copy_sector.ensures.spares first inside.1;
     })
+
+pub returns-in_err-read-in-Load-clause-follows : goal.returns-in_err-read-in-Load-clause-follows
+returns-in_err-read-in-Load-clause-follows g c = (
+  c.read.ensures.follows.0,
+  λ end before. look_below end (g.M.Medium.state c.args.m.now) (g.M.Medium.state c.read.new.self) _
+      (subst (λ (t : Turn). ReadsBefore end t) c.in-Load.is before) c.read.ensures.follows.1,
+)
+
+pub returns-in_ok-read-in-Load-clause-follows : goal.returns-in_ok-read-in-Load-clause-follows
+returns-in_ok-read-in-Load-clause-follows g c = (
+  c.read.ensures.follows.0,
+  λ end before. look_below end (g.M.Medium.state c.args.m.now) (g.M.Medium.state c.read.new.self) _
+      (subst (λ (t : Turn). ReadsBefore end t) c.in-Load.is before) c.read.ensures.follows.1,
+)
+
+pub returns-in-Copy-clause-follows : goal.returns-in-Copy-clause-follows
+returns-in-Copy-clause-follows g c = (
+  c.copy_sector.ensures.follows.0,
+  λ end before. look_below end (g.M.Medium.state c.args.m.now) (g.M.Medium.state c.copy_sector.new.m) _
+      (subst (λ (t : Turn). ReadsBefore end t) c.in-Copy.is before) c.copy_sector.ensures.follows.1,
+)
+
+pub returns-in-Flush-clause-follows : goal.returns-in-Flush-clause-follows
+returns-in-Flush-clause-follows g c = (
+  c.flush.ensures.follows,
+  λ end before. flush_looks (λ s. s < end) (g.M.Medium.state c.args.m.now) (g.M.Medium.state c.flush.new.self) c.flush.ensures.passes,
+)
+
+pub returns-in-Head-clause-follows : goal.returns-in-Head-clause-follows
+returns-in-Head-clause-follows g c = (
+  c.write_through.ensures.follows.0,
+  λ end before. no_looks (λ s. s < end) (g.M.Medium.state c.args.m.now) (g.M.Medium.state c.write_through.new.m)
+      c.write_through.ensures.follows.1,
+)
