@@ -5,6 +5,7 @@ use Rattle.std.proofs.lemmas.Bool.Decides.{nat_tests}
 use Rattle.std.proofs.lemmas.List.Elements.{All-weaker}
 use Rattle.std.proofs.lemmas.List.Sums.{list_all-from_AllPass}
 use Rattle.medium.specs.Medium.{LooksOnly}
+use Rattle.medium.specs.Sent.{sent}
 use Rattle.window.specs.Window.{Window, state_of, is_in_sight, IsServed}
 
 -- the first sectors are in sight
@@ -17,10 +18,10 @@ pub shown_in_sight : (w : Window) (s : ℕ) → w.from ≤ s → s < w.from + w.
 shown_in_sight w s low high = grind (arith, nat_tests)
 
 -- Calls of which each read names a sector with P: where all such sectors are in sight, and what
--- waits and these calls have room together, none of them is refused.
+-- waits and their writes and flushes have room together, none of them is refused.
 pub none_refused : (P : ℕ → Type 0) (old new : Window) → IsServed old new
     → ((s : ℕ) → P s → is_in_sight old s ≡ true) → LooksOnly P (state_of old) (state_of new)
-    → length old.outbox + (state_of new).calls ≤ (state_of old).calls + old.room
+    → length old.outbox + sent (state_of new) ≤ sent (state_of old) + old.room
     → (state_of new).failures ≡ (state_of old).failures
 none_refused P old new served sight named few = served named.looks named.looked
     (list_all-from_AllPass (is_in_sight old) named.looks
