@@ -199,7 +199,7 @@ static bool refuse_start(struct disk *disk, uint32_t fault)
     return refuse(disk, fault == USBDISK_NO_MEMORY ? STATUS_MEMORY : STATUS_REFUSED, cause ? cause : number);
 }
 
-/* The room that suffices for any event. Where sector 0 tells no slots, the start says so with any room. */
+/* The room that suffices for any start and event. Where sector 0 tells no slots, the start says so with any room. */
 static size_t room_of(const struct disk *disk)
 {
     uint64_t room = usbdisk_room(disk->format, disk->slots);

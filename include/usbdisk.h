@@ -106,8 +106,9 @@ enum {
     USBDISK_FLUSH = 2
 };
 
-/* How many calls the outbox must have room for, so that no start and no event is refused for want of
- * it: for an image of this format (1 or 2) with so many log slots. 0 where these are no such. */
+/* How many writes and flushes the outbox must have room for, so that no start and no event is refused
+ * for want of it: for an image of this format (1 or 2) with so many log slots. 0 where these are no
+ * such. Where the image may have more slots, or the bytes may be none, ask for format 2 and 64. */
 uint64_t usbdisk_room(uint32_t format, uint64_t slots);
 
 /* How many bytes of memory a start takes where it is given so many bytes of the first sectors: for an

@@ -59,7 +59,7 @@ pub record Plays (old : Disk) (event : Event) (answer : Answer) (new : Disk) : T
   -- wherever in the outbox the device is, a cut of it leaves what a cut at some moment could
   pub covers : CoversDevice (medium_of old) (medium_of new)
   -- none of its calls is refused where the sectors that it read were in sight, and the outbox had
-  -- room for all of its calls,
+  -- room for all of its writes and flushes,
   pub served : IsServed (medium_of old) (medium_of new)
   -- as it has where `usbdisk_room` tells no more than what is left of the room
   pub fits : length (medium_of old).outbox + room_for (layout_on old) ≤ (medium_of old).room
@@ -137,12 +137,13 @@ pub record LetsGo (old new : Disk) : Type 0 where
 
 -- What a start on this medium leaves, good or refused: no write and no flush was refused where the
 -- room is what `usbdisk_room` tells for the format and the slots of the super; nor, whatever the
--- bytes, where it is what that tells for format 2; nor a read whose sector lies in memory.
+-- bytes, where it is what that tells for format 2 and 64 slots; nor a read whose sector lies in
+-- memory.
 pub record IsSpared (first after : Window) : Type 0 where
   pub fits : let before : State = state_of first in
       (shape : Shape) → IsSuper shape (before.content 0) → sectors_of shape ≤ before.size
       → room_for shape ≤ first.room → NothingIsRefused first after
-  pub fits_any : (slots : ℕ) → room_of Two slots ≤ first.room → NothingIsRefused first after
+  pub fits_any : room_of Two 64 ≤ first.room → NothingIsRefused first after
 
 -- a disk was started on this medium
 pub record Begins (first : Window) (device : Device) (new : Disk) : Type 0 where

@@ -3,13 +3,12 @@ use Rattle.std.specs.Prelude.{◌≡◌, ◌≢◌, ◌≤◌, ◌<◌, ◌⊎�
 use Rattle.log_layout.specs.Places.{Shape, limit_of}
 use Rattle.log_layout.specs.declared.log_format.LogFormat.{LogFormat}
 use Rattle.log_layout.specs.declared.log_format.LogFormat.TheVariants.{One, Two}
-use Rattle.recovery.specs.Copies.{most_start_of}
-use Rattle.scsi_unit.specs.Calls.{most_calls_of}
+use Rattle.recovery.specs.Copies.{most_start_sends}
+use Rattle.scsi_unit.specs.Calls.{most_sends_of}
 
--- As many as an event makes at most, and as a start does: at most 6, and so many for each of 64
--- slots.
+-- As many writes and flushes as an event makes at most, and as a start does that finds so many slots.
 abbrev pub room_of : LogFormat → ℕ → ℕ
-room_of format slots = max (most_calls_of slots (limit_of format)) (6 + most_start_of format * 64)
+room_of format slots = max (most_sends_of format) (most_start_sends format slots)
 
 -- that of an image
 abbrev pub room_for : Shape → ℕ

@@ -87,7 +87,8 @@ pub(crate) fn make_image(
     ACK
 }
 
-/// How many calls an outbox must have room for, for an image of this format with so many slots.
+/// How many writes and flushes an outbox must have room for, for an image of this format with so many
+/// slots.
 pub(crate) fn room_for(version: u32, slots: u64) -> u64
     ensures { TellsRoom version slots result }
 {
@@ -95,8 +96,8 @@ pub(crate) fn room_for(version: u32, slots: u64) -> u64
         return 0;
     }
     match version {
-        1 => (2 * (slots + 5) * 112 + 96).max(6_406),
-        2 => (2 * (slots + 5) * 496 + 480).max(47_238),
+        1 => (48 * slots + 4).max(309),
+        2 => (240 * slots + 4).max(1_479),
         _ => 0,
     }
 }
