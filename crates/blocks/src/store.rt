@@ -1,10 +1,11 @@
 //! What a store is made of.
-ghost use Rattle.std.specs.Prelude.{◌≡◌, ◌↔◌, ◌<◌, ◌≤◌, ◌/◌, ℕ, true, false, length, IsTrue};
+ghost use Rattle.std.specs.Prelude.{◌≡◌, ◌↔◌, ◌<◌, ◌≤◌, ◌+◌, ◌/◌, ℕ, true, false, length, IsTrue};
 ghost use Rattle.inlet.specs.Inlet.{AreHeld};
 ghost use Rattle.medium.specs.Moments.{EachCut};
+ghost use Rattle.log_layout.specs.Places.{first_home};
 ghost use Rattle.blocks.specs.Book.{Book};
 ghost use Rattle.blocks.specs.Finding.{MayFind};
-ghost use Rattle.blocks.specs.StoreValue.{blocks_of, transfer_limit, is_dead, steps_left};
+ghost use Rattle.blocks.specs.StoreValue.{blocks_of, layout_of, transfer_limit, is_dead, steps_left};
 ghost use Rattle.blocks.specs.StoreValue.{HasLimits, FitsBook};
 ghost use Rattle.blocks.specs.Settled.{IsSettled};
 ghost use Rattle.blocks.specs.Passing.{IsUntouched};
@@ -62,6 +63,14 @@ impl<M: Medium> Store<M> {
         ensures most { result ≤ 240 }
     {
         self.sizes.format.limit()
+    }
+
+    /// The home sector of a block.
+    pub fn home_of(&self, block: u64) -> u64
+        requires { block < blocks_of self.now.cached }
+        ensures { result ≡ first_home (layout_of self.now.cached) + block }
+    {
+        self.sizes.home_of(block)
     }
 
     /// Whether the store accepts no write until the next start: a write or a flush was refused, or
