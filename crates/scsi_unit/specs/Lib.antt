@@ -11,3 +11,4 @@ pub mod Serving
 pub mod Calls
 pub mod Performing
 pub mod StoreCalls
+pub mod Reading

@@ -1,0 +1,46 @@
+//! Which home sectors a command reads.
+ghost use Rattle.std.specs.Prelude.{◌≡◌, ◌<◌, ◌≤◌, length, IfSome};
+ghost use Rattle.scsi_unit.specs.UnitValue.{unit_limit};
+ghost use Rattle.scsi_unit.specs.Serving.{command_for};
+ghost use Rattle.scsi_unit.specs.Reading.{first_home_of, home_sectors_of, read_of};
+
+use crate::Unit;
+use cdb::{Command, Transfer};
+use medium::Medium;
+
+/// Home sectors, one behind the other: the first, and how many.
+#[derive(Clone, Copy, Debug, PartialEq, Eq)]
+pub struct HomeSectors {
+    pub first: u64,
+    pub count: u32,
+}
+
+impl<M: Medium> Unit<M> {
+    /// The home sectors of the blocks that a command block would read, if it were carried out now:
+    /// those of a READ of some blocks that passes all checks, and none else.
+    pub fn home_sectors(&self, block: &[u8]) -> Option<HomeSectors>
+        requires { 0 < length block.now }
+        ensures is { result ≡ home_sectors_of (first_home_of self.now)
+            (read_of (command_for self.now block.now)) }
+        ensures few { IfSome result (λ wanted.
+            (0 < wanted.count) × (wanted.count ≤ unit_limit self.now)) }
+    {
+        let transfer = read_of(self.command(block).ok()?)?;
+        Some(HomeSectors {
+            first: self.store.home_of(transfer.address),
+            count: transfer.count,
+        })
+    }
+}
+
+// What a READ of some blocks moves.
+fn read_of(command: Command) -> Option<Transfer>
+    ensures { result ≡ read_of (Ok command) }
+{
+    match command {
+        Command::Read10(transfer) | Command::Read16(transfer) if transfer.count > 0 => Some(
+            transfer,
+        ),
+        _ => None,
+    }
+}
