@@ -10,6 +10,7 @@ pub mod Taking
 pub mod Telling
 pub mod Stepping
 pub mod Passing
+pub mod ReadAtOnce
 pub mod Alternation
 pub mod Runs
 pub mod OneStep

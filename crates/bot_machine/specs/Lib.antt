@@ -22,6 +22,7 @@ pub mod Disk
 pub mod Opening
 pub mod Refinement
 pub mod Serving
+pub mod Reading
 pub mod Striking
 pub mod Transfers
 pub mod Lives

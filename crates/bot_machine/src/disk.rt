@@ -36,8 +36,8 @@ use std::marker::Model;
 /// A disk over a medium.
 #[derive(Drop)]
 pub struct Disk<M: Medium> {
-    unit: Unit<M>,
-    wire: Wire,
+    pub(crate) unit: Unit<M>,
+    pub(crate) wire: Wire,
     // The intended bytes that came of the data being taken.
     taken: Vec<u8>,
     // The bytes that are sent.

@@ -57,7 +57,7 @@ fn carry_out<M: Medium>(
 }
 
 // The exchange that a packet begins, if it spells a command wrapper.
-fn read_exchange<M: Medium>(unit: &Unit<M>, packet: &[u8]) -> Option<Exchange>
+pub(crate) fn read_exchange<M: Medium>(unit: &Unit<M>, packet: &[u8]) -> Option<Exchange>
     ensures { MatchOption result (SpellsNone packet.now) (IsBegun unit.now packet.now) }
 {
     let command = read_cbw(packet).ok()?;

@@ -1,0 +1,49 @@
+-- Which home sectors an event reads.
+use Rattle.std.specs.Prelude.{◌≡◌, ℕ, List, Option, Some, None, false}
+use Rattle.wrappers.specs.declared.command.Cbw.{Cbw}
+use Rattle.wrappers.specs.declared.case.Case.{Case}
+use Rattle.wrappers.specs.declared.case.Case.TheVariants.{C5, C6}
+use Rattle.wrappers.specs.Cases.{IsCase}
+use Rattle.wrappers.specs.Command.{SpellsCommand}
+use Rattle.scsi_unit.specs.Reading.{first_home_of, home_sectors_of, read_of}
+use Rattle.scsi_unit.specs.Serving.{command_for}
+use Rattle.scsi_unit.specs.UnitValue.{UnitValue, intention_of}
+use Rattle.scsi_unit.specs.declared.reading.HomeSectors.{HomeSectors}
+use Rattle.bot_machine.specs.Disk.{DiskValue}
+use Rattle.bot_machine.specs.Exchange.{finished}
+use Rattle.bot_machine.specs.Intentions.{way_of}
+
+-- the home sectors of the blocks that a command block would have read
+abbrev pub sectors_for : {M : Type 0} → UnitValue M → List ℕ → Option HomeSectors
+sectors_for unit block = home_sectors_of (first_home_of unit) (read_of (command_for unit block))
+
+-- a command that sends is carried out in cases 5 and 6 alone, in the event of its wrapper
+abbrev pub sectors_in : Case → Option HomeSectors → Option HomeSectors
+sectors_in C5 wanted = wanted
+sectors_in C6 wanted = wanted
+sectors_in case wanted = None
+
+-- The packet spells a command wrapper whose command reads the blocks at these home sectors at once.
+pub record WrapperReads {M : Type 0} (unit : UnitValue M) (packet : List ℕ) (wanted : HomeSectors)
+    : Type 0 where
+  pub command : Cbw
+  pub spelled : SpellsCommand packet command
+  pub case : Case
+  pub is_case : IsCase case command.host (way_of (intention_of unit command.block.items))
+  pub reads : sectors_in case (sectors_for unit command.block.items) ≡ Some wanted
+
+-- it spells none that does
+abbrev pub WrapperReadsNone : {M : Type 0} → UnitValue M → List ℕ → Type 0
+WrapperReadsNone unit packet = (wanted : HomeSectors) → WrapperReads unit packet wanted → ⊥
+
+-- A packet to Bulk-Out has the blocks at these home sectors read: it comes where a command wrapper
+-- is expected, Bulk-Out is not halted, and the command that it spells reads them at once.
+pub record ReadsHome {M : Type 0} (disk : DiskValue M) (packet : List ℕ) (wanted : HomeSectors)
+    : Type 0 where
+  pub unhalted : disk.line.out_halted ≡ false
+  pub expected : disk.line.left ≡ finished
+  pub wrapper : WrapperReads disk.unit packet wanted
+
+-- a packet to Bulk-Out has no block read
+abbrev pub ReadsNoHome : {M : Type 0} → DiskValue M → List ℕ → Type 0
+ReadsNoHome disk packet = (wanted : HomeSectors) → ReadsHome disk packet wanted → ⊥
