@@ -1,10 +1,15 @@
 pub mod Carrying
 pub mod Causes
+pub mod Zeros
+pub mod Sparing
+pub mod Making
+pub mod Made
+pub mod Looking
+pub mod Trying
 pub mod Copying
 pub mod Finding
 pub mod Homing
 pub mod Leaving
-pub mod Making
 pub mod Migrating
 pub mod Moving
 pub mod Naming
@@ -12,8 +17,5 @@ pub mod Recovering
 pub mod Replaying
 pub mod Sending
 pub mod Sighting
-pub mod Sparing
-pub mod Trying
 pub mod WholeOne
 pub mod WholeTwo
-pub mod Zeros

@@ -7,12 +7,14 @@ use Rattle.medium.specs.declared.fault.MediumFault.{MediumFault}
 use Rattle.medium.proofs.Moments.{started, started_within, gains_within, goes_on, goes_on_within, weaker, joined_same, at_exit, each_write}
 use Rattle.medium.proofs.Moments.{shrunk}
 use Rattle.medium.proofs.Sparing.{HasSpared, spared_start, spared_joined}
-use Rattle.log_layout.specs.Places.{Shape, sectors_of}
+use Rattle.medium.specs.Blocks.{Array}
+use Rattle.log_layout.specs.Places.{Shape, first_home, sectors_of}
 use Rattle.log_layout.specs.Sectors.{IsSuper, IsHead}
+use Rattle.log_image.specs.Record.{home_of}
 use Rattle.log_image.specs.Standing.{IsOurs}
 use Rattle.recovery.specs.Copies.{freed_at, cleared_at, WithOrWithout, IsBetween}
-use Rattle.recovery.specs.Formatted.{IsNoneOrNew, IsMidFormat, FormatLeaves}
-use Rattle.recovery.proofs.Copying.{sets_within}
+use Rattle.recovery.specs.Formatted.{IsNoneOrNew, IsMidway, ImageLeaves}
+use Rattle.recovery.proofs.Copying.{sets_within, log_ends}
 use Rattle.recovery.proofs.Sparing.{spared_by, spared_within}
 use Rattle.recovery.proofs.Zeros.{zeros_ours}
 
@@ -81,26 +83,26 @@ clear_spares first end old new sound elsewhere within =
     (cleared_freed (IsBetween first end) old new within)
 
 -- nothing was done
-pub nothing_done : (shape : Shape) (m : State) → IsSound m → FormatLeaves shape m m
-nothing_done shape m sound = record {
-  cuts = started (IsMidFormat shape m) m sound (λ image cut. inl cut);
+pub nothing_done : (shape : Shape) (array : Array) (end : ℕ) (m : State) → IsSound m → ImageLeaves shape array end m m
+nothing_done shape array end m sound = record {
+  cuts = started (IsMidway shape array m) m sound (λ image cut. inl cut);
   after_flush = λ many. absurd (omega (arith, many));
-  spares = spared_start (sectors_of shape) m sound;
+  spares = spared_start end m sound;
   looked_stays = λ i. m.looked;
 }
 
-module _ (shape : Shape) (old first : State) (some : 2 ≤ sectors_of shape) (zeros : List ℕ) (are : zeros ≡ replicate 512 0)
+module _ (shape : Shape) (array : Array) (end : ℕ) (old first : State) (some : 2 ≤ end) (zeros : List ℕ) (are : zeros ≡ replicate 512 0)
     (sound : IsSound first) (elsewhere : (x : ℕ) → x ≢ 0 → first.content x ≡ old.content x)
     (moments : LeavesOnly (WithOrWithout 0 zeros old.may_leave) old first) where
   -- the super is being cleared
-  first_cuts : LeavesOnly (IsMidFormat shape old) old first
-  first_cuts = weaker (WithOrWithout 0 zeros old.may_leave) (IsMidFormat shape old) old first
+  first_cuts : LeavesOnly (IsMidway shape array old) old first
+  first_cuts = weaker (WithOrWithout 0 zeros old.may_leave) (IsMidway shape array old) old first
       (λ image either. ⊎_elim inl (λ w. inr (inl (w.2.here ∙ are))) either) moments
 
-  first_spares : SparesFrom (sectors_of shape) old first
-  first_spares = through_spares (sectors_of shape) 0 zeros old first (omega (arith, some)) sound elsewhere moments
+  first_spares : SparesFrom end old first
+  first_spares = through_spares end 0 zeros old first (omega (arith, some)) sound elsewhere moments
 
-  pub first_leaves : first.calls ≤ old.calls + 2 → first.looked ≡ old.looked → FormatLeaves shape old first
+  pub first_leaves : first.calls ≤ old.calls + 2 → first.looked ≡ old.looked → ImageLeaves shape array end old first
   first_leaves few looked = record {
     cuts = first_cuts;
     after_flush = λ many. absurd (omega (arith, few, many));
@@ -109,13 +111,13 @@ module _ (shape : Shape) (old first : State) (some : 2 ≤ sectors_of shape) (ze
   }
 
   -- what follows
-  pub then_leaves : (new : State) → first.calls ≡ old.calls + 2 → LeavesOnly (IsNoneOrNew old.size shape) first new
-      → SparesFrom (sectors_of shape) first new → new.looked ≡ old.looked → FormatLeaves shape old new
+  pub then_leaves : (new : State) → first.calls ≡ old.calls + 2 → LeavesOnly (IsNoneOrNew old.size shape array) first new
+      → SparesFrom end first new → new.looked ≡ old.looked → ImageLeaves shape array end old new
   then_leaves new counted later spares looked = record {
-    cuts = joined_same (IsMidFormat shape old) old first new first_cuts
-        (weaker (IsNoneOrNew old.size shape) (IsMidFormat shape old) first new (λ image is. inr is) later);
+    cuts = joined_same (IsMidway shape array old) old first new first_cuts
+        (weaker (IsNoneOrNew old.size shape array) (IsMidway shape array old) first new (λ image is. inr is) later);
     after_flush = λ many image since. later.each image (subst (λ (t : ℕ). new.left_since t image) (sym counted) since);
-    spares = spared_joined (sectors_of shape) old first new first_spares spares;
+    spares = spared_joined end old first new first_spares spares;
     looked_stays = looked;
   }
 
@@ -138,22 +140,26 @@ head_leaves bytes old mid new sound so_far moments = joined_same HasNone old mid
     (λ w. w.2.elsewhere 0 (λ e. omega arith) ∙ at_exit HasNone old mid sound so_far w.0 w.1) either) moments)
 
 -- without a super there is none
-pub none_leaves : (size : ℕ) (shape : Shape) (old new : State) → LeavesOnly HasNone old new → LeavesOnly (IsNoneOrNew size shape) old new
-none_leaves size shape old new so = weaker HasNone (IsNoneOrNew size shape) old new (λ image none. inl none) so
+pub none_leaves : (size : ℕ) (shape : Shape) (array : Array) (old new : State) → LeavesOnly HasNone old new
+    → LeavesOnly (IsNoneOrNew size shape array) old new
+none_leaves size shape array old new so = weaker HasNone (IsNoneOrNew size shape array) old new (λ image none. inl none) so
 
 -- at each moment of the write of the super
-pub super_leaves : (size : ℕ) (shape : Shape) (bytes : List ℕ) (old mid new : State) → IsFlushed mid → HasNone mid.content
+pub super_leaves : (size : ℕ) (shape : Shape) (array : Array) (bytes : List ℕ) (old mid new : State) → IsFlushed mid → HasNone mid.content
     → sectors_of shape ≤ size → IsSuper shape bytes → IsHead 1 (mid.content 1)
-    → ((x : ℕ) → 2 ≤ x → x < sectors_of shape → mid.content x ≡ replicate 512 0) → LeavesOnly HasNone old mid
-    → LeavesOnly (WithOrWithout 0 bytes mid.may_leave) mid new → LeavesOnly (IsNoneOrNew size shape) old new
-super_leaves size shape bytes old mid new flushed none fits super head zeros so_far moments =
-    joined_same (IsNoneOrNew size shape) old mid new (none_leaves size shape old mid so_far)
-    (weaker (WithOrWithout 0 bytes mid.may_leave) (IsNoneOrNew size shape) mid new
+    → ((x : ℕ) → 2 ≤ x → x < first_home shape → mid.content x ≡ replicate 512 0)
+    → ((b : ℕ) → b < shape.blocks → home_of shape mid.content b ≡ array b) → LeavesOnly HasNone old mid
+    → LeavesOnly (WithOrWithout 0 bytes mid.may_leave) mid new → LeavesOnly (IsNoneOrNew size shape array) old new
+super_leaves size shape array bytes old mid new flushed none fits super head zeros home so_far moments =
+    joined_same (IsNoneOrNew size shape array) old mid new (none_leaves size shape array old mid so_far)
+    (weaker (WithOrWithout 0 bytes mid.may_leave) (IsNoneOrNew size shape array) mid new
     (λ image either. ⊎_elim (λ cut. inl (flushed 0 (image 0) (cut 0) ∙ none)) (λ w. inr (made image w.0 w.1 w.2)) either) moments)
   where
     made : (image before : Image) → CutLeaves mid.may_leave before → Holds 0 bytes before image
-        → IsOurs size shape image (λ b. replicate 512 0) 2
+        → IsOurs size shape image array 2
     made image before cut holds =
+        let ends = log_ends shape super.home_is in
         let same : (x : ℕ) → x ≢ 0 → image x ≡ mid.content x = λ x not. holds.elsewhere x not ∙ flushed x (before x) (cut x) in
-        zeros_ours size shape image fits (subst (IsSuper shape) (sym holds.here) super)
+        zeros_ours size shape array image fits (subst (IsSuper shape) (sym holds.here) super)
         (subst (IsHead 1) (sym (same 1 (λ e. omega arith))) head) (λ x low high. same x (λ e. omega (arith, low, e)) ∙ zeros x low high)
+        (λ b below. same (first_home shape + b) (λ e. omega (arith, e, ends)) ∙ home b below)

@@ -1,10 +1,13 @@
 -- What a format makes.
-use Rattle.std.specs.Prelude.{◌≡◌, ◌⊎◌, ℕ, ◌+◌, ◌≤◌, ◌<◌, ◌^◌, replicate}
+use Rattle.std.specs.Prelude.{◌≡◌, ◌⊎◌, ℕ, ◌+◌, ◌≤◌, ◌<◌, ◌^◌, replicate, Result, OnOk}
 use Rattle.medium.specs.Medium.{State, Image, CutLeaves}
 use Rattle.medium.specs.Moments.{IsFlushed, LeavesOnly, SparesFrom}
-pub use Rattle.log_layout.specs.Places.{Shape, sectors_of}
+use Rattle.medium.specs.Blocks.{Array}
+pub use Rattle.log_layout.specs.Places.{Shape, first_home, sectors_of}
 use Rattle.log_layout.specs.Sectors.{IsSuper, IsHead}
+use Rattle.log_image.specs.Record.{home_of}
 use Rattle.log_image.specs.Standing.{IsOurs}
+use Rattle.recovery.specs.Causes.{MakesNoRead}
 use Rattle.recovery.specs.declared.format_fault.FormatFault.{FormatFault}
 use Rattle.recovery.specs.declared.format_fault.FormatFault.TheVariants.{BadSize, Medium}
 
@@ -25,26 +28,65 @@ pub record IsFormatted (shape : Shape) (m : State) : Type 0 where
   pub zeros : (x : ℕ) → 2 ≤ x → x < sectors_of shape → m.content x ≡ replicate 512 0
   pub ours : IsOurs m.size shape m.content (λ b. replicate 512 0) 2
 
--- the image has zeros in place of a super, or it is ours, for blocks of zeros
-abbrev pub IsNoneOrNew : ℕ → Shape → Image → Type 0
-IsNoneOrNew size shape image =
-    (image 0 ≡ replicate 512 0) ⊎ IsOurs size shape image (λ b. replicate 512 0) 2
+-- the array that an image stands for once it has zeros up to this end: zeros in the home sectors
+-- before the end, and what it held in those behind
+pub record IsArrayFrom (shape : Shape) (end : ℕ) (before : Image) (array : Array) : Type 0 where
+  pub zeros : (b : ℕ) → b < shape.blocks → first_home shape + b < end → array b ≡ replicate 512 0
+  pub kept : (b : ℕ) → b < shape.blocks → end ≤ first_home shape + b
+      → array b ≡ home_of shape before b
 
--- in the middle of a format the image is one that was allowed before, none, or the new one
-abbrev pub IsMidFormat : Shape → State → Image → Type 0
-IsMidFormat shape old image = CutLeaves old.may_leave image ⊎ IsNoneOrNew old.size shape image
+-- The one image that a cut may leave has these sizes, the head at stamp 1, zeros up to the end, and
+-- from there on what it held; it is ours, for this array, and its next stamp is 2.
+pub record IsMade (shape : Shape) (array : Array) (end : ℕ) (old new : State) : Type 0 where
+  pub flushed : IsFlushed new
+  pub super : IsSuper shape (new.content 0)
+  pub head : IsHead 1 (new.content 1)
+  pub zeros : (x : ℕ) → 2 ≤ x → x < end → new.content x ≡ replicate 512 0
+  pub behind : (x : ℕ) → end ≤ x → new.content x ≡ old.content x
+  pub ours : IsOurs new.size shape new.content array 2
 
--- What a format leaves at each moment of it, good or refused.
-pub record FormatLeaves (shape : Shape) (old new : State) : Type 0 where
-  pub cuts : LeavesOnly (IsMidFormat shape old) old new
+-- the image has zeros in place of a super, or it is ours, for this array
+abbrev pub IsNoneOrNew : ℕ → Shape → Array → Image → Type 0
+IsNoneOrNew size shape array image =
+    (image 0 ≡ replicate 512 0) ⊎ IsOurs size shape image array 2
+
+-- while an image is made it is one that was allowed before, none, or the new one
+abbrev pub IsMidway : Shape → Array → State → Image → Type 0
+IsMidway shape array old image =
+    CutLeaves old.may_leave image ⊎ IsNoneOrNew old.size shape array image
+
+-- What is left at each moment while an image for this array is made, good or refused. The sectors
+-- from the end on are spared.
+pub record ImageLeaves (shape : Shape) (array : Array) (end : ℕ) (old new : State) : Type 0 where
+  pub cuts : LeavesOnly (IsMidway shape array old) old new
   -- From its first good flush on, the second call, no old image is left.
   -- A third call follows a good flush only.
   pub after_flush : old.calls + 3 ≤ new.calls → (image : Image)
       → new.left_since (old.calls + 2) image
-      → IsNoneOrNew old.size shape image
-  pub spares : SparesFrom (sectors_of shape) old new
+      → IsNoneOrNew old.size shape array image
+  pub spares : SparesFrom end old new
   -- nothing is read
   pub looked_stays : new.looked ≡ old.looked
+
+-- What a format leaves at each moment of it: the new image is one of blocks of zeros.
+abbrev pub FormatLeaves : Shape → State → State → Type 0
+FormatLeaves shape old new = ImageLeaves shape (λ b. replicate 512 0) (sectors_of shape) old new
+
+-- A log was laid before home, which was spared: the new image stands for what home held.
+abbrev pub IsLaid : Shape → State → State → Type 0
+IsLaid shape old new = IsMade shape (home_of shape old.content) (first_home shape) old new
+
+-- What the laying of a log leaves at each moment of it.
+abbrev pub LayingLeaves : Shape → State → State → Type 0
+LayingLeaves shape old new =
+    ImageLeaves shape (home_of shape old.content) (first_home shape) old new
+
+-- Where Ok, this many calls were made; where refused, no more than that. Not one was a read.
+pub record CallsWithoutReads {X E : Type 0} (count : ℕ) (old new : State) (result : Result X E)
+    : Type 0 where
+  pub calls : new.calls ≤ old.calls + count
+  pub exact : OnOk result (new.calls ≡ old.calls + count)
+  pub no_read : MakesNoRead old new
 
 -- why a format is refused: by the sizes, or, where they are good, by the medium
 abbrev pub IsFormatCause : Shape → State → State → FormatFault → Type 0

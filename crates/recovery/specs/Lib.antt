@@ -5,4 +5,5 @@ pub mod Formatted
 pub mod Found
 pub mod Looks
 pub mod Migrated
+pub mod Inspected
 pub mod Recovered

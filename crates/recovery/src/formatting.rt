@@ -4,15 +4,17 @@ ghost use Rattle.log_layout.specs.declared.log_format.LogFormat.TheVariants.{One
 ghost use Rattle.log_layout.specs.Places.{new_shape, sectors_of};
 ghost use Rattle.log_layout.specs.Values.{shape_of};
 ghost use Rattle.recovery.specs.Calls.{CallsUpTo};
+ghost use Rattle.medium.specs.Blocks.{Array};
 ghost use Rattle.recovery.specs.Formatted.{AreSizes, IsFormatted, FormatLeaves, IsFormatCause};
+ghost use Rattle.recovery.specs.Formatted.{IsArrayFrom, IsMade, ImageLeaves, CallsWithoutReads};
 
 use crate::FormatFault;
 use crate::sectors::{clear, write_through};
 use log_layout::{Head, LogFormat, Super};
 use medium::{Medium, MediumFault};
 
-// These sizes, where they are in their limits and this many sectors are enough for them.
-fn sizes_of(format: LogFormat, sectors: u64, blocks: u64, slots: u64) -> Option<Super>
+/// These sizes, where they are in their limits and this many sectors are enough for them.
+pub(crate) fn sizes_of(format: LogFormat, sectors: u64, blocks: u64, slots: u64) -> Option<Super>
     ensures { let shape = new_shape format blocks slots in
         MatchOption result (¬ AreSizes sectors shape)
         (λ sizes. (shape_of sizes ≡ shape) × AreSizes sectors shape) }
@@ -28,19 +30,25 @@ fn sizes_of(format: LogFormat, sectors: u64, blocks: u64, slots: u64) -> Option<
     }
 }
 
-// Writes an image of these sizes. The super goes first and comes last, so that a format that is cut
-// in between leaves no image.
-fn write_image<M: Medium>(m: &mut M, sizes: &Super) -> Result<(), MediumFault>
-    requires { sectors_of (shape_of sizes.now) ≤ (M.state m.old).size }
-    ensures done { OnOk result (IsFormatted (shape_of sizes.now) (M.state m.new)) }
-    ensures leaves { FormatLeaves (shape_of sizes.now) (M.state m.old) (M.state m.new) }
-    ensures calls { CallsUpTo (sectors_of (shape_of sizes.now) + 5)
-        (M.state m.old) (M.state m.new) result }
+/// Writes super, head and log of an image of these sizes, and zeros in what lies behind the log, up
+/// to this end. The super goes first and comes last, so that one that is cut in between leaves no
+/// image.
+pub(crate) fn write_image<M: Medium>(m: &mut M, sizes: &Super, end: u64) -> Result<(), MediumFault>
+    requires fits { sectors_of (shape_of sizes.now) ≤ (M.state m.old).size }
+    requires log { sizes.now.home ≤ end }
+    requires inside { end ≤ sectors_of (shape_of sizes.now) }
+    ensures done { let shape = shape_of sizes.now in
+        (array : Array) → IsArrayFrom shape end (M.state m.old).content array
+        → OnOk result (IsMade shape array end (M.state m.old) (M.state m.new)) }
+    ensures leaves { let shape = shape_of sizes.now in
+        (array : Array) → IsArrayFrom shape end (M.state m.old).content array
+        → ImageLeaves shape array end (M.state m.old) (M.state m.new) }
+    ensures calls { CallsWithoutReads (end + 5) (M.state m.old) (M.state m.new) result }
     ensures cause { OnErr result ((M.state m.old).failures < (M.state m.new).failures) }
     ensures follows { M.follows m.old m.new }
 {
     write_through(m, 0, &[0; 512])?;
-    clear(m, 1, sizes.sectors())?;
+    clear(m, 1, end)?;
     write_through(m, 1, &Head::new(1).encode())?;
     write_through(m, 0, &sizes.encode())
 }
@@ -59,7 +67,7 @@ fn make<M: Medium>(m: &mut M, format: LogFormat, blocks: u64, slots: u64) -> Res
     ensures follows { M.follows m.old m.new }
 {
     let sizes = sizes_of(format, m.sectors(), blocks, slots).ok_or(FormatFault::BadSize)?;
-    write_image(m, &sizes)?;
+    write_image(m, &sizes, sizes.sectors())?;
     Ok(())
 }
 

@@ -7,6 +7,8 @@ mod copies_two;
 mod format_fault;
 mod formatting;
 mod found;
+mod inspection;
+mod laying;
 mod migration;
 mod new_head;
 mod record_one;
@@ -19,6 +21,8 @@ mod survey;
 
 pub use format_fault::FormatFault;
 pub use formatting::{format, format2};
+pub use inspection::{Inspection, inspect};
+pub use laying::lay_log;
 pub use migration::migrate;
 pub use recovered::Recovered;
 pub use recovery::recover;

@@ -3,6 +3,7 @@ ghost use Rattle.std.specs.Prelude.{◌≡◌, ◌<◌, ◌≤◌, ◌-◌, ℕ,
 ghost use Rattle.medium.specs.Sent.{SendsUpTo};
 ghost use Rattle.medium.specs.Medium.{Holds};
 ghost use Rattle.medium.specs.Moments.{IsFlushed};
+ghost use Rattle.recovery.specs.Causes.{MakesNoRead};
 ghost use Rattle.recovery.specs.Calls.{WritesAllPass, ClearsAllPass};
 ghost use Rattle.recovery.specs.Copies.{WithOrWithout, IsBetween};
 
@@ -17,6 +18,7 @@ pub(crate) fn clear<M: Medium>(m: &mut M, from: u64, end: u64) -> Result<(), Med
     ensures clears { ClearsAllPass (IsBetween from end) (end - from)
         (M.state m.old) (M.state m.new) result }
     ensures sends { SendsUpTo (end - from) (M.state m.old) (M.state m.new) }
+    ensures no_read { MakesNoRead (M.state m.old) (M.state m.new) }
     ensures follows { M.follows m.old m.new
         × ((M.state m.new).looked ≡ (M.state m.old).looked) }
 {
@@ -40,6 +42,7 @@ pub(crate) fn write_through<M: Medium>(
         (WithOrWithout place sector.now (M.state m.old).may_leave) 2
         (M.state m.old) (M.state m.new) result }
     ensures sends { SendsUpTo 2 (M.state m.old) (M.state m.new) }
+    ensures no_read { MakesNoRead (M.state m.old) (M.state m.new) }
     ensures follows { M.follows m.old m.new
         × ((M.state m.new).looked ≡ (M.state m.old).looked) }
 {

@@ -12,6 +12,7 @@ ghost use Rattle.recovery.specs.Calls.{ReadsUpTo, ReadsPass};
 ghost use Rattle.recovery.specs.Causes.{IsRefusalBy};
 ghost use Rattle.recovery.specs.Copies.{AreTries, most_reads_of};
 ghost use Rattle.recovery.specs.Found.{IsSurvey, SurveysAtMost};
+ghost use Rattle.recovery.specs.Inspected.{IsLookCause};
 
 use crate::found::Found;
 use crate::record_one::read_record;
@@ -57,12 +58,10 @@ fn count_whole<M: Medium>(m: &mut M, sizes: &Super, head: u64) -> Result<u64, Me
     Ok(sizes.slots)
 }
 
-// Reads the super.
-fn read_super<M: Medium>(m: &mut M) -> Result<Super, StartFault>
+/// Reads the super.
+pub(crate) fn read_super<M: Medium>(m: &mut M) -> Result<Super, StartFault>
     ensures reads { ReadsUpTo 1 (M.state m.old) (M.state m.new) result }
-    // It is none that the rest of the image decides.
-    ensures err { (least : ℕ)
-        → IfErr result (IsRefusalBy least IsQuiet (M.state m.old) (M.state m.new)) }
+    ensures err { IfErr result (IsLookCause (M.state m.old) (M.state m.new)) }
     ensures ok { IfOk result (λ sizes.
         HasShape (M.state m.old).size (shape_of sizes) (M.state m.old).content) }
     ensures follows { M.follows m.old m.new

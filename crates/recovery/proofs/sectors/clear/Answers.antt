@@ -1,6 +1,7 @@
 use Rattle.std.proofs.Common.{◌≡◌, inl, inr, ⊎_elim, ◌∙◌, ap, arith, rules}
 use Rattle.std.proofs.lemmas.Bool.{cases_eq}
 use Rattle.medium.proofs.Sending.{write_sends}
+use Rattle.medium.specs.declared.fault.MediumFault.TheVariants.{Read}
 use Rattle.recovery.specs.Copies.{IsBetween}
 use Rattle.recovery.proofs.Making.{one_more_cleared}
 use Rattle.recovery.proofs.sectors.clear.Goals as goal
@@ -45,6 +46,10 @@ loop-sector-preserved g c =
       size = c.write.ensures.passes.size_stays ∙ inv.size;
       calls = omega (arith, c.write.ensures.passes.calls_are, inv.calls, past);
       sends = omega (arith, write_sends mid new c.write.ensures.passes, inv.sends, past);
+      no_read = record {
+        made_stays = c.write.ensures.passes.others_made Read (λ e. absurd (cc e)) ∙ inv.no_read.made_stays;
+        refused_stays = c.write.ensures.passes.others_stay Read (λ e. absurd (cc e)) ∙ inv.no_read.refused_stays;
+      };
       follows = g.met.M.Medium.follows_through c.args.m.now c.loop-sector.m c.write.new.self inv.follows c.write.ensures.follows;
       looked_stays = c.write.ensures.passes.looked_stays (λ e. cc e) ∙ inv.looked_stays;
     }

@@ -1,6 +1,7 @@
 use Rattle.std.proofs.Common.{◌≡◌, ◌<◌, ◌≤◌, ◌+◌, ◌-◌, ℕ}
 use Rattle.std.specs.Prelude.{replicate}
 use Rattle.medium.specs.Moments.{StaysWithin}
+use Rattle.recovery.specs.Causes.{MakesNoRead}
 use Rattle.recovery.specs.Copies.{cleared_at, IsBetween}
 use Rattle.medium.specs.Sent.{SendsUpTo}
 use Rattle.recovery.proofs.sectors.clear.Given as goal
@@ -14,6 +15,7 @@ invariant-loop-sector g l = record {
   size : (g.M.Medium.state l.m).size ≡ (g.M.Medium.state l.fn.m).size;
   calls : (g.M.Medium.state l.m).calls ≡ (g.M.Medium.state l.fn.m).calls + (l.sector - l.from);
   sends : SendsUpTo (l.sector - l.from) (g.M.Medium.state l.fn.m) (g.M.Medium.state l.m);
+  no_read : MakesNoRead (g.M.Medium.state l.fn.m) (g.M.Medium.state l.m);
   follows : g.M.Medium.follows l.fn.m l.m;
   looked_stays : (g.M.Medium.state l.m).looked ≡ (g.M.Medium.state l.fn.m).looked;
 }

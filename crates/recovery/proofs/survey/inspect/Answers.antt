@@ -7,6 +7,7 @@ use Rattle.log_layout.specs.Sectors.{IsHead}
 use Rattle.log_layout.proofs.Decoding.{IsSuper-one}
 use Rattle.log_image.proofs.StandingLaws.{IsCount-same, count_stands}
 use Rattle.recovery.proofs.Causes.{enough_slots}
+use Rattle.recovery.proofs.Looking.{look_refusal}
 use Rattle.recovery.proofs.Trying.{most_found}
 use Rattle.medium.proofs.Looking.{look_below}
 use Rattle.recovery.proofs.Sighting.{looked_on, super_looked}
@@ -126,7 +127,9 @@ returns-else-head-count-clause-reads g c =
 pub returns-in_err-sizes-clause-err : goal.returns-in_err-sizes-clause-err
 returns-in_err-sizes-clause-err g c =
     let p = err_from_is_err_and c.from_residual.result c.from_residual.ensures.1 in
-    rw (p.1, p.2) (c.in_err-sizes.ensures.err c.args.least)
+    let quiet = c.read_super.ensures.reads.quiet in
+    rw (p.1, p.2) (look_refusal c.args.least (g.M.Medium.state c.args.m.now) (g.M.Medium.state c.read_super.new.m) c.in_err-sizes.field-0.0
+    c.in_err-sizes.ensures.err quiet)
 
 pub returns-in_err-read-clause-reads : goal.returns-in_err-read-clause-reads
 returns-in_err-read-clause-reads g c =

@@ -1,0 +1,24 @@
+use Rattle.std.proofs.Common.{refl}
+use Rattle.log_layout.specs.Places.{new_shape}
+use Rattle.log_layout.specs.Values.{shape_of}
+use Rattle.recovery.proofs.Made.{laying_made, laying_leaves}
+use Rattle.recovery.proofs.laying.lay_log.Goals as goal
+
+pub returns-clause-ok : goal.returns-clause-ok
+returns-clause-ok g c =
+    let same = (rw c.in_ok-sizes.ensures.ok_part at c.sizes_of.ensures).0 in
+    laying_made (shape_of c.in_ok-sizes.sizes) (new_shape c.args.format c.args.blocks c.args.slots) c.in_ok-sizes.sizes.home
+    (g.M.Medium.state c.args.m.now) (g.M.Medium.state c.write_image.new.m) same refl
+    (λ array from. c.in_ok-write_image.ensures.done array from)
+
+pub returns-clause-leaves : goal.returns-clause-leaves
+returns-clause-leaves g c =
+    let same = (rw c.in_ok-sizes.ensures.ok_part at c.sizes_of.ensures).0 in
+    laying_leaves (shape_of c.in_ok-sizes.sizes) (new_shape c.args.format c.args.blocks c.args.slots) c.in_ok-sizes.sizes.home
+    (g.M.Medium.state c.args.m.now) (g.M.Medium.state c.write_image.new.m) same refl c.write_image.ensures.leaves
+
+pub returns-in_err-write_image-clause-leaves : goal.returns-in_err-write_image-clause-leaves
+returns-in_err-write_image-clause-leaves g c =
+    let same = (rw c.in_ok-sizes.ensures.ok_part at c.sizes_of.ensures).0 in
+    laying_leaves (shape_of c.in_ok-sizes.sizes) (new_shape c.args.format c.args.blocks c.args.slots) c.in_ok-sizes.sizes.home
+    (g.M.Medium.state c.args.m.now) (g.M.Medium.state c.write_image.new.m) same refl c.write_image.ensures.leaves

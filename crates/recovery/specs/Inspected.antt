@@ -1,0 +1,61 @@
+-- What a look at an image answers.
+use Rattle.std.specs.Prelude.{◌≡◌, ℕ, ◌+◌, ◌*◌, ◌<◌, ◌≤◌, List, length, slice_index, map}
+use Rattle.medium.specs.Medium.{State, Image}
+use Rattle.medium.specs.Moments.{IsQuiet}
+use Rattle.medium.specs.Blocks.{Array}
+use Rattle.medium.specs.declared.fault.MediumFault.TheVariants as medium
+use Rattle.log_layout.specs.Places.{Shape}
+use Rattle.log_layout.specs.Values.{shape_of}
+use Rattle.log_image.specs.Record.{Entry}
+use Rattle.log_image.specs.Formats.{IsWhole}
+use Rattle.log_image.specs.Standing.{IsCount, StandsFor, Stands}
+use Rattle.log_image.specs.ImageFaults as image
+use Rattle.recovery.specs.Causes.{IsRefusedCall, MakesReadsAlone, IsDeviceFault}
+use Rattle.recovery.specs.declared.inspection.Inspection.{Inspection}
+use Rattle.recovery.specs.declared.start_fault.StartFault.{StartFault}
+use Rattle.recovery.specs.declared.start_fault.StartFault.TheVariants.{NoMemory, Read, Write, Flush}
+use Rattle.recovery.specs.declared.start_fault.StartFault.TheVariants.{BadSuper, BadVersion}
+use Rattle.recovery.specs.declared.start_fault.StartFault.TheVariants.{BadSize, BadHead}
+use Rattle.recovery.specs.declared.start_fault.StartFault.TheVariants.{StampsUsedUp, LogTooSmall}
+
+-- As many records as there are counts are whole from the head on, without a gap, and at most as
+-- many as there are slots; and each has so many blocks.
+pub record AreCounts (shape : Shape) (image : Image) (head : ℕ) (counts : List ℕ) : Type 0 where
+  pub is : IsCount shape image head (length counts)
+  pub each : (j : ℕ) → j < length counts → (entries : List Entry)
+      × IsWhole shape image (head + j) entries × (slice_index counts j ≡ length entries)
+
+-- The answer is what the contents stand for: their sizes, their head, and of each record that waits
+-- there, in order of the stamps, how many blocks it has.
+pub record IsInspected (old : State) (answer : Inspection) : Type 0 where
+  pub array : Array
+  pub next : ℕ
+  pub stood : StandsFor old.size (shape_of answer.sizes) old.content array next
+  pub head_is : answer.head ≡ stood.head
+  pub counts_are : answer.waiting.items ≡ map (λ entries. length entries) stood.records
+
+-- A look only reads: the super, the head and, for each of 64 slots at most, all of its sectors and
+-- one of them again.
+pub record OnlyLooks (old new : State) : Type 0 where
+  pub quiet : IsQuiet old new
+  pub reads : MakesReadsAlone old new
+  pub calls : new.calls ≤ old.calls + 2 + 250 * 64
+
+-- Why a look is refused: the medium refused a call, or the image has this fault. A stamp for the
+-- next record is not asked for.
+abbrev pub IsLookCause : State → State → StartFault → Type 0
+IsLookCause old new NoMemory = ⊥
+IsLookCause old new Read = IsRefusedCall old new medium.Read
+IsLookCause old new Write = IsRefusedCall old new medium.Write
+IsLookCause old new Flush = IsRefusedCall old new medium.Flush
+IsLookCause old new BadSuper = image.HasFault old.size old.content image.BadSuper
+IsLookCause old new BadVersion = image.HasFault old.size old.content image.BadVersion
+IsLookCause old new BadSize = image.HasFault old.size old.content image.BadSize
+IsLookCause old new BadHead = image.HasFault old.size old.content image.BadHead
+IsLookCause old new StampsUsedUp = ⊥
+IsLookCause old new LogTooSmall = ⊥
+
+-- Contents that stand for something are refused by the device alone.
+pub record IsLookRefusal (old new : State) (fault : StartFault) : Type 0 where
+  pub cause : IsLookCause old new fault
+  pub served : Stands old.size old.content → IsDeviceFault fault

@@ -1,0 +1,115 @@
+//! A look at an image, which changes nothing.
+ghost use Rattle.std.specs.Prelude.{◌≡◌, ◌≤◌, ◌<◌, ◌+◌, ◌*◌, ◌^◌, List, length, IfOk, IfErr, MatchOption};
+ghost use Rattle.log_layout.specs.declared.log_format.LogFormat.TheVariants.{Two};
+ghost use Rattle.log_layout.specs.Places.{sectors_of};
+ghost use Rattle.log_layout.specs.Values.{shape_of};
+ghost use Rattle.log_image.specs.Record.{Entry};
+ghost use Rattle.log_image.specs.Formats.{IsWhole, HasWhole};
+ghost use Rattle.recovery.specs.Calls.{ReadsPass};
+ghost use Rattle.recovery.specs.Inspected.{AreCounts, IsInspected, OnlyLooks, IsLookRefusal};
+
+use crate::StartFault;
+use crate::record_one::read_record;
+use crate::record_two::{is_whole, read_count};
+use crate::survey::read_super;
+use arrayvec::ArrayVec;
+use log_layout::{Head, LogFormat, Super, slot_of};
+use medium::{Medium, MediumFault};
+
+/// What an image holds beside its blocks at home.
+#[derive(Drop)]
+pub struct Inspection {
+    /// The format, how many blocks and log slots there are, and where home begins.
+    pub sizes: Super,
+    /// The stamp of the head. The first record that waits has it, if one waits.
+    pub head: u64,
+    /// How many blocks each record has that waits to go home, the oldest first.
+    pub waiting: ArrayVec<u64, 64>,
+}
+
+// Reads how many blocks the record of a stamp has, if it is whole, in format 2.
+fn count_two<M: Medium>(m: &mut M, sizes: &Super, stamp: u64) -> Result<Option<u64>, MediumFault>
+    requires format { sizes.now.format ≡ Two }
+    requires fits { sectors_of (shape_of sizes.now) ≤ (M.state m.old).size }
+    ensures passes { ReadsPass 250 (M.state m.old) (M.state m.new) result }
+    ensures counted { IfOk result (λ found. MatchOption found
+        (¬ HasWhole (shape_of sizes.now) (M.state m.old).content stamp)
+        (λ count. (entries : List Entry)
+        × IsWhole (shape_of sizes.now) (M.state m.old).content stamp entries
+        × (count ≡ length entries))) }
+    ensures follows { M.follows m.old m.new }
+{
+    if !is_whole(m, sizes, stamp)? {
+        return Ok(None);
+    }
+    read_count(m, slot_of(stamp, sizes.slots), stamp)
+}
+
+// Reads how many blocks the record of a stamp has, if it is whole.
+fn count_blocks<M: Medium>(m: &mut M, sizes: &Super, stamp: u64) -> Result<Option<u64>, MediumFault>
+    requires { sectors_of (shape_of sizes.now) ≤ (M.state m.old).size }
+    ensures passes { ReadsPass 250 (M.state m.old) (M.state m.new) result }
+    ensures counted { IfOk result (λ found. MatchOption found
+        (¬ HasWhole (shape_of sizes.now) (M.state m.old).content stamp)
+        (λ count. (entries : List Entry)
+        × IsWhole (shape_of sizes.now) (M.state m.old).content stamp entries
+        × (count ≡ length entries))) }
+    ensures follows { M.follows m.old m.new }
+{
+    match sizes.format {
+        LogFormat::One => match read_record(m, sizes, stamp)? {
+            Some(record) => Ok(Some(record.numbers.len() as u64)),
+            None => Ok(None),
+        },
+        LogFormat::Two => count_two(m, sizes, stamp),
+    }
+}
+
+// Reads how many blocks each of the whole records has that follow from the head on.
+fn count_waiting<M: Medium>(
+    m: &mut M,
+    sizes: &Super,
+    head: u64,
+) -> Result<ArrayVec<u64, 64>, MediumFault>
+    requires fits { sectors_of (shape_of sizes.now) ≤ (M.state m.old).size }
+    requires head { head < 2 ^ 63 }
+    ensures passes { ReadsPass (250 * sizes.now.slots) (M.state m.old) (M.state m.new) result }
+    ensures counts { IfOk result (λ waiting.
+        AreCounts (shape_of sizes.now) (M.state m.old).content head waiting.items) }
+    ensures follows { M.follows m.old m.new }
+{
+    let mut waiting = ArrayVec::new();
+    for j in 0..sizes.slots {
+        match count_blocks(m, sizes, head + j)? {
+            Some(count) => waiting.push(count),
+            None => return Ok(waiting),
+        }
+    }
+    Ok(waiting)
+}
+
+/// Reads what an image holds beside its blocks at home: its sizes, its head, and how many blocks
+/// each record has that waits. It makes reads alone, so nothing is changed, and takes no memory.
+///
+/// # Errors
+/// The faults of the image that `recover` names, in the same order. That no stamp is left is none
+/// here: it says nothing of what the image stands for.
+pub fn inspect<M: Medium>(m: &mut M) -> Result<Inspection, StartFault>
+    ensures ok { IfOk result (IsInspected (M.state m.old)) }
+    ensures err { IfErr result (IsLookRefusal (M.state m.old) (M.state m.new)) }
+    ensures looks { OnlyLooks (M.state m.old) (M.state m.new) }
+    ensures follows { M.follows m.old m.new }
+{
+    let sizes = read_super(m)?;
+    let mut sector = [0; 512];
+    m.read(1, &mut sector)?;
+    let Some(head) = Head::decode(&sector) else {
+        return Err(StartFault::BadHead);
+    };
+    let waiting = count_waiting(m, &sizes, head.stamp)?;
+    Ok(Inspection {
+        sizes,
+        head: head.stamp,
+        waiting,
+    })
+}
