@@ -29,11 +29,6 @@ pub record IsRefusedCall (old new : State) (kind : MediumFault) : Type 0 where
 abbrev pub MakesReadsAlone : State → State → Type 0
 MakesReadsAlone old new = (kind : MediumFault) → kind ≢ medium.Read → new.made kind ≡ old.made kind
 
--- no read was made, and so none refused
-pub record MakesNoRead (old new : State) : Type 0 where
-  pub made_stays : new.made medium.Read ≡ old.made medium.Read
-  pub refused_stays : new.refused medium.Read ≡ old.refused medium.Read
-
 -- Calls that wrote nothing: not one was a write, and one was a flush.
 pub record WritesNothing (old new : State) : Type 0 where
   pub quiet : IsQuiet old new

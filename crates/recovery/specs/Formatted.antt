@@ -7,7 +7,7 @@ pub use Rattle.log_layout.specs.Places.{Shape, first_home, sectors_of}
 use Rattle.log_layout.specs.Sectors.{IsSuper, IsHead}
 use Rattle.log_image.specs.Record.{home_of}
 use Rattle.log_image.specs.Standing.{IsOurs}
-use Rattle.recovery.specs.Causes.{MakesNoRead}
+use Rattle.recovery.specs.Unread.{MakesNoRead}
 use Rattle.recovery.specs.declared.format_fault.FormatFault.{FormatFault}
 use Rattle.recovery.specs.declared.format_fault.FormatFault.TheVariants.{BadSize, Medium}
 

@@ -1,8 +1,9 @@
 pub mod Calls
 pub mod Causes
+pub mod Found
+pub mod Unread
 pub mod Copies
 pub mod Formatted
-pub mod Found
 pub mod Looks
 pub mod Migrated
 pub mod Inspected

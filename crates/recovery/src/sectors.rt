@@ -3,7 +3,7 @@ ghost use Rattle.std.specs.Prelude.{◌≡◌, ◌<◌, ◌≤◌, ◌-◌, ℕ,
 ghost use Rattle.medium.specs.Sent.{SendsUpTo};
 ghost use Rattle.medium.specs.Medium.{Holds};
 ghost use Rattle.medium.specs.Moments.{IsFlushed};
-ghost use Rattle.recovery.specs.Causes.{MakesNoRead};
+ghost use Rattle.recovery.specs.Unread.{MakesNoRead};
 ghost use Rattle.recovery.specs.Calls.{WritesAllPass, ClearsAllPass};
 ghost use Rattle.recovery.specs.Copies.{WithOrWithout, IsBetween};
 

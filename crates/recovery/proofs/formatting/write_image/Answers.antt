@@ -3,7 +3,6 @@ use Rattle.std.specs.Prelude.{replicate}
 use Rattle.medium.proofs.Sparing.{spared_joined}
 use Rattle.std.proofs.lemmas.Result.{on_ok_weaker}
 use Rattle.log_layout.specs.Sectors.{IsSuper, IsHead}
-use Rattle.log_layout.specs.Places.{first_home}
 use Rattle.log_layout.specs.Values.{shape_of}
 use Rattle.recovery.proofs.Zeros.{made_from, home_made}
 use Rattle.recovery.proofs.Making.{through_spares, clear_spares, first_leaves, then_leaves, clear_leaves, head_leaves, none_leaves}

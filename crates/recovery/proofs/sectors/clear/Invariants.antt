@@ -1,7 +1,7 @@
 use Rattle.std.proofs.Common.{◌≡◌, ◌<◌, ◌≤◌, ◌+◌, ◌-◌, ℕ}
 use Rattle.std.specs.Prelude.{replicate}
 use Rattle.medium.specs.Moments.{StaysWithin}
-use Rattle.recovery.specs.Causes.{MakesNoRead}
+use Rattle.recovery.specs.Unread.{MakesNoRead}
 use Rattle.recovery.specs.Copies.{cleared_at, IsBetween}
 use Rattle.medium.specs.Sent.{SendsUpTo}
 use Rattle.recovery.proofs.sectors.clear.Given as goal
