@@ -14,9 +14,9 @@
  *     }
  *
  * What the disk writes comes out of an outbox. After each call that may write (start, bulk_out, tick)
- * take the calls out with usbdisk_take, one by one, carry each out on the device, in order, and only
- * then let the answer of the call go to the host, or make the next one. docs/MAKERS.md tells what the
- * device must promise.
+ * take the calls out with usbdisk_take_run, neighbouring sectors together, or with usbdisk_take, one
+ * by one; carry each out on the device, in order, and only then let the answer of the call go to the
+ * host, or make the next one. docs/MAKERS.md tells what the device must promise.
  *
  * Link the program with libusbdisk_c.a, and define the two functions at the end of this file.
  *
@@ -99,7 +99,7 @@ enum {
     USBDISK_NOT_TAKEN = 23        /* sectors that cannot be shown */
 };
 
-/* What usbdisk_take took out. */
+/* What usbdisk_take or usbdisk_take_run took out. */
 enum {
     USBDISK_NOTHING = 0,
     USBDISK_WRITE = 1,
@@ -182,6 +182,17 @@ uint32_t usbdisk_tick(struct usbdisk *disk);
  * FLUSH all that was written before is to be made durable. At NOTHING the outbox is empty. Where it
  * is no WRITE, `*sector` and `bytes` stay. Answers NOTHING, WRITE, FLUSH or EMPTY. */
 uint32_t usbdisk_take(struct usbdisk *disk, uint64_t *sector, uint8_t bytes[512]);
+
+/* Takes a run out of the outbox: where a write waits first, it and those behind it that are writes to
+ * the next sectors, one after the other, as many as there are and as `bytes` has room for. At WRITE
+ * `*count` sectors, at least 1, are to be written from sector `*sector` on, and their bytes lie one
+ * behind the other in `bytes`: one write of the device. It is as many calls of usbdisk_take. FLUSH and
+ * NOTHING are as there, and `*sector`, `*count` and `bytes` stay.
+ *
+ * size: 512 for each sector that there is room for. Answers NOTHING, WRITE, FLUSH, EMPTY, or BAD_LENGTH
+ * where size is 0 or no multiple of 512. */
+uint32_t usbdisk_take_run(struct usbdisk *disk, uint64_t *sector, uint8_t *bytes, size_t size,
+                          size_t *count);
 
 /* What the program gives to the library.
  *

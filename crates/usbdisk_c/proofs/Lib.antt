@@ -1,2 +1,4 @@
+pub mod Refusals
 pub mod Rooms
+pub mod RunLemmas
 pub mod Values

@@ -1,5 +1,5 @@
 -- What `usbdisk_room` tells is enough.
-use Rattle.std.proofs.Common.{◌≡◌, ◌≤◌, ◌+◌, ℕ, length, inl, inr, arith}
+use Rattle.std.proofs.Common.{◌≡◌, ◌≤◌, ◌+◌, ◌*◌, ℕ, List, Option, length, inl, inr, ap, arith, length-append}
 use Rattle.std.proofs.Math.Nat.{le-max_left, le-max_right}
 use Rattle.std.proofs.lemmas.Bool.{cases_lt}
 use Rattle.log_layout.specs.declared.log_format.LogFormat.{LogFormat}
@@ -54,6 +54,7 @@ played old event answer new sees step follows = record {
   step = step;
   follows = follows;
   covers = sees.covers (medium_of new) follows;
+  parts = sees.parts (medium_of new) follows;
   served = sees.served (medium_of new) follows;
   fits = λ enough_room. nothing_is_refused (medium_of old) (medium_of new) follows (sees.served (medium_of new) follows)
       (fits_in (length (medium_of old).outbox) (sent (state_of (medium_of old))) (sent (state_of (medium_of new)))

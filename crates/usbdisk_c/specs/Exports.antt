@@ -1,10 +1,11 @@
 -- What each export answers, and what it leaves in the handle.
-use Rattle.std.specs.Prelude.{◌≡◌, ◌≢◌, ◌⊎◌, ◌↔◌, ℕ, ◌*◌, ◌/◌, ◌%◌, ◌<◌, Bool, true, false, List}
-use Rattle.std.specs.Prelude.{length, Option, Some, None}
+use Rattle.std.specs.Prelude.{◌≡◌, ◌≢◌, ◌⊎◌, ◌↔◌, ℕ, ◌*◌, ◌/◌, ◌%◌, ◌<◌, ◌≤◌, Bool, true, false}
+use Rattle.std.specs.Prelude.{List, length, Option, Some, None}
+use Rattle.medium.specs.Medium.{State}
 use Rattle.medium.specs.Writes.{sector_of}
 use Rattle.mirror.specs.Mirror.{Mirror, state_of, first_of}
 use Rattle.window.specs.Window.{Window}
-use Rattle.log_layout.specs.Places.{Shape, first_home, new_shape}
+use Rattle.log_layout.specs.Places.{Shape, first_home, new_shape, sectors_of}
 use Rattle.log_layout.specs.Sectors.{IsSuper}
 use Rattle.log_layout.specs.declared.log_format.LogFormat.{LogFormat}
 use Rattle.log_layout.specs.declared.log_format.LogFormat.TheVariants.{One, Two}
@@ -128,11 +129,18 @@ pub record GivesBytes (m : Mirror) (old new : List ℕ) (gives : Bool) : Type 0 
   pub given : gives ≡ true → (s : ℕ) → sector_of new s ≡ (state_of m).content s
   pub kept : gives ≡ false → new ≡ old
 
--- these bytes are a new image of this format
-pub record AreFormatted (format : LogFormat) (blocks slots : ℕ) (bytes : List ℕ) : Type 0 where
+-- the new bytes are a new image of this format, and the sectors behind it hold what they held
+pub record AreFormatted (format : LogFormat) (blocks slots : ℕ) (old new : List ℕ) : Type 0 where
   pub medium : Mirror
   pub formatted : IsFormatted (new_shape format blocks slots) (state_of medium)
-  pub held : (s : ℕ) → sector_of bytes s ≡ (state_of medium).content s
+  pub held : (s : ℕ) → sector_of new s ≡ (state_of medium).content s
+  pub behind : (s : ℕ) → sectors_of (new_shape format blocks slots) ≤ s
+      → sector_of new s ≡ sector_of old s
+
+-- a format on a medium made this image, and spared the sectors behind it
+pub record MakesImage (shape : Shape) (before after : State) : Type 0 where
+  pub formatted : IsFormatted shape after
+  pub behind : (s : ℕ) → sectors_of shape ≤ s → after.content s ≡ before.content s
 
 -- no image of a format of this number has these sizes in so many sectors
 abbrev pub AreNoSizes : ℕ → ℕ → ℕ → ℕ → Type 0
@@ -150,5 +158,5 @@ IsNotFormatted format blocks slots size code = (code ≡ number_of NoMemory)
 abbrev pub Formats : ℕ → ℕ → ℕ → List ℕ → List ℕ → ℕ → Type 0
 Formats format blocks slots old new code =
     (IsNotFormatted format blocks slots (length old) code × (new ≡ old))
-    ⊎ ((code ≡ 0) × (format ≡ 1) × AreFormatted One blocks slots new)
-    ⊎ ((code ≡ 0) × (format ≡ 2) × AreFormatted Two blocks slots new)
+    ⊎ ((code ≡ 0) × (format ≡ 1) × AreFormatted One blocks slots old new)
+    ⊎ ((code ≡ 0) × (format ≡ 2) × AreFormatted Two blocks slots old new)

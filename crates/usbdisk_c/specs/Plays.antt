@@ -14,6 +14,7 @@ use Rattle.mirror.specs.declared.call.DeviceCall.{DeviceCall}
 use Rattle.mirror.specs.declared.call.DeviceCall.TheVariants.{Write, Flush}
 use Rattle.scsi_unit.specs.Background.{IsSettled, is_dead, steps_left}
 use Rattle.scsi_unit.specs.Books.{Book}
+use Rattle.recovery.specs.declared.start_fault.StartFault.TheVariants as fault
 use Rattle.scsi_unit.specs.StartFaults.{StartFault, NoMemory}
 use Rattle.scsi_unit.specs.Starting.{layout_of}
 use Rattle.bot_machine.specs.Device.{Device}
@@ -25,6 +26,7 @@ use Rattle.bot_machine.specs.declared.event.Answer.{Answer}
 use Rattle.bot_machine.specs.declared.event.Answer.TheVariants as answer
 use Rattle.usbdisk_c.specs.Codes.{code_of, bytes_of, TOO_LONG, NEEDS}
 use Rattle.usbdisk_c.specs.DiskRow.{disk_row}
+use Rattle.usbdisk_c.specs.Parts.{CoversParts}
 use Rattle.usbdisk_c.specs.Room.{room_of, room_for}
 
 -- what is seen of the disk
@@ -38,6 +40,7 @@ medium_of disk = disk.unit.store.medium
 -- what a medium says of all calls of it that may come
 pub record Foresees (m : Window) : Type 0 where
   pub covers : (new : Window) → ComesAfter m new → CoversDevice m new
+  pub parts : (new : Window) → ComesAfter m new → CoversParts m new
   pub served : (new : Window) → ComesAfter m new → IsServed m new
 
 -- No write and no flush was refused since; and where each sector that was read since was in sight,
@@ -56,8 +59,10 @@ layout_on disk = layout_of disk.unit.store.cached
 pub record Plays (old : Disk) (event : Event) (answer : Answer) (new : Disk) : Type 0 where
   pub step : IsStep (state_of (medium_of old)) (state_of (medium_of new)) old event answer new
   pub follows : ComesAfter (medium_of old) (medium_of new)
-  -- wherever in the outbox the device is, a cut of it leaves what a cut at some moment could
+  -- wherever in the outbox the device is, a cut of it leaves what a cut at some moment could,
   pub covers : CoversDevice (medium_of old) (medium_of new)
+  -- whichever of the writes behind its last flush it has carried out
+  pub parts : CoversParts (medium_of old) (medium_of new)
   -- none of its calls is refused where the sectors that it read were in sight, and the outbox had
   -- room for all of its writes and flushes,
   pub served : IsServed (medium_of old) (medium_of new)
@@ -151,11 +156,22 @@ pub record Begins (first : Window) (device : Device) (new : Disk) : Type 0 where
   pub leaves : StartLeaves (state_of first) (state_of (medium_of new))
   pub follows : ComesAfter first (medium_of new)
   pub covers : CoversDevice first (medium_of new)
+  pub parts : CoversParts first (medium_of new)
   pub served : IsServed first (medium_of new)
   pub spared : IsSpared first (medium_of new)
 
+-- A start on this medium was refused, and left that one. Where a write or a flush was refused, the
+-- calls of this very start had no room together; where a read was, one of them named a sector that
+-- is not in memory.
+pub record EndsIn (first after : Window) (why : StartFault) : Type 0 where
+  pub not : IsNotOpened (state_of first) (state_of after) why
+  pub leaves : StartLeaves (state_of first) (state_of after)
+  pub follows : ComesAfter first after
+  pub spared : IsSpared first after
+  pub full : (why ≡ fault.Write) ⊎ (why ≡ fault.Flush)
+      → (state_of first).calls + first.room < (state_of after).calls
+  pub unseen : why ≡ fault.Read → list_all (is_in_sight first) follows.looks ≡ false
+
 -- no disk was started on this medium
 abbrev pub BeginsNot : Window → StartFault → Type 0
-BeginsNot first fault = (fault ≡ NoMemory)
-    ⊎ ((after : Window) × IsNotOpened (state_of first) (state_of after) fault
-    × IsSpared first after)
+BeginsNot first why = (why ≡ NoMemory) ⊎ ((after : Window) × EndsIn first after why)

@@ -4,6 +4,7 @@ ghost use Rattle.usbdisk_c.specs.Exports.{AnswersSetup, Ticks, HandsOut, IsShown
 ghost use Rattle.usbdisk_c.specs.Exports.{TellsNear};
 ghost use Rattle.usbdisk_c.specs.Codes.{TellsVersion};
 ghost use Rattle.usbdisk_c.specs.Room.{TellsRoom, TellsMemory};
+ghost use Rattle.usbdisk_c.specs.Runs.{HandsOutRun};
 ghost use Rattle.window.specs.Window.{fresh};
 
 use crate::codes::{ACK, EMPTY, NOT_TAKEN, STARTED, VERSION};
@@ -11,6 +12,7 @@ use crate::format::{make_image, memory_for, room_for};
 use crate::handle::UsbDisk;
 use crate::moves::{adopt, reclaim};
 use crate::play::{answer_request, make_step, next_call, send_packet, show_sectors, take_packet};
+use crate::run::next_run;
 use crate::start::{UsbDiskIdentity, begin, near_for};
 use std::alloc::Global;
 use window::DeviceHolds;
@@ -192,6 +194,25 @@ pub extern "C" fn usbdisk_take(
         return EMPTY;
     };
     let code = next_call(&mut held, sector, to);
+    adopt(disk, alloc, held);
+    code
+}
+
+#[unsafe(no_mangle)]
+pub extern "C" fn usbdisk_take_run(
+    alloc: Global,
+    disk: &mut UsbDisk,
+    sector: &mut u64,
+    to: &mut [u8],
+    count: &mut usize,
+) -> u32
+    ensures { HandsOutRun disk.old.disk sector.old to.old count.old
+        disk.new.disk sector.new to.new count.new result }
+{
+    let Some(mut held) = reclaim(disk, alloc) else {
+        return EMPTY;
+    };
+    let code = next_run(&mut held, sector, to, count);
     adopt(disk, alloc, held);
     code
 }

@@ -4,8 +4,7 @@ ghost use Rattle.std.specs.Prelude.{◌≢◌, ◌%◌, OnOk, OnErr, IfOk, IfErr
 ghost use Rattle.log_layout.specs.Places.{new_shape};
 ghost use Rattle.log_layout.specs.declared.log_format.LogFormat.TheVariants.{One, Two};
 ghost use Rattle.mirror.specs.Mirror.{state_of, fresh, ComesAfter};
-ghost use Rattle.recovery.specs.Formatted.{IsFormatted};
-ghost use Rattle.usbdisk_c.specs.Exports.{Formats, AreNoSizes, GivesBytes};
+ghost use Rattle.usbdisk_c.specs.Exports.{Formats, AreNoSizes, GivesBytes, MakesImage};
 ghost use Rattle.usbdisk_c.specs.Room.{TellsRoom, TellsMemory};
 
 use crate::codes::{ACK, BAD_SIZES};
@@ -19,8 +18,10 @@ use std::alloc::Global;
 // for each sector of the medium at most, and five more.
 fn make(medium: &mut MirrorMedium, version: u32, blocks: u64, slots: u64) -> Result<(), FormatFault>
     ensures ok { OnOk result (
-        ((version ≡ 1) × IsFormatted (new_shape One blocks slots) (state_of medium.new))
-        ⊎ ((version ≡ 2) × IsFormatted (new_shape Two blocks slots) (state_of medium.new))) }
+        ((version ≡ 1)
+        × MakesImage (new_shape One blocks slots) (state_of medium.old) (state_of medium.new))
+        ⊎ ((version ≡ 2)
+        × MakesImage (new_shape Two blocks slots) (state_of medium.old) (state_of medium.new))) }
     ensures err { OnErr result (
         AreNoSizes version blocks slots (state_of medium.old).size
         ⊎ (((state_of medium.old).failures < (state_of medium.new).failures)

@@ -8,13 +8,14 @@ mod handle;
 mod moves;
 mod parts;
 mod play;
+mod run;
 mod start;
 mod turns;
 
 pub use exports::{
     usbdisk_bulk_in, usbdisk_bulk_out, usbdisk_format, usbdisk_memory, usbdisk_near, usbdisk_room,
-    usbdisk_setup, usbdisk_show, usbdisk_start, usbdisk_stop, usbdisk_take, usbdisk_tick,
-    usbdisk_version,
+    usbdisk_setup, usbdisk_show, usbdisk_start, usbdisk_stop, usbdisk_take, usbdisk_take_run,
+    usbdisk_tick, usbdisk_version,
 };
 pub use handle::{Opaque, UsbDisk};
 pub use start::UsbDiskIdentity;

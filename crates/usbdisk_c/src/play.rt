@@ -12,7 +12,7 @@ use crate::codes::{ACK, NAK, NEEDS, STALL, TOO_LONG};
 use bot_machine::{Answer, Disk, Event, OutAnswer, SetupAnswer, answer_to};
 use cdb::{Command, Transfer, parse};
 use medium::Medium;
-use mirror::DeviceCall;
+use mirror::{DeviceCall, device_laws};
 use window::WindowMedium;
 use wrappers::read_cbw;
 
@@ -22,6 +22,7 @@ fn foresee(disk: &Disk<WindowMedium>)
     ensures { Foresees (medium_of disk.now) }
 {
     let _waiting = disk.medium().waiting();
+    device_laws();
 }
 
 /// A packet to Bulk-Out. One that is longer than those of the disk changes nothing, and one before

@@ -9,6 +9,7 @@ ghost use Rattle.scsi_unit.specs.Identification.{IsLegible};
 use crate::codes::{BAD_IDENTITY, BAD_LENGTH, BAD_PACKET_SIZE, number_of};
 use bot_machine::{Disk, Identity, PacketSize, StartFault};
 use log_layout::Super;
+use mirror::device_laws;
 use std::alloc::Global;
 use window::{DeviceHolds, WindowError, WindowMedium};
 
@@ -128,6 +129,7 @@ pub(crate) fn begin(
     let medium = window_of(alloc, near, sectors, device, span, room)?;
     // The law of the medium, from the first call on.
     let _waiting = medium.waiting();
+    device_laws();
     let disk = match Disk::start_with(alloc, medium, who, size) {
         Ok(disk) => disk,
         Err(error) => return Err(Refusal::Fault(error.fault)),

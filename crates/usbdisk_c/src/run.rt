@@ -1,0 +1,73 @@
+//! Writes to neighbouring sectors leave the outbox together.
+ghost use Rattle.std.specs.Prelude.{◌≡◌, ◌+◌, ◌/◌, ◌≤◌, Some, MatchOption, length};
+ghost use Rattle.mirror.specs.declared.call.DeviceCall.TheVariants as call;
+ghost use Rattle.usbdisk_c.specs.Runs.{TakesRun, IsRun, IsLongest, IsTo};
+
+use crate::codes::BAD_LENGTH;
+use bot_machine::Disk;
+use mirror::{DeviceCall, put_sector};
+use window::WindowMedium;
+
+const SECTOR: usize = 512;
+
+/// The next calls for the device leave the outbox: a flush, or writes to neighbouring sectors.
+pub(crate) fn next_run(
+    disk: &mut Disk<WindowMedium>,
+    sector: &mut u64,
+    to: &mut [u8],
+    count: &mut usize,
+) -> u32
+    ensures { TakesRun disk.old sector.old to.old count.old
+        disk.new sector.new to.new count.new result }
+{
+    if to.len() == 0 || to.len() % SECTOR != 0 {
+        return BAD_LENGTH;
+    }
+    match disk.medium().first() {
+        Some(DeviceCall::Write(write)) => {
+            *sector = write.sector;
+            *count = gather(disk, write.sector, to);
+            1
+        }
+        Some(DeviceCall::Flush) => {
+            disk.give();
+            2
+        }
+        None => {
+            disk.give();
+            0
+        }
+    }
+}
+
+// Lets go of writes to the sectors from this one on, as long as they wait first and have room, and
+// copies their bytes. How many they were.
+fn gather(disk: &mut Disk<WindowMedium>, first: u64, to: &mut [u8]) -> usize
+    ensures run { IsRun disk.old disk.new first result to.old to.new }
+    ensures longest { IsLongest disk.new first result (length to.old / 512) }
+    ensures most { result ≤ length to.old / 512 }
+{
+    let most = to.len() / SECTOR;
+    for at in 0..most {
+        let Some(block) = block_for(disk.medium().first(), first, at as u64) else {
+            return at;
+        };
+        put_sector(to, at as u64, &block);
+        disk.give();
+    }
+    most
+}
+
+// What the call writes, where it is a write to the sector so far behind the first.
+fn block_for(next: Option<DeviceCall>, first: u64, behind: u64) -> Option<[u8; 512]>
+    ensures { MatchOption result (¬ IsTo (first + behind) next)
+        (λ block. next ≡ Some (call.Write (record { sector = first + behind; block = block }))) }
+{
+    match next {
+        Some(DeviceCall::Write(write)) => {
+            let is_next = write.sector >= first && write.sector - first == behind;
+            if is_next { Some(write.block) } else { None }
+        }
+        _ => None,
+    }
+}
