@@ -1,11 +1,12 @@
 -- How many calls a retire step makes.
-use Rattle.std.proofs.Common.{◌≡◌, ⊎_elim, ℕ, zero, suc, ◌+◌, ◌-◌, ◌%◌, ◌<◌, ◌≤◌, List, ◌∷◌, length, refl, sym, ◌∙◌, ap, arith}
+use Rattle.std.proofs.Common.{◌≡◌, ⊎_elim, ℕ, zero, suc, ◌+◌, ◌-◌, ◌%◌, ◌<◌, ◌≤◌, List, [], ◌∷◌, length, refl, sym, ◌∙◌, ap, arith}
 use Rattle.std.specs.Prelude.{Bool, true, false, Option, if◌then◌else◌, ◌==◌}
 use Rattle.std.proofs.lemmas.Bool.{cases_eq, eq-eqb, ne_eqb}
 use Rattle.log_layout.specs.declared.log_format.LogFormat.{LogFormat}
 use Rattle.log_layout.specs.declared.log_format.LogFormat.TheVariants.{One, Two}
 use Rattle.log_layout.specs.Places.{Shape}
-use Rattle.redo_log.specs.Value.{LogValue, turns_home, home_calls, turn_calls, next_calls}
+use Rattle.log_image.proofs.Format1Laws.{below_is, above_is}
+use Rattle.redo_log.specs.Value.{LogValue, Ahead, turns_home, of_oldest, home_calls, turn_calls, next_calls, ahead_calls}
 use Rattle.redo_log.specs.Stages.{value_at}
 use Rattle.redo_log.specs.Turns.{calls_of, IsLoadOf, IsCopyOf, IsFlushTurn, IsHeadTurn, IsHomeTurn, IsNextTurn}
 use Rattle.redo_log.specs.declared.turn.Turn.{Turn}
@@ -70,15 +71,16 @@ turn_costs shape stamp numbers kept turned turn next below =
         ∙ ap (λ (n : ℕ). home_calls shape.format n) (omega (arith, home_is, left_is, below))
 
 -- a log of which the oldest record has come so far makes as many by its next step
-pub step_costs : (log : LogValue) (shape : Shape) (head : ℕ) (waiting : List (List ℕ)) (turned : ℕ) (kept under_way : List ℕ)
+pub step_costs : (log : LogValue) (ahead : Ahead) (shape : Shape) (head : ℕ) (waiting : List (List ℕ)) (turned : ℕ)
+    (kept under_way : List ℕ)
     (made : Option ℕ) (dead : Bool) (numbers : List ℕ) (newer : List (List ℕ))
-    → value_at shape head waiting turned kept under_way made dead ≡ log
+    → value_at ahead shape head waiting turned kept under_way made dead ≡ log
     → waiting ≡ numbers ∷ newer
     → turn_calls shape.format (turns_home shape.format (length numbers)) (turns_home shape.format (length numbers) + 2 - turned)
     ≡ next_calls log
-step_costs log shape head waiting turned kept under_way made dead numbers newer shown waits =
+step_costs log ahead shape head waiting turned kept under_way made dead numbers newer shown waits =
     ap (λ (n : ℕ). turn_calls shape.format (turns_home shape.format (length numbers)) n) (omega arith)
-    ∙ ap (λ (l : List (List ℕ)). next_calls (value_at shape head l turned kept under_way made dead)) (sym waits)
+    ∙ ap (λ (l : List (List ℕ)). next_calls (value_at ahead shape head l turned kept under_way made dead)) (sym waits)
     ∙ ap (λ (v : LogValue). next_calls v) shown
 
 -- no turn makes more than two calls
@@ -92,3 +94,37 @@ few_calls (Head head) = omega arith
 pub turn_refused : (turn : Turn) (count before after : ℕ) → calls_of turn ≡ count → after ≤ before + calls_of turn
     → (after ≤ before + 2) × (after ≤ before + count)
 turn_refused turn count before after costs calls = (omega (arith, calls, few_calls turn), omega (arith, calls, costs))
+
+-- how many retire steps the oldest record itself still needs
+pub left_is : (log : LogValue) (ahead : Ahead) (shape : Shape) (head : ℕ) (waiting : List (List ℕ)) (turned : ℕ) (kept under_way : List ℕ)
+    (made : Option ℕ) (dead : Bool) (numbers : List ℕ) (newer : List (List ℕ))
+    → value_at ahead shape head waiting turned kept under_way made dead ≡ log
+    → waiting ≡ numbers ∷ newer → of_oldest log ≡ turns_home shape.format (length numbers) + 2 - turned
+left_is log ahead shape head waiting turned kept under_way made dead numbers newer shown waits =
+    sym (ap (λ (v : LogValue). of_oldest v) shown)
+    ∙ (ap (λ (l : List (List ℕ)). of_oldest (value_at ahead shape head l turned kept under_way made dead)) waits
+    ∙ of_first)
+  where
+    of_first : of_oldest (value_at ahead shape head (numbers ∷ newer) turned kept under_way made dead)
+        ≡ turns_home shape.format (length numbers) + 2 - turned
+    of_first = omega arith
+
+-- none where none waits
+pub none_left : (log : LogValue) (ahead : Ahead) (shape : Shape) (head : ℕ) (waiting : List (List ℕ)) (turned : ℕ)
+    (kept under_way : List ℕ) (made : Option ℕ) (dead : Bool)
+    → value_at ahead shape head waiting turned kept under_way made dead ≡ log
+    → waiting ≡ [] → of_oldest log ≡ 0
+none_left log ahead shape head waiting turned kept under_way made dead shown waits =
+    sym (ap (λ (v : LogValue). of_oldest v) shown)
+    ∙ (ap (λ (l : List (List ℕ)). of_oldest (value_at ahead shape head l turned kept under_way made dead)) waits
+    ∙ of_none)
+  where
+    of_none : of_oldest (value_at ahead shape head [] turned kept under_way made dead) ≡ 0
+    of_none = omega arith
+
+-- a turn ahead makes the calls of a retire step, or none
+pub away_calls : (log : LogValue) → 2 < of_oldest log → ahead_calls log ≡ next_calls log
+away_calls log away = rw (below_is 2 (of_oldest log) away) refl
+
+pub no_calls : (log : LogValue) → of_oldest log ≤ 2 → ahead_calls log ≡ 0
+no_calls log home = rw (above_is 2 (of_oldest log) home) refl

@@ -1,5 +1,7 @@
 -- From a log's fields to what a caller sees of it.
-use Rattle.std.proofs.Common.{◌≡◌, ℕ, ◌+◌, ◌*◌, ◌-◌, ◌^◌, ◌<◌, ◌≤◌, List, [], ◌∷◌, ◌++◌, length, get_or, refl, sym, ◌∙◌, ap, subst, arith}
+use Rattle.std.proofs.Common.{◌≡◌, ◌≢◌, ⊎_elim, ℕ, ◌+◌, ◌*◌, ◌-◌, ◌^◌, ◌<◌, ◌≤◌, List, [], ◌∷◌, ◌++◌, length, get_or, refl, sym, ◌∙◌}
+use Rattle.std.proofs.Common.{ap, subst}
+use Rattle.std.proofs.Common.{arith}
 use Rattle.std.specs.Prelude.{All, replicate, Bool, true, false, Option, Some, None, Result, Ok, Err, OnOk, is_err, is_ok}
 use Rattle.medium.specs.Medium.{State, Passes, IsSound}
 use Rattle.medium.specs.Moments.{EachCut, LeavesOnly, IsQuiet}
@@ -16,16 +18,17 @@ use Rattle.log_image.proofs.Engine.{rests_logged}
 use Rattle.log_image.proofs.Formats.{laws_of, sectors_are}
 use Rattle.redo_log.specs.declared.turn.Turn.{Turn}
 use Rattle.redo_log.specs.declared.turn.Turn.TheVariants.{Load, Copy, Flush, Head}
-use Rattle.redo_log.specs.Value.{LogValue, steps_for, turns_home, IsNewestCopy, died}
+use Rattle.redo_log.specs.Value.{LogValue, Ahead, steps_for, turns_home, IsNewestCopy, died}
 use Rattle.redo_log.specs.Logged.{Logged}
-use Rattle.redo_log.specs.Stages.{value_at, begun_at, AreInside, IsRecord, IsUnderWay, IsRing, IsSized}
+use Rattle.redo_log.specs.Stages.{value_at, begun_at, needed_at, AreInside, IsRecord, IsUnderWay, IsRing, IsAheadOf, IsSized}
 use Rattle.redo_log.specs.Turns.{kept_by, MayTurn, IsTurned, IsNextTurn}
 use Rattle.redo_log.specs.Calls.{Call, fault_of, MayAdd, IsDone, IsNextCall}
 use Rattle.redo_log.specs.Held.{View, with_record, view_retired, HasDurable, MayLeave, HoldsView}
+use Rattle.redo_log.proofs.Covering.{needed_one}
 use Rattle.redo_log.proofs.Keeping.{Logged-records}
 use Rattle.redo_log.proofs.Stepping.{step_leaves, step_held, step_last}
 use Rattle.redo_log.proofs.Finding.{copy_is}
-use Rattle.redo_log.proofs.Homing.{turn_leaves, turn_held, turn_last}
+use Rattle.redo_log.proofs.Homing.{turn_leaves, turn_held, sent_held, turn_last}
 
 -- what a good call did
 pub on_ok_here : {P : Type 0} (r : Result (Unit {0}) MediumFault) → is_err r ≡ false → OnOk r P → P
@@ -102,9 +105,10 @@ nothing_retired log m view holds =
     let none : 0 ≡ log.head - log.head = omega arith in
     subst (λ (n : ℕ). HoldsView log m (view_retired n view)) none holds
 
-module _ (shape : Shape) (sized : IsSized shape) (head : ℕ) (waiting : List (List ℕ)) (turned : ℕ) (kept items : List ℕ)
-    (writing : Option ℕ) (dead : Bool) (log : LogValue) (shown : value_at shape head waiting turned kept items writing dead ≡ log)
-    (live : log.dead ≡ false) (ring : IsRing shape waiting turned items writing) (least : 1 ≤ head)
+module _ (ahead : Ahead) (shape : Shape) (sized : IsSized shape) (head : ℕ) (waiting : List (List ℕ)) (turned : ℕ) (kept items : List ℕ)
+    (writing : Option ℕ) (dead : Bool) (log : LogValue) (shown : value_at ahead shape head waiting turned kept items writing dead ≡ log)
+    (live : log.dead ≡ false) (ring : IsRing shape waiting turned items writing)
+    (sent : IsAheadOf ahead shape head waiting turned) (least : 1 ≤ head)
     (most : head + length waiting + begun_at writing < 2 ^ 63) where
   dead_is : dead ≡ false
   dead_is = ap (λ (v : LogValue). v.dead) shown ∙ live
@@ -125,11 +129,11 @@ module _ (shape : Shape) (sized : IsSized shape) (head : ℕ) (waiting : List (L
     items_are = ap (λ (v : LogValue). v.under_way) shown ∙ sym named
 
     -- the log, with what is known of it
-    writing_is : value_at shape head waiting turned kept numbers (Some made) false ≡ log
+    writing_is : value_at ahead shape head waiting turned kept numbers (Some made) false ≡ log
     writing_is =
-        ap (λ (d : Bool). value_at shape head waiting turned kept numbers (Some made) d) (sym dead_is)
-        ∙ ap (λ (s : Option ℕ). value_at shape head waiting turned kept numbers s dead) (sym at)
-        ∙ ap (λ (l : List ℕ). value_at shape head waiting turned kept l writing dead) (sym items_are)
+        ap (λ (d : Bool). value_at ahead shape head waiting turned kept numbers (Some made) d) (sym dead_is)
+        ∙ ap (λ (s : Option ℕ). value_at ahead shape head waiting turned kept numbers s dead) (sym at)
+        ∙ ap (λ (l : List ℕ). value_at ahead shape head waiting turned kept l writing dead) (sym items_are)
         ∙ shown
 
     recorded : IsRecord shape (head + length waiting) numbers × (made < steps_for shape.format (length numbers))
@@ -148,7 +152,7 @@ module _ (shape : Shape) (sized : IsSized shape) (head : ℕ) (waiting : List (L
         (passes : Passes (fault_of call) result old new)
         (next : IsNextCall (layout_of shape.format) shape stamp (entries_of numbers bytes) made call) (adds : MayAdd call old new)
         (view : View) (holds : HoldsView log old view) where
-      held_is : HoldsView (value_at shape head waiting turned kept numbers (Some made) false) old view
+      held_is : HoldsView (value_at ahead shape head waiting turned kept numbers (Some made) false) old view
       held_is = subst (λ (v : LogValue). HoldsView v old view) (sym writing_is) holds
 
       next_is : IsNextCall (layout_of shape.format) shape (head + length waiting) (entries_of numbers bytes) made call
@@ -159,7 +163,7 @@ module _ (shape : Shape) (sized : IsSized shape) (head : ℕ) (waiting : List (L
       step_cuts ours =
           one_call (MayLeave old.size log view) old new sound passes (holds.leaves ours)
           (subst (λ (v : LogValue). EachCut (MayLeave old.size v view) new) writing_is
-          (step_leaves shape sized head waiting turned kept numbers bytes view is_record room size old made recorded.1 held_is new
+          (step_leaves ahead shape sized head waiting turned kept numbers bytes view is_record room size old made recorded.1 held_is new
           sound passes.size_stays call next_is adds ours))
 
       -- after a refused step the log is dead
@@ -169,45 +173,57 @@ module _ (shape : Shape) (sized : IsSized shape) (head : ℕ) (waiting : List (L
       module _ (entries : view.under_way ≡ entries_of numbers bytes) (done : IsDone call old new) where
         -- after a step that is not the last the log holds what it held
         pub step_goes_on : made + 1 < steps_for shape.format (length numbers)
-            → HoldsView (value_at shape head waiting turned kept items (Some (made + 1)) dead) new view
+            → HoldsView (value_at ahead shape head waiting turned kept items (Some (made + 1)) dead) new view
         step_goes_on more =
-            let after : HoldsView (value_at shape head waiting turned kept numbers (Some (made + 1)) false) new view =
-            step_held shape sized head waiting turned kept numbers bytes view is_record room size old made recorded.1 held_is new sound
+            let after : HoldsView (value_at ahead shape head waiting turned kept numbers (Some (made + 1)) false) new view =
+            step_held ahead shape sized head waiting turned kept numbers bytes view is_record room size old made recorded.1 held_is new
+            sound
             passes.size_stays entries call more next_is adds done in
-            subst (λ (d : Bool). HoldsView (value_at shape head waiting turned kept items (Some (made + 1)) d) new view) (sym dead_is)
-            (subst (λ (l : List ℕ). HoldsView (value_at shape head waiting turned kept l (Some (made + 1)) false) new view)
+            subst (λ (d : Bool). HoldsView (value_at ahead shape head waiting turned kept items (Some (made + 1)) d) new view) (sym dead_is)
+            (subst (λ (l : List ℕ). HoldsView (value_at ahead shape head waiting turned kept l (Some (made + 1)) false) new view)
             (sym items_are) after)
 
         -- after the last step it has one record more
         pub step_durable : steps_for shape.format (length numbers) ≤ made + 1
-            → HoldsView (value_at shape head (waiting ++ items ∷ []) turned kept [] None dead) new (with_record view)
+            → HoldsView (value_at ahead shape head (waiting ++ items ∷ []) turned kept [] None dead) new (with_record view)
         step_durable last =
-            let after : HoldsView (value_at shape head (waiting ++ numbers ∷ []) turned kept [] None false) new (with_record view) =
-            step_last shape sized head waiting turned kept numbers bytes view is_record room size old made recorded.1 held_is new sound
+            let after : HoldsView (value_at ahead shape head (waiting ++ numbers ∷ []) turned kept [] None false) new (with_record view) =
+            step_last ahead shape sized head waiting turned kept numbers bytes view is_record room size old made recorded.1 held_is new
+            sound
             passes.size_stays call last ring.oldest next_is done in
-            subst (λ (d : Bool). HoldsView (value_at shape head (waiting ++ items ∷ []) turned kept [] None d) new (with_record view))
+            subst (λ (d : Bool). HoldsView (value_at ahead shape head (waiting ++ items ∷ []) turned kept [] None d) new (with_record view))
             (sym dead_is)
             (subst
-            (λ (l : List ℕ). HoldsView (value_at shape head (waiting ++ l ∷ []) turned kept [] None false) new (with_record view))
+            (λ (l : List ℕ). HoldsView (value_at ahead shape head (waiting ++ l ∷ []) turned kept [] None false) new (with_record view))
             (sym items_are) after)
 
         -- the record is whole in each image then
         pub step_whole : steps_for shape.format (length numbers) ≤ made + 1 → view.ours ≡ true
-            → EachCut (HasDurable new.size (value_at shape head (waiting ++ items ∷ []) turned kept [] None dead) (with_record view)) new
+            → EachCut (HasDurable new.size (value_at ahead shape head (waiting ++ items ∷ []) turned kept [] None dead)
+            (with_record view)) new
         step_whole last ours =
-            durable_whole (value_at shape head (waiting ++ items ∷ []) turned kept [] None dead) new (with_record view) (step_durable last)
+            durable_whole (value_at ahead shape head (waiting ++ items ∷ []) turned kept [] None dead) new (with_record view)
+            (step_durable last)
             dead_is ours refl
 
   -- a record waits
   module _ (numbers : List ℕ) (newer : List (List ℕ)) (waits : waiting ≡ numbers ∷ newer) where
-    waiting_is : value_at shape head (numbers ∷ newer) turned kept items writing false ≡ log
+    waiting_is : value_at ahead shape head (numbers ∷ newer) turned kept items writing false ≡ log
     waiting_is =
-        ap (λ (d : Bool). value_at shape head (numbers ∷ newer) turned kept items writing d) (sym dead_is)
-        ∙ ap (λ (l : List (List ℕ)). value_at shape head l turned kept items writing dead) (sym waits)
+        ap (λ (d : Bool). value_at ahead shape head (numbers ∷ newer) turned kept items writing d) (sym dead_is)
+        ∙ ap (λ (l : List (List ℕ)). value_at ahead shape head l turned kept items writing dead) (sym waits)
         ∙ shown
 
     ring_is : IsRing shape (numbers ∷ newer) turned items writing
     ring_is = subst (λ (l : List (List ℕ)). IsRing shape l turned items writing) waits ring
+
+    -- what was sent home ahead is retired, or at home
+    past : ahead.home ≤ head
+    past = ⊎_elim (λ (less : ahead.home < head). omega (arith, less)) (λ same. omega (arith, same.0)) sent
+
+    away : turned < turns_home shape.format (length numbers) → ahead.home ≢ head
+    away below same = ⊎_elim (λ (less : ahead.home < head). omega (arith, less, same))
+        (λ home. omega (arith, below, home.2, ap (λ (l : List (List ℕ)). turns_home shape.format (length (get_or l 0 []))) waits)) sent
 
     under_is : (made : ℕ) → writing ≡ Some made
         → IsRecord shape (head + length (numbers ∷ newer)) items × (made < steps_for shape.format (length items))
@@ -217,14 +233,15 @@ module _ (shape : Shape) (sized : IsSized shape) (head : ℕ) (waiting : List (L
 
     module _ (old new : State) (sound : IsSound old) (turn : Turn) (next : IsNextTurn shape head numbers kept turned turn)
         (adds : MayTurn turn old new) (view : View) (holds : HoldsView log old view) where
-      waiting_held : HoldsView (value_at shape head (numbers ∷ newer) turned kept items writing false) old view
+      waiting_held : HoldsView (value_at ahead shape head (numbers ∷ newer) turned kept items writing false) old view
       waiting_held = subst (λ (v : LogValue). HoldsView v old view) (sym waiting_is) holds
 
       -- at each moment of a retire step a cut leaves what the log says
       pub turn_cuts : view.ours ≡ true → LeavesOnly (MayLeave old.size log view) old new
       turn_cuts ours =
           subst (λ (v : LogValue). LeavesOnly (MayLeave old.size v view) old new) waiting_is
-          (turn_leaves shape sized head numbers newer turned kept items writing view ring_is.each ring_is.fits ring_is.oldest under_is
+          (turn_leaves ahead shape sized head numbers newer turned kept items writing past away view ring_is.each ring_is.fits
+          ring_is.oldest under_is
           old sound waiting_held new turn next adds ours)
 
       module _ (same_size : new.size ≡ old.size) where
@@ -235,40 +252,82 @@ module _ (shape : Shape) (sized : IsSized shape) (head : ℕ) (waiting : List (L
         module _ (done : IsTurned turn old new) (after : List ℕ) (keeps : after ≡ kept_by turn old kept) where
           -- after a retire step that is not the last the log holds what it held
           pub turn_more : turned ≤ turns_home shape.format (length numbers)
-              → HoldsView (value_at shape head waiting (turned + 1) after items writing dead) new (view_retired (head - log.head) view)
+              → HoldsView (value_at ahead shape head waiting (turned + 1) after items writing dead) new
+              (view_retired (head - log.head) view)
           turn_more more =
               let head_is : head ≡ log.head = ap (λ (l : LogValue). l.head) shown in
               let none : 0 ≡ head - log.head = omega (arith, head_is) in
-              subst (λ (n : ℕ). HoldsView (value_at shape head waiting (turned + 1) after items writing dead) new (view_retired n view))
+              subst (λ (n : ℕ). HoldsView (value_at ahead shape head waiting (turned + 1) after items writing dead) new
+              (view_retired n view))
               none
-              (subst (λ (d : Bool). HoldsView (value_at shape head waiting (turned + 1) after items writing d) new view) (sym dead_is)
-              (subst (λ (l : List (List ℕ)). HoldsView (value_at shape head l (turned + 1) after items writing false) new view)
+              (subst (λ (d : Bool). HoldsView (value_at ahead shape head waiting (turned + 1) after items writing d) new view) (sym dead_is)
+              (subst (λ (l : List (List ℕ)). HoldsView (value_at ahead shape head l (turned + 1) after items writing false) new view)
               (sym waits)
               (subst
               (λ (k : List ℕ).
-              HoldsView (value_at shape head (numbers ∷ newer) (turned + 1) k items writing false) new view)
+              HoldsView (value_at ahead shape head (numbers ∷ newer) (turned + 1) k items writing false) new view)
               (sym keeps)
-              (turn_held shape sized head numbers newer turned kept items writing view ring_is.each ring_is.fits
+              (turn_held ahead shape sized head numbers newer turned kept items writing past away view ring_is.each ring_is.fits
               ring_is.oldest under_is old sound waiting_held new same_size turn more next adds done))))
+
+          -- after a turn ahead too, where no flush covers the record yet
+          pub turn_sent : (then : Ahead)
+              → needed_at then head (head + length (numbers ∷ newer)) (turns_home shape.format (length numbers) + 2 - (turned + 1)) ≢ 1
+              → turned < turns_home shape.format (length numbers)
+              → HoldsView (value_at then shape head waiting (turned + 1) after items writing dead) new view
+          turn_sent then not below =
+              subst (λ (d : Bool). HoldsView (value_at then shape head waiting (turned + 1) after items writing d) new view) (sym dead_is)
+              (subst (λ (l : List (List ℕ)). HoldsView (value_at then shape head l (turned + 1) after items writing false) new view)
+              (sym waits)
+              (subst
+              (λ (k : List ℕ).
+              HoldsView (value_at then shape head (numbers ∷ newer) (turned + 1) k items writing false) new view)
+              (sym keeps)
+              (sent_held ahead shape sized head numbers newer turned kept items writing past away view ring_is.each ring_is.fits
+              ring_is.oldest under_is old sound waiting_held new same_size then not turn below next adds done)))
+
+          -- it is not home yet
+          pub turn_sent_more : turned + 1 < turns_home shape.format (length numbers)
+              → HoldsView (value_at ahead shape head waiting (turned + 1) after items writing dead) new view
+          turn_sent_more more =
+              turn_sent ahead
+              (λ one. ⊎_elim (λ e. omega (arith, e, more)) (λ covered. omega (arith, covered.0, more))
+              (needed_one ahead head (head + length (numbers ∷ newer))
+              (turns_home shape.format (length numbers) + 2 - (turned + 1)) one))
+              (omega (arith, more))
+
+          -- it is home now, and a record is to become durable first
+          pub turn_sent_last : (before : ℕ) → before ≡ head + length waiting → turned + 1 ≡ turns_home shape.format (length numbers)
+              → HoldsView (value_at (record { home = head; before = before }) shape head waiting (turned + 1) after items writing dead) new
+              view
+          turn_sent_last before then last =
+              turn_sent (record { home = head; before = before })
+              (λ one. ⊎_elim (λ e. omega (arith, e, last))
+              (λ covered. omega (arith, covered.2, then, ap (λ (l : List (List ℕ)). length l) waits))
+              (needed_one (record { home = head; before = before }) head (head + length (numbers ∷ newer))
+              (turns_home shape.format (length numbers) + 2 - (turned + 1)) one))
+              (omega (arith, last))
 
           -- after the last one it has one record less
           pub turn_retires : (left : List (List ℕ)) → turns_home shape.format (length numbers) < turned → left ≡ newer
-              → HoldsView (value_at shape (head + 1) left 0 (replicate 512 0) items writing dead) new
+              → HoldsView (value_at ahead shape (head + 1) left 0 (replicate 512 0) items writing dead) new
               (view_retired (head + 1 - log.head) view)
           turn_retires left last fewer =
               let head_is : head ≡ log.head = ap (λ (l : LogValue). l.head) shown in
               let one : 1 ≡ head + 1 - log.head = omega (arith, head_is) in
-              subst (λ (n : ℕ). HoldsView (value_at shape (head + 1) left 0 (replicate 512 0) items writing dead) new (view_retired n view))
+              subst (λ (n : ℕ). HoldsView (value_at ahead shape (head + 1) left 0 (replicate 512 0) items writing dead) new
+              (view_retired n view))
               one
               (subst
               (λ (d : Bool).
-              HoldsView (value_at shape (head + 1) left 0 (replicate 512 0) items writing d) new (view_retired 1 view))
+              HoldsView (value_at ahead shape (head + 1) left 0 (replicate 512 0) items writing d) new (view_retired 1 view))
               (sym dead_is)
               (subst
               (λ (l : List (List ℕ)).
-              HoldsView (value_at shape (head + 1) l 0 (replicate 512 0) items writing false) new (view_retired 1 view))
+              HoldsView (value_at ahead shape (head + 1) l 0 (replicate 512 0) items writing false) new (view_retired 1 view))
               (sym fewer)
-              (turn_last shape sized head numbers newer turned kept items writing view ring_is.each ring_is.fits ring_is.oldest
+              (turn_last ahead shape sized head numbers newer turned kept items writing past away view ring_is.each ring_is.fits
+              ring_is.oldest
               under_is old sound waiting_held new same_size turn last next adds done)))
 
   -- a copy is a block of a whole record, and has the bytes of its block

@@ -20,7 +20,7 @@ use Rattle.log_image.proofs.Engine.{rests_logged, Guarded-write, Guarded-lost, G
 use Rattle.log_image.proofs.Ending.{guarded_leaves, rest_early, durable_rests}
 use Rattle.log_image.proofs.Retiring.{Resting-home, Resting-head, Guarded-home, Guarded-head, HasSlots-less}
 use Rattle.redo_log.specs.Logged.{HasRecords, Logged, AreHome}
-use Rattle.redo_log.specs.Stages.{IsSized}
+use Rattle.redo_log.specs.Stages.{homed_at, IsSized}
 use Rattle.redo_log.specs.Held.{View, with_record, view_retired, image_view, written_of, flushed_of, Stores, Safe, Guards}
 use Rattle.redo_log.proofs.Keeping.{Logged-records}
 use Rattle.redo_log.proofs.Counting.{all_flushed}
@@ -194,7 +194,9 @@ module _ (shape : Shape) (sized : IsSized shape) (head : ℕ) (view : View) wher
     -- all is flushed: the record is durable
     pub durable_guards : (steps made next turned retire left : ℕ) → 0 < steps
         → (layout_of shape.format).parts (length view.under_way) ≤ written_of shape view made
-        → (left ≡ 1 → (0 < length view.records) × (retire ≡ 1)) → HasSlots (layout_of shape.format) (image_view shape head view)
+        → (left ≡ 1
+        → (0 < length view.records) × ((retire ≡ 1) ⊎ (length (get_or view.records 0 []) ≤ homed_at shape.format turned)))
+        → HasSlots (layout_of shape.format) (image_view shape head view)
         → Only old.content new.may_leave → Stores shape head view steps made turned old.content
         → Guards shape head view steps made retire old → Guards shape head (with_record view) 0 next left new
     durable_guards steps made next turned retire left some all more slots only s g =
@@ -216,7 +218,10 @@ module _ (shape : Shape) (sized : IsSized shape) (head : ℕ) (view : View) wher
               (λ (r : List Entry). EachCut
               (λ image. (i : ℕ) → i < length r → image (first_home shape + (get_or r i (0, [])).0) ≡ (get_or r i (0, [])).1) new)
               (sym (oldest-append view.records view.under_way was.0))
-              (each_flush (IsHomed v) old.content new only (content_has (IsHomed v) old sound (g.homed was.1)));
+              (each_flush (IsHomed v) old.content new only (⊎_elim
+              (λ (one : retire ≡ 1). content_has (IsHomed v) old sound (g.homed one))
+              (λ (home : length (get_or view.records 0 []) ≤ homed_at shape.format turned) i inside.
+              s.copied i (omega (arith, inside, home)) inside) was.1));
         }
 
     -- a block of the oldest record is written home

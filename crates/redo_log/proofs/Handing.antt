@@ -1,25 +1,31 @@
 -- What a store on top of a log cites.
-use Rattle.std.proofs.Common.{◌≡◌, ◌⊎◌, inl, inr, ⊎_elim, ℕ, ◌+◌, ◌<◌, ◌≤◌, List, [], ◌∷◌, ◌++◌, length, drop, refl, sym, ◌∙◌, ap, subst}
+use Rattle.std.proofs.Common.{◌≡◌, ◌⊎◌, inl, inr, ⊎_elim, ℕ, ◌+◌, ◌<◌, ◌≤◌, List, [], ◌∷◌, ◌++◌, length, get_or, drop, refl, sym, ◌∙◌}
+use Rattle.std.proofs.Common.{ap, subst}
 use Rattle.std.proofs.Common.{arith, length-append}
 use Rattle.std.specs.Prelude.{Bool, true}
+use Rattle.std.proofs.Math.ListN.{get_or-map}
 use Rattle.medium.specs.Medium.{State, Image}
 use Rattle.medium.specs.Moments.{EachCut}
 use Rattle.medium.specs.Blocks.{Array}
 use Rattle.log_layout.specs.Places.{Shape, first_home, sectors_of}
-use Rattle.log_image.specs.Record.{Entry, with_blocks, entries_of}
+use Rattle.log_image.specs.Record.{Entry, numbers_of, with_blocks, entries_of}
 use Rattle.log_image.specs.Formats.{layout_of}
 use Rattle.log_image.specs.Standing.{IsOurs}
 use Rattle.log_image.specs.Staged.{Guarded}
 use Rattle.log_image.proofs.Batching.{numbers_of_batch, length_of_batch, sized_batch}
 use Rattle.log_image.proofs.Engine.{rests_logged, rests_begun}
 use Rattle.log_image.proofs.Formats.{laws_of, most_is}
-use Rattle.redo_log.specs.Value.{LogValue, HasRoom, steps_of, retire_steps_of, behind_oldest, of_oldest, idle_from, begun, died}
+use Rattle.redo_log.specs.Value.{LogValue, HasRoom, IsCovered, steps_of, turns_home, retire_steps_of, behind_oldest, of_oldest}
+use Rattle.redo_log.specs.Value.{idle_from, begun, died, settled}
 use Rattle.redo_log.specs.Batch.{IsBatch}
 use Rattle.redo_log.specs.Logged.{HasNoRecord, AreHome}
-use Rattle.redo_log.specs.Stages.{homed_at, IsRead}
-use Rattle.redo_log.specs.Held.{View, resting_view, with_begun, image_view, written_of, flushed_of, made_of, turned_of, oldest_of, MayLeave}
+use Rattle.redo_log.specs.Stages.{homed_at, needed_at, IsRead}
+use Rattle.redo_log.specs.Held.{View, resting_view, with_begun, image_view, written_of, flushed_of, made_of, turned_of, oldest_of}
+use Rattle.redo_log.specs.Held.{needed_of, MayLeave, Guards}
 use Rattle.redo_log.specs.Held.{stamps_of, HoldsView}
-use Rattle.redo_log.proofs.Counting.{none_written, steps_some}
+use Rattle.redo_log.proofs.Counting.{none_written, steps_some, all_home}
+use Rattle.redo_log.proofs.Covering.{needed_covered}
+use Rattle.redo_log.proofs.Batching.{count_of}
 use Rattle.redo_log.proofs.Keeping.{Logged-records}
 use Rattle.redo_log.proofs.Turning.{all_read}
 pub use Rattle.redo_log.proofs.Closing.{quiet_held, durable_whole, rest_logged}
@@ -68,6 +74,45 @@ died_holds log m view holds = record {
   guards = λ live ours. cc live;
 }
 
+-- a flush that was made stands for the one that the oldest record needs
+pub settled_holds : (log : LogValue) (m : State) (view : View) → HoldsView log m view → IsCovered log → HoldsView (settled log) m view
+settled_holds log m view holds covered =
+    let f : List Entry → List ℕ = λ r. numbers_of r in
+    let one : of_oldest (settled log) ≡ 1 = omega (arith, covered.flushes) in
+    let needs : needed_of log ≡ needed_of (settled log) =
+    ap (λ (l : ℕ). needed_at log.ahead log.head (log.head + length log.waiting) l) covered.flushes
+    ∙ (needed_covered log.ahead log.head (log.head + length log.waiting) covered.oldest covered.since
+    ∙ sym (ap (λ (l : ℕ). needed_at log.ahead log.head (log.head + length log.waiting) l) one)) in
+    let home : turns_home log.shape.format (length (get_or log.waiting 0 []))
+    ≡ turns_home log.shape.format (length (get_or view.records 0 [])) =
+    ap (λ (k : ℕ). turns_home log.shape.format k)
+    (count_of (get_or log.waiting 0 []) (get_or view.records 0 [])
+    (ap (λ (l : List (List ℕ)). get_or l 0 []) holds.durable ∙ get_or-map f view.records 0 [])) in
+    let was : turned_of log ≡ turns_home log.shape.format (length (get_or view.records 0 [])) = omega (arith, covered.flushes, home) in
+    let is : turned_of (settled log) ≡ turns_home log.shape.format (length (get_or view.records 0 [])) + 1 =
+    omega (arith, one, home) in
+    let all : length (get_or view.records 0 []) ≤ homed_at log.shape.format (turned_of log) =
+    all_home log.shape.format (length (get_or view.records 0 [])) (turned_of log) (omega (arith, was)) (omega (arith, was)) in
+    record {
+      fits = holds.fits;
+      durable = holds.durable;
+      under_way = holds.under_way;
+      next = holds.next;
+      few = holds.few;
+      sized = holds.sized;
+      kept = λ live. all_read log.shape.format log.head (get_or view.records 0 []) (turned_of (settled log)) log.kept (omega (arith, is));
+      leaves = λ ours image cut. ⊎_elim (λ rest. inl rest)
+          (λ other. ⊎_elim (λ both. inr (inl both)) (λ less. absurd (omega (arith, less.1, covered.flushes))) other)
+          (holds.leaves ours image cut);
+      stores = λ live. record {
+        laid = (holds.stores live).laid;
+        written = (holds.stores live).written;
+        copied = λ i low high. (holds.stores live).copied i (omega (arith, high, all)) high;
+      };
+      guards = λ live ours. subst (λ (n : ℕ). Guards log.shape log.head view log.steps_left (made_of log) n m) needs
+          (holds.guards live ours);
+    }
+
 -- the image is ours and stands for the log's array, or with the record under way
 pub may_leave_ours : (size : ℕ) (log : LogValue) (view : View) (image : Image) → MayLeave size log view image
     → IsOurs size log.shape image view.array (log.head + length view.records + 1)
@@ -95,6 +140,8 @@ begun_holds log m view numbers bytes holds room batch =
     ap (λ (l : List ℕ). retire_steps_of log.shape.format l) room.none_under_way in
     let behind : behind_oldest (begun numbers log) ≡ behind_oldest log + retire_steps_of log.shape.format numbers = omega (arith, none) in
     let same : of_oldest log ≡ of_oldest (begun numbers log) = omega (arith, behind) in
+    let needs : needed_of log ≡ needed_of (begun numbers log) =
+    ap (λ (l : ℕ). needed_at log.ahead log.head (log.head + length log.waiting) l) same in
     let turned : turned_of log ≡ turned_of (begun numbers log) = omega (arith, same) in
     let none_made : made_of (begun numbers log) ≡ 0 = omega arith in
     let early : ℕ = (layout_of log.shape.format).early (length (entries_of numbers bytes)) in
@@ -140,7 +187,7 @@ begun_holds log m view numbers bytes holds room batch =
                   (image_view log.shape log.head (with_begun (entries_of numbers bytes) view)) rests.keeps.super.some_slots few
                   image (record { keeps = rests.keeps; carries = rests.carries })));
             };
-        homed = λ is. (holds.guards live ours).homed (omega (arith, is, same));
+        homed = λ is. (holds.guards live ours).homed (needs ∙ is);
       };
     }
   where

@@ -8,7 +8,6 @@ use Rattle.std.proofs.Math.ListN.{get_or-map}
 use Rattle.medium.specs.Medium.{State, Image, IsSound}
 use Rattle.medium.specs.Moments.{LeavesOnly}
 use Rattle.medium.proofs.Moments.{quiet_leaves}
-use Rattle.log_layout.specs.declared.log_format.LogFormat.{LogFormat}
 use Rattle.log_layout.specs.Places.{Shape, sectors_of}
 use Rattle.log_layout.specs.Sectors.{IsRising}
 use Rattle.log_image.specs.Record.{Entry, numbers_of}
@@ -17,20 +16,22 @@ use Rattle.log_image.specs.Formats.{layout_of, IsWhole}
 use Rattle.log_image.specs.Staged.{HasSlots}
 use Rattle.redo_log.specs.declared.turn.Turn.{Turn}
 use Rattle.redo_log.specs.declared.turn.Turn.TheVariants.{Load, Copy, Flush, Head}
-use Rattle.redo_log.specs.Value.{LogValue, steps_for, turns_home, of_oldest}
-use Rattle.redo_log.specs.Stages.{value_at, steps_at, begun_at, oldest_at, homed_at, AreInside, IsRecord, IsRead, IsSized}
+use Rattle.redo_log.specs.Value.{LogValue, Ahead, steps_for, turns_home, of_oldest}
+use Rattle.redo_log.specs.Stages.{value_at, steps_at, begun_at, oldest_at, homed_at, needed_at, AreInside, IsRecord, IsRead, IsSized}
 use Rattle.redo_log.specs.Calls.{gaining}
 use Rattle.redo_log.specs.Turns.{begun_with, head_bytes, kept_by, MayTurn, IsTurned, IsNextTurn, IsFlushTurn, IsHeadTurn}
 use Rattle.redo_log.specs.Held.{View, view_retired, image_view, written_of, made_of, turned_of, MayLeave, Stores, Safe, Guards, HoldsView}
 use Rattle.redo_log.proofs.Adding.{moments_have}
 use Rattle.redo_log.proofs.Batching.{count_of, record_entries}
 use Rattle.redo_log.proofs.Counting.{steps_are, one_left, all_home}
+use Rattle.redo_log.proofs.Covering.{needed_one}
 use Rattle.redo_log.proofs.Keeping.{Logged-records}
 use Rattle.redo_log.proofs.Storing.{drop-length, Stores-stays, Stores-turned, home_stores, head_stores}
 use Rattle.redo_log.proofs.Guarding.{safe_either, Guards-quiet, Guards-turned, home_each, homed_guards, head_each, head_guards, slots_less}
 use Rattle.redo_log.proofs.Guarding.{past_records}
-use Rattle.redo_log.proofs.Stepping.{turned_at, of_oldest_is, turned_of_is, guards_leave}
-use Rattle.redo_log.proofs.Turning.{BringsHome, new_head, none_read, all_read, brings_home}
+use Rattle.redo_log.proofs.Showing.{turned_at, of_oldest_is, turned_of_is, needed_of_is, nothing_home, not_homed, next_read}
+use Rattle.redo_log.proofs.Stepping.{guards_leave}
+use Rattle.redo_log.proofs.Turning.{BringsHome, new_head, all_read, brings_home}
 use Rattle.log_image.proofs.Formats.{laws_of}
 
 -- without the oldest record its block numbers are gone too
@@ -39,29 +40,10 @@ fewer_numbers : (records : List (List Entry)) (numbers : List ℕ) (newer : List
 fewer_numbers [] numbers newer is = absurd (cc is)
 fewer_numbers (r ∷ records) numbers newer is = cc is
 
--- the next record has come nowhere yet
-nothing_home : (format : LogFormat) (newer : List (List ℕ)) (i count : ℕ) → count ≡ length (get_or newer 0 [])
-    → i < homed_at format (turned_at format newer 0) → i < count → i < homed_at format 0
-nothing_home format [] i count many low high = absurd (omega (arith, high, many))
-nothing_home format (n ∷ newer) i count many low high =
-    let none : turned_at format (n ∷ newer) 0 ≡ 0 = omega arith in
-    subst (λ (t : ℕ). i < homed_at format t) none low
-
-not_homed : (format : LogFormat) (newer : List (List ℕ)) → oldest_at format newer 0 ≢ 1
-not_homed format [] e = absurd (omega (arith, e))
-not_homed format (n ∷ newer) e = absurd (omega (arith, e))
-
-next_read : (format : LogFormat) (newer : List (List ℕ)) (stamp : ℕ) (entries : List Entry) (kept : List ℕ)
-    → length entries ≡ length (get_or newer 0 []) → IsRead format stamp entries (turned_at format newer 0) kept
-next_read format [] stamp entries kept many =
-    all_read format stamp entries (turned_at format [] 0) kept
-    (let e : turns_home format (length entries) ≡ turns_home format 0 = ap (λ (n : ℕ). turns_home format n) many in omega (arith, e))
-next_read format (n ∷ newer) stamp entries kept many =
-    let none : 0 ≡ turned_at format (n ∷ newer) 0 = omega arith in
-    subst (λ (t : ℕ). IsRead format stamp entries t kept) none (none_read format stamp entries kept)
-
-module _ (shape : Shape) (sized : IsSized shape) (head : ℕ) (numbers : List ℕ) (newer : List (List ℕ)) (turned : ℕ)
-    (kept under_way : List ℕ) (writing : Option ℕ) (view : View) (each : All (AreInside shape) (numbers ∷ newer))
+module _ (ahead : Ahead) (shape : Shape) (sized : IsSized shape) (head : ℕ) (numbers : List ℕ) (newer : List (List ℕ)) (turned : ℕ)
+    (kept under_way : List ℕ) (writing : Option ℕ) (past : ahead.home ≤ head)
+    (away : turned < turns_home shape.format (length numbers) → ahead.home ≢ head) (view : View)
+    (each : All (AreInside shape) (numbers ∷ newer))
     (fits_slots : length (numbers ∷ newer) + begun_at writing ≤ shape.slots)
     (so_far : turned < turns_home shape.format (length numbers) + 2)
     (under : (made : ℕ) → writing ≡ Some made
@@ -71,14 +53,18 @@ module _ (shape : Shape) (sized : IsSized shape) (head : ℕ) (numbers : List �
 
   -- a log whose oldest record has come so far
   abbrev pub waiting_log : ℕ → List ℕ → LogValue
-  waiting_log t k = value_at shape head (numbers ∷ newer) t k under_way writing false
+  waiting_log t k = value_at ahead shape head (numbers ∷ newer) t k under_way writing false
+
+  -- where so much was done ahead
+  abbrev pub sent_log : Ahead → ℕ → List ℕ → LogValue
+  sent_log sent t k = value_at sent shape head (numbers ∷ newer) t k under_way writing false
 
   -- how many steps the record under way needs, and how many calls of it are made
   abbrev steps : ℕ
   steps = steps_at shape.format (length under_way) writing
 
   abbrev made : ℕ
-  made = made_of (value_at shape head (numbers ∷ newer) turned kept under_way writing false)
+  made = made_of (value_at ahead shape head (numbers ∷ newer) turned kept under_way writing false)
 
   -- the oldest record
   abbrev oldest : List Entry
@@ -90,6 +76,15 @@ module _ (shape : Shape) (sized : IsSized shape) (head : ℕ) (numbers : List �
 
   abbrev left : ℕ → ℕ
   left t = turns_home shape.format (length numbers) + 2 - t
+
+  -- how many it needs, where a flush that covers its blocks counts
+  abbrev needs : Ahead → ℕ → ℕ
+  needs sent t = needed_at sent head (head + length (numbers ∷ newer)) (turns_home shape.format (length numbers) + 2 - t)
+
+  -- a record whose blocks went home by retire steps needs its flush
+  not_covered : turned < turns_home shape.format (length numbers) → needs ahead (turned + 1) ≢ 1
+  not_covered below one = ⊎_elim (λ e. omega (arith, e, below)) (λ covered. away below covered.1)
+      (needed_one ahead head (head + length (numbers ∷ newer)) (turns_home shape.format (length numbers) + 2 - (turned + 1)) one)
 
   first : AreInside shape numbers
   first = each 0 [] (omega arith)
@@ -163,15 +158,15 @@ module _ (shape : Shape) (sized : IsSized shape) (head : ℕ) (numbers : List �
     ]
 
     turned_is : turned_of (waiting_log turned kept) ≡ turned
-    turned_is = turned_of_is shape head (numbers ∷ newer) turned kept under_way writing false ∙ (omega (arith, so_far))
+    turned_is = turned_of_is ahead shape head (numbers ∷ newer) turned kept under_way writing false ∙ (omega (arith, so_far))
 
     stored : Stores shape head view steps made turned old.content
     stored = subst (λ (t : ℕ). Stores shape head view steps made t old.content) turned_is (hv.stores refl)
 
-    guarded : view.ours ≡ true → Guards shape head view steps made (left turned) old
+    guarded : view.ours ≡ true → Guards shape head view steps made (needs ahead turned) old
     guarded ours =
         subst (λ (r : ℕ). Guards shape head view steps made r old)
-        (of_oldest_is shape head (numbers ∷ newer) turned kept under_way writing false) (hv.guards refl ours)
+        (needed_of_is ahead shape head (numbers ∷ newer) turned kept under_way writing false) (hv.guards refl ours)
 
     read : IsRead shape.format head (get_or view.records 0 []) turned kept
     read = subst (λ (t : ℕ). IsRead shape.format head (get_or view.records 0 []) t kept) turned_is (hv.kept refl)
@@ -197,13 +192,13 @@ module _ (shape : Shape) (sized : IsSized shape) (head : ℕ) (numbers : List �
 
     module _ (new : State) where
       -- a record that still waits
-      held : (same_size : new.size ≡ old.size) (t : ℕ) (k : List ℕ) → t < turns_home shape.format (length numbers) + 2
+      held : (sent : Ahead) (same_size : new.size ≡ old.size) (t : ℕ) (k : List ℕ) → t < turns_home shape.format (length numbers) + 2
           → IsRead shape.format head (get_or view.records 0 []) t k → Stores shape head view steps made t new.content
-          → (view.ours ≡ true → Guards shape head view steps made (left t) new) → HoldsView (waiting_log t k) new view
-      held same_size t k below r s g =
-          let oldest_is = of_oldest_is shape head (numbers ∷ newer) t k under_way writing false in
-          let t_is : turned_of (waiting_log t k) ≡ t =
-          turned_of_is shape head (numbers ∷ newer) t k under_way writing false ∙ (omega (arith, below)) in
+          → (view.ours ≡ true → Guards shape head view steps made (needs sent t) new) → HoldsView (sent_log sent t k) new view
+      held sent same_size t k below r s g =
+          let needs_is = needed_of_is sent shape head (numbers ∷ newer) t k under_way writing false in
+          let t_is : turned_of (sent_log sent t k) ≡ t =
+          turned_of_is sent shape head (numbers ∷ newer) t k under_way writing false ∙ (omega (arith, below)) in
           let fits : sectors_of shape ≤ new.size = omega (arith, same_size, hv.fits) in
           record {
             fits = fits;
@@ -213,9 +208,10 @@ module _ (shape : Shape) (sized : IsSized shape) (head : ℕ) (numbers : List �
             few = hv.few;
             sized = hv.sized;
             kept = λ live. subst (λ (x : ℕ). IsRead shape.format head (get_or view.records 0 []) x k) (sym t_is) r;
-            leaves = λ ours. guards_leave new.size (waiting_log t k) view new made (left t) fits sized hv.few slots short (g ours);
+            leaves = λ ours. guards_leave new.size (sent_log sent t k) view new made (needs sent t) fits sized hv.few slots short
+                (g ours);
             stores = λ live. subst (λ (x : ℕ). Stores shape head view steps made x new.content) (sym t_is) s;
-            guards = λ live ours. subst (λ (x : ℕ). Guards shape head view steps made x new) (sym oldest_is) (g ours);
+            guards = λ live ours. subst (λ (x : ℕ). Guards shape head view steps made x new) (sym needs_is) (g ours);
           }
 
       -- a turn before the flush
@@ -248,8 +244,10 @@ module _ (shape : Shape) (sized : IsSized shape) (head : ℕ) (numbers : List �
       head_leaves (Head h) last is adds ours =
           let gained : State = record old { may_leave = gaining 1 (head_bytes h.stamp) old.may_leave } in
           let one : left turned ≡ 1 = omega (arith, last) in
+          let needs_one : needs ahead turned ≡ 1 =
+          ap (λ (l : ℕ). needed_at ahead head (head + length (numbers ∷ newer)) l) one in
           let last_one : of_oldest (waiting_log turned kept) ≡ 1 =
-          of_oldest_is shape head (numbers ∷ newer) turned kept under_way writing false ∙ one in
+          of_oldest_is ahead shape head (numbers ∷ newer) turned kept under_way writing false ∙ one in
           moments_have (MayLeave old.size (waiting_log turned kept) view) 1 (head_bytes h.stamp) old new adds
           (λ image cut. ⊎_elim (safe_leaves image)
           (λ past. ⊎_elim
@@ -264,7 +262,7 @@ module _ (shape : Shape) (sized : IsSized shape) (head : ℕ) (numbers : List �
           past.0))
           (head_each shape sized head view old gained sound steps made slots (head_bytes h.stamp) waits
           (new_head h.stamp (head + 1) h.least h.most is) (λ s c left. left)
-          (subst (λ (r : ℕ). Guards shape head view steps made r old) one (guarded ours)) image cut))
+          (subst (λ (r : ℕ). Guards shape head view steps made r old) needs_one (guarded ours)) image cut))
 
       -- at each moment of the next turn a cut leaves what it might leave before, and with the new head the same array
       pub turn_leaves : (turn : Turn) → IsNextTurn shape head numbers kept turned turn → MayTurn turn old new → view.ours ≡ true
@@ -280,27 +278,33 @@ module _ (shape : Shape) (sized : IsSized shape) (head : ℕ) (numbers : List �
       ]
 
       module _ (same_size : new.size ≡ old.size) where
-        home_held : (turn : Turn) → turned < turns_home shape.format (length numbers)
+        home_held : (sent : Ahead) → needs sent (turned + 1) ≢ 1 → (turn : Turn) → turned < turns_home shape.format (length numbers)
             → BringsHome shape.format shape old.content head (get_or view.records 0 []) turned kept turn → MayTurn turn old new
-            → IsTurned turn old new → HoldsView (waiting_log (turned + 1) (kept_by turn old kept)) new view
-        home_held (Load from) below does adds wrote =
-            held same_size (turned + 1) (old.content from) (omega (arith, below)) does.1
+            → IsTurned turn old new → HoldsView (sent_log sent (turned + 1) (kept_by turn old kept)) new view
+        home_held sent not (Load from) below does adds wrote =
+            held sent same_size (turned + 1) (old.content from) (omega (arith, below)) does.1
             (Stores-turned shape sized head view steps made turned (turned + 1) new.content (λ i low high. omega (arith, low, does.0))
             (Stores-stays shape sized head view steps steps made made turned old.content new.content wrote (λ some. some)
             (omega arith) stored))
-            (λ ours. Guards-turned shape sized head view steps made (left turned) (left (turned + 1)) new (λ e. omega (arith, e, below))
-            (Guards-quiet shape sized head view steps made (left turned) old new adds (guarded ours)))
-        home_held (Copy from to begin) below does adds wrote =
-            held same_size (turned + 1) kept (omega (arith, below)) does.read
+            (λ ours. Guards-turned shape sized head view steps made (needs ahead turned) (needs sent (turned + 1)) new not
+            (Guards-quiet shape sized head view steps made (needs ahead turned) old new adds (guarded ours)))
+        home_held sent not (Copy from to begin) below does adds wrote =
+            held sent same_size (turned + 1) kept (omega (arith, below)) does.read
             (home_stores shape sized head view steps made turned old.content new.content to (begun_with begin (old.content from)) wrote
             (homed_at shape.format turned) few_under_way waits rising refl does.more does.below does.at does.bytes stored)
             (λ ours. record {
               each = home_each shape sized head view old new sound steps made slots to (begun_with begin (old.content from)) adds.sets
                   (homed_at shape.format turned) waits does.below does.at (guarded ours).each;
-              homed = λ e. absurd (omega (arith, e, below));
+              homed = λ e. absurd (not e);
             })
-        home_held Flush below does adds wrote = absurd does
-        home_held (Head h) below does adds wrote = absurd does
+        home_held sent not Flush below does adds wrote = absurd does
+        home_held sent not (Head h) below does adds wrote = absurd does
+
+        -- after a turn ahead too
+        pub sent_held : (sent : Ahead) → needs sent (turned + 1) ≢ 1 → (turn : Turn) → turned < turns_home shape.format (length numbers)
+            → IsNextTurn shape head numbers kept turned turn → MayTurn turn old new → IsTurned turn old new
+            → HoldsView (sent_log sent (turned + 1) (kept_by turn old kept)) new view
+        sent_held sent not turn below next adds wrote = home_held sent not turn below (brings turn below next) adds wrote
 
         -- the blocks are flushed at home
         flush_held : (turn : Turn) → turned ≡ turns_home shape.format (length numbers) → IsFlushTurn turn → IsTurned turn old new
@@ -313,11 +317,11 @@ module _ (shape : Shape) (sized : IsSized shape) (head : ℕ) (numbers : List �
             let there : length (get_or view.records 0 []) ≤ homed_at shape.format turned =
             all_home shape.format (length (get_or view.records 0 [])) turned (omega (arith, all, home_is))
             (omega (arith, so_far, home_is)) in
-            held same_size (turned + 1) kept (omega (arith, all))
+            held ahead same_size (turned + 1) kept (omega (arith, all))
             (all_read shape.format head (get_or view.records 0 []) (turned + 1) kept (omega (arith, all, home_is)))
             (Stores-turned shape sized head view steps made turned (turned + 1) new.content (λ i low high. omega (arith, high, there))
             s)
-            (λ ours. homed_guards shape sized head view old new sound steps made (left turned) (left (turned + 1))
+            (λ ours. homed_guards shape sized head view old new sound steps made (needs ahead turned) (needs ahead (turned + 1))
             (homed_at shape.format turned) wrote.1 there stored.copied (guarded ours))
         flush_held (Head h) all is wrote = absurd is
 
@@ -325,7 +329,7 @@ module _ (shape : Shape) (sized : IsSized shape) (head : ℕ) (numbers : List �
         pub turn_held : (turn : Turn) → turned ≤ turns_home shape.format (length numbers) → IsNextTurn shape head numbers kept turned turn
             → MayTurn turn old new → IsTurned turn old new → HoldsView (waiting_log (turned + 1) (kept_by turn old kept)) new view
         turn_held turn more next adds wrote = elim (cases_lt turned (turns_home shape.format (length numbers))) [
-          | inl below ↦ home_held turn below (brings turn below next) adds wrote
+          | inl below ↦ home_held ahead (not_covered below) turn below (brings turn below next) adds wrote
           | inr all ↦
               let is : turned ≡ turns_home shape.format (length numbers) = omega (arith, all, more) in
               flush_held turn is (next.flush is) wrote
@@ -333,7 +337,7 @@ module _ (shape : Shape) (sized : IsSized shape) (head : ℕ) (numbers : List �
 
         -- the log after the last turn, with one record less
         abbrev retired_log : List ℕ → LogValue
-        retired_log k = value_at shape (head + 1) newer 0 k under_way writing false
+        retired_log k = value_at ahead shape (head + 1) newer 0 k under_way writing false
 
         -- the head goes past the record
         head_held : (turn : Turn) → turned ≡ turns_home shape.format (length numbers) + 1 → IsHeadTurn (head + 1) turn
@@ -345,9 +349,12 @@ module _ (shape : Shape) (sized : IsSized shape) (head : ℕ) (numbers : List �
             let f : List Entry → List ℕ = λ r. numbers_of r in
             let fits : sectors_of shape ≤ new.size = omega (arith, same_size, hv.fits) in
             let durable = fewer_numbers view.records numbers newer hv.durable in
-            let after : ℕ = oldest_at shape.format newer 0 in
-            let oldest_is = of_oldest_is shape (head + 1) newer 0 (replicate 512 0) under_way writing false in
-            let t_is = turned_of_is shape (head + 1) newer 0 (replicate 512 0) under_way writing false in
+            let after : ℕ = needed_at ahead (head + 1) (head + 1 + length newer) (oldest_at shape.format newer 0) in
+            let needs_is = needed_of_is ahead shape (head + 1) newer 0 (replicate 512 0) under_way writing false in
+            let not_one : after ≢ 1 =
+            λ e. ⊎_elim (λ l. not_homed shape.format newer l) (λ covered. omega (arith, covered.1, past))
+            (needed_one ahead (head + 1) (head + 1 + length newer) (oldest_at shape.format newer 0) e) in
+            let t_is = turned_of_is ahead shape (head + 1) newer 0 (replicate 512 0) under_way writing false in
             let second : get_or newer 0 [] ≡ numbers_of (get_or (drop 1 view.records) 0 []) =
             ap (λ (l : List (List ℕ)). get_or l 0 []) durable ∙ get_or-map f (drop 1 view.records) 0 [] in
             let long : length (get_or newer 0 []) ≡ length (get_or (drop 1 view.records) 0 []) =
@@ -356,16 +363,17 @@ module _ (shape : Shape) (sized : IsSized shape) (head : ℕ) (numbers : List �
             all_home shape.format (length (get_or view.records 0 [])) turned (omega (arith, last, home_is))
             (omega (arith, so_far, home_is)) in
             let one : left turned ≡ 1 = omega (arith, last) in
+            let needs_one : needs ahead turned ≡ 1 =
+            ap (λ (l : ℕ). needed_at ahead head (head + length (numbers ∷ newer)) l) one in
             let fewer : length view.records ≡ length (drop 1 view.records) + 1 = drop-length view.records waits in
             let stores : Stores shape (head + 1) (view_retired 1 view) steps made (turned_at shape.format newer 0) new.content =
             Stores-turned shape sized (head + 1) (view_retired 1 view) steps made 0 (turned_at shape.format newer 0) new.content
             (λ i low high. nothing_home shape.format newer i (length (get_or (drop 1 view.records) 0 [])) (sym long) low high)
             (head_stores shape sized head view steps made turned old.content new.content (head_bytes h.stamp) wrote.0 waits there stored) in
-            let guards : view.ours ≡ true → Guards shape (head + 1) (view_retired 1 view) steps made (oldest_at shape.format newer 0) new =
+            let guards : view.ours ≡ true → Guards shape (head + 1) (view_retired 1 view) steps made after new =
             λ ours. head_guards shape sized head view old new sound steps made slots (head_bytes h.stamp) waits
-            (new_head h.stamp (head + 1) h.least h.most is) (oldest_at shape.format newer 0)
-            (not_homed shape.format newer) wrote.0 wrote.1
-            (subst (λ (r : ℕ). Guards shape head view steps made r old) one (guarded ours)) in
+            (new_head h.stamp (head + 1) h.least h.most is) after not_one wrote.0 wrote.1
+            (subst (λ (r : ℕ). Guards shape head view steps made r old) needs_one (guarded ours)) in
             record {
               fits = fits;
               durable = durable;
@@ -376,17 +384,17 @@ module _ (shape : Shape) (sized : IsSized shape) (head : ℕ) (numbers : List �
               kept = λ live. subst (λ (x : ℕ). IsRead shape.format (head + 1) (get_or (drop 1 view.records) 0 []) x (replicate 512 0))
                   (sym t_is) (next_read shape.format newer (head + 1) (get_or (drop 1 view.records) 0 []) (replicate 512 0) (sym long));
               leaves = λ ours. guards_leave new.size (retired_log (replicate 512 0)) (view_retired 1 view) new made
-                  (oldest_at shape.format newer 0) fits sized (omega (arith, hv.few, fewer))
+                  after fits sized (omega (arith, hv.few, fewer))
                   (λ some. slots_less shape head view waits (slots some)) short (guards ours);
               stores = λ live. subst (λ (x : ℕ). Stores shape (head + 1) (view_retired 1 view) steps made x new.content) (sym t_is) stores;
               guards = λ live ours.
-                  subst (λ (x : ℕ). Guards shape (head + 1) (view_retired 1 view) steps made x new) (sym oldest_is) (guards ours);
+                  subst (λ (x : ℕ). Guards shape (head + 1) (view_retired 1 view) steps made x new) (sym needs_is) (guards ours);
             }
 
         -- after the last turn they hold the one without the record
         pub turn_last : (turn : Turn) → turns_home shape.format (length numbers) < turned → IsNextTurn shape head numbers kept turned turn
             → MayTurn turn old new → IsTurned turn old new
-            → HoldsView (value_at shape (head + 1) newer 0 (replicate 512 0) under_way writing false) new (view_retired 1 view)
+            → HoldsView (value_at ahead shape (head + 1) newer 0 (replicate 512 0) under_way writing false) new (view_retired 1 view)
         turn_last turn past next adds wrote =
             let last : turned ≡ turns_home shape.format (length numbers) + 1 = omega (arith, past, so_far) in
             head_held turn last (next.head last) adds wrote

@@ -3,6 +3,7 @@ pub mod Batching
 pub mod Calling
 pub mod Closing
 pub mod Counting
+pub mod Covering
 pub mod Entering
 pub mod Finding
 pub mod Guarding
@@ -15,6 +16,7 @@ pub mod Merging
 pub mod Newest
 pub mod Ringing
 pub mod Sending
+pub mod Showing
 pub mod Sighting
 pub mod Sparing
 pub mod Stepping

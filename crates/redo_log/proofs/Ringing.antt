@@ -7,7 +7,7 @@ use Rattle.std.proofs.lemmas.List.Sums.{sum_by-cons}
 use Rattle.arrayvec.specs.ArrayVec.{ArrayVec}
 use Rattle.log_layout.specs.declared.log_format.LogFormat.{LogFormat}
 use Rattle.log_layout.specs.Places.{Shape, limit_of}
-use Rattle.redo_log.specs.Value.{turns_home, retire_steps_of, most_retire_steps, IsRetireStepped}
+use Rattle.redo_log.specs.Value.{Ahead, turns_home, retire_steps_of, most_retire_steps, IsRetireStepped}
 use Rattle.redo_log.specs.Stages.{value_at, oldest_at, begun_at, AreInside, IsOldest, IsUnderWay, IsRing}
 use Rattle.redo_log.proofs.Counting.{few_turns}
 use Rattle.redo_log.specs.Shown.{lists_of}
@@ -90,24 +90,26 @@ all_needed shape (n ∷ newer) each =
     omega (arith, all, rest, retire_steps_some shape.format n (each zero [] (omega arith)).some)
 
 -- a retire step of the oldest record that is not its last
-pub retired_more : (shape : Shape) (head : ℕ) (numbers : List ℕ) (newer : List (List ℕ)) (turned : ℕ) (kept next under_way : List ℕ)
+pub retired_more : (ahead : Ahead) (shape : Shape) (head : ℕ) (numbers : List ℕ) (newer : List (List ℕ)) (turned : ℕ)
+    (kept next under_way : List ℕ)
     (made : Option ℕ) (dead : Bool) → turned ≤ turns_home shape.format (length numbers)
-    → IsRetireStepped (value_at shape head (numbers ∷ newer) turned kept under_way made dead)
-    (value_at shape head (numbers ∷ newer) (turned + 1) next under_way made dead)
-retired_more shape head numbers newer turned kept next under_way made dead more = record {
+    → IsRetireStepped (value_at ahead shape head (numbers ∷ newer) turned kept under_way made dead)
+    (value_at ahead shape head (numbers ∷ newer) (turned + 1) next under_way made dead)
+retired_more ahead shape head numbers newer turned kept next under_way made dead more = record {
   some = omega (arith, more);
   more = λ m.
-      let new = value_at shape head (numbers ∷ newer) (turned + 1) next under_way made dead in
+      let new = value_at ahead shape head (numbers ∷ newer) (turned + 1) next under_way made dead in
       ap (λ (n : ℕ). record new { retire_steps_left = n }) (omega (arith, more));
   last = λ e. absurd (omega (arith, more, e));
 }
 
 -- the last retire step of the oldest record
-pub retired_last : (shape : Shape) (head : ℕ) (numbers : List ℕ) (newer : List (List ℕ)) (turned : ℕ) (kept under_way : List ℕ)
+pub retired_last : (ahead : Ahead) (shape : Shape) (head : ℕ) (numbers : List ℕ) (newer : List (List ℕ)) (turned : ℕ)
+    (kept under_way : List ℕ)
     (made : Option ℕ) (dead : Bool) → All (AreInside shape) newer → turned ≡ turns_home shape.format (length numbers) + 1
-    → IsRetireStepped (value_at shape head (numbers ∷ newer) turned kept under_way made dead)
-    (value_at shape (head + 1) newer 0 (replicate 512 0) under_way made dead)
-retired_last shape head numbers newer turned kept under_way made dead each is = record {
+    → IsRetireStepped (value_at ahead shape head (numbers ∷ newer) turned kept under_way made dead)
+    (value_at ahead shape (head + 1) newer 0 (replicate 512 0) under_way made dead)
+retired_last ahead shape head numbers newer turned kept under_way made dead each is = record {
   some = omega (arith, is);
   more = λ m. absurd (omega (arith, is, m));
   last = λ e.
@@ -116,7 +118,7 @@ retired_last shape head numbers newer turned kept under_way made dead each is = 
       + (sum_by (retire_steps_of shape.format) (drop 1 newer) + retire_steps_of shape.format under_way)
       ≡ sum_by (retire_steps_of shape.format) newer + retire_steps_of shape.format under_way =
       omega (arith, all_needed shape newer each) in
-      let new = value_at shape (head + 1) newer 0 (replicate 512 0) under_way made dead in
+      let new = value_at ahead shape (head + 1) newer 0 (replicate 512 0) under_way made dead in
       ap (λ (n : ℕ). record new { next = n }) next_is
       ∙ ap (λ (n : ℕ). record new { next = head + length (numbers ∷ newer) + begun_at made; retire_steps_left = n }) left;
 }

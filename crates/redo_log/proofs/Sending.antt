@@ -10,7 +10,7 @@ use Rattle.log_layout.specs.declared.log_format.LogFormat.{LogFormat}
 use Rattle.log_layout.specs.declared.log_format.LogFormat.TheVariants.{One, Two}
 use Rattle.log_layout.specs.Places.{Shape, limit_of}
 use Rattle.redo_log.specs.Calls.{Call, Write, Flush, fault_of}
-use Rattle.redo_log.specs.Value.{LogValue, turns_home, home_calls, turn_sends, turns_sends, next_sends, sends_of_oldest, most_retire_sends, home_of_oldest, of_oldest}
+use Rattle.redo_log.specs.Value.{Ahead, LogValue, turns_home, home_calls, turn_sends, turns_sends, next_sends, sends_of_oldest, most_retire_sends, home_of_oldest, of_oldest}
 use Rattle.redo_log.specs.Stages.{value_at, AreInside, IsRing}
 use Rattle.redo_log.specs.Turns.{calls_of, sends_of, IsFlushTurn, IsHeadTurn, IsHomeTurn, IsLoadOf, IsCopyOf, IsNextTurn}
 use Rattle.redo_log.specs.declared.turn.Turn.{Turn}
@@ -82,15 +82,15 @@ turn_sent shape stamp numbers kept turned t next below =
         ∙ ap (λ (n : ℕ). home_calls shape.format n - 1) (omega (arith, home_is, left_is, below))
 
 -- a log of which the oldest record has come so far makes as many by its next step
-pub step_sends : (log : LogValue) (shape : Shape) (head : ℕ) (waiting : List (List ℕ)) (turned : ℕ) (kept under_way : List ℕ)
+pub step_sends : (log : LogValue) (ahead : Ahead) (shape : Shape) (head : ℕ) (waiting : List (List ℕ)) (turned : ℕ) (kept under_way : List ℕ)
     (made : Option ℕ) (dead : Bool) (numbers : List ℕ) (newer : List (List ℕ))
-    → value_at shape head waiting turned kept under_way made dead ≡ log
+    → value_at ahead shape head waiting turned kept under_way made dead ≡ log
     → waiting ≡ numbers ∷ newer
     → turn_sends shape.format (turns_home shape.format (length numbers)) (turns_home shape.format (length numbers) + 2 - turned)
     ≡ next_sends log
-step_sends log shape head waiting turned kept under_way made dead numbers newer shown waits =
+step_sends log ahead shape head waiting turned kept under_way made dead numbers newer shown waits =
     ap (λ (n : ℕ). turn_sends shape.format (turns_home shape.format (length numbers)) n) (omega arith)
-    ∙ ap (λ (l : List (List ℕ)). next_sends (value_at shape head l turned kept under_way made dead)) (sym waits)
+    ∙ ap (λ (l : List (List ℕ)). next_sends (value_at ahead shape head l turned kept under_way made dead)) (sym waits)
     ∙ ap (λ (v : LogValue). next_sends v) shown
 
 -- ---- how many they are at most
@@ -138,15 +138,15 @@ few_sends format n (suc (suc left)) few within =
     omega (arith, sends_left format (turns_home format n) left (omega (arith, within)), few_homed format n few)
 
 -- those of the oldest record of a log
-pub few_of_oldest : (log : LogValue) (shape : Shape) (head : ℕ) (waiting : List (List ℕ)) (turned : ℕ) (kept under_way : List ℕ)
+pub few_of_oldest : (log : LogValue) (ahead : Ahead) (shape : Shape) (head : ℕ) (waiting : List (List ℕ)) (turned : ℕ) (kept under_way : List ℕ)
     (made : Option ℕ) (dead : Bool)
-    → value_at shape head waiting turned kept under_way made dead ≡ log → IsRing shape waiting turned under_way made
+    → value_at ahead shape head waiting turned kept under_way made dead ≡ log → IsRing shape waiting turned under_way made
     → sends_of_oldest log ≤ most_retire_sends log.shape.format
-few_of_oldest log shape head waiting turned kept under_way made dead shown ring =
+few_of_oldest log ahead shape head waiting turned kept under_way made dead shown ring =
     subst (λ (v : LogValue). sends_of_oldest v ≤ most_retire_sends v.shape.format) shown (from waiting ring)
   where
     from : (records : List (List ℕ)) → IsRing shape records turned under_way made
-        → sends_of_oldest (value_at shape head records turned kept under_way made dead) ≤ most_retire_sends shape.format
+        → sends_of_oldest (value_at ahead shape head records turned kept under_way made dead) ≤ most_retire_sends shape.format
     from [] r = few_sends shape.format 0 _ (omega arith) (omega arith)
     from (numbers ∷ newer) r = few_sends shape.format (length numbers) _ (r.each 0 [] (omega arith)).few (omega arith)
 

@@ -1,13 +1,13 @@
 -- Each step of the record under way: what the log and its medium hold after it.
 use Rattle.std.proofs.Common.{◌≡◌, ◌⊎◌, inl, inr, ⊎_elim, ℕ, ◌+◌, ◌*◌, ◌-◌, ◌<◌, ◌≤◌, List, [], ◌∷◌, ◌++◌, length, get_or, refl, sym, ◌∙◌}
 use Rattle.std.proofs.Common.{ap, subst, arith, length-append}
-use Rattle.std.specs.Prelude.{Bool, map, true, false, Option, Some, None}
+use Rattle.std.specs.Prelude.{map, true, false, Some, None}
 use Rattle.std.proofs.lemmas.Bool.{cases_eq, cases_lt}
 use Rattle.std.proofs.lemmas.List.{length-map, map-append}
+use Rattle.std.proofs.Math.ListN.{get_or-map}
 use Rattle.medium.specs.Medium.{State, IsSound}
 use Rattle.medium.specs.Moments.{EachCut}
 use Rattle.medium.proofs.Moments.{shrunk}
-use Rattle.log_layout.specs.declared.log_format.LogFormat.{LogFormat}
 use Rattle.log_layout.specs.Places.{Shape, sectors_of}
 use Rattle.log_image.specs.Record.{Entry, numbers_of, entries_of}
 use Rattle.log_image.specs.Layout.{Layout, part_at}
@@ -16,16 +16,19 @@ use Rattle.log_image.specs.Formats.{layout_of}
 use Rattle.log_image.specs.Staged.{HasSlots}
 use Rattle.log_image.proofs.Formats.{laws_of}
 use Rattle.log_image.proofs.Batching.{length_of_batch}
-use Rattle.redo_log.specs.Value.{LogValue, steps_for, turns_home, of_oldest}
-use Rattle.redo_log.specs.Stages.{value_at, oldest_at, written_at, flush_of, IsRecord, IsOldest, IsRead, IsSized}
+use Rattle.redo_log.specs.Value.{LogValue, Ahead, steps_for, turns_home}
+use Rattle.redo_log.specs.Stages.{value_at, oldest_at, written_at, homed_at, flush_of, needed_at, IsRecord, IsOldest, IsRead, IsSized}
 use Rattle.redo_log.specs.Calls.{Call, Write, Flush, MayAdd, IsDone, IsNextCall, IsFlush, IsFlushDue, IsWriteOf}
-use Rattle.redo_log.specs.Held.{View, with_record, image_view, oldest_of, written_of, made_of, turned_of, MayLeave, Stores, Guards}
+use Rattle.redo_log.specs.Held.{View, with_record, image_view, oldest_of, written_of, made_of, turned_of, needed_of, MayLeave, Stores}
+use Rattle.redo_log.specs.Held.{Guards}
 use Rattle.redo_log.specs.Held.{HoldsView}
-use Rattle.redo_log.proofs.Counting.{steps_are, due_or_not, last_call, not_last, one_left, early_written, part_written}
+use Rattle.redo_log.proofs.Counting.{steps_are, due_or_not, last_call, not_last, one_left, early_written, part_written, all_home}
+use Rattle.redo_log.proofs.Covering.{needed_one}
 use Rattle.redo_log.proofs.Keeping.{Logged-records}
 use Rattle.redo_log.proofs.Batching.{count_of, record_entries, record_batch}
 use Rattle.redo_log.proofs.Storing.{oldest-append, Stores-stays, part_stores, durable_stores}
 use Rattle.redo_log.proofs.Guarding.{IsEither, safe_either, other_each, last_each, part_guards, flush_guards, durable_guards}
+use Rattle.redo_log.proofs.Showing.{turned_at, turned_of_is, needed_of_is, made_of_is, oldest_more, oldest_alone}
 use Rattle.redo_log.proofs.Turning.{none_read}
 
 -- what guards a log says what a cut may leave
@@ -49,38 +52,8 @@ durable_numbers records entries waiting numbers is one =
     ∙ ap (λ (l : List ℕ). map f records ++ l ∷ []) one
     ∙ sym (map-append f records (entries ∷ []))
 
--- how many turns of the oldest record are made
-abbrev pub turned_at : LogFormat → List (List ℕ) → ℕ → ℕ
-turned_at format waiting turned = turns_home format (length (get_or waiting 0 [])) + 2 - oldest_at format waiting turned
-
--- what the oldest record still needs is what the log says of it
-pub of_oldest_is : (shape : Shape) (head : ℕ) (waiting : List (List ℕ)) (turned : ℕ) (kept numbers : List ℕ) (writing : Option ℕ)
-    (dead : Bool) → of_oldest (value_at shape head waiting turned kept numbers writing dead) ≡ oldest_at shape.format waiting turned
-of_oldest_is shape head waiting turned kept numbers writing dead = omega arith
-
-pub turned_of_is : (shape : Shape) (head : ℕ) (waiting : List (List ℕ)) (turned : ℕ) (kept numbers : List ℕ) (writing : Option ℕ)
-    (dead : Bool) → turned_of (value_at shape head waiting turned kept numbers writing dead) ≡ turned_at shape.format waiting turned
-turned_of_is shape head waiting turned kept numbers writing dead =
-    ap (λ (left : ℕ). turns_home shape.format (length (get_or waiting 0 [])) + 2 - left)
-    (of_oldest_is shape head waiting turned kept numbers writing dead)
-
-pub made_of_is : (shape : Shape) (head : ℕ) (waiting : List (List ℕ)) (turned : ℕ) (kept numbers : List ℕ) (made : ℕ) (dead : Bool)
-    → made < steps_for shape.format (length numbers) → made_of (value_at shape head waiting turned kept numbers (Some made) dead) ≡ made
-made_of_is shape head waiting turned kept numbers made dead below = omega (arith, below)
-
--- with one more the oldest stays the oldest
-oldest_more : (format : LogFormat) (waiting : List (List ℕ)) (turned : ℕ) (numbers : List ℕ) → 0 < length waiting
-    → (oldest_at format (waiting ++ numbers ∷ []) turned ≡ oldest_at format waiting turned)
-    × (turned_at format (waiting ++ numbers ∷ []) turned ≡ turned_at format waiting turned)
-oldest_more format [] turned numbers some = absurd (omega arith)
-oldest_more format (n ∷ waiting) turned numbers some = (refl, refl)
-
-oldest_alone : (format : LogFormat) (waiting : List (List ℕ)) (turned : ℕ) (numbers : List ℕ) → IsOldest format waiting turned
-    → length waiting ≡ 0 → (1 < oldest_at format (waiting ++ numbers ∷ []) turned) × (turned_at format (waiting ++ numbers ∷ []) turned ≡ 0)
-oldest_alone format [] turned numbers is none = (omega (arith, is), omega (arith, is))
-oldest_alone format (n ∷ waiting) turned numbers is none = absurd (omega arith)
-
-module _ (shape : Shape) (sized : IsSized shape) (head : ℕ) (waiting : List (List ℕ)) (turned : ℕ) (kept numbers bytes : List ℕ)
+module _ (ahead : Ahead) (shape : Shape) (sized : IsSized shape) (head : ℕ) (waiting : List (List ℕ)) (turned : ℕ)
+    (kept numbers bytes : List ℕ)
     (view : View) (rec : IsRecord shape (head + length waiting) numbers) (room : length waiting < shape.slots)
     (size : length bytes ≡ 512 * length numbers) where
   abbrev L : Layout
@@ -91,7 +64,7 @@ module _ (shape : Shape) (sized : IsSized shape) (head : ℕ) (waiting : List (L
 
   -- a log with this record under way
   abbrev pub writing_log : ℕ → LogValue
-  writing_log made = value_at shape head waiting turned kept numbers (Some made) false
+  writing_log made = value_at ahead shape head waiting turned kept numbers (Some made) false
 
   -- how many turns the oldest record needs, and how many are made
   abbrev left : ℕ
@@ -99,6 +72,10 @@ module _ (shape : Shape) (sized : IsSized shape) (head : ℕ) (waiting : List (L
 
   abbrev done : ℕ
   done = turned_at shape.format waiting turned
+
+  -- how many it needs, where a flush that covers its blocks counts
+  abbrev needs : ℕ
+  needs = needed_at ahead head (head + length waiting) (oldest_at shape.format waiting turned)
 
   abbrev n : ℕ
   n = length view.under_way
@@ -152,21 +129,29 @@ module _ (shape : Shape) (sized : IsSized shape) (head : ℕ) (waiting : List (L
     stored : Stores shape head view (steps made) made done old.content
     stored =
         subst (λ (t : ℕ). Stores shape head view (steps made) made t old.content)
-        (turned_of_is shape head waiting turned kept numbers (Some made) false)
+        (turned_of_is ahead shape head waiting turned kept numbers (Some made) false)
         (subst (λ (k : ℕ). Stores shape head view (steps made) k (turned_of (writing_log made)) old.content)
-        (made_of_is shape head waiting turned kept numbers made false below) (hv.stores refl))
+        (made_of_is ahead shape head waiting turned kept numbers made false below) (hv.stores refl))
 
-    guarded : view.ours ≡ true → Guards shape head view (steps made) made left old
+    guarded : view.ours ≡ true → Guards shape head view (steps made) made needs old
     guarded ours =
         subst (λ (r : ℕ). Guards shape head view (steps made) made r old)
-        (of_oldest_is shape head waiting turned kept numbers (Some made) false)
-        (subst (λ (k : ℕ). Guards shape head view (steps made) k (of_oldest (writing_log made)) old)
-        (made_of_is shape head waiting turned kept numbers made false below) (hv.guards refl ours))
+        (needed_of_is ahead shape head waiting turned kept numbers (Some made) false)
+        (subst (λ (k : ℕ). Guards shape head view (steps made) k (needed_of (writing_log made)) old)
+        (made_of_is ahead shape head waiting turned kept numbers made false below) (hv.guards refl ours))
 
     read : IsRead shape.format head (oldest_of view) done kept
     read =
         subst (λ (t : ℕ). IsRead shape.format head (oldest_of view) t kept)
-        (turned_of_is shape head waiting turned kept numbers (Some made) false) (hv.kept refl)
+        (turned_of_is ahead shape head waiting turned kept numbers (Some made) false) (hv.kept refl)
+
+    -- the oldest record's turns are those of its blocks
+    oldest_home : turns_home shape.format (length (get_or waiting 0 [])) ≡ turns_home shape.format (length (get_or view.records 0 []))
+    oldest_home =
+        let f : List Entry → List ℕ = λ r. numbers_of r in
+        ap (λ (k : ℕ). turns_home shape.format k)
+        (count_of (get_or waiting 0 []) (get_or view.records 0 [])
+        (ap (λ (l : List (List ℕ)). get_or l 0 []) hv.durable ∙ get_or-map f view.records 0 []))
 
     -- the next call, by the count of the record under way
     next_is : (call : Call) → IsNextCall (layout_of shape.format) shape (head + length waiting) (entries_of numbers bytes) made call
@@ -246,18 +231,18 @@ module _ (shape : Shape) (sized : IsSized shape) (head : ℕ) (waiting : List (L
         -- a record that is still under way
         held : (more : made + 1 < steps_for shape.format (length numbers))
             → Stores shape head view (steps (made + 1)) (made + 1) done new.content
-            → (view.ours ≡ true → Guards shape head view (steps (made + 1)) (made + 1) left new)
+            → (view.ours ≡ true → Guards shape head view (steps (made + 1)) (made + 1) needs new)
             → HoldsView (writing_log (made + 1)) new view
         held more s g =
-            let oldest_is = of_oldest_is shape head waiting turned kept numbers (Some (made + 1)) false in
-            let turned_is = turned_of_is shape head waiting turned kept numbers (Some (made + 1)) false in
-            let made_is = made_of_is shape head waiting turned kept numbers (made + 1) false more in
+            let needs_is = needed_of_is ahead shape head waiting turned kept numbers (Some (made + 1)) false in
+            let turned_is = turned_of_is ahead shape head waiting turned kept numbers (Some (made + 1)) false in
+            let made_is = made_of_is ahead shape head waiting turned kept numbers (made + 1) false more in
             let fits : sectors_of shape ≤ new.size = omega (arith, same_size, hv.fits) in
             let guards : view.ours ≡ true
-            → Guards shape head view (steps (made + 1)) (made_of (writing_log (made + 1))) (of_oldest (writing_log (made + 1)))
+            → Guards shape head view (steps (made + 1)) (made_of (writing_log (made + 1))) (needed_of (writing_log (made + 1)))
             new =
             λ ours. subst (λ (r : ℕ). Guards shape head view (steps (made + 1)) (made_of (writing_log (made + 1))) r new)
-            (sym oldest_is) (subst (λ (k : ℕ). Guards shape head view (steps (made + 1)) k left new) (sym made_is) (g ours)) in
+            (sym needs_is) (subst (λ (k : ℕ). Guards shape head view (steps (made + 1)) k needs new) (sym made_is) (g ours)) in
             record {
               fits = fits;
               durable = hv.durable;
@@ -266,7 +251,7 @@ module _ (shape : Shape) (sized : IsSized shape) (head : ℕ) (waiting : List (L
               few = hv.few;
               sized = hv.sized;
               kept = λ live. subst (λ (t : ℕ). IsRead shape.format head (oldest_of view) t kept) (sym turned_is) read;
-              leaves = λ ours. guards_leave new.size (writing_log (made + 1)) view new (made + 1) left fits sized hv.few (λ _. slots)
+              leaves = λ ours. guards_leave new.size (writing_log (made + 1)) view new (made + 1) needs fits sized hv.few (λ _. slots)
                   (λ all. omega (arith, one_left (L.early n) (L.parts n) late (made + 1) all, all_steps)) (g ours);
               stores = λ live. subst (λ (t : ℕ). Stores shape head view (steps (made + 1)) (made_of (writing_log (made + 1))) t new.content)
                   (sym turned_is) (subst (λ (k : ℕ). Stores shape head view (steps (made + 1)) k done new.content) (sym made_is) s);
@@ -284,7 +269,7 @@ module _ (shape : Shape) (sized : IsSized shape) (head : ℕ) (waiting : List (L
             held more
             (Stores-stays shape sized head view (steps made) (steps (made + 1)) made (made + 1) done old.content new.content wrote.0
             (λ _. omega (arith, below)) (omega (arith, after.0, after.1)) stored)
-            (λ ours. flush_guards shape sized head view old new sound (steps made) (steps (made + 1)) made left done (L.early n)
+            (λ ours. flush_guards shape sized head view old new sound (steps made) (steps (made + 1)) made needs done (L.early n)
             (omega (arith, below)) (omega (arith, more)) after.0 after.1 after.2 slots wrote.1 stored (guarded ours))
 
         -- the next part is written
@@ -303,7 +288,7 @@ module _ (shape : Shape) (sized : IsSized shape) (head : ℕ) (waiting : List (L
             new.content place sector wrote (omega (arith, many, room)) slots.under_way.fit.few (λ _. omega (arith, below)) refl
             after.0 small is.0 mine stored)
             (λ ours. part_guards shape sized head view old new sound slots (steps made) made (written_of shape view made)
-            (omega (arith, below)) refl small place sector adds is.0 mine after.0 after.1 (steps (made + 1)) left
+            (omega (arith, below)) refl small place sector adds is.0 mine after.0 after.1 (steps (made + 1)) needs
             (omega (arith, more)) (guarded ours))
 
         -- after a call that is not the last the log and its medium hold the same view
@@ -317,24 +302,25 @@ module _ (shape : Shape) (sized : IsSized shape) (head : ℕ) (waiting : List (L
 
       -- the log after the last call, with one record more
       abbrev durable_log : LogValue
-      durable_log = value_at shape head (waiting ++ numbers ∷ []) turned kept [] None false
+      durable_log = value_at ahead shape head (waiting ++ numbers ∷ []) turned kept [] None false
 
       -- all is flushed
       durable_held : (call : Call) → L.parts n ≤ written_of shape view made → IsOldest shape.format waiting turned → IsFlush call
           → IsDone call old new → HoldsView durable_log new (with_record view)
       durable_held (Write place sector) all oldest is wrote = absurd is
       durable_held Flush all oldest is wrote =
-          let after : ℕ = oldest_at shape.format (waiting ++ numbers ∷ []) turned in
+          let after : ℕ = needed_at ahead head (head + length (waiting ++ numbers ∷ []))
+          (oldest_at shape.format (waiting ++ numbers ∷ []) turned) in
           let then_done : ℕ = turned_at shape.format (waiting ++ numbers ∷ []) turned in
-          let oldest_is = of_oldest_is shape head (waiting ++ numbers ∷ []) turned kept [] None false in
-          let turned_is = turned_of_is shape head (waiting ++ numbers ∷ []) turned kept [] None false in
+          let needs_is = needed_of_is ahead shape head (waiting ++ numbers ∷ []) turned kept [] None false in
+          let turned_is = turned_of_is ahead shape head (waiting ++ numbers ∷ []) turned kept [] None false in
           let fits : sectors_of shape ≤ new.size = omega (arith, same_size, hv.fits) in
           let longer : length (view.records ++ view.under_way ∷ []) ≡ length view.records + 1 =
           length-append view.records (view.under_way ∷ []) in
           let alone : length view.records ≡ 0
-          → (1 < oldest_at shape.format (waiting ++ numbers ∷ []) turned)
+          → (2 < oldest_at shape.format (waiting ++ numbers ∷ []) turned)
           × (turned_at shape.format (waiting ++ numbers ∷ []) turned ≡ 0) =
-          λ none. oldest_alone shape.format waiting turned numbers oldest (omega (arith, none, many)) in
+          λ none. oldest_alone shape.format waiting turned numbers rec.numbers_are.some oldest (omega (arith, none, many)) in
           let waits : 0 < length view.records
           → (oldest_at shape.format (waiting ++ numbers ∷ []) turned ≡ left)
           × (turned_at shape.format (waiting ++ numbers ∷ []) turned ≡ done) =
@@ -347,15 +333,26 @@ module _ (shape : Shape) (sized : IsSized shape) (head : ℕ) (waiting : List (L
           (λ none. (alone none).1) (λ some. (waits some).1)
           (Stores-stays shape sized head view (steps made) (steps made) made made done old.content new.content wrote.0
           (λ some. some) (omega arith) stored)) in
-          let one_less : oldest_at shape.format (waiting ++ numbers ∷ []) turned ≡ 1 → (0 < length view.records) × (left ≡ 1) =
+          let few_left : (after ≡ 1)
+          → (oldest_at shape.format (waiting ++ numbers ∷ []) turned ≡ 1) ⊎ (oldest_at shape.format (waiting ++ numbers ∷ []) turned ≡ 2) =
+          λ one. ⊎_elim inl (λ two. inr two.0)
+          (needed_one ahead head (head + length (waiting ++ numbers ∷ [])) (oldest_at shape.format (waiting ++ numbers ∷ []) turned) one) in
+          let one_less : after ≡ 1
+          → (0 < length view.records) × ((needs ≡ 1) ⊎ (length (get_or view.records 0 []) ≤ homed_at shape.format done)) =
           λ one. elim (cases_eq (length view.records) 0) [
-            | inl none ↦ absurd (omega (arith, one, (alone none).0))
-            | inr some ↦ let w : 0 < length view.records = omega (arith, some) in (w, sym (waits w).0 ∙ one)
+            | inl none ↦ absurd (⊎_elim (λ e. omega (arith, e, (alone none).0)) (λ e. omega (arith, e, (alone none).0)) (few_left one))
+            | inr some ↦
+                let w : 0 < length view.records = omega (arith, some) in (
+                  w,
+                  ⊎_elim
+                      (λ e. inl (ap (λ (l : ℕ). needed_at ahead head (head + length waiting) l) (sym (waits w).0 ∙ e)))
+                      (λ e. inr (all_home shape.format (length (get_or view.records 0 [])) done
+                      (omega (arith, e, (waits w).0, oldest_home)) (omega (arith, e, (waits w).0, oldest_home)))) (few_left one),
+                )
           ] in
-          let guards : view.ours ≡ true
-          → Guards shape head (with_record view) 0 made_then (oldest_at shape.format (waiting ++ numbers ∷ []) turned) new =
-          λ ours. durable_guards shape sized head view old new sound (steps made) made made_then done left
-          (oldest_at shape.format (waiting ++ numbers ∷ []) turned) (omega (arith, below)) all one_less slots wrote.1 stored
+          let guards : view.ours ≡ true → Guards shape head (with_record view) 0 made_then after new =
+          λ ours. durable_guards shape sized head view old new sound (steps made) made made_then done needs
+          after (omega (arith, below)) all one_less slots wrote.1 stored
           (guarded ours) in
           record {
             fits = fits;
@@ -375,11 +372,11 @@ module _ (shape : Shape) (sized : IsSized shape) (head : ℕ) (waiting : List (L
                       (subst (λ (r : List Entry). IsRead shape.format head r done kept)
                       (sym (oldest-append view.records view.under_way w)) read)
                 ]);
-            leaves = λ ours. guards_leave new.size durable_log (with_record view) new made_then
-                (oldest_at shape.format (waiting ++ numbers ∷ []) turned) fits sized (omega (arith, many, room, longer))
+            leaves = λ ours. guards_leave new.size durable_log (with_record view) new made_then after fits sized
+                (omega (arith, many, room, longer))
                 (λ some. absurd (omega (arith, some))) (λ _. omega arith) (guards ours);
             stores = λ live. subst (λ (t : ℕ). Stores shape head (with_record view) 0 made_then t new.content) (sym turned_is) stores;
-            guards = λ live ours. subst (λ (r : ℕ). Guards shape head (with_record view) 0 made_then r new) (sym oldest_is) (guards ours);
+            guards = λ live ours. subst (λ (r : ℕ). Guards shape head (with_record view) 0 made_then r new) (sym needs_is) (guards ours);
           }
         where
           Stores-rest : {made_then turns : ℕ} → Stores shape head (with_record view) 0 0 turns new.content
@@ -389,7 +386,7 @@ module _ (shape : Shape) (sized : IsSized shape) (head : ℕ) (waiting : List (L
       -- after the last call they hold the one with the record
       pub step_last : (call : Call) → steps_for shape.format (length numbers) ≤ made + 1 → IsOldest shape.format waiting turned
           → IsNextCall (layout_of shape.format) shape (head + length waiting) (entries_of numbers bytes) made call → IsDone call old new
-          → HoldsView (value_at shape head (waiting ++ numbers ∷ []) turned kept [] None false) new (with_record view)
+          → HoldsView (value_at ahead shape head (waiting ++ numbers ∷ []) turned kept [] None false) new (with_record view)
       step_last call last oldest next wrote =
           let all : L.parts n ≤ written_of shape view made =
           last_call (L.early n) (L.parts n) late made (omega (arith, below, all_steps)) (omega (arith, last, all_steps)) in

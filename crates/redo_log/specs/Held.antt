@@ -14,7 +14,7 @@ use Rattle.redo_log.specs.declared.progress.Progress.{Progress}
 use Rattle.redo_log.specs.declared.progress.Progress.TheVariants.{More, Durable}
 use Rattle.redo_log.specs.Value.{LogValue, steps_of, turns_home, behind_oldest, of_oldest}
 use Rattle.redo_log.specs.Logged.{HasRecords, AreHome, Laid}
-use Rattle.redo_log.specs.Stages.{written_at, flushed_at, homed_at, IsRead}
+use Rattle.redo_log.specs.Stages.{written_at, flushed_at, homed_at, needed_at, IsRead}
 
 -- what a log has
 pub record View : Type 0 where
@@ -146,6 +146,10 @@ made_of log = steps_of log.shape.format log.under_way - log.steps_left
 abbrev pub turned_of : LogValue → ℕ
 turned_of log = turns_home log.shape.format (length (get_or log.waiting 0 [])) + 2 - of_oldest log
 
+-- how many retire steps the oldest record needs, where a flush that covers its blocks counts
+abbrev pub needed_of : LogValue → ℕ
+needed_of log = needed_at log.ahead log.head (log.head + length log.waiting) (of_oldest log)
+
 -- The log and its medium hold this: contents always, and, where every image was ours, all that a
 -- cut may leave. Of a dead log only what a cut may leave is known.
 pub record HoldsView (log : LogValue) (m : State) (view : View) : Type 0 where
@@ -161,4 +165,4 @@ pub record HoldsView (log : LogValue) (m : State) (view : View) : Type 0 where
   pub stores : log.dead ≡ false
       → Stores log.shape log.head view log.steps_left (made_of log) (turned_of log) m.content
   pub guards : log.dead ≡ false → view.ours ≡ true
-      → Guards log.shape log.head view log.steps_left (made_of log) (of_oldest log) m
+      → Guards log.shape log.head view log.steps_left (made_of log) (needed_of log) m

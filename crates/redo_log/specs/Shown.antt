@@ -4,8 +4,8 @@ use Rattle.std.specs.VecDeque.{deque_capacity}
 use Rattle.arrayvec.specs.ArrayVec.{ArrayVec}
 use Rattle.log_layout.specs.Places.{limit_of}
 use Rattle.log_layout.specs.Values.{shape_of}
-use Rattle.redo_log.specs.Value.{LogValue}
-use Rattle.redo_log.specs.Stages.{value_at, begun_at, IsRing}
+use Rattle.redo_log.specs.Value.{LogValue, Ahead}
+use Rattle.redo_log.specs.Stages.{value_at, begun_at, IsRing, IsAheadOf}
 use Rattle.redo_log.specs.Index.{IsIndex}
 use Rattle.redo_log.specs.declared.log.Log.TheInside.{Inside}
 
@@ -13,10 +13,14 @@ use Rattle.redo_log.specs.declared.log.Log.TheInside.{Inside}
 abbrev pub lists_of : List (ArrayVec ℕ) → List (List ℕ)
 lists_of records = map (λ r. r.items) records
 
+-- what was done ahead
+abbrev pub ahead_in : Inside → Ahead
+ahead_in log = record { home = log.homed; before = log.before }
+
 -- what a caller sees of the fields
 abbrev pub shown : Inside → LogValue
-shown log = value_at (shape_of log.sizes) log.head (lists_of log.waiting.items) log.turned
-    log.kept log.under_way.items log.made log.dead
+shown log = value_at (ahead_in log) (shape_of log.sizes) log.head (lists_of log.waiting.items)
+    log.turned log.kept log.under_way.items log.made log.dead
 
 -- what is true of the fields of every log
 pub record IsKept (log : Inside) : Type 0 where
@@ -27,3 +31,5 @@ pub record IsKept (log : Inside) : Type 0 where
   pub index_is : IsIndex log.sizes.slots log.head (lists_of log.waiting.items) log.index.items
   pub ring : IsRing (shape_of log.sizes) (lists_of log.waiting.items) log.turned
       log.under_way.items log.made
+  pub ahead_is : IsAheadOf (ahead_in log) (shape_of log.sizes) log.head
+      (lists_of log.waiting.items) log.turned

@@ -1,13 +1,14 @@
 -- How far a log's records have come, as numbers.
-use Rattle.std.specs.Prelude.{◌≡◌, ℕ, ◌≤◌, ◌<◌, ◌^◌, ◌+◌, ◌*◌, ◌-◌, ◌/◌, ◌%◌, List, [], ◌∷◌, length}
-use Rattle.std.specs.Prelude.{drop, sum_by, All, Bool, Option, Some, None, if◌then◌else◌, nat_lt}
+use Rattle.std.specs.Prelude.{◌≡◌, ◌⊎◌, ℕ, zero, suc, ◌≤◌, ◌<◌, ◌^◌, ◌+◌, ◌*◌, ◌-◌, ◌/◌, ◌%◌, List}
+use Rattle.std.specs.Prelude.{[], ◌∷◌, length, get_or, drop, sum_by, All, Bool, Option, Some, None}
+use Rattle.std.specs.Prelude.{if◌then◌else◌, nat_lt, ◌==◌}
 use Rattle.log_layout.specs.declared.log_format.LogFormat.{LogFormat}
 use Rattle.log_layout.specs.declared.log_format.LogFormat.TheVariants.{One, Two}
 use Rattle.log_layout.specs.Places.{Shape, limit_of}
 use Rattle.log_layout.specs.Sectors.{IsRising}
 use Rattle.log_image.specs.Record.{Entry}
 use Rattle.log_image.specs.Formats.{layout_of}
-use Rattle.redo_log.specs.Value.{LogValue, steps_for, turns_home, retire_steps_of}
+use Rattle.redo_log.specs.Value.{LogValue, Ahead, steps_for, turns_home, retire_steps_of}
 
 -- one flush for the parts that are flushed early, none where there are none
 unfoldable pub flush_of : ℕ → ℕ
@@ -51,8 +52,9 @@ begun_at (Some made) = 1
 
 -- A log with these durable records, of which so many turns of the oldest are made, and perhaps this
 -- one under way, of which so many calls are made.
-abbrev pub value_at : Shape → ℕ → List (List ℕ) → ℕ → List ℕ → List ℕ → Option ℕ → Bool → LogValue
-value_at shape head waiting turned kept under_way writing dead = record {
+abbrev pub value_at : Ahead → Shape → ℕ → List (List ℕ) → ℕ → List ℕ → List ℕ → Option ℕ → Bool
+    → LogValue
+value_at ahead shape head waiting turned kept under_way writing dead = record {
   shape = shape;
   head = head;
   next = head + length waiting + begun_at writing;
@@ -63,8 +65,18 @@ value_at shape head waiting turned kept under_way writing dead = record {
       + (sum_by (retire_steps_of shape.format) (drop 1 waiting)
       + retire_steps_of shape.format under_way);
   kept = kept;
+  ahead = ahead;
   dead = dead;
 }
+
+-- How many retire steps the oldest record needs, where so many are left: one where two are left and
+-- a flush covers its blocks.
+abbrev pub needed_at : Ahead → ℕ → ℕ → ℕ → ℕ
+needed_at ahead head behind zero = zero
+needed_at ahead head behind (suc zero) = 1
+needed_at ahead head behind (suc (suc zero)) =
+    if ahead.home == head then (if nat_lt ahead.before behind then 1 else 2) else 2
+needed_at ahead head behind (suc (suc (suc left))) = suc (suc (suc left))
 
 -- what steps and turns ask of the shape of a medium
 pub record IsSized (shape : Shape) : Type 0 where
@@ -95,6 +107,12 @@ abbrev pub IsUnderWay : Shape → List ℕ → Option ℕ → Type 0
 IsUnderWay shape numbers None = numbers ≡ []
 IsUnderWay shape numbers (Some made) =
     AreInside shape numbers × (made < steps_for shape.format (length numbers))
+
+-- the record that went home ahead is retired, or it is the oldest one, whose blocks are home
+abbrev pub IsAheadOf : Ahead → Shape → ℕ → List (List ℕ) → ℕ → Type 0
+IsAheadOf ahead shape head waiting turned = (ahead.home < head)
+    ⊎ ((ahead.home ≡ head) × (0 < length waiting)
+    × (turns_home shape.format (length (get_or waiting 0 [])) ≤ turned))
 
 -- the records of a log with so many slots
 pub record IsRing (shape : Shape) (waiting : List (List ℕ)) (turned : ℕ) (under_way : List ℕ)

@@ -1,13 +1,23 @@
 -- What a caller sees of a redo log, and how its calls change that.
 use Rattle.std.specs.Prelude.{◌≡◌, ℕ, zero, suc, ◌+◌, ◌-◌, ◌%◌, ◌<◌, List, [], ◌∷◌, ◌++◌, length}
 use Rattle.std.specs.Prelude.{get_or, slice_index, drop, replicate, sum_by, Contains, Bool}
-use Rattle.std.specs.Prelude.{true, false, if◌then◌else◌, ◌==◌}
+use Rattle.std.specs.Prelude.{true, false, if◌then◌else◌, ◌==◌, nat_lt}
 use Rattle.log_layout.specs.declared.log_format.LogFormat.{LogFormat}
 use Rattle.log_layout.specs.declared.log_format.LogFormat.TheVariants.{One, Two}
 use Rattle.log_layout.specs.Places.{Shape, limit_of}
 use Rattle.log_layout.specs.SectorsTwo.{descriptors_of}
 use Rattle.redo_log.specs.declared.progress.Progress.{Progress}
 use Rattle.redo_log.specs.declared.progress.Progress.TheVariants.{More, Durable}
+
+-- which record's last block went home by a turn ahead, without a flush
+pub record Ahead : Type 0 where
+  -- the stamp of that record; 0 where there was none
+  pub home : ℕ
+  -- the stamp of the record that was to become durable next: its flush covers the blocks
+  pub before : ℕ
+
+abbrev pub nothing_ahead : Ahead
+nothing_ahead = record { home = 0; before = 0 }
 
 pub record LogValue : Type 0 where
   pub shape : Shape
@@ -25,6 +35,7 @@ pub record LogValue : Type 0 where
   pub retire_steps_left : ℕ
   -- the descriptor of the oldest record that was read last, in format 2
   pub kept : List ℕ
+  pub ahead : Ahead
   pub dead : Bool
 
 -- a log without records, whose first one takes this stamp
@@ -38,6 +49,7 @@ idle_from shape next = record {
   steps_left = 0;
   retire_steps_left = 0;
   kept = replicate 512 0;
+  ahead = nothing_ahead;
   dead = false;
 }
 
@@ -184,6 +196,41 @@ pub record IsRetireStepped (old new : LogValue) : Type 0 where
         retire_steps_left = behind_oldest old;
         kept = replicate 512 0;
       }
+
+-- A block of the oldest durable record is not home yet: more is left than a flush and the head.
+abbrev pub IsAway : LogValue → Type 0
+IsAway log = 2 < of_oldest log
+
+-- how many calls the next turn ahead makes: none where no block is away
+abbrev pub ahead_calls : LogValue → ℕ
+ahead_calls log = if nat_lt 2 (of_oldest log) then next_calls log else 0
+
+-- the blocks of a record went home ahead, and two more steps are left of it
+abbrev pub ahead_of : LogValue → Ahead
+ahead_of log = record { home = log.head; before = log.head + length log.waiting }
+
+-- A turn ahead was made: a block of the oldest record went home, or its next descriptor was read.
+-- With the last of these the record is home ahead.
+pub record IsSentHome (old new : LogValue) : Type 0 where
+  pub more : 3 < of_oldest old
+      → new ≡ record old { retire_steps_left = old.retire_steps_left - 1; kept = new.kept }
+  pub last : of_oldest old ≡ 3
+      → new ≡ record old {
+        retire_steps_left = old.retire_steps_left - 1;
+        kept = new.kept;
+        ahead = ahead_of old;
+      }
+
+-- The oldest record went home ahead, and a record has become durable since: the flush of that one
+-- covers the blocks, which are to be flushed next.
+pub record IsCovered (log : LogValue) : Type 0 where
+  pub oldest : log.ahead.home ≡ log.head
+  pub flushes : of_oldest log ≡ 2
+  pub since : log.ahead.before < log.head + length log.waiting
+
+-- the same log, where a flush that was made stands for the one that the oldest record needs
+abbrev pub settled : LogValue → LogValue
+settled log = record log { retire_steps_left = log.retire_steps_left - 1 }
 
 -- the slot and the place hold the newest logged copy of this block: its number stands there in a
 -- durable record, and in no newer one

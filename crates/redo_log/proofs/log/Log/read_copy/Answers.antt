@@ -8,7 +8,7 @@ use Rattle.log_layout.specs.Values.{shape_of}
 use Rattle.log_image.specs.Formats.{IsWhole}
 use Rattle.redo_log.specs.Value.{LogValue}
 use Rattle.redo_log.specs.Held.{MayLeave}
-use Rattle.redo_log.specs.Shown.{lists_of}
+use Rattle.redo_log.specs.Shown.{lists_of, ahead_in}
 use Rattle.redo_log.proofs.Closing.{quiet_held, copy_read, sizes_sized}
 use Rattle.redo_log.proofs.Sighting.{shape_looks}
 use Rattle.redo_log.proofs.log.Log.read_copy.Goals as goal
@@ -24,8 +24,9 @@ returns-clause-ok g c view block holds copy =
     let shape_is : c.args.self.now.shape ≡ shape_of i.sizes = ap (λ (v : LogValue). v.shape) (sym c.self.view_is) in
     let slots_are : c.args.self.now.shape.slots ≡ i.sizes.slots = ap (λ (s : Shape). s.slots) shape_is in
     let most = c.self.invariant.most in
-    let there = copy_read (shape_of i.sizes) (sizes_sized i.sizes) i.head (lists_of i.waiting.items) i.turned i.kept i.under_way.items
-    i.made i.dead c.args.self.now c.self.view_is c.requires.live c.self.invariant.ring c.self.invariant.least
+    let there = copy_read (ahead_in i) (shape_of i.sizes) (sizes_sized i.sizes) i.head (lists_of i.waiting.items) i.turned i.kept
+    i.under_way.items
+    i.made i.dead c.args.self.now c.self.view_is c.requires.live c.self.invariant.ring c.self.invariant.ahead_is c.self.invariant.least
     (omega (arith, c.self.invariant.most, many i.waiting.items)) old view holds block c.args.slot c.args.place copy in
     on_ok_weaker c.read_copy.result (λ read. read ∙ there.2)
     (c.read_copy.ensures.ok (c.args.self.now.head + copy.age) (get_or view.records copy.age [])

@@ -10,9 +10,10 @@ use Rattle.redo_log.specs.Value.{LogValue, turns_home, died, IsRetireStepped}
 use Rattle.redo_log.specs.Stages.{value_at, IsRing, AreInside}
 use Rattle.redo_log.specs.Turns.{kept_by}
 use Rattle.redo_log.specs.Held.{MayLeave, HoldsView}
-use Rattle.redo_log.specs.Shown.{lists_of}
+use Rattle.redo_log.specs.Shown.{lists_of, ahead_in}
 use Rattle.redo_log.specs.Index.{look, outside, IsIndex}
 use Rattle.redo_log.proofs.Entering.{index_fewer}
+use Rattle.redo_log.proofs.Covering.{ahead_retired}
 use Rattle.redo_log.proofs.Ringing.{front_is, ring_retired, retired_last}
 use Rattle.redo_log.proofs.Closing.{on_ok_here, ok_here, err_here, sizes_sized, turn_moments, turn_cuts, turn_dead, turn_more, turn_retires}
 use Rattle.redo_log.proofs.Calling.{turn_costs, step_costs, turn_refused}
@@ -62,8 +63,9 @@ returns-then-is_err-clause-holds g c view holds =
     let some : 0 < length i.waiting.items = search rules in
     let waits = waits_is i.waiting.items c.in-Some.oldest.now c.as_slice-numbers.result.now some c.in-Some.ensures.lookup
     c.as_slice-numbers.ensures.value in
-    let dead = turn_dead (shape_of i.sizes) (sizes_sized i.sizes) i.head (lists_of i.waiting.items) i.turned i.kept i.under_way.items i.made
-    i.dead c.args.self.now c.self.view_is c.requires.live c.self.invariant.ring c.self.invariant.least
+    let dead = turn_dead (ahead_in i) (shape_of i.sizes) (sizes_sized i.sizes) i.head (lists_of i.waiting.items) i.turned i.kept
+    i.under_way.items i.made
+    i.dead c.args.self.now c.self.view_is c.requires.live c.self.invariant.ring c.self.invariant.ahead_is c.self.invariant.least
     (omega (arith, c.self.invariant.most, many i.waiting.items)) c.as_slice-numbers.result.now (lists_of (drop 1 i.waiting.items)) waits
     (g.M.Medium.state c.args.m.now) (g.M.Medium.state c.make.new.m) (g.met.M.Medium.sound c.args.m.now) c.next_turn-turn.result
     c.next_turn-turn.ensures.next c.make.ensures.makes.adds view holds c.make.ensures.counts.size (g.met.M.Medium.sound c.make.new.m) in
@@ -71,7 +73,7 @@ returns-then-is_err-clause-holds g c view holds =
     c.make.ensures.keeps (err_here c.make.result (sym c.is_err.ensures.value ∙ c.if-is_err.true)) in
     subst
     (λ (k : List ℕ). HoldsView
-    (died (value_at (shape_of i.sizes) i.head (lists_of i.waiting.items) i.turned k i.under_way.items i.made i.dead))
+    (died (value_at (ahead_in i) (shape_of i.sizes) i.head (lists_of i.waiting.items) i.turned k i.under_way.items i.made i.dead))
     (g.M.Medium.state c.make.new.m) view)
     (sym keeps) (subst (λ (v : LogValue). HoldsView (died v) (g.M.Medium.state c.make.new.m) view) (sym c.self.view_is) dead)
 
@@ -82,8 +84,9 @@ returns-then-is_err-clause-leaves g c = record {
       let some : 0 < length i.waiting.items = search rules in
       let waits = waits_is i.waiting.items c.in-Some.oldest.now c.as_slice-numbers.result.now some c.in-Some.ensures.lookup
       c.as_slice-numbers.ensures.value in
-      turn_cuts (shape_of i.sizes) (sizes_sized i.sizes) i.head (lists_of i.waiting.items) i.turned i.kept i.under_way.items i.made i.dead
-      c.args.self.now c.self.view_is c.requires.live c.self.invariant.ring c.self.invariant.least
+      turn_cuts (ahead_in i) (shape_of i.sizes) (sizes_sized i.sizes) i.head (lists_of i.waiting.items) i.turned i.kept i.under_way.items
+      i.made i.dead
+      c.args.self.now c.self.view_is c.requires.live c.self.invariant.ring c.self.invariant.ahead_is c.self.invariant.least
       (omega (arith, c.self.invariant.most, many i.waiting.items)) c.as_slice-numbers.result.now (lists_of (drop 1 i.waiting.items)) waits
       (g.M.Medium.state c.args.m.now) (g.M.Medium.state c.make.new.m) (g.met.M.Medium.sound c.args.m.now) c.next_turn-turn.result
       c.next_turn-turn.ensures.next c.make.ensures.makes.adds view holds ours;
@@ -105,8 +108,9 @@ returns-then-self-home-clause-leaves g c = record {
       let some : 0 < length i.waiting.items = search rules in
       let waits = waits_is i.waiting.items c.in-Some.oldest.now c.as_slice-numbers.result.now some c.in-Some.ensures.lookup
       c.as_slice-numbers.ensures.value in
-      turn_cuts (shape_of i.sizes) (sizes_sized i.sizes) i.head (lists_of i.waiting.items) i.turned i.kept i.under_way.items i.made i.dead
-      c.args.self.now c.self.view_is c.requires.live c.self.invariant.ring c.self.invariant.least
+      turn_cuts (ahead_in i) (shape_of i.sizes) (sizes_sized i.sizes) i.head (lists_of i.waiting.items) i.turned i.kept i.under_way.items
+      i.made i.dead
+      c.args.self.now c.self.view_is c.requires.live c.self.invariant.ring c.self.invariant.ahead_is c.self.invariant.least
       (omega (arith, c.self.invariant.most, many i.waiting.items)) c.as_slice-numbers.result.now (lists_of (drop 1 i.waiting.items)) waits
       (g.M.Medium.state c.args.m.now) (g.M.Medium.state c.make.new.m) (g.met.M.Medium.sound c.args.m.now) c.next_turn-turn.result
       c.next_turn-turn.ensures.next c.make.ensures.makes.adds view holds ours;
@@ -128,8 +132,9 @@ returns-clause-leaves g c = record {
       let some : 0 < length i.waiting.items = search rules in
       let waits = waits_is i.waiting.items c.in-Some.oldest.now c.as_slice-numbers.result.now some c.in-Some.ensures.lookup
       c.as_slice-numbers.ensures.value in
-      turn_cuts (shape_of i.sizes) (sizes_sized i.sizes) i.head (lists_of i.waiting.items) i.turned i.kept i.under_way.items i.made i.dead
-      c.args.self.now c.self.view_is c.requires.live c.self.invariant.ring c.self.invariant.least
+      turn_cuts (ahead_in i) (shape_of i.sizes) (sizes_sized i.sizes) i.head (lists_of i.waiting.items) i.turned i.kept i.under_way.items
+      i.made i.dead
+      c.args.self.now c.self.view_is c.requires.live c.self.invariant.ring c.self.invariant.ahead_is c.self.invariant.least
       (omega (arith, c.self.invariant.most, many i.waiting.items)) c.as_slice-numbers.result.now (lists_of (drop 1 i.waiting.items)) waits
       (g.M.Medium.state c.args.m.now) (g.M.Medium.state c.make.new.m) (g.met.M.Medium.sound c.args.m.now) c.next_turn-turn.result
       c.next_turn-turn.ensures.next c.make.ensures.makes.adds view holds ours;
@@ -154,8 +159,9 @@ returns-then-self-home-clause-holds g c view holds =
     ap (λ (l : List ℕ). length l) (sym c.as_slice-numbers.ensures.value) in
     let home : c.turns_home-home.result ≡ turns_home i.sizes.format (length c.as_slice-numbers.result.now) =
     c.turns_home-home.ensures ∙ ap (λ (n : ℕ). turns_home i.sizes.format n) (c.len.ensures.value ∙ long) in
-    turn_more (shape_of i.sizes) (sizes_sized i.sizes) i.head (lists_of i.waiting.items) i.turned i.kept i.under_way.items i.made i.dead
-    c.args.self.now c.self.view_is c.requires.live c.self.invariant.ring c.self.invariant.least
+    turn_more (ahead_in i) (shape_of i.sizes) (sizes_sized i.sizes) i.head (lists_of i.waiting.items) i.turned i.kept i.under_way.items
+    i.made i.dead
+    c.args.self.now c.self.view_is c.requires.live c.self.invariant.ring c.self.invariant.ahead_is c.self.invariant.least
     (omega (arith, c.self.invariant.most, many i.waiting.items)) c.as_slice-numbers.result.now (lists_of (drop 1 i.waiting.items)) waits
     (g.M.Medium.state c.args.m.now) (g.M.Medium.state c.make.new.m) (g.met.M.Medium.sound c.args.m.now) c.next_turn-turn.result
     c.next_turn-turn.ensures.next c.make.ensures.makes.adds view holds c.make.ensures.counts.size
@@ -189,6 +195,8 @@ invariant_of-self-2 g c =
           (ring_retired (shape_of i.sizes) c.as_slice-numbers.result.now (lists_of (drop 1 i.waiting.items)) i.turned i.under_way.items
           i.made
           (subst (λ (l : List (List ℕ)). IsRing (shape_of i.sizes) l i.turned i.under_way.items i.made) waits c.self.invariant.ring));
+      ahead_is = ahead_retired (ahead_in i) (shape_of i.sizes) i.head (lists_of i.waiting.items) (lists_of c.pop_front.new.self.items)
+          i.turned 0 c.self.invariant.ahead_is;
     }
 
 pub returns-clause-answers : goal.returns-clause-answers
@@ -207,22 +215,24 @@ returns-clause-answers g c = record {
       (subst (λ (l : List (List ℕ)). IsRing (shape_of i.sizes) l i.turned i.under_way.items i.made) waits c.self.invariant.ring).oldest in
       let each : All (AreInside (shape_of i.sizes)) (lists_of (drop 1 i.waiting.items)) = λ j d below.
       (subst (λ (l : List (List ℕ)). All (AreInside (shape_of i.sizes)) l) waits c.self.invariant.ring.each) (suc j) d (omega arith) in
-      let last = retired_last (shape_of i.sizes) i.head c.as_slice-numbers.result.now (lists_of (drop 1 i.waiting.items)) i.turned i.kept
+      let last = retired_last (ahead_in i) (shape_of i.sizes) i.head c.as_slice-numbers.result.now (lists_of (drop 1 i.waiting.items))
+      i.turned i.kept
       i.under_way.items i.made i.dead each (omega (arith, oldest, c.if-self-home.false, home)) in
       subst
       (λ (v : LogValue). IsRetireStepped v
-      (value_at (shape_of i.sizes) (i.head + 1) (lists_of c.pop_front.new.self.items) 0 (replicate 512 0) i.under_way.items i.made
+      (value_at (ahead_in i) (shape_of i.sizes) (i.head + 1) (lists_of c.pop_front.new.self.items) 0 (replicate 512 0) i.under_way.items
+      i.made
       i.dead))
       c.self.view_is
       (subst
       (λ (l : List (ArrayVec ℕ)). IsRetireStepped
-      (value_at (shape_of i.sizes) i.head (lists_of i.waiting.items) i.turned i.kept i.under_way.items i.made i.dead)
-      (value_at (shape_of i.sizes) (i.head + 1) (lists_of l) 0 (replicate 512 0) i.under_way.items i.made i.dead))
+      (value_at (ahead_in i) (shape_of i.sizes) i.head (lists_of i.waiting.items) i.turned i.kept i.under_way.items i.made i.dead)
+      (value_at (ahead_in i) (shape_of i.sizes) (i.head + 1) (lists_of l) 0 (replicate 512 0) i.under_way.items i.made i.dead))
       (sym c.pop_front.ensures.rest)
       (subst
       (λ (l : List (List ℕ)). IsRetireStepped
-      (value_at (shape_of i.sizes) i.head l i.turned i.kept i.under_way.items i.made i.dead)
-      (value_at (shape_of i.sizes) (i.head + 1) (lists_of (drop 1 i.waiting.items)) 0 (replicate 512 0) i.under_way.items
+      (value_at (ahead_in i) (shape_of i.sizes) i.head l i.turned i.kept i.under_way.items i.made i.dead)
+      (value_at (ahead_in i) (shape_of i.sizes) (i.head + 1) (lists_of (drop 1 i.waiting.items)) 0 (replicate 512 0) i.under_way.items
       i.made i.dead))
       (sym waits) last));
   err = search rules;
@@ -239,8 +249,9 @@ returns-clause-holds g c view holds =
     ap (λ (l : List ℕ). length l) (sym c.as_slice-numbers.ensures.value) in
     let home : c.turns_home-home.result ≡ turns_home i.sizes.format (length c.as_slice-numbers.result.now) =
     c.turns_home-home.ensures ∙ ap (λ (n : ℕ). turns_home i.sizes.format n) (c.len.ensures.value ∙ long) in
-    turn_retires (shape_of i.sizes) (sizes_sized i.sizes) i.head (lists_of i.waiting.items) i.turned i.kept i.under_way.items i.made i.dead
-    c.args.self.now c.self.view_is c.requires.live c.self.invariant.ring c.self.invariant.least
+    turn_retires (ahead_in i) (shape_of i.sizes) (sizes_sized i.sizes) i.head (lists_of i.waiting.items) i.turned i.kept i.under_way.items
+    i.made i.dead
+    c.args.self.now c.self.view_is c.requires.live c.self.invariant.ring c.self.invariant.ahead_is c.self.invariant.least
     (omega (arith, c.self.invariant.most, many i.waiting.items)) c.as_slice-numbers.result.now (lists_of (drop 1 i.waiting.items)) waits
     (g.M.Medium.state c.args.m.now) (g.M.Medium.state c.make.new.m) (g.met.M.Medium.sound c.args.m.now) c.next_turn-turn.result
     c.next_turn-turn.ensures.next c.make.ensures.makes.adds view holds c.make.ensures.counts.size
@@ -260,12 +271,13 @@ returns-then-is_err-clause-passes g c =
     (subst (λ (l : List (List ℕ)). IsRing (shape_of i.sizes) l i.turned i.under_way.items i.made) waits c.self.invariant.ring).oldest in
     let costs = turn_costs (shape_of i.sizes) i.head c.as_slice-numbers.result.now i.kept i.turned c.next_turn-turn.result
     c.next_turn-turn.ensures.next oldest
-    ∙ step_costs c.args.self.now (shape_of i.sizes) i.head (lists_of i.waiting.items) i.turned i.kept i.under_way.items i.made i.dead
+    ∙ step_costs c.args.self.now (ahead_in i) (shape_of i.sizes) i.head (lists_of i.waiting.items) i.turned i.kept i.under_way.items
+    i.made i.dead
     c.as_slice-numbers.result.now (lists_of (drop 1 i.waiting.items)) c.self.view_is waits in
     let few = turn_refused c.next_turn-turn.result _ _ _ costs c.make.ensures.counts.calls in
     let sends = turn_sent (shape_of i.sizes) i.head c.as_slice-numbers.result.now i.kept i.turned c.next_turn-turn.result
     c.next_turn-turn.ensures.next oldest
-    ∙ step_sends c.args.self.now (shape_of i.sizes) i.head (lists_of i.waiting.items) i.turned i.kept i.under_way.items i.made i.dead
+    ∙ step_sends c.args.self.now (ahead_in i) (shape_of i.sizes) i.head (lists_of i.waiting.items) i.turned i.kept i.under_way.items i.made i.dead
     c.as_slice-numbers.result.now (lists_of (drop 1 i.waiting.items)) c.self.view_is waits in
     record {
       calls = record { two = few.0; most = few.1; exact = search rules; sent = omega (arith, c.make.ensures.counts.sent, sends) };
@@ -284,12 +296,13 @@ returns-then-self-home-clause-passes g c =
     (subst (λ (l : List (List ℕ)). IsRing (shape_of i.sizes) l i.turned i.under_way.items i.made) waits c.self.invariant.ring).oldest in
     let costs = turn_costs (shape_of i.sizes) i.head c.as_slice-numbers.result.now i.kept i.turned c.next_turn-turn.result
     c.next_turn-turn.ensures.next oldest
-    ∙ step_costs c.args.self.now (shape_of i.sizes) i.head (lists_of i.waiting.items) i.turned i.kept i.under_way.items i.made i.dead
+    ∙ step_costs c.args.self.now (ahead_in i) (shape_of i.sizes) i.head (lists_of i.waiting.items) i.turned i.kept i.under_way.items
+    i.made i.dead
     c.as_slice-numbers.result.now (lists_of (drop 1 i.waiting.items)) c.self.view_is waits in
     let few = turn_refused c.next_turn-turn.result _ _ _ costs c.make.ensures.counts.calls in
     let sends = turn_sent (shape_of i.sizes) i.head c.as_slice-numbers.result.now i.kept i.turned c.next_turn-turn.result
     c.next_turn-turn.ensures.next oldest
-    ∙ step_sends c.args.self.now (shape_of i.sizes) i.head (lists_of i.waiting.items) i.turned i.kept i.under_way.items i.made i.dead
+    ∙ step_sends c.args.self.now (ahead_in i) (shape_of i.sizes) i.head (lists_of i.waiting.items) i.turned i.kept i.under_way.items i.made i.dead
     c.as_slice-numbers.result.now (lists_of (drop 1 i.waiting.items)) c.self.view_is waits in
     let made = on_ok_here c.make.result (sym c.is_err.ensures.value ∙ c.if-is_err.false) c.make.ensures.counts.exact in
     record {
@@ -314,12 +327,13 @@ returns-clause-passes g c =
     (subst (λ (l : List (List ℕ)). IsRing (shape_of i.sizes) l i.turned i.under_way.items i.made) waits c.self.invariant.ring).oldest in
     let costs = turn_costs (shape_of i.sizes) i.head c.as_slice-numbers.result.now i.kept i.turned c.next_turn-turn.result
     c.next_turn-turn.ensures.next oldest
-    ∙ step_costs c.args.self.now (shape_of i.sizes) i.head (lists_of i.waiting.items) i.turned i.kept i.under_way.items i.made i.dead
+    ∙ step_costs c.args.self.now (ahead_in i) (shape_of i.sizes) i.head (lists_of i.waiting.items) i.turned i.kept i.under_way.items
+    i.made i.dead
     c.as_slice-numbers.result.now (lists_of (drop 1 i.waiting.items)) c.self.view_is waits in
     let few = turn_refused c.next_turn-turn.result _ _ _ costs c.make.ensures.counts.calls in
     let sends = turn_sent (shape_of i.sizes) i.head c.as_slice-numbers.result.now i.kept i.turned c.next_turn-turn.result
     c.next_turn-turn.ensures.next oldest
-    ∙ step_sends c.args.self.now (shape_of i.sizes) i.head (lists_of i.waiting.items) i.turned i.kept i.under_way.items i.made i.dead
+    ∙ step_sends c.args.self.now (ahead_in i) (shape_of i.sizes) i.head (lists_of i.waiting.items) i.turned i.kept i.under_way.items i.made i.dead
     c.as_slice-numbers.result.now (lists_of (drop 1 i.waiting.items)) c.self.view_is waits in
     let made = on_ok_here c.make.result (sym c.is_err.ensures.value ∙ c.if-is_err.false) c.make.ensures.counts.exact in
     record {

@@ -7,9 +7,10 @@ use Rattle.log_layout.specs.Places.{Shape, limit_of}
 use Rattle.log_layout.specs.Values.{shape_of}
 use Rattle.redo_log.specs.Value.{LogValue, died}
 use Rattle.redo_log.specs.Held.{HoldsView, with_record}
-use Rattle.redo_log.specs.Stages.{value_at, begun_at, AreInside, IsRing, IsUnderWay}
-use Rattle.redo_log.specs.Shown.{lists_of}
+use Rattle.redo_log.specs.Stages.{value_at, begun_at, AreInside, IsRing, IsUnderWay, IsAheadOf}
+use Rattle.redo_log.specs.Shown.{lists_of, ahead_in}
 use Rattle.redo_log.specs.Index.{look, with_copies, IsIndex}
+use Rattle.redo_log.proofs.Covering.{ahead_durable}
 use Rattle.redo_log.proofs.Ringing.{lists_more, ring_durable}
 use Rattle.redo_log.proofs.Entering.{record_room, index_more}
 use Rattle.redo_log.proofs.Closing.{on_ok_here, sizes_sized, step_cuts, step_dead, step_goes_on, step_durable, step_whole}
@@ -24,8 +25,9 @@ many records = let f : ArrayVec ℕ → List ℕ = λ r. r.items in length-map r
 pub returns-then-is_err-clause-holds : goal.returns-then-is_err-clause-holds
 returns-then-is_err-clause-holds g c view holds entries =
     let i = c.self.inside in
-    let dead = step_dead (shape_of i.sizes) (sizes_sized i.sizes) i.head (lists_of i.waiting.items) i.turned i.kept i.under_way.items i.made
-    i.dead c.args.self.now c.self.view_is c.requires.live c.self.invariant.ring c.self.invariant.least
+    let dead = step_dead (ahead_in i) (shape_of i.sizes) (sizes_sized i.sizes) i.head (lists_of i.waiting.items) i.turned i.kept
+    i.under_way.items i.made
+    i.dead c.args.self.now c.self.view_is c.requires.live c.self.invariant.ring c.self.invariant.ahead_is c.self.invariant.least
     (omega (arith, c.self.invariant.most, many i.waiting.items)) c.args.numbers.now c.args.bytes.now c.in-Some.made c.in-Some.is
     c.requires.numbers c.requires.bytes (i.head + c.len.result) (omega (arith, c.len.ensures, many i.waiting.items))
     (g.M.Medium.state c.args.m.now) (g.M.Medium.state c.make_next.new.m) (g.met.M.Medium.sound c.args.m.now) c.make_next.ensures.makes.call
@@ -38,8 +40,9 @@ pub returns-then-is_err-clause-leaves : goal.returns-then-is_err-clause-leaves
 returns-then-is_err-clause-leaves g c = record {
   cuts = λ view holds ours.
       let i = c.self.inside in
-      step_cuts (shape_of i.sizes) (sizes_sized i.sizes) i.head (lists_of i.waiting.items) i.turned i.kept i.under_way.items i.made i.dead
-      c.args.self.now c.self.view_is c.requires.live c.self.invariant.ring c.self.invariant.least
+      step_cuts (ahead_in i) (shape_of i.sizes) (sizes_sized i.sizes) i.head (lists_of i.waiting.items) i.turned i.kept i.under_way.items
+      i.made i.dead
+      c.args.self.now c.self.view_is c.requires.live c.self.invariant.ring c.self.invariant.ahead_is c.self.invariant.least
       (omega (arith, c.self.invariant.most, many i.waiting.items)) c.args.numbers.now c.args.bytes.now c.in-Some.made c.in-Some.is
       c.requires.numbers c.requires.bytes (i.head + c.len.result) (omega (arith, c.len.ensures, many i.waiting.items))
       (g.M.Medium.state c.args.m.now) (g.M.Medium.state c.make_next.new.m) (g.met.M.Medium.sound c.args.m.now)
@@ -60,8 +63,9 @@ pub returns-then-made-steps_for-clause-leaves : goal.returns-then-made-steps_for
 returns-then-made-steps_for-clause-leaves g c = record {
   cuts = λ view holds ours.
       let i = c.self.inside in
-      step_cuts (shape_of i.sizes) (sizes_sized i.sizes) i.head (lists_of i.waiting.items) i.turned i.kept i.under_way.items i.made i.dead
-      c.args.self.now c.self.view_is c.requires.live c.self.invariant.ring c.self.invariant.least
+      step_cuts (ahead_in i) (shape_of i.sizes) (sizes_sized i.sizes) i.head (lists_of i.waiting.items) i.turned i.kept i.under_way.items
+      i.made i.dead
+      c.args.self.now c.self.view_is c.requires.live c.self.invariant.ring c.self.invariant.ahead_is c.self.invariant.least
       (omega (arith, c.self.invariant.most, many i.waiting.items)) c.args.numbers.now c.args.bytes.now c.in-Some.made c.in-Some.is
       c.requires.numbers c.requires.bytes (i.head + c.len.result) (omega (arith, c.len.ensures, many i.waiting.items))
       (g.M.Medium.state c.args.m.now) (g.M.Medium.state c.make_next.new.m) (g.met.M.Medium.sound c.args.m.now)
@@ -82,8 +86,9 @@ pub returns-clause-leaves : goal.returns-clause-leaves
 returns-clause-leaves g c = record {
   cuts = λ view holds ours.
       let i = c.self.inside in
-      step_cuts (shape_of i.sizes) (sizes_sized i.sizes) i.head (lists_of i.waiting.items) i.turned i.kept i.under_way.items i.made i.dead
-      c.args.self.now c.self.view_is c.requires.live c.self.invariant.ring c.self.invariant.least
+      step_cuts (ahead_in i) (shape_of i.sizes) (sizes_sized i.sizes) i.head (lists_of i.waiting.items) i.turned i.kept i.under_way.items
+      i.made i.dead
+      c.args.self.now c.self.view_is c.requires.live c.self.invariant.ring c.self.invariant.ahead_is c.self.invariant.least
       (omega (arith, c.self.invariant.most, many i.waiting.items)) c.args.numbers.now c.args.bytes.now c.in-Some.made c.in-Some.is
       c.requires.numbers c.requires.bytes (i.head + c.len.result) (omega (arith, c.len.ensures, many i.waiting.items))
       (g.M.Medium.state c.args.m.now) (g.M.Medium.state c.make_next.new.m) (g.met.M.Medium.sound c.args.m.now)
@@ -103,8 +108,9 @@ returns-clause-leaves g c = record {
 pub returns-then-made-steps_for-clause-holds : goal.returns-then-made-steps_for-clause-holds
 returns-then-made-steps_for-clause-holds g c view holds entries =
     let i = c.self.inside in
-    step_goes_on (shape_of i.sizes) (sizes_sized i.sizes) i.head (lists_of i.waiting.items) i.turned i.kept i.under_way.items i.made i.dead
-    c.args.self.now c.self.view_is c.requires.live c.self.invariant.ring c.self.invariant.least
+    step_goes_on (ahead_in i) (shape_of i.sizes) (sizes_sized i.sizes) i.head (lists_of i.waiting.items) i.turned i.kept i.under_way.items
+    i.made i.dead
+    c.args.self.now c.self.view_is c.requires.live c.self.invariant.ring c.self.invariant.ahead_is c.self.invariant.least
     (omega (arith, c.self.invariant.most, many i.waiting.items)) c.args.numbers.now c.args.bytes.now c.in-Some.made c.in-Some.is
     c.requires.numbers c.requires.bytes (i.head + c.len.result) (omega (arith, c.len.ensures, many i.waiting.items))
     (g.M.Medium.state c.args.m.now) (g.M.Medium.state c.make_next.new.m) (g.met.M.Medium.sound c.args.m.now) c.make_next.ensures.makes.call
@@ -126,8 +132,9 @@ returns-clause-holds g c view holds entries =
     let new = g.M.Medium.state c.make_next.new.m in
     let waiting = after_is i.waiting.items c.push_back_reserved.new.self.items i.under_way c.take.result c.push_back_reserved.ensures.items
     c.take.ensures.value in
-    let after = step_durable (shape_of i.sizes) (sizes_sized i.sizes) i.head (lists_of i.waiting.items) i.turned i.kept i.under_way.items
-    i.made i.dead c.args.self.now c.self.view_is c.requires.live c.self.invariant.ring c.self.invariant.least
+    let after = step_durable (ahead_in i) (shape_of i.sizes) (sizes_sized i.sizes) i.head (lists_of i.waiting.items) i.turned i.kept
+    i.under_way.items
+    i.made i.dead c.args.self.now c.self.view_is c.requires.live c.self.invariant.ring c.self.invariant.ahead_is c.self.invariant.least
     (omega (arith, c.self.invariant.most, many i.waiting.items)) c.args.numbers.now c.args.bytes.now c.in-Some.made c.in-Some.is
     c.requires.numbers c.requires.bytes (i.head + c.len.result) (omega (arith, c.len.ensures, many i.waiting.items))
     (g.M.Medium.state c.args.m.now) (g.M.Medium.state c.make_next.new.m) (g.met.M.Medium.sound c.args.m.now) c.make_next.ensures.makes.call
@@ -137,18 +144,20 @@ returns-clause-holds g c view holds entries =
     (omega (arith, c.if-made-steps_for.false, c.steps_for.ensures)) in
     subst
     (λ (l : List ℕ). HoldsView
-    (value_at (shape_of i.sizes) i.head (lists_of c.push_back_reserved.new.self.items) i.turned i.kept l None i.dead) new
+    (value_at (ahead_in i) (shape_of i.sizes) i.head (lists_of c.push_back_reserved.new.self.items) i.turned i.kept l None i.dead) new
     (with_record view))
     (sym c.take.ensures.after)
     (subst
-    (λ (l : List (List ℕ)). HoldsView (value_at (shape_of i.sizes) i.head l i.turned i.kept [] None i.dead) new (with_record view))
+    (λ (l : List (List ℕ)). HoldsView (value_at (ahead_in i) (shape_of i.sizes) i.head l i.turned i.kept [] None i.dead) new
+    (with_record view))
     (sym waiting) after)
 
 pub returns-clause-durable : goal.returns-clause-durable
 returns-clause-durable g c view holds entries ours answers =
     let i = c.self.inside in
-    step_whole (shape_of i.sizes) (sizes_sized i.sizes) i.head (lists_of i.waiting.items) i.turned i.kept i.under_way.items i.made i.dead
-    c.args.self.now c.self.view_is c.requires.live c.self.invariant.ring c.self.invariant.least
+    step_whole (ahead_in i) (shape_of i.sizes) (sizes_sized i.sizes) i.head (lists_of i.waiting.items) i.turned i.kept i.under_way.items
+    i.made i.dead
+    c.args.self.now c.self.view_is c.requires.live c.self.invariant.ring c.self.invariant.ahead_is c.self.invariant.least
     (omega (arith, c.self.invariant.most, many i.waiting.items)) c.args.numbers.now c.args.bytes.now c.in-Some.made c.in-Some.is
     c.requires.numbers c.requires.bytes (i.head + c.len.result) (omega (arith, c.len.ensures, many i.waiting.items))
     (g.M.Medium.state c.args.m.now) (g.M.Medium.state c.make_next.new.m) (g.met.M.Medium.sound c.args.m.now) c.make_next.ensures.makes.call
@@ -191,6 +200,9 @@ invariant_of-self-2 g c =
           (c.slot_of.ensures ∙ ap (λ (n : ℕ). n % i.sizes.slots) stamp))));
       ring = subst (λ (l : List ℕ). IsRing (shape_of i.sizes) (lists_of c.push_back_reserved.new.self.items) i.turned l None)
           (sym c.take.ensures.after) (subst (λ (l : List (List ℕ)). IsRing (shape_of i.sizes) l i.turned [] None) (sym waiting) ring);
+      ahead_is = subst (λ (l : List (List ℕ)). IsAheadOf (ahead_in i) (shape_of i.sizes) i.head l i.turned) (sym waiting)
+          (ahead_durable (ahead_in i) (shape_of i.sizes) i.head (lists_of i.waiting.items) i.turned i.under_way.items
+          c.self.invariant.ahead_is);
     }
 
 -- the block numbers of the record under way
