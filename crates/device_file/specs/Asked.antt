@@ -1,0 +1,42 @@
+-- What a file was asked to carry out.
+use Rattle.std.specs.Prelude.{◌≡◌, ◌⊎◌, ℕ, ◌+◌, Bool, List, [], ◌∷◌, ◌++◌, length, if◌then◌else◌}
+use Rattle.mirror.specs.declared.call.DeviceCall.{DeviceCall}
+use Rattle.mirror.specs.declared.call.DeviceCall.TheVariants.{Write}
+
+pub record Told : Type 0 where
+  -- what it was asked to carry out since it was opened, in order, good or refused
+  pub asked : List DeviceCall
+  -- how many times it refused
+  pub refusals : ℕ
+
+-- a file that was just opened was asked nothing
+abbrev pub begun : Told
+begun = record { asked = []; refusals = 0 }
+
+-- it was asked for these calls, behind all that it was asked before
+abbrev pub asked_for : List DeviceCall → Told → Told
+asked_for calls t = record t { asked = t.asked ++ calls }
+
+abbrev pub refused : Told → Told
+refused t = record t { refusals = t.refusals + 1 }
+
+-- it was asked for them at once, and carried them out or refused
+abbrev pub answered : Bool → List DeviceCall → Told → Told
+answered good calls t = if good then asked_for calls t else refused (asked_for calls t)
+
+-- the writes of these blocks to neighbouring sectors, from this one on
+abbrev pub writes_of : ℕ → List (List ℕ) → List DeviceCall
+writes_of first [] = []
+writes_of first (block ∷ blocks) =
+    Write (record { sector = first; block = block }) ∷ writes_of (first + 1) blocks
+
+-- a block of this sector behind these is a run of neighbours that begins here
+abbrev pub GoesOn : ℕ → List (List ℕ) → ℕ → ℕ → Type 0
+GoesOn first blocks sector begins = ((blocks ≡ []) × (begins ≡ sector))
+    ⊎ ((begins ≡ first) × (sector ≡ first + length blocks))
+
+abbrev pub wrote : Told → ℕ → List (List ℕ) → Told
+wrote t first blocks = asked_for (writes_of first blocks) t
+
+abbrev pub called : Told → DeviceCall → Told
+called t call = asked_for (call ∷ []) t

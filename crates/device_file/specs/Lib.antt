@@ -1,0 +1,4 @@
+pub mod Asked
+pub mod Outbox
+pub mod FileValue
+pub mod FileView

@@ -1,0 +1,35 @@
+-- An outbox of which a first part was taken out.
+use Rattle.std.specs.Prelude.{◌≡◌, ◌+◌, Bool, List, [], ◌∷◌, ◌++◌, if◌then◌else◌}
+use Rattle.mirror.specs.Story.{Told}
+use Rattle.mirror.specs.declared.call.DeviceCall.{DeviceCall}
+use Rattle.mirror.specs.declared.call.DeviceCall.TheVariants.{Write, Flush}
+use Rattle.window.specs.Window.{Window}
+use Rattle.device_file.specs.Asked as file
+
+abbrev pub with_taken : List DeviceCall → Told → Told
+with_taken part t = record t { taken = t.taken ++ part }
+
+-- these calls were taken out of what waits, and this is left
+abbrev pub taken_out : List DeviceCall → List DeviceCall → Window → Window
+taken_out part left w =
+    record w { seen = record w.seen { told = with_taken part w.seen.told }; outbox = left }
+
+-- these calls, the first of those that waited, were taken out in order, and nothing else changed
+pub record LetsGo (part : List DeviceCall) (old new : Window) : Type 0 where
+  pub waited : old.outbox ≡ part ++ new.outbox
+  pub is : new ≡ taken_out part new.outbox old
+
+-- A file was asked for exactly the calls that were taken out, in order: all that waited, and it
+-- carried them out; or a first part, of which it refused the last that it was asked for, and the
+-- others wait still.
+pub record IsCarriedOut (good : Bool) (was is : file.Told) (old new : Window) : Type 0 where
+  pub part : List DeviceCall
+  pub lets_go : LetsGo part old new
+  pub asked : is.asked ≡ was.asked ++ part
+  pub refusals : is.refusals ≡ (if good then was.refusals else was.refusals + 1)
+
+-- a write waits first
+abbrev pub Begins : List DeviceCall → Type 0
+Begins [] = ⊥
+Begins (Write w ∷ calls) = Unit {0}
+Begins (Flush ∷ calls) = ⊥

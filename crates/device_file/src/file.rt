@@ -1,0 +1,40 @@
+//! What is asked of a device that is a file.
+ghost use Rattle.std.specs.Prelude.{◌≡◌, ℕ, [], ◌∷◌, IfErr, is_ok};
+ghost use Rattle.mirror.specs.declared.call.DeviceCall.TheVariants.{Flush};
+ghost use Rattle.device_file.specs.Asked.{Told, answered, writes_of};
+
+use crate::fault::{FileCall, FileFault};
+use crate::run::Run;
+
+/// Sectors of 512 bytes in a file that is open.
+///
+/// What it is asked to carry out is told, call by call. A call that it refused may have been carried
+/// out in part.
+pub trait DeviceFile {
+    /// What it was asked to carry out since it was opened, and how many times it refused.
+    ghost told: { Self → Told };
+
+    /// How many sectors it has.
+    ghost size: { Self → ℕ };
+
+    /// How many sectors there are.
+    fn sectors(&self) -> u64
+        ensures { result ≡ size self.now };
+
+    /// Reads as many sectors as the bytes have, from this one on. At an `Err` the bytes may be any.
+    fn read(&self, first: u64, to: &mut [u8]) -> Result<(), FileFault>
+        ensures { IfErr result (λ fault. fault.call ≡ FileCall.Read) };
+
+    /// Writes neighbouring sectors.
+    fn write(&mut self, run: &Run) -> Result<(), FileFault>
+        ensures asked { told self.new
+            ≡ answered (is_ok result) (writes_of run.now.first run.now.blocks.items) (told self.old) }
+        ensures size { size self.new ≡ size self.old }
+        ensures named { IfErr result (λ fault. fault.call ≡ FileCall.Write) };
+
+    /// Waits until all that was written before is durable.
+    fn sync(&mut self) -> Result<(), FileFault>
+        ensures asked { told self.new ≡ answered (is_ok result) (Flush ∷ []) (told self.old) }
+        ensures size { size self.new ≡ size self.old }
+        ensures named { IfErr result (λ fault. fault.call ≡ FileCall.Sync) };
+}
