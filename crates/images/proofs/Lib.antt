@@ -1,0 +1,2 @@
+pub mod NewImages
+pub mod InOrder

@@ -1,0 +1,62 @@
+-- A new image in a file of zeros.
+use Rattle.std.specs.Prelude.{◌≡◌, ℕ, ◌+◌, ◌≤◌, ◌<◌, Bool, true, false, List, [], ◌∷◌, ◌++◌}
+use Rattle.std.specs.Prelude.{length, take, replicate, if◌then◌else◌}
+use Rattle.medium.specs.Medium.{Image, CutLeaves, Only}
+use Rattle.mirror.specs.Device.{Device, after}
+use Rattle.mirror.specs.declared.call.DeviceCall.{DeviceCall}
+use Rattle.mirror.specs.declared.call.DeviceCall.TheVariants.{Write, Flush}
+use Rattle.log_layout.specs.Places.{Shape, sectors_of}
+use Rattle.log_layout.specs.Sectors.{IsSuper, IsHead}
+use Rattle.log_image.specs.Standing.{IsOurs}
+use Rattle.recovery.specs.Formatted.{IsNoneOrNew}
+use Rattle.device_file.specs.Asked.{Told}
+
+-- A file that was just made or emptied holds zeros. A cut may leave anything of it until it is
+-- synchronised.
+abbrev pub emptied : Device
+emptied = record { content = λ s. replicate 512 0; may_leave = λ s c. Unit {0} }
+
+-- What is asked of it: what it is now is made durable, then the head, then the super.
+abbrev pub making : List ℕ → List ℕ → List DeviceCall
+making super head = Flush ∷ Write (record { sector = 1; block = head }) ∷ Flush
+    ∷ Write (record { sector = 0; block = super }) ∷ Flush ∷ []
+
+-- All of these calls were asked for, in order, and carried out; or a first part, of which the last
+-- was refused.
+pub record AsksInOrder (calls : List DeviceCall) (good : Bool) (old new : Told) : Type 0 where
+  pub part : List DeviceCall
+  pub rest : List DeviceCall
+  pub parts : calls ≡ part ++ rest
+  pub asked : new.asked ≡ old.asked ++ part
+  pub all : good ≡ true → rest ≡ []
+  pub some : good ≡ false → 0 < length part
+  pub refusals : new.refusals ≡ (if good then old.refusals else old.refusals + 1)
+
+-- a file was asked to become a new image with these sizes
+pub record IsAskedToBe (shape : Shape) (good : Bool) (old new : Told) : Type 0 where
+  pub super : List ℕ
+  pub head : List ℕ
+  pub is_super : IsSuper shape super
+  pub is_head : IsHead 1 head
+  pub in_order : AsksInOrder (making super head) good old new
+
+-- The one image that a cut may leave of a device of so many sectors has these sizes, the head at
+-- stamp 1, and zeros everywhere else; it is ours, for blocks of zeros, and its next stamp is 2.
+pub record IsNewImage (size : ℕ) (shape : Shape) (device : Device) : Type 0 where
+  pub durable : Only device.content device.may_leave
+  pub super : IsSuper shape (device.content 0)
+  pub head : IsHead 1 (device.content 1)
+  pub zeros : (s : ℕ) → 2 ≤ s → device.content s ≡ replicate 512 0
+  pub ours : IsOurs size shape device.content (λ b. replicate 512 0) 2
+
+-- These calls make a new image of an emptied device. Once the first of them is carried out, a cut
+-- leaves no super or the new image.
+pub record MakeNewImage (size : ℕ) (shape : Shape) (calls : List DeviceCall) : Type 0 where
+  pub all : IsNewImage size shape (after emptied calls)
+  pub cuts : (count : ℕ) (image : Image) → 1 ≤ count
+      → CutLeaves (after emptied (take count calls)).may_leave image → IsNoneOrNew size shape image
+
+-- so for each super and head, and each device that is long enough
+abbrev pub MakingMakesNew : Type 0
+MakingMakesNew = (shape : Shape) (super head : List ℕ) (size : ℕ) → IsSuper shape super
+    → IsHead 1 head → sectors_of shape ≤ size → MakeNewImage size shape (making super head)
