@@ -1,16 +1,16 @@
 -- An emptied device that becomes a new image.
-use Rattle.std.proofs.Common.{◌≡◌, ◌⊎◌, ℕ, ◌+◌, ◌<◌, ◌≤◌, zero, suc, List, [], ◌∷◌, inl, inr, ⊎_elim, refl, sym, ◌∙◌, ap, subst, arith}
+use Rattle.std.proofs.Common.{◌≡◌, ◌⊎◌, ℕ, ◌≤◌, zero, suc, List, [], inl, inr, ⊎_elim, refl, sym, ◌∙◌, subst, arith}
 use Rattle.std.specs.Prelude.{replicate, take}
 use Rattle.std.proofs.lemmas.Bool.Decides.{eqb_tells}
 use Rattle.medium.specs.Medium.{Image, CutLeaves}
-use Rattle.mirror.specs.Device.{Device, put, after}
+use Rattle.mirror.specs.Device.{put, after}
 use Rattle.mirror.specs.declared.call.DeviceCall.{DeviceCall}
 use Rattle.log_layout.specs.Places.{Shape, sectors_of}
 use Rattle.log_layout.specs.Sectors.{IsSuper, IsHead}
 use Rattle.log_image.specs.Standing.{IsOurs}
 use Rattle.recovery.specs.Formatted.{IsNoneOrNew}
 use Rattle.recovery.proofs.Zeros.{zeros_ours}
-use Rattle.images.specs.NewImage.{emptied, making, IsNewImage, MakeNewImage}
+use Rattle.images.specs.NewImage.{emptied, making, MakeNewImage}
 
 -- another sector than that which is put
 put_elsewhere : (t s : ℕ) (bytes : List ℕ) (image : Image) → (s ≡ t → ⊥) → put t bytes image s ≡ image s

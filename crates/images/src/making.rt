@@ -8,11 +8,7 @@ use log_layout::{Head, Super};
 
 /// Has a file that was just made or emptied become a new image with these sizes: it is made durable
 /// as it is, then the head, then the super. Zeros are not written.
-pub fn ask_to_be<D: DeviceFile>(
-    file: &mut D,
-    run: &mut Run,
-    sizes: &Super,
-) -> Result<(), FileFault>
+pub fn ask_to_be<D: DeviceFile>(file: &mut D, run: &mut Run, sizes: &Super) -> Result<(), FileFault>
     ensures asked { IsAskedToBe (shape_of sizes.now) (is_ok result) (D.told file.old)
         (D.told file.new) }
     ensures size { D.size file.new ≡ D.size file.old }

@@ -1,0 +1,135 @@
+-- What the program's commands do.
+use Rattle.std.specs.Prelude.{◌≡◌, ◌⊎◌, ℕ, ◌≤◌, ◌^◌, Bool, true, false, List, [], ◌∷◌, ◌++◌, codes}
+use Rattle.std.specs.Prelude.{Option, Some, None}
+use Rattle.std.specs.Io.KnownBytes.{Appends, Keeps}
+use Rattle.log_layout.specs.declared.log_format.LogFormat.{LogFormat}
+use Rattle.log_layout.specs.Places.{Shape, new_shape, sectors_of}
+use Rattle.device_file.specs.Asked.{begun}
+use Rattle.device_file.specs.FileValue.{FileValue}
+use Rattle.device_file.specs.declared.fault.FileFault.{FileFault}
+use Rattle.images.specs.NewImage.{IsAskedToBe}
+use Rattle.images.specs.Streams.{AppendsSome}
+use Rattle.images.specs.Task.{Wanted, Asks}
+use Rattle.images.specs.Task.Wanted.{Help, Version, Make}
+use Rattle.images.specs.declared.refusal.Refusal.{Refusal}
+use Rattle.images.specs.declared.refusal.Refusal.TheVariants as refused
+
+-- a text and a line feed
+abbrev pub ended : List ℕ → List ℕ
+ended text = text ++ 10 ∷ []
+
+abbrev pub help_text : List ℕ
+help_text = ended (codes "usbdisk_image make IMAGE --blocks N --slots K --format 1|2 [--replace]")
+
+abbrev pub version_text : List ℕ
+version_text = ended (codes "usbdisk_image 0.8")
+
+abbrev pub made_text : List ℕ
+made_text = ended (codes "made")
+
+-- an image may have these sizes
+pub record AreLimits (blocks slots : ℕ) : Type 0 where
+  pub some_blocks : 1 ≤ blocks
+  pub most_blocks : blocks ≤ 2 ^ 31
+  pub some_slots : 1 ≤ slots
+  pub most_slots : slots ≤ 64
+
+-- A file of exactly the sectors of an image with these sizes was made, or emptied, and asked to
+-- become that image.
+pub record IsMade (good : Bool) (shape : Shape) (file : FileValue) : Type 0 where
+  pub size : file.size ≡ sectors_of shape
+  pub asked : IsAskedToBe shape good begun file.told
+
+-- no file was made or opened: it refused, or a stream, or there was no memory
+abbrev pub IsUnmade : Refusal → Type 0
+IsUnmade refusal = ((fault : FileFault) × (refusal ≡ refused.File fault))
+    ⊎ ((refusal ≡ refused.Streams) ⊎ (refusal ≡ refused.NoMemory))
+
+-- What was written then, and now, and the file that comes back, where one was made or opened.
+module _ (was now : Option (List ℕ)) (back : Option FileValue) where
+  -- exactly this text was written
+  pub record IsTold (text : List ℕ) : Type 0 where
+    pub none : back ≡ None
+    pub written : Appends was now text
+
+  -- not all of it was
+  pub record IsUntold (text : List ℕ) (refusal : Refusal) : Type 0 where
+    pub none : back ≡ None
+    pub failed : refusal ≡ refused.Streams
+    pub written : AppendsSome was now text
+
+  -- a new image was made, and exactly this was written
+  pub record IsMake (format : LogFormat) (blocks slots : ℕ) : Type 0 where
+    pub limits : AreLimits blocks slots
+    pub file : FileValue
+    pub given : back ≡ Some file
+    pub made : IsMade true (new_shape format blocks slots) file
+    pub written : Appends was now made_text
+
+  -- it was made, but not all of that was written
+  pub record IsMakeUntold (format : LogFormat) (blocks slots : ℕ) (refusal : Refusal) : Type 0 where
+    pub limits : AreLimits blocks slots
+    pub file : FileValue
+    pub given : back ≡ Some file
+    pub made : IsMade true (new_shape format blocks slots) file
+    pub failed : refusal ≡ refused.Streams
+    pub written : AppendsSome was now made_text
+
+  -- its file refused on the way there
+  pub record IsMakeStopped (format : LogFormat) (blocks slots : ℕ) (refusal : Refusal)
+      : Type 0 where
+    pub limits : AreLimits blocks slots
+    pub file : FileValue
+    pub given : back ≡ Some file
+    pub made : IsMade false (new_shape format blocks slots) file
+    pub fault : FileFault
+    pub refused_is : refusal ≡ refused.File fault
+    pub kept : Keeps was now
+
+  -- no file was touched: the sizes are out of their limits
+  pub record HasNoLimits (blocks slots : ℕ) (refusal : Refusal) : Type 0 where
+    pub none : back ≡ None
+    pub limits : ¬ AreLimits blocks slots
+    pub refused_is : refusal ≡ refused.Sizes
+    pub kept : Keeps was now
+
+  -- no file was had
+  pub record HasNoFile (blocks slots : ℕ) (refusal : Refusal) : Type 0 where
+    pub none : back ≡ None
+    pub limits : AreLimits blocks slots
+    pub unmade : IsUnmade refusal
+    pub kept : Keeps was now
+
+  abbrev pub IsMakeRefused : LogFormat → ℕ → ℕ → Refusal → Type 0
+  IsMakeRefused format blocks slots refusal = HasNoLimits blocks slots refusal
+      ⊎ (HasNoFile blocks slots refusal ⊎ (IsMakeStopped format blocks slots refusal
+      ⊎ IsMakeUntold format blocks slots refusal))
+
+  -- what was asked for was done
+  abbrev pub HasDone : Wanted → Type 0
+  HasDone Help = IsTold help_text
+  HasDone Version = IsTold version_text
+  HasDone (Make image format blocks slots replace) = IsMake format blocks slots
+
+  -- it was not, and this is why
+  abbrev pub HasNotDone : Wanted → Refusal → Type 0
+  HasNotDone Help refusal = IsUntold help_text refusal
+  HasNotDone Version refusal = IsUntold version_text refusal
+  HasNotDone (Make image format blocks slots replace) refusal =
+      IsMakeRefused format blocks slots refusal
+
+  -- these words ask for nothing
+  pub record AreNoWords (words : List (List ℕ)) (refusal : Refusal) : Type 0 where
+    pub none : back ≡ None
+    pub nothing : (wanted : Wanted) → ¬ Asks words wanted
+    pub refused_is : refusal ≡ refused.Words
+    pub kept : Keeps was now
+
+  -- what the words ask for was done
+  abbrev pub IsObeyed : List (List ℕ) → Type 0
+  IsObeyed words = (wanted : Wanted) × Asks words wanted × HasDone wanted
+
+  -- why they were refused
+  abbrev pub IsRefusedFor : List (List ℕ) → Refusal → Type 0
+  IsRefusedFor words refusal = AreNoWords words refusal
+      ⊎ ((wanted : Wanted) × Asks words wanted × HasNotDone wanted refusal)

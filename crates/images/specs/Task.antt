@@ -1,0 +1,56 @@
+-- The words of a command line.
+use Rattle.std.specs.Prelude.{◌≡◌, ◌≢◌, ℕ, Bool, true, false, List, [], ◌∷◌, ◌++◌, codes}
+use Rattle.log_layout.specs.declared.log_format.LogFormat.{LogFormat}
+use Rattle.log_layout.specs.declared.log_format.LogFormat.TheVariants.{One, Two}
+use Rattle.images.specs.Numbers.{SpellsNumber}
+use Rattle.images.specs.declared.task.Task.{Task}
+use Rattle.images.specs.declared.task.Task.TheVariants as task
+
+-- what a command line asks for
+pub data Wanted : Type 0 where
+  Help : Wanted
+  Version : Wanted
+  Make : List ℕ → LogFormat → ℕ → ℕ → Bool → Wanted
+
+-- a word for a file does not begin with a hyphen
+abbrev pub IsFileWord : List ℕ → Type 0
+IsFileWord word = (rest : List ℕ) → word ≢ codes "-" ++ rest
+
+-- the number of a format
+abbrev pub format_word : LogFormat → List ℕ
+format_word One = codes "1"
+format_word Two = codes "2"
+
+-- what stands behind the sizes where a file is replaced
+abbrev pub replace_words : Bool → List (List ℕ)
+replace_words true = codes "--replace" ∷ []
+replace_words false = []
+
+-- `make`, a word for the image, its sizes behind their names, and its format
+pub record AreMakeWords (words : List (List ℕ)) (image : List ℕ) (format : LogFormat)
+    (blocks slots : ℕ) (replace : Bool) : Type 0 where
+  pub blocks_word : List ℕ
+  pub slots_word : List ℕ
+  pub words_are : words
+      ≡ codes "make" ∷ image ∷ codes "--blocks" ∷ blocks_word ∷ codes "--slots" ∷ slots_word
+      ∷ codes "--format" ∷ format_word format ∷ replace_words replace
+  pub image_word : IsFileWord image
+  pub blocks_are : SpellsNumber 0 4294967295 blocks_word blocks
+  pub slots_are : SpellsNumber 0 4294967295 slots_word slots
+
+abbrev pub IsMakeLine : List (List ℕ) → Type 0
+IsMakeLine words = (image : List ℕ) × (format : LogFormat) × (blocks : ℕ) × (slots : ℕ)
+    × (replace : Bool) × AreMakeWords words image format blocks slots replace
+
+-- the words ask for this
+abbrev pub Asks : List (List ℕ) → Wanted → Type 0
+Asks words Help = words ≡ codes "--help" ∷ []
+Asks words Version = words ≡ codes "--version" ∷ []
+Asks words (Make image format blocks slots replace) =
+    AreMakeWords words image format blocks slots replace
+
+-- what a task is
+abbrev pub wanted_of : Task → Wanted
+wanted_of task.Help = Help
+wanted_of task.Version = Version
+wanted_of (task.Make image format blocks slots replace) = Make image.now format blocks slots replace

@@ -1,0 +1,44 @@
+//! The file of a new image.
+ghost use Rattle.std.specs.Prelude.{◌≡◌, ◌⊎◌, IfOk, IfErr, MatchOption};
+ghost use Rattle.log_layout.specs.Places.{new_shape};
+ghost use Rattle.log_layout.specs.Values.{shape_of};
+ghost use Rattle.device_file.specs.FileValue.{fresh};
+ghost use Rattle.device_file.specs.declared.fault.FileFault.{FileFault};
+ghost use Rattle.images.specs.Program.{AreLimits};
+ghost use Rattle.images.specs.declared.refusal.Refusal.TheVariants as refused;
+
+use crate::refusal::Refusal;
+use crate::streams::hold_streams;
+use device_file::SystemFile;
+use log_layout::{LogFormat, Super};
+use std::fs::{File, Files};
+
+/// The super of an image with these sizes, where it may have them.
+pub(crate) fn sizes_of(format: LogFormat, blocks: u64, slots: u64) -> Option<Super>
+    ensures { MatchOption result (¬ AreLimits blocks slots)
+        (λ sizes. (shape_of sizes ≡ new_shape format blocks slots) × AreLimits blocks slots) }
+{
+    if blocks < 1 || blocks > 1 << 31 || slots < 1 || slots > 64 {
+        return None;
+    }
+    Some(Super::new(format, blocks, slots))
+}
+
+/// A file of so many sectors at this path, which was made or emptied now. One that is there is
+/// emptied only where it is to be replaced.
+pub(crate) fn new_file<R: Files<File = File>>(
+    rt: &R,
+    path: &str,
+    sectors: u64,
+    replace: bool,
+) -> Result<SystemFile<File>, Refusal>
+    ensures ok { IfOk result (λ file. file ≡ fresh sectors) }
+    ensures err { IfErr result (λ refusal. ((fault : FileFault) × (refusal ≡ refused.File fault))
+        ⊎ (refusal ≡ refused.Streams)) }
+{
+    let _streams = hold_streams(rt)?;
+    match SystemFile::create(rt, path, sectors, replace) {
+        Ok(file) => Ok(file),
+        Err(fault) => Err(Refusal::File(fault)),
+    }
+}

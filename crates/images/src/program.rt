@@ -1,0 +1,164 @@
+//! From the words of a command to its exit status.
+ghost use Rattle.std.specs.Prelude.{◌≡◌, ◌≢◌, ◌≤◌, IfOk, IfErr, map};
+ghost use Rattle.images.specs.declared.refusal.Refusal.{Refusal};
+ghost use Rattle.images.specs.Status.{status_of};
+ghost use Rattle.images.specs.Program.{
+  IsMake,
+  IsMakeRefused,
+  IsObeyed,
+  IsRefusedFor,
+  IsTold,
+  IsUntold,
+  help_text,
+  made_text,
+  version_text,
+};
+
+use crate::ended::{Ended, LeftFile, Stopped};
+use crate::image::{new_file, sizes_of};
+use crate::making::ask_to_be;
+use crate::output::write_out;
+use crate::refusal::Refusal;
+use crate::task::{Task, read_words};
+use device_file::{Run, SystemFile};
+use log_layout::{LogFormat, Super};
+use std::fs::{File, Files};
+use std::io::Write;
+
+const HELP: &[u8] = b"usbdisk_image make IMAGE --blocks N --slots K --format 1|2 [--replace]\n";
+
+const VERSION: &[u8] = b"usbdisk_image 0.8\n";
+
+/// Does what the words after the program's name ask for, and gives the exit status.
+///
+/// `make IMAGE --blocks N --slots K --format F` makes an image file, of which no zeros are written,
+/// and prints `made`; a file that is there is refused, but where `--replace` stands behind it.
+/// `--help` and `--version` print a line each.
+pub fn command<R: Files<File = File> + AllocGlobal, O: Write, E: Write>(
+    rt: &R,
+    words: &[&str],
+    out: &mut O,
+    err: &mut E,
+) -> Ended
+    ensures statuses { result.status ≤ 5 }
+    ensures done { result.status ≡ 0 → IsObeyed (O.contents out.old) (O.contents out.new) result.file
+        (map (λ word. word.now) words.now) }
+    ensures refused { result.status ≢ 0
+        → (refusal : Refusal) × (result.status ≡ status_of refusal)
+        × IsRefusedFor (O.contents out.old) (O.contents out.new) result.file
+        (map (λ word. word.now) words.now) refusal }
+{
+    match obey(rt, words, out) {
+        Ok(file) => Ended { status: 0, file },
+        Err(stopped) => Ended {
+            status: tell(stopped.refusal, words, err),
+            file: stopped.file,
+        },
+    }
+}
+
+// Does what the words ask for.
+fn obey<R: Files<File = File> + AllocGlobal, O: Write>(
+    rt: &R,
+    words: &[&str],
+    out: &mut O,
+) -> Result<LeftFile, Stopped>
+    ensures done { IfOk result (λ back. IsObeyed (O.contents out.old) (O.contents out.new) back
+        (map (λ word. word.now) words.now)) }
+    ensures refused { IfErr result (λ stopped. IsRefusedFor (O.contents out.old) (O.contents out.new)
+        stopped.file (map (λ word. word.now) words.now) stopped.refusal) }
+{
+    let Some(task) = read_words(words) else {
+        return Err(Stopped::from(Refusal::Words));
+    };
+    match task {
+        Task::Help => say_help(out),
+        Task::Version => say_version(out),
+        Task::Make {
+            image,
+            format,
+            blocks,
+            slots,
+            replace,
+        } => make(rt, image, format, blocks, slots, replace, out),
+    }
+}
+
+// Tells the commands.
+fn say_help<O: Write>(out: &mut O) -> Result<LeftFile, Stopped>
+    ensures done { IfOk result (λ back. IsTold (O.contents out.old) (O.contents out.new) back help_text) }
+    ensures refused { IfErr result (λ stopped. IsUntold (O.contents out.old) (O.contents out.new)
+        stopped.file help_text stopped.refusal) }
+{
+    match write_out(out, HELP) {
+        Ok(()) => Ok(None),
+        Err(_) => Err(Stopped::from(Refusal::Streams)),
+    }
+}
+
+// Tells the version.
+fn say_version<O: Write>(out: &mut O) -> Result<LeftFile, Stopped>
+    ensures done { IfOk result
+        (λ back. IsTold (O.contents out.old) (O.contents out.new) back version_text) }
+    ensures refused { IfErr result (λ stopped. IsUntold (O.contents out.old) (O.contents out.new)
+        stopped.file version_text stopped.refusal) }
+{
+    match write_out(out, VERSION) {
+        Ok(()) => Ok(None),
+        Err(_) => Err(Stopped::from(Refusal::Streams)),
+    }
+}
+
+// Makes an image file, and says so.
+#[inline(never)]
+fn make<R: Files<File = File> + AllocGlobal, O: Write>(
+    rt: &R,
+    image: &str,
+    format: LogFormat,
+    blocks: u64,
+    slots: u64,
+    replace: bool,
+    out: &mut O,
+) -> Result<LeftFile, Stopped>
+    ensures done { IfOk result (λ back. IsMake (O.contents out.old) (O.contents out.new) back
+        format blocks slots) }
+    ensures refused { IfErr result (λ stopped. IsMakeRefused (O.contents out.old) (O.contents out.new)
+        stopped.file format blocks slots stopped.refusal) }
+{
+    let Some(sizes) = sizes_of(format, blocks, slots) else {
+        return Err(Stopped::from(Refusal::Sizes));
+    };
+    let Ok(mut run) = Run::new(rt.alloc()) else {
+        return Err(Stopped::from(Refusal::NoMemory));
+    };
+    let mut file = match new_file(rt, image, sizes.sectors(), replace) {
+        Ok(file) => file,
+        Err(refusal) => return Err(Stopped::from(refusal)),
+    };
+    if let Err(fault) = ask_to_be(&mut file, &mut run, &sizes) {
+        return Err(Stopped {
+            refusal: Refusal::File(fault),
+            file: Some(file),
+        });
+    }
+    match write_out(out, b"made\n") {
+        Ok(()) => Ok(Some(file)),
+        Err(_) => Err(Stopped {
+            refusal: Refusal::Streams,
+            file: Some(file),
+        }),
+    }
+}
+
+// Writes why a command was refused, and gives the exit status, also where that cannot be written.
+fn tell<E: Write>(refusal: Refusal, words: &[&str], err: &mut E) -> u8
+    ensures { result ≡ status_of refusal }
+{
+    let text = refusal.text();
+    let _ = match (refusal, words) {
+        (Refusal::Words, _) => writeln!(err, "{text}"),
+        (_, [_, image, ..]) => writeln!(err, "{image}: {text}"),
+        _ => writeln!(err, "{text}"),
+    };
+    refusal.status()
+}

@@ -1,0 +1,86 @@
+//! Why a command was refused: its exit status and its text.
+ghost use Rattle.std.specs.Prelude.{◌≡◌};
+ghost use Rattle.images.specs.declared.refusal.Refusal.TheVariants as refused;
+
+use device_file::{FileCall, FileFault};
+use std::io::ErrorKind;
+
+/// Why a command was refused.
+#[derive(Clone, Copy, Debug, PartialEq, Eq)]
+pub(crate) enum Refusal {
+    /// The words are none of a command.
+    Words,
+    /// The image would have a size out of its limits.
+    Sizes,
+    /// The file of the image refused a call.
+    File(FileFault),
+    /// An answer was not written, or the null device not opened.
+    Streams,
+    /// Memory ran out.
+    NoMemory,
+}
+
+impl Refusal {
+    ghost use Rattle.images.specs.Status.{status_of};
+
+    /// The exit status.
+    pub(crate) fn status(self) -> u8
+        ensures { result ≡ status_of self }
+    {
+        match self {
+            Refusal::Words => 2,
+            Refusal::Sizes => 3,
+            Refusal::File(_) => 4,
+            Refusal::Streams => 4,
+            Refusal::NoMemory => 5,
+        }
+    }
+
+    /// What it is called on standard error.
+    pub(crate) fn text(self) -> &'static str {
+        match self {
+            Refusal::Words => "bad command line",
+            Refusal::Sizes => "the sizes are out of their limits",
+            Refusal::File(fault) => text_of(fault),
+            Refusal::Streams => "the answer was not written",
+            Refusal::NoMemory => "no memory",
+        }
+    }
+}
+
+// The cause of a file's refusal in words.
+fn text_of(fault: FileFault) -> &'static str {
+    match (fault.call, fault.cause) {
+        (FileCall::Open, ErrorKind::NotFound) => "no such file",
+        (FileCall::Open, ErrorKind::AlreadyExists) => "it is there; --replace replaces it",
+        (FileCall::Open, ErrorKind::PermissionDenied) => "opening it is not allowed",
+        (FileCall::Lock, ErrorKind::WouldBlock) => "another program has it locked",
+        (FileCall::Length, ErrorKind::InvalidInput) => "it is no plain file",
+        (FileCall::Length, ErrorKind::InvalidData) => "not an image: no whole sectors",
+        (FileCall::Length, ErrorKind::FileTooLarge) =>
+            "the file system has no files of this length",
+        (FileCall::Read, ErrorKind::UnexpectedEof) => "it is too short",
+        (_, ErrorKind::StorageFull) => "no space is left",
+        (call, _) => call_text(call),
+    }
+}
+
+// What failed, where nothing more is told.
+fn call_text(call: FileCall) -> &'static str {
+    match call {
+        FileCall::Open => "it was not opened",
+        FileCall::Lock => "it was not locked",
+        FileCall::Length => "its length was not told or changed",
+        FileCall::Read => "it was not read",
+        FileCall::Write => "it was not written",
+        FileCall::Sync => "it was not synchronised",
+    }
+}
+
+impl From<FileFault> for Refusal {
+    ghost from_gives = { λ fault e. e ≡ refused.File fault };
+
+    fn from(fault: FileFault) -> Refusal {
+        Refusal::File(fault)
+    }
+}

@@ -1,0 +1,43 @@
+//! The standard streams that were closed at the start.
+ghost use Rattle.std.specs.Prelude.{◌≡◌, IfErr};
+
+use crate::refusal::Refusal;
+use std::fs;
+use std::fs::Files;
+
+// What a reader finds empty, and what takes no byte from a handle that only reads.
+const NULL_DEVICE: &str = "/dev/null";
+
+/// Three handles of the null device.
+///
+/// The system gives a file that is opened the lowest free descriptor, and 0, 1 and 2 are the
+/// standard streams. Where some of them were closed at the start, these handles take their places:
+/// so a file that is opened while they are held is never written to as an output.
+#[derive(Drop)]
+pub(crate) struct HeldStreams<F> {
+    first: F,
+    second: F,
+    third: F,
+}
+
+/// Takes the places of those standard streams that were closed at the start. Such an input is then
+/// empty, and such an output takes nothing.
+pub(crate) fn hold_streams<R: Files>(rt: &R) -> Result<HeldStreams<R::File>, Refusal>
+    ensures { IfErr result (λ refusal. refusal ≡ Refusal.Streams) }
+{
+    Ok(HeldStreams {
+        first: open_null(rt)?,
+        second: open_null(rt)?,
+        third: open_null(rt)?,
+    })
+}
+
+// The null device, for reading.
+fn open_null<R: Files>(rt: &R) -> Result<R::File, Refusal>
+    ensures { IfErr result (λ refusal. refusal ≡ Refusal.Streams) }
+{
+    match fs::open(rt, NULL_DEVICE) {
+        Ok(file) => Ok(file),
+        Err(_) => Err(Refusal::Streams),
+    }
+}

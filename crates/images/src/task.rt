@@ -1,0 +1,153 @@
+//! The words of a command line.
+ghost use Rattle.std.specs.Prelude.{◌≡◌, ◌↔◌, [], ◌∷◌, ◌++◌, IfSome, IfNone, IsTrue, Bool, map};
+ghost use Rattle.images.specs.Task.{Wanted, Asks, IsMakeLine, IsFileWord, format_word, replace_words, wanted_of};
+ghost use Rattle.log_layout.specs.declared.log_format.LogFormat.{LogFormat};
+
+use crate::number::read_number;
+use log_layout::LogFormat;
+
+// The greatest size that a word may tell.
+const MOST: u64 = 4_294_967_295;
+
+/// What a command line asks for.
+#[derive(Clone, Copy)]
+pub(crate) enum Task<'a> {
+    /// To tell the commands.
+    Help,
+    /// To tell the version.
+    Version,
+    /// To make an image of so many blocks of zeros, with so many slots for the log of a format.
+    Make {
+        image: &'a str,
+        format: LogFormat,
+        blocks: u64,
+        slots: u64,
+        replace: bool,
+    },
+}
+
+/// Reads the words after the program's name: `--help`, `--version`, or `make IMAGE --blocks N
+/// --slots K --format F`, behind which `--replace` may stand. No file word begins with a hyphen.
+pub(crate) fn read_words<'a>(words: &'a [&'a str]) -> Option<Task<'a>>
+    ensures task { IfSome result
+        (λ task. Asks (map (λ word. word.now) words.entry.now) (wanted_of task)) }
+    ensures none { IfNone result ((wanted : Wanted)
+        → Asks (map (λ word. word.now) words.entry.now) wanted → ⊥) }
+{
+    match words {
+        [word] => short_task(word),
+        [
+            verb,
+            image,
+            first,
+            blocks,
+            second,
+            slots,
+            third,
+            format,
+            ending @ ..,
+        ] => {
+            make_task(
+                verb, image, first, blocks, second, slots, third, format, ending,
+            )
+        }
+        _ => None,
+    }
+}
+
+// What one word asks for.
+fn short_task<'a>(word: &str) -> Option<Task<'a>>
+    ensures task { IfSome result (λ task. Asks (word.now ∷ []) (wanted_of task)) }
+    ensures none { IfNone result ((wanted : Wanted) → Asks (word.now ∷ []) wanted → ⊥) }
+{
+    match word {
+        "--help" => Some(Task::Help),
+        "--version" => Some(Task::Version),
+        _ => None,
+    }
+}
+
+// What eight words ask for, and the one that may stand behind them.
+fn make_task<'a>(
+    verb: &str,
+    image: &'a str,
+    first: &str,
+    blocks: &str,
+    second: &str,
+    slots: &str,
+    third: &str,
+    format: &str,
+    ending: &[&str],
+) -> Option<Task<'a>>
+    ensures task { IfSome result (λ task. Asks (verb.now ∷ image.entry.now ∷ first.now
+        ∷ blocks.now ∷ second.now ∷ slots.now ∷ third.now ∷ format.now
+        ∷ map (λ word. word.now) ending.now) (wanted_of task)) }
+    ensures none { IfNone result (IsMakeLine (verb.now ∷ image.entry.now ∷ first.now
+        ∷ blocks.now ∷ second.now ∷ slots.now ∷ third.now ∷ format.now
+        ∷ map (λ word. word.now) ending.now) → ⊥) }
+{
+    if verb != "make" || first != "--blocks" || second != "--slots" || third != "--format" {
+        return None;
+    }
+    if !is_file_word(image) {
+        return None;
+    }
+    let blocks = read_number(blocks.as_bytes(), 0, MOST)?;
+    let slots = read_number(slots.as_bytes(), 0, MOST)?;
+    let format = read_format(format)?;
+    let replace = read_replace(ending)?;
+    Some(Task::Make {
+        image,
+        format,
+        blocks,
+        slots,
+        replace,
+    })
+}
+
+// The format of this number.
+fn read_format(number: &str) -> Option<LogFormat>
+    ensures some { IfSome result (λ format. number.now ≡ format_word format) }
+    ensures none { IfNone result ((format : LogFormat) → number.now ≡ format_word format → ⊥) }
+{
+    match number {
+        "1" => Some(LogFormat::One),
+        "2" => Some(LogFormat::Two),
+        _ => None,
+    }
+}
+
+// Whether a file is to be replaced, from the words behind the sizes.
+fn read_replace(ending: &[&str]) -> Option<bool>
+    ensures some { IfSome result
+        (λ replace. map (λ word. word.now) ending.now ≡ replace_words replace) }
+    ensures none { IfNone result ((replace : Bool)
+        → map (λ word. word.now) ending.now ≡ replace_words replace → ⊥) }
+{
+    match ending {
+        [] => Some(false),
+        [word] => named_replace(word),
+        _ => None,
+    }
+}
+
+// Whether one word says that a file is to be replaced.
+fn named_replace(word: &str) -> Option<bool>
+    ensures some { IfSome result (λ replace. word.now ∷ [] ≡ replace_words replace) }
+    ensures none { IfNone result ((replace : Bool) → word.now ∷ [] ≡ replace_words replace → ⊥) }
+{
+    match word {
+        "--replace" => Some(true),
+        _ => None,
+    }
+}
+
+// Whether a word may be that of a file.
+fn is_file_word(word: &str) -> bool
+    ensures { IsTrue result ↔ IsFileWord word.now }
+{
+    match word.as_bytes() {
+        [b'-', ..] => false,
+        _ => true,
+    }
+}
