@@ -1,11 +1,11 @@
 -- An emptied device that becomes a new image.
-use Rattle.std.proofs.Common.{◌≡◌, ◌⊎◌, ℕ, ◌≤◌, zero, suc, List, [], inl, inr, ⊎_elim, refl, sym, ◌∙◌, subst, arith}
+use Rattle.std.proofs.Common.{◌+◌, ◌≡◌, ◌⊎◌, ℕ, ◌≤◌, zero, suc, List, [], inl, inr, ⊎_elim, refl, sym, ◌∙◌, subst, arith}
 use Rattle.std.specs.Prelude.{replicate, take}
 use Rattle.std.proofs.lemmas.Bool.Decides.{eqb_tells}
 use Rattle.medium.specs.Medium.{Image, CutLeaves}
 use Rattle.mirror.specs.Device.{put, after}
 use Rattle.mirror.specs.declared.call.DeviceCall.{DeviceCall}
-use Rattle.log_layout.specs.Places.{Shape, sectors_of}
+use Rattle.log_layout.specs.Places.{Shape, first_home, sectors_of}
 use Rattle.log_layout.specs.Sectors.{IsSuper, IsHead}
 use Rattle.log_image.specs.Standing.{IsOurs}
 use Rattle.recovery.specs.Formatted.{IsNoneOrNew}
@@ -24,8 +24,9 @@ module _ (shape : Shape) (super head : List ℕ) (size : ℕ) (is_super : IsSupe
     (fits : sectors_of shape ≤ size) where
   whole : (image : Image) → image 0 ≡ super → image 1 ≡ head → ((s : ℕ) → 2 ≤ s → image s ≡ replicate 512 0)
       → IsOurs size shape image (λ b. replicate 512 0) 2
-  whole image at_0 at_1 behind = zeros_ours size shape image fits (subst (IsSuper shape) (sym at_0) is_super)
-      (subst (IsHead 1) (sym at_1) is_head) (λ s low high. behind s low)
+  whole image at_0 at_1 behind = zeros_ours size shape (λ b. replicate 512 0) image fits
+      (subst (IsSuper shape) (sym at_0) is_super) (subst (IsHead 1) (sym at_1) is_head) (λ s low high. behind s low)
+      (λ b below. behind (first_home shape + b) (omega (arith, is_super.home_is.0)))
 
   -- when all is carried out
   abbrev made : Image
@@ -37,7 +38,7 @@ module _ (shape : Shape) (super head : List ℕ) (size : ℕ) (is_super : IsSupe
 
   -- a cut before the last flush leaves the super or zeros
   cut_last : (image : Image) → ((s : ℕ) → (image s ≡ put 1 head (λ t. replicate 512 0) s) ⊎ ((s ≡ 0) × (image s ≡ super)))
-      → IsNoneOrNew size shape image
+      → IsNoneOrNew size shape (λ b. replicate 512 0) image
   cut_last image left = ⊎_elim inl (λ here. inr (whole image here.1 (at_one (left 1)) (λ s low. behind s low (left s)))) (left 0)
     where
       at_one : ((image 1 ≡ head) ⊎ (Same 1 0 × (image 1 ≡ super))) → image 1 ≡ head
@@ -61,7 +62,7 @@ module _ (shape : Shape) (super head : List ℕ) (size : ℕ) (is_super : IsSupe
   first_zero image (inr not) = absurd (omega (arith, not.0))
 
   cuts : (count : ℕ) (image : Image) → 1 ≤ count → CutLeaves (after emptied (take count (making super head))).may_leave image
-      → IsNoneOrNew size shape image
+      → IsNoneOrNew size shape (λ b. replicate 512 0) image
   cuts zero image some left = absurd (omega (arith, some))
   cuts (suc zero) image some left = inl (left 0)
   cuts (suc (suc zero)) image some left = inl (first_zero image (left 0))

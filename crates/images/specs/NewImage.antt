@@ -54,7 +54,8 @@ pub record IsNewImage (size : ℕ) (shape : Shape) (device : Device) : Type 0 wh
 pub record MakeNewImage (size : ℕ) (shape : Shape) (calls : List DeviceCall) : Type 0 where
   pub all : IsNewImage size shape (after emptied calls)
   pub cuts : (count : ℕ) (image : Image) → 1 ≤ count
-      → CutLeaves (after emptied (take count calls)).may_leave image → IsNoneOrNew size shape image
+      → CutLeaves (after emptied (take count calls)).may_leave image
+      → IsNoneOrNew size shape (λ b. replicate 512 0) image
 
 -- so for each super and head, and each device that is long enough
 abbrev pub MakingMakesNew : Type 0

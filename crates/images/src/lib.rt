@@ -11,8 +11,9 @@ mod program;
 mod refusal;
 mod streams;
 mod task;
+mod words;
 
 pub use ended::Ended;
 pub use laws::making_laws;
 pub use making::ask_to_be;
-pub use program::command;
+pub use program::{command, run_program};

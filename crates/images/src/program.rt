@@ -1,5 +1,6 @@
 //! From the words of a command to its exit status.
-ghost use Rattle.std.specs.Prelude.{◌≡◌, ◌≢◌, ◌≤◌, IfOk, IfErr, map};
+ghost use Rattle.std.specs.Prelude.{◌≡◌, ◌≢◌, ◌⊎◌, ◌≤◌, List, ℕ, None, IfOk, IfErr, drop, map};
+ghost use Rattle.std.specs.Io.KnownBytes.{Keeps};
 ghost use Rattle.images.specs.declared.refusal.Refusal.{Refusal};
 ghost use Rattle.images.specs.Status.{status_of};
 ghost use Rattle.images.specs.Program.{
@@ -20,8 +21,10 @@ use crate::making::ask_to_be;
 use crate::output::write_out;
 use crate::refusal::Refusal;
 use crate::task::{Task, read_words};
+use crate::words::{arguments, words_of};
 use device_file::{Run, SystemFile};
 use log_layout::{LogFormat, Super};
+use std::env::Env;
 use std::fs::{File, Files};
 use std::io::Write;
 
@@ -161,4 +164,40 @@ fn tell<E: Write>(refusal: Refusal, words: &[&str], err: &mut E) -> u8
         _ => writeln!(err, "{text}"),
     };
     refusal.status()
+}
+
+/// Does what the program's arguments ask for, and gives the exit status.
+pub fn run_program<R: Env + Files<File = File> + AllocGlobal, O: Write, E: Write>(
+    rt: &R,
+    out: &mut O,
+    err: &mut E,
+) -> Ended
+    ensures statuses { result.status ≤ 5 }
+    ensures done { result.status ≡ 0 → (args : List (List ℕ))
+        × IsObeyed (O.contents out.old) (O.contents out.new) result.file (drop 1 args) }
+    ensures refused { result.status ≢ 0
+        → ((result.file ≡ None) × Keeps (O.contents out.old) (O.contents out.new))
+        ⊎ ((args : List (List ℕ)) × (refusal : Refusal) × (result.status ≡ status_of refusal)
+        × IsRefusedFor (O.contents out.old) (O.contents out.new) result.file (drop 1 args)
+        refusal) }
+{
+    let args = match arguments(rt) {
+        Ok(args) => args,
+        Err(refusal) => return refuse(refusal, err),
+    };
+    match words_of(rt.alloc(), args.as_slice()) {
+        Ok(words) => command(rt, words.as_slice(), out, err),
+        Err(_) => refuse(Refusal::NoMemory, err),
+    }
+}
+
+// Refuses before a command is known.
+fn refuse<E: Write>(refusal: Refusal, err: &mut E) -> Ended
+    ensures status { result.status ≡ status_of refusal }
+    ensures file { result.file ≡ None }
+{
+    Ended {
+        status: tell(refusal, &[], err),
+        file: None,
+    }
 }

@@ -1,0 +1,10 @@
+//! The program `usbdisk_image`: makes image files of any size, and tells what is in them. What it
+//! leaves of a file is what `images` gives back; here that is only let go of.
+#![tactic(auto)]
+
+use std::process::ExitCode;
+
+fn main(rt: HostRuntime) -> ExitCode {
+    let ended = images::run_program(&rt, &mut rt.stdout(), &mut rt.stderr());
+    ExitCode::from(ended.status)
+}
