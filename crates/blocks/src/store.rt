@@ -2,7 +2,7 @@
 ghost use Rattle.std.specs.Prelude.{◌≡◌, ◌↔◌, ◌<◌, ◌≤◌, ◌+◌, ◌/◌, ℕ, true, false, length, IsTrue};
 ghost use Rattle.inlet.specs.Inlet.{AreHeld};
 ghost use Rattle.medium.specs.Moments.{EachCut};
-ghost use Rattle.log_layout.specs.Places.{first_home};
+ghost use Rattle.log_layout.specs.Places.{first_home, sectors_of};
 ghost use Rattle.blocks.specs.Book.{Book};
 ghost use Rattle.blocks.specs.Finding.{MayFind};
 ghost use Rattle.blocks.specs.StoreValue.{blocks_of, layout_of, transfer_limit, is_dead, steps_left};
@@ -65,10 +65,11 @@ impl<M: Medium> Store<M> {
         self.sizes.format.limit()
     }
 
-    /// The home sector of a block.
+    /// The home sector of a block. All of them are sectors of the medium.
     pub fn home_of(&self, block: u64) -> u64
         requires { block < blocks_of self.now.cached }
-        ensures { result ≡ first_home (layout_of self.now.cached) + block }
+        ensures is { result ≡ first_home (layout_of self.now.cached) + block }
+        ensures fits { sectors_of (layout_of self.now.cached) ≤ (M.state self.now.medium).size }
     {
         self.sizes.home_of(block)
     }

@@ -1,5 +1,6 @@
 //! Which home sectors an event reads.
 ghost use Rattle.std.specs.Prelude.{◌≡◌, ◌<◌, ◌≤◌, IfSome, MatchOption, Some, length};
+ghost use Rattle.scsi_unit.specs.Reading.{AreHome};
 ghost use Rattle.scsi_unit.specs.UnitValue.{unit_limit};
 ghost use Rattle.bot_machine.specs.Reading.{sectors_in, sectors_for, ReadsHome, ReadsNoHome};
 ghost use Rattle.bot_machine.specs.Reading.{WrapperReads, WrapperReadsNone};
@@ -28,8 +29,8 @@ fn sectors_in(case: Case, wanted: Option<HomeSectors>) -> Option<HomeSectors>
 fn wrapper_reads<M: Medium>(unit: &Unit<M>, packet: &[u8]) -> Option<HomeSectors>
     ensures exact { MatchOption result (WrapperReadsNone unit.now packet.now)
         (WrapperReads unit.now packet.now) }
-    ensures few { IfSome result (λ wanted.
-        (0 < wanted.count) × (wanted.count ≤ unit_limit unit.now)) }
+    ensures bounds { IfSome result (λ wanted. AreHome (unit_limit unit.now)
+        (M.state unit.now.store.medium).size wanted.first wanted.count) }
 {
     match read_exchange(unit, packet) {
         Some(exchange) => exchange_reads(unit, &exchange),
@@ -42,8 +43,8 @@ fn exchange_reads<M: Medium>(unit: &Unit<M>, exchange: &Exchange) -> Option<Home
     requires { 0 < length exchange.now.command.block.items }
     ensures is { result
         ≡ sectors_in exchange.now.case (sectors_for unit.now exchange.now.command.block.items) }
-    ensures few { IfSome result (λ wanted.
-        (0 < wanted.count) × (wanted.count ≤ unit_limit unit.now)) }
+    ensures bounds { IfSome result (λ wanted. AreHome (unit_limit unit.now)
+        (M.state unit.now.store.medium).size wanted.first wanted.count) }
 {
     sectors_in(
         exchange.case,
@@ -58,8 +59,8 @@ impl<M: Medium> Disk<M> {
     pub fn home_sectors(&self, packet: &[u8]) -> Option<HomeSectors>
         ensures exact { MatchOption result (ReadsNoHome self.now packet.now)
             (ReadsHome self.now packet.now) }
-        ensures few { IfSome result (λ wanted.
-            (0 < wanted.count) × (wanted.count ≤ unit_limit self.now.unit)) }
+        ensures bounds { IfSome result (λ wanted. AreHome (unit_limit self.now.unit)
+            (M.state self.now.unit.store.medium).size wanted.first wanted.count) }
     {
         if self.wire.out_halted {
             return None;

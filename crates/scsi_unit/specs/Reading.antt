@@ -1,5 +1,5 @@
 -- Which home sectors a command reads.
-use Rattle.std.specs.Prelude.{ℕ, ◌+◌, Option, Some, None, Result, Ok, Err, if◌then◌else◌}
+use Rattle.std.specs.Prelude.{ℕ, ◌+◌, ◌<◌, ◌≤◌, Option, Some, None, Result, Ok, Err, if◌then◌else◌}
 use Rattle.sense.specs.declared.codes.Sense.{Sense}
 use Rattle.cdb.specs.declared.command.Command.{Command}
 use Rattle.cdb.specs.declared.command.Command.TheVariants as command
@@ -29,3 +29,9 @@ abbrev pub home_sectors_of : ℕ → Option Transfer → Option HomeSectors
 home_sectors_of home None = None
 home_sectors_of home (Some transfer) =
     Some (record { first = home + transfer.address; count = transfer.count })
+
+-- Some sectors of a medium of this size, no more than one transfer reads.
+pub record AreHome (limit size first count : ℕ) : Type 0 where
+  pub some : 0 < count
+  pub few : count ≤ limit
+  pub on_medium : first + count ≤ size

@@ -2,7 +2,7 @@
 ghost use Rattle.std.specs.Prelude.{◌≡◌, ◌<◌, ◌≤◌, length, IfSome};
 ghost use Rattle.scsi_unit.specs.UnitValue.{unit_limit};
 ghost use Rattle.scsi_unit.specs.Serving.{command_for};
-ghost use Rattle.scsi_unit.specs.Reading.{first_home_of, home_sectors_of, read_of};
+ghost use Rattle.scsi_unit.specs.Reading.{first_home_of, home_sectors_of, read_of, AreHome};
 
 use crate::Unit;
 use cdb::{Command, Transfer};
@@ -22,8 +22,8 @@ impl<M: Medium> Unit<M> {
         requires { 0 < length block.now }
         ensures is { result ≡ home_sectors_of (first_home_of self.now)
             (read_of (command_for self.now block.now)) }
-        ensures few { IfSome result (λ wanted.
-            (0 < wanted.count) × (wanted.count ≤ unit_limit self.now)) }
+        ensures bounds { IfSome result (λ wanted. AreHome (unit_limit self.now)
+            (M.state self.now.store.medium).size wanted.first wanted.count) }
     {
         let transfer = read_of(self.command(block).ok()?)?;
         Some(HomeSectors {
