@@ -69,12 +69,12 @@ pub returns-clause-keeps : goal.returns-clause-keeps
 returns-clause-keeps g c = record {
   stays = ap (λ v. v.cached) c.self.view_is;
   quiet = rw (← c.self.view_is) (quiet_call _ _ c.read.ensures.passes c.read.ensures.content c.read.ensures.sets);
-  follows = rw (← c.self.view_is) c.read.ensures.follows;
+  follows = rw (← c.self.view_is) c.read.ensures.follows.0;
 }
 
 pub returns-in_default-read-clause-keeps : goal.returns-in_default-read-clause-keeps
 returns-in_default-read-clause-keeps g c = record {
   stays = ap (λ v. v.cached) c.self.view_is;
   quiet = rw (← c.self.view_is) (quiet_call _ _ c.read.ensures.passes c.read.ensures.content c.read.ensures.sets);
-  follows = rw (← c.self.view_is) c.read.ensures.follows;
+  follows = rw (← c.self.view_is) c.read.ensures.follows.0;
 }
