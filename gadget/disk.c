@@ -74,22 +74,21 @@ static bool write_sectors(struct disk *disk, const uint8_t *bytes, uint64_t firs
  * false where the device refuses. */
 static bool persist(struct disk *disk)
 {
-    uint64_t first = 0, count = 0, sector = 0;
     for (;;) {
-        uint32_t call = usbdisk_take(&disk->core, &sector, disk->window[count]);
-        bool grows = call == USBDISK_WRITE && count && count < SPAN && sector == first + count;
-        if (count && !grows) {
+        uint64_t first = 0;
+        size_t count = 0;
+        switch (usbdisk_take_run(&disk->core, &first, disk->window[0], SPAN * sizeof *disk->window, &count)) {
+        case USBDISK_WRITE:
             if (!write_sectors(disk, disk->window[0], first, count))
                 return lose(disk, "a write was refused");
-            memcpy(disk->window[0], disk->window[count], 512);
-            count = 0;
-        }
-        if (call == USBDISK_FLUSH && fdatasync(disk->file))
-            return lose(disk, "a flush was refused");
-        if (call != USBDISK_WRITE && call != USBDISK_FLUSH)
+            break;
+        case USBDISK_FLUSH:
+            if (fdatasync(disk->file))
+                return lose(disk, "a flush was refused");
+            break;
+        default:
             return true;
-        first = count ? first : sector;
-        count += call == USBDISK_WRITE;
+        }
     }
 }
 
@@ -171,7 +170,7 @@ bool disk_open(struct disk *disk, const char *path)
     memset(disk, 0, sizeof *disk);
     disk->path = path;
     disk->file = -1;
-    disk->window = malloc((SPAN + 1) * sizeof *disk->window);
+    disk->window = malloc(SPAN * sizeof *disk->window);
     name_disk(disk);
     if (!disk->window)
         refuse(disk, STATUS_MEMORY, "no memory");

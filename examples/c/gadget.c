@@ -8,11 +8,13 @@
 #include <unistd.h>
 
 enum { FORMAT = 1, BLOCKS = 64, SLOTS = 2, PACKET = 512, SPAN = 48, SECTORS = 2 + 50 * SLOTS + BLOCKS };
+/* How many neighbouring sectors are written by one write at most. */
+enum { RUN = 48 };
 
 static const struct usbdisk_identity who = { "EXAMPLE ", "IMAGE FILE      ", "0001",
                                              "000000000001" };
 static const struct usbdisk_device name;
-static unsigned writes, flushes;
+static unsigned sectors_written, writes, flushes;
 
 /* So many sectors of the device, by one read. */
 static bool read_sectors(FILE *device, uint64_t first, uint8_t *bytes, size_t count)
@@ -48,17 +50,19 @@ static bool bulk_out(struct usbdisk *disk, FILE *device, const struct event *eve
     return true;
 }
 
-/* Persist first, then send: carries out all that waits, in order. A device that refuses a call is
- * treated as a loss of power: stop, read the device again, start. */
+/* Persist first, then send: carries out all that waits, in order, neighbouring sectors by one write.
+ * A device that refuses a call is treated as a loss of power: stop, read the device again, start. */
 static bool persist(struct usbdisk *disk, FILE *device)
 {
-    uint8_t bytes[512];
+    static uint8_t bytes[RUN * 512];
     uint64_t sector;
+    size_t count;
     for (;;) {
-        switch (usbdisk_take(disk, &sector, bytes)) {
+        switch (usbdisk_take_run(disk, &sector, bytes, sizeof bytes, &count)) {
         case USBDISK_WRITE:
-            if (fseek(device, (long)(sector * 512), SEEK_SET) || fwrite(bytes, 512, 1, device) != 1)
+            if (fseek(device, (long)(sector * 512), SEEK_SET) || fwrite(bytes, 512, count, device) != count)
                 return false;
+            sectors_written += (unsigned)count;
             writes++;
             break;
         case USBDISK_FLUSH:
@@ -113,7 +117,7 @@ static bool serve(struct usbdisk *disk, FILE *device)
             do
                 code = usbdisk_tick(disk);
             while (persist(disk, device) && code == 1);
-            printf("all at home: %u writes, %u flushes\n", writes, flushes);
+            printf("all at home: %u sectors by %u writes, %u flushes\n", sectors_written, writes, flushes);
             continue;
         default:
             return true;

@@ -12,8 +12,8 @@
 #include <stdlib.h>
 #include <string.h>
 
-enum { BLOCKS = 40, SLOTS = 2, MOST = 4, WRITES = 400, SECTORS = 2 + 249 * SLOTS + BLOCKS };
-enum { SPAN = 8 };
+enum { BLOCKS = 40, SLOTS = 2, MOST = 4, WRITES = 400, SECTORS = 2 + 249 * SLOTS + BLOCKS + 3 };
+enum { SPAN = 8, RUN = 16, BEHIND = 0xC7 };
 
 static const struct usbdisk_identity who = { "EXAMPLE ", "JUDGE           ", "0001",
                                              "000000000001" };
@@ -54,18 +54,39 @@ static bool fails(const char *what)
     return false;
 }
 
+/* Writes the sectors of a run, from the first on and from the last in turns, until the power is to go. */
+static bool write_run(uint64_t sector, const uint8_t *bytes, size_t count)
+{
+    static bool backwards;
+    backwards = !backwards;
+    for (size_t i = 0; i < count; i++) {
+        size_t at = backwards ? count - 1 - i : i;
+        if (left-- == 0)
+            return false;
+        if (!device_write(sector + at, bytes + at * 512))
+            return fails("the device refuses a call");
+    }
+    return true;
+}
+
 /* Carries out what waits in the outbox, until the power is to go. */
 static bool persist(struct usbdisk *disk)
 {
-    uint8_t bytes[512];
+    static uint8_t bytes[RUN * 512];
     uint64_t sector;
+    size_t count;
     for (;;) {
-        uint32_t kind = usbdisk_take(disk, &sector, bytes);
+        uint32_t kind = usbdisk_take_run(disk, &sector, bytes, sizeof bytes, &count);
         if (kind == USBDISK_NOTHING)
             return true;
+        if (kind == USBDISK_WRITE) {
+            if (!write_run(sector, bytes, count))
+                return false;
+            continue;
+        }
         if (left-- == 0)
             return false;
-        if (!(kind == USBDISK_WRITE ? device_write(sector, bytes) : device_flush()))
+        if (!device_flush())
             return fails("the device refuses a call");
     }
 }
@@ -248,11 +269,36 @@ static bool finds_what_it_may(uint32_t format)
     return good && (allowed || fails("a start finds what no cut may leave"));
 }
 
+/* The device has some sectors more than an image of this format. */
+static uint64_t sectors_of(uint32_t format)
+{
+    return 2 + (format == 1 ? 50 : 249) * SLOTS + BLOCKS;
+}
+
+/* These sectors behind the image, the last of the device, hold what they held before the format. */
+static bool are_spared(const uint8_t *bytes, uint64_t count)
+{
+    for (uint64_t i = 0; i < count * 512; i++)
+        if (bytes[i] != BEHIND)
+            return fails("a sector behind the image has changed");
+    return true;
+}
+
+static bool spares_the_rest(uint32_t format)
+{
+    uint64_t first = sectors_of(format);
+    return read_sectors(first, image, SECTORS - first) && are_spared(image, SECTORS - first);
+}
+
 static bool make_image(uint32_t format)
 {
+    uint64_t size = sectors_of(format);
     memset(&book, 0, sizeof book);
+    memset(image, BEHIND, sizeof image);
     if (!device_open(SECTORS) || usbdisk_format(image, sizeof image, format, BLOCKS, SLOTS))
         return fails("no image is made");
+    if (!are_spared(image + size * 512, SECTORS - size))
+        return false;
     for (uint64_t i = 0; i < SECTORS; i++)
         if (!device_write(i, image + i * 512))
             return fails("the device refuses a write");
@@ -280,6 +326,10 @@ int main(int count, char **words)
         }
         if (!good)
             return EXIT_FAILURE;
+        if (!spares_the_rest(format)) {
+            printf("format %u: %s\n", format, wrong);
+            return EXIT_FAILURE;
+        }
         printf("format %u: %ld lives, each start finds what it may\n", format, lives);
     }
     return EXIT_SUCCESS;

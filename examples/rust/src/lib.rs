@@ -12,12 +12,17 @@ pub const VERSION: u32 = 0x000800;
 
 const NEEDS: u32 = 3;
 
+// How many neighbouring sectors are written by one write at most.
+const RUN: usize = 48;
+
 /// A device of sectors of 512 bytes, of any size.
 pub trait Device {
     fn sectors(&self) -> u64;
     /// Fills the bytes with the sectors from the first one on.
     fn read(&mut self, first: u64, bytes: &mut [u8]) -> io::Result<()>;
-    fn write(&mut self, sector: u64, bytes: &[u8; 512]) -> io::Result<()>;
+    /// Writes the sectors from the first one on. Until the next flush a loss of power may lose any of
+    /// them.
+    fn write(&mut self, first: u64, bytes: &[u8]) -> io::Result<()>;
     /// All that was written before is durable when it is done.
     fn flush(&mut self) -> io::Result<()>;
 }
@@ -60,6 +65,7 @@ pub struct UsbDisk {
     raw: raw::UsbDisk,
     packet: [u8; 512],
     shown: Vec<u8>,
+    run: Vec<u8>,
 }
 
 /// Makes an image of format 1 or 2 with so many blocks and log slots.
@@ -130,6 +136,7 @@ impl UsbDisk {
             raw,
             packet: [0; 512],
             shown: vec![0; span as usize * 512],
+            run: vec![0; RUN * 512],
         };
         disk.persist(device)?;
         Ok(disk)
@@ -219,11 +226,20 @@ impl UsbDisk {
     }
 
     fn persist(&mut self, device: &mut impl Device) -> io::Result<()> {
-        let (mut sector, mut bytes) = (0, [0; 512]);
+        let (mut first, mut count) = (0, 0);
         loop {
-            // SAFETY: as in `bulk_out`; a number and 512 bytes are lent.
-            match unsafe { raw::usbdisk_take(&mut self.raw, &mut sector, bytes.as_mut_ptr()) } {
-                1 => device.write(sector, &bytes)?,
+            // SAFETY: as in `bulk_out`; pointer and length are of one slice, lent for the call.
+            let kind = unsafe {
+                raw::usbdisk_take_run(
+                    &mut self.raw,
+                    &mut first,
+                    self.run.as_mut_ptr(),
+                    self.run.len(),
+                    &mut count,
+                )
+            };
+            match kind {
+                1 => device.write(first, &self.run[..count * 512])?,
                 2 => device.flush()?,
                 _ => return Ok(()),
             }

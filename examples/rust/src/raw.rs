@@ -56,5 +56,11 @@ extern "C" {
         size: *mut u32,
     ) -> u32;
     pub fn usbdisk_tick(disk: *mut UsbDisk) -> u32;
-    pub fn usbdisk_take(disk: *mut UsbDisk, sector: *mut u64, bytes: *mut u8) -> u32;
+    pub fn usbdisk_take_run(
+        disk: *mut UsbDisk,
+        sector: *mut u64,
+        bytes: *mut u8,
+        size: usize,
+        count: *mut usize,
+    ) -> u32;
 }

@@ -15,6 +15,7 @@ const WHO: Identity = Identity {
 
 struct Memory {
     bytes: Vec<u8>,
+    sectors: usize,
     writes: u32,
     flushes: u32,
 }
@@ -30,9 +31,10 @@ impl Device for Memory {
         Ok(())
     }
 
-    fn write(&mut self, sector: u64, bytes: &[u8; 512]) -> io::Result<()> {
-        let at = sector as usize * 512;
-        self.bytes[at..at + 512].copy_from_slice(bytes);
+    fn write(&mut self, first: u64, bytes: &[u8]) -> io::Result<()> {
+        let at = first as usize * 512;
+        self.bytes[at..at + bytes.len()].copy_from_slice(bytes);
+        self.sectors += bytes.len() / 512;
         self.writes += 1;
         Ok(())
     }
@@ -77,6 +79,7 @@ fn main() -> Result<(), Error> {
     format(&mut bytes, 1, BLOCKS, SLOTS)?;
     let mut device = Memory {
         bytes,
+        sectors: 0,
         writes: 0,
         flushes: 0,
     };
@@ -116,8 +119,8 @@ fn main() -> Result<(), Error> {
     show("the in endpoint", disk.bulk_in()?);
     while disk.tick(&mut device)? {}
     println!(
-        "all at home: {} writes, {} flushes",
-        device.writes, device.flushes
+        "all at home: {} sectors by {} writes, {} flushes",
+        device.sectors, device.writes, device.flushes
     );
     disk.stop()?;
     // Block 5 is at home, on the device.
