@@ -8,6 +8,7 @@ use Rattle.medium.specs.Sent.{SendsUpTo}
 use Rattle.blocks.specs.declared.fault.StoreFault.{StoreFault}
 use Rattle.blocks.specs.declared.fault.StoreFault.TheVariants.{Dead}
 use Rattle.blocks.specs.StoreValue.{Cached, StoreValue, is_dead}
+use Rattle.blocks.specs.Looks.{LooksAtLog, LooksAtBlocks}
 use Rattle.blocks.specs.Turns.{IsTurn, IsReadCause, IsPaid}
 
 -- A call makes a turn of this kind, and so many calls of the medium at most, and so many writes and
@@ -22,6 +23,8 @@ pub record PassesOn {M : Type 0} (state : M → State) (Follows : M → M → Ty
   pub none_refused : is_dead new.cached ≡ false
       → (state new.medium).failures ≡ (state old.medium).failures
   pub follows : Follows old.medium new.medium
+  -- no sector at home is read
+  pub looks : LooksAtLog (state old.medium) (state new.medium) old.cached
 
 -- A call makes a turn, and no more calls of the medium than the background steps that it takes off
 -- pay for, and so many writes and flushes among them at most. The medium comes after what it was, by
@@ -35,6 +38,7 @@ pub record PassesPaid {M : Type 0} (state : M → State) (Follows : M → M → 
   pub none_refused : is_dead new.cached ≡ false
       → (state new.medium).failures ≡ (state old.medium).failures
   pub follows : Follows old.medium new.medium
+  pub looks : LooksAtLog (state old.medium) (state new.medium) old.cached
 
 -- a call makes a turn of this kind, and leaves the medium as it is
 pub record KeepsMedium {M : Type 0} (state : M → State)
@@ -48,12 +52,14 @@ TellsLife result s =
     MatchResult result (λ _. is_dead s ≡ false) (λ fault. (fault ≡ Dead) × (is_dead s ≡ true))
 
 -- A call writes nothing: what the store keeps stays, no content changes, and nothing else may be
--- left by a cut. The medium comes after what it was, by calls alone.
+-- left by a cut. The medium comes after what it was, by calls alone, of which each read names a
+-- sector of the log, or the home of one of so many blocks from an address on.
 pub record KeepsStore {M : Type 0} (state : M → State) (Follows : M → M → Type 0)
-    (old new : StoreValue M) : Type 0 where
+    (address count : ℕ) (old new : StoreValue M) : Type 0 where
   pub stays : new.cached ≡ old.cached
   pub quiet : IsQuiet (state old.medium) (state new.medium)
   pub follows : Follows old.medium new.medium
+  pub looks : LooksAtBlocks (state old.medium) (state new.medium) old.cached address count
 
 -- A call is none of the medium: it changes no content, no set and no count of it, and nothing that
 -- the store keeps.

@@ -9,6 +9,7 @@ use Rattle.log_image.specs.ImageFaults.{HasShape}
 use Rattle.recovery.specs.Causes.{IsCause}
 use Rattle.recovery.specs.Copies.{most_start_of}
 use Rattle.recovery.specs.Recovered.{IsRecoveredFrom, IsOursForSome, IsOursWithNext, StandsForOneOf}
+use Rattle.recovery.specs.Looks as recovery
 use Rattle.recovery.specs.Recovered.{RecoverySends, SparesTheRest}
 use Rattle.recovery.specs.declared.recovered.Recovered.{Recovered}
 use Rattle.recovery.specs.declared.start_fault.StartFault.{StartFault}
@@ -88,3 +89,5 @@ pub record LeavesMedium {M : Type 0} (state : M → State) (Follows : M → M �
   -- the sectors behind the image are spared, whatever becomes of the start
   pub spares : SparesTheRest (state old) (state new)
   pub follows : Follows old new
+  -- each read names a sector of the log
+  pub looks : recovery.LooksAtLog (state old) (state new)

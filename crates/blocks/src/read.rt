@@ -29,7 +29,8 @@ impl<M: Medium> Store<M> {
         ensures ok { (book : Book) → FitsBook (M.state self.old.medium) self.old.cached book
             → OnOk result (to.new ≡ blocks_at (array_of book) address (length to.old / 512)) }
         ensures refuses { RefusesRead M.state result self.old self.new }
-        ensures keeps { KeepsStore M.state M.follows self.old self.new }
+        ensures keeps { KeepsStore M.state M.follows address (length to.old / 512)
+            self.old self.new }
         ensures turn { IsTurn (M.state self.old.medium) (M.state self.new.medium)
             self.old.cached self.new.cached }
         // It reads no block twice, and makes no call for a block that a batch has.
@@ -71,7 +72,7 @@ impl<M: Medium> Store<M> {
             → OnOk result (to.new ≡ array_of book block) }
         ensures err { IfErr result (λ fault. IsReadCause (M.state self.old.medium)
             (M.state self.new.medium) self.old.cached fault) }
-        ensures keeps { KeepsStore M.state M.follows self.old self.new }
+        ensures keeps { KeepsStore M.state M.follows block 1 self.old self.new }
         ensures cost { CostsReads result 2 (block_reads self.old.cached block)
             (M.state self.old.medium) (M.state self.new.medium) }
         ensures next { (HasPlace self.old.cached.active.numbers (block + 1) active.new)
@@ -126,7 +127,8 @@ impl<M: Medium> Store<M> {
             → OnOk result (to.new ≡ blocks_at (array_of book) address (length to.old / 512)) }
         ensures err { IfErr result (λ fault. IsReadCause (M.state self.old.medium)
             (M.state self.new.medium) self.old.cached fault) }
-        ensures keeps { KeepsStore M.state M.follows self.old self.new }
+        ensures keeps { KeepsStore M.state M.follows address (length to.old / 512)
+            self.old self.new }
         ensures turn { IsTurn (M.state self.old.medium) (M.state self.new.medium)
             self.old.cached self.new.cached }
         ensures cost { CostsReads result (2 * (length to.old / 512))
@@ -153,7 +155,7 @@ impl<M: Medium> Store<M> {
             → OnOk result (to.new ≡ array_of book block) }
         ensures err { IfErr result (λ fault. IsReadCause (M.state self.old.medium)
             (M.state self.new.medium) self.old.cached fault) }
-        ensures keeps { KeepsStore M.state M.follows self.old self.new }
+        ensures keeps { KeepsStore M.state M.follows block 1 self.old self.new }
         ensures cost { CostsReads result 2 (block_reads self.old.cached block)
             (M.state self.old.medium) (M.state self.new.medium) }
     {
@@ -177,7 +179,7 @@ impl<M: Medium> Store<M> {
             < (M.state self.new.medium).failures)
             × ((M.state self.old.medium).refused medium_fault.Read
             < (M.state self.new.medium).refused medium_fault.Read)) }
-        ensures keeps { KeepsStore M.state M.follows self.old self.new }
+        ensures keeps { KeepsStore M.state M.follows block 1 self.old self.new }
         ensures cost { CostsReads result 2 (durable_reads self.old.cached.log block)
             (M.state self.old.medium) (M.state self.new.medium) }
     {

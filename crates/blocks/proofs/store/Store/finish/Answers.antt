@@ -12,6 +12,7 @@ use Rattle.blocks.specs.StoreValue.{is_dead}
 use Rattle.blocks.proofs.Writing.{calls_under_way, calls_none, calls_begun, slot_free, with_room_is}
 use Rattle.blocks.proofs.Costing.{finish_under_way, finish_none, finish_begun}
 use Rattle.blocks.proofs.Turning.{turns, stays}
+use Rattle.blocks.proofs.Looking.{none, looks_on}
 use Rattle.blocks.proofs.store.Store.finish.Goals as goal
 
 pub returns-then-is_dead-clause-passes : goal.returns-then-is_dead-clause-passes
@@ -21,6 +22,8 @@ returns-then-is_dead-clause-passes g c = record {
   sent = search rules;
   none_refused = search rules;
   follows = search rules;
+  looks = none (g.M.Medium.state c.args.self.now.medium) (g.M.Medium.state c.args.self.now.medium) c.args.self.now.cached
+      (λ i. (g.M.Medium.state c.args.self.now.medium).looked);
 }
 
 pub returns-then-self-clause-batch : goal.returns-then-self-clause-batch
@@ -49,6 +52,8 @@ returns-then-is_empty-clause-passes g c = record {
   sent = search rules;
   none_refused = search rules;
   follows = search rules;
+  looks = none (g.M.Medium.state c.args.self.now.medium) (g.M.Medium.state c.args.self.now.medium) c.args.self.now.cached
+      (λ i. (g.M.Medium.state c.args.self.now.medium).looked);
 }
 
 pub returns-clause-passes : goal.returns-clause-passes
@@ -74,6 +79,15 @@ returns-clause-passes g c = record {
       omega (arith, c.make_room.ensures.passes.sent, c.write_out-2.ensures.passes.sent, steps, few, quiet);
   none_refused = search rules;
   follows = search rules;
+  looks =
+      let mid = g.M.Medium.state c.make_room.new.self.medium in
+      let begun = g.M.Medium.state c.begin.new.self.medium in
+      let after = g.M.Medium.state c.write_out-2.new.self.medium in
+      looks_on (g.M.Medium.state c.args.self.now.medium) mid after c.args.self.now.cached c.make_room.new.self.cached
+      c.make_room.ensures.passes.turn.goes_on.layout_stays c.make_room.ensures.passes.looks
+      (looks_on mid begun after c.make_room.new.self.cached c.begin.new.self.cached c.begin.ensures.keeps.turn.goes_on.layout_stays
+      (none mid begun c.make_room.new.self.cached (ap (λ m. (g.M.Medium.state m).looked) c.begin.ensures.keeps.medium))
+      c.write_out-2.ensures.passes.looks);
 }
 
 pub returns-then-is_empty-clause-batch : goal.returns-then-is_empty-clause-batch
@@ -123,6 +137,12 @@ returns-in_err-begin-clause-passes g c = record {
       omega (arith, c.make_room.ensures.passes.sent, quiet);
   none_refused = search rules;
   follows = search rules;
+  looks =
+      let mid = g.M.Medium.state c.make_room.new.self.medium in
+      let after = g.M.Medium.state c.begin.new.self.medium in
+      looks_on (g.M.Medium.state c.args.self.now.medium) mid after c.args.self.now.cached c.make_room.new.self.cached
+      c.make_room.ensures.passes.turn.goes_on.layout_stays c.make_room.ensures.passes.looks
+      (none mid after c.make_room.new.self.cached (ap (λ m. (g.M.Medium.state m).looked) c.begin.ensures.keeps.medium));
 }
 
 pub returns-then-self-clause-exactly : goal.returns-then-self-clause-exactly
@@ -227,6 +247,7 @@ returns-then-self-clause-passes g c = record {
       omega (arith, c.write_out.ensures.passes.sent, few);
   none_refused = c.write_out.ensures.passes.none_refused;
   follows = c.write_out.ensures.passes.follows;
+  looks = c.write_out.ensures.passes.looks;
 }
 
 pub returns-in_err-make_room-clause-passes : goal.returns-in_err-make_room-clause-passes
@@ -236,4 +257,5 @@ returns-in_err-make_room-clause-passes g c = record {
   sent = omega (arith, c.make_room.ensures.passes.sent);
   none_refused = c.make_room.ensures.passes.none_refused;
   follows = c.make_room.ensures.passes.follows;
+  looks = c.make_room.ensures.passes.looks;
 }

@@ -9,6 +9,7 @@ use Rattle.blocks.proofs.Costing.{CostsOldest, costs_more, costs_room}
 use Rattle.blocks.proofs.Sending.{SendsOldest, sends_more, sends_refused, sends_room}
 use Rattle.blocks.proofs.Turning.{turns, stays}
 use Rattle.blocks.proofs.Paying.{pays, pays_both, pays_step, must_retire}
+use Rattle.blocks.proofs.Looking.{none, looks_on}
 use Rattle.blocks.proofs.store.Store.make_room.Goals as goal
 
 pub loop-self-init : goal.loop-self-init
@@ -27,6 +28,8 @@ loop-self-init g c = record {
   active = refl;
   frozen = refl;
   follows = g.met.M.Medium.follows_itself c.args.self.now.medium;
+  looks = none (g.M.Medium.state c.args.self.now.medium) (g.M.Medium.state c.args.self.now.medium) c.args.self.now.cached
+      (λ i. (g.M.Medium.state c.args.self.now.medium).looked);
 }
 
 pub loop-self-smaller : goal.loop-self-smaller
@@ -87,6 +90,9 @@ loop-self-preserved g c =
       active = c.retire.ensures.retiring.active ∙ c.loop-self.invariant.active;
       frozen = c.retire.ensures.retiring.frozen ∙ c.loop-self.invariant.frozen;
       follows = g.met.M.Medium.follows_through _ _ _ c.loop-self.invariant.follows c.retire.ensures.passes.follows;
+      looks = looks_on (g.M.Medium.state c.args.self.now.medium) (g.M.Medium.state c.loop-self.self.medium)
+          (g.M.Medium.state c.retire.new.self.medium) c.args.self.now.cached c.loop-self.self.cached
+          c.loop-self.invariant.turn.goes_on.layout_stays c.loop-self.invariant.looks c.retire.ensures.passes.looks;
     }
 
 pub returns-in_err-retire-clause-passes : goal.returns-in_err-retire-clause-passes
@@ -119,6 +125,9 @@ returns-in_err-retire-clause-passes g c = record {
       omega (arith, all, few);
   none_refused = search rules;
   follows = g.met.M.Medium.follows_through _ _ _ c.loop-self.invariant.follows c.retire.ensures.passes.follows;
+  looks = looks_on (g.M.Medium.state c.args.self.now.medium) (g.M.Medium.state c.loop-self.self.medium)
+      (g.M.Medium.state c.retire.new.self.medium) c.args.self.now.cached c.loop-self.self.cached
+      c.loop-self.invariant.turn.goes_on.layout_stays c.loop-self.invariant.looks c.retire.ensures.passes.looks;
 }
 
 pub returns-clause-passes : goal.returns-clause-passes
@@ -133,6 +142,7 @@ returns-clause-passes g c = record {
       omega (arith, all, few);
   none_refused = λ live. c.loop-self.invariant.none_refused;
   follows = c.loop-self.invariant.follows;
+  looks = c.loop-self.invariant.looks;
 }
 
 pub returns-in_err-retire-clause-room : goal.returns-in_err-retire-clause-room

@@ -1,5 +1,6 @@
 use Rattle.std.proofs.Common.{◌≡◌, false}
 use Rattle.medium.specs.Sent.{sent}
+use Rattle.blocks.specs.Looks.{LooksAtLog}
 use Rattle.blocks.specs.StoreValue.{is_dead, steps_left}
 use Rattle.blocks.specs.Turns.{IsTurn, IsPaid}
 use Rattle.redo_log.specs.Value.{HasRoom}
@@ -26,6 +27,7 @@ invariant-loop-self g l = record {
   active : l.self.cached.active ≡ l.fn.self.cached.active;
   frozen : l.self.cached.frozen ≡ l.fn.self.cached.frozen;
   follows : g.M.Medium.follows l.fn.self.medium l.self.medium;
+  looks : LooksAtLog (g.M.Medium.state l.fn.self.medium) (g.M.Medium.state l.self.medium) l.fn.self.cached;
 }
 
 abbrev pub decreases-loop-self : goal.decreases-loop-self

@@ -9,6 +9,7 @@ use Rattle.blocks.proofs.Turning.{quiet_turn}
 use Rattle.blocks.proofs.Reading.{put_block}
 use Rattle.blocks.specs.Calls.{block_reads}
 use Rattle.blocks.proofs.Counting.{reads_more, reads_within}
+use Rattle.blocks.proofs.Looking.{none_read, one_more, fewer_read}
 use Rattle.blocks.proofs.store.Store.read.Goals as goal
 
 pub overflow_add-block : goal.overflow_add-block
@@ -68,6 +69,9 @@ loop-i-preserved g c =
           let same = ap (λ (s : Cached). block_reads s (c.args.address + c.loop-i.i)) c.loop-i.invariant.stays in
           omega (arith, c.loop-i.invariant.reads, one, same, reads_more c.args.self.now.cached c.args.address c.loop-i.i);
       follows = g.met.M.Medium.follows_through _ _ _ c.loop-i.invariant.follows c.read_block.ensures.keeps.follows;
+      looks = one_more (g.M.Medium.state c.args.self.now.medium) (g.M.Medium.state c.loop-i.self.medium)
+          (g.M.Medium.state c.read_block.new.self.medium) c.args.self.now.cached c.loop-i.self.cached c.args.address c.loop-i.i
+          c.loop-i.invariant.stays c.loop-i.invariant.looks c.read_block.ensures.keeps.looks;
       so_far = λ book fits.
           let here : FitsBook mid c.loop-i.self.cached book =
           subst (λ (s : Cached). FitsBook mid s book) (sym c.loop-i.invariant.stays) (now.fits book fits) in
@@ -106,4 +110,28 @@ returns-in_err-read_block-clause-keeps g c = record {
   stays = search rules;
   quiet = quiet_joined _ _ _ c.loop-i.invariant.quiet c.read_block.ensures.keeps.quiet;
   follows = g.met.M.Medium.follows_through _ _ _ c.loop-i.invariant.follows c.read_block.ensures.keeps.follows;
+  looks =
+      fewer_read (g.M.Medium.state c.args.self.now.medium) (g.M.Medium.state c.read_block.new.self.medium) c.args.self.now.cached
+      c.args.address (c.loop-i.i + 1) (length c.args.to.now / 512) (omega (arith, c.loop-i-test.true))
+      (one_more (g.M.Medium.state c.args.self.now.medium) (g.M.Medium.state c.loop-i.self.medium)
+      (g.M.Medium.state c.read_block.new.self.medium) c.args.self.now.cached c.loop-i.self.cached c.args.address c.loop-i.i
+      c.loop-i.invariant.stays c.loop-i.invariant.looks c.read_block.ensures.keeps.looks);
+}
+
+pub returns-then-is_dead-clause-keeps : goal.returns-then-is_dead-clause-keeps
+returns-then-is_dead-clause-keeps g c = record {
+  stays = search rules;
+  quiet = search rules;
+  follows = search rules;
+  looks = none_read (g.M.Medium.state c.args.self.now.medium) (g.M.Medium.state c.args.self.now.medium) c.args.self.now.cached
+      c.args.address (length c.args.to.now / 512) (λ i. (g.M.Medium.state c.args.self.now.medium).looked);
+}
+
+pub returns-clause-keeps : goal.returns-clause-keeps
+returns-clause-keeps g c = record {
+  stays = search rules;
+  quiet = search rules;
+  follows = search rules;
+  looks = fewer_read (g.M.Medium.state c.args.self.now.medium) (g.M.Medium.state c.loop-i.self.medium) c.args.self.now.cached
+      c.args.address c.loop-i.i (length c.args.to.now / 512) (omega arith) c.loop-i.invariant.looks;
 }

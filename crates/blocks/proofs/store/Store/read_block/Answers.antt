@@ -3,6 +3,7 @@ use Rattle.cache.specs.Entries.{Entries, map_of}
 use Rattle.blocks.proofs.Reading.{durable_is}
 use Rattle.blocks.proofs.Counting.{reads_active, reads_frozen, reads_copy}
 use Rattle.blocks.specs.Calls.{durable_reads}
+use Rattle.blocks.proofs.Looking.{none_read}
 use Rattle.blocks.proofs.store.Store.read_block.Goals as goal
 
 -- equal batches have the same blocks
@@ -64,4 +65,40 @@ returns-in-Err-clause-cost g c = record {
       let log = ap (λ v. durable_reads v.cached.log c.args.block) c.self.view_is in
       omega (arith, log, c.read_durable.ensures.cost.reads, reads_copy c.args.self.now.cached c.args.block active frozen);
   exactly = search rules;
+}
+
+pub returns-in-Some-clause-keeps : goal.returns-in-Some-clause-keeps
+returns-in-Some-clause-keeps g c = record {
+  stays = search rules;
+  quiet = search rules;
+  follows = search rules;
+  looks = rw (← c.self.view_is) (none_read (g.M.Medium.state c.self.inside.medium) (g.M.Medium.state c.self.inside.medium)
+      (record { log = c.self.inside.log; active = c.self.inside.active; frozen = c.self.inside.frozen }) c.args.block 1
+      (λ i. (g.M.Medium.state c.self.inside.medium).looked));
+}
+
+pub returns-in-Some-older-clause-keeps : goal.returns-in-Some-older-clause-keeps
+returns-in-Some-older-clause-keeps g c = record {
+  stays = search rules;
+  quiet = search rules;
+  follows = search rules;
+  looks = rw (← c.self.view_is) (none_read (g.M.Medium.state c.self.inside.medium) (g.M.Medium.state c.self.inside.medium)
+      (record { log = c.self.inside.log; active = c.self.inside.active; frozen = c.self.inside.frozen }) c.args.block 1
+      (λ i. (g.M.Medium.state c.self.inside.medium).looked));
+}
+
+pub returns-in-Ok-clause-keeps : goal.returns-in-Ok-clause-keeps
+returns-in-Ok-clause-keeps g c = record {
+  stays = search rules;
+  quiet = search rules;
+  follows = search rules;
+  looks = c.read_durable.ensures.keeps.looks;
+}
+
+pub returns-in-Err-clause-keeps : goal.returns-in-Err-clause-keeps
+returns-in-Err-clause-keeps g c = record {
+  stays = search rules;
+  quiet = search rules;
+  follows = search rules;
+  looks = c.read_durable.ensures.keeps.looks;
 }

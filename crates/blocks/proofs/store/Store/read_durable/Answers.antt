@@ -1,5 +1,6 @@
-use Rattle.std.proofs.Common.{◌≡◌, ℕ, ◌+◌, ◌∙◌, ap, arith, subst}
+use Rattle.std.proofs.Common.{◌≡◌, ℕ, ◌+◌, ◌∙◌, ap, arith, subst, rules}
 use Rattle.std.proofs.lemmas.Result.{on_ok_weaker}
+use Rattle.medium.specs.Medium.{LooksOnly}
 use Rattle.medium.specs.Sent.{sent}
 use Rattle.medium.proofs.Sending.{none_sent, read_sends}
 use Rattle.log_layout.specs.Places.{Shape, first_home}
@@ -7,6 +8,7 @@ use Rattle.redo_log.specs.Value.{LogValue, HasNoCopy}
 use Rattle.redo_log.proofs.Handing.{home_is}
 use Rattle.blocks.specs.Calls.{durable_reads}
 use Rattle.blocks.proofs.Counting.{reads_logged, reads_home, few_copy_reads}
+use Rattle.blocks.proofs.Looking.{log_read, home_read}
 use Rattle.blocks.proofs.store.Store.read_durable.Goals as goal
 
 pub returns-in-None-clause-ok : goal.returns-in-None-clause-ok
@@ -57,3 +59,26 @@ returns-in-None-clause-cost g c =
           let none = read_sends (g.M.Medium.state c.self.inside.medium) (g.M.Medium.state c.read.new.self) c.read.ensures.passes in
           omega (arith, none, same);
     }
+
+pub returns-in-Some-clause-keeps : goal.returns-in-Some-clause-keeps
+returns-in-Some-clause-keeps g c = record {
+  stays = search rules;
+  quiet = search rules;
+  follows = search rules;
+  looks = rw (← c.self.view_is) (log_read (g.M.Medium.state c.self.inside.medium) (g.M.Medium.state c.read_copy.new.m)
+      (record { log = c.self.inside.log; active = c.self.inside.active; frozen = c.self.inside.frozen }) c.args.block 1
+      c.read_copy.ensures.keeps.looks);
+}
+
+pub returns-in-None-clause-keeps : goal.returns-in-None-clause-keeps
+returns-in-None-clause-keeps g c = record {
+  stays = search rules;
+  quiet = search rules;
+  follows = search rules;
+  looks = home_read _ _ c.args.self.now.cached c.args.block c.home_of.result
+      (let first = ap (λ (s : Shape). first_home s) c.self.invariant.shape in
+      let same = ap (λ v. first_home v.cached.log.shape) c.self.view_is in
+      omega (arith, c.home_of.ensures, first, same))
+      (subst (λ m. LooksOnly (λ x. x ≡ c.home_of.result) (g.M.Medium.state m) (g.M.Medium.state c.read.new.self))
+      (ap (λ v. v.medium) c.self.view_is) c.read.ensures.follows.1);
+}

@@ -14,6 +14,7 @@ use Rattle.blocks.proofs.Turning.{quiet_turn}
 use Rattle.blocks.proofs.Reading.{put_block}
 use Rattle.blocks.specs.Calls.{block_reads}
 use Rattle.blocks.proofs.Counting.{reads_more, reads_within}
+use Rattle.blocks.proofs.Looking.{one_more, fewer_read}
 use Rattle.blocks.proofs.store.Store.read_home.Goals as goal
 
 -- none of a range is listed
@@ -93,6 +94,9 @@ loop-i-preserved g c =
           let same = ap (λ (s : Cached). block_reads s (c.args.address + c.loop-i.i)) c.loop-i.invariant.stays in
           omega (arith, c.loop-i.invariant.reads, one, same, reads_more c.args.self.now.cached c.args.address c.loop-i.i);
       follows = g.met.M.Medium.follows_through _ _ _ c.loop-i.invariant.follows c.read_home_block.ensures.keeps.follows;
+      looks = one_more (g.M.Medium.state c.args.self.now.medium) (g.M.Medium.state c.loop-i.self.medium)
+          (g.M.Medium.state c.read_home_block.new.self.medium) c.args.self.now.cached c.loop-i.self.cached c.args.address c.loop-i.i
+          c.loop-i.invariant.stays c.loop-i.invariant.looks c.read_home_block.ensures.keeps.looks;
       so_far = λ book fits.
           let here : FitsBook mid c.loop-i.self.cached book =
           subst (λ (s : Cached). FitsBook mid s book) (sym c.loop-i.invariant.stays) (now.fits book fits) in
@@ -125,4 +129,19 @@ returns-in_err-read_home_block-clause-keeps g c = record {
   stays = search rules;
   quiet = quiet_joined _ _ _ c.loop-i.invariant.quiet c.read_home_block.ensures.keeps.quiet;
   follows = g.met.M.Medium.follows_through _ _ _ c.loop-i.invariant.follows c.read_home_block.ensures.keeps.follows;
+  looks =
+      fewer_read (g.M.Medium.state c.args.self.now.medium) (g.M.Medium.state c.read_home_block.new.self.medium) c.args.self.now.cached
+      c.args.address (c.loop-i.i + 1) (length c.args.to.now / 512) (omega (arith, c.loop-i-test.true))
+      (one_more (g.M.Medium.state c.args.self.now.medium) (g.M.Medium.state c.loop-i.self.medium)
+      (g.M.Medium.state c.read_home_block.new.self.medium) c.args.self.now.cached c.loop-i.self.cached c.args.address c.loop-i.i
+      c.loop-i.invariant.stays c.loop-i.invariant.looks c.read_home_block.ensures.keeps.looks);
+}
+
+pub returns-clause-keeps : goal.returns-clause-keeps
+returns-clause-keeps g c = record {
+  stays = search rules;
+  quiet = search rules;
+  follows = search rules;
+  looks = fewer_read (g.M.Medium.state c.args.self.now.medium) (g.M.Medium.state c.loop-i.self.medium) c.args.self.now.cached
+      c.args.address c.loop-i.i (length c.args.to.now / 512) (omega arith) c.loop-i.invariant.looks;
 }

@@ -1,4 +1,5 @@
-use Rattle.std.proofs.Common.{◌≡◌, ◌∙◌, ℕ, ◌+◌, List, [], length, None, ap, arith, rules}
+use Rattle.std.proofs.Common.{◌≡◌, ◌∙◌, ℕ, ◌+◌, List, [], length, None, ap, arith, rules, subst}
+use Rattle.medium.specs.Medium.{LooksOnly}
 use Rattle.medium.proofs.Moments.{quiet_call}
 use Rattle.medium.specs.Sent.{sent}
 use Rattle.medium.proofs.Sending.{read_sends}
@@ -10,6 +11,7 @@ use Rattle.blocks.specs.Calls.{block_reads}
 use Rattle.blocks.specs.StoreValue.{Cached}
 use Rattle.blocks.proofs.Reading.{durable_is}
 use Rattle.blocks.proofs.Counting.{reads_home, reads_copy}
+use Rattle.blocks.proofs.Looking.{home_read}
 use Rattle.blocks.proofs.store.Store.read_home_block.Goals as goal
 
 -- no record that waits has a copy where none waits
@@ -70,6 +72,12 @@ returns-clause-keeps g c = record {
   stays = ap (λ v. v.cached) c.self.view_is;
   quiet = rw (← c.self.view_is) (quiet_call _ _ c.read.ensures.passes c.read.ensures.content c.read.ensures.sets);
   follows = rw (← c.self.view_is) c.read.ensures.follows.0;
+  looks = home_read _ _ c.args.self.now.cached c.args.block c.home_of.result
+      (let first = ap (λ (s : Shape). first_home s) c.self.invariant.shape in
+      let same = ap (λ v. first_home v.cached.log.shape) c.self.view_is in
+      omega (arith, c.home_of.ensures, first, same))
+      (subst (λ m. LooksOnly (λ x. x ≡ c.home_of.result) (g.M.Medium.state m) (g.M.Medium.state c.read.new.self))
+      (ap (λ v. v.medium) c.self.view_is) c.read.ensures.follows.1);
 }
 
 pub returns-in_default-read-clause-keeps : goal.returns-in_default-read-clause-keeps
@@ -77,4 +85,10 @@ returns-in_default-read-clause-keeps g c = record {
   stays = ap (λ v. v.cached) c.self.view_is;
   quiet = rw (← c.self.view_is) (quiet_call _ _ c.read.ensures.passes c.read.ensures.content c.read.ensures.sets);
   follows = rw (← c.self.view_is) c.read.ensures.follows.0;
+  looks = home_read _ _ c.args.self.now.cached c.args.block c.home_of.result
+      (let first = ap (λ (s : Shape). first_home s) c.self.invariant.shape in
+      let same = ap (λ v. first_home v.cached.log.shape) c.self.view_is in
+      omega (arith, c.home_of.ensures, first, same))
+      (subst (λ m. LooksOnly (λ x. x ≡ c.home_of.result) (g.M.Medium.state m) (g.M.Medium.state c.read.new.self))
+      (ap (λ v. v.medium) c.self.view_is) c.read.ensures.follows.1);
 }

@@ -70,4 +70,8 @@ returns-clause-passes g c = record {
       ];
   none_refused = search rules;
   follows = search rules;
+  looks = elim c.match-retire_step.branch [
+    | in-Ok w ↦ rw (← c.self.view_is) w.in-Ok.ensures.leaves.looks
+    | in-Err w ↦ rw (← c.self.view_is) w.in-Err.ensures.leaves.looks
+  ];
 }

@@ -17,6 +17,7 @@ returns-in-Ok-More-clause-passes g c = record {
   sent = search rules;
   none_refused = search rules;
   follows = search rules;
+  looks = rw (← c.self.view_is) c.in-Ok-More.ensures.leaves.looks;
 }
 
 pub returns-in-Ok-Durable-clause-passes : goal.returns-in-Ok-Durable-clause-passes
@@ -35,6 +36,7 @@ returns-in-Ok-Durable-clause-passes g c = record {
   sent = search rules;
   none_refused = search rules;
   follows = search rules;
+  looks = rw (← c.self.view_is) c.in-Ok-Durable.ensures.leaves.looks;
 }
 
 pub returns-in-Err-clause-passes : goal.returns-in-Err-clause-passes
@@ -51,4 +53,5 @@ returns-in-Err-clause-passes g c = record {
   sent = search rules;
   none_refused = search rules;
   follows = search rules;
+  looks = rw (← c.self.view_is) c.in-Err.ensures.leaves.looks;
 }

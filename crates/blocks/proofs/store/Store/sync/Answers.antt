@@ -10,6 +10,7 @@ use Rattle.blocks.specs.StoreValue.{Cached, wants}
 use Rattle.blocks.proofs.Writing.{waits_idle, slots_after}
 use Rattle.blocks.proofs.Fitting.{settles}
 use Rattle.blocks.proofs.Turning.{turns}
+use Rattle.blocks.proofs.Looking.{none, looks_on}
 use Rattle.blocks.proofs.store.Store.sync.Goals as goal
 
 pub returns-clause-passes : goal.returns-clause-passes
@@ -23,6 +24,15 @@ returns-clause-passes g c = record {
       omega (arith, c.finish.ensures.passes.sent, c.finish-2.ensures.passes.sent, quiet, same);
   none_refused = search rules;
   follows = search rules;
+  looks =
+      let mid = g.M.Medium.state c.finish.new.self.medium in
+      let half = g.M.Medium.state c.freeze.new.self.medium in
+      let after = g.M.Medium.state c.finish-2.new.self.medium in
+      looks_on (g.M.Medium.state c.args.self.now.medium) mid after c.args.self.now.cached c.finish.new.self.cached
+      c.finish.ensures.passes.turn.goes_on.layout_stays c.finish.ensures.passes.looks
+      (looks_on mid half after c.finish.new.self.cached c.freeze.new.self.cached c.freeze.ensures.keeps.turn.goes_on.layout_stays
+      (none mid half c.finish.new.self.cached (ap (λ m. (g.M.Medium.state m).looked) c.freeze.ensures.keeps.medium))
+      c.finish-2.ensures.passes.looks);
 }
 
 pub returns-clause-ok : goal.returns-clause-ok
@@ -98,4 +108,5 @@ returns-in_err-finish-clause-passes g c = record {
   sent = omega (arith, c.finish.ensures.passes.sent);
   none_refused = c.finish.ensures.passes.none_refused;
   follows = c.finish.ensures.passes.follows;
+  looks = c.finish.ensures.passes.looks;
 }

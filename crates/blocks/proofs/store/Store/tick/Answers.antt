@@ -1,5 +1,6 @@
 use Rattle.std.proofs.Common.{rules}
 use Rattle.blocks.proofs.Turning.{stays}
+use Rattle.blocks.proofs.Looking.{none}
 use Rattle.blocks.proofs.store.Store.tick.Goals as goal
 
 pub returns-then-is_dead-clause-passes : goal.returns-then-is_dead-clause-passes
@@ -9,4 +10,6 @@ returns-then-is_dead-clause-passes g c = record {
   sent = search rules;
   none_refused = search rules;
   follows = search rules;
+  looks = none (g.M.Medium.state c.args.self.now.medium) (g.M.Medium.state c.args.self.now.medium) c.args.self.now.cached
+      (λ i. (g.M.Medium.state c.args.self.now.medium).looked);
 }

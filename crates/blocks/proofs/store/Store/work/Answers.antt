@@ -2,6 +2,7 @@ use Rattle.std.proofs.Common.{◌≡◌, ◌<◌, ◌∙◌, ap, sym, subst, ari
 use Rattle.std.proofs.lemmas.Bool.{false≢true}
 use Rattle.redo_log.specs.Value.{LogValue, HasRoom}
 use Rattle.blocks.specs.StoreValue.{is_dead, unwritten}
+use Rattle.blocks.proofs.Looking.{none}
 use Rattle.blocks.proofs.store.Store.work.Goals as goal
 
 pub returns-then-not-is_empty-clause-order : goal.returns-then-not-is_empty-clause-order
@@ -19,3 +20,14 @@ returns-then-not-is_empty-clause-order g c =
       begins = λ lives may. c.begin_next.ensures.beginning;
       retires = λ lives none full. absurd (full (room, some));
     }
+
+pub returns-then-not-is_empty-clause-passes : goal.returns-then-not-is_empty-clause-passes
+returns-then-not-is_empty-clause-passes g c = record {
+  turn = c.begin_next.ensures.keeps.turn;
+  calls = search rules;
+  sent = search rules;
+  none_refused = search rules;
+  follows = search rules;
+  looks = none (g.M.Medium.state c.args.self.now.medium) (g.M.Medium.state c.begin_next.new.self.medium) c.args.self.now.cached
+      (ap (λ m. (g.M.Medium.state m).looked) c.begin_next.ensures.keeps.medium);
+}

@@ -5,6 +5,7 @@ use Rattle.medium.specs.Sent.{sent}
 use Rattle.cache.proofs.Arrays.{unlisted_empty}
 use Rattle.blocks.specs.StoreValue.{transfer_limit}
 use Rattle.blocks.proofs.Turning.{turns, stays, not_written, then_written}
+use Rattle.blocks.proofs.Looking.{none, looks_on}
 use Rattle.blocks.proofs.store.Store.write.Goals as goal
 
 pub returns-then-is_dead-clause-passes : goal.returns-then-is_dead-clause-passes
@@ -14,6 +15,8 @@ returns-then-is_dead-clause-passes g c = record {
   sent = search rules;
   none_refused = search rules;
   follows = search rules;
+  looks = none (g.M.Medium.state c.args.self.now.medium) (g.M.Medium.state c.args.self.now.medium) c.args.self.now.cached
+      (λ i. (g.M.Medium.state c.args.self.now.medium).looked);
 }
 
 pub returns-in_err-finish-clause-passes : goal.returns-in_err-finish-clause-passes
@@ -25,6 +28,7 @@ returns-in_err-finish-clause-passes g c = record {
   sent = search rules;
   none_refused = search rules;
   follows = search rules;
+  looks = c.finish.ensures.passes.looks;
 }
 
 pub append-requires-2-clause-fits : goal.append-requires-2-clause-fits
@@ -46,4 +50,23 @@ returns-clause-passes g c = record {
       omega (arith, c.finish.ensures.passes.sent, quiet);
   none_refused = search rules;
   follows = search rules;
+  looks =
+      let before = g.M.Medium.state c.args.self.now.medium in
+      let mid = g.M.Medium.state c.finish.new.self.medium in
+      let after = g.M.Medium.state c.append-2.new.self.medium in
+      looks_on before mid after c.args.self.now.cached c.finish.new.self.cached c.finish.ensures.passes.turn.goes_on.layout_stays
+      c.finish.ensures.passes.looks
+      (none mid after c.finish.new.self.cached
+      (ap (λ m. (g.M.Medium.state m).looked) (c.append-2.ensures.keeps.medium ∙ c.freeze.ensures.keeps.medium)));
+}
+
+pub returns-then-fits-clause-passes : goal.returns-then-fits-clause-passes
+returns-then-fits-clause-passes g c = record {
+  turn = c.append.ensures.keeps.turn;
+  calls = search rules;
+  sent = search rules;
+  none_refused = search rules;
+  follows = search rules;
+  looks = none (g.M.Medium.state c.args.self.now.medium) (g.M.Medium.state c.append.new.self.medium) c.args.self.now.cached
+      (ap (λ m. (g.M.Medium.state m).looked) c.append.ensures.keeps.medium);
 }

@@ -4,6 +4,7 @@ use Rattle.blocks.proofs.Room.{writes_more, writes_last}
 use Rattle.blocks.proofs.Writing.{one_less}
 use Rattle.blocks.proofs.Turning.{turns, stays}
 use Rattle.blocks.proofs.Paying.{pays, pays_both, pays_step}
+use Rattle.blocks.proofs.Looking.{none, looks_on}
 use Rattle.blocks.proofs.store.Store.write_out.Goals as goal
 
 pub loop-init : goal.loop-init
@@ -19,6 +20,8 @@ loop-init g c = record {
   head = refl;
   active = refl;
   follows = g.met.M.Medium.follows_itself c.args.self.now.medium;
+  looks = none (g.M.Medium.state c.args.self.now.medium) (g.M.Medium.state c.args.self.now.medium) c.args.self.now.cached
+      (λ i. (g.M.Medium.state c.args.self.now.medium).looked);
 }
 
 pub returns-in_err-step-clause-passes : goal.returns-in_err-step-clause-passes
@@ -28,6 +31,8 @@ returns-in_err-step-clause-passes g c = record {
   sent = omega (arith, c.loop.invariant.sends, c.step.ensures.passes.sent, c.loop.invariant.under_way);
   none_refused = search rules;
   follows = search rules;
+  looks = looks_on (g.M.Medium.state c.args.self.now.medium) (g.M.Medium.state c.loop.self.medium) (g.M.Medium.state c.step.new.self.medium)
+      c.args.self.now.cached c.loop.self.cached c.loop.invariant.turn.goes_on.layout_stays c.loop.invariant.looks c.step.ensures.passes.looks;
 }
 
 pub loop-preserved : goal.loop-preserved
@@ -56,6 +61,8 @@ loop-preserved g c = record {
   head = c.step.ensures.writes.head ∙ c.loop.invariant.head;
   active = c.step.ensures.writes.active ∙ c.loop.invariant.active;
   follows = g.met.M.Medium.follows_through _ _ _ c.loop.invariant.follows c.step.ensures.passes.follows;
+  looks = looks_on (g.M.Medium.state c.args.self.now.medium) (g.M.Medium.state c.loop.self.medium) (g.M.Medium.state c.step.new.self.medium)
+      c.args.self.now.cached c.loop.self.cached c.loop.invariant.turn.goes_on.layout_stays c.loop.invariant.looks c.step.ensures.passes.looks;
 }
 
 pub returns-clause-passes : goal.returns-clause-passes
@@ -65,6 +72,8 @@ returns-clause-passes g c = record {
   sent = omega (arith, c.loop.invariant.sends, c.step.ensures.passes.sent, c.loop.invariant.under_way);
   none_refused = search rules;
   follows = search rules;
+  looks = looks_on (g.M.Medium.state c.args.self.now.medium) (g.M.Medium.state c.loop.self.medium) (g.M.Medium.state c.step.new.self.medium)
+      c.args.self.now.cached c.loop.self.cached c.loop.invariant.turn.goes_on.layout_stays c.loop.invariant.looks c.step.ensures.passes.looks;
 }
 
 pub returns-clause-batch : goal.returns-clause-batch

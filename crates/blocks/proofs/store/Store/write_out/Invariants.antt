@@ -1,5 +1,6 @@
 use Rattle.std.proofs.Common.{◌≡◌, ◌<◌, ◌≤◌, ◌+◌, false}
 use Rattle.medium.specs.Sent.{sent}
+use Rattle.blocks.specs.Looks.{LooksAtLog}
 use Rattle.blocks.specs.StoreValue.{is_dead, steps_left}
 use Rattle.blocks.specs.Turns.{IsTurn, IsPaid}
 use Rattle.blocks.proofs.store.Store.write_out.Given as goal
@@ -19,6 +20,7 @@ invariant-loop g l = record {
   head : l.self.cached.log.head ≡ l.fn.self.cached.log.head;
   active : l.self.cached.active ≡ l.fn.self.cached.active;
   follows : g.M.Medium.follows l.fn.self.medium l.self.medium;
+  looks : LooksAtLog (g.M.Medium.state l.fn.self.medium) (g.M.Medium.state l.self.medium) l.fn.self.cached;
 }
 
 abbrev pub decreases-loop : goal.decreases-loop
