@@ -11,16 +11,6 @@ use Rattle.bot_machine.specs.Disk.{IsRearmed}
 use Rattle.usbdisk_c.specs.Plays.{Disk, medium_of, LetsGo}
 use Rattle.usbdisk_c.specs.Runs.{IsRun, writes_of}
 
--- where nothing was handed out yet
-pub begun : (disk : Disk) (sector : ℕ) (room : List ℕ) → IsRun disk disk sector 0 room room
-begun disk sector room = record {
-  writes = refl;
-  medium = refl;
-  behind = λ i le. refl;
-  others = refl;
-  fits = λ book fits. fits;
-}
-
 -- what is taken out stood before the rest
 taken_out : (calls : List DeviceCall) (w : Window) (call : DeviceCall) → first_of calls ≡ Some call
     → calls ≡ call ∷ (take_first calls w).outbox
