@@ -1,0 +1,11 @@
+-- What is seen of a disk over a medium that reads on demand.
+use Rattle.window.specs.Window.{Window}
+use Rattle.usbdisk_c.specs.DiskRow.{disk_row}
+
+-- what is seen of the disk
+abbrev pub Disk : Type 0
+Disk = disk_row.Denot
+
+-- the disk's medium
+abbrev pub medium_of : Disk → Window
+medium_of disk = disk.unit.store.medium

@@ -1,0 +1,40 @@
+//! Which sectors a disk wants to be shown before it takes a packet.
+ghost use Rattle.std.specs.Prelude.{◌≡◌, ℕ, IfSome, None, ◌≤◌};
+ghost use Rattle.scsi_unit.specs.Reading.{AreHome};
+ghost use Rattle.usbdisk_c.specs.Plays.{medium_of};
+ghost use Rattle.usbdisk_c.specs.Wanted.{AreMissing, AreInSight, Wants, WantsNone};
+ghost use Rattle.window.specs.Window.{state_of};
+
+use bot_machine::{Disk, HomeSectors};
+use medium::Medium;
+use window::WindowMedium;
+
+/// The home sectors of the blocks that this packet has read, as far as they are not in sight: the
+/// first, and how many.
+pub(crate) fn unseen(disk: &Disk<WindowMedium>, packet: &[u8]) -> Option<(u64, u32)>
+    ensures some { IfSome result (λ asked. Wants disk.now packet.now asked.0 asked.1) }
+    ensures none { result ≡ None → WantsNone disk.now packet.now }
+{
+    let home = disk.home_sectors(packet)?;
+    missing(disk.medium(), &home)
+}
+
+// Those of some home sectors that are neither in memory nor in sight: all from the first of them on.
+fn missing(medium: &WindowMedium, home: &HomeSectors) -> Option<(u64, u32)>
+    requires { (limit : ℕ) × (limit ≤ 240)
+        × AreHome limit (state_of medium.now).size home.now.first home.now.count }
+    ensures some { IfSome result (λ asked. AreMissing medium.now home.now asked.0 asked.1) }
+    ensures none { result ≡ None → AreInSight medium.now home.now }
+{
+    let _sectors = medium.sectors();
+    let end = home.first + u64::from(home.count);
+    let first = home.first.max(medium.near());
+    if end <= first {
+        return None;
+    }
+    let count = (end - first) as u32;
+    if medium.holds(first, u64::from(count)) {
+        return None;
+    }
+    Some((first, count))
+}
