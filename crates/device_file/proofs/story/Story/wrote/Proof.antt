@@ -60,10 +60,12 @@ module _ {M : Type 1} {𝓤 : Ura M} (𝓛 : Logic 𝓤) (mem : Memory → SProp
         qed 𝓛 (raw (alive 𝓛 f.signature κs qs) ∷ ‵ passed ∷ []) ∵ enter ! C Λ code.function (before ∷ looked_at ∷ []) _ $
         alloc_all ! (λ l. pass_all ! refl ((tt, tt), ((tt, tt), tt)) $ sets ! (agg ! (no_more !)) refl (tt, tt) $
         returns ! (look_at ! 0 refl) $ free_all ! refl $
-        suffices ! _ (ends_at 𝓛 f.ended stayed (f.clauses 𝓛 mem run) bound (vstruct vnil) (record { told = wrote a.0.now.told a.1.0.now.first a.1.0.now.blocks.items })
+        suffices ! _ (ends_at 𝓛 f.ended stayed (f.clauses 𝓛 mem run) bound (vstruct vnil)
+        (record { told = wrote a.0.now.told a.1.0.now.first a.1.0.now.blocks.items })
         (tt, (tt, tt)) (tt, (tt, tt))) $
         says ! refl $ pure_i
-        ! (story.the_row.own_val (record { told = wrote a.0.now.told a.1.0.now.first a.1.0.now.blocks.items }) (vstruct vnil ∷ [])) ((λ vss. (tt, tt)), tt)
+        ! (story.the_row.own_val (record { told = wrote a.0.now.told a.1.0.now.first a.1.0.now.blocks.items })
+        (vstruct vnil ∷ [])) ((λ vss. (tt, tt)), tt)
         ((tt, (refl, tt)), tt) $
         move ! (1 ∷ 2 ∷ 0 ∷ []) $ done !)
 
