@@ -27,8 +27,8 @@ pub record PassesOn {M : Type 0} (state : M → State) (Follows : M → M → Ty
   pub looks : LooksAtLog (state old.medium) (state new.medium) old.cached
 
 -- A call makes a turn, and no more calls of the medium than the background steps that it takes off
--- pay for, and so many writes and flushes among them at most. The medium comes after what it was, by
--- calls alone.
+-- pay for, and so many writes and flushes among them at most. The medium comes after what it was,
+-- by calls alone.
 pub record PassesPaid {M : Type 0} (state : M → State) (Follows : M → M → Type 0) (sends : ℕ)
     (old new : StoreValue M) : Type 0 where
   pub turn : IsTurn (state old.medium) (state new.medium) old.cached new.cached

@@ -81,8 +81,8 @@ abbrev pub most_start_of : LogFormat → ℕ
 most_start_of One = 100
 most_start_of Two = 738
 
--- how many writes and flushes it makes at most: one for each block of a record in each slot, a flush
--- before them, and a flush, the head and a flush behind them
+-- how many writes and flushes it makes at most: one for each block of a record in each slot, a
+-- flush before them, and a flush, the head and a flush behind them
 abbrev pub most_start_sends : LogFormat → ℕ → ℕ
 most_start_sends format slots = limit_of format * slots + 4
 

@@ -72,8 +72,8 @@ pub record SparesTheRest (old new : State) : Type 0 where
   pub unserved : ((shape : Shape) (array : Array) (next : ℕ)
       → StandsFor old.size shape old.content array next → 2 ^ 63 ≤ next) → SparesFrom 0 old new
 
--- How many writes and flushes a recovery makes at most, good or refused: where the image has a super,
--- by its format and its slots, and whatever the image.
+-- How many writes and flushes a recovery makes at most, good or refused: where the image has a
+-- super, by its format and its slots, and whatever the image.
 pub record RecoverySends (old new : State) : Type 0 where
   pub most : (shape : Shape) → HasShape old.size shape old.content
       → SendsUpTo (most_start_sends shape.format shape.slots) old new

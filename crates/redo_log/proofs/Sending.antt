@@ -1,5 +1,6 @@
 -- How many writes and flushes a retire step makes, and all of a record.
-use Rattle.std.proofs.Common.{◌≡◌, ⊎_elim, ℕ, zero, suc, ◌+◌, ◌-◌, ◌*◌, ◌/◌, ◌%◌, ◌<◌, ◌≤◌, List, [], ◌∷◌, length, refl, sym, ◌∙◌, ap, subst, arith, Result}
+use Rattle.std.proofs.Common.{◌≡◌, ⊎_elim, ℕ, zero, suc, ◌+◌, ◌-◌, ◌*◌, ◌/◌, ◌%◌, ◌<◌, ◌≤◌, List, [], ◌∷◌, length, refl, sym, ◌∙◌}
+use Rattle.std.proofs.Common.{ap, subst, arith, Result}
 use Rattle.std.specs.Prelude.{Option, Bool}
 use Rattle.std.proofs.lemmas.Bool.{cases_eq, eq-eqb, ne_eqb}
 use Rattle.medium.specs.Medium.{State, Passes}
@@ -10,7 +11,8 @@ use Rattle.log_layout.specs.declared.log_format.LogFormat.{LogFormat}
 use Rattle.log_layout.specs.declared.log_format.LogFormat.TheVariants.{One, Two}
 use Rattle.log_layout.specs.Places.{Shape, limit_of}
 use Rattle.redo_log.specs.Calls.{Call, Write, Flush, fault_of}
-use Rattle.redo_log.specs.Value.{Ahead, LogValue, turns_home, home_calls, turn_sends, turns_sends, next_sends, sends_of_oldest, most_retire_sends, home_of_oldest, of_oldest}
+use Rattle.redo_log.specs.Value.{Ahead, LogValue, turns_home, home_calls, turn_sends, turns_sends, next_sends, sends_of_oldest}
+use Rattle.redo_log.specs.Value.{most_retire_sends, home_of_oldest, of_oldest}
 use Rattle.redo_log.specs.Stages.{value_at, AreInside, IsRing}
 use Rattle.redo_log.specs.Turns.{calls_of, sends_of, IsFlushTurn, IsHeadTurn, IsHomeTurn, IsLoadOf, IsCopyOf, IsNextTurn}
 use Rattle.redo_log.specs.declared.turn.Turn.{Turn}
@@ -18,7 +20,8 @@ use Rattle.redo_log.specs.declared.turn.Turn.TheVariants as turn
 use Rattle.redo_log.proofs.Calling.{home_turn}
 
 -- each call of a record is a write or a flush
-pub call_sends : (call : Call) (old new : State) {result : Result (Unit {0}) MediumFault} → Passes (fault_of call) result old new → sent new ≡ sent old + 1
+pub call_sends : (call : Call) (old new : State) {result : Result (Unit {0}) MediumFault} → Passes (fault_of call) result old new
+    → sent new ≡ sent old + 1
 call_sends (Write place bytes) old new {result} passes = write_sends old new passes
 call_sends Flush old new {result} passes = flush_sends old new passes
 

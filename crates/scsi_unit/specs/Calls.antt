@@ -72,8 +72,8 @@ most_calls_of slots limit = 2 * (slots + 5) * (2 * limit + 16) + 2 * limit
 abbrev pub most_calls : {M : Type 0} → UnitValue M → ℕ
 most_calls unit = most_calls_of (slots_of unit.store.cached) (unit_limit unit)
 
--- The most writes and flushes that any command makes over a log of this format: a WRITE that does not
--- fit beside the batch that takes writes, and is made durable, makes three batches durable.
+-- The most writes and flushes that any command makes over a log of this format: a WRITE that does
+-- not fit beside the batch that takes writes, and is made durable, makes three batches durable.
 abbrev pub most_sends_of : LogFormat → ℕ
 most_sends_of format = 3 * most_sent format
 

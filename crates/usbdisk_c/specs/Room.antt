@@ -6,7 +6,8 @@ use Rattle.log_layout.specs.declared.log_format.LogFormat.TheVariants.{One, Two}
 use Rattle.recovery.specs.Copies.{most_start_sends}
 use Rattle.scsi_unit.specs.Calls.{most_sends_of}
 
--- As many writes and flushes as an event makes at most, and as a start does that finds so many slots.
+-- As many writes and flushes as an event makes at most, and as a start does that finds so many
+-- slots.
 abbrev pub room_of : LogFormat → ℕ → ℕ
 room_of format slots = max (most_sends_of format) (most_start_sends format slots)
 

@@ -35,28 +35,31 @@ loop-self-init g c = record {
 pub loop-self-smaller : goal.loop-self-smaller
 loop-self-smaller g c =
     let refused : c.has_room.result ≡ false = c.loop-self-test.true in
-    let left = must_retire (record { log = c.self-in-loop-self.inside.log; active = c.self-in-loop-self.inside.active; frozen = c.self-in-loop-self.inside.frozen })
-    c.has_room.result refused c.has_room.ensures.full c.has_room.ensures.always (rw (← c.self-in-loop-self.view_is) at c.loop-self.invariant.idle) in
+    let here = c.self-in-loop-self.inside in
+    let left = must_retire (record { log = here.log; active = here.active; frozen = here.frozen }) c.has_room.result refused
+    c.has_room.ensures.full c.has_room.ensures.always (rw (← c.self-in-loop-self.view_is) at c.loop-self.invariant.idle) in
     c.in_ok-retire.ensures.counts.falls (rw (← c.self-in-loop-self.view_is) left.0) c.in_ok-retire.ensures.answer
 
 pub loop-self-preserved : goal.loop-self-preserved
 loop-self-preserved g c =
     let refused : c.has_room.result ≡ false = c.loop-self-test.true in
-    let left = must_retire (record { log = c.self-in-loop-self.inside.log; active = c.self-in-loop-self.inside.active; frozen = c.self-in-loop-self.inside.frozen })
-    c.has_room.result refused c.has_room.ensures.full c.has_room.ensures.always (rw (← c.self-in-loop-self.view_is) at c.loop-self.invariant.idle) in
+    let here = c.self-in-loop-self.inside in
+    let left = must_retire (record { log = here.log; active = here.active; frozen = here.frozen }) c.has_room.result refused
+    c.has_room.ensures.full c.has_room.ensures.always (rw (← c.self-in-loop-self.view_is) at c.loop-self.invariant.idle) in
     let full : HasRoom c.self-in-loop-self.inside.log → ⊥ = λ room. false≢true (sym refused ∙ c.has_room.ensures.room.1 room) in
     let kept = c.self-in-loop-self.invariant in
     let live = rw (← c.self-in-loop-self.view_is) at c.loop-self.invariant.live in
     let idle = rw (← c.self-in-loop-self.view_is) at c.loop-self.invariant.idle in
     let under_way = kept.none_under_way live idle in
-    let slots : 1 ≤ c.self-in-loop-self.inside.log.shape.slots = omega (arith, ap (λ (s : Shape). s.slots) kept.shape, c.self-in-loop-self.inside.sizes.some_slots) in
+    let slots : 1 ≤ c.self-in-loop-self.inside.log.shape.slots =
+    omega (arith, ap (λ (s : Shape). s.slots) kept.shape, c.self-in-loop-self.inside.sizes.some_slots) in
     let stepped = (c.retire.ensures.retiring.live (rw (← c.self-in-loop-self.view_is) left.0) c.in_ok-retire.ensures.answer).1 in
     let log_is = ap (λ v. v.cached.log) c.self-in-loop-self.view_is in
     record {
       stays = λ room. absurd (full (subst (λ (log : LogValue). HasRoom log) (sym (c.loop-self.invariant.stays room) ∙ sym log_is) room));
       quiet = λ room. absurd (full (subst (λ (log : LogValue). HasRoom log) (sym (c.loop-self.invariant.stays room) ∙ sym log_is) room));
-      one = one_at_most c.args.self.now.cached.log c.self-in-loop-self.inside.log c.retire.new.self.cached.log full under_way idle kept.ring slots
-          (rw (← c.self-in-loop-self.view_is) at stepped) (rw (← c.self-in-loop-self.view_is) at c.loop-self.invariant.one);
+      one = one_at_most c.args.self.now.cached.log c.self-in-loop-self.inside.log c.retire.new.self.cached.log full under_way idle
+          kept.ring slots (rw (← c.self-in-loop-self.view_is) at stepped) (rw (← c.self-in-loop-self.view_is) at c.loop-self.invariant.one);
       retires = retires_more c.args.self.now.cached.log c.self-in-loop-self.inside.log c.retire.new.self.cached.log full under_way idle
           (rw (← c.self-in-loop-self.view_is) at stepped) (rw (← c.self-in-loop-self.view_is) at c.loop-self.invariant.one)
           (rw (← c.self-in-loop-self.view_is) at c.loop-self.invariant.retires);
@@ -100,8 +103,9 @@ returns-in_err-retire-clause-passes g c = record {
   turn = turns _ _ _ _ _ _ c.loop-self.invariant.turn c.retire.ensures.passes.turn;
   paid =
       let refused : c.has_room.result ≡ false = c.loop-self-test.true in
-      let left = must_retire (record { log = c.self-in-loop-self.inside.log; active = c.self-in-loop-self.inside.active; frozen = c.self-in-loop-self.inside.frozen })
-      c.has_room.result refused c.has_room.ensures.full c.has_room.ensures.always (rw (← c.self-in-loop-self.view_is) at c.loop-self.invariant.idle) in
+      let here = c.self-in-loop-self.inside in
+      let left = must_retire (record { log = here.log; active = here.active; frozen = here.frozen }) c.has_room.result refused
+      c.has_room.ensures.full c.has_room.ensures.always (rw (← c.self-in-loop-self.view_is) at c.loop-self.invariant.idle) in
       pays_both _ _ _ _ _ _ c.loop-self.invariant.paid c.loop-self.invariant.live
       (pays_step (g.M.Medium.state c.loop-self.self.medium) (g.M.Medium.state c.retire.new.self.medium) c.loop-self.self.cached
       c.retire.new.self.cached (rw (← c.self-in-loop-self.view_is) left.1) c.retire.ensures.passes.calls
