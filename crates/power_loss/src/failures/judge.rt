@@ -1,0 +1,158 @@
+//! The judgement of a life in which one call of the medium is refused.
+ghost use Rattle.std.specs.Prelude.{◌≡◌, None};
+ghost use Rattle.bot_machine.specs.LivesValue.{IsAtRest};
+
+use crate::case::Case;
+use crate::counts::{Failures, count};
+use crate::fault::Fault;
+use crate::image::{cut_copy, hearing_over, served_by, subsets};
+use abstract_disk::{Array, Hearing};
+use bot_machine::{Answer, Event};
+use judging::{Finding, Player, blocks_of, cut, hear, served};
+use medium::{Kept, Medium, SimMedium};
+use std::alloc::{AllocError, Global};
+
+/// The case, the blocks that its image serves, and the events of its life.
+#[derive(Clone, Copy)]
+pub(crate) struct Judge<'a> {
+    pub(crate) case: Case,
+    pub(crate) opening: &'a Array,
+    pub(crate) events: &'a [Event],
+}
+
+impl<'a> Judge<'a> {
+    /// A start was refused: the next one serves the same blocks, after each cut and at once.
+    pub(crate) fn start(
+        self,
+        alloc: Global,
+        player: &mut Player,
+        counts: &mut Failures,
+    ) -> Result<(), Fault> {
+        count(&mut counts.starts);
+        for mask in subsets(player.medium().unflushed())? {
+            count(&mut counts.images);
+            let image = cut_copy(alloc, player.medium(), mask)?;
+            self.serves(alloc, image, self.opening, counts)?;
+        }
+        let (blocks, limit) = (self.case.shape().blocks, self.case.format.limit());
+        let second = served(alloc, player, blocks, limit)?;
+        same(&second, self.opening, counts)
+    }
+
+    /// The answers to the events, and the images of the cuts behind them. Whether a call was refused.
+    pub(crate) fn life(
+        self,
+        alloc: Global,
+        medium: &SimMedium,
+        answers: &[Answer],
+        counts: &mut Failures,
+    ) -> Result<bool, Fault> {
+        let failed = has_failed(alloc, medium)?;
+        if failed {
+            count(&mut counts.calls);
+        }
+        self.answers(alloc, medium, answers, failed, counts)?;
+        Ok(failed)
+    }
+
+    // The same, where it is known whether a call was refused.
+    fn answers(
+        self,
+        alloc: Global,
+        medium: &SimMedium,
+        answers: &[Answer],
+        failed: bool,
+        counts: &mut Failures,
+    ) -> Result<(), Fault> {
+        let mut hearing = hearing_over(alloc, self.case.format, self.opening)?;
+        if failed {
+            hearing.may_fail();
+        }
+        self.heard(alloc, medium, answers, &mut hearing, counts)
+    }
+
+    fn heard(
+        self,
+        alloc: Global,
+        medium: &SimMedium,
+        answers: &[Answer],
+        hearing: &mut Hearing,
+        counts: &mut Failures,
+    ) -> Result<(), Fault> {
+        if let Some(place) = hear(self.events, answers, hearing)? {
+            return Err(Fault::Finding(Finding::Off(place)));
+        }
+        for mask in subsets(medium.unflushed())? {
+            count(&mut counts.images);
+            let image = cut_copy(alloc, medium, mask)?;
+            self.image(alloc, image, hearing, counts)?;
+        }
+        Ok(())
+    }
+
+    // The blocks of the next start are those after some of the accepted writes, and those of the start
+    // behind it are the same.
+    fn image(
+        self,
+        alloc: Global,
+        image: SimMedium,
+        hearing: &Hearing,
+        counts: &mut Failures,
+    ) -> Result<(), Fault>
+        requires rests { IsAtRest image }
+        requires unfused { image.power.fuse ≡ None }
+    {
+        let (blocks, limit) = (self.case.shape().blocks, self.case.format.limit());
+        let (image, found) = blocks_of(alloc, image, blocks, limit)?;
+        count(&mut counts.restarts);
+        self.found(alloc, image, &found, hearing, counts)
+    }
+
+    // These are blocks after some of the accepted writes, and the image serves them again.
+    fn found(
+        self,
+        alloc: Global,
+        image: SimMedium,
+        found: &Array,
+        hearing: &Hearing,
+        counts: &mut Failures,
+    ) -> Result<(), Fault> {
+        self.serves(alloc, cut(image, &Kept::None), found, counts)?;
+        match hearing.found(None, found)? {
+            Some(_) => Ok(()),
+            None => Err(Fault::Finding(Finding::Blocks)),
+        }
+    }
+
+    // A start on an image serves these blocks.
+    fn serves(
+        self,
+        alloc: Global,
+        image: SimMedium,
+        wanted: &Array,
+        counts: &mut Failures,
+    ) -> Result<(), Fault>
+        requires rests { IsAtRest image }
+        requires unfused { image.power.fuse ≡ None }
+    {
+        let found = served_by(alloc, self.case.shape(), image)?;
+        same(&found, wanted, counts)
+    }
+}
+
+// A start serves the blocks that it has to serve.
+fn same(blocks: &Array, wanted: &Array, counts: &mut Failures) -> Result<(), Fault> {
+    count(&mut counts.restarts);
+    if blocks.blocks == wanted.blocks {
+        Ok(())
+    } else {
+        Err(Fault::Second)
+    }
+}
+
+// Whether the failure that was armed on this medium has come: the next call is the one that it
+// refuses, or it is none.
+fn has_failed(alloc: Global, medium: &SimMedium) -> Result<bool, AllocError> {
+    let mut copy = medium.copy(alloc).ok_or(AllocError)?;
+    Ok(copy.flush().is_ok())
+}
