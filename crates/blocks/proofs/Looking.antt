@@ -23,9 +23,11 @@ pub none_read : (before after : State) (s : Cached) (address count : ℕ) → af
 none_read before after s address count same = no_looks (IsLogOrHome (first_home (layout_of s)) address count) before after same
 
 -- reads of the log alone
-pub log_read : (before after : State) (s : Cached) (address count : ℕ) → LooksAtLog before after s → LooksAtBlocks before after s address count
+pub log_read : (before after : State) (s : Cached) (address count : ℕ) → LooksAtLog before after s
+    → LooksAtBlocks before after s address count
 log_read before after s address count looks =
-    looks_wider (λ x. x < first_home (layout_of s)) (IsLogOrHome (first_home (layout_of s)) address count) before after (λ x low. inl low) looks
+    looks_wider (λ x. x < first_home (layout_of s)) (IsLogOrHome (first_home (layout_of s)) address count) before after
+    (λ x low. inl low) looks
 
 -- the read of a block at home
 pub home_read : (before after : State) (s : Cached) (block sector : ℕ) → sector ≡ first_home (layout_of s) + block
@@ -37,12 +39,12 @@ home_read before after s block sector is look =
 pub one_more : (before mid after : State) (old half : Cached) (address i : ℕ) → half ≡ old → LooksAtBlocks before mid old address i
     → LooksAtBlocks mid after half (address + i) 1 → LooksAtBlocks before after old address (i + 1)
 one_more before mid after old half address i same first last =
-    let home : ℕ = first_home (layout_of old) in
     let here = subst (λ (s : Cached). LooksAtBlocks mid after s (address + i) 1) same last in
     looks_joined (IsLogOrHome (first_home (layout_of old)) address (i + 1)) before mid after
     (looks_wider (IsLogOrHome (first_home (layout_of old)) address i) (IsLogOrHome (first_home (layout_of old)) address (i + 1)) before mid
     (λ x named. ⊎_elim inl (λ range. inr (range.0, omega (arith, range.1))) named) first)
-    (looks_wider (IsLogOrHome (first_home (layout_of old)) (address + i) 1) (IsLogOrHome (first_home (layout_of old)) address (i + 1)) mid after
+    (looks_wider (IsLogOrHome (first_home (layout_of old)) (address + i) 1)
+    (IsLogOrHome (first_home (layout_of old)) address (i + 1)) mid after
     (λ x named. ⊎_elim inl (λ range. inr (omega (arith, range.0), omega (arith, range.1))) named) here)
 
 -- so many blocks, and more

@@ -32,7 +32,8 @@ returns-in_err-step-clause-passes g c = record {
   none_refused = search rules;
   follows = search rules;
   looks = looks_on (g.M.Medium.state c.args.self.now.medium) (g.M.Medium.state c.loop.self.medium) (g.M.Medium.state c.step.new.self.medium)
-      c.args.self.now.cached c.loop.self.cached c.loop.invariant.turn.goes_on.layout_stays c.loop.invariant.looks c.step.ensures.passes.looks;
+      c.args.self.now.cached c.loop.self.cached c.loop.invariant.turn.goes_on.layout_stays c.loop.invariant.looks
+      c.step.ensures.passes.looks;
 }
 
 pub loop-preserved : goal.loop-preserved
@@ -62,7 +63,8 @@ loop-preserved g c = record {
   active = c.step.ensures.writes.active ∙ c.loop.invariant.active;
   follows = g.met.M.Medium.follows_through _ _ _ c.loop.invariant.follows c.step.ensures.passes.follows;
   looks = looks_on (g.M.Medium.state c.args.self.now.medium) (g.M.Medium.state c.loop.self.medium) (g.M.Medium.state c.step.new.self.medium)
-      c.args.self.now.cached c.loop.self.cached c.loop.invariant.turn.goes_on.layout_stays c.loop.invariant.looks c.step.ensures.passes.looks;
+      c.args.self.now.cached c.loop.self.cached c.loop.invariant.turn.goes_on.layout_stays c.loop.invariant.looks
+      c.step.ensures.passes.looks;
 }
 
 pub returns-clause-passes : goal.returns-clause-passes
@@ -73,7 +75,8 @@ returns-clause-passes g c = record {
   none_refused = search rules;
   follows = search rules;
   looks = looks_on (g.M.Medium.state c.args.self.now.medium) (g.M.Medium.state c.loop.self.medium) (g.M.Medium.state c.step.new.self.medium)
-      c.args.self.now.cached c.loop.self.cached c.loop.invariant.turn.goes_on.layout_stays c.loop.invariant.looks c.step.ensures.passes.looks;
+      c.args.self.now.cached c.loop.self.cached c.loop.invariant.turn.goes_on.layout_stays c.loop.invariant.looks
+      c.step.ensures.passes.looks;
 }
 
 pub returns-clause-batch : goal.returns-clause-batch
