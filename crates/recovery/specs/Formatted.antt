@@ -3,6 +3,7 @@ use Rattle.std.specs.Prelude.{◌≡◌, ◌⊎◌, ℕ, ◌+◌, ◌≤◌, ◌
 use Rattle.medium.specs.Medium.{State, Image, CutLeaves}
 use Rattle.medium.specs.Moments.{IsFlushed, LeavesOnly, SparesFrom}
 use Rattle.medium.specs.Blocks.{Array}
+use Rattle.medium.specs.Sent.{SendsUpTo}
 pub use Rattle.log_layout.specs.Places.{Shape, first_home, sectors_of}
 use Rattle.log_layout.specs.Sectors.{IsSuper, IsHead}
 use Rattle.log_image.specs.Record.{home_of}
@@ -81,12 +82,14 @@ abbrev pub LayingLeaves : Shape → State → State → Type 0
 LayingLeaves shape old new =
     ImageLeaves shape (home_of shape old.content) (first_home shape) old new
 
--- Where Ok, this many calls were made; where refused, no more than that. Not one was a read.
+-- Where Ok, this many calls were made; where refused, no more than that. Not one was a read: all are
+-- writes and flushes.
 pub record CallsWithoutReads {X E : Type 0} (count : ℕ) (old new : State) (result : Result X E)
     : Type 0 where
   pub calls : new.calls ≤ old.calls + count
   pub exact : OnOk result (new.calls ≡ old.calls + count)
   pub no_read : MakesNoRead old new
+  pub sends : SendsUpTo count old new
 
 -- why a format is refused: by the sizes, or, where they are good, by the medium
 abbrev pub IsFormatCause : Shape → State → State → FormatFault → Type 0

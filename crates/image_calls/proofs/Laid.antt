@@ -1,0 +1,69 @@
+-- What was made of an image on a device.
+use Rattle.std.proofs.Common.{◌≡◌, ◌⊎◌, inl, inr, ◌+◌, ◌<◌, ◌≤◌, ℕ, List, Option, length, ap, sym, subst, arith, length-append}
+use Rattle.std.proofs.lemmas.Bool.{cases_lt}
+use Rattle.medium.specs.Sent.{sent}
+use Rattle.std.specs.Prelude.{Bool}
+use Rattle.mirror.specs.declared.call.DeviceCall.{DeviceCall}
+use Rattle.window.specs.Window.{Window, state_of, kept_out, ComesAfter, CoversDevice}
+use Rattle.log_layout.specs.Places.{Shape, first_home}
+use Rattle.recovery.specs.Unread.{MakesNoRead}
+use Rattle.recovery.specs.Formatted.{IsLaid, LayingLeaves, AreSizes, IsFormatCause}
+use Rattle.recovery.specs.Migrated.{IsMigrationBy, IsMigrationRefusal, MigrationLeaves}
+use Rattle.recovery.specs.declared.format_fault.FormatFault.{FormatFault}
+use Rattle.recovery.specs.declared.format_fault.FormatFault.TheVariants.{BadSize, Medium}
+use Rattle.recovery.specs.declared.recovered.Recovered.{Recovered}
+use Rattle.recovery.specs.declared.start_fault.StartFault.{StartFault}
+use Rattle.image_calls.specs.Images.{IsLaidOn, IsMigratedOn, IsMigratedNot}
+
+-- a medium of the device that the first one tells
+pub laid_on : (shape : Shape) (first m new held : Window) → m ≡ first → held ≡ new → IsLaid shape (state_of m) (state_of new)
+    → LayingLeaves shape (state_of m) (state_of new) → (state_of new).calls ≡ (state_of m).calls + (first_home shape + 5)
+    → ComesAfter m new → CoversDevice m new → IsLaidOn shape first held
+laid_on shape first m new held on same laid leaves calls follows covers =
+    subst (λ (w : Window). IsLaidOn shape first w) (sym same)
+    (subst (λ (w : Window). IsLaidOn shape w new) on
+    (record { laid = laid; leaves = leaves; calls = calls; waits = record { follows = follows; covers = covers } }))
+
+-- no write and no flush is refused for which there is room
+pub kept_same : (old new : Window) → ComesAfter old new → length old.outbox + sent (state_of new) ≤ sent (state_of old) + old.room
+    → kept_out new.seen.told.refused ≡ kept_out old.seen.told.refused
+kept_same old new follows few = elim (cases_lt (kept_out old.seen.told.refused) (kept_out new.seen.told.refused)) [
+  | inl more ↦ absurd (omega (arith, few, follows.refuses more, follows.room_stays))
+  | inr none ↦ omega (arith, none, follows.failures_stay)
+]
+
+-- nothing that makes no read is refused then
+pub none_refused : (old new : Window) → ComesAfter old new → length old.outbox + sent (state_of new) ≤ sent (state_of old) + old.room
+    → MakesNoRead (state_of old) (state_of new) → ¬ ((state_of old).failures < (state_of new).failures)
+none_refused old new follows few silent grew =
+    let kept = kept_same old new follows few in
+    let reads = silent.refused_stays in
+    omega (arith, kept, reads, grew)
+
+-- so a log is refused by the sizes alone
+pub by_sizes : (shape : Shape) (old new : Window) (fault : FormatFault) → IsFormatCause shape (state_of old) (state_of new) fault
+    → ¬ ((state_of old).failures < (state_of new).failures) → ¬ AreSizes (state_of old).size shape
+by_sizes shape old new BadSize cause none = cause
+by_sizes shape old new Medium cause none = absurd (none cause.1)
+
+pub migrated_on : (first m new held : Window) (answer : Recovered) (was_one : Bool) → m ≡ first → held ≡ new
+    → IsMigrationBy was_one (state_of m) (state_of new) answer → MigrationLeaves (state_of m) (state_of new) → ComesAfter m new
+    → CoversDevice m new → IsMigratedOn first held
+migrated_on first m new held answer was_one on same migrated leaves follows covers =
+    subst (λ (w : Window). IsMigratedOn first w) (sym same)
+    (subst (λ (w : Window). IsMigratedOn w new) on (record {
+      answer = answer;
+      was_one = was_one;
+      migrated = migrated;
+      leaves = leaves;
+      waits = record { follows = follows; covers = covers };
+    }))
+
+pub migrated_not : (first m after : Window) (why : StartFault) → m ≡ first → length m.outbox ≡ 0
+    → IsMigrationRefusal (state_of m) (state_of after) why → MigrationLeaves (state_of m) (state_of after) → ComesAfter m after
+    → IsMigratedNot first after why
+migrated_not first m after why on empty refusal leaves follows =
+    subst (λ (w : Window). IsMigratedNot w after why) on (record {
+      refusal = refusal;
+      kept = λ shape has room. let most = leaves.sends shape has in kept_same m after follows (omega (arith, empty, room, most));
+    })

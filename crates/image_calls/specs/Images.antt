@@ -1,0 +1,94 @@
+-- What is made of an image on a device, and what waits for the device then.
+use Rattle.std.specs.Prelude.{◌≡◌, ◌≢◌, ◌⊎◌, ℕ, ◌+◌, ◌*◌, ◌%◌, ◌<◌, ◌≤◌, List, length, Bool}
+use Rattle.std.specs.Prelude.{Option, Some, None, Result, MatchResult}
+use Rattle.medium.specs.Medium.{State}
+use Rattle.mirror.specs.declared.call.DeviceCall.{DeviceCall}
+use Rattle.mirror.specs.declared.call.DeviceCall.TheVariants.{Write, Flush}
+use Rattle.mirror.specs.Mirror.{first_of}
+use Rattle.window.specs.Window.{Window, state_of, without_first, kept_out, ComesAfter}
+use Rattle.window.specs.Window.{CoversDevice}
+use Rattle.log_layout.specs.Places.{Shape, first_home}
+use Rattle.recovery.specs.Formatted.{IsLaid, LayingLeaves, AreSizes}
+use Rattle.log_image.specs.ImageFaults.{HasShape}
+use Rattle.recovery.specs.Migrated.{IsMigrationBy, IsMigrationRefusal, MigrationLeaves}
+use Rattle.recovery.specs.Migrated.{most_migration_sends}
+use Rattle.recovery.specs.declared.recovered.Recovered.{Recovered}
+use Rattle.recovery.specs.declared.start_fault.StartFault.{StartFault}
+use Rattle.recovery.specs.declared.start_fault.StartFault.TheVariants.{NoMemory}
+use Rattle.image_calls.specs.declared.image_fault.ImageFault.{ImageFault}
+use Rattle.image_calls.specs.declared.image_fault.ImageFault.TheVariants as fault
+
+-- these bytes are no first sectors of a device of so many
+abbrev pub IsNoLength : List ℕ → ℕ → Type 0
+IsNoLength near sectors = (length near ≡ 0) ⊎ (length near % 512 ≢ 0)
+    ⊎ (512 * sectors < length near)
+
+-- Wherever among the calls that wait the device is, a cut of it leaves what a cut at some moment of
+-- those calls could; they are all that was given to it since.
+pub record WaitFor (first new : Window) : Type 0 where
+  pub follows : ComesAfter first new
+  pub covers : CoversDevice first new
+
+-- A log was laid on the device of this medium, by so many calls as it has sectors, and six more.
+pub record IsLaidOn (shape : Shape) (first new : Window) : Type 0 where
+  pub laid : IsLaid shape (state_of first) (state_of new)
+  pub leaves : LayingLeaves shape (state_of first) (state_of new)
+  pub calls : (state_of new).calls ≡ (state_of first).calls + (first_home shape + 5)
+  pub waits : WaitFor first new
+
+-- why none was: for want of memory, or by the lengths or the sizes
+abbrev pub IsLayFault : List ℕ → ℕ → Shape → Window → ImageFault → Type 0
+IsLayFault near sectors shape first fault.Held = ⊥
+IsLayFault near sectors shape first fault.Length = IsNoLength near sectors
+IsLayFault near sectors shape first fault.Sizes = ¬ AreSizes (state_of first).size shape
+IsLayFault near sectors shape first (fault.Start why) = why ≡ NoMemory
+
+-- the image on the device of this medium was migrated
+pub record IsMigratedOn (first new : Window) : Type 0 where
+  pub answer : Recovered
+  pub was_one : Bool
+  pub migrated : IsMigrationBy was_one (state_of first) (state_of new) answer
+  pub leaves : MigrationLeaves (state_of first) (state_of new)
+  pub waits : WaitFor first new
+
+-- Why none was. No write and no flush was refused where there was the room that a migration needs of
+-- an image of this format with so many slots.
+pub record IsMigratedNot (first after : Window) (why : StartFault) : Type 0 where
+  pub refusal : IsMigrationRefusal (state_of first) (state_of after) why
+  pub kept : (shape : Shape) → HasShape (state_of first).size shape (state_of first).content
+      → most_migration_sends shape.format shape.slots ≤ first.room
+      → kept_out after.seen.told.refused ≡ kept_out first.seen.told.refused
+
+abbrev pub IsMigrateFault : List ℕ → ℕ → Window → ImageFault → Type 0
+IsMigrateFault near sectors first fault.Held = ⊥
+IsMigrateFault near sectors first fault.Length = IsNoLength near sectors
+IsMigrateFault near sectors first fault.Sizes = ⊥
+IsMigrateFault near sectors first (fault.Start why) = (why ≡ NoMemory)
+    ⊎ ((after : Window) × IsMigratedNot first after why)
+
+-- What is in a handle after a call: what was there stays, where there was something. Else there is a
+-- medium that was made so, or none, for such a reason.
+abbrev pub Makes : (Window → Type 0) → (ImageFault → Type 0) → Option Window → Option Window
+    → Result (Unit {0}) ImageFault → Type 0
+Makes Is Why (Some old) new result =
+    MatchResult result (λ done. ⊥) (λ why. (why ≡ fault.Held) × (new ≡ Some old))
+Makes Is Why None (Some new) result = MatchResult result (λ done. Is new) (λ why. ⊥)
+Makes Is Why None None result = MatchResult result (λ done. ⊥) Why
+
+-- the number of a call's kind, and where it is a write its sector and bytes
+abbrev pub Shows : Option DeviceCall → ℕ → List ℕ → ℕ → List ℕ → ℕ → Type 0
+Shows None sector bytes sector' bytes' kind =
+    (kind ≡ 0) × (sector' ≡ sector) × (bytes' ≡ bytes)
+Shows (Some (Write w)) sector bytes sector' bytes' kind =
+    (kind ≡ 1) × (sector' ≡ w.sector) × (bytes' ≡ w.block)
+Shows (Some Flush) sector bytes sector' bytes' kind =
+    (kind ≡ 2) × (sector' ≡ sector) × (bytes' ≡ bytes)
+
+-- The first call leaves what waits. Where there is nothing, nothing is told.
+abbrev pub HandsOn : Option Window → ℕ → List ℕ → Option Window → ℕ → List ℕ → Option ℕ → Type 0
+HandsOn (Some old) sector room new sector' filled (Some kind) =
+    Shows (first_of old.outbox) sector room sector' filled kind × (new ≡ Some (without_first old))
+HandsOn (Some old) sector room new sector' filled None = ⊥
+HandsOn None sector room new sector' filled (Some kind) = ⊥
+HandsOn None sector room new sector' filled None =
+    (new ≡ None) × (sector' ≡ sector) × (filled ≡ room)

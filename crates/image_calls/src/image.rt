@@ -1,0 +1,110 @@
+//! A log is laid on a device, or its image is migrated.
+ghost use Rattle.std.specs.Prelude.{◌≡◌, ◌⊎◌, ◌≤◌, ◌+◌, ◌*◌, IfOk, IfErr};
+ghost use Rattle.log_layout.specs.Places.{new_shape, slot_sectors_of};
+ghost use Rattle.window.specs.Window.{fresh};
+ghost use Rattle.image_calls.specs.Images.{IsNoLength, IsLaidOn, IsLayFault};
+ghost use Rattle.image_calls.specs.Images.{IsMigratedOn, IsMigrateFault};
+ghost use Rattle.recovery.specs.declared.start_fault.StartFault.TheVariants.{NoMemory};
+
+use crate::ImageFault;
+use log_layout::LogFormat;
+use recovery::{StartFault, lay_log, migrate};
+use std::alloc::Global;
+use window::{DeviceHolds, WindowError, WindowMedium};
+
+// The most slots that a log has.
+const MOST_SLOTS: u64 = 64;
+
+// A medium of a device of so many sectors, of which these are the first. None is ever shown.
+fn window_of(
+    alloc: Global,
+    near: &[u8],
+    sectors: u64,
+    device: &DeviceHolds,
+    room: usize,
+) -> Result<WindowMedium, ImageFault>
+    ensures ok { IfOk result (λ m. m ≡ fresh sectors near.now device.now.bytes 0 room) }
+    ensures err { IfErr result (λ fault. (fault ≡ ImageFault.Start NoMemory)
+        ⊎ ((fault ≡ ImageFault.Length) × IsNoLength near.now sectors)) }
+{
+    let Ok(copy) = Vec::from_slice(alloc, near) else {
+        return Err(ImageFault::Start(StartFault::NoMemory));
+    };
+    match WindowMedium::new(alloc, copy, sectors, device, 0, room) {
+        Ok(medium) => Ok(medium),
+        Err(WindowError::BadLength) => Err(ImageFault::Length),
+        Err(WindowError::NoMemory) => Err(ImageFault::Start(StartFault::NoMemory)),
+    }
+}
+
+// A medium in memory of its own.
+fn hold(alloc: Global, medium: WindowMedium) -> Result<Box<WindowMedium>, ImageFault>
+    ensures ok { IfOk result (λ held. held.value ≡ medium) }
+    ensures err { IfErr result (λ fault. fault ≡ ImageFault.Start NoMemory) }
+{
+    match Box::new(alloc, medium) {
+        Ok(held) => Ok(held),
+        Err(_) => Err(ImageFault::Start(StartFault::NoMemory)),
+    }
+}
+
+// How many calls it takes to lay a log of this format with so many slots.
+fn calls_to_lay(format: LogFormat, slots: u64) -> u64
+    requires { slots ≤ 64 }
+    ensures { result ≡ slot_sectors_of format * slots + 7 }
+{
+    format.slot_sectors() * slots + 7
+}
+
+/// Lays a log on a device.
+pub(crate) fn lay(
+    alloc: Global,
+    near: &[u8],
+    sectors: u64,
+    device: &DeviceHolds,
+    format: LogFormat,
+    blocks: u64,
+    slots: u64,
+) -> Result<Box<WindowMedium>, ImageFault>
+    ensures ok { let room = slot_sectors_of format * slots + 7 in
+        IfOk result (λ m. IsLaidOn (new_shape format blocks slots)
+        (fresh sectors near.now device.now.bytes 0 room) m.value) }
+    ensures err { let room = slot_sectors_of format * slots + 7 in
+        IfErr result (IsLayFault near.now sectors (new_shape format blocks slots)
+        (fresh sectors near.now device.now.bytes 0 room)) }
+{
+    if slots > MOST_SLOTS {
+        return Err(ImageFault::Sizes);
+    }
+    let room = calls_to_lay(format, slots) as usize;
+    let mut medium = window_of(alloc, near, sectors, device, room)?;
+    // The law of the outbox, from the first call on.
+    let _waiting = medium.waiting();
+    match lay_log(&mut medium, format, blocks, slots) {
+        Ok(()) => hold(alloc, medium),
+        // There is room for all of its calls, so that none is refused.
+        Err(_) => Err(ImageFault::Sizes),
+    }
+}
+
+/// Makes an image of format 1 on a device one of format 2.
+pub(crate) fn migrate_image(
+    alloc: Global,
+    near: &[u8],
+    sectors: u64,
+    device: &DeviceHolds,
+    room: usize,
+) -> Result<Box<WindowMedium>, ImageFault>
+    ensures ok { IfOk result (λ m.
+        IsMigratedOn (fresh sectors near.now device.now.bytes 0 room) m.value) }
+    ensures err { IfErr result (IsMigrateFault near.now sectors
+        (fresh sectors near.now device.now.bytes 0 room)) }
+{
+    let mut medium = window_of(alloc, near, sectors, device, room)?;
+    // The law of the outbox, from the first call on.
+    let _waiting = medium.waiting();
+    match migrate(&mut medium) {
+        Ok(_) => hold(alloc, medium),
+        Err(fault) => Err(ImageFault::Start(fault)),
+    }
+}
