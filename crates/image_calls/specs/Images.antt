@@ -51,8 +51,8 @@ pub record IsMigratedOn (first new : Window) : Type 0 where
   pub leaves : MigrationLeaves (state_of first) (state_of new)
   pub waits : WaitFor first new
 
--- Why none was. No write and no flush was refused where there was the room that a migration needs of
--- an image of this format with so many slots.
+-- Why none was. No write and no flush was refused where there was the room that a migration needs
+-- of an image of this format with so many slots.
 pub record IsMigratedNot (first after : Window) (why : StartFault) : Type 0 where
   pub refusal : IsMigrationRefusal (state_of first) (state_of after) why
   pub kept : (shape : Shape) → HasShape (state_of first).size shape (state_of first).content
@@ -66,8 +66,8 @@ IsMigrateFault near sectors first fault.Sizes = ⊥
 IsMigrateFault near sectors first (fault.Start why) = (why ≡ NoMemory)
     ⊎ ((after : Window) × IsMigratedNot first after why)
 
--- What is in a handle after a call: what was there stays, where there was something. Else there is a
--- medium that was made so, or none, for such a reason.
+-- What is in a handle after a call: what was there stays, where there was something. Else there is
+-- a medium that was made so, or none, for such a reason.
 abbrev pub Makes : (Window → Type 0) → (ImageFault → Type 0) → Option Window → Option Window
     → Result (Unit {0}) ImageFault → Type 0
 Makes Is Why (Some old) new result =

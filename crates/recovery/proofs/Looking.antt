@@ -141,8 +141,9 @@ pub one_counted : (shape : Shape) (image : Image) (head j count : ℕ) (before a
     → HasCount shape image (head + j) count → (k : ℕ) → k < j + 1 → HasCount shape image (head + k) (slice_index after k)
 one_counted shape image head j count before after long is each here k below = elim (cases_lt k j) [
   | inl less ↦
-      subst (HasCount shape image (head + k)) (sym (ap (λ (l : List ℕ). get_or l k 0) is ∙ get_or_append_left before (count ∷ []) 0 k (omega (arith, less, long))))
-      (each k less)
+      let same : get_or after k 0 ≡ get_or before k 0 =
+      ap (λ (l : List ℕ). get_or l k 0) is ∙ get_or_append_left before (count ∷ []) 0 k (omega (arith, less, long)) in
+      subst (HasCount shape image (head + k)) (sym same) (each k less)
   | inr more ↦
       let at : k ≡ j = omega (arith, below, more) in
       subst (λ (n : ℕ). HasCount shape image (head + n) (slice_index after n)) (sym at)

@@ -82,8 +82,8 @@ abbrev pub LayingLeaves : Shape → State → State → Type 0
 LayingLeaves shape old new =
     ImageLeaves shape (home_of shape old.content) (first_home shape) old new
 
--- Where Ok, this many calls were made; where refused, no more than that. Not one was a read: all are
--- writes and flushes.
+-- Where Ok, this many calls were made; where refused, no more than that. Not one was a read: all
+-- are writes and flushes.
 pub record CallsWithoutReads {X E : Type 0} (count : ℕ) (old new : State) (result : Result X E)
     : Type 0 where
   pub calls : new.calls ≤ old.calls + count

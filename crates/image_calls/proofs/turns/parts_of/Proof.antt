@@ -74,8 +74,8 @@ parts_of_spec 𝓤 𝓛 𝓜 𝓡 wired =
     sets_last ! (agg ! (and_then ! (lit ! tt) (and_then ! (get ! refl) (no_more !)))) refl good $
     exec ! 𝓣.C 𝓣.Λ Ev t-4 (at_ret Ev Post) $ sets ! (of_opd ! (get ! refl)) refl good $ parts_in ! b o h a x $
     use1 𝓛 (‵ (Out.own_val (Some r) (v₁ ∷ []))) (Some-of 𝓛 Parts r made) $
-    use0 𝓛 (raw (fact 𝓤 (d.medium ≡ Some x))) (fact_i 𝓤 (d.medium ≡ Some x) (emp 𝓤) its_medium) $ nothing ! $ nothing ! $ fjoin ! $ nothing ! $
-    fjoin ! $
+    use0 𝓛 (raw (fact 𝓤 (d.medium ≡ Some x))) (fact_i 𝓤 (d.medium ≡ Some x) (emp 𝓤) its_medium) $ nothing ! $ nothing ! $ fjoin ! $
+    nothing ! $ fjoin ! $
     -- [what is left; the fact; the result; true; the tokens]
     returns ! (look_at ! 0 refl) $ free_all ! refl $ keep ! (4 ∷ 0 ∷ 2 ∷ 1 ∷ []) $
     by ! (leaves 𝓛 En hs c z v₁ (Some r) (_, (_, tt)) (tt, (tt, tt)))))))))
