@@ -1,4 +1,5 @@
 pub mod Asked
 pub mod Devices
+pub mod InFlight
 pub mod Kept
 pub mod Rows

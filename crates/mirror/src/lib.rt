@@ -3,9 +3,12 @@
 #![tactic(auto)]
 
 mod call;
+mod laws;
 mod mirror;
 mod sectors;
 mod story;
 
 pub use call::{DeviceCall, SectorWrite};
+pub use laws::device_laws;
 pub use mirror::{MirrorError, MirrorMedium};
+pub use sectors::put as put_sector;
