@@ -2,9 +2,18 @@
 use Rattle.std.specs.Prelude.{◌≡◌, ◌⊎◌, ℕ, ◌+◌, ◌≤◌, Result, OnOk, IfErr}
 use Rattle.medium.specs.Medium.{State, Image, CutLeaves}
 use Rattle.medium.specs.Moments.{LeavesOnly, SparesFrom, IsQuiet}
+use Rattle.medium.specs.Sent.{SendsUpTo}
 use Rattle.medium.specs.declared.fault.MediumFault.{MediumFault}
 use Rattle.recovery.specs.Causes.{IsRefusedCall, MakesReadsAlone}
 use Rattle.recovery.specs.Copies.{freed_at, cleared_at, HasNewHead}
+
+-- The medium comes after what it was, by calls alone, of which so many at most are writes and
+-- flushes. Of what they read this holds.
+pub record FollowsBy {M : Type 0} (state : M → State) (Follows : M → M → Type 0) (sends : ℕ)
+    (Looks : State → State → Type 0) (old new : M) : Type 0 where
+  pub follows : Follows old new
+  pub sent : SendsUpTo sends (state old) (state new)
+  pub looks : Looks (state old) (state new)
 
 -- Where Ok, this many calls were made; where refused, no more than that.
 pub record CallsUpTo {X E : Type 0} (count : ℕ) (old new : State) (result : Result X E)

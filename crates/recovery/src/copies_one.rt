@@ -1,14 +1,13 @@
 //! The copying of a whole record home, in format 1.
 ghost use Rattle.std.specs.Prelude.{◌≡◌, ◌<◌, ◌≤◌, ◌+◌, ◌*◌, List, ℕ, OnOk, length, slice_index, All};
 ghost use Rattle.medium.specs.Medium.{LooksOnly};
-ghost use Rattle.medium.specs.Sent.{SendsUpTo};
 ghost use Rattle.log_layout.specs.declared.log_format.LogFormat.TheVariants.{One};
 ghost use Rattle.log_layout.specs.Places.{first_home, sectors_of};
 ghost use Rattle.log_layout.specs.Sectors.{IsRising};
 ghost use Rattle.log_layout.specs.Values.{shape_of};
 ghost use Rattle.log_image.specs.Record.{Entry};
 ghost use Rattle.log_image.specs.Formats.{IsWhole, HasWhole};
-ghost use Rattle.recovery.specs.Calls.{CopiesPass, CopiesAllPass};
+ghost use Rattle.recovery.specs.Calls.{FollowsBy, CopiesPass, CopiesAllPass};
 ghost use Rattle.recovery.specs.Copies.{IsHomeOf, IsHomeInRecord, IsCopied};
 
 use crate::copies::copy_sector;
@@ -34,9 +33,8 @@ fn copy_blocks<M: Medium>(
         ≡ (M.state m.old).content (2 + 50 * slot + 1 + i)) }
     ensures copies { CopiesAllPass (IsHomeOf (shape_of sizes.now) numbers.now)
         (2 * length numbers.now) (M.state m.old) (M.state m.new) result }
-    ensures sends { SendsUpTo (length numbers.now) (M.state m.old) (M.state m.new) }
-    ensures follows { M.follows m.old m.new
-        × LooksOnly (λ s. s < first_home (shape_of sizes.now)) (M.state m.old) (M.state m.new) }
+    ensures follows { FollowsBy M.state M.follows (length numbers.now)
+        (LooksOnly (λ s. s < first_home (shape_of sizes.now))) m.old m.new }
 {
     for i in 0..numbers.len() {
         copy_sector(
@@ -65,9 +63,8 @@ pub(crate) fn copy_record<M: Medium>(
     ensures copies { CopiesPass
         (IsHomeInRecord (shape_of sizes.now) (M.state m.old).content stamp) 98
         (M.state m.old) (M.state m.new) result }
-    ensures sends { SendsUpTo 48 (M.state m.old) (M.state m.new) }
-    ensures follows { M.follows m.old m.new
-        × LooksOnly (λ s. s < first_home (shape_of sizes.now)) (M.state m.old) (M.state m.new) }
+    ensures follows { FollowsBy M.state M.follows 48
+        (LooksOnly (λ s. s < first_home (shape_of sizes.now))) m.old m.new }
 {
     match read_record(m, sizes, stamp)? {
         None => Ok(()),

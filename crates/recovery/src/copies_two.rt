@@ -1,13 +1,12 @@
 //! The copying of a whole record home, in format 2.
 ghost use Rattle.std.specs.Prelude.{◌≡◌, ◌<◌, ◌≤◌, ◌+◌, ◌*◌, List, ℕ, OnOk, [], ◌++◌, length, slice_index, get_or, drop, All};
 ghost use Rattle.medium.specs.Medium.{LooksOnly};
-ghost use Rattle.medium.specs.Sent.{SendsUpTo};
 ghost use Rattle.log_layout.specs.declared.log_format.LogFormat.TheVariants.{Two};
 ghost use Rattle.log_layout.specs.Places.{first_home, sectors_of};
 ghost use Rattle.log_layout.specs.Values.{shape_of};
 ghost use Rattle.log_image.specs.Record.{Entry};
 ghost use Rattle.log_image.specs.Formats.{IsWhole, HasWhole};
-ghost use Rattle.recovery.specs.Calls.{CopiesPass, CopiesAllPass};
+ghost use Rattle.recovery.specs.Calls.{FollowsBy, CopiesPass, CopiesAllPass};
 ghost use Rattle.recovery.specs.Copies.{IsHomeOf, IsHomeInRecord, IsCopied};
 
 use crate::copies::copy_sector;
@@ -33,10 +32,8 @@ fn copy_named<M: Medium>(
         (2 + 249 * slot + (8 + (30 * descriptor.now.index + e))))) }
     ensures copies { CopiesAllPass (IsHomeOf (shape_of sizes.now) descriptor.now.numbers.items)
         (2 * length descriptor.now.numbers.items) (M.state m.old) (M.state m.new) result }
-    ensures sends { SendsUpTo (length descriptor.now.numbers.items)
-        (M.state m.old) (M.state m.new) }
-    ensures follows { M.follows m.old m.new
-        × LooksOnly (λ s. s < first_home (shape_of sizes.now)) (M.state m.old) (M.state m.new) }
+    ensures follows { FollowsBy M.state M.follows (length descriptor.now.numbers.items)
+        (LooksOnly (λ s. s < first_home (shape_of sizes.now))) m.old m.new }
 {
     for e in 0..descriptor.numbers.len() {
         copy_sector(
@@ -65,9 +62,8 @@ pub(crate) fn copy_record<M: Medium>(
     ensures copies { CopiesPass
         (IsHomeInRecord (shape_of sizes.now) (M.state m.old).content stamp) 489
         (M.state m.old) (M.state m.new) result }
-    ensures sends { SendsUpTo 240 (M.state m.old) (M.state m.new) }
-    ensures follows { M.follows m.old m.new
-        × LooksOnly (λ s. s < first_home (shape_of sizes.now)) (M.state m.old) (M.state m.new) }
+    ensures follows { FollowsBy M.state M.follows 240
+        (LooksOnly (λ s. s < first_home (shape_of sizes.now))) m.old m.new }
 {
     let slot = slot_of(stamp, sizes.slots);
     let Some(count) = read_count(m, slot, stamp)? else {

@@ -1,10 +1,9 @@
 //! Sectors that are written at once, and not through the log.
 ghost use Rattle.std.specs.Prelude.{◌≡◌, ◌<◌, ◌≤◌, ◌-◌, ℕ, OnOk, replicate};
-ghost use Rattle.medium.specs.Sent.{SendsUpTo};
 ghost use Rattle.medium.specs.Medium.{Holds};
 ghost use Rattle.medium.specs.Moments.{IsFlushed};
-ghost use Rattle.recovery.specs.Unread.{MakesNoRead};
-ghost use Rattle.recovery.specs.Calls.{WritesAllPass, ClearsAllPass};
+ghost use Rattle.recovery.specs.Unread.{ReadsNothing};
+ghost use Rattle.recovery.specs.Calls.{FollowsBy, WritesAllPass, ClearsAllPass};
 ghost use Rattle.recovery.specs.Copies.{WithOrWithout, IsBetween};
 
 use medium::{Medium, MediumFault};
@@ -17,10 +16,7 @@ pub(crate) fn clear<M: Medium>(m: &mut M, from: u64, end: u64) -> Result<(), Med
         → (M.state m.new).content x ≡ replicate 512 0) }
     ensures clears { ClearsAllPass (IsBetween from end) (end - from)
         (M.state m.old) (M.state m.new) result }
-    ensures sends { SendsUpTo (end - from) (M.state m.old) (M.state m.new) }
-    ensures no_read { MakesNoRead (M.state m.old) (M.state m.new) }
-    ensures follows { M.follows m.old m.new
-        × ((M.state m.new).looked ≡ (M.state m.old).looked) }
+    ensures follows { FollowsBy M.state M.follows (end - from) ReadsNothing m.old m.new }
 {
     for sector in from..end {
         m.write(sector, &[0; 512])?;
@@ -41,10 +37,7 @@ pub(crate) fn write_through<M: Medium>(
     ensures writes { WritesAllPass (λ x. x ≡ place)
         (WithOrWithout place sector.now (M.state m.old).may_leave) 2
         (M.state m.old) (M.state m.new) result }
-    ensures sends { SendsUpTo 2 (M.state m.old) (M.state m.new) }
-    ensures no_read { MakesNoRead (M.state m.old) (M.state m.new) }
-    ensures follows { M.follows m.old m.new
-        × ((M.state m.new).looked ≡ (M.state m.old).looked) }
+    ensures follows { FollowsBy M.state M.follows 2 ReadsNothing m.old m.new }
 {
     m.write(place, sector)?;
     m.flush()

@@ -110,9 +110,10 @@ loop-j-preserved g c =
           let made = (c.in_ok-copy_record.ensures.done (get_or records j []) here).exact in
           let more = copy_calls-more found.sizes.format j records short in
           omega (arith, before, made, more);
-      sends = sends_more found.sizes.format j (sent old) (sent mid) (sent new) inv.sends c.copy_record.ensures.sends;
-      follows = g.met.M.Medium.follows_through c.args.m.now c.loop-j.m c.copy_record.new.m inv.follows c.copy_record.ensures.follows.0;
-      looks = looks_joined (λ s. s < first_home shape) old mid new inv.looks c.copy_record.ensures.follows.1;
+      sends = sends_more found.sizes.format j (sent old) (sent mid) (sent new) inv.sends c.copy_record.ensures.follows.sent;
+      follows = g.met.M.Medium.follows_through c.args.m.now c.loop-j.m c.copy_record.new.m inv.follows
+          c.copy_record.ensures.follows.follows;
+      looks = looks_joined (λ s. s < first_home shape) old mid new inv.looks c.copy_record.ensures.follows.looks;
     }
 
 pub returns-clause-done : goal.returns-clause-done
@@ -126,27 +127,30 @@ returns-clause-done g c records count whole =
       exact = inv.exact records count whole ∙ ap (λ (l : List (List Entry)). old.calls + copy_calls shape.format l) all;
     }
 
-pub returns-in_err-copy_record-clause-sends : goal.returns-in_err-copy_record-clause-sends
-returns-in_err-copy_record-clause-sends g c =
+pub returns-in_err-copy_record-clause-follows : goal.returns-in_err-copy_record-clause-follows
+returns-in_err-copy_record-clause-follows g c =
     let format = c.args.found.now.sizes.format in
     let old = g.M.Medium.state c.args.m.now in
     let mid = g.M.Medium.state c.loop-j.m in
     let new = g.M.Medium.state c.copy_record.new.m in
     let j = c.loop-j.j in
-    sends_stay format (j + 1) c.args.found.now.count (sent old) (sent new) (omega (arith, c.loop-j-test.true))
-    (sends_more format j (sent old) (sent mid) (sent new) c.loop-j.invariant.sends c.copy_record.ensures.sends)
+    let inv = c.loop-j.invariant in
+    let made = c.copy_record.ensures.follows in
+    record {
+      follows = g.met.M.Medium.follows_through c.args.m.now c.loop-j.m c.copy_record.new.m inv.follows made.follows;
+      sent = sends_stay format (j + 1) c.args.found.now.count (sent old) (sent new) (omega (arith, c.loop-j-test.true))
+          (sends_more format j (sent old) (sent mid) (sent new) inv.sends made.sent);
+      looks = looks_joined (λ s. s < first_home (shape_of c.args.found.now.sizes)) old mid new inv.looks made.looks;
+    }
 
-pub returns-clause-sends : goal.returns-clause-sends
-returns-clause-sends g c =
+pub returns-clause-follows : goal.returns-clause-follows
+returns-clause-follows g c =
     let format = c.args.found.now.sizes.format in
     let old = g.M.Medium.state c.args.m.now in
     let new = g.M.Medium.state c.loop-j.m in
-    sends_stay format c.loop-j.j c.args.found.now.count (sent old) (sent new) (omega arith) c.loop-j.invariant.sends
-
-pub returns-in_err-copy_record-clause-follows : goal.returns-in_err-copy_record-clause-follows
-returns-in_err-copy_record-clause-follows g c =
-    let inv = c.loop-j.invariant in (
-      g.met.M.Medium.follows_through c.args.m.now c.loop-j.m c.copy_record.new.m inv.follows c.copy_record.ensures.follows.0,
-      looks_joined (λ s. s < first_home (shape_of c.args.found.now.sizes)) (g.M.Medium.state c.args.m.now) (g.M.Medium.state c.loop-j.m)
-          (g.M.Medium.state c.copy_record.new.m) inv.looks c.copy_record.ensures.follows.1,
-    )
+    let inv = c.loop-j.invariant in
+    record {
+      follows = inv.follows;
+      sent = sends_stay format c.loop-j.j c.args.found.now.count (sent old) (sent new) (omega arith) inv.sends;
+      looks = inv.looks;
+    }

@@ -22,8 +22,11 @@ pub returns-clause-follows : goal.returns-clause-follows
 returns-clause-follows g c =
     let old = g.M.Medium.state c.args.m.now in
     let mid = g.M.Medium.state c.read.new.self in
-    let new = g.M.Medium.state c.write.new.self in (
-      g.met.M.Medium.follows_through c.args.m.now c.read.new.self c.write.new.self c.read.ensures.follows.0 c.write.ensures.follows,
-      looks_joined (λ s. s ≡ c.args.from) old mid new c.read.ensures.follows.1
-          (write_looks (λ s. s ≡ c.args.from) mid new c.write.ensures.passes),
-    )
+    let new = g.M.Medium.state c.write.new.self in
+    record {
+      follows = g.met.M.Medium.follows_through c.args.m.now c.read.new.self c.write.new.self c.read.ensures.follows.0
+          c.write.ensures.follows;
+      sent = search rules;
+      looks = looks_joined (λ s. s ≡ c.args.from) old mid new c.read.ensures.follows.1
+          (write_looks (λ s. s ≡ c.args.from) mid new c.write.ensures.passes);
+    }

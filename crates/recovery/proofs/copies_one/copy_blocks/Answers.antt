@@ -82,11 +82,12 @@ loop-i-preserved g c =
           copies_joined (IsHomeOf shape ns) (λ x. x ≡ c.home_of.result) (IsHomeOf shape ns) old mid new (g.met.M.Medium.sound c.loop-i.m)
           (λ x h. h) (λ x e. (i, inside, e ∙ to)) inv.within c.copy_sector.ensures.copies.moments;
       calls = omega (arith, inv.calls, c.in_ok-copy_sector.ensures.copies.exact);
-      sends = omega (arith, inv.sends, c.copy_sector.ensures.sends);
-      follows = g.met.M.Medium.follows_through c.args.m.now c.loop-i.m c.copy_sector.new.m inv.follows c.copy_sector.ensures.follows.0;
+      sends = omega (arith, inv.sends, c.copy_sector.ensures.follows.sent);
+      follows = g.met.M.Medium.follows_through c.args.m.now c.loop-i.m c.copy_sector.new.m inv.follows
+          c.copy_sector.ensures.follows.follows;
       looks = looks_joined (λ s. s < first_home shape) old mid new inv.looks
           (look_below (first_home shape) mid new c.data_place.result (omega (arith, from, ends, few, inside))
-          c.copy_sector.ensures.follows.1);
+          c.copy_sector.ensures.follows.looks);
     }
 
 pub returns-in_err-copy_sector-clause-follows : goal.returns-in_err-copy_sector-clause-follows
@@ -97,9 +98,12 @@ returns-in_err-copy_sector-clause-follows g c =
     let shape = shape_of c.args.sizes.now in
     let inv = c.loop-i.invariant in
     let from : c.data_place.result ≡ 2 + 50 * c.args.slot + 1 + c.loop-i.i = c.data_place.ensures in
-    let ends = slot_one shape c.args.slot c.requires.format c.args.sizes.now.home_is c.requires.slot in (
-      g.met.M.Medium.follows_through c.args.m.now c.loop-i.m c.copy_sector.new.m inv.follows c.copy_sector.ensures.follows.0,
-      looks_joined (λ s. s < first_home shape) old mid new inv.looks
+    let ends = slot_one shape c.args.slot c.requires.format c.args.sizes.now.home_is c.requires.slot in
+    record {
+      follows = g.met.M.Medium.follows_through c.args.m.now c.loop-i.m c.copy_sector.new.m inv.follows
+          c.copy_sector.ensures.follows.follows;
+      sent = search rules;
+      looks = looks_joined (λ s. s < first_home shape) old mid new inv.looks
           (look_below (first_home shape) mid new c.data_place.result
-          (omega (arith, from, ends, c.requires.few, c.loop-i-test.true)) c.copy_sector.ensures.follows.1),
-    )
+          (omega (arith, from, ends, c.requires.few, c.loop-i-test.true)) c.copy_sector.ensures.follows.looks);
+    }

@@ -123,9 +123,11 @@ returns-in-Some-clause-done g c entries whole =
     }) c.copy_blocks.ensures.done c.copy_blocks.ensures.copies.exact
 
 pub returns-in-Some-clause-follows : goal.returns-in-Some-clause-follows
-returns-in-Some-clause-follows g c = (
-  g.met.M.Medium.follows_through c.args.m.now c.read_record.new.m c.copy_blocks.new.m c.read_record.ensures.follows.0
-      c.copy_blocks.ensures.follows.0,
-  looks_joined (λ s. s < first_home (shape_of c.args.sizes.now)) (g.M.Medium.state c.args.m.now) (g.M.Medium.state c.read_record.new.m)
-      (g.M.Medium.state c.copy_blocks.new.m) c.read_record.ensures.follows.1 c.copy_blocks.ensures.follows.1,
-)
+returns-in-Some-clause-follows g c = record {
+  follows = g.met.M.Medium.follows_through c.args.m.now c.read_record.new.m c.copy_blocks.new.m c.read_record.ensures.follows.0
+      c.copy_blocks.ensures.follows.follows;
+  sent = search rules;
+  looks = looks_joined (λ s. s < first_home (shape_of c.args.sizes.now)) (g.M.Medium.state c.args.m.now) (g.M.Medium.state
+      c.read_record.new.m)
+      (g.M.Medium.state c.copy_blocks.new.m) c.read_record.ensures.follows.1 c.copy_blocks.ensures.follows.looks;
+}

@@ -72,11 +72,12 @@ loop-e-preserved g c =
           copies_joined (IsHomeOf shape ns) (λ x. x ≡ c.home_of.result) (IsHomeOf shape ns) old mid new (g.met.M.Medium.sound c.loop-e.m)
           (λ x h. h) (λ x is. (e, inside, is ∙ to)) inv.within c.copy_sector.ensures.copies.moments;
       calls = omega (arith, inv.calls, c.in_ok-copy_sector.ensures.copies.exact);
-      sends = omega (arith, inv.sends, c.copy_sector.ensures.sends);
-      follows = g.met.M.Medium.follows_through c.args.m.now c.loop-e.m c.copy_sector.new.m inv.follows c.copy_sector.ensures.follows.0;
+      sends = omega (arith, inv.sends, c.copy_sector.ensures.follows.sent);
+      follows = g.met.M.Medium.follows_through c.args.m.now c.loop-e.m c.copy_sector.new.m inv.follows
+          c.copy_sector.ensures.follows.follows;
       looks = looks_joined (λ s. s < first_home shape) old mid new inv.looks
           (look_below (first_home shape) mid new c.data_place.result (omega (arith, from, log, few, many, inside))
-          c.copy_sector.ensures.follows.1);
+          c.copy_sector.ensures.follows.looks);
     }
 
 pub loop-e-init : goal.loop-e-init
@@ -102,9 +103,12 @@ returns-in_err-copy_sector-clause-follows g c =
     let from : c.data_place.result ≡ 2 + 249 * c.args.slot + (8 + (30 * c.args.descriptor.now.index + c.loop-e.e)) = c.data_place.ensures in
     let few = c.args.descriptor.now.entries.few in
     let many = c.args.descriptor.now.entries.many in
-    let log = c.requires.log in (
-      g.met.M.Medium.follows_through c.args.m.now c.loop-e.m c.copy_sector.new.m inv.follows c.copy_sector.ensures.follows.0,
-      looks_joined (λ s. s < first_home shape) old mid new inv.looks
+    let log = c.requires.log in
+    record {
+      follows = g.met.M.Medium.follows_through c.args.m.now c.loop-e.m c.copy_sector.new.m inv.follows
+          c.copy_sector.ensures.follows.follows;
+      sent = search rules;
+      looks = looks_joined (λ s. s < first_home shape) old mid new inv.looks
           (look_below (first_home shape) mid new c.data_place.result (omega (arith, from, log, few, many, inside))
-          c.copy_sector.ensures.follows.1),
-    )
+          c.copy_sector.ensures.follows.looks);
+    }

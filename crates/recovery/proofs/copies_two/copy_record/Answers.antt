@@ -171,19 +171,19 @@ loop-j-preserved g c =
             arith,
             inv.sends,
             none,
-            c.copy_named.ensures.sends,
+            c.copy_named.ensures.follows.sent,
             counted r c.in_ok-count.ensures.all c.in-Some.is,
             length_named r names,
           );
       follows = g.met.M.Medium.follows_through c.args.m.now c.read_descriptor.new.m c.copy_named.new.m
           (g.met.M.Medium.follows_through c.args.m.now c.loop-j.m c.read_descriptor.new.m inv.follows c.read_descriptor.ensures.follows.0)
-          c.copy_named.ensures.follows.0;
+          c.copy_named.ensures.follows.follows;
       looks = looks_joined (λ s. s < first_home shape) old read new
           (looks_joined (λ s. s < first_home shape) old mid read inv.looks
           (looks_below (2 + 249 * c.slot_of-slot.result + 249) shape.home mid read
           (within_two shape c.args.stamp c.slot_of-slot.result c.requires.format c.args.sizes.now.home_is c.args.sizes.now.some_slots
           c.slot_of-slot.ensures) c.read_descriptor.ensures.follows.1))
-          c.copy_named.ensures.follows.1;
+          c.copy_named.ensures.follows.looks;
     }
 
 pub returns-clause-done : goal.returns-clause-done
@@ -203,21 +203,27 @@ returns-clause-done g c entries whole =
 
 pub returns-in_err-count-clause-follows : goal.returns-in_err-count-clause-follows
 returns-in_err-count-clause-follows g c =
-    let shape = shape_of c.args.sizes.now in (
-      c.read_count.ensures.follows.0,
-      looks_below (2 + 249 * c.slot_of-slot.result + 249) shape.home (g.M.Medium.state c.args.m.now) (g.M.Medium.state c.read_count.new.m)
+    let shape = shape_of c.args.sizes.now in
+    record {
+      follows = c.read_count.ensures.follows.0;
+      sent = search rules;
+      looks = looks_below (2 + 249 * c.slot_of-slot.result + 249) shape.home (g.M.Medium.state c.args.m.now) (g.M.Medium.state
+          c.read_count.new.m)
           (within_two shape c.args.stamp c.slot_of-slot.result c.requires.format c.args.sizes.now.home_is c.args.sizes.now.some_slots
-          c.slot_of-slot.ensures) c.read_count.ensures.follows.1,
-    )
+          c.slot_of-slot.ensures) c.read_count.ensures.follows.1;
+    }
 
 pub returns-in_default-clause-follows : goal.returns-in_default-clause-follows
 returns-in_default-clause-follows g c =
-    let shape = shape_of c.args.sizes.now in (
-      c.read_count.ensures.follows.0,
-      looks_below (2 + 249 * c.slot_of-slot.result + 249) shape.home (g.M.Medium.state c.args.m.now) (g.M.Medium.state c.read_count.new.m)
+    let shape = shape_of c.args.sizes.now in
+    record {
+      follows = c.read_count.ensures.follows.0;
+      sent = search rules;
+      looks = looks_below (2 + 249 * c.slot_of-slot.result + 249) shape.home (g.M.Medium.state c.args.m.now) (g.M.Medium.state
+          c.read_count.new.m)
           (within_two shape c.args.stamp c.slot_of-slot.result c.requires.format c.args.sizes.now.home_is c.args.sizes.now.some_slots
-          c.slot_of-slot.ensures) c.read_count.ensures.follows.1,
-    )
+          c.slot_of-slot.ensures) c.read_count.ensures.follows.1;
+    }
 
 pub returns-in_err-descriptor-clause-follows : goal.returns-in_err-descriptor-clause-follows
 returns-in_err-descriptor-clause-follows g c =
@@ -225,13 +231,16 @@ returns-in_err-descriptor-clause-follows g c =
     let old = g.M.Medium.state c.args.m.now in
     let mid = g.M.Medium.state c.loop-j.m in
     let read = g.M.Medium.state c.read_descriptor.new.m in
-    let inv = c.loop-j.invariant in (
-      g.met.M.Medium.follows_through c.args.m.now c.loop-j.m c.read_descriptor.new.m inv.follows c.read_descriptor.ensures.follows.0,
-      looks_joined (λ s. s < first_home shape) old mid read inv.looks
+    let inv = c.loop-j.invariant in
+    record {
+      follows = g.met.M.Medium.follows_through c.args.m.now c.loop-j.m c.read_descriptor.new.m inv.follows
+          c.read_descriptor.ensures.follows.0;
+      sent = search rules;
+      looks = looks_joined (λ s. s < first_home shape) old mid read inv.looks
           (looks_below (2 + 249 * c.slot_of-slot.result + 249) shape.home mid read
           (within_two shape c.args.stamp c.slot_of-slot.result c.requires.format c.args.sizes.now.home_is c.args.sizes.now.some_slots
-          c.slot_of-slot.ensures) c.read_descriptor.ensures.follows.1),
-    )
+          c.slot_of-slot.ensures) c.read_descriptor.ensures.follows.1);
+    }
 
 pub returns-in_default-2-clause-follows : goal.returns-in_default-2-clause-follows
 returns-in_default-2-clause-follows g c =
@@ -239,13 +248,16 @@ returns-in_default-2-clause-follows g c =
     let old = g.M.Medium.state c.args.m.now in
     let mid = g.M.Medium.state c.loop-j.m in
     let read = g.M.Medium.state c.read_descriptor.new.m in
-    let inv = c.loop-j.invariant in (
-      g.met.M.Medium.follows_through c.args.m.now c.loop-j.m c.read_descriptor.new.m inv.follows c.read_descriptor.ensures.follows.0,
-      looks_joined (λ s. s < first_home shape) old mid read inv.looks
+    let inv = c.loop-j.invariant in
+    record {
+      follows = g.met.M.Medium.follows_through c.args.m.now c.loop-j.m c.read_descriptor.new.m inv.follows
+          c.read_descriptor.ensures.follows.0;
+      sent = search rules;
+      looks = looks_joined (λ s. s < first_home shape) old mid read inv.looks
           (looks_below (2 + 249 * c.slot_of-slot.result + 249) shape.home mid read
           (within_two shape c.args.stamp c.slot_of-slot.result c.requires.format c.args.sizes.now.home_is c.args.sizes.now.some_slots
-          c.slot_of-slot.ensures) c.read_descriptor.ensures.follows.1),
-    )
+          c.slot_of-slot.ensures) c.read_descriptor.ensures.follows.1);
+    }
 
 pub returns-in_err-copy_named-clause-follows : goal.returns-in_err-copy_named-clause-follows
 returns-in_err-copy_named-clause-follows g c =
@@ -254,14 +266,16 @@ returns-in_err-copy_named-clause-follows g c =
     let mid = g.M.Medium.state c.loop-j.m in
     let read = g.M.Medium.state c.read_descriptor.new.m in
     let new = g.M.Medium.state c.copy_named.new.m in
-    let inv = c.loop-j.invariant in (
-      g.met.M.Medium.follows_through c.args.m.now c.read_descriptor.new.m c.copy_named.new.m
+    let inv = c.loop-j.invariant in
+    record {
+      follows = g.met.M.Medium.follows_through c.args.m.now c.read_descriptor.new.m c.copy_named.new.m
           (g.met.M.Medium.follows_through c.args.m.now c.loop-j.m c.read_descriptor.new.m inv.follows c.read_descriptor.ensures.follows.0)
-          c.copy_named.ensures.follows.0,
-      looks_joined (λ s. s < first_home shape) old read new
+          c.copy_named.ensures.follows.follows;
+      sent = search rules;
+      looks = looks_joined (λ s. s < first_home shape) old read new
           (looks_joined (λ s. s < first_home shape) old mid read inv.looks
           (looks_below (2 + 249 * c.slot_of-slot.result + 249) shape.home mid read
           (within_two shape c.args.stamp c.slot_of-slot.result c.requires.format c.args.sizes.now.home_is c.args.sizes.now.some_slots
           c.slot_of-slot.ensures) c.read_descriptor.ensures.follows.1))
-          c.copy_named.ensures.follows.1,
-    )
+          c.copy_named.ensures.follows.looks;
+    }

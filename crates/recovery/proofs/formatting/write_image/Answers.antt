@@ -45,7 +45,7 @@ returns-in_err-write_through-clause-leaves g c array from =
     let wrote = c.write_through.ensures.writes in
     let home = c.args.sizes.now.home_is.0 in
     first_leaves shape array c.args.end old first (omega (arith, home, c.requires.log)) (replicate 512 0) refl sound wrote.elsewhere
-    wrote.moments wrote.calls c.write_through.ensures.follows.1
+    wrote.moments wrote.calls c.write_through.ensures.follows.looks.looked_stays
 
 pub returns-in_err-clear-clause-leaves : goal.returns-in_err-clear-clause-leaves
 returns-in_err-clear-clause-leaves g c array from =
@@ -65,7 +65,7 @@ returns-in_err-clear-clause-leaves g c array from =
     let spared = clear_spares 1 end first cleared now clears.elsewhere clears.moments in
     then_leaves shape array end old first (omega (arith, home, c.requires.log)) (replicate 512 0) refl sound wrote.elsewhere wrote.moments
     cleared counted (none_leaves old.size shape array first cleared clearing) spared
-    (c.clear.ensures.follows.1 ∙ c.write_through.ensures.follows.1)
+    (c.clear.ensures.follows.looks.looked_stays ∙ c.write_through.ensures.follows.looks.looked_stays)
 
 pub returns-in_err-write_through-2-clause-leaves : goal.returns-in_err-write_through-2-clause-leaves
 returns-in_err-write_through-2-clause-leaves g c array from =
@@ -91,7 +91,8 @@ returns-in_err-write_through-2-clause-leaves g c array from =
     let spared_too = spared_joined end first cleared headed spared spared_head in
     then_leaves shape array end old first (omega (arith, home, c.requires.log)) (replicate 512 0) refl sound wrote.elsewhere wrote.moments
     headed counted (none_leaves old.size shape array first headed heading) spared_too
-    (c.write_through-2.ensures.follows.1 ∙ (c.clear.ensures.follows.1 ∙ c.write_through.ensures.follows.1))
+    (c.write_through-2.ensures.follows.looks.looked_stays
+    ∙ (c.clear.ensures.follows.looks.looked_stays ∙ c.write_through.ensures.follows.looks.looked_stays))
 
 pub returns-clause-leaves : goal.returns-clause-leaves
 returns-clause-leaves g c array from =
@@ -136,5 +137,5 @@ returns-clause-leaves g c array from =
     ∙ wrote.elsewhere x (λ e. omega (arith, e, past, c.requires.log, home))))
     heading last.moments)
     (spared_joined end first headed new spared_too spared_super)
-    (c.write_through-3.ensures.follows.1 ∙ (c.write_through-2.ensures.follows.1
-    ∙ (c.clear.ensures.follows.1 ∙ c.write_through.ensures.follows.1)))
+    (c.write_through-3.ensures.follows.looks.looked_stays ∙ (c.write_through-2.ensures.follows.looks.looked_stays
+    ∙ (c.clear.ensures.follows.looks.looked_stays ∙ c.write_through.ensures.follows.looks.looked_stays)))

@@ -29,8 +29,8 @@ returns-in_err-clear-clause-leaves g c =
     record {
       cuts = λ array fresh. wiped_leaves shape array next old cleared c.requires.least c.requires.flushed fresh sound_cleared within;
       spares = wiped;
-      sends = omega (arith, c.clear.ensures.sends, same, log);
-      looked_stays = c.clear.ensures.follows.1;
+      sends = omega (arith, c.clear.ensures.follows.sent, same, log);
+      looked_stays = c.clear.ensures.follows.looks.looked_stays;
     }
 
 pub returns-in_err-move_head-clause-leaves : goal.returns-in_err-move_head-clause-leaves
@@ -57,8 +57,8 @@ returns-in_err-move_head-clause-leaves g c =
       cuts = λ array fresh. headed_leaves shape array next old cleared c.requires.least c.requires.flushed fresh sound_cleared within
           headed moves.moments;
       spares = moved;
-      sends = omega (arith, c.clear.ensures.sends, c.move_head.ensures.sends, same, log);
-      looked_stays = c.move_head.ensures.follows.1 ∙ c.clear.ensures.follows.1;
+      sends = omega (arith, c.clear.ensures.follows.sent, c.move_head.ensures.follows.sent, same, log);
+      looked_stays = c.move_head.ensures.follows.looks ∙ c.clear.ensures.follows.looks.looked_stays;
     }
 
 pub returns-in_err-write_through-clause-leaves : goal.returns-in_err-write_through-clause-leaves
@@ -94,8 +94,16 @@ returns-in_err-write_through-clause-leaves g c =
       spares = spared_joined shape.home old headed new moved
           (through_spares shape.home 0 c.encode.result headed new (omega (arith, ends)) (g.met.M.Medium.sound c.write_through.new.m)
           last.elsewhere last.moments);
-      sends = omega (arith, c.clear.ensures.sends, c.move_head.ensures.sends, c.write_through.ensures.sends, same, log);
-      looked_stays = c.write_through.ensures.follows.1 ∙ (c.move_head.ensures.follows.1 ∙ c.clear.ensures.follows.1);
+      sends = omega (
+        arith,
+        c.clear.ensures.follows.sent,
+        c.move_head.ensures.follows.sent,
+        c.write_through.ensures.follows.sent,
+        same,
+        log,
+      );
+      looked_stays = c.write_through.ensures.follows.looks.looked_stays
+          ∙ (c.move_head.ensures.follows.looks ∙ c.clear.ensures.follows.looks.looked_stays);
     }
 
 pub returns-clause-leaves : goal.returns-clause-leaves
@@ -131,6 +139,14 @@ returns-clause-leaves g c =
       spares = spared_joined shape.home old headed new moved
           (through_spares shape.home 0 c.encode.result headed new (omega (arith, ends)) (g.met.M.Medium.sound c.write_through.new.m)
           last.elsewhere last.moments);
-      sends = omega (arith, c.clear.ensures.sends, c.move_head.ensures.sends, c.write_through.ensures.sends, same, log);
-      looked_stays = c.write_through.ensures.follows.1 ∙ (c.move_head.ensures.follows.1 ∙ c.clear.ensures.follows.1);
+      sends = omega (
+        arith,
+        c.clear.ensures.follows.sent,
+        c.move_head.ensures.follows.sent,
+        c.write_through.ensures.follows.sent,
+        same,
+        log,
+      );
+      looked_stays = c.write_through.ensures.follows.looks.looked_stays
+          ∙ (c.move_head.ensures.follows.looks ∙ c.clear.ensures.follows.looks.looked_stays);
     }

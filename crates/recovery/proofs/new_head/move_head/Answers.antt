@@ -62,19 +62,25 @@ returns-clause-moves g c =
     }
 
 pub returns-in_err-flush-clause-follows : goal.returns-in_err-flush-clause-follows
-returns-in_err-flush-clause-follows g c = (c.flush.ensures.follows, c.flush.ensures.passes.looked_stays (λ e. cc e))
+returns-in_err-flush-clause-follows g c = record {
+  follows = c.flush.ensures.follows;
+  sent = search rules;
+  looks = c.flush.ensures.passes.looked_stays (λ e. cc e);
+}
 
 pub returns-in_err-write-clause-follows : goal.returns-in_err-write-clause-follows
-returns-in_err-write-clause-follows g c = (
-  g.met.M.Medium.follows_through c.args.m.now c.flush.new.self c.write.new.self c.flush.ensures.follows c.write.ensures.follows,
-  c.write.ensures.passes.looked_stays (λ e. cc e) ∙ c.flush.ensures.passes.looked_stays (λ e. cc e),
-)
+returns-in_err-write-clause-follows g c = record {
+  follows = g.met.M.Medium.follows_through c.args.m.now c.flush.new.self c.write.new.self c.flush.ensures.follows c.write.ensures.follows;
+  sent = search rules;
+  looks = c.write.ensures.passes.looked_stays (λ e. cc e) ∙ c.flush.ensures.passes.looked_stays (λ e. cc e);
+}
 
 pub returns-clause-follows : goal.returns-clause-follows
-returns-clause-follows g c = (
-  g.met.M.Medium.follows_through c.args.m.now c.write.new.self c.flush-2.new.self
+returns-clause-follows g c = record {
+  follows = g.met.M.Medium.follows_through c.args.m.now c.write.new.self c.flush-2.new.self
       (g.met.M.Medium.follows_through c.args.m.now c.flush.new.self c.write.new.self c.flush.ensures.follows c.write.ensures.follows)
-      c.flush-2.ensures.follows,
-  c.flush-2.ensures.passes.looked_stays (λ e. cc e)
-      ∙ (c.write.ensures.passes.looked_stays (λ e. cc e) ∙ c.flush.ensures.passes.looked_stays (λ e. cc e)),
-)
+      c.flush-2.ensures.follows;
+  sent = search rules;
+  looks = c.flush-2.ensures.passes.looked_stays (λ e. cc e)
+      ∙ (c.write.ensures.passes.looked_stays (λ e. cc e) ∙ c.flush.ensures.passes.looked_stays (λ e. cc e));
+}

@@ -91,10 +91,10 @@ returns-in_err-copy_records-clause-leaves g c =
             arith,
             flush_sends old mid c.flush.ensures.passes,
             none_sent mid seen reads.reads,
-            c.copy_records.ensures.sends,
+            c.copy_records.ensures.follows.sent,
           )))
           (copies_look old mid seen sound sound_mid flushed counted only reads c.args.least found survey copied sound_copied copies
-          (c.flush.ensures.passes.looked_stays (λ e. cc e)) c.copy_records.ensures.follows.1);
+          (c.flush.ensures.passes.looked_stays (λ e. cc e)) c.copy_records.ensures.follows.looks);
       small = λ few. absurd (survey.room (few_after old mid seen c.flush.ensures.passes flushed reads.reads c.args.least few));
     }
 
@@ -123,13 +123,13 @@ returns-in_err-move_head-clause-leaves g c =
             arith,
             flush_sends old mid c.flush.ensures.passes,
             none_sent mid seen reads.reads,
-            c.copy_records.ensures.sends,
-            c.move_head.ensures.sends,
+            c.copy_records.ensures.follows.sent,
+            c.move_head.ensures.follows.sent,
           )))
           (looked_before old copied new
           (copies_look old mid seen sound sound_mid flushed counted only reads c.args.least found survey copied sound_copied copies
-          (c.flush.ensures.passes.looked_stays (λ e. cc e)) c.copy_records.ensures.follows.1)
-          c.move_head.ensures.follows.1);
+          (c.flush.ensures.passes.looked_stays (λ e. cc e)) c.copy_records.ensures.follows.looks)
+          c.move_head.ensures.follows.looks);
       small = λ few. absurd (survey.room (few_after old mid seen c.flush.ensures.passes flushed reads.reads c.args.least few));
     }
 
@@ -158,13 +158,13 @@ returns-clause-leaves g c =
             arith,
             flush_sends old mid c.flush.ensures.passes,
             none_sent mid seen reads.reads,
-            c.copy_records.ensures.sends,
-            c.move_head.ensures.sends,
+            c.copy_records.ensures.follows.sent,
+            c.move_head.ensures.follows.sent,
           )))
           (looked_before old copied new
           (copies_look old mid seen sound sound_mid flushed counted only reads c.args.least found survey copied sound_copied copies
-          (c.flush.ensures.passes.looked_stays (λ e. cc e)) c.copy_records.ensures.follows.1)
-          c.move_head.ensures.follows.1);
+          (c.flush.ensures.passes.looked_stays (λ e. cc e)) c.copy_records.ensures.follows.looks)
+          c.move_head.ensures.follows.looks);
       small = λ few. absurd (survey.room (few_after old mid seen c.flush.ensures.passes flushed reads.reads c.args.least few));
     }
 

@@ -56,7 +56,12 @@ loop-sector-preserved g c =
 
 pub returns-in_err-write-clause-follows : goal.returns-in_err-write-clause-follows
 returns-in_err-write-clause-follows g c =
-    let inv = c.loop-sector.invariant in (
-      g.met.M.Medium.follows_through c.args.m.now c.loop-sector.m c.write.new.self inv.follows c.write.ensures.follows,
-      c.write.ensures.passes.looked_stays (λ e. cc e) ∙ inv.looked_stays,
-    )
+    let inv = c.loop-sector.invariant in
+    record {
+      follows = g.met.M.Medium.follows_through c.args.m.now c.loop-sector.m c.write.new.self inv.follows c.write.ensures.follows;
+      sent = search rules;
+      looks = record {
+        no_read = search rules;
+        looked_stays = c.write.ensures.passes.looked_stays (λ e. cc e) ∙ inv.looked_stays;
+      };
+    }

@@ -32,10 +32,21 @@ returns-clause-writes g c =
     }
 
 pub returns-in_err-write-clause-follows : goal.returns-in_err-write-clause-follows
-returns-in_err-write-clause-follows g c = (c.write.ensures.follows, c.write.ensures.passes.looked_stays (λ e. cc e))
+returns-in_err-write-clause-follows g c = record {
+  follows = c.write.ensures.follows;
+  sent = search rules;
+  looks = record {
+    no_read = search rules;
+    looked_stays = c.write.ensures.passes.looked_stays (λ e. cc e);
+  };
+}
 
 pub returns-clause-follows : goal.returns-clause-follows
-returns-clause-follows g c = (
-  g.met.M.Medium.follows_through c.args.m.now c.write.new.self c.flush.new.self c.write.ensures.follows c.flush.ensures.follows,
-  c.flush.ensures.passes.looked_stays (λ e. cc e) ∙ c.write.ensures.passes.looked_stays (λ e. cc e),
-)
+returns-clause-follows g c = record {
+  follows = g.met.M.Medium.follows_through c.args.m.now c.write.new.self c.flush.new.self c.write.ensures.follows c.flush.ensures.follows;
+  sent = search rules;
+  looks = record {
+    no_read = search rules;
+    looked_stays = c.flush.ensures.passes.looked_stays (λ e. cc e) ∙ c.write.ensures.passes.looked_stays (λ e. cc e);
+  };
+}
