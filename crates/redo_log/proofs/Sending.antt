@@ -85,8 +85,8 @@ turn_sent shape stamp numbers kept turned t next below =
         ∙ ap (λ (n : ℕ). home_calls shape.format n - 1) (omega (arith, home_is, left_is, below))
 
 -- a log of which the oldest record has come so far makes as many by its next step
-pub step_sends : (log : LogValue) (ahead : Ahead) (shape : Shape) (head : ℕ) (waiting : List (List ℕ)) (turned : ℕ) (kept under_way : List ℕ)
-    (made : Option ℕ) (dead : Bool) (numbers : List ℕ) (newer : List (List ℕ))
+pub step_sends : (log : LogValue) (ahead : Ahead) (shape : Shape) (head : ℕ) (waiting : List (List ℕ)) (turned : ℕ)
+    (kept under_way : List ℕ) (made : Option ℕ) (dead : Bool) (numbers : List ℕ) (newer : List (List ℕ))
     → value_at ahead shape head waiting turned kept under_way made dead ≡ log
     → waiting ≡ numbers ∷ newer
     → turn_sends shape.format (turns_home shape.format (length numbers)) (turns_home shape.format (length numbers) + 2 - turned)
@@ -141,8 +141,8 @@ few_sends format n (suc (suc left)) few within =
     omega (arith, sends_left format (turns_home format n) left (omega (arith, within)), few_homed format n few)
 
 -- those of the oldest record of a log
-pub few_of_oldest : (log : LogValue) (ahead : Ahead) (shape : Shape) (head : ℕ) (waiting : List (List ℕ)) (turned : ℕ) (kept under_way : List ℕ)
-    (made : Option ℕ) (dead : Bool)
+pub few_of_oldest : (log : LogValue) (ahead : Ahead) (shape : Shape) (head : ℕ) (waiting : List (List ℕ)) (turned : ℕ)
+    (kept under_way : List ℕ) (made : Option ℕ) (dead : Bool)
     → value_at ahead shape head waiting turned kept under_way made dead ≡ log → IsRing shape waiting turned under_way made
     → sends_of_oldest log ≤ most_retire_sends log.shape.format
 few_of_oldest log ahead shape head waiting turned kept under_way made dead shown ring =

@@ -277,8 +277,8 @@ returns-then-is_err-clause-passes g c =
     let few = turn_refused c.next_turn-turn.result _ _ _ costs c.make.ensures.counts.calls in
     let sends = turn_sent (shape_of i.sizes) i.head c.as_slice-numbers.result.now i.kept i.turned c.next_turn-turn.result
     c.next_turn-turn.ensures.next oldest
-    ∙ step_sends c.args.self.now (ahead_in i) (shape_of i.sizes) i.head (lists_of i.waiting.items) i.turned i.kept i.under_way.items i.made i.dead
-    c.as_slice-numbers.result.now (lists_of (drop 1 i.waiting.items)) c.self.view_is waits in
+    ∙ step_sends c.args.self.now (ahead_in i) (shape_of i.sizes) i.head (lists_of i.waiting.items) i.turned i.kept i.under_way.items
+    i.made i.dead c.as_slice-numbers.result.now (lists_of (drop 1 i.waiting.items)) c.self.view_is waits in
     record {
       calls = record { two = few.0; most = few.1; exact = search rules; sent = omega (arith, c.make.ensures.counts.sent, sends) };
       failures = search rules;
@@ -302,8 +302,8 @@ returns-then-self-home-clause-passes g c =
     let few = turn_refused c.next_turn-turn.result _ _ _ costs c.make.ensures.counts.calls in
     let sends = turn_sent (shape_of i.sizes) i.head c.as_slice-numbers.result.now i.kept i.turned c.next_turn-turn.result
     c.next_turn-turn.ensures.next oldest
-    ∙ step_sends c.args.self.now (ahead_in i) (shape_of i.sizes) i.head (lists_of i.waiting.items) i.turned i.kept i.under_way.items i.made i.dead
-    c.as_slice-numbers.result.now (lists_of (drop 1 i.waiting.items)) c.self.view_is waits in
+    ∙ step_sends c.args.self.now (ahead_in i) (shape_of i.sizes) i.head (lists_of i.waiting.items) i.turned i.kept i.under_way.items
+    i.made i.dead c.as_slice-numbers.result.now (lists_of (drop 1 i.waiting.items)) c.self.view_is waits in
     let made = on_ok_here c.make.result (sym c.is_err.ensures.value ∙ c.if-is_err.false) c.make.ensures.counts.exact in
     record {
       calls = record {
@@ -333,8 +333,8 @@ returns-clause-passes g c =
     let few = turn_refused c.next_turn-turn.result _ _ _ costs c.make.ensures.counts.calls in
     let sends = turn_sent (shape_of i.sizes) i.head c.as_slice-numbers.result.now i.kept i.turned c.next_turn-turn.result
     c.next_turn-turn.ensures.next oldest
-    ∙ step_sends c.args.self.now (ahead_in i) (shape_of i.sizes) i.head (lists_of i.waiting.items) i.turned i.kept i.under_way.items i.made i.dead
-    c.as_slice-numbers.result.now (lists_of (drop 1 i.waiting.items)) c.self.view_is waits in
+    ∙ step_sends c.args.self.now (ahead_in i) (shape_of i.sizes) i.head (lists_of i.waiting.items) i.turned i.kept i.under_way.items
+    i.made i.dead c.as_slice-numbers.result.now (lists_of (drop 1 i.waiting.items)) c.self.view_is waits in
     let made = on_ok_here c.make.result (sym c.is_err.ensures.value ∙ c.if-is_err.false) c.make.ensures.counts.exact in
     record {
       calls = record {
