@@ -3,6 +3,8 @@ pub mod DiskRow
 pub mod Exports
 pub mod Held
 pub mod Parts
+pub mod Seen
+pub mod Wanted
 pub mod Plays
 pub mod Room
 pub mod Runs

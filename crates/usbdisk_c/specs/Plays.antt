@@ -25,17 +25,10 @@ use Rattle.bot_machine.specs.declared.event.Event.TheVariants as event
 use Rattle.bot_machine.specs.declared.event.Answer.{Answer}
 use Rattle.bot_machine.specs.declared.event.Answer.TheVariants as answer
 use Rattle.usbdisk_c.specs.Codes.{code_of, bytes_of, TOO_LONG, NEEDS}
-use Rattle.usbdisk_c.specs.DiskRow.{disk_row}
+pub use Rattle.usbdisk_c.specs.Seen.{Disk, medium_of}
+use Rattle.usbdisk_c.specs.Wanted.{Wants, WantsNone}
 use Rattle.usbdisk_c.specs.Parts.{CoversParts}
 use Rattle.usbdisk_c.specs.Room.{room_of, room_for}
-
--- what is seen of the disk
-abbrev pub Disk : Type 0
-Disk = disk_row.Denot
-
--- the disk's medium
-abbrev pub medium_of : Disk → Window
-medium_of disk = disk.unit.store.medium
 
 -- what a medium says of all calls of it that may come
 pub record Foresees (m : Window) : Type 0 where
@@ -70,13 +63,10 @@ pub record Plays (old : Disk) (event : Event) (answer : Answer) (new : Disk) : T
   pub fits : length (medium_of old).outbox + room_for (layout_on old) ≤ (medium_of old).room
       → NothingIsRefused (medium_of old) (medium_of new)
 
--- home sectors of the device, not all of them among those that were shown last
-pub record AreWanted (m : Window) (first count : ℕ) : Type 0 where
-  pub some : 0 < count
-  pub few : count ≤ 240
-  pub home : m.near ≤ first
-  pub on_device : first + count ≤ (state_of m).size
-  pub unseen : m.from ≤ first → m.from + m.held < first + count
+-- a packet to Bulk-Out is played, and this is the number of its answer
+abbrev pub PlaysPacket : Disk → List ℕ → Disk → ℕ → Type 0
+PlaysPacket old packet new code = (answer : Answer)
+    × Plays old (event.Out (record { items = packet })) answer new × (code ≡ code_of answer)
 
 -- A packet that is too long changes nothing; nor does one before which sectors are to be shown, and
 -- they are told then alone.
@@ -85,10 +75,9 @@ TakesPacket old packet first count new first' count' code =
     ((old.line.packet_size < length packet) × (code ≡ TOO_LONG) × (new ≡ old)
     × (first' ≡ first) × (count' ≡ count))
     ⊎ ((length packet ≤ old.line.packet_size) × (code ≡ NEEDS) × (new ≡ old)
-    × AreWanted (medium_of old) first' count')
-    ⊎ ((length packet ≤ old.line.packet_size) × (answer : Answer)
-    × Plays old (event.Out (record { items = packet })) answer new × (code ≡ code_of answer)
-    × (first' ≡ first) × (count' ≡ count))
+    × Wants old packet first' count')
+    ⊎ ((length packet ≤ old.line.packet_size) × WantsNone old packet
+    × PlaysPacket old packet new code × (first' ≡ first) × (count' ≡ count))
 
 -- Sectors are shown, and taken or not. Where they are what the medium holds, the disk fits what it
 -- fitted; where they are not, nothing but the medium has changed.

@@ -11,6 +11,7 @@ mod play;
 mod run;
 mod start;
 mod turns;
+mod wanted;
 
 pub use exports::{
     usbdisk_bulk_in, usbdisk_bulk_out, usbdisk_format, usbdisk_memory, usbdisk_near, usbdisk_room,

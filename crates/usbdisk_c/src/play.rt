@@ -3,18 +3,16 @@ ghost use Rattle.usbdisk_c.specs.Plays.{TakesPacket, Tells, SendsPacket, Answers
 ghost use Rattle.usbdisk_c.specs.Plays.{MakesStep, Shows, LetsGo, Plays, Foresees, medium_of};
 ghost use Rattle.bot_machine.specs.declared.event.Answer.TheVariants as answer;
 ghost use Rattle.bot_machine.specs.declared.event.Event.TheVariants as event;
-ghost use Rattle.std.specs.Prelude.{IfSome};
-ghost use Rattle.cdb.specs.Supported.{IsWithin};
-ghost use Rattle.usbdisk_c.specs.Plays.{Sees, AreWanted};
+ghost use Rattle.usbdisk_c.specs.Plays.{Sees, PlaysPacket};
+ghost use Rattle.std.specs.Prelude.{◌≤◌, length};
 ghost use Rattle.mirror.specs.Mirror.{first_of};
 
 use crate::codes::{ACK, NAK, NEEDS, STALL, TOO_LONG};
+use crate::wanted::unseen;
 use bot_machine::{Answer, Disk, Event, OutAnswer, SetupAnswer, answer_to};
-use cdb::{Command, Transfer, parse};
 use medium::Medium;
 use mirror::{DeviceCall, device_laws};
 use window::WindowMedium;
-use wrappers::read_cbw;
 
 // Does nothing. The laws of the outbox say of all that may come what it is for the device, and that
 // none of it is refused for which there is room.
@@ -39,47 +37,26 @@ pub(crate) fn take_packet(
     if packet.len() > disk.packet_size() as usize {
         return TOO_LONG;
     }
-    if let Some((at, blocks)) = unseen(disk, packet) {
-        *first = at;
-        *count = blocks;
-        return NEEDS;
+    match unseen(disk, packet) {
+        Some((at, blocks)) => {
+            *first = at;
+            *count = blocks;
+            NEEDS
+        }
+        None => play_packet(disk, packet),
     }
+}
+
+// Plays a packet that is no longer than those of the disk.
+fn play_packet(disk: &mut Disk<WindowMedium>, packet: &[u8]) -> u32
+    requires { length packet.now ≤ disk.old.line.packet_size }
+    ensures { PlaysPacket disk.old packet.now disk.new result }
+{
     foresee(disk);
     match disk.bulk_out(packet) {
         OutAnswer::Ack => ACK,
         OutAnswer::Nak => NAK,
         OutAnswer::Stall => STALL,
-    }
-}
-
-// The home sectors that a READ in this packet would read, where they are not in sight: the first, and
-// how many.
-fn unseen(disk: &Disk<WindowMedium>, packet: &[u8]) -> Option<(u64, u32)>
-    ensures { IfSome result (λ asked. AreWanted (medium_of disk.now) asked.0 asked.1) }
-{
-    let medium = disk.medium();
-    let near = medium.near();
-    let blocks = medium.sectors().saturating_sub(near);
-    let transfer = transfer_of(packet, blocks, disk.limit())?;
-    let first = near.checked_add(transfer.address)?;
-    if transfer.count == 0 || medium.holds(first, u64::from(transfer.count)) {
-        return None;
-    }
-    Some((first, transfer.count))
-}
-
-// What a READ in this packet moves.
-fn transfer_of(packet: &[u8], blocks: u64, limit: u32) -> Option<Transfer>
-    ensures { IfSome result (IsWithin blocks limit) }
-{
-    let wrapper = read_cbw(packet).ok()?;
-    let block = wrapper.block.as_slice();
-    if block.is_empty() {
-        return None;
-    }
-    match parse(block, blocks, limit) {
-        Ok(Command::Read10(transfer) | Command::Read16(transfer)) => Some(transfer),
-        _ => None,
     }
 }
 

@@ -15,8 +15,10 @@ pub(crate) fn unseen(disk: &Disk<WindowMedium>, packet: &[u8]) -> Option<(u64, u
     ensures some { IfSome result (λ asked. Wants disk.now packet.now asked.0 asked.1) }
     ensures none { result ≡ None → WantsNone disk.now packet.now }
 {
-    let home = disk.home_sectors(packet)?;
-    missing(disk.medium(), &home)
+    match disk.home_sectors(packet) {
+        Some(home) => missing(disk.medium(), &home),
+        None => None,
+    }
 }
 
 // Those of some home sectors that are neither in memory nor in sight: all from the first of them on.

@@ -1,19 +1,7 @@
 use Rattle.std.proofs.Common.{inr, refl, arith}
-use Rattle.bot_machine.specs.declared.event.Answer.TheVariants.{Ack, Nak, Stall}
-use Rattle.usbdisk_c.proofs.Rooms.{played}
 use Rattle.usbdisk_c.proofs.play.take_packet.Goals as goal
 
-pub returns-in-Ack : goal.returns-in-Ack
-returns-in-Ack c =
-    let step = c.in-Ack.ensures in
-    inr (inr (omega arith, Ack, played _ _ _ _ c.foresee.ensures step.step step.follows, refl, refl, refl))
-
-pub returns-in-Nak : goal.returns-in-Nak
-returns-in-Nak c =
-    let step = c.in-Nak.ensures in
-    inr (inr (omega arith, Nak, played _ _ _ _ c.foresee.ensures step.step step.follows, refl, refl, refl))
-
-pub returns-in-Stall : goal.returns-in-Stall
-returns-in-Stall c =
-    let step = c.in-Stall.ensures in
-    inr (inr (omega arith, Stall, played _ _ _ _ c.foresee.ensures step.step step.follows, refl, refl, refl))
+pub returns-in-None : goal.returns-in-None
+returns-in-None c =
+    let plays = c.play_packet.ensures in
+    inr (inr (omega arith, c.unseen.ensures.none c.in-None.is, plays, refl, refl))
