@@ -38,9 +38,9 @@
 extern "C" {
 #endif
 
-/* The version, 0.8.0: two bytes for the first number, and one for each other. The library tells its
+/* The version, 0.9.0: two bytes for the first number, and one for each other. The library tells its
  * own: where the two differ, header and library are not of one version. */
-#define USBDISK_VERSION 0x000800u
+#define USBDISK_VERSION 0x000900u
 
 uint32_t usbdisk_version(void);
 

@@ -22,7 +22,7 @@ abbrev pub help_text : List ℕ
 help_text = ended (codes "usbdisk_image make IMAGE --blocks N --slots K --format 1|2 [--replace]")
 
 abbrev pub version_text : List ℕ
-version_text = ended (codes "usbdisk_image 0.8")
+version_text = ended (codes "usbdisk_image 0.9")
 
 abbrev pub made_text : List ℕ
 made_text = ended (codes "made")

@@ -30,7 +30,7 @@ use std::io::Write;
 
 const HELP: &[u8] = b"usbdisk_image make IMAGE --blocks N --slots K --format 1|2 [--replace]\n";
 
-const VERSION: &[u8] = b"usbdisk_image 0.8\n";
+const VERSION: &[u8] = b"usbdisk_image 0.9\n";
 
 /// Does what the words after the program's name ask for, and gives the exit status.
 ///

@@ -1,10 +1,10 @@
 -- A start that was refused: its own calls say why.
-use Rattle.std.proofs.Common.{◌≡◌, ◌⊎◌, inl, inr, ◌<◌, ◌+◌, List, Option, false, length, ap, subst, arith, length-append}
+use Rattle.std.proofs.Common.{◌≡◌, ◌⊎◌, inl, inr, ◌<◌, ◌+◌, false, length, subst, arith}
 use Rattle.std.specs.List.{list_all}
 use Rattle.std.proofs.lemmas.Bool.{cases_Bool}
 use Rattle.medium.specs.declared.fault.MediumFault.TheVariants as kind
 use Rattle.medium.specs.declared.fault.MediumFault.{MediumFault}
-use Rattle.mirror.specs.declared.call.DeviceCall.{DeviceCall}
+use Rattle.medium.specs.Sent.{sent}
 use Rattle.window.specs.Window.{Window, state_of, kept_out, is_in_sight, ComesAfter, IsServed}
 use Rattle.recovery.specs.Causes.{start_fault_of}
 use Rattle.recovery.specs.declared.start_fault.StartFault.TheVariants as fault
@@ -32,18 +32,11 @@ module _ (first after : Window) (empty : length first.outbox ≡ 0) (leaves : St
   ]
 
   no_room : kept_out first.seen.told.refused < kept_out after.seen.told.refused
-      → (state_of first).calls + first.room < (state_of after).calls
-  no_room more = omega (
-    arith,
-    empty,
-    follows.refuses more,
-    follows.room_stays,
-    length-append first.seen.told.asked follows.since,
-    ap (λ (l : List (Option DeviceCall)). length l) follows.asked,
-  )
+      → sent (state_of first) + first.room < sent (state_of after)
+  no_room more = omega (arith, empty, follows.refuses more, follows.room_stays)
 
   full : (why : StartFault) → IsNotOpened (state_of first) (state_of after) why → (why ≡ fault.Write) ⊎ (why ≡ fault.Flush)
-      → (state_of first).calls + first.room < (state_of after).calls
+      → sent (state_of first) + first.room < sent (state_of after)
   full why not (inl is) = no_room (omega (
     arith,
     grew kind.Write (subst (IsNotOpened (state_of first) (state_of after)) is not),

@@ -6,6 +6,7 @@ use Rattle.log_layout.specs.Places.{Shape, sectors_of}
 use Rattle.log_layout.specs.Sectors.{IsSuper}
 use Rattle.log_layout.specs.declared.log_format.LogFormat.TheVariants.{Two}
 use Rattle.medium.specs.Medium.{State}
+use Rattle.medium.specs.Sent.{sent}
 use Rattle.medium.specs.Moments.{IsUnchanged}
 use Rattle.inlet.specs.Inlet.{AreHeld}
 use Rattle.window.specs.Window.{Window, state_of, without_first, ComesAfter}
@@ -70,14 +71,14 @@ PlaysPacket old packet new code = (answer : Answer)
 
 -- A packet that is too long changes nothing; nor does one before which sectors are to be shown, and
 -- they are told then alone.
-abbrev pub TakesPacket : Disk → List ℕ → ℕ → ℕ → Disk → ℕ → ℕ → ℕ → Type 0
-TakesPacket old packet first count new first' count' code =
-    ((old.line.packet_size < length packet) × (code ≡ TOO_LONG) × (new ≡ old)
-    × (first' ≡ first) × (count' ≡ count))
-    ⊎ ((length packet ≤ old.line.packet_size) × (code ≡ NEEDS) × (new ≡ old)
-    × Wants old packet first' count')
-    ⊎ ((length packet ≤ old.line.packet_size) × WantsNone old packet
-    × PlaysPacket old packet new code × (first' ≡ first) × (count' ≡ count))
+pub record TakesPacket (old : Disk) (packet : List ℕ) (first count : ℕ) (new : Disk)
+    (first' count' code : ℕ) : Type 0 where
+  pub one : ((old.line.packet_size < length packet) × (code ≡ TOO_LONG) × (new ≡ old)
+      × (first' ≡ first) × (count' ≡ count))
+      ⊎ ((length packet ≤ old.line.packet_size) × (code ≡ NEEDS) × (new ≡ old)
+      × Wants old packet first' count')
+      ⊎ ((length packet ≤ old.line.packet_size) × WantsNone old packet
+      × PlaysPacket old packet new code × (first' ≡ first) × (count' ≡ count))
 
 -- Sectors are shown, and taken or not. Where they are what the medium holds, the disk fits what it
 -- fitted; where they are not, nothing but the medium has changed.
@@ -150,7 +151,7 @@ pub record Begins (first : Window) (device : Device) (new : Disk) : Type 0 where
   pub spared : IsSpared first (medium_of new)
 
 -- A start on this medium was refused, and left that one. Where a write or a flush was refused, the
--- calls of this very start had no room together; where a read was, one of them named a sector that
+-- writes and flushes of this very start had no room together; where a read was, one of them named a sector that
 -- is not in memory.
 pub record EndsIn (first after : Window) (why : StartFault) : Type 0 where
   pub not : IsNotOpened (state_of first) (state_of after) why
@@ -158,7 +159,7 @@ pub record EndsIn (first after : Window) (why : StartFault) : Type 0 where
   pub follows : ComesAfter first after
   pub spared : IsSpared first after
   pub full : (why ≡ fault.Write) ⊎ (why ≡ fault.Flush)
-      → (state_of first).calls + first.room < (state_of after).calls
+      → sent (state_of first) + first.room < sent (state_of after)
   pub unseen : why ≡ fault.Read → list_all (is_in_sight first) follows.looks ≡ false
 
 -- no disk was started on this medium

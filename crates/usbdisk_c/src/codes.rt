@@ -29,7 +29,7 @@ pub(crate) const BAD_SIZES: u32 = 22;
 pub(crate) const NOT_TAKEN: u32 = 23;
 
 /// The version: two bytes for the first number, and one for each other.
-pub(crate) const VERSION: u32 = 0x000800;
+pub(crate) const VERSION: u32 = 0x000900;
 
 /// The number of the fault for which a start is refused.
 pub(crate) fn number_of(fault: StartFault) -> u32

@@ -4,4 +4,4 @@ use Rattle.usbdisk_c.proofs.play.take_packet.Goals as goal
 pub returns-in-None : goal.returns-in-None
 returns-in-None c =
     let plays = c.play_packet.ensures in
-    inr (inr (omega arith, c.unseen.ensures.none c.in-None.is, plays, refl, refl))
+    record { one = inr (inr (omega arith, c.unseen.ensures.none c.in-None.is, plays, refl, refl)) }
