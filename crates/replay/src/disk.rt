@@ -24,18 +24,36 @@ pub(crate) fn fresh_medium(alloc: Global) -> Result<SimMedium, Fault> {
     Ok(medium)
 }
 
+/// The texts by which the recorded disk was known.
+pub(crate) fn identity() -> Result<Identity, Fault> {
+    let identity = Identity::new(
+        *b"USBDISK ",
+        *b"POWER SAFE DISK ",
+        *b"0001",
+        *b"000000000001",
+    );
+    identity.ok_or(Fault::Identity)
+}
+
 /// Starts a disk on the medium, sends it the lines of a recording, and compares each answer. Gives
 /// the medium back, and the number of answers.
 pub(crate) fn play_part(
     alloc: Global,
     medium: SimMedium,
+    identity: Identity,
     recording: &Recording,
     pace: Pace,
 ) -> Result<(SimMedium, u64), Fault> {
-    let mut disk = match Disk::start(alloc, medium, identity()?) {
+    let mut disk = match Disk::start(alloc, medium, identity) {
         Ok(disk) => disk,
         Err(error) => return Err(Fault::Start(error.fault)),
     };
+    let answers = serve(&mut disk, recording, pace)?;
+    Ok((disk.into_medium(), answers))
+}
+
+// Sends a disk the lines of a recording, and compares each answer. Gives their number.
+fn serve(disk: &mut Disk<SimMedium>, recording: &Recording, pace: Pace) -> Result<u64, Fault> {
     let came = Cell::new(0);
     let mut sender = Sender {
         lines: recording.sent.as_slice(),
@@ -48,24 +66,13 @@ pub(crate) fn play_part(
         recorded: recording.answered.as_slice(),
         came: &came,
     };
-    let served = serve_lines(&mut disk, &mut sender, &mut comparer);
+    let served = serve_lines(disk, &mut sender, &mut comparer);
     let next = came.get().saturating_add(1);
     match served {
-        Ok(()) if comparer.recorded.is_empty() => Ok((disk.into_medium(), came.get())),
+        Ok(()) if comparer.recorded.is_empty() => Ok(came.get()),
         Ok(()) => Err(Fault::Missing(came.get())),
-        Err(LineFault::Line(number)) => Err(Fault::Line(number)),
+        Err(LineFault::Line(number)) => Err(Fault::ScriptLine(number)),
         Err(LineFault::Reader) => Err(Fault::Early(next)),
         Err(LineFault::Writer) => Err(Fault::Answer(next)),
     }
-}
-
-// The texts by which the recorded disk was known.
-fn identity() -> Result<Identity, Fault> {
-    let identity = Identity::new(
-        *b"USBDISK ",
-        *b"POWER SAFE DISK ",
-        *b"0001",
-        *b"000000000001",
-    );
-    identity.ok_or(Fault::Identity)
 }

@@ -1,6 +1,6 @@
 use Rattle.std.proofs.Common.{arith, refl, ◌≡◌, ◌-◌, ◌+◌}
 use Rattle.std.proofs.lemmas.List.{take_rest}
-use Rattle.transcripts.proofs.expand.expand_run.Goals as goal
+use Rattle.replay.proofs.expand.expand_run.Goals as goal
 
 -- the two characters before the star, so many times
 pub returns : goal.returns

@@ -1,4 +1,6 @@
-//! What goes wrong in a transcript or in the play of an exchange.
+//! What goes wrong in a transcript or a recording, and in what the disk differs from it.
+use medium::SimError;
+use recovery::{FormatFault, StartFault};
 use std::alloc::AllocError;
 use std::io;
 use thiserror::Error;
@@ -50,7 +52,7 @@ pub(crate) enum Difference {
     },
 }
 
-/// Why an exchange did not go as written.
+/// Why an exchange or a recording did not go as written.
 #[derive(Debug, Drop, Error)]
 pub(crate) enum Fault {
     /// A line is none of a transcript.
@@ -65,6 +67,33 @@ pub(crate) enum Fault {
     /// Bytes were to be changed behind the end of the image file.
     #[error("a patch behind the end of the image")]
     Patch,
+    /// The answer with this number, counted from 1, is another one, or was not written at once.
+    #[error("answer {0} is another one")]
+    Answer(u64),
+    /// Fewer answers came than were recorded.
+    #[error("no answer follows answer {0}")]
+    Missing(u64),
+    /// A line of the recording is none of a script.
+    #[error("line {0} is none of a script")]
+    ScriptLine(u64),
+    /// A line of the recording names no block.
+    #[error("no block has the number in '{0}'")]
+    Block(String),
+    /// More was asked for before this answer came to a line that was sent.
+    #[error("a line was asked for before answer {0}")]
+    Early(u64),
+    /// The texts of the disk are not printable.
+    #[error("no identity")]
+    Identity,
+    /// The disk did not start.
+    #[error("a start was refused: {0}")]
+    Start(StartFault),
+    /// The image was not made.
+    #[error("no image: {0}")]
+    Format(#[from] FormatFault),
+    /// The medium was not made.
+    #[error("no medium: {0}")]
+    Medium(#[from] SimError),
     /// A file failed, or memory ran out.
     #[error("{0}")]
     File(#[from] io::Error),

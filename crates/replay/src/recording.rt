@@ -1,6 +1,6 @@
 //! A part of a recording.
 use crate::fault::Fault;
-use std::alloc::Global;
+use std::alloc::{AllocError, Global};
 use std::fs;
 use std::fs::Files;
 
@@ -23,28 +23,50 @@ impl Recording {
         name: &str,
         blocks: &[u8],
     ) -> Result<Recording, Fault> {
-        let alloc = rt.alloc();
-        let script = format!(in alloc; "{name}.script")?;
-        let expect = format!(in alloc; "{name}.expect")?;
-        let script = fs::read_to_string(rt, script.as_str())?;
-        let expect = fs::read_to_string(rt, expect.as_str())?;
-        Ok(Recording {
-            sent: expand(alloc, script.as_str(), blocks)?,
-            answered: expand(alloc, expect.as_str(), blocks)?,
-            due: count_answers(alloc, script.as_str())?,
-        })
+        let script = text_of(rt, name, "script")?;
+        let expect = text_of(rt, name, "expect")?;
+        Recording::of(rt.alloc(), script.as_str(), expect.as_str(), blocks)
+    }
+
+    // The lines of these texts.
+    fn of(alloc: Global, script: &str, expect: &str, blocks: &[u8]) -> Result<Recording, Fault> {
+        let mut recording = Recording {
+            sent: Vec::new(alloc),
+            answered: Vec::new(alloc),
+            due: Vec::new(alloc),
+        };
+        recording.take(alloc, script, expect, blocks)?;
+        Ok(recording)
+    }
+
+    fn take(
+        &mut self,
+        alloc: Global,
+        script: &str,
+        expect: &str,
+        blocks: &[u8],
+    ) -> Result<(), Fault> {
+        expand(alloc, script, blocks, &mut self.sent)?;
+        expand(alloc, expect, blocks, &mut self.answered)?;
+        count_answers(script, &mut self.due)?;
+        Ok(())
     }
 }
 
+// The text of the file of this name and ending.
+fn text_of<R: Files + AllocGlobal>(rt: &R, name: &str, ending: &str) -> Result<String, Fault> {
+    let path = format!(in rt.alloc(); "{name}.{ending}")?;
+    fs::read_to_string(rt, path.as_str()).map_err(Fault::from)
+}
+
 // How many answers each line of a script and those before it have.
-fn count_answers(alloc: Global, script: &str) -> Result<Vec<u64>, Fault> {
-    let mut due = Vec::new(alloc);
+fn count_answers(script: &str, due: &mut Vec<u64>) -> Result<(), AllocError> {
     let mut all: u64 = 0;
     for line in script.lines() {
         all = all.saturating_add(answers_to(line));
         due.push(all)?;
     }
-    Ok(due)
+    Ok(())
 }
 
 // How many answers a line has: a fill has one a packet, and a comment none.
@@ -69,20 +91,19 @@ fn packets_of(count: &str) -> u64 {
     }
 }
 
-// The lines of a text, with their blocks.
-fn expand(alloc: Global, text: &str, blocks: &[u8]) -> Result<Vec<u8>, Fault> {
-    let mut lines = Vec::new(alloc);
+// Appends the lines of a text, with their blocks.
+fn expand(alloc: Global, text: &str, blocks: &[u8], lines: &mut Vec<u8>) -> Result<(), Fault> {
     for line in text.lines() {
         match line.split_once('@') {
             None => lines.extend_from_slice(line.as_bytes())?,
             Some((word, number)) => {
                 lines.extend_from_slice(word.as_bytes())?;
-                append_block(alloc, number, blocks, &mut lines)?;
+                append_block(alloc, number, blocks, lines)?;
             }
         }
         lines.push(b'\n')?;
     }
-    Ok(lines)
+    Ok(())
 }
 
 // Appends the digits of the block with this number.

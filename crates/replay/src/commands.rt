@@ -2,9 +2,10 @@
 ghost use Rattle.std.specs.Prelude.{◌≡◌, ◌<◌, ◌+◌, ◌++◌, ◌↔◌, length, take, drop, IsNone, IsSome};
 
 use crate::compare::compare;
-use crate::exchange::{Exchange, Image, Patch, Step};
+use crate::exchange::{Exchange, Image, Patch, Size, Step};
 use crate::fault::Fault;
 use runner::command;
+use std::alloc::Global;
 use std::fs;
 use std::fs::{File, Files};
 
@@ -32,24 +33,25 @@ pub(crate) fn play_exchange<R: Files<File = File> + AllocGlobal>(
 // Makes the image file.
 fn make_image<R: Files<File = File> + AllocGlobal>(rt: &R, image: &Image) -> Result<(), Fault> {
     match image {
-        Image::Bytes(bytes) => fs::write(rt, IMAGE, bytes.as_slice())?,
-        Image::Formatted(size) => {
-            let words = [
-                "format",
-                IMAGE,
-                "--blocks",
-                size.blocks.as_str(),
-                "--slots",
-                size.slots.as_str(),
-            ];
-            let mut out = Vec::new(rt.alloc());
-            let mut err = Vec::new(rt.alloc());
-            if command(rt, &words, &mut out, &mut err).status != 0 {
-                return Err(Fault::Image);
-            }
-        }
+        Image::Bytes(bytes) => Ok(fs::write(rt, IMAGE, bytes.as_slice())?),
+        Image::Formatted(size) if is_formatted(rt, size) => Ok(()),
+        Image::Formatted(_) => Err(Fault::Image),
     }
-    Ok(())
+}
+
+// Formats the image file. Whether it was done.
+fn is_formatted<R: Files<File = File> + AllocGlobal>(rt: &R, size: &Size) -> bool {
+    let words = [
+        "format",
+        IMAGE,
+        "--blocks",
+        size.blocks.as_str(),
+        "--slots",
+        size.slots.as_str(),
+    ];
+    let mut out = Vec::new(rt.alloc());
+    let mut err = Vec::new(rt.alloc());
+    command(rt, &words, &mut out, &mut err).status == 0
 }
 
 // Changes bytes of the image file.
@@ -61,11 +63,19 @@ fn patch_image<R: Files<File = File> + AllocGlobal>(
         return Ok(());
     }
     let mut image = fs::read(rt, IMAGE)?;
+    write_patched(rt, image.as_mut_slice(), patches)
+}
+
+// Writes the image file with these changes.
+fn write_patched<R: Files<File = File> + AllocGlobal>(
+    rt: &R,
+    image: &mut [u8],
+    patches: &[Patch],
+) -> Result<(), Fault> {
     for patch in patches {
-        put(image.as_mut_slice(), patch.offset, patch.bytes.as_slice()).ok_or(Fault::Patch)?;
+        put(image, patch.offset, patch.bytes.as_slice()).ok_or(Fault::Patch)?;
     }
-    fs::write(rt, IMAGE, image.as_slice())?;
-    Ok(())
+    Ok(fs::write(rt, IMAGE, image)?)
 }
 
 // Puts bytes at a place, if they lie within.
@@ -91,10 +101,38 @@ fn play_step<R: Files<File = File> + AllocGlobal>(
 ) -> Result<(), Fault> {
     fs::write(rt, SCRIPT, step.script.as_slice())?;
     let words: Vec<&str> = step.words.split_whitespace().collect(rt.alloc())?;
+    play_words(rt, number, step, words.as_slice())
+}
+
+fn play_words<R: Files<File = File> + AllocGlobal>(
+    rt: &R,
+    number: u64,
+    step: &Step,
+    words: &[&str],
+) -> Result<(), Fault> {
     let mut out = Vec::new(rt.alloc());
     let mut err = Vec::new(rt.alloc());
-    let status = command(rt, words.as_slice(), &mut out, &mut err).status;
-    match compare(rt.alloc(), step, status, out.as_slice(), err.as_slice())? {
+    let status = command(rt, words, &mut out, &mut err).status;
+    is_as_written(
+        rt.alloc(),
+        number,
+        step,
+        status,
+        out.as_slice(),
+        err.as_slice(),
+    )
+}
+
+// What came of the command with this number is what is written.
+fn is_as_written(
+    alloc: Global,
+    number: u64,
+    step: &Step,
+    status: u8,
+    out: &[u8],
+    err: &[u8],
+) -> Result<(), Fault> {
+    match compare(alloc, step, status, out, err)? {
         None => Ok(()),
         Some(difference) => Err(Fault::Command { number, difference }),
     }

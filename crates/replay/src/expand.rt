@@ -1,7 +1,7 @@
 //! Runs of a byte in the lines of a transcript.
 ghost use Rattle.std.specs.Prelude.{◌≡◌, ◌==◌, ◌<◌, length, IfOk};
 ghost use Rattle.std.specs.List.{position, repeat};
-ghost use Rattle.transcripts.specs.Expansion.{IsExpansion, IsRun, Spells};
+ghost use Rattle.replay.specs.Expansion.{IsExpansion, IsRun, Spells};
 
 use crate::fault::LineFault;
 use std::alloc::{AllocError, Global};
