@@ -194,6 +194,53 @@ uint32_t usbdisk_take(struct usbdisk *disk, uint64_t *sector, uint8_t bytes[512]
 uint32_t usbdisk_take_run(struct usbdisk *disk, uint64_t *sector, uint8_t *bytes, size_t size,
                           size_t *count);
 
+/* A handle of calls that make an image on a device, or change its format. Set it to USBDISK_IMAGE_NONE
+ * before usbdisk_lay_log or usbdisk_migrate; never write or copy it after. */
+struct usbdisk_image {
+    void *at;
+};
+
+#define USBDISK_IMAGE_NONE { 0 }
+
+/* Makes an image on a device of so many sectors, around so many blocks, 1 to 2^31, that are at home
+ * already, with so many log slots, 1 to 64: super, head and log alone. Home begins at sector
+ * 2 + 50 * slots in format 1, at 2 + 249 * slots in format 2. The new image stands for what home holds;
+ * no sector from there on is written, and none is read. What waited in an old log is gone.
+ *
+ * Nothing is written here: what the device has to carry out waits in the handle, H + 5 calls where H is
+ * the first home sector. Take them out with usbdisk_next and carry them out, in order, until it answers
+ * NOTHING; then end the handle. Power may go at any point: a cut leaves what was there before, no image,
+ * or the new one, whole.
+ *
+ * near: the device's first sectors; one is enough. Takes memory for a copy of them, and 528 bytes for
+ * each call.
+ *
+ * Answers 0, NO_MEMORY, STARTED, BAD_LENGTH or BAD_SIZES. At all but 0 the handle stays as it was. */
+uint32_t usbdisk_lay_log(struct usbdisk_image *image, const uint8_t *near, size_t near_size, uint64_t sectors,
+                         const struct usbdisk_device *device, uint32_t format, uint64_t blocks, uint64_t slots);
+
+/* Makes an image of format 1 one of format 2, with the same blocks at the same home sectors: recovers it,
+ * and brings the records that wait home. An image of format 2 is recovered. What the device has to carry
+ * out waits in the handle, as above; at each point of it the image stands for the same blocks.
+ *
+ * near: the device's first sectors, as many as usbdisk_near tells. room: how many writes and flushes the
+ * handle has room for; enough are 98 * slots + 9 for format 1, and 240 * slots + 4 for format 2, with the
+ * slots of the image. Takes memory for a copy of `near`, and 528 bytes for each
+ * call of the room. With less room than is needed it answers WRITE_REFUSED or FLUSH_REFUSED.
+ *
+ * Answers 0, a number from 1 to 10, STARTED or BAD_LENGTH. At all but 0 the handle stays as it was, and
+ * nothing is for the device to do: the image is as it was. */
+uint32_t usbdisk_migrate(struct usbdisk_image *image, const uint8_t *near, size_t near_size, uint64_t sectors,
+                         const struct usbdisk_device *device, size_t room);
+
+/* Takes the first call out of the handle, as usbdisk_take does of a disk. Answers NOTHING, WRITE, FLUSH
+ * or EMPTY. */
+uint32_t usbdisk_next(struct usbdisk_image *image, uint64_t *sector, uint8_t bytes[512]);
+
+/* Ends the handle, and frees all memory. What still waits is let go: carry it out before, or the device
+ * is left as by a cut. Answers 0 or EMPTY. */
+uint32_t usbdisk_end(struct usbdisk_image *image);
+
 /* What the program gives to the library.
  *
  * rattle_alloc: so many bytes, aligned to `alignment`, a power of two up to 16; `ok` is false where

@@ -2,6 +2,7 @@ pub mod Codes
 pub mod DiskRow
 pub mod Exports
 pub mod Held
+pub mod ImageExports
 pub mod Parts
 pub mod Seen
 pub mod Wanted

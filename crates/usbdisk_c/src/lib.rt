@@ -5,6 +5,7 @@ mod codes;
 mod exports;
 mod format;
 mod handle;
+mod image_exports;
 mod moves;
 mod parts;
 mod play;
@@ -19,4 +20,5 @@ pub use exports::{
     usbdisk_tick, usbdisk_version,
 };
 pub use handle::{Opaque, UsbDisk};
+pub use image_exports::{usbdisk_end, usbdisk_lay_log, usbdisk_migrate, usbdisk_next};
 pub use start::UsbDiskIdentity;
