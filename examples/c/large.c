@@ -173,7 +173,8 @@ int main(void)
     printf("a log of format 1: %s\n", cuts(1, 2 + 50 * SLOTS + 5, -1, 0x5A) ? "good at each cut" : "WRONG");
     printf("as one of format 2: %d calls\n", make(2, -1));
     printf("the last block then: %d\n", found());
-    printf("as one of format 1 again: %d calls, and its last block: %d\n", make(1, -1), found());
+    int calls = make(1, -1);
+    printf("as one of format 1 again: %d calls, and its last block: %d\n", calls, found());
     if (start(&disk))
         return EXIT_FAILURE;
     persist(&disk);
