@@ -45,7 +45,7 @@ slot_memory Two = 3848
 -- two batches and two buffers of a transfer each, so many for each slot, and the disk.
 abbrev pub memory_of : ℕ → ℕ → ℕ → ℕ → LogFormat → ℕ
 memory_of size slots span room format =
-    size + 512 * span + 528 * room + 2096 * limit_of format + slot_memory format * slots + 3128
+    size + 512 * span + 528 * room + 2096 * limit_of format + slot_memory format * slots + 3144
 
 abbrev pub TellsMemory : ℕ → ℕ → ℕ → ℕ → ℕ → ℕ → Type 0
 TellsMemory size format slots span room told =
