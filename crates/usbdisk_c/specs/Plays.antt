@@ -151,8 +151,8 @@ pub record Begins (first : Window) (device : Device) (new : Disk) : Type 0 where
   pub spared : IsSpared first (medium_of new)
 
 -- A start on this medium was refused, and left that one. Where a write or a flush was refused, the
--- writes and flushes of this very start had no room together; where a read was, one of them named a sector that
--- is not in memory.
+-- writes and flushes of this very start had no room together; where a read was, one of its reads
+-- named a sector that is not in memory.
 pub record EndsIn (first after : Window) (why : StartFault) : Type 0 where
   pub not : IsNotOpened (state_of first) (state_of after) why
   pub leaves : StartLeaves (state_of first) (state_of after)
