@@ -1,9 +1,12 @@
 -- What a write makes of a medium over an image file.
-use Rattle.std.proofs.Common.{◌≡◌, ◌≢◌, ◌⊎◌, refl, inl, inr, ℕ, ◌/◌, List, ◌∙◌, ap, Ok}
-use Rattle.std.proofs.lemmas.Bool.{cases_eq}
+use Rattle.std.proofs.Common.{◌≡◌, ◌≢◌, ◌⊎◌, ⊎_elim, refl, sym, inl, inr, ℕ, ◌+◌, ◌-◌, ◌*◌, ◌/◌, ◌%◌, ◌<◌, ◌≤◌, List, length, drop, get_or}
+use Rattle.std.proofs.Common.{◌∙◌, ap, Ok, arith}
+use Rattle.std.proofs.lemmas.Bool.{cases_eq, cases_lt}
+use Rattle.std.proofs.lemmas.List.{get_or-drop, get_or-take}
+use Rattle.medium.specs.FileStory.{holds}
 use Rattle.medium.specs.Medium.{Passes}
-use Rattle.medium.specs.ImageFile.{Copied, state_of, IsWritten}
-use Rattle.medium.specs.Tally.{of_all, of_kind, one_more}
+use Rattle.medium.specs.ImageFile.{Copied, state_of, refused, IsWritten, IsCopy, ComesAfter}
+use Rattle.medium.specs.Tally.{Tally, of_all, of_kind, one_more}
 use Rattle.medium.specs.Writes.{sector_of}
 use Rattle.medium.specs.declared.fault.MediumFault.{MediumFault}
 use Rattle.medium.specs.declared.fault.MediumFault.TheVariants.{Read, Write, Flush}
@@ -34,3 +37,71 @@ module _ (s : ℕ) (block : List ℕ) (old new : Copied) (written : IsWritten s 
     nothing_else = λ t image le since. inr since;
     looked_stays = λ other. refl;
   }
+
+-- a byte, as one of its sector
+byte_of : (bytes : List ℕ) (p : ℕ) → get_or bytes p 0 ≡ get_or (sector_of bytes (p / 512)) (p % 512) 0
+byte_of bytes p =
+    let place : p ≡ 512 * (p / 512) + p % 512 = omega arith in
+    ap (λ (n : ℕ). get_or bytes n 0) place ∙ sym (get_or-drop (512 * (p / 512)) bytes (p % 512) 0)
+    ∙ sym (get_or-take 512 (drop (512 * (p / 512)) bytes) (p % 512) 0 (omega arith))
+
+module _ (s : ℕ) (block : List ℕ) (old new : Copied) (written : IsWritten s block old new) (long : length block ≡ 512)
+    (fits : 512 * (s + 1) ≤ length old.bytes) where
+  here : (p : ℕ) → 512 * s ≤ p → p < 512 * s + 512 → holds new.file p ≡ get_or new.bytes p 0
+  here p low high =
+      let i : ℕ = p - 512 * s in
+      let place : p ≡ 512 * s + i = omega (arith, low) in
+      let below : i < 512 = omega (arith, low, high) in
+      ap (λ (n : ℕ). holds new.file n) place ∙ written.put.takes.has.here i (omega (arith, below, long))
+      ∙ ap (λ (l : List ℕ). get_or l i 0) (sym written.sectors.here) ∙ get_or-take 512 (drop (512 * s) new.bytes) i 0 below
+      ∙ get_or-drop (512 * s) new.bytes i 0 ∙ ap (λ (n : ℕ). get_or new.bytes n 0) (sym place)
+
+  elsewhere : (p : ℕ) → (p < 512 * s) ⊎ (512 * s + length block ≤ p) → IsCopy old → p < length new.bytes
+      → holds new.file p ≡ get_or new.bytes p 0
+  elsewhere p out copy below =
+      let stays = written.length_stays in
+      let other : p / 512 ≢ s = λ is. ⊎_elim (λ low. omega (arith, low, is)) (λ high. omega (arith, high, is, long)) out in
+      written.put.takes.has.elsewhere p out ∙ copy.bytes_are p (omega (arith, below, stays)) ∙ byte_of old.bytes p
+      ∙ ap (λ (l : List ℕ). get_or l (p % 512) 0) (sym (written.sectors.elsewhere (p / 512) other)) ∙ sym (byte_of new.bytes p)
+
+  -- a good write keeps the file a copy
+  copied : IsCopy old → IsCopy new
+  copied copy =
+      let stays = written.length_stays in
+      let size = copy.size in
+      let grows = written.put.takes.grows in
+      let most = written.put.takes.most in
+      record {
+        size = omega (arith, stays, size, grows, most, fits, long);
+        bytes_are = λ p below. ⊎_elim
+            (λ low. elsewhere p (inl low) copy below)
+            (λ high. ⊎_elim
+            (λ inside. here p high inside)
+            (λ past. elsewhere p (inr (omega (arith, past, long))) copy below)
+            (cases_lt p (512 * s + 512)))
+            (cases_lt p (512 * s));
+      }
+
+  pub written_follows : ComesAfter old new
+  written_follows = record {
+    length_stays = written.length_stays;
+    later = omega (arith, written.calls_are);
+    failures_stay = let same = ap of_all written.refused_stay in omega (arith, same);
+    writes_stay = let same = ap (λ (r : Tally). r.writes) written.refused_stay in omega (arith, same);
+    copy_stays = λ copy same. copied copy;
+  }
+
+-- after a write that was refused nothing is said of the file
+pub refused_follows : (old new : Copied) → new ≡ record (refused old Write) { file = new.file } → ComesAfter old new
+refused_follows old new is =
+    let bytes = ap (λ (m : Copied). length m.bytes) is in
+    let calls = ap (λ (m : Copied). m.calls) is in
+    let all = ap (λ (m : Copied). of_all m.refused) is in
+    let writes = ap (λ (m : Copied). m.refused.writes) is in
+    record {
+      length_stays = bytes;
+      later = omega (arith, calls);
+      failures_stay = omega (arith, all);
+      writes_stay = omega (arith, writes);
+      copy_stays = λ copy same. absurd (omega (arith, same, writes));
+    }

@@ -6,6 +6,7 @@ pub mod Keeping
 pub mod Looking
 pub mod Masks
 pub mod Moments
+pub mod Putting
 pub mod Remembering
 pub mod Rows
 pub mod Sending

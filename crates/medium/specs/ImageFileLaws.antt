@@ -18,6 +18,8 @@ comes_after_itself m = record {
   length_stays = refl;
   later = omega arith;
   failures_stay = omega arith;
+  writes_stay = omega arith;
+  copy_stays = λ copy same. copy;
 }
 
 pub comes_after_through : (a b c : Copied) → ComesAfter a b → ComesAfter b c → ComesAfter a c
@@ -25,4 +27,14 @@ comes_after_through a b c f g = record {
   length_stays = g.length_stays ∙ f.length_stays;
   later = omega (arith, f.later, g.later);
   failures_stay = omega (arith, f.failures_stay, g.failures_stay);
+  writes_stay = omega (arith, f.writes_stay, g.writes_stay);
+  copy_stays = λ copy same.
+      let first = f.writes_stay in
+      let second = g.writes_stay in
+      g.copy_stays (f.copy_stays copy (omega (arith, first, second, same))) (omega (
+        arith,
+        first,
+        second,
+        same,
+      ));
 }

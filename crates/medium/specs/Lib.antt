@@ -1,6 +1,7 @@
 pub mod Blocks
 pub mod History
 pub mod HistoryLaws
+pub mod FileStory
 pub mod ImageFile
 pub mod ImageFileLaws
 pub mod ImageFileView

@@ -1,17 +1,22 @@
 //! A medium over an image file.
-ghost use Rattle.std.specs.Prelude.{◌≡◌, ◌≢◌, ◌⊎◌, ◌+◌, ◌*◌, ◌%◌, ◌<◌, ◌≤◌, ◌↔◌, length, replicate};
+ghost use Rattle.std.specs.Prelude.{◌≡◌, ◌≢◌, ◌⊎◌, ◌+◌, ◌*◌, ◌%◌, ◌<◌, ◌≤◌, ◌↔◌, ◌^◌, length, replicate, [], ◌∷◌};
 ghost use Rattle.std.specs.Prelude.{IfOk, IfErr, IsErrOf, OnOk, OnErr};
+ghost use Rattle.medium.specs.FileStory.{IsReadWhole, IsMadeOf, IsPut, MayPut};
 ghost use Rattle.medium.specs.ImageFile.{state_of, fresh, IsImage};
 ghost use Rattle.medium.specs.Medium.{Holds};
+ghost use Rattle.medium.specs.declared.file_call.FileCall.TheVariants.{Lock, Resize};
 ghost use Rattle.medium.specs.Moments.{IsFlushed};
 ghost use Rattle.medium.specs.Writes.{sector_of};
 
 use crate::count::Count;
 use crate::fault::MediumFault;
 use crate::medium::Medium;
+use crate::opened_file::OpenedFile;
 use crate::sector_file::SectorFile;
 use crate::sectors::{SECTOR, load, store};
 use crate::tally::Calls;
+use crate::told_file::ToldFile;
+use crate::whole::{lock_and_empty, lock_and_measure, put, read_whole};
 use std::fs::{Files, OpenOptions};
 use std::io;
 use std::marker::Model;
@@ -46,7 +51,7 @@ pub enum FileError {
 /// premise: nothing here proves it, and a write that the system broke off may have torn a sector.
 #[derive(Drop)]
 pub struct FileMedium<F> {
-    file: F,
+    file: OpenedFile<F>,
     bytes: Vec<u8>,
     calls: Count,
     made: Calls,
@@ -74,24 +79,23 @@ impl<F: SectorFile + Drop> FileMedium<F> {
         rt: &R,
         path: &str,
     ) -> Result<FileMedium<F>, FileError>
-        ensures fresh { IfOk result (λ m. m ≡ fresh m.bytes) }
+        ensures fresh { IfOk result (λ m. m ≡ fresh m.file m.bytes) }
         ensures image { IfOk result (λ m. IsImage m.bytes) }
+        ensures copied { IfOk result (λ m. IsReadWhole m.bytes m.file) }
         ensures flushed { IfOk result (λ m. IsFlushed (state_of m)) }
     {
-        let Ok(mut file) = OpenOptions::new().read(true).write(true).open(rt, path) else {
+        let Ok(file) = OpenOptions::new().read(true).write(true).open(rt, path) else {
             return Err(FileError::File);
         };
-        let Ok(()) = file.try_lock() else {
+        let mut file = OpenedFile::new(file);
+        let Ok(length) = lock_and_measure(&mut file) else {
             return Err(FileError::File);
         };
-        let Ok(metadata) = file.metadata() else {
-            return Err(FileError::File);
-        };
-        let length = check_length(metadata.len())?;
+        let length = check_length(length)?;
         let Ok(mut bytes) = vec![in rt.alloc(); 0u8; length] else {
             return Err(FileError::NoMemory);
         };
-        let Ok(()) = file.read_exact(&mut bytes) else {
+        let Ok(()) = read_whole(&mut file, &mut bytes) else {
             return Err(FileError::File);
         };
         Ok(FileMedium::over(file, bytes))
@@ -109,7 +113,8 @@ impl<F: SectorFile + Drop> FileMedium<F> {
         path: &str,
         sectors: u64,
     ) -> Result<FileMedium<F>, FileError>
-        ensures zeros { IfOk result (λ m. m ≡ fresh (replicate (512 * sectors) 0)) }
+        ensures zeros { IfOk result (λ m. m ≡ fresh m.file (replicate (512 * sectors) 0)) }
+        ensures made { IfOk result (λ m. IsMadeOf (replicate (512 * sectors) 0) m.file) }
         ensures flushed { IfOk result (λ m. IsFlushed (state_of m)) }
         ensures none { IsErrOf result FileError.BadLength ↔ sectors ≡ 0 }
         ensures long { IsErrOf result FileError.TooLong ↔ 65536 < sectors }
@@ -118,10 +123,10 @@ impl<F: SectorFile + Drop> FileMedium<F> {
         let Ok(bytes) = vec![in rt.alloc(); 0u8; length] else {
             return Err(FileError::NoMemory);
         };
-        let Ok(file) = emptied_file(rt, path) else {
+        let Ok(mut file) = emptied_file(rt, path) else {
             return Err(FileError::File);
         };
-        let Ok(()) = file.write_all_at(&bytes, 0) else {
+        let Ok(()) = put(&mut file, &bytes, 0) else {
             return Err(FileError::File);
         };
         Ok(FileMedium::over(file, bytes))
@@ -130,8 +135,8 @@ impl<F: SectorFile + Drop> FileMedium<F> {
 
 impl<F> FileMedium<F> {
     // A file of these bytes.
-    fn over(file: F, bytes: Vec<u8>) -> FileMedium<F>
-        ensures { result ≡ fresh bytes.items }
+    fn over(file: OpenedFile<F>, bytes: Vec<u8>) -> FileMedium<F>
+        ensures { result ≡ fresh file.story.told bytes.items }
     {
         FileMedium {
             file,
@@ -145,17 +150,23 @@ impl<F> FileMedium<F> {
 
 // The file at this path, made where there is none, locked and only then emptied. To open a pipe for
 // reading and writing does not wait for another end, and what is no plain file is not touched.
-fn emptied_file<F: SectorFile + Drop, R: Files<File = F>>(rt: &R, path: &str) -> io::Result<F> {
+fn emptied_file<F: SectorFile + Drop, R: Files<File = F>>(
+    rt: &R,
+    path: &str,
+) -> io::Result<OpenedFile<F>>
+    ensures asked { IfOk result (λ file. file.story.told.asked ≡ Lock ∷ Resize 0 ∷ []) }
+    ensures size { IfOk result (λ file. file.story.told.size ≡ 0) }
+{
     let file = OpenOptions::new()
         .read(true)
         .write(true)
         .create(true)
         .open(rt, path)?;
-    if !file.metadata()?.is_file() {
+    let mut file = OpenedFile::new(file);
+    if !file.is_plain()? {
         return Err(io::Error::from(io::ErrorKind::InvalidInput));
     }
-    file.try_lock()?;
-    file.set_len(0)?;
+    lock_and_empty(&mut file)?;
     Ok(file)
 }
 
@@ -188,19 +199,22 @@ fn length_of(sectors: u64) -> Result<usize, FileError>
 }
 
 // Writes a block to a sector's place in a file, and then in the copy of its bytes.
-fn write_through<F: SectorFile>(
-    file: &F,
+fn write_through<S: ToldFile>(
+    file: &mut S,
     copy: &mut Vec<u8>,
     sector: u64,
     block: &[u8; 512],
 ) -> io::Result<()>
-    requires { 512 * (sector + 1) ≤ length copy.old.items }
+    requires fits { 512 * (sector + 1) ≤ length copy.old.items }
+    requires few { length copy.old.items < 2 ^ 63 }
     ensures ok { OnOk result
         (Holds sector block.now (sector_of copy.old.items) (sector_of copy.new.items)) }
-    ensures err { OnErr result (copy.new.items ≡ copy.old.items) }
+    ensures put { OnOk result (IsPut (512 * sector) block.now (S.told file.old) (S.told file.new)) }
+    ensures err { OnErr result ((copy.new.items ≡ copy.old.items)
+        × MayPut (512 * sector) 512 (S.told file.old) (S.told file.new)) }
     ensures length { length copy.new.items ≡ length copy.old.items }
 {
-    file.write_all_at(block, sector * SECTOR as u64)?;
+    put(file, block, sector * SECTOR as u64)?;
     store(copy, sector, block);
     Ok(())
 }
@@ -208,7 +222,7 @@ fn write_through<F: SectorFile>(
 impl<F: SectorFile> Medium for FileMedium<F> {
     ghost use Rattle.std.specs.Prelude.{◌≡◌, ◌⊎◌, ◌<◌, IsOk, OnOk, OnErr};
     ghost use Rattle.medium.specs.Medium.{Stays, Holds, Within, Gains, Only, Passes, LooksOnly};
-    ghost use Rattle.medium.specs.ImageFile.{state_of, called, refused, IsWritten, ComesAfter};
+    ghost use Rattle.medium.specs.ImageFile.{state_of, called, flushed, unflushed, IsWritten, IsNotWritten, ComesAfter};
     ghost use Rattle.medium.specs.ImageFileLaws.{is_sound, comes_after_itself, comes_after_through};
     ghost use Rattle.medium.specs.declared.fault.MediumFault.TheVariants.{Read, Write, Flush};
 
@@ -246,7 +260,7 @@ impl<F: SectorFile> Medium for FileMedium<F> {
     fn write(&mut self, sector: u64, from: &[u8; 512]) -> Result<(), MediumFault>
         requires { sector < (state_of self.old).size }
         ensures exact { OnOk result (IsWritten sector from.now self.old self.new) }
-        ensures refused { OnErr result (self.new ≡ refused self.old Write) }
+        ensures refused { OnErr result (IsNotWritten sector self.old self.new) }
         ensures ok { OnOk result
             (Holds sector from.now (state_of self.old).content (state_of self.new).content) }
         ensures err { OnErr result (Stays (state_of self.old).content (state_of self.new).content
@@ -258,7 +272,7 @@ impl<F: SectorFile> Medium for FileMedium<F> {
     {
         self.calls = self.calls.next();
         self.made.add(MediumFault::Write);
-        let Ok(()) = write_through(&self.file, &mut self.bytes, sector, from) else {
+        let Ok(()) = write_through(&mut self.file, &mut self.bytes, sector, from) else {
             self.refused.add(MediumFault::Write);
             return Err(MediumFault::Write);
         };
@@ -266,8 +280,8 @@ impl<F: SectorFile> Medium for FileMedium<F> {
     }
 
     fn flush(&mut self) -> Result<(), MediumFault>
-        ensures exact { OnOk result (self.new ≡ called self.old Flush) }
-        ensures refused { OnErr result (self.new ≡ refused self.old Flush) }
+        ensures exact { OnOk result (self.new ≡ flushed self.old) }
+        ensures refused { OnErr result (self.new ≡ unflushed self.old) }
         ensures ok { OnOk result (Only (state_of self.old).content (state_of self.new).may_leave) }
         ensures content { Stays (state_of self.old).content (state_of self.new).content }
         ensures sets { Within (state_of self.new).may_leave (state_of self.old).may_leave }
@@ -276,7 +290,7 @@ impl<F: SectorFile> Medium for FileMedium<F> {
     {
         self.calls = self.calls.next();
         self.made.add(MediumFault::Flush);
-        let Ok(()) = self.file.sync_all() else {
+        let Ok(()) = self.file.sync() else {
             self.refused.add(MediumFault::Flush);
             return Err(MediumFault::Flush);
         };

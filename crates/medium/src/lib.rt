@@ -4,8 +4,11 @@
 mod count;
 mod fault;
 mod file;
+mod file_call;
+mod file_story;
 mod kept;
 mod medium;
+mod opened_file;
 mod outlet;
 mod power;
 mod sector_file;
@@ -13,7 +16,9 @@ mod sectors;
 mod sim;
 mod switch;
 mod tally;
+mod told_file;
 mod unflushed;
+mod whole;
 
 pub use fault::MediumFault;
 pub use file::{FileError, FileMedium};

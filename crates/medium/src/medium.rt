@@ -17,7 +17,11 @@ pub trait Medium {
     fn sectors(&self) -> u64
         ensures { result ≡ (state self.now).size };
 
-    /// Reads one sector. At an `Err` the array may hold anything.
+    /// Reads one sector.
+    ///
+    /// # Errors
+    ///
+    /// `Read` where the medium refuses the read. The array may hold anything then.
     fn read(&mut self, sector: u64, to: &mut [u8; 512]) -> Result<(), MediumFault>
         requires { sector < (state self.old).size }
         ensures ok { OnOk result (to.new ≡ (state self.old).content sector) }
@@ -28,7 +32,10 @@ pub trait Medium {
             × LooksOnly (λ s. s ≡ sector) (state self.old) (state self.new) };
 
     /// Writes one sector. A cut may lose the write until a good flush.
-    /// At an `Err` it may have happened or not.
+    ///
+    /// # Errors
+    ///
+    /// `Write` where the medium refuses the write. It may have happened or not.
     fn write(&mut self, sector: u64, from: &[u8; 512]) -> Result<(), MediumFault>
         requires { sector < (state self.old).size }
         ensures ok { OnOk result
@@ -40,7 +47,10 @@ pub trait Medium {
         ensures follows { follows self.old self.new };
 
     /// Makes all sectors durable: a cut after it leaves what a read gives.
-    /// At an `Err` every write may still be lost.
+    ///
+    /// # Errors
+    ///
+    /// `Flush` where the medium refuses the flush. Every write may still be lost.
     fn flush(&mut self) -> Result<(), MediumFault>
         ensures ok { OnOk result (Only (state self.old).content (state self.new).may_leave) }
         ensures content { Stays (state self.old).content (state self.new).content }

@@ -1,12 +1,11 @@
 //! A file that can hold the sectors of an image.
 use std::fs::{File, OpenFile};
 use std::io;
-use std::io::Read;
 use std::os::unix::fs::FileExt;
 
-/// A file whose bytes are read from its start on and written at their places, and which one holder
-/// at a time may have locked.
-pub trait SectorFile: Read + FileExt + OpenFile {
+/// A file whose bytes are read and written at their places, and which one holder at a time may have
+/// locked.
+pub trait SectorFile: FileExt + OpenFile {
     /// Locks the file for this handle, until it is dropped. It does not wait.
     ///
     /// # Errors
