@@ -93,6 +93,10 @@ impl Super {
     }
 
     /// The super that these bytes spell, or the first of their faults.
+    ///
+    /// # Errors
+    ///
+    /// The first fault that applies, in the order of `SuperFault`.
     pub fn decode(sector: &[u8; 512]) -> Result<Super, SuperFault>
         ensures ok { IfOk result (λ sizes. IsSuper (shape_of sizes) sector.now) }
         ensures all { (shape : Shape) → IsSuper shape sector.now
