@@ -52,6 +52,8 @@ fn mode_parameters(wce: bool) -> [u8; 24]
 /// changeable (1) or default (2) values of the caching mode page, which is also all that page code
 /// 3Fh gives (SPC-4, MODE SENSE(6) command). `wce` says whether the write cache is enabled.
 ///
+/// # Errors
+///
 /// Another page or subpage is an invalid field in the command; saved values are not supported.
 pub fn mode_sense(
     control: u8,
@@ -90,7 +92,11 @@ fn selected_bit(list: &[u8]) -> Result<Option<bool>, Sense>
 
 /// Whether the write cache is enabled after MODE SELECT(6) with this parameter list, where `wce`
 /// says whether it was before: a list of no bytes, a mode parameter header, or one with a caching
-/// mode page behind it. Anything else is an invalid field in the parameter list.
+/// mode page behind it.
+///
+/// # Errors
+///
+/// `INVALID_FIELD_IN_PARAMETER_LIST` for every other list.
 pub fn mode_select(list: &[u8], wce: bool) -> Result<bool, Sense>
     ensures answer { result ≡ mode_select_answer list.now wce }
     ensures page { (device : ℕ) (enabled : Bool)

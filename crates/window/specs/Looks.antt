@@ -1,12 +1,14 @@
--- Where the sectors that reads name are in sight, no call is refused.
+-- Where the sectors that reads name are in sight, no read misses, and no call is refused.
 use Rattle.std.specs.Prelude.{◌≡◌, ◌<◌, ◌≤◌, ℕ, ◌+◌, true, length}
-use Rattle.std.proofs.Common.{arith}
+use Rattle.std.proofs.Common.{arith, sym, ◌∙◌, subst, List}
+use Rattle.std.specs.Prelude.{All}
+use Rattle.std.proofs.lemmas.List.{append_cancel_left}
 use Rattle.std.proofs.lemmas.Bool.Decides.{nat_tests}
 use Rattle.std.proofs.lemmas.List.Elements.{All-weaker}
 use Rattle.std.proofs.lemmas.List.Sums.{list_all-from_AllPass}
 use Rattle.medium.specs.Medium.{LooksOnly}
 use Rattle.medium.specs.Sent.{sent}
-use Rattle.window.specs.Window.{Window, state_of, is_in_sight, IsServed}
+use Rattle.window.specs.Window.{Window, state_of, is_in_sight, ComesAfter, IsServed}
 
 -- the first sectors are in sight
 pub near_in_sight : (w : Window) (s : ℕ) → s < w.near → is_in_sight w s ≡ true
@@ -26,3 +28,14 @@ pub none_refused : (P : ℕ → Type 0) (old new : Window) → IsServed old new
 none_refused P old new served sight named few = served named.looks named.looked
     (list_all-from_AllPass (is_in_sight old) named.looks
     (All-weaker P (λ s. is_in_sight old s ≡ true) sight named.looks named.only)) few
+
+-- None of their reads misses, whatever the room.
+pub none_missed : (P : ℕ → Type 0) (old new : Window) → ComesAfter old new
+    → ((s : ℕ) → P s → is_in_sight old s ≡ true) → LooksOnly P (state_of old) (state_of new)
+    → new.seen.told.refused.reads ≡ old.seen.told.refused.reads
+none_missed P old new follows sight named =
+    let same = append_cancel_left old.seen.looked named.looks follows.looks
+    (sym named.looked ∙ follows.looked) in
+    follows.in_sight (list_all-from_AllPass (is_in_sight old) follows.looks
+    (All-weaker P (λ s. is_in_sight old s ≡ true) sight follows.looks
+    (subst (λ (l : List ℕ). All P l) same named.only)))

@@ -15,6 +15,10 @@ pub enum Mismatch {
 }
 
 /// Tells what has another value than the one that is wanted.
+///
+/// # Errors
+///
+/// `Value` where the two differ.
 pub fn same<T: PartialEq + Drop>(what: &'static str, found: T, wanted: T) -> Result<(), Mismatch>
     ensures { is_ok result ≡ T.eq found wanted }
 {
@@ -22,6 +26,10 @@ pub fn same<T: PartialEq + Drop>(what: &'static str, found: T, wanted: T) -> Res
 }
 
 /// Tells what does not hold.
+///
+/// # Errors
+///
+/// `Value` where the fact does not hold.
 pub fn holds(what: &'static str, fact: bool) -> Result<(), Mismatch>
     ensures { is_ok result ≡ fact }
 {

@@ -59,9 +59,12 @@ fn is_meaningful(packet: &[u8]) -> bool
     matches!(packet[12], 0 | DIRECTION_IN) && packet[13] == 0 && matches!(packet[14], 1..=16)
 }
 
-/// Reads a command block wrapper (Bulk-Only Transport 1.0, 5.1 and 6.2). A packet of another length
-/// than 31 bytes is refused first, then another signature, then fields that are not meaningful.
-/// The bytes past the command block's length are ignored.
+/// Reads a command block wrapper (Bulk-Only Transport 1.0, 5.1 and 6.2). The bytes past the command
+/// block's length are ignored.
+///
+/// # Errors
+///
+/// `Length` for a packet of another length than 31 bytes; then `Signature`; then `NotMeaningful`.
 pub fn read_cbw(packet: &[u8]) -> Result<Cbw, CbwFault>
     ensures exact { MatchResult result (SpellsCommand packet.now) (HasFault packet.now) }
     ensures only { IfOk result (λ wrapper.
