@@ -6,6 +6,17 @@ use Rattle.medium.specs.declared.fault.MediumFault.{MediumFault}
 use Rattle.medium.proofs.Moments.{started_within, goes_on_within, weaker}
 use Rattle.redo_log.specs.Calls.{gaining, WritesOnly}
 
+-- a call that writes a sector
+pub one_write : (place : ℕ) (bytes : List ℕ) (old new : State) {fault : MediumFault} {result : Result (Unit {0}) MediumFault} → IsSound old
+    → Passes fault result old new → Gains place bytes old.may_leave new.may_leave → WritesOnly place bytes old new
+one_write place bytes old new {fault} {result} sound wrote gains = record {
+  moments = goes_on_within bound old old new (started_within bound old sound (λ s c left. inl left)) wrote gains;
+  sets = gains;
+}
+  where
+    bound : Sets
+    bound = gaining place bytes old.may_leave
+
 -- a call that writes nothing, and then one that writes a sector
 pub quiet_write : (place : ℕ) (bytes written : List ℕ) (old mid new : State) {first second : MediumFault}
     {one two : Result (Unit {0}) MediumFault} → IsSound old → written ≡ bytes → Passes first one old mid

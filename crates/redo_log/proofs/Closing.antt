@@ -23,8 +23,9 @@ use Rattle.redo_log.specs.Logged.{Logged}
 use Rattle.redo_log.specs.Stages.{value_at, begun_at, needed_at, AreInside, IsRecord, IsUnderWay, IsRing, IsAheadOf, IsSized}
 use Rattle.redo_log.specs.Turns.{kept_by, MayTurn, IsTurned, IsNextTurn}
 use Rattle.redo_log.specs.Calls.{Call, fault_of, MayAdd, IsDone, IsNextCall}
-use Rattle.redo_log.specs.Held.{View, with_record, view_retired, HasDurable, MayLeave, HoldsView}
+use Rattle.redo_log.specs.Held.{View, with_record, view_retired, needed_of, with_head, HasDurable, MayLeave, HoldsView}
 use Rattle.redo_log.proofs.Covering.{needed_one}
+use Rattle.redo_log.proofs.Heads.{head_within, older_one, heads_quiet, each_head}
 use Rattle.redo_log.proofs.Keeping.{Logged-records}
 use Rattle.redo_log.proofs.Stepping.{step_leaves, step_held, step_last}
 use Rattle.redo_log.proofs.Finding.{copy_is}
@@ -77,19 +78,21 @@ dead_held log view old new sound hv same_size cuts = record {
 }
 
 -- where nothing is under way each image has the durable records of a live log, and none behind them
-pub rest_logged : (log : LogValue) (m : State) (view : View) → HoldsView log m view → log.dead ≡ false → view.ours ≡ true
-    → log.steps_left ≡ 0 → EachCut (Logged log.shape log.head view.records view.array) m
+rest_logged : (log : LogValue) (m : State) (view : View) → HoldsView log m view → log.dead ≡ false → view.ours ≡ true
+    → log.steps_left ≡ 0 → EachCut (Logged log.shape log.head view.records view.array) (with_head m)
 rest_logged log m view holds live ours no_steps image cut =
-    let rests = ((holds.guards live ours).each image cut).rests no_steps in
+    let rests = ((holds.guards live ours).guards.each image cut).rests no_steps in
     rests_logged (layout_of log.shape.format) (laws_of log.shape.format) log.shape rests.keeps.super.some_slots image log.head view.records
     view.array holds.few rests
 
--- so a cut leaves them
-pub durable_whole : (log : LogValue) (m : State) (view : View) → HoldsView log m view → log.dead ≡ false → view.ours ≡ true
-    → log.steps_left ≡ 0 → EachCut (HasDurable m.size log view) m
-durable_whole log m view holds live ours no_steps image cut =
-    Logged-records m.size log.shape log.head view.records view.array image holds.fits
-    (rest_logged log m view holds live ours no_steps image cut)
+-- so a cut leaves them, whichever head is there
+pub durable_whole : (log : LogValue) (m : State) (view : View) → IsSized log.shape → HoldsView log m view → log.dead ≡ false
+    → view.ours ≡ true → log.steps_left ≡ 0 → EachCut (HasDurable m.size log view) m
+durable_whole log m view sized holds live ours no_steps =
+    each_head log.shape log.head view m (Logged log.shape log.head view.records view.array) (HasDurable m.size log view)
+    (needed_of log) (holds.guards live ours).heads (rest_logged log m view holds live ours no_steps)
+    (λ image rest. Logged-records m.size log.shape log.head view.records view.array image holds.fits rest)
+    (λ image newer same older rest. older_one log.shape sized log.head view m.size holds.fits image newer same older rest)
 
 -- no count falls in a turn
 pub turn_moments : (turn : Turn) (old new : State) → IsSound old → MayTurn turn old new → LeavesOnly (λ _. Unit {0}) old new
@@ -110,7 +113,7 @@ module _ (ahead : Ahead) (shape : Shape) (sized : IsSized shape) (head : ℕ) (w
     (live : log.dead ≡ false) (ring : IsRing shape waiting turned items writing)
     (sent : IsAheadOf ahead shape head waiting turned) (least : 1 ≤ head)
     (most : head + length waiting + begun_at writing < 2 ^ 63) where
-  dead_is : dead ≡ false
+  pub dead_is : dead ≡ false
   dead_is = ap (λ (v : LogValue). v.dead) shown ∙ live
 
   -- a record under way has a stamp of its own
@@ -202,30 +205,30 @@ module _ (ahead : Ahead) (shape : Shape) (sized : IsSized shape) (head : ℕ) (w
             → EachCut (HasDurable new.size (value_at ahead shape head (waiting ++ items ∷ []) turned kept [] None dead)
             (with_record view)) new
         step_whole last ours =
-            durable_whole (value_at ahead shape head (waiting ++ items ∷ []) turned kept [] None dead) new (with_record view)
+            durable_whole (value_at ahead shape head (waiting ++ items ∷ []) turned kept [] None dead) new (with_record view) sized
             (step_durable last)
             dead_is ours refl
 
   -- a record waits
   module _ (numbers : List ℕ) (newer : List (List ℕ)) (waits : waiting ≡ numbers ∷ newer) where
-    waiting_is : value_at ahead shape head (numbers ∷ newer) turned kept items writing false ≡ log
+    pub waiting_is : value_at ahead shape head (numbers ∷ newer) turned kept items writing false ≡ log
     waiting_is =
         ap (λ (d : Bool). value_at ahead shape head (numbers ∷ newer) turned kept items writing d) (sym dead_is)
         ∙ ap (λ (l : List (List ℕ)). value_at ahead shape head l turned kept items writing dead) (sym waits)
         ∙ shown
 
-    ring_is : IsRing shape (numbers ∷ newer) turned items writing
+    pub ring_is : IsRing shape (numbers ∷ newer) turned items writing
     ring_is = subst (λ (l : List (List ℕ)). IsRing shape l turned items writing) waits ring
 
     -- what was sent home ahead is retired, or at home
-    past : ahead.home ≤ head
+    pub past : ahead.home ≤ head
     past = ⊎_elim (λ (less : ahead.home < head). omega (arith, less)) (λ same. omega (arith, same.0)) sent
 
-    away : turned < turns_home shape.format (length numbers) → ahead.home ≢ head
+    pub away : turned < turns_home shape.format (length numbers) → ahead.home ≢ head
     away below same = ⊎_elim (λ (less : ahead.home < head). omega (arith, less, same))
         (λ home. omega (arith, below, home.2, ap (λ (l : List (List ℕ)). turns_home shape.format (length (get_or l 0 []))) waits)) sent
 
-    under_is : (made : ℕ) → writing ≡ Some made
+    pub under_is : (made : ℕ) → writing ≡ Some made
         → IsRecord shape (head + length (numbers ∷ newer)) items × (made < steps_for shape.format (length items))
     under_is made at =
         subst (λ (l : List (List ℕ)). IsRecord shape (head + length l) items × (made < steps_for shape.format (length items))) waits
@@ -369,8 +372,13 @@ quiet_held log view old new quiet holds = record {
         copied = λ i low high. quiet.content_stays _ ∙ s.copied i low high;
       };
   guards = λ live ours.
-      let g = holds.guards live ours in record {
-        each = shrunk _ old new quiet.sets_shrink g.each;
-        homed = λ is. shrunk _ old new quiet.sets_shrink (g.homed is);
+      let s = holds.guards live ours in
+      let within = head_within old new (quiet.content_stays 1) quiet.sets_shrink in record {
+        guards = record {
+          each = shrunk _ (with_head old) (with_head new) within s.guards.each;
+          homed = λ is. shrunk _ (with_head old) (with_head new) within (s.guards.homed is);
+        };
+        heads = heads_quiet log.shape log.head view old new (needed_of log) (needed_of log) (quiet.content_stays 1) quiet.sets_shrink
+            (λ not. not) s.heads;
       };
 }

@@ -3,8 +3,8 @@ use Rattle.std.proofs.Common.{◌≡◌, ◌≢◌, ◌⊎◌, inl, inr, ⊎_eli
 use Rattle.std.proofs.Common.{drop, refl, sym, ◌∙◌, ap, subst, arith, length-append}
 use Rattle.std.proofs.lemmas.Bool.{cases_lt}
 use Rattle.medium.specs.Medium.{State, Image, Holds, Gains, Only, IsSound}
-use Rattle.medium.specs.Moments.{EachCut, IsQuiet}
-use Rattle.medium.proofs.Moments.{content_has, shrunk, each_write, each_flush}
+use Rattle.medium.specs.Moments.{EachCut}
+use Rattle.medium.proofs.Moments.{content_has, each_write, each_flush}
 use Rattle.log_layout.specs.Places.{Shape, first_home, sectors_of}
 use Rattle.log_layout.specs.Sectors.{IsHead}
 use Rattle.log_image.specs.Record.{Entry, with_blocks}
@@ -89,22 +89,6 @@ module _ (shape : Shape) (sized : IsSized shape) (head : ℕ) (view : View) wher
       (λ (none : steps ≤ 0).
       inl (rests_logged L laws shape sized.some image head view.records view.array few (safe.rests (omega (arith, none)))))
       (cases_lt 0 steps)
-
-  -- calls that wrote nothing
-  pub Guards-quiet : (steps made retire : ℕ) (old new : State) → IsQuiet old new → Guards shape head view steps made retire old
-      → Guards shape head view steps made retire new
-  Guards-quiet steps made retire old new quiet g = record {
-    each = shrunk _ old new quiet.sets_shrink g.each;
-    homed = λ is. shrunk _ old new quiet.sets_shrink (g.homed is);
-  }
-
-  -- a turn that is not the flush
-  pub Guards-turned : (steps made retire left : ℕ) (m : State) → left ≢ 1 → Guards shape head view steps made retire m
-      → Guards shape head view steps made left m
-  Guards-turned steps made retire left m not g = record {
-    each = g.each;
-    homed = λ is. absurd (not is);
-  }
 
   module _ (old new : State) (sound : IsSound old) where
     -- the next part is written
@@ -263,7 +247,7 @@ module _ (shape : Shape) (sized : IsSized shape) (head : ℕ) (view : View) wher
       abbrev pub HasAll : Image → Type 0
       HasAll image = (j : ℕ) → j < length view.records → IsWhole shape image (head + j) (get_or view.records j [])
 
-      past : (before image : Image) → Holds 1 bytes before image → Safe shape head view steps made before
+      pub past : (before image : Image) → Holds 1 bytes before image → Safe shape head view steps made before
           → IsHomed (image_view shape head view) before → IsPast image
       past before image write safe homed = record {
         rests = λ none. Resting-head L laws v sized.some sized.behind before image bytes waits h homed write (safe.rests none);

@@ -1,12 +1,13 @@
 -- What a store on top of a log cites.
-use Rattle.std.proofs.Common.{◌≡◌, ◌⊎◌, inl, inr, ⊎_elim, ℕ, ◌+◌, ◌<◌, ◌≤◌, List, [], ◌∷◌, ◌++◌, length, get_or, drop, refl, sym, ◌∙◌}
+use Rattle.std.proofs.Common.{◌≡◌, ◌≢◌, ◌⊎◌, inl, inr, ⊎_elim, ℕ, ◌+◌, ◌<◌, ◌≤◌, List, [], ◌∷◌, ◌++◌, length, get_or, drop, refl, sym, ◌∙◌}
 use Rattle.std.proofs.Common.{ap, subst}
 use Rattle.std.proofs.Common.{arith, length-append}
-use Rattle.std.specs.Prelude.{Bool, true}
+use Rattle.std.specs.Prelude.{Bool, true, false}
 use Rattle.std.proofs.Math.ListN.{get_or-map}
-use Rattle.medium.specs.Medium.{State, Image}
+use Rattle.medium.specs.Medium.{State, Image, CutLeaves, IsSound}
 use Rattle.medium.specs.Moments.{EachCut}
 use Rattle.medium.specs.Blocks.{Array}
+use Rattle.medium.proofs.Moments.{updated_elsewhere}
 use Rattle.log_layout.specs.Places.{Shape, first_home, sectors_of}
 use Rattle.log_image.specs.Record.{Entry, numbers_of, with_blocks, entries_of}
 use Rattle.log_image.specs.Formats.{layout_of}
@@ -21,21 +22,22 @@ use Rattle.redo_log.specs.Batch.{IsBatch}
 use Rattle.redo_log.specs.Logged.{HasNoRecord, AreHome}
 use Rattle.redo_log.specs.Stages.{homed_at, needed_at, IsRead}
 use Rattle.redo_log.specs.Held.{View, resting_view, with_begun, image_view, written_of, flushed_of, made_of, turned_of, oldest_of}
-use Rattle.redo_log.specs.Held.{needed_of, MayLeave, Guards}
+use Rattle.redo_log.specs.Held.{needed_of, MayLeave, Safe, Shields}
 use Rattle.redo_log.specs.Held.{stamps_of, HoldsView}
 use Rattle.redo_log.proofs.Counting.{none_written, steps_some, all_home}
 use Rattle.redo_log.proofs.Covering.{needed_covered}
 use Rattle.redo_log.proofs.Batching.{count_of}
+use Rattle.redo_log.proofs.Heads.{head_cut, heads_begun, put_head, put_cut}
 use Rattle.redo_log.proofs.Keeping.{Logged-records}
 use Rattle.redo_log.proofs.Turning.{all_read}
-pub use Rattle.redo_log.proofs.Closing.{quiet_held, durable_whole, rest_logged}
+pub use Rattle.redo_log.proofs.Closing.{quiet_held, durable_whole}
 pub use Rattle.redo_log.proofs.Finding.{home_is, copy_is}
 
 -- a new log holds a medium whose blocks are at home and whose log is fresh
-pub idle_holds : (shape : Shape) (next : ℕ) (array : Array) (ours : Bool) (m : State) → sectors_of shape ≤ m.size
+pub idle_holds : (shape : Shape) (next : ℕ) (array : Array) (ours : Bool) (m : State) → IsSound m → sectors_of shape ≤ m.size
     → ((b : ℕ) → b < shape.blocks → m.content (first_home shape + b) ≡ array b) → (ours ≡ true → EachCut (HasNoRecord shape next array) m)
     → HoldsView (idle_from shape next) m (resting_view array ours)
-idle_holds shape next array ours m fits home fresh = record {
+idle_holds shape next array ours m sound fits home fresh = record {
   fits = fits;
   durable = refl;
   under_way = refl;
@@ -54,8 +56,15 @@ idle_holds shape next array ours m fits home fresh = record {
     copied = λ i low high. absurd (omega (arith, high));
   };
   guards = λ live is. record {
-    each = λ image cut. record { rests = λ _. fresh is image cut; guarded = λ none. absurd (omega (arith, none)) };
-    homed = λ none. absurd (omega (arith, none));
+    guards = record {
+      each = λ image cut. record {
+        rests = λ _. fresh is image (head_cut m sound image cut);
+        guarded = λ none. absurd (omega (arith, none));
+      };
+      homed = λ none. absurd (omega (arith, none));
+    };
+    heads = λ image cut.
+        inl ((fresh is image cut).keeps.head_is.spelled ∙ sym (fresh is m.content sound.holds_content).keeps.head_is.spelled);
   };
 }
 
@@ -109,9 +118,19 @@ settled_holds log m view holds covered =
         written = (holds.stores live).written;
         copied = λ i low high. (holds.stores live).copied i (omega (arith, high, all)) high;
       };
-      guards = λ live ours. subst (λ (n : ℕ). Guards log.shape log.head view log.steps_left (made_of log) n m) needs
+      guards = λ live ours. subst (λ (n : ℕ). Shields log.shape log.head view log.steps_left (made_of log) n m) needs
           (holds.guards live ours);
     }
+
+-- whichever head an image has, it has the blocks of one that the log's guard speaks of
+pub blocks_guarded : (log : LogValue) (m : State) (view : View) → HoldsView log m view → log.dead ≡ false → view.ours ≡ true
+    → (image : Image) → CutLeaves m.may_leave image
+    → Safe log.shape log.head view log.steps_left (made_of log) (put_head m image)
+    × ((x : ℕ) → x ≢ 1 → put_head m image x ≡ image x)
+blocks_guarded log m view holds live ours image cut = (
+  (holds.guards live ours).guards.each (put_head m image) (put_cut m image cut),
+  λ x not. updated_elsewhere image 1 (m.content 1) x not,
+)
 
 -- the image is ours and stands for the log's array, or with the record under way
 pub may_leave_ours : (size : ℕ) (log : LogValue) (view : View) (image : Image) → MayLeave size log view image
@@ -170,24 +189,28 @@ begun_holds log m view numbers bytes holds room batch =
             subst (λ (t : ℕ). AreHome log.shape (oldest_of view) (homed_at log.shape.format t) m.content) turned (holds.stores live).copied;
       };
       guards = λ live ours. record {
-        each = λ image cut.
-            let rests = ((holds.guards live ours).each image cut).rests room.no_steps in
-            record {
-              rests = λ none. absurd (some_steps (omega (arith, none)));
-              guarded = λ _. subst
-                  (λ (k : ℕ). Guarded (layout_of log.shape.format)
-                  (image_view log.shape log.head (with_begun (entries_of numbers bytes) view)) k
-                  (flushed_of log.shape (with_begun (entries_of numbers bytes) view) (made_of (begun numbers log))) image)
-                  (sym w)
-                  (subst
-                  (λ (d : ℕ). Guarded (layout_of log.shape.format)
-                  (image_view log.shape log.head (with_begun (entries_of numbers bytes) view)) 0 d image)
-                  (sym f)
-                  (rests_begun (layout_of log.shape.format) (laws_of log.shape.format)
-                  (image_view log.shape log.head (with_begun (entries_of numbers bytes) view)) rests.keeps.super.some_slots few
-                  image (record { keeps = rests.keeps; carries = rests.carries })));
-            };
-        homed = λ is. (holds.guards live ours).homed (needs ∙ is);
+        guards = record {
+          each = λ image cut.
+              let rests = ((holds.guards live ours).guards.each image cut).rests room.no_steps in
+              record {
+                rests = λ none. absurd (some_steps (omega (arith, none)));
+                guarded = λ _. subst
+                    (λ (k : ℕ). Guarded (layout_of log.shape.format)
+                    (image_view log.shape log.head (with_begun (entries_of numbers bytes) view)) k
+                    (flushed_of log.shape (with_begun (entries_of numbers bytes) view) (made_of (begun numbers log))) image)
+                    (sym w)
+                    (subst
+                    (λ (d : ℕ). Guarded (layout_of log.shape.format)
+                    (image_view log.shape log.head (with_begun (entries_of numbers bytes) view)) 0 d image)
+                    (sym f)
+                    (rests_begun (layout_of log.shape.format) (laws_of log.shape.format)
+                    (image_view log.shape log.head (with_begun (entries_of numbers bytes) view)) rests.keeps.super.some_slots few
+                    image (record { keeps = rests.keeps; carries = rests.carries })));
+              };
+          homed = λ is. (holds.guards live ours).guards.homed (needs ∙ is);
+        };
+        heads = heads_begun log.shape log.head view (entries_of numbers bytes) m (needed_of log) (needed_of (begun numbers log))
+            (λ not is. not (needs ∙ is)) (holds.guards live ours).heads;
       };
     }
   where

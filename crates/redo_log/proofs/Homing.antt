@@ -1,14 +1,15 @@
 -- Each turn that retires the oldest durable record: what the log and its medium hold after it.
-use Rattle.std.proofs.Common.{◌≡◌, ◌≢◌, ◌⊎◌, inl, inr, ⊎_elim, ℕ, ◌+◌, ◌-◌, ◌<◌, ◌≤◌, List, [], ◌∷◌, length, get_or, drop, refl, sym, ◌∙◌}
+use Rattle.std.proofs.Common.{◌≡◌, ◌≢◌, ◌⊎◌, inl, inr, ⊎_elim, ℕ, ◌+◌, ◌-◌, ◌<◌, ◌≤◌, List, [], ◌∷◌, length, get_or, drop, refl, ◌∙◌}
 use Rattle.std.proofs.Common.{ap, subst, arith}
-use Rattle.std.specs.Prelude.{All, replicate, map, true, false, Option, Some, None}
+use Rattle.std.specs.Prelude.{All, replicate, true, false, Option, Some, None}
 use Rattle.std.proofs.lemmas.Bool.{cases_eq, cases_lt}
 use Rattle.std.proofs.lemmas.List.{length-map}
 use Rattle.std.proofs.Math.ListN.{get_or-map}
-use Rattle.medium.specs.Medium.{State, Image, IsSound}
+use Rattle.medium.specs.Medium.{State, Image, Holds, Gains, IsSound}
 use Rattle.medium.specs.Moments.{LeavesOnly}
-use Rattle.medium.proofs.Moments.{quiet_leaves}
-use Rattle.log_layout.specs.Places.{Shape, sectors_of}
+use Rattle.medium.proofs.Moments.{quiet_leaves, shrunk}
+use Rattle.log_layout.specs.declared.head.Head.{Head as HeadOf}
+use Rattle.log_layout.specs.Places.{Shape}
 use Rattle.log_layout.specs.Sectors.{IsRising}
 use Rattle.log_image.specs.Record.{Entry, numbers_of}
 use Rattle.log_image.specs.Layout.{Layout}
@@ -17,28 +18,27 @@ use Rattle.log_image.specs.Staged.{HasSlots}
 use Rattle.redo_log.specs.declared.turn.Turn.{Turn}
 use Rattle.redo_log.specs.declared.turn.Turn.TheVariants.{Load, Copy, Flush, Head}
 use Rattle.redo_log.specs.Value.{LogValue, Ahead, steps_for, turns_home, of_oldest}
-use Rattle.redo_log.specs.Stages.{value_at, steps_at, begun_at, oldest_at, homed_at, needed_at, AreInside, IsRecord, IsRead, IsSized}
+use Rattle.redo_log.specs.Stages.{value_at, steps_at, begun_at, homed_at, needed_at, AreInside, IsRecord, IsRead, IsSized}
 use Rattle.redo_log.specs.Calls.{gaining}
 use Rattle.redo_log.specs.Turns.{begun_with, head_bytes, kept_by, MayTurn, IsTurned, IsNextTurn, IsFlushTurn, IsHeadTurn}
 use Rattle.redo_log.specs.Held.{View, view_retired, image_view, written_of, made_of, turned_of, MayLeave, Stores, Safe, Guards, HoldsView}
+use Rattle.redo_log.specs.Held.{with_head, Shields}
 use Rattle.redo_log.proofs.Adding.{moments_have}
 use Rattle.redo_log.proofs.Batching.{count_of, record_entries}
 use Rattle.redo_log.proofs.Counting.{steps_are, one_left, all_home}
 use Rattle.redo_log.proofs.Covering.{needed_one}
+use Rattle.redo_log.proofs.Heads.{head_sound, head_only, head_within, head_gains, heads_home, heads_quiet}
+use Rattle.redo_log.proofs.Heads.{heads_flush, one_head}
 use Rattle.redo_log.proofs.Keeping.{Logged-records}
-use Rattle.redo_log.proofs.Storing.{drop-length, Stores-stays, Stores-turned, home_stores, head_stores}
-use Rattle.redo_log.proofs.Guarding.{safe_either, Guards-quiet, Guards-turned, home_each, homed_guards, head_each, head_guards, slots_less}
+use Rattle.redo_log.proofs.Passing.{ahead_guards, ahead_heads}
+use Rattle.redo_log.proofs.Storing.{drop-length, Stores-stays, Stores-turned, home_stores}
+use Rattle.redo_log.proofs.Guarding.{safe_either, home_each, homed_guards, head_each, head_guards, slots_less}
 use Rattle.redo_log.proofs.Guarding.{past_records}
-use Rattle.redo_log.proofs.Showing.{turned_at, of_oldest_is, turned_of_is, needed_of_is, nothing_home, not_homed, next_read}
-use Rattle.redo_log.proofs.Stepping.{guards_leave}
+use Rattle.redo_log.proofs.Showing.{of_oldest_is, turned_of_is, needed_of_is}
+use Rattle.redo_log.proofs.Leaving.{leave_of}
+use Rattle.redo_log.proofs.Waiting.{needs_then, needs_more, still_held, passed_held}
 use Rattle.redo_log.proofs.Turning.{BringsHome, new_head, all_read, brings_home}
 use Rattle.log_image.proofs.Formats.{laws_of}
-
--- without the oldest record its block numbers are gone too
-fewer_numbers : (records : List (List Entry)) (numbers : List ℕ) (newer : List (List ℕ)) → numbers ∷ newer ≡ map (λ r. numbers_of r) records
-    → newer ≡ map (λ r. numbers_of r) (drop 1 records)
-fewer_numbers [] numbers newer is = absurd (cc is)
-fewer_numbers (r ∷ records) numbers newer is = cc is
 
 module _ (ahead : Ahead) (shape : Shape) (sized : IsSized shape) (head : ℕ) (numbers : List ℕ) (newer : List (List ℕ)) (turned : ℕ)
     (kept under_way : List ℕ) (writing : Option ℕ) (past : ahead.home ≤ head)
@@ -65,14 +65,6 @@ module _ (ahead : Ahead) (shape : Shape) (sized : IsSized shape) (head : ℕ) (n
 
   abbrev made : ℕ
   made = made_of (value_at ahead shape head (numbers ∷ newer) turned kept under_way writing false)
-
-  -- the oldest record
-  abbrev oldest : List Entry
-  oldest = get_or view.records 0 []
-
-  -- how many turns bring it home
-  abbrev home : ℕ
-  home = turns_home shape.format (length numbers)
 
   abbrev left : ℕ → ℕ
   left t = turns_home shape.format (length numbers) + 2 - t
@@ -163,9 +155,9 @@ module _ (ahead : Ahead) (shape : Shape) (sized : IsSized shape) (head : ℕ) (n
     stored : Stores shape head view steps made turned old.content
     stored = subst (λ (t : ℕ). Stores shape head view steps made t old.content) turned_is (hv.stores refl)
 
-    guarded : view.ours ≡ true → Guards shape head view steps made (needs ahead turned) old
+    guarded : view.ours ≡ true → Shields shape head view steps made (needs ahead turned) old
     guarded ours =
-        subst (λ (r : ℕ). Guards shape head view steps made r old)
+        subst (λ (r : ℕ). Shields shape head view steps made r old)
         (needed_of_is ahead shape head (numbers ∷ newer) turned kept under_way writing false) (hv.guards refl ours)
 
     read : IsRead shape.format head (get_or view.records 0 []) turned kept
@@ -190,29 +182,21 @@ module _ (ahead : Ahead) (shape : Shape) (sized : IsSized shape) (head : ℕ) (n
         (λ both. inr (inl (both.0, short both.1, Logged-records old.size shape head _ _ image hv.fits both.2)))
         (safe_either shape sized head view steps made image slots hv.few safe)
 
+    -- the oldest record is flushed at home, and the one head is there
+    one_now : turned ≡ turns_home shape.format (length numbers) + 1 → view.ours ≡ true → Guards shape head view steps made 1 old
+    one_now last ours =
+        let one : left turned ≡ 1 = omega (arith, last) in
+        let needs_one : needs ahead turned ≡ 1 = ap (λ (l : ℕ). needed_at ahead head (head + length (numbers ∷ newer)) l) one in
+        one_head shape head view steps made old (subst (λ (r : ℕ). Shields shape head view steps made r old) needs_one (guarded ours))
+
     module _ (new : State) where
       -- a record that still waits
       held : (sent : Ahead) (same_size : new.size ≡ old.size) (t : ℕ) (k : List ℕ) → t < turns_home shape.format (length numbers) + 2
           → IsRead shape.format head (get_or view.records 0 []) t k → Stores shape head view steps made t new.content
-          → (view.ours ≡ true → Guards shape head view steps made (needs sent t) new) → HoldsView (sent_log sent t k) new view
+          → (view.ours ≡ true → Shields shape head view steps made (needs sent t) new) → HoldsView (sent_log sent t k) new view
       held sent same_size t k below r s g =
-          let needs_is = needed_of_is sent shape head (numbers ∷ newer) t k under_way writing false in
-          let t_is : turned_of (sent_log sent t k) ≡ t =
-          turned_of_is sent shape head (numbers ∷ newer) t k under_way writing false ∙ (omega (arith, below)) in
-          let fits : sectors_of shape ≤ new.size = omega (arith, same_size, hv.fits) in
-          record {
-            fits = fits;
-            durable = hv.durable;
-            under_way = hv.under_way;
-            next = hv.next;
-            few = hv.few;
-            sized = hv.sized;
-            kept = λ live. subst (λ (x : ℕ). IsRead shape.format head (get_or view.records 0 []) x k) (sym t_is) r;
-            leaves = λ ours. guards_leave new.size (sent_log sent t k) view new made (needs sent t) fits sized hv.few slots short
-                (g ours);
-            stores = λ live. subst (λ (x : ℕ). Stores shape head view steps made x new.content) (sym t_is) s;
-            guards = λ live ours. subst (λ (x : ℕ). Guards shape head view steps made x new) (sym needs_is) (g ours);
-          }
+          still_held ahead shape sized head numbers newer turned kept under_way writing view old hv slots short new same_size sent t k
+          below r s g
 
       -- a turn before the flush
       home_leaves : (turn : Turn) → BringsHome shape.format shape old.content head (get_or view.records 0 []) turned kept turn
@@ -223,9 +207,14 @@ module _ (ahead : Ahead) (shape : Shape) (sized : IsSized shape) (head : ℕ) (n
           let bytes : List ℕ = begun_with begin (old.content from) in
           let gained : State = record old { may_leave = gaining to (begun_with begin (old.content from)) old.may_leave } in
           moments_have (MayLeave old.size (waiting_log turned kept) view) to (begun_with begin (old.content from)) old new adds
-          (λ image cut. safe_leaves image
-          (home_each shape sized head view old gained sound steps made slots to (begun_with begin (old.content from))
-          (λ s c left. left) (homed_at shape.format turned) waits does.below does.at (guarded ours).each image cut))
+          (leave_of old.size (waiting_log turned kept) view gained (needs ahead turned) hv.fits sized (Safe shape head view steps made)
+          (heads_home shape sized head view old gained to (begun_with begin (old.content from)) (needs ahead turned) (needs ahead turned)
+          (homed_at shape.format turned) sound waits does.below does.at refl (λ s c left. left) (λ not. not) (guarded ours).heads)
+          (home_each shape sized head view (with_head old) (with_head gained) (head_sound old sound) steps made slots to
+          (begun_with begin (old.content from)) (head_gains old gained to (begun_with begin (old.content from)) refl (λ s c left. left))
+          (homed_at shape.format turned) waits does.below does.at (guarded ours).guards.each)
+          (λ image safe. ⊎_elim inl (λ both. inr (both.0, short both.1, both.2))
+          (safe_either shape sized head view steps made image slots hv.few safe)))
       home_leaves Flush does adds ours = absurd does
       home_leaves (Head h) does adds ours = absurd does
 
@@ -244,8 +233,6 @@ module _ (ahead : Ahead) (shape : Shape) (sized : IsSized shape) (head : ℕ) (n
       head_leaves (Head h) last is adds ours =
           let gained : State = record old { may_leave = gaining 1 (head_bytes h.stamp) old.may_leave } in
           let one : left turned ≡ 1 = omega (arith, last) in
-          let needs_one : needs ahead turned ≡ 1 =
-          ap (λ (l : ℕ). needed_at ahead head (head + length (numbers ∷ newer)) l) one in
           let last_one : of_oldest (waiting_log turned kept) ≡ 1 =
           of_oldest_is ahead shape head (numbers ∷ newer) turned kept under_way writing false ∙ one in
           moments_have (MayLeave old.size (waiting_log turned kept) view) 1 (head_bytes h.stamp) old new adds
@@ -262,7 +249,7 @@ module _ (ahead : Ahead) (shape : Shape) (sized : IsSized shape) (head : ℕ) (n
           past.0))
           (head_each shape sized head view old gained sound steps made slots (head_bytes h.stamp) waits
           (new_head h.stamp (head + 1) h.least h.most is) (λ s c left. left)
-          (subst (λ (r : ℕ). Guards shape head view steps made r old) needs_one (guarded ours)) image cut))
+          (one_now last ours) image cut))
 
       -- at each moment of the next turn a cut leaves what it might leave before, and with the new head the same array
       pub turn_leaves : (turn : Turn) → IsNextTurn shape head numbers kept turned turn → MayTurn turn old new → view.ours ≡ true
@@ -286,16 +273,32 @@ module _ (ahead : Ahead) (shape : Shape) (sized : IsSized shape) (head : ℕ) (n
             (Stores-turned shape sized head view steps made turned (turned + 1) new.content (λ i low high. omega (arith, low, does.0))
             (Stores-stays shape sized head view steps steps made made turned old.content new.content wrote (λ some. some)
             (omega arith) stored))
-            (λ ours. Guards-turned shape sized head view steps made (needs ahead turned) (needs sent (turned + 1)) new not
-            (Guards-quiet shape sized head view steps made (needs ahead turned) old new adds (guarded ours)))
+            (λ ours. record {
+              guards = record {
+                each = shrunk (Safe shape head view steps made) (with_head old) (with_head new)
+                    (head_within old new (adds.content_stays 1) adds.sets_shrink) (guarded ours).guards.each;
+                homed = λ e. absurd (not e);
+              };
+              heads = heads_quiet shape head view old new (needs ahead turned) (needs sent (turned + 1)) (adds.content_stays 1)
+                  adds.sets_shrink (λ _. not) (guarded ours).heads;
+            })
         home_held sent not (Copy from to begin) below does adds wrote =
             held sent same_size (turned + 1) kept (omega (arith, below)) does.read
             (home_stores shape sized head view steps made turned old.content new.content to (begun_with begin (old.content from)) wrote
             (homed_at shape.format turned) few_under_way waits rising refl does.more does.below does.at does.bytes stored)
-            (λ ours. record {
-              each = home_each shape sized head view old new sound steps made slots to (begun_with begin (old.content from)) adds.sets
-                  (homed_at shape.format turned) waits does.below does.at (guarded ours).each;
-              homed = λ e. absurd (not e);
+            (λ ours.
+            let same : new.content 1 ≡ old.content 1 = wrote.elsewhere 1 (λ e. omega (arith, e, does.at, sized.behind)) in
+            record {
+              guards = record {
+                each = home_each shape sized head view (with_head old) (with_head new) (head_sound old sound) steps made slots to
+                    (begun_with begin (old.content from))
+                    (head_gains old new to (begun_with begin (old.content from)) same adds.sets)
+                    (homed_at shape.format turned) waits does.below does.at (guarded ours).guards.each;
+                homed = λ e. absurd (not e);
+              };
+              heads = heads_home shape sized head view old new to (begun_with begin (old.content from)) (needs ahead turned)
+                  (needs sent (turned + 1)) (homed_at shape.format turned) sound waits does.below does.at same adds.sets (λ _. not)
+                  (guarded ours).heads;
             })
         home_held sent not Flush below does adds wrote = absurd does
         home_held sent not (Head h) below does adds wrote = absurd does
@@ -321,8 +324,12 @@ module _ (ahead : Ahead) (shape : Shape) (sized : IsSized shape) (head : ℕ) (n
             (all_read shape.format head (get_or view.records 0 []) (turned + 1) kept (omega (arith, all, home_is)))
             (Stores-turned shape sized head view steps made turned (turned + 1) new.content (λ i low high. omega (arith, high, there))
             s)
-            (λ ours. homed_guards shape sized head view old new sound steps made (needs ahead turned) (needs ahead (turned + 1))
-            (homed_at shape.format turned) wrote.1 there stored.copied (guarded ours))
+            (λ ours. record {
+              guards = homed_guards shape sized head view (with_head old) (with_head new) (head_sound old sound) steps made
+                  (needs ahead turned) (needs ahead (turned + 1)) (homed_at shape.format turned)
+                  (head_only old.content new (wrote.0 1) wrote.1) there stored.copied (guarded ours).guards;
+              heads = heads_flush shape head view old.content new (needs ahead (turned + 1)) (wrote.0 1) wrote.1;
+            })
         flush_held (Head h) all is wrote = absurd is
 
         -- after a turn that is not the last the log and its medium hold the same view
@@ -340,56 +347,45 @@ module _ (ahead : Ahead) (shape : Shape) (sized : IsSized shape) (head : ℕ) (n
         retired_log k = value_at ahead shape (head + 1) newer 0 k under_way writing false
 
         -- the head goes past the record
+        past_held : (bytes : List ℕ) → turned ≡ turns_home shape.format (length numbers) + 1 → Holds 1 bytes old.content new.content
+            → (view.ours ≡ true → Shields shape (head + 1) (view_retired 1 view) steps made (needs_then ahead shape head newer) new)
+            → HoldsView (retired_log (replicate 512 0)) new (view_retired 1 view)
+        past_held bytes last wrote guards =
+            passed_held ahead shape sized head numbers newer turned kept under_way writing view old hv slots short new same_size stored
+            (all_home shape.format (length (get_or view.records 0 [])) turned (omega (arith, last, home_is))
+            (omega (arith, so_far, home_is))) bytes wrote guards
+
+        abbrev after : ℕ
+        after = needs_then ahead shape head newer
+
+        -- it is flushed
         head_held : (turn : Turn) → turned ≡ turns_home shape.format (length numbers) + 1 → IsHeadTurn (head + 1) turn
             → MayTurn turn old new → IsTurned turn old new → HoldsView (retired_log (replicate 512 0)) new (view_retired 1 view)
         head_held (Load from) last is adds wrote = absurd is
         head_held (Copy from to begin) last is adds wrote = absurd is
         head_held Flush last is adds wrote = absurd is
-        head_held (Head h) last is adds wrote =
-            let f : List Entry → List ℕ = λ r. numbers_of r in
-            let fits : sectors_of shape ≤ new.size = omega (arith, same_size, hv.fits) in
-            let durable = fewer_numbers view.records numbers newer hv.durable in
-            let after : ℕ = needed_at ahead (head + 1) (head + 1 + length newer) (oldest_at shape.format newer 0) in
-            let needs_is = needed_of_is ahead shape (head + 1) newer 0 (replicate 512 0) under_way writing false in
-            let not_one : after ≢ 1 =
-            λ e. ⊎_elim (λ l. not_homed shape.format newer l) (λ covered. omega (arith, covered.1, past))
-            (needed_one ahead (head + 1) (head + 1 + length newer) (oldest_at shape.format newer 0) e) in
-            let t_is = turned_of_is ahead shape (head + 1) newer 0 (replicate 512 0) under_way writing false in
-            let second : get_or newer 0 [] ≡ numbers_of (get_or (drop 1 view.records) 0 []) =
-            ap (λ (l : List (List ℕ)). get_or l 0 []) durable ∙ get_or-map f (drop 1 view.records) 0 [] in
-            let long : length (get_or newer 0 []) ≡ length (get_or (drop 1 view.records) 0 []) =
-            count_of (get_or newer 0 []) (get_or (drop 1 view.records) 0 []) second in
-            let there : length (get_or view.records 0 []) ≤ homed_at shape.format turned =
-            all_home shape.format (length (get_or view.records 0 [])) turned (omega (arith, last, home_is))
-            (omega (arith, so_far, home_is)) in
-            let one : left turned ≡ 1 = omega (arith, last) in
-            let needs_one : needs ahead turned ≡ 1 =
-            ap (λ (l : ℕ). needed_at ahead head (head + length (numbers ∷ newer)) l) one in
+        head_held (Head h) last is adds wrote = past_held (head_bytes h.stamp) last wrote.0 (λ ours. record {
+          guards = head_guards shape sized head view old (with_head new) sound steps made slots (head_bytes h.stamp) waits
+              (new_head h.stamp (head + 1) h.least h.most is) after (needs_more ahead shape head newer past) wrote.0
+              (head_only new.content new refl wrote.1) (one_now last ours);
+          heads = heads_flush shape (head + 1) (view_retired 1 view) new.content new after refl wrote.1;
+        })
+
+        -- it is not flushed yet, and a slot is free besides the one that is passed
+        pub ahead_held : (h : HeadOf) → h.stamp ≡ head + 1 → turned ≡ turns_home shape.format (length numbers) + 1
+            → length (numbers ∷ newer) + begun_at writing < shape.slots → Gains 1 (head_bytes h.stamp) old.may_leave new.may_leave
+            → Holds 1 (head_bytes h.stamp) old.content new.content
+            → HoldsView (value_at ahead shape (head + 1) newer 0 (replicate 512 0) under_way writing false) new (view_retired 1 view)
+        ahead_held h is last besides gains wrote =
             let fewer : length view.records ≡ length (drop 1 view.records) + 1 = drop-length view.records waits in
-            let stores : Stores shape (head + 1) (view_retired 1 view) steps made (turned_at shape.format newer 0) new.content =
-            Stores-turned shape sized (head + 1) (view_retired 1 view) steps made 0 (turned_at shape.format newer 0) new.content
-            (λ i low high. nothing_home shape.format newer i (length (get_or (drop 1 view.records) 0 [])) (sym long) low high)
-            (head_stores shape sized head view steps made turned old.content new.content (head_bytes h.stamp) wrote.0 waits there stored) in
-            let guards : view.ours ≡ true → Guards shape (head + 1) (view_retired 1 view) steps made after new =
-            λ ours. head_guards shape sized head view old new sound steps made slots (head_bytes h.stamp) waits
-            (new_head h.stamp (head + 1) h.least h.most is) after not_one wrote.0 wrote.1
-            (subst (λ (r : ℕ). Guards shape head view steps made r old) needs_one (guarded ours)) in
-            record {
-              fits = fits;
-              durable = durable;
-              under_way = hv.under_way;
-              next = omega (arith, hv.next, many, fewer);
-              few = omega (arith, hv.few, fewer);
-              sized = hv.sized;
-              kept = λ live. subst (λ (x : ℕ). IsRead shape.format (head + 1) (get_or (drop 1 view.records) 0 []) x (replicate 512 0))
-                  (sym t_is) (next_read shape.format newer (head + 1) (get_or (drop 1 view.records) 0 []) (replicate 512 0) (sym long));
-              leaves = λ ours. guards_leave new.size (retired_log (replicate 512 0)) (view_retired 1 view) new made
-                  after fits sized (omega (arith, hv.few, fewer))
-                  (λ some. slots_less shape head view waits (slots some)) short (guards ours);
-              stores = λ live. subst (λ (x : ℕ). Stores shape (head + 1) (view_retired 1 view) steps made x new.content) (sym t_is) stores;
-              guards = λ live ours.
-                  subst (λ (x : ℕ). Guards shape (head + 1) (view_retired 1 view) steps made x new) (sym needs_is) (guards ours);
-            }
+            past_held (head_bytes h.stamp) last wrote (λ ours. record {
+              guards = ahead_guards shape sized head view old new sound steps made slots (head_bytes h.stamp) waits
+                  (new_head h.stamp (head + 1) h.least h.most is) after (needs_more ahead shape head newer past) wrote gains
+                  (one_now last ours);
+              heads = ahead_heads shape sized head view old new sound steps made slots (head_bytes h.stamp) waits
+                  (new_head h.stamp (head + 1) h.least h.most is) after (needs_more ahead shape head newer past) wrote gains
+                  (omega (arith, fewer, many, besides)) (one_now last ours);
+            })
 
         -- after the last turn they hold the one without the record
         pub turn_last : (turn : Turn) → turns_home shape.format (length numbers) < turned → IsNextTurn shape head numbers kept turned turn

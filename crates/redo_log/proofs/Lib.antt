@@ -8,12 +8,16 @@ pub mod Entering
 pub mod Finding
 pub mod Guarding
 pub mod Handing
+pub mod Heads
 pub mod Homing
 pub mod Indexing
 pub mod Keeping
+pub mod Leading
+pub mod Leaving
 pub mod Laying
 pub mod Merging
 pub mod Newest
+pub mod Passing
 pub mod Ringing
 pub mod Sending
 pub mod Showing
@@ -22,4 +26,5 @@ pub mod Sparing
 pub mod Stepping
 pub mod Storing
 pub mod Turning
+pub mod Waiting
 pub mod Writing

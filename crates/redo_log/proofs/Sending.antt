@@ -1,5 +1,5 @@
 -- How many writes and flushes a retire step makes, and all of a record.
-use Rattle.std.proofs.Common.{◌≡◌, ⊎_elim, ℕ, zero, suc, ◌+◌, ◌-◌, ◌*◌, ◌/◌, ◌%◌, ◌<◌, ◌≤◌, List, [], ◌∷◌, length, refl, sym, ◌∙◌}
+use Rattle.std.proofs.Common.{◌≡◌, ⊎_elim, ℕ, zero, suc, ◌+◌, ◌-◌, ◌/◌, ◌%◌, ◌<◌, ◌≤◌, List, [], ◌∷◌, length, refl, sym, ◌∙◌}
 use Rattle.std.proofs.Common.{ap, subst, arith, Result}
 use Rattle.std.specs.Prelude.{Option, Bool}
 use Rattle.std.proofs.lemmas.Bool.{cases_eq, eq-eqb, ne_eqb}
@@ -13,7 +13,7 @@ use Rattle.log_layout.specs.Places.{Shape, limit_of}
 use Rattle.redo_log.specs.Calls.{Call, Write, Flush, fault_of}
 use Rattle.redo_log.specs.Value.{Ahead, LogValue, turns_home, home_calls, turn_sends, turns_sends, next_sends, sends_of_oldest}
 use Rattle.redo_log.specs.Value.{most_retire_sends, home_of_oldest, of_oldest}
-use Rattle.redo_log.specs.Stages.{value_at, AreInside, IsRing}
+use Rattle.redo_log.specs.Stages.{value_at, IsRing}
 use Rattle.redo_log.specs.Turns.{calls_of, sends_of, IsFlushTurn, IsHeadTurn, IsHomeTurn, IsLoadOf, IsCopyOf, IsNextTurn}
 use Rattle.redo_log.specs.declared.turn.Turn.{Turn}
 use Rattle.redo_log.specs.declared.turn.Turn.TheVariants as turn

@@ -1,11 +1,11 @@
 -- Each step of the record under way: what the log and its medium hold after it.
-use Rattle.std.proofs.Common.{◌≡◌, ◌⊎◌, inl, inr, ⊎_elim, ℕ, ◌+◌, ◌*◌, ◌-◌, ◌<◌, ◌≤◌, List, [], ◌∷◌, ◌++◌, length, get_or, refl, sym, ◌∙◌}
-use Rattle.std.proofs.Common.{ap, subst, arith, length-append}
-use Rattle.std.specs.Prelude.{map, true, false, Some, None}
+use Rattle.std.proofs.Common.{◌≡◌, ◌⊎◌, inl, inr, ⊎_elim, ℕ, ◌+◌, ◌*◌, ◌-◌, ◌<◌, ◌≤◌, List, [], ◌∷◌, ◌++◌, length, get_or, refl, sym}
+use Rattle.std.proofs.Common.{◌∙◌, ap, subst, arith, length-append}
+use Rattle.std.specs.Prelude.{true, false, Some, None}
 use Rattle.std.proofs.lemmas.Bool.{cases_eq, cases_lt}
-use Rattle.std.proofs.lemmas.List.{length-map, map-append}
+use Rattle.std.proofs.lemmas.List.{length-map}
 use Rattle.std.proofs.Math.ListN.{get_or-map}
-use Rattle.medium.specs.Medium.{State, IsSound}
+use Rattle.medium.specs.Medium.{State, CutLeaves, Gains, IsSound}
 use Rattle.medium.specs.Moments.{EachCut}
 use Rattle.medium.proofs.Moments.{shrunk}
 use Rattle.log_layout.specs.Places.{Shape, sectors_of}
@@ -18,39 +18,19 @@ use Rattle.log_image.proofs.Formats.{laws_of}
 use Rattle.log_image.proofs.Batching.{length_of_batch}
 use Rattle.redo_log.specs.Value.{LogValue, Ahead, steps_for, turns_home}
 use Rattle.redo_log.specs.Stages.{value_at, oldest_at, written_at, homed_at, flush_of, needed_at, IsRecord, IsOldest, IsRead, IsSized}
-use Rattle.redo_log.specs.Calls.{Call, Write, Flush, MayAdd, IsDone, IsNextCall, IsFlush, IsFlushDue, IsWriteOf}
+use Rattle.redo_log.specs.Calls.{gaining, Call, Write, Flush, MayAdd, IsDone, IsNextCall, IsFlush, IsFlushDue, IsWriteOf}
 use Rattle.redo_log.specs.Held.{View, with_record, image_view, oldest_of, written_of, made_of, turned_of, needed_of, MayLeave, Stores}
-use Rattle.redo_log.specs.Held.{Guards}
-use Rattle.redo_log.specs.Held.{HoldsView}
+use Rattle.redo_log.specs.Held.{Shields, with_head}
+use Rattle.redo_log.specs.Held.{HasHead, HoldsView}
 use Rattle.redo_log.proofs.Counting.{steps_are, due_or_not, last_call, not_last, one_left, early_written, part_written, all_home}
 use Rattle.redo_log.proofs.Covering.{needed_one}
-use Rattle.redo_log.proofs.Keeping.{Logged-records}
+use Rattle.redo_log.proofs.Heads.{head_sound, head_only, head_gains, older_slot, heads_write, heads_flush}
+use Rattle.redo_log.proofs.Leaving.{durable_numbers, leave_of, guards_leave}
 use Rattle.redo_log.proofs.Batching.{count_of, record_entries, record_batch}
 use Rattle.redo_log.proofs.Storing.{oldest-append, Stores-stays, part_stores, durable_stores}
-use Rattle.redo_log.proofs.Guarding.{IsEither, safe_either, other_each, last_each, part_guards, flush_guards, durable_guards}
+use Rattle.redo_log.proofs.Guarding.{IsEither, other_each, last_each, part_guards, flush_guards, durable_guards}
 use Rattle.redo_log.proofs.Showing.{turned_at, turned_of_is, needed_of_is, made_of_is, oldest_more, oldest_alone}
 use Rattle.redo_log.proofs.Turning.{none_read}
-
--- what guards a log says what a cut may leave
-pub guards_leave : (size : ℕ) (log : LogValue) (view : View) (m : State) (made retire : ℕ) → sectors_of log.shape ≤ size → IsSized log.shape
-    → length view.records ≤ log.shape.slots
-    → (0 < log.steps_left → HasSlots (layout_of log.shape.format) (image_view log.shape log.head view))
-    → ((layout_of log.shape.format).parts (length view.under_way) ≤ written_of log.shape view made → log.steps_left ≤ 2)
-    → Guards log.shape log.head view log.steps_left made retire m → EachCut (MayLeave size log view) m
-guards_leave size log view m made retire fits sized few slots short g image cut = ⊎_elim
-    (λ rest. inl (Logged-records size log.shape log.head view.records view.array image fits rest))
-    (λ both. inr (inl (both.0, short both.1, Logged-records size log.shape log.head _ _ image fits both.2)))
-    (safe_either log.shape sized log.head view log.steps_left made image slots few (g.each image cut))
-
--- the durable records have these block numbers, and the one that was under way too
-durable_numbers : (records : List (List Entry)) (entries : List Entry) (waiting : List (List ℕ)) (numbers : List ℕ)
-    → waiting ≡ map (λ r. numbers_of r) records → numbers ≡ numbers_of entries
-    → waiting ++ numbers ∷ [] ≡ map (λ r. numbers_of r) (records ++ entries ∷ [])
-durable_numbers records entries waiting numbers is one =
-    let f : List Entry → List ℕ = λ r. numbers_of r in
-    ap (λ (l : List (List ℕ)). l ++ numbers ∷ []) is
-    ∙ ap (λ (l : List ℕ). map f records ++ l ∷ []) one
-    ∙ sym (map-append f records (entries ∷ []))
 
 module _ (ahead : Ahead) (shape : Shape) (sized : IsSized shape) (head : ℕ) (waiting : List (List ℕ)) (turned : ℕ)
     (kept numbers bytes : List ℕ)
@@ -133,11 +113,11 @@ module _ (ahead : Ahead) (shape : Shape) (sized : IsSized shape) (head : ℕ) (w
         (subst (λ (k : ℕ). Stores shape head view (steps made) k (turned_of (writing_log made)) old.content)
         (made_of_is ahead shape head waiting turned kept numbers made false below) (hv.stores refl))
 
-    guarded : view.ours ≡ true → Guards shape head view (steps made) made needs old
+    guarded : view.ours ≡ true → Shields shape head view (steps made) made needs old
     guarded ours =
-        subst (λ (r : ℕ). Guards shape head view (steps made) made r old)
+        subst (λ (r : ℕ). Shields shape head view (steps made) made r old)
         (needed_of_is ahead shape head waiting turned kept numbers (Some made) false)
-        (subst (λ (k : ℕ). Guards shape head view (steps made) k (needed_of (writing_log made)) old)
+        (subst (λ (k : ℕ). Shields shape head view (steps made) k (needed_of (writing_log made)) old)
         (made_of_is ahead shape head waiting turned kept numbers made false below) (hv.guards refl ours))
 
     read : IsRead shape.format head (oldest_of view) done kept
@@ -169,16 +149,19 @@ module _ (ahead : Ahead) (shape : Shape) (sized : IsSized shape) (head : ℕ) (w
         call) in
         subst P other_count (subst (λ (s : ℕ). IsNextCall L shape s other made call) stamp_is next)
 
-    -- what a cut leaves of a log with so many steps
-    either_leaves : (image : _) → (all : ℕ) → steps made ≤ all + 1 → (L.parts n ≤ written_of shape view (made + 1) → all ≤ 1)
-        → IsEither shape sized head view (made + 1) image → MayLeave old.size (writing_log made) view image
-    either_leaves image all more short either =
-        ⊎_elim (λ rest. inl (Logged-records old.size shape head view.records view.array image hv.fits rest))
-        (λ both. inr (inl (
-          omega (arith, below),
-          omega (arith, more, short both.0),
-          Logged-records old.size shape head _ _ image hv.fits both.1,
-        ))) either
+    -- the sector of the next part is one of the slot of the record under way
+    part_inside : written_of shape view made < L.parts n → L.offset n (written_of shape view made) < L.slot_sectors
+    part_inside small = laws.inside n (written_of shape view made) slots.under_way.fit.few small
+
+    -- whichever head is there, the next part is written
+    part_heads : (next : State) (sound : IsSound old) (place : ℕ) (sector : List ℕ) → written_of shape view made < L.parts n
+        → place ≡ part_at L shape stamp n (written_of shape view made) → next.content 1 ≡ old.content 1
+        → Gains place sector old.may_leave next.may_leave → view.ours ≡ true → EachCut (HasHead shape head view needs next) next
+    part_heads next sound place sector small at same gains ours =
+        heads_write shape head view old next place sector needs needs sound gains same (λ e. omega (arith, e, at)) (λ not. not)
+        (λ before image write.
+        older_slot shape sized head view before image place sector write (L.offset n (written_of shape view made)) (part_inside small) at)
+        (guarded ours).heads
 
     module _ (new : State) (sound : IsSound old) (same_size : new.size ≡ old.size) where
       flush_leaves : (call : Call) → IsFlush call → MayAdd call old new → view.ours ≡ true
@@ -190,20 +173,27 @@ module _ (ahead : Ahead) (shape : Shape) (sized : IsSized shape) (head : ℕ) (w
           → IsWriteOf (part_at L shape stamp n (written_of shape view made)) (L.part stamp other (written_of shape view made)) call
           → MayAdd call old new → view.ours ≡ true → EachCut (MayLeave old.size (writing_log made) view) new
       write_leaves Flush small not is adds ours image cut = absurd is
-      write_leaves (Write place sector) small not is adds ours image cut = elim (cases_lt (written_of shape view made + 1) (L.parts n)) [
-        | inl early ↦
-            inl (Logged-records old.size shape head view.records view.array image hv.fits
-            (other_each shape sized head view old new sound slots (steps made) made (written_of shape view made) (omega (arith, below))
-            refl small place sector adds is.0 other other_is other_count is.1 early (guarded ours).each image cut))
-        | inr last ↦
-            let mine : sector ≡ L.part stamp view.under_way (written_of shape view made) =
-            is.1 ∙ last_same (written_of shape view made) small last in
-            let after = part_written (L.early n) (L.parts n) late made (λ early. not (inl early)) in
-            either_leaves image (steps (made + 1)) (omega arith)
-            (λ all. omega (arith, one_left (L.early n) (L.parts n) late (made + 1) all, all_steps))
-            (last_each shape sized head view old new sound slots (steps made) made (written_of shape view made) (omega (arith, below))
-            refl small place sector adds is.0 mine after.0 after.1 (guarded ours).each image cut)
-      ]
+      write_leaves (Write place sector) small not is adds ours image cut =
+          let gained : State = record old { may_leave = gaining place sector old.may_leave } in
+          let here : CutLeaves gained.may_leave image = λ s. adds s (image s) (cut s) in
+          let gains = head_gains old gained place sector refl (λ s c left. left) in
+          let heads = part_heads gained sound place sector small is.0 refl (λ s c left. left) ours in
+          let after = part_written (L.early n) (L.parts n) late made (λ early. not (inl early)) in
+          let short : L.parts n ≤ written_of shape view (made + 1) → steps made ≤ 2 =
+          λ all. omega (arith, one_left (L.early n) (L.parts n) late (made + 1) all, all_steps) in
+          leave_of old.size (writing_log made) view gained needs hv.fits sized (IsEither shape sized head view (made + 1)) heads
+          (elim (cases_lt (written_of shape view made + 1) (L.parts n)) [
+            | inl early ↦ λ image cut. inl (other_each shape sized head view (with_head old) (with_head gained) (head_sound old sound) slots
+                (steps made) made (written_of shape view made) (omega (arith, below)) refl small place sector gains is.0 other other_is
+                other_count is.1 early (guarded ours).guards.each image cut)
+            | inr last ↦
+                let mine : sector ≡ L.part stamp view.under_way (written_of shape view made) =
+                is.1 ∙ last_same (written_of shape view made) small last in
+                last_each shape sized head view (with_head old) (with_head gained) (head_sound old sound) slots (steps made) made
+                (written_of shape view made) (omega (arith, below)) refl small place sector gains is.0 mine after.0 after.1
+                (guarded ours).guards.each
+          ])
+          (λ image either. ⊎_elim inl (λ both. inr (omega (arith, below), short both.0, both.1)) either) image here
         where
           last_same : (k : ℕ) → k < L.parts n → L.parts n ≤ k + 1 → L.part stamp other k ≡ L.part stamp view.under_way k
           last_same k low high =
@@ -231,7 +221,7 @@ module _ (ahead : Ahead) (shape : Shape) (sized : IsSized shape) (head : ℕ) (w
         -- a record that is still under way
         held : (more : made + 1 < steps_for shape.format (length numbers))
             → Stores shape head view (steps (made + 1)) (made + 1) done new.content
-            → (view.ours ≡ true → Guards shape head view (steps (made + 1)) (made + 1) needs new)
+            → (view.ours ≡ true → Shields shape head view (steps (made + 1)) (made + 1) needs new)
             → HoldsView (writing_log (made + 1)) new view
         held more s g =
             let needs_is = needed_of_is ahead shape head waiting turned kept numbers (Some (made + 1)) false in
@@ -239,10 +229,10 @@ module _ (ahead : Ahead) (shape : Shape) (sized : IsSized shape) (head : ℕ) (w
             let made_is = made_of_is ahead shape head waiting turned kept numbers (made + 1) false more in
             let fits : sectors_of shape ≤ new.size = omega (arith, same_size, hv.fits) in
             let guards : view.ours ≡ true
-            → Guards shape head view (steps (made + 1)) (made_of (writing_log (made + 1))) (needed_of (writing_log (made + 1)))
+            → Shields shape head view (steps (made + 1)) (made_of (writing_log (made + 1))) (needed_of (writing_log (made + 1)))
             new =
-            λ ours. subst (λ (r : ℕ). Guards shape head view (steps (made + 1)) (made_of (writing_log (made + 1))) r new)
-            (sym needs_is) (subst (λ (k : ℕ). Guards shape head view (steps (made + 1)) k needs new) (sym made_is) (g ours)) in
+            λ ours. subst (λ (r : ℕ). Shields shape head view (steps (made + 1)) (made_of (writing_log (made + 1))) r new)
+            (sym needs_is) (subst (λ (k : ℕ). Shields shape head view (steps (made + 1)) k needs new) (sym made_is) (g ours)) in
             record {
               fits = fits;
               durable = hv.durable;
@@ -269,8 +259,12 @@ module _ (ahead : Ahead) (shape : Shape) (sized : IsSized shape) (head : ℕ) (w
             held more
             (Stores-stays shape sized head view (steps made) (steps (made + 1)) made (made + 1) done old.content new.content wrote.0
             (λ _. omega (arith, below)) (omega (arith, after.0, after.1)) stored)
-            (λ ours. flush_guards shape sized head view old new sound (steps made) (steps (made + 1)) made needs done (L.early n)
-            (omega (arith, below)) (omega (arith, more)) after.0 after.1 after.2 slots wrote.1 stored (guarded ours))
+            (λ ours. record {
+              guards = flush_guards shape sized head view (with_head old) (with_head new) (head_sound old sound) (steps made)
+                  (steps (made + 1)) made needs done (L.early n) (omega (arith, below)) (omega (arith, more)) after.0 after.1 after.2 slots
+                  (head_only old.content new (wrote.0 1) wrote.1) stored (guarded ours).guards;
+              heads = heads_flush shape head view old.content new needs (wrote.0 1) wrote.1;
+            })
 
         -- the next part is written
         part_held : (call : Call) → made + 1 < steps_for shape.format (length numbers) → ¬ IsFlushDue L n made
@@ -287,9 +281,14 @@ module _ (ahead : Ahead) (shape : Shape) (sized : IsSized shape) (head : ℕ) (w
             (part_stores shape sized head view (steps made) (steps (made + 1)) made done (written_of shape view made) old.content
             new.content place sector wrote (omega (arith, many, room)) slots.under_way.fit.few (λ _. omega (arith, below)) refl
             after.0 small is.0 mine stored)
-            (λ ours. part_guards shape sized head view old new sound slots (steps made) made (written_of shape view made)
-            (omega (arith, below)) refl small place sector adds is.0 mine after.0 after.1 (steps (made + 1)) needs
-            (omega (arith, more)) (guarded ours))
+            (λ ours.
+            let same : new.content 1 ≡ old.content 1 = wrote.elsewhere 1 (λ e. omega (arith, e, is.0)) in
+            record {
+              guards = part_guards shape sized head view (with_head old) (with_head new) (head_sound old sound) slots (steps made) made
+                  (written_of shape view made) (omega (arith, below)) refl small place sector (head_gains old new place sector same adds)
+                  is.0 mine after.0 after.1 (steps (made + 1)) needs (omega (arith, more)) (guarded ours).guards;
+              heads = part_heads new sound place sector small is.0 same adds ours;
+            })
 
         -- after a call that is not the last the log and its medium hold the same view
         pub step_held : (call : Call) → made + 1 < steps_for shape.format (length numbers)
@@ -350,10 +349,13 @@ module _ (ahead : Ahead) (shape : Shape) (sized : IsSized shape) (head : ℕ) (w
                       (omega (arith, e, (waits w).0, oldest_home)) (omega (arith, e, (waits w).0, oldest_home)))) (few_left one),
                 )
           ] in
-          let guards : view.ours ≡ true → Guards shape head (with_record view) 0 made_then after new =
-          λ ours. durable_guards shape sized head view old new sound (steps made) made made_then done needs
-          after (omega (arith, below)) all one_less slots wrote.1 stored
-          (guarded ours) in
+          let guards : view.ours ≡ true → Shields shape head (with_record view) 0 made_then after new =
+          λ ours. record {
+            guards = durable_guards shape sized head view (with_head old) (with_head new) (head_sound old sound) (steps made) made made_then
+                done needs after (omega (arith, below)) all one_less slots (head_only old.content new (wrote.0 1) wrote.1) stored
+                (guarded ours).guards;
+            heads = heads_flush shape head (with_record view) old.content new after (wrote.0 1) wrote.1;
+          } in
           record {
             fits = fits;
             durable = durable_numbers view.records view.under_way waiting numbers hv.durable hv.under_way;
@@ -376,7 +378,7 @@ module _ (ahead : Ahead) (shape : Shape) (sized : IsSized shape) (head : ℕ) (w
                 (omega (arith, many, room, longer))
                 (λ some. absurd (omega (arith, some))) (λ _. omega arith) (guards ours);
             stores = λ live. subst (λ (t : ℕ). Stores shape head (with_record view) 0 made_then t new.content) (sym turned_is) stores;
-            guards = λ live ours. subst (λ (r : ℕ). Guards shape head (with_record view) 0 made_then r new) (sym needs_is) (guards ours);
+            guards = λ live ours. subst (λ (r : ℕ). Shields shape head (with_record view) 0 made_then r new) (sym needs_is) (guards ours);
           }
         where
           Stores-rest : {made_then turns : ℕ} → Stores shape head (with_record view) 0 0 turns new.content

@@ -1,10 +1,12 @@
 -- What a log and its medium hold together.
-use Rattle.std.specs.Prelude.{◌≡◌, ◌⊎◌, ℕ, ◌+◌, ◌-◌, ◌≤◌, ◌<◌, List, [], ◌∷◌, ◌++◌, length, get_or}
+use Rattle.std.specs.Prelude.{◌≡◌, ◌≢◌, ◌⊎◌, ℕ, ◌+◌, ◌-◌, ◌≤◌, ◌<◌, List, [], ◌∷◌, ◌++◌, length}
+use Rattle.std.specs.Prelude.{get_or}
 use Rattle.std.specs.Prelude.{drop, map, All, Bool, true, false}
-use Rattle.medium.specs.Medium.{State, Image}
+use Rattle.medium.specs.Medium.{State, Image, Sets, CutLeaves}
 use Rattle.medium.specs.Moments.{EachCut}
 use Rattle.medium.specs.Blocks.{Array}
 use Rattle.log_layout.specs.Places.{Shape, sectors_of}
+use Rattle.log_layout.specs.Sectors.{IsHead}
 use Rattle.log_image.specs.Record.{Entry, numbers_of, with_blocks}
 use Rattle.log_image.specs.Layout.{part_at}
 use Rattle.log_image.specs.Formats.{layout_of}
@@ -133,6 +135,40 @@ pub record Guards (shape : Shape) (head : ℕ) (view : View) (steps made retire 
   -- the oldest record's blocks are flushed at home
   pub homed : retire ≡ 1 → EachCut (IsHomed (image_view shape head view)) m
 
+-- these sets, but in the sector of the head what this image has there
+abbrev pub head_sets : Image → Sets → Sets
+head_sets content sets s c = (s ≡ 1 → c ≡ content 1) × (s ≢ 1 → sets s c)
+
+-- this medium, where a cut leaves in the sector of the head what a read gives
+abbrev pub with_head : State → State
+with_head m = record m {
+  may_leave = head_sets m.content m.may_leave;
+  left_since = λ t image. CutLeaves (head_sets m.content m.may_leave) image;
+}
+
+-- The head that was written ahead of its flush is not there, but the one before it: the record that
+-- it passed is whole in front of the others, and with it they make the same array. The record that
+-- is written next takes another slot.
+pub record IsOlder (shape : Shape) (head : ℕ) (view : View) (image : Image) : Type 0 where
+  pub passed : List Entry
+  pub stamp : ℕ
+  pub behind : head ≡ stamp + 1
+  pub head_is : IsHead stamp (image 1)
+  pub laid : Laid shape stamp (passed ∷ view.records) view.array image
+  pub room : length view.records + 2 ≤ shape.slots
+
+-- The image has the head that a read gives, or the one before it. That one is gone once the oldest
+-- record's blocks are flushed at home, and one retire step is left of it: that flush came later.
+abbrev pub HasHead : Shape → ℕ → View → ℕ → State → Image → Type 0
+HasHead shape head view retire m image =
+    (image 1 ≡ m.content 1) ⊎ ((retire ≢ 1) × IsOlder shape head view image)
+
+-- what guards a log against a cut, whichever of its heads that leaves
+pub record Shields (shape : Shape) (head : ℕ) (view : View) (steps made retire : ℕ) (m : State)
+    : Type 0 where
+  pub guards : Guards shape head view steps made retire (with_head m)
+  pub heads : EachCut (HasHead shape head view retire m) m
+
 -- one stamp for a record that has blocks
 abbrev pub stamps_of : List ℕ → ℕ
 stamps_of [] = 0
@@ -165,4 +201,4 @@ pub record HoldsView (log : LogValue) (m : State) (view : View) : Type 0 where
   pub stores : log.dead ≡ false
       → Stores log.shape log.head view log.steps_left (made_of log) (turned_of log) m.content
   pub guards : log.dead ≡ false → view.ours ≡ true
-      → Guards log.shape log.head view log.steps_left (made_of log) (needed_of log) m
+      → Shields log.shape log.head view log.steps_left (made_of log) (needed_of log) m

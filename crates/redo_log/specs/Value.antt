@@ -228,6 +228,18 @@ pub record IsCovered (log : LogValue) : Type 0 where
   pub flushes : of_oldest log ≡ 2
   pub since : log.ahead.before < log.head + length log.waiting
 
+-- The head may go past the oldest record without a flush: its blocks are flushed at home, and a
+-- slot is free besides its own, which the next record takes.
+pub record CanPass (log : LogValue) : Type 0 where
+  pub flushed : of_oldest log ≡ 1
+  pub besides : log.next - log.head < log.shape.slots
+
+-- how many calls a head ahead makes: none where the head may not go past the oldest record
+abbrev pub pass_calls : LogValue → ℕ
+pass_calls log =
+    if of_oldest log == 1 then (if nat_lt (log.next - log.head) log.shape.slots then 1 else 0)
+    else 0
+
 -- the same log, where a flush that was made stands for the one that the oldest record needs
 abbrev pub settled : LogValue → LogValue
 settled log = record log { retire_steps_left = log.retire_steps_left - 1 }

@@ -6,12 +6,14 @@
 //! alone, and one may be under way behind them.
 #![tactic(auto)]
 
+mod ahead;
 mod call;
 mod fault;
 mod index;
 mod log;
 mod progress;
 mod stage;
+mod stop;
 mod turn;
 
 pub use fault::LogFault;

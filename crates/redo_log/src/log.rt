@@ -25,26 +25,26 @@ type Numbers = ArrayVec<u64, 240>;
 /// and behind them perhaps one under way.
 #[derive(Drop)]
 pub struct Log {
-    sizes: Super,
+    pub(crate) sizes: Super,
     // The stamp in the durable head, which is that of the oldest record.
-    head: u64,
+    pub(crate) head: u64,
     // The durable records that are not retired, the oldest first.
-    waiting: VecDeque<Numbers>,
+    pub(crate) waiting: VecDeque<Numbers>,
     // How many turns of the oldest of them are made.
-    turned: usize,
+    pub(crate) turned: usize,
     // The descriptor of the oldest of them that was read last, in format 2.
-    kept: [u8; 512],
+    pub(crate) kept: [u8; 512],
     // The stamp of the record whose last block went home ahead, 0 where there was none, and the one
     // that the next durable record had then.
-    homed: u64,
-    before: u64,
+    pub(crate) homed: u64,
+    pub(crate) before: u64,
     // The record under way, empty where none is.
     under_way: Numbers,
     // How many calls of it are made.
-    made: Option<usize>,
+    pub(crate) made: Option<usize>,
     // The newest copies of the durable records' blocks.
-    index: Vec<Copied>,
-    dead: bool,
+    pub(crate) index: Vec<Copied>,
+    pub(crate) dead: bool,
 }
 
 impl Model for Log {
@@ -67,7 +67,6 @@ impl Log {
     ghost use Rattle.redo_log.specs.Value.{begun, died, most_steps, most_retire_steps};
     ghost use Rattle.redo_log.specs.Value.{IsStepped, IsRetireStepped, next_calls, next_sends};
     ghost use Rattle.redo_log.specs.Value.{sends_of_oldest, most_retire_sends};
-    ghost use Rattle.redo_log.specs.Value.{IsAway, IsSentHome, ahead_calls, IsCovered, settled};
     ghost use Rattle.redo_log.specs.Batch.{IsBatch, entries_of};
     ghost use Rattle.redo_log.specs.Held.{View, HoldsView, HasDurable};
     ghost use Rattle.redo_log.specs.Held.{with_record, view_stepped, view_retired};
@@ -265,79 +264,6 @@ impl Log {
         Ok(())
     }
 
-    /// Whether a block of the oldest durable record is not home yet.
-    pub fn is_away(&self) -> bool
-        ensures { IsTrue result ↔ IsAway self.now }
-    {
-        match self.waiting.front() {
-            Some(oldest) => self.turned < turns_home(self.sizes.format, oldest.len()),
-            None => false,
-        }
-    }
-
-    /// Makes the next one or two calls that bring a block of the oldest durable record home, none
-    /// where no block is away. They are those of a retire step: the block is read and written, and
-    /// in format 2 a descriptor is read before the blocks that it names. None is a flush: that of
-    /// the next record that becomes durable covers the blocks, and `settle` counts it.
-    ///
-    /// # Errors
-    ///
-    /// `Medium` where the medium refused a call. The log is dead then.
-    pub fn home_ahead<M: Medium>(&mut self, m: &mut M) -> Result<(), LogFault>
-        requires live { self.old.dead ≡ false }
-        requires fits { sectors_of self.old.shape ≤ (M.state m.old).size }
-        ensures none { ¬ IsAway self.old → IsOk result × (self.new ≡ self.old) × (m.new ≡ m.old) }
-        ensures answers { AnswersStep (λ _. IsAway self.old → IsSentHome self.old self.new) result
-            self.old self.new }
-        ensures passes { PassesStep M.state M.follows (CountsStep (ahead_calls self.old)
-            (next_sends self.old) result
-            (M.state m.old) (M.state m.new)) result m.old m.new }
-        ensures holds { (view : View) → HoldsView self.old (M.state m.old) view
-            → HoldsView self.new (M.state m.new) view }
-        ensures leaves { LeavesLog self.old (M.state m.old) (M.state m.new) }
-    {
-        let Some(record) = self.waiting.front() else {
-            return Ok(());
-        };
-        let turns = turns_home(self.sizes.format, record.len());
-        if turns <= self.turned {
-            return Ok(());
-        }
-        let numbers = record.as_slice();
-        let turn = next_turn(&self.sizes, self.head, numbers, &self.kept, self.turned);
-        let refused = turn.make(m, &mut self.kept).is_err();
-        if refused {
-            self.dead = true;
-            return Err(LogFault::Medium);
-        }
-        self.turned += 1;
-        if self.turned < turns {
-            return Ok(());
-        }
-        self.homed = self.head;
-        self.before = self.head + self.waiting.len() as u64;
-        Ok(())
-    }
-
-    /// Counts the flush of a record that became durable for the oldest one, if that went home ahead
-    /// before it: the retire step that would flush is not needed then. No call of the medium is
-    /// made.
-    pub fn settle(&mut self) -> bool
-        ensures covered { IsTrue result ↔ IsCovered self.old }
-        ensures value { self.new ≡ (if result then settled self.old else self.old) }
-    {
-        let Some(first) = self.waiting.front() else {
-            return false;
-        };
-        let all = turns_home(self.sizes.format, first.len());
-        let next = self.head + self.waiting.len() as u64;
-        if self.homed != self.head || self.turned != all || next <= self.before {
-            return false;
-        }
-        self.turned += 1;
-        true
-    }
-
     /// The slot and the place of the newest logged copy of a block, if a durable record that is
     /// not retired has one.
     pub fn find(&self, block: u64) -> Option<(u64, usize)>
@@ -348,7 +274,11 @@ impl Log {
         newest(&self.index, block)
     }
 
-    /// Reads a copy that `find` gave. At an `Err` the array may hold anything.
+    /// Reads a copy that `find` gave.
+    ///
+    /// # Errors
+    ///
+    /// `Read` where the medium refused a read. The array may hold anything then.
     pub fn read_copy<M: Medium>(
         &self,
         m: &mut M,

@@ -1,4 +1,4 @@
-use Rattle.std.proofs.Common.{ℕ, ◌<◌, sym, subst}
+use Rattle.std.proofs.Common.{◌<◌, sym, subst}
 use Rattle.medium.proofs.Looking.{no_looks, flush_looks, look_below}
 use Rattle.redo_log.specs.declared.turn.Turn.{Turn}
 use Rattle.redo_log.specs.Turns.{MakesTurn, ReadsBefore}

@@ -1,0 +1,151 @@
+//! What a log does ahead of a flush, which that of a later record covers.
+ghost use Rattle.std.specs.Prelude.{◌≡◌, ◌+◌, ◌-◌, ◌*◌, ◌<◌, ◌≤◌, ◌↔◌, false, length, if◌then◌else◌};
+ghost use Rattle.std.specs.Prelude.{IsTrue, IsOk, MatchResult};
+ghost use Rattle.log_layout.specs.Places.{sectors_of};
+ghost use Rattle.redo_log.specs.Value.{next_sends, IsAway, IsSentHome, ahead_calls};
+ghost use Rattle.redo_log.specs.Value.{IsCovered, settled, CanPass, pass_calls, IsRetireStepped};
+ghost use Rattle.redo_log.specs.Held.{View, HoldsView, view_retired};
+ghost use Rattle.redo_log.specs.Steps.{AnswersStep, PassesStep, CountsStep, LeavesLog};
+
+use crate::index::drop_slot;
+use crate::stage::turns_home;
+use crate::turn::next_turn;
+use crate::{Log, LogFault};
+use log_layout::{Head, slot_of};
+use medium::Medium;
+
+impl Log {
+    /// Whether a block of the oldest durable record is not home yet.
+    pub fn is_away(&self) -> bool
+        ensures { IsTrue result ↔ IsAway self.now }
+    {
+        match self.waiting.front() {
+            Some(oldest) => self.turned < turns_home(self.sizes.format, oldest.len()),
+            None => false,
+        }
+    }
+
+    /// Makes the next one or two calls that bring a block of the oldest durable record home, none
+    /// where no block is away. They are those of a retire step: the block is read and written, and
+    /// in format 2 a descriptor is read before the blocks that it names. None is a flush: that of
+    /// the next record that becomes durable covers the blocks, and `settle` counts it.
+    ///
+    /// # Errors
+    ///
+    /// `Medium` where the medium refused a call. The log is dead then.
+    pub fn home_ahead<M: Medium>(&mut self, m: &mut M) -> Result<(), LogFault>
+        requires live { self.old.dead ≡ false }
+        requires fits { sectors_of self.old.shape ≤ (M.state m.old).size }
+        ensures none { ¬ IsAway self.old → IsOk result × (self.new ≡ self.old) × (m.new ≡ m.old) }
+        ensures answers { AnswersStep (λ _. IsAway self.old → IsSentHome self.old self.new) result
+            self.old self.new }
+        ensures passes { PassesStep M.state M.follows (CountsStep (ahead_calls self.old)
+            (next_sends self.old) result
+            (M.state m.old) (M.state m.new)) result m.old m.new }
+        ensures holds { (view : View) → HoldsView self.old (M.state m.old) view
+            → HoldsView self.new (M.state m.new) view }
+        ensures leaves { LeavesLog self.old (M.state m.old) (M.state m.new) }
+    {
+        let Some(record) = self.waiting.front() else {
+            return Ok(());
+        };
+        let turns = turns_home(self.sizes.format, record.len());
+        if turns <= self.turned {
+            return Ok(());
+        }
+        let numbers = record.as_slice();
+        let turn = next_turn(&self.sizes, self.head, numbers, &self.kept, self.turned);
+        let refused = turn.make(m, &mut self.kept).is_err();
+        if refused {
+            self.dead = true;
+            return Err(LogFault::Medium);
+        }
+        self.turned += 1;
+        if self.turned < turns {
+            return Ok(());
+        }
+        self.homed = self.head;
+        self.before = self.head + self.waiting.len() as u64;
+        Ok(())
+    }
+
+    /// Counts the flush of a record that became durable for the oldest one, if that went home ahead
+    /// before it: the retire step that would flush is not needed then. No call of the medium is
+    /// made.
+    pub fn settle(&mut self) -> bool
+        ensures covered { IsTrue result ↔ IsCovered self.old }
+        ensures value { self.new ≡ (if result then settled self.old else self.old) }
+    {
+        let Some(first) = self.waiting.front() else {
+            return false;
+        };
+        let all = turns_home(self.sizes.format, first.len());
+        let next = self.head + self.waiting.len() as u64;
+        if self.homed != self.head || self.turned != all || next <= self.before {
+            return false;
+        }
+        self.turned += 1;
+        true
+    }
+
+    /// Whether the head may go past the oldest durable record without a flush: its blocks are
+    /// flushed at home, and a slot is free besides its own.
+    pub fn can_pass(&self) -> bool
+        ensures { IsTrue result ↔ CanPass self.now }
+    {
+        let Some(oldest) = self.waiting.front() else {
+            return false;
+        };
+        let begun = self.made.is_some() as u64;
+        self.turned == turns_home(self.sizes.format, oldest.len()) + 1
+            && self.waiting.len() as u64 + begun < self.sizes.slots
+    }
+
+    /// Whether so many slots are free: the records from the head's on and the one under way have
+    /// the others.
+    pub fn has_slots(&self, count: u64) -> bool
+        ensures { IsTrue result
+            ↔ ((self.now.next - self.now.head) + count ≤ self.now.shape.slots) }
+    {
+        let taken = self.waiting.len() as u64 + self.made.is_some() as u64;
+        taken <= self.sizes.slots && count <= self.sizes.slots - taken
+    }
+
+    /// Writes the head past the oldest durable record, which is retired then, where `can_pass` says
+    /// that it may, and makes no call else. The head is not flushed: a cut leaves it or the one
+    /// before it, and the flush of the next record that becomes durable covers it. Until then that
+    /// record alone is written, and to another slot than the one that is passed.
+    ///
+    /// # Errors
+    ///
+    /// `Medium` where the medium refused the call. The log is dead then.
+    pub fn head_ahead<M: Medium>(&mut self, m: &mut M) -> Result<(), LogFault>
+        requires live { self.old.dead ≡ false }
+        requires fits { sectors_of self.old.shape ≤ (M.state m.old).size }
+        ensures none { ¬ CanPass self.old → IsOk result × (self.new ≡ self.old) × (m.new ≡ m.old) }
+        ensures answers { AnswersStep (λ _. CanPass self.old → IsRetireStepped self.old self.new)
+            result self.old self.new }
+        ensures passes { PassesStep M.state M.follows (CountsStep (pass_calls self.old)
+            (pass_calls self.old) result (M.state m.old) (M.state m.new)) result m.old m.new }
+        ensures holds { (view : View) → HoldsView self.old (M.state m.old) view
+            → MatchResult result
+            (λ _. HoldsView self.new (M.state m.new)
+            (view_retired (self.new.head - self.old.head) view))
+            (λ _. HoldsView self.new (M.state m.new) view) }
+        ensures leaves { LeavesLog self.old (M.state m.old) (M.state m.new) }
+    {
+        if !self.can_pass() {
+            return Ok(());
+        }
+        if m.write(1, &Head::new(self.head + 1).encode()).is_err() {
+            self.dead = true;
+            return Err(LogFault::Medium);
+        }
+        drop_slot(&mut self.index, slot_of(self.head, self.sizes.slots));
+        let _ = self.waiting.pop_front();
+        self.head += 1;
+        self.turned = 0;
+        self.kept = [0; 512];
+        Ok(())
+    }
+}
