@@ -53,7 +53,8 @@ module _ (old mid seen : State) (sound : IsSound old) (sound_mid : IsSound mid) 
     moments = quiet_made old seen sound quiet;
     calls = let most = reads.calls in omega (arith, counted, most);
     most = λ shape has.
-        few_start shape.format old.calls mid.calls seen.calls counted (reads.most shape (shape_after old mid shape flushed has));
+        few_start shape.format shape.slots old.calls mid.calls seen.calls counted (reads.most shape (shape_after old mid shape flushed
+        has));
     sends = sends;
     looks = looked_later old mid seen flushed same reads.looks;
   }
@@ -63,20 +64,19 @@ module _ (old mid seen : State) (sound : IsSound old) (sound_mid : IsSound mid) 
       (copies : CopiesPass (IsHomeInRecords (shape_of found.sizes) seen.content found.head found.count)
       (most_calls_of found.sizes.format * found.count) seen copied result) where
     -- so many calls, up to three behind the copies
-    few_made : (new : State) → new.calls ≤ copied.calls + 3 → new.calls ≤ old.calls + 6 + most_start_of found.sizes.format * 64
+    few_made : (new : State) → new.calls ≤ copied.calls + 3 → new.calls ≤ old.calls + 6 + most_start_of found.sizes.format *
+        found.sizes.slots
     few_made new more =
-        let few = survey.is.count.few in
-        let slots = found.sizes.most_slots in
-        most_start found.sizes.format old.calls mid.calls seen.calls copied.calls new.calls found.count counted
-        (reads.most (shape_of found.sizes) survey.is.shape) copies.calls more (omega (arith, few, slots))
+        most_start found.sizes.format found.sizes.slots old.calls mid.calls seen.calls copied.calls new.calls found.count counted
+        (reads.most (shape_of found.sizes) survey.is.shape) copies.calls more survey.is.count.few
 
     one : (shape : Shape) → HasShape old.size shape old.content → shape ≡ shape_of found.sizes
     one shape has = one_shape old mid seen sound sound_mid flushed counted only reads.quiet found survey.is shape has.super
 
     few_by_shape : (new : State) → new.calls ≤ copied.calls + 3 → (shape : Shape) → HasShape old.size shape old.content
-        → new.calls ≤ old.calls + 6 + most_start_of shape.format * 64
+        → new.calls ≤ old.calls + 6 + most_start_of shape.format * shape.slots
     few_by_shape new more shape has =
-        subst (λ (s : Shape). new.calls ≤ old.calls + 6 + most_start_of s.format * 64) (sym (one shape has)) (few_made new more)
+        subst (λ (s : Shape). new.calls ≤ old.calls + 6 + most_start_of s.format * s.slots) (sym (one shape has)) (few_made new more)
 
     found_old : IsFound old.size old.content found
     found_old = found_before old mid found flushed survey.is
@@ -105,7 +105,8 @@ module _ (old mid seen : State) (sound : IsSound old) (sound_mid : IsSound mid) 
               shape array next is image since;
           spares = found_spares found old seen copied sound quiet found_old spared;
           moments = made;
-          calls = few_starts found.sizes.format old.calls copied.calls (few_made copied (omega arith));
+          calls = few_starts found.sizes.format found.sizes.slots old.calls copied.calls found.sizes.most_slots (few_made copied (omega
+              arith));
           most = few_by_shape copied (omega arith);
           sends = sends;
           looks = looks;
@@ -130,7 +131,7 @@ module _ (old mid seen : State) (sound : IsSound old) (sound_mid : IsSound mid) 
                 shape array next is image since;
             spares = found_spares found old seen new sound quiet found_old (moves_spare found seen copied new spared moves.spares);
             moments = made_joined old copied new made (calls_made _ copied new moves.moments);
-            calls = few_starts found.sizes.format old.calls new.calls (few_made new moves.calls);
+            calls = few_starts found.sizes.format found.sizes.slots old.calls new.calls found.sizes.most_slots (few_made new moves.calls);
             most = few_by_shape new moves.calls;
             sends = sends;
             looks = looks;

@@ -6,6 +6,7 @@ pub mod Making
 pub mod Made
 pub mod Looking
 pub mod Trying
+pub mod Counting
 pub mod Copying
 pub mod Finding
 pub mod Homing

@@ -20,7 +20,8 @@ use Rattle.log_image.specs.ImageFaults.{HasShape}
 use Rattle.log_image.proofs.Formats.{laws_of}
 use Rattle.log_image.proofs.StandingLaws.{StandsFor-one, StandsFor-shape}
 use Rattle.recovery.specs.Causes.{HasFewSlots}
-use Rattle.recovery.specs.Copies.{cleared_at, WithOrWithout, IsBetween, HasNewHead, AreTries, copy_calls, most_start_of}
+use Rattle.recovery.specs.Copies.{cleared_at, WithOrWithout, IsBetween, HasNewHead, copy_calls, most_start_of}
+use Rattle.recovery.specs.Tries.{AreTriesOf}
 use Rattle.recovery.specs.Recovered.{IsRecoveredFrom, IsFresh, IsOursForSome, StandsForOneOf, LeavesAtLeast}
 use Rattle.recovery.specs.Migrated.{CanMigrate, IsMadeTwo, IsMigratedFrom, IsFreshInEither, IsOursInEither, StandsInEither, MigrationLeaves}
 use Rattle.recovery.specs.Migrated.{most_migration_sends}
@@ -179,12 +180,12 @@ module _ (old mid : State) (found : Recovered) (recovered : IsRecoveredFrom old 
   }
 
   -- the calls of a recovery of format 1
-  tried : AreTries One (min (length recovered.stood.records + 1) found.sizes.slots) (old.calls + 6 + copy_calls One recovered.stood.records)
-      mid.calls
+  tried : mid.calls ≡ old.calls + 6 + copy_calls One recovered.stood.records
+      + 2 * min (length recovered.stood.records + 1) found.sizes.slots
   tried =
       subst
-      (λ (f : LogFormat). AreTries f (min (length recovered.stood.records + 1) found.sizes.slots)
-      (old.calls + 6 + copy_calls f recovered.stood.records) mid.calls)
+      (λ (f : LogFormat). AreTriesOf f (shape_of found.sizes) old.content recovered.stood.head
+      (min (length recovered.stood.records + 1) found.sizes.slots) (old.calls + 6 + copy_calls f recovered.stood.records) mid.calls)
       one recovered.calls
 
   some_calls : old.calls + 2 ≤ mid.calls
@@ -192,10 +193,10 @@ module _ (old mid : State) (found : Recovered) (recovered : IsRecoveredFrom old 
 
   -- how many they are at most
   pub few_calls : (new : State)
-      → ((shape : Shape) → HasShape old.size shape old.content → mid.calls ≤ old.calls + 6 + most_start_of shape.format * 64)
+      → ((shape : Shape) → HasShape old.size shape old.content → mid.calls ≤ old.calls + 6 + most_start_of shape.format * shape.slots)
       → new.calls ≤ mid.calls + (50 * found.sizes.slots + 5) → new.calls ≤ old.calls + 6 + 738 * 64
   few_calls new most last =
-      let first = subst (λ (f : LogFormat). mid.calls ≤ old.calls + 6 + most_start_of f * 64) one
+      let first = subst (λ (f : LogFormat). mid.calls ≤ old.calls + 6 + most_start_of f * found.sizes.slots) one
       (most (shape_of found.sizes)
       (StandsFor-shape old.size (shape_of found.sizes) old.content recovered.array found.next recovered.stood)) in
       let slots = found.sizes.most_slots in

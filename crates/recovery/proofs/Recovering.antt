@@ -12,7 +12,8 @@ use Rattle.log_image.specs.Record.{Entry, with_records, home_of}
 use Rattle.log_image.specs.Formats.{IsWhole}
 use Rattle.log_image.specs.Standing.{StandsFor, IsOurs}
 use Rattle.log_layout.proofs.Decoding.{IsSuper-one}
-use Rattle.recovery.specs.Copies.{freed_at, copy_calls, AreCopied, AreTries, IsHomeInRecords, HasNewHead}
+use Rattle.recovery.specs.Copies.{freed_at, copy_calls, AreCopied, IsHomeInRecords, HasNewHead}
+use Rattle.recovery.specs.Tries.{AreTries}
 use Rattle.recovery.proofs.Trying.{tries_moved}
 use Rattle.recovery.specs.Found.{IsFound}
 use Rattle.recovery.specs.Recovered.{IsRecoveredFrom, IsFresh, IsOursForSome, IsOursWithNext, StandsForOneOf}
@@ -206,14 +207,20 @@ module _ (old mid seen : State) (sound : IsSound old) (sound_mid : IsSound mid) 
                 (subst (λ (i : Image). IsFresh (shape_of found.sizes) array next i)
                 (sym (only_image new.content new.may_leave done image cut)) (moved_fresh array next here new.content moved))
 
-            pub recovered_from : AreTries found.sizes.format (min (found.count + 1) found.sizes.slots) (mid.calls + 2) seen.calls
-                → new.calls ≡ copied.calls + 3 → IsRecoveredFrom old new
+            pub recovered_from : AreTries (shape_of found.sizes) mid.content found.head (min (found.count + 1) found.sizes.slots)
+                (mid.calls + 2) seen.calls → new.calls ≡ copied.calls + 3 → IsRecoveredFrom old new
                 (record { sizes = found.sizes; next = found.head + found.count + 1 })
             recovered_from inspected last =
                 let st = found_stands old.size old.content found at_old in
                 let f = found_matches old.size old.content found at_old st.array (found.head + found.count + 1) st.stands in
-                let tried = subst (λ (n : ℕ). AreTries found.sizes.format (min (n + 1) found.sizes.slots) (mid.calls + 2) seen.calls) f.1
-                inspected in
+                let shape = shape_of found.sizes in
+                let there : mid.content ≡ old.content = λ i s. flushed.content_stays s i in
+                let tries = min (found.count + 1) found.sizes.slots in
+                let here = subst (λ (i : Image). AreTries shape i found.head tries (mid.calls + 2) seen.calls) there inspected in
+                let from = subst (λ (n : ℕ). AreTries shape old.content n tries (mid.calls + 2) seen.calls) f.0 here in
+                let tried = subst
+                (λ (n : ℕ). AreTries shape old.content st.stands.head (min (n + 1) found.sizes.slots) (mid.calls + 2) seen.calls)
+                f.1 from in
                 let ends = log_ends (shape_of found.sizes) at_old.shape.super.home_is in
                 let copying = (copies st.stands.records f.1 (seen_whole st.array (found.head + found.count + 1) st.stands)).exact in
                 record {
@@ -228,7 +235,8 @@ module _ (old mid seen : State) (sound : IsSound old) (sound_mid : IsSound mid) 
                       ∙ ⊎_elim (copied_log x)
                       (λ past. elsewhere x (not_behind (shape_of found.sizes) seen.content found.head found.count x past)
                       ∙ ap (λ (i : Image). i x) same) other;
-                  calls = tries_moved found.sizes.format (min (length st.stands.records + 1) found.sizes.slots) (mid.calls + 2) seen.calls
+                  calls = tries_moved found.sizes.format shape old.content st.stands.head
+                      (min (length st.stands.records + 1) found.sizes.slots) (mid.calls + 2) seen.calls
                       (old.calls + 6 + copy_calls found.sizes.format st.stands.records) new.calls
                       (copy_calls found.sizes.format st.stands.records + 3) (omega (arith, counted)) (omega (arith, copying, last)) tried;
                 }

@@ -86,12 +86,6 @@ most_start_of Two = 738
 abbrev pub most_start_sends : LogFormat → ℕ → ℕ
 most_start_sends format slots = limit_of format * slots + 4
 
--- By so many tries to find a whole record one count of calls becomes another: by two reads each in
--- format 1, and in format 2 by as many as it takes, up to all sectors of a slot.
-abbrev pub AreTries : LogFormat → ℕ → ℕ → ℕ → Type 0
-AreTries One tries before after = after ≡ before + 2 * tries
-AreTries Two tries before after = after ≤ before + 249 * tries
-
 -- the image is that one with its head at this stamp
 pub record HasNewHead (stamp : ℕ) (before image : Image) : Type 0 where
   pub head : IsHead stamp (image 1)

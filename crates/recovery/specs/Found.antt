@@ -8,8 +8,9 @@ use Rattle.log_layout.specs.Sectors.{IsHead}
 use Rattle.log_image.specs.Standing.{IsCount}
 use Rattle.log_image.specs.ImageFaults.{HasShape}
 use Rattle.recovery.specs.Causes.{HasFewSlots, MakesReadsAlone}
-use Rattle.recovery.specs.Copies.{AreTries, most_reads_of}
+use Rattle.recovery.specs.Copies.{most_reads_of}
 use Rattle.recovery.specs.Looks.{LooksAtLog}
+use Rattle.recovery.specs.Tries.{AreTries}
 use Rattle.recovery.specs.declared.found.Found.{Found}
 
 -- the image of a medium of so many sectors has none of the faults, and this is what it has
@@ -24,15 +25,15 @@ pub record IsFound (size : ℕ) (image : Image) (found : Found) : Type 0 where
 pub record IsSurvey (least : ℕ) (old new : State) (found : Found) : Type 0 where
   pub is : IsFound old.size old.content found
   pub room : ¬ HasFewSlots least old.size old.content
-  pub exact : AreTries found.sizes.format (min (found.count + 1) found.sizes.slots)
-      (old.calls + 2) new.calls
+  pub exact : AreTries (shape_of found.sizes) old.content found.head
+      (min (found.count + 1) found.sizes.slots) (old.calls + 2) new.calls
 
 -- A survey only reads. Whatever the image, it reads the super, the head and at most 64 slots of the
--- format with the larger ones; where the image has a super, at most 64 of its format.
+-- format with the larger ones; where the image has a super, at most its slots.
 pub record SurveysAtMost (old new : State) : Type 0 where
   pub quiet : IsQuiet old new
   pub reads : MakesReadsAlone old new
   pub calls : new.calls ≤ old.calls + 2 + 249 * 64
   pub most : (shape : Shape) → HasShape old.size shape old.content
-      → new.calls ≤ old.calls + 2 + most_reads_of shape.format * 64
+      → new.calls ≤ old.calls + 2 + most_reads_of shape.format * shape.slots
   pub looks : LooksAtLog old new

@@ -8,3 +8,4 @@ pub mod Looks
 pub mod Migrated
 pub mod Inspected
 pub mod Recovered
+pub mod Tries

@@ -13,7 +13,7 @@ use Rattle.log_layout.specs.Values.{shape_of}
 use Rattle.log_image.specs.Standing.{StandsFor, IsOurs}
 use Rattle.recovery.specs.Causes.{HasFewSlots, WritesNothing, IsRefusalBy, IsDeviceFault}
 use Rattle.log_image.specs.ImageFaults.{HasShape}
-use Rattle.recovery.specs.Copies.{copy_calls, most_start_sends, AreTries}
+use Rattle.recovery.specs.Copies.{copy_calls, most_start_sends}
 use Rattle.recovery.specs.Looks.{LooksAtLog}
 use Rattle.recovery.specs.Recovered.{IsRecoveredFrom, IsFresh, SparesTheRest}
 use Rattle.recovery.specs.Recovered.{IsOursForSome, IsOursWithNext}
@@ -73,8 +73,8 @@ pub record IsMigratedFrom (old new : State) (answer : Recovered) : Type 0 where
   pub home : (b : ℕ) → b < shape.blocks → new.content (first_home shape + b) ≡ array b
   pub behind : (x : ℕ) → sectors_of shape ≤ x → new.content x ≡ old.content x
   pub ours : IsOurs old.size (migrated shape) new.content array (answer.next + 1)
-  pub calls : AreTries One (min (length stood.records + 1) shape.slots)
-      (old.calls + 6 + copy_calls One stood.records + 50 * shape.slots + 5) new.calls
+  pub calls : new.calls ≡ old.calls + 6 + copy_calls One stood.records + 50 * shape.slots + 5
+      + 2 * min (length stood.records + 1) shape.slots
 
 -- by whether there was format 1: it has become format 2, or there was format 2 and it is recovered
 abbrev pub IsMigrationBy : Bool → State → State → Recovered → Type 0

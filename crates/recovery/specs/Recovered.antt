@@ -12,8 +12,9 @@ use Rattle.log_image.specs.Formats.{CarriesBelow}
 use Rattle.log_image.specs.Standing.{StandsFor, IsOurs}
 use Rattle.log_image.specs.ImageFaults.{HasShape}
 use Rattle.recovery.specs.Causes.{HasFewSlots, IsCause, IsDeviceFault}
-use Rattle.recovery.specs.Copies.{copy_calls, most_start_of, most_start_sends, AreTries}
+use Rattle.recovery.specs.Copies.{copy_calls, most_start_of, most_start_sends}
 use Rattle.recovery.specs.Looks.{LooksAtLog}
+use Rattle.recovery.specs.Tries.{AreTries}
 use Rattle.recovery.specs.declared.recovered.Recovered.{Recovered}
 use Rattle.recovery.specs.declared.start_fault.StartFault.{StartFault}
 
@@ -32,7 +33,8 @@ pub record IsRecoveredFrom (old new : State) (answer : Recovered) : Type 0 where
   pub elsewhere : (x : ℕ) → x ≢ 1
       → (x < first_home (shape_of answer.sizes)) ⊎ (sectors_of (shape_of answer.sizes) ≤ x)
       → new.content x ≡ old.content x
-  pub calls : AreTries answer.sizes.format (min (length stood.records + 1) answer.sizes.slots)
+  pub calls : AreTries (shape_of answer.sizes) old.content stood.head
+      (min (length stood.records + 1) answer.sizes.slots)
       (old.calls + 6 + copy_calls answer.sizes.format stood.records) new.calls
 
 -- no record waits: the image has this array at home and its head at this stamp, and no sector of
@@ -95,7 +97,7 @@ pub record RecoveryLeaves (old new : State) : Type 0 where
   -- Whatever the image, and where it has a super of a format.
   pub calls : new.calls ≤ old.calls + 6 + 738 * 64
   pub most : (shape : Shape) → HasShape old.size shape old.content
-      → new.calls ≤ old.calls + 6 + most_start_of shape.format * 64
+      → new.calls ≤ old.calls + 6 + most_start_of shape.format * shape.slots
   pub sends : RecoverySends old new
   -- Whatever the image: a sector that is no part of the log is not read.
   pub looks : LooksAtLog old new

@@ -75,6 +75,11 @@ fn make<M: Medium>(m: &mut M, format: LogFormat, blocks: u64, slots: u64) -> Res
 ///
 /// It takes `2 + 50 * slots + blocks` sectors. Until its first good flush a cut may leave what it
 /// could leave before, from then on no super, and in the end the new image.
+///
+/// # Errors
+///
+/// `BadSize` where a size is out of its limits or the medium is too short, before any call; `Medium`
+/// where the medium refused a call: there may be no image then.
 pub fn format<M: Medium>(m: &mut M, blocks: u64, slots: u64) -> Result<(), FormatFault>
     ensures ok { let shape = new_shape One blocks slots in
         OnOk result (IsFormatted shape (M.state m.new)) }
@@ -93,6 +98,10 @@ pub fn format<M: Medium>(m: &mut M, blocks: u64, slots: u64) -> Result<(), Forma
 /// Makes an image of format 2: `blocks` blocks of zeros, 1 to 2^31, and `slots` log slots, 1 to 64.
 ///
 /// It takes `2 + 249 * slots + blocks` sectors. A cut leaves what it leaves while an image of format 1 is made.
+///
+/// # Errors
+///
+/// Those of `format`.
 pub fn format2<M: Medium>(m: &mut M, blocks: u64, slots: u64) -> Result<(), FormatFault>
     ensures ok { let shape = new_shape Two blocks slots in
         OnOk result (IsFormatted shape (M.state m.new)) }

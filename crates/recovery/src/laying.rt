@@ -15,6 +15,10 @@ use medium::Medium;
 /// Home begins at sector `2 + 50 * slots`, or in format 2 at `2 + 249 * slots`. No sector from there
 /// on is written, and none is read. Until its first good flush a cut may leave what it could leave
 /// before, from then on no super, and in the end the new image.
+///
+/// # Errors
+///
+/// Those of `format`.
 pub fn lay_log<M: Medium>(
     m: &mut M,
     format: LogFormat,

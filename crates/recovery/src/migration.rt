@@ -21,8 +21,10 @@ use medium::{Medium, MediumFault};
 /// zeros to each sector of its log, a flush, the head, a flush, the super and a flush. It answers
 /// what is there then, and whether it was of format 1. It takes no memory.
 ///
-/// It refuses an image before the first write: for each fault that `recover` names, and for a log of
-/// format 1 with fewer than 5 slots, which it names before a lack of stamps.
+/// # Errors
+///
+/// Those of `recover`; and `LogTooSmall` for a log of format 1 with fewer than 5 slots, which comes
+/// before `StampsUsedUp`. A fault of the image is found before the first write.
 pub fn migrate<M: Medium>(m: &mut M) -> Result<(Recovered, bool), StartFault>
     // A function of the contents: what they stood for, whether or not other images were allowed.
     ensures ok { IfOk result (λ answer.

@@ -1,14 +1,16 @@
 //! Whether the record of a stamp is whole, in format 2.
-ghost use Rattle.std.specs.Prelude.{◌≡◌, ◌≤◌, ◌<◌, ◌+◌, ◌*◌, ℕ, List, length, All, IfOk, IfSome, IsSomeAnd, IsTrue, ◌↔◌};
+ghost use Rattle.std.specs.Prelude.{◌≡◌, ◌≤◌, ◌<◌, ◌+◌, ◌*◌, ℕ, List, length, All, IfOk, IfSome, IsSomeAnd, IsTrue, MatchOption};
+ghost use Rattle.std.specs.Prelude.{OnOk, ◌↔◌};
 ghost use Rattle.medium.specs.Medium.{LooksOnly};
 ghost use Rattle.log_layout.specs.declared.log_format.LogFormat.TheVariants.{Two};
 ghost use Rattle.log_layout.specs.Places.{first_home, sectors_of};
 ghost use Rattle.log_layout.specs.Sectors.{IsRising};
-ghost use Rattle.log_layout.specs.SectorsTwo.{IsDescriptorTwo, IsCommitTwo};
+ghost use Rattle.log_layout.specs.SectorsTwo.{descriptors_of, IsDescriptorTwo, IsCommitTwo};
 ghost use Rattle.log_layout.specs.Values.{shape_of};
 ghost use Rattle.log_image.specs.Formats.{HasWhole};
 ghost use Rattle.log_image.specs.SlotTwo.{HasDescriptors, HasPlaces};
 ghost use Rattle.recovery.specs.Calls.{ReadsPass, ReadsAllPass};
+ghost use Rattle.recovery.specs.Tries.{StopsAtBad, ReadsUpToBad, HasDescriptor, HasPlace, IsTryTwo};
 
 use arrayvec::ArrayVec;
 use log_layout::{Commit2, Descriptor2, Super, are_rising, is_data2, place_of2, slot_of};
@@ -100,8 +102,12 @@ fn read_numbers<M: Medium>(
     requires few { count ≤ 240 }
     requires inside { 2 + 249 * slot + 249 ≤ (M.state m.old).size }
     ensures passes { ReadsPass 8 (M.state m.old) (M.state m.new) result }
-    ensures some { IfOk result (λ found. IfSome found (λ read. (length read.items ≡ count)
-        × HasDescriptors (M.state m.old).content (2 + 249 * slot) stamp read.items)) }
+    ensures found { IfOk result (λ found. MatchOption found
+        ((reads : ℕ) × StopsAtBad (HasDescriptor (M.state m.old).content (2 + 249 * slot) stamp count)
+        (descriptors_of count) reads × ((M.state m.new).calls ≡ (M.state m.old).calls + reads))
+        (λ read. (length read.items ≡ count)
+        × HasDescriptors (M.state m.old).content (2 + 249 * slot) stamp read.items
+        × ((M.state m.new).calls ≡ (M.state m.old).calls + descriptors_of count))) }
     ensures all { (numbers : List ℕ) → length numbers ≡ count
         → HasDescriptors (M.state m.old).content (2 + 249 * slot) stamp numbers
         → IfOk result (λ found. IsSomeAnd found (λ read. read.items ≡ numbers)) }
@@ -133,8 +139,10 @@ fn are_stamped<M: Medium>(m: &mut M, slot: u64, stamp: u64, count: u64) -> Resul
     requires few { count ≤ 240 }
     requires inside { 2 + 249 * slot + 249 ≤ (M.state m.old).size }
     ensures passes { ReadsPass count (M.state m.old) (M.state m.new) result }
-    ensures stamped { IfOk result (λ good. IsTrue good
-        ↔ HasPlaces (M.state m.old).content (2 + 249 * slot) stamp count) }
+    ensures stamped { IfOk result (λ good. (IsTrue good
+        ↔ HasPlaces (M.state m.old).content (2 + 249 * slot) stamp count) × (reads : ℕ)
+        × ReadsUpToBad (HasPlace (M.state m.old).content (2 + 249 * slot) stamp) count reads
+        × ((M.state m.new).calls ≡ (M.state m.old).calls + reads)) }
     ensures follows { M.follows m.old m.new
         × LooksOnly (λ s. s < 2 + 249 * slot + 249) (M.state m.old) (M.state m.new) }
 {
@@ -153,6 +161,9 @@ pub(crate) fn is_whole<M: Medium>(m: &mut M, sizes: &Super, stamp: u64) -> Resul
     requires format { sizes.now.format ≡ Two }
     requires fits { sectors_of (shape_of sizes.now) ≤ (M.state m.old).size }
     ensures passes { ReadsPass 249 (M.state m.old) (M.state m.new) result }
+    ensures exact { OnOk result ((reads : ℕ)
+        × IsTryTwo (shape_of sizes.now) (M.state m.old).content stamp reads
+        × ((M.state m.new).calls ≡ (M.state m.old).calls + reads)) }
     ensures whole { IfOk result (λ whole. IsTrue whole
         ↔ HasWhole (shape_of sizes.now) (M.state m.old).content stamp) }
     ensures follows { M.follows m.old m.new

@@ -17,8 +17,11 @@ use medium::Medium;
 /// Copies the blocks of the whole records from the head on home, in order of their stamps, and moves
 /// the head past the first record that is not whole. It takes no memory.
 ///
+/// # Errors
+///
 /// A fault of the image is found before the first write: the first of its super's (mark, version,
-/// bytes behind it, sizes), the medium's length, its head's, and that no stamp is left.
+/// bytes behind it, sizes), the medium's length, its head's, and that no stamp is left. `Read`,
+/// `Write` and `Flush` where the medium refused such a call.
 pub fn recover<M: Medium>(m: &mut M) -> Result<Recovered, StartFault>
     // A function of the contents: what they stood for, whether or not other images were allowed.
     ensures ok { IfOk result (IsRecoveredFrom (M.state m.old) (M.state m.new)) }

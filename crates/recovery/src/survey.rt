@@ -10,9 +10,10 @@ ghost use Rattle.log_image.specs.Standing.{IsCount};
 ghost use Rattle.log_image.specs.ImageFaults.{HasShape};
 ghost use Rattle.recovery.specs.Calls.{ReadsUpTo, ReadsPass};
 ghost use Rattle.recovery.specs.Causes.{IsRefusalBy};
-ghost use Rattle.recovery.specs.Copies.{AreTries, most_reads_of};
+ghost use Rattle.recovery.specs.Copies.{most_reads_of};
 ghost use Rattle.recovery.specs.Found.{IsSurvey, SurveysAtMost};
 ghost use Rattle.recovery.specs.Inspected.{IsLookCause};
+ghost use Rattle.recovery.specs.Tries.{AreTries, IsTryOf};
 
 use crate::found::Found;
 use crate::record_one::read_record;
@@ -25,8 +26,8 @@ fn is_whole<M: Medium>(m: &mut M, sizes: &Super, stamp: u64) -> Result<bool, Med
     requires { sectors_of (shape_of sizes.now) ≤ (M.state m.old).size }
     ensures passes { ReadsPass (most_reads_of sizes.now.format)
         (M.state m.old) (M.state m.new) result }
-    ensures exact { OnOk result
-        (AreTries sizes.now.format 1 (M.state m.old).calls (M.state m.new).calls) }
+    ensures exact { OnOk result (IsTryOf sizes.now.format (shape_of sizes.now)
+        (M.state m.old).content stamp (M.state m.old).calls (M.state m.new).calls) }
     ensures whole { IfOk result (λ whole. IsTrue whole
         ↔ HasWhole (shape_of sizes.now) (M.state m.old).content stamp) }
     ensures follows { M.follows m.old m.new
@@ -44,7 +45,7 @@ fn count_whole<M: Medium>(m: &mut M, sizes: &Super, head: u64) -> Result<u64, Me
     requires head { head < 2 ^ 63 }
     ensures passes { ReadsPass (most_reads_of sizes.now.format * sizes.now.slots)
         (M.state m.old) (M.state m.new) result }
-    ensures exact { IfOk result (λ count. AreTries sizes.now.format
+    ensures exact { IfOk result (λ count. AreTries (shape_of sizes.now) (M.state m.old).content head
         (min (count + 1) sizes.now.slots) (M.state m.old).calls (M.state m.new).calls) }
     ensures count { IfOk result (IsCount (shape_of sizes.now) (M.state m.old).content head) }
     ensures follows { M.follows m.old m.new

@@ -1,4 +1,4 @@
-use Rattle.std.proofs.Common.{◌≡◌, ◌∙◌, ◌+◌, ◌*◌, ◌<◌, ℕ, List, ◌++◌, length, take, drop, sym, ap, subst, arith}
+use Rattle.std.proofs.Common.{◌≡◌, ◌∙◌, ◌+◌, ◌*◌, ◌<◌, ℕ, List, ◌++◌, length, take, drop, refl, sym, ap, subst, arith}
 use Rattle.std.specs.Prelude.{IfSome, IsSomeAnd}
 use Rattle.std.proofs.Math.Seq.{take-add}
 use Rattle.std.proofs.lemmas.List.{length-append}
@@ -71,8 +71,8 @@ loop-j-preserved g c =
       looks = looks_joined (λ s. s < 2 + 249 * c.args.slot + 249) old mid new inv.looks c.read_descriptor.ensures.follows.1;
     }
 
-pub returns-clause-some : goal.returns-clause-some
-returns-clause-some g c =
+pub returns-clause-found : goal.returns-clause-found
+returns-clause-found g c =
     let inv = c.loop-j.invariant in
     let n = c.args.count in
     let over = c.loop-j-test.false in
@@ -86,6 +86,7 @@ returns-clause-some g c =
                 ((g.M.Medium.state c.args.m.now).content (2 + 249 * c.args.slot + j)))
                 (sym long) was.1,
           ),
+      omega (arith, inv.calls, over, c.div_ceil-j-end.ensures, c.loop-j.auto.j-end),
     )
 
 pub returns-in_err-found-clause-follows : goal.returns-in_err-found-clause-follows
@@ -102,4 +103,26 @@ returns-in_default-clause-follows g c =
       g.met.M.Medium.follows_through c.args.m.now c.loop-j.m c.read_descriptor.new.m inv.follows c.read_descriptor.ensures.follows.0,
       looks_joined (λ s. s < 2 + 249 * c.args.slot + 249) (g.M.Medium.state c.args.m.now) (g.M.Medium.state c.loop-j.m)
           (g.M.Medium.state c.read_descriptor.new.m) inv.looks c.read_descriptor.ensures.follows.1,
+    )
+
+pub returns-in_default-clause-found : goal.returns-in_default-clause-found
+returns-in_default-clause-found g c =
+    let s = c.args.stamp in
+    let n = c.args.count in
+    let j = c.loop-j.j in
+    let inv = c.loop-j.invariant in
+    let at : ℕ = 2 + 249 * c.args.slot in
+    let same = inv.quiet.content_stays (at + j) in (
+      j + 1,
+      record {
+        first = j;
+        inside = omega (arith, c.div_ceil-j-end.ensures, c.loop-j-test.true);
+        before = λ k below. let d = inv.described k below in (take 30 (drop (30 * k) c.loop-j.numbers.items), d.0, d.1);
+        bad = λ has.
+            let there = subst (λ (bytes : List ℕ). IsDescriptorTwo s n j has.0 has.1 bytes) (sym same) has.2 in
+            absurd (subst (λ o. IsSomeAnd o (λ d. (d.numbers.items ≡ has.0) × (d.firsts.items ≡ has.1))) c.in_default.is
+            (c.in_ok-found.ensures.all has.0 has.1 there));
+        reads_are = refl;
+      },
+      omega (arith, inv.calls, c.in_ok-found.ensures.passes.exact),
     )

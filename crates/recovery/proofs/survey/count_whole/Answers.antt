@@ -1,11 +1,14 @@
-use Rattle.std.proofs.Common.{◌<◌, inl, inr, ◌∙◌, ◌+◌, refl, sym, subst, arith}
+use Rattle.std.proofs.Common.{◌≡◌, ◌<◌, ◌≤◌, inl, inr, ◌∙◌, ◌+◌, ℕ, refl, sym, subst, arith, rules}
+use Rattle.std.specs.Prelude.{min}
 use Rattle.std.proofs.lemmas.Bool.{cases_eq}
+use Rattle.medium.specs.Medium.{Image}
 use Rattle.medium.proofs.Moments.{quiet_start, quiet_joined}
 use Rattle.log_layout.specs.Places.{first_home}
 use Rattle.log_layout.specs.Values.{shape_of}
 use Rattle.log_image.specs.Formats.{HasWhole}
 use Rattle.recovery.proofs.Finding.{has_whole_same}
-use Rattle.recovery.proofs.Trying.{no_tries, tries_joined}
+use Rattle.recovery.specs.Tries.{IsTryOf, AreTries}
+use Rattle.recovery.proofs.Trying.{no_tries, tries_more, no_reads, reads_more, reads_stay}
 use Rattle.medium.proofs.Looking.{no_looks, looks_joined}
 use Rattle.recovery.proofs.survey.count_whole.Goals as goal
 
@@ -13,7 +16,9 @@ pub loop-j-init : goal.loop-j-init
 loop-j-init g c = record {
   quiet = quiet_start (g.M.Medium.state c.args.m.now);
   reads = λ kind other. λ i. (g.M.Medium.state c.args.m.now).made kind;
-  tries = no_tries c.args.sizes.now.format (g.M.Medium.state c.args.m.now).calls;
+  tries = no_tries c.args.sizes.now.format (shape_of c.args.sizes.now) (g.M.Medium.state c.args.m.now).content c.args.head
+      (g.M.Medium.state c.args.m.now).calls;
+  most = no_reads c.args.sizes.now.format (g.M.Medium.state c.args.m.now).calls;
   whole = λ k below. absurd (omega arith);
   follows = g.met.M.Medium.follows_itself c.args.m.now;
   looks = no_looks (λ s. s < first_home (shape_of c.args.sizes.now)) (g.M.Medium.state c.args.m.now) (g.M.Medium.state c.args.m.now) refl;
@@ -28,11 +33,15 @@ loop-j-preserved g c =
     let inv = c.loop-j.invariant in
     let j = c.loop-j.j in
     let here : HasWhole shape mid.content (c.args.head + j) = c.in_ok-is_whole.ensures.whole.0 c.if-not-branch.false in
+    let same : mid.content ≡ old.content = λ i s. inv.quiet.content_stays s i in
     let there = has_whole_same shape mid.content old.content (c.args.head + j) (λ x. sym (inv.quiet.content_stays x)) here in
     record {
       quiet = quiet_joined old mid new inv.quiet c.is_whole.ensures.passes.quiet;
       reads = λ kind other. c.is_whole.ensures.passes.reads kind other ∙ inv.reads kind other;
-      tries = tries_joined c.args.sizes.now.format j 1 old.calls mid.calls new.calls inv.tries c.in_ok-is_whole.ensures.exact;
+      tries = tries_more c.args.sizes.now.format shape old.content c.args.head j old.calls mid.calls new.calls inv.tries
+          (subst (λ (i : Image). IsTryOf c.args.sizes.now.format shape i (c.args.head + j) mid.calls new.calls) same
+          c.in_ok-is_whole.ensures.exact);
+      most = reads_more c.args.sizes.now.format j old.calls mid.calls new.calls inv.most c.is_whole.ensures.passes.calls;
       whole = λ k below. elim (cases_eq j k) [
         | inl is ↦ subst (λ n. HasWhole shape old.content (c.args.head + n)) is there
         | inr not ↦ inv.whole k (omega arith)
@@ -56,3 +65,78 @@ returns-then-not-branch-clause-follows g c =
       looks_joined (λ s. s < first_home (shape_of c.args.sizes.now)) (g.M.Medium.state c.args.m.now) (g.M.Medium.state c.loop-j.m)
           (g.M.Medium.state c.is_whole.new.m) inv.looks c.is_whole.ensures.follows.1,
     )
+
+pub returns-then-not-branch-clause-exact : goal.returns-then-not-branch-clause-exact
+returns-then-not-branch-clause-exact g c =
+    let shape = shape_of c.args.sizes.now in
+    let old = g.M.Medium.state c.args.m.now in
+    let mid = g.M.Medium.state c.loop-j.m in
+    let new = g.M.Medium.state c.is_whole.new.m in
+    let inv = c.loop-j.invariant in
+    let j = c.loop-j.j in
+    let same : mid.content ≡ old.content = λ i s. inv.quiet.content_stays s i in
+    let last = subst (λ (i : Image). IsTryOf c.args.sizes.now.format shape i (c.args.head + j) mid.calls new.calls) same
+    c.in_ok-is_whole.ensures.exact in
+    let below = c.loop-j-test.true in
+    let many : j + 1 ≡ min (j + 1) c.args.sizes.now.slots = omega (arith, below) in
+    subst (λ (n : ℕ). AreTries shape old.content c.args.head n old.calls new.calls) many
+    (tries_more c.args.sizes.now.format shape old.content c.args.head j old.calls mid.calls new.calls inv.tries last)
+
+pub returns-clause-exact : goal.returns-clause-exact
+returns-clause-exact g c =
+    let shape = shape_of c.args.sizes.now in
+    let old = g.M.Medium.state c.args.m.now in
+    let new = g.M.Medium.state c.loop-j.m in
+    let j = c.loop-j.j in
+    let slots = c.args.sizes.now.slots in
+    let many : j ≡ min (slots + 1) slots = omega (arith, c.loop-j-test.false) in
+    subst (λ (n : ℕ). AreTries shape old.content c.args.head n old.calls new.calls) many c.loop-j.invariant.tries
+
+pub returns-in_err-is_whole-clause-passes : goal.returns-in_err-is_whole-clause-passes
+returns-in_err-is_whole-clause-passes g c =
+    let format = c.args.sizes.now.format in
+    let old = g.M.Medium.state c.args.m.now in
+    let mid = g.M.Medium.state c.loop-j.m in
+    let new = g.M.Medium.state c.is_whole.new.m in
+    let inv = c.loop-j.invariant in
+    let j = c.loop-j.j in
+    let last = c.is_whole.ensures.passes in
+    let more : j + 1 ≤ c.args.sizes.now.slots = omega (arith, c.loop-j-test.true) in
+    record {
+      quiet = quiet_joined old mid new inv.quiet last.quiet;
+      reads = λ kind other. last.reads kind other ∙ inv.reads kind other;
+      calls = reads_stay format (j + 1) c.args.sizes.now.slots old.calls new.calls more
+          (reads_more format j old.calls mid.calls new.calls inv.most last.calls);
+      cause = search rules;
+    }
+
+pub returns-then-not-branch-clause-passes : goal.returns-then-not-branch-clause-passes
+returns-then-not-branch-clause-passes g c =
+    let format = c.args.sizes.now.format in
+    let old = g.M.Medium.state c.args.m.now in
+    let mid = g.M.Medium.state c.loop-j.m in
+    let new = g.M.Medium.state c.is_whole.new.m in
+    let inv = c.loop-j.invariant in
+    let j = c.loop-j.j in
+    let last = c.is_whole.ensures.passes in
+    let more : j + 1 ≤ c.args.sizes.now.slots = omega (arith, c.loop-j-test.true) in
+    record {
+      quiet = quiet_joined old mid new inv.quiet last.quiet;
+      reads = λ kind other. last.reads kind other ∙ inv.reads kind other;
+      calls = reads_stay format (j + 1) c.args.sizes.now.slots old.calls new.calls more
+          (reads_more format j old.calls mid.calls new.calls inv.most last.calls);
+      cause = tt;
+    }
+
+pub returns-clause-passes : goal.returns-clause-passes
+returns-clause-passes g c =
+    let old = g.M.Medium.state c.args.m.now in
+    let new = g.M.Medium.state c.loop-j.m in
+    let inv = c.loop-j.invariant in
+    record {
+      quiet = inv.quiet;
+      reads = inv.reads;
+      calls = reads_stay c.args.sizes.now.format c.loop-j.j c.args.sizes.now.slots old.calls new.calls (omega (arith, c.loop-j.auto.j-end))
+          inv.most;
+      cause = tt;
+    }

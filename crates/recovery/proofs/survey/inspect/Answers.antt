@@ -1,11 +1,14 @@
-use Rattle.std.proofs.Common.{◌∙◌, ◌+◌, sym, subst, arith, rules}
+use Rattle.std.proofs.Common.{◌≡◌, ◌∙◌, ◌+◌, ℕ, sym, subst, arith, rules}
+use Rattle.std.specs.Prelude.{min}
 use Rattle.std.proofs.lemmas.Result.{err_from_is_err_and}
+use Rattle.medium.specs.Medium.{Image}
 use Rattle.medium.proofs.Moments.{quiet_call, quiet_joined}
 use Rattle.log_layout.specs.Places.{first_home}
 use Rattle.log_layout.specs.Values.{shape_of}
 use Rattle.log_layout.specs.Sectors.{IsHead}
 use Rattle.log_layout.proofs.Decoding.{IsSuper-one}
 use Rattle.log_image.proofs.StandingLaws.{IsCount-same, count_stands}
+use Rattle.recovery.specs.Tries.{AreTries}
 use Rattle.recovery.proofs.Causes.{enough_slots}
 use Rattle.recovery.proofs.Looking.{look_refusal}
 use Rattle.recovery.proofs.Trying.{most_found}
@@ -18,7 +21,10 @@ returns-then-head-count-clause-ok g c =
     let shape = shape_of c.in_ok-sizes.sizes in
     let old = g.M.Medium.state c.args.m.now in
     let mid = g.M.Medium.state c.read.new.self in
+    let new = g.M.Medium.state c.count_whole.new.m in
     let quiet = c.read_super.ensures.reads.quiet in
+    let same : mid.content ≡ old.content = λ i s. (c.read.ensures.content s ∙ quiet.content_stays s) i in
+    let tries = min (c.in_ok-count.count + 1) c.in_ok-sizes.sizes.slots in
     record {
       is = record {
         shape = c.in_ok-sizes.ensures.ok;
@@ -29,7 +35,9 @@ returns-then-head-count-clause-ok g c =
       };
       room = enough_slots c.args.least old.size shape old.content c.in_ok-sizes.ensures.ok
           (λ both. let is = c.if-has_few_slots.ensures.1 both in absurd (cc is));
-      exact = search rules;
+      exact = subst (λ (n : ℕ). AreTries shape old.content c.in-Some.head.stamp tries n new.calls)
+          (omega (arith, c.in_ok-sizes.ensures.reads.exact, c.read.ensures.passes.calls_are))
+          (subst (λ (i : Image). AreTries shape i c.in-Some.head.stamp tries mid.calls new.calls) same c.in_ok-count.ensures.exact);
     }
 
 pub returns-else-head-count-clause-err : goal.returns-else-head-count-clause-err
@@ -60,14 +68,13 @@ returns-in_err-count-clause-reads g c =
     let last = g.M.Medium.state c.count_whole.new.m in
     let read = quiet_call first second c.read.ensures.passes c.read.ensures.content c.read.ensures.sets in
     let sizes = c.in_ok-sizes.sizes in
-    let few = c.in_ok-sizes.sizes.most_slots in
     let rest = c.count_whole.ensures.passes in
     record {
       quiet = quiet_joined old first last c.read_super.ensures.reads.quiet (quiet_joined first second last read rest.quiet);
       reads = search rules;
       calls = search rules;
-      most = λ shape has. most_found shape (shape_of sizes) sizes.slots old.calls second.calls last.calls
-          (IsSuper-one shape (shape_of sizes) (old.content 0) has.super c.in_ok-sizes.ensures.ok.super) few
+      most = λ shape has. most_found shape (shape_of sizes) old.calls second.calls last.calls
+          (IsSuper-one shape (shape_of sizes) (old.content 0) has.super c.in_ok-sizes.ensures.ok.super)
           (omega (arith, c.read_super.ensures.reads.calls, c.read.ensures.passes.calls_are)) rest.calls;
       looks = looked_on (shape_of sizes) old second last c.in_ok-sizes.ensures.ok
           (looked_on (shape_of sizes) old first second c.in_ok-sizes.ensures.ok
@@ -84,14 +91,13 @@ returns-then-head-count-clause-reads g c =
     let last = g.M.Medium.state c.count_whole.new.m in
     let read = quiet_call first second c.read.ensures.passes c.read.ensures.content c.read.ensures.sets in
     let sizes = c.in_ok-sizes.sizes in
-    let few = c.in_ok-sizes.sizes.most_slots in
     let rest = c.count_whole.ensures.passes in
     record {
       quiet = quiet_joined old first last c.read_super.ensures.reads.quiet (quiet_joined first second last read rest.quiet);
       reads = search rules;
       calls = search rules;
-      most = λ shape has. most_found shape (shape_of sizes) sizes.slots old.calls second.calls last.calls
-          (IsSuper-one shape (shape_of sizes) (old.content 0) has.super c.in_ok-sizes.ensures.ok.super) few
+      most = λ shape has. most_found shape (shape_of sizes) old.calls second.calls last.calls
+          (IsSuper-one shape (shape_of sizes) (old.content 0) has.super c.in_ok-sizes.ensures.ok.super)
           (omega (arith, c.read_super.ensures.reads.calls, c.read.ensures.passes.calls_are)) rest.calls;
       looks = looked_on (shape_of sizes) old second last c.in_ok-sizes.ensures.ok
           (looked_on (shape_of sizes) old first second c.in_ok-sizes.ensures.ok
@@ -108,14 +114,13 @@ returns-else-head-count-clause-reads g c =
     let last = g.M.Medium.state c.count_whole.new.m in
     let read = quiet_call first second c.read.ensures.passes c.read.ensures.content c.read.ensures.sets in
     let sizes = c.in_ok-sizes.sizes in
-    let few = c.in_ok-sizes.sizes.most_slots in
     let rest = c.count_whole.ensures.passes in
     record {
       quiet = quiet_joined old first last c.read_super.ensures.reads.quiet (quiet_joined first second last read rest.quiet);
       reads = search rules;
       calls = search rules;
-      most = λ shape has. most_found shape (shape_of sizes) sizes.slots old.calls second.calls last.calls
-          (IsSuper-one shape (shape_of sizes) (old.content 0) has.super c.in_ok-sizes.ensures.ok.super) few
+      most = λ shape has. most_found shape (shape_of sizes) old.calls second.calls last.calls
+          (IsSuper-one shape (shape_of sizes) (old.content 0) has.super c.in_ok-sizes.ensures.ok.super)
           (omega (arith, c.read_super.ensures.reads.calls, c.read.ensures.passes.calls_are)) rest.calls;
       looks = looked_on (shape_of sizes) old second last c.in_ok-sizes.ensures.ok
           (looked_on (shape_of sizes) old first second c.in_ok-sizes.ensures.ok
