@@ -2,6 +2,7 @@ pub mod Batches
 pub mod Costing
 pub mod Counting
 pub mod Fitting
+pub mod Going
 pub mod ImageLimit
 pub mod Limits
 pub mod Looking
@@ -14,5 +15,6 @@ pub mod Sending
 pub mod Settling
 pub mod Starting
 pub mod Stepping
+pub mod Stopping
 pub mod Turning
 pub mod Writing

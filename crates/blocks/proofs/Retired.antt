@@ -22,7 +22,7 @@ pub record Retained (old new : LogValue) : Type 0 where
   pub dead : new.dead ≡ old.dead
 
 -- a step that was made
-retained_by : (old new : LogValue) → IsRetireStepped old new → Retained old new
+pub retained_by : (old new : LogValue) → IsRetireStepped old new → Retained old new
 retained_by old new stepped = ⊎_elim
     (λ more. let is = stepped.more more in record {
       shape = ap (λ (l : LogValue). l.shape) is;

@@ -1,5 +1,5 @@
 -- A store at rest has everything at home.
-use Rattle.std.proofs.Common.{◌≡◌, ◌<◌, ◌≤◌, ℕ, ◌∙◌, sym, ap, refl, inl, inr, arith, true, false, List, [], ◌∷◌, length}
+use Rattle.std.proofs.Common.{◌≡◌, ◌+◌, ◌<◌, ◌≤◌, ℕ, ◌∙◌, sym, ap, refl, inl, inr, arith, true, false, List, [], ◌∷◌, length}
 use Rattle.std.proofs.lemmas.Bool.{cases_lt}
 use Rattle.std.proofs.lemmas.List.{length-map}
 use Rattle.medium.specs.Medium.{State, Image}
@@ -8,7 +8,8 @@ use Rattle.medium.specs.Blocks.{Array}
 use Rattle.log_image.specs.Record.{Entry, numbers_of, with_records, home_of}
 use Rattle.redo_log.specs.Value.{LogValue, Owes, retire_steps_of}
 use Rattle.log_image.specs.Standing.{Keeps}
-use Rattle.redo_log.proofs.Handing.{home_is}
+use Rattle.redo_log.proofs.Handing.{home_is, blocks_guarded}
+use Rattle.redo_log.proofs.Heads.{put_head}
 use Rattle.cache.specs.Blocks.{over}
 use Rattle.cache.specs.Entries.{map_of}
 use Rattle.blocks.specs.Book.{Book, array_of}
@@ -61,8 +62,10 @@ module _ (m : State) (s : Cached) (live : is_dead s ≡ false) (none : steps_lef
 
   cut_home : (book : Book) → FitsBook m s book → book.ours ≡ true → EachCut (IsAtHome (layout_of s) book) m
   cut_home book f ours image cut b below =
-      let safe = (f.holds.guards live (f.ours ∙ ours)).each image cut in
-      left_home book f b below image (safe.rests (omega (arith, none))).keeps
+      let g = blocks_guarded s.log m f.view f.holds live (f.ours ∙ ours) image cut in
+      let keeps = (g.0.rests (omega (arith, none))).keeps in
+      sym (g.1 (s.log.shape.home + b) (λ e. omega (arith, e, keeps.super.home_is.0)))
+      ∙ left_home book f b below (put_head m image) keeps
 
   -- a store without steps whose log has no record is at rest
   pub at_rest : s.log.under_way ≡ [] → IsSettled m s

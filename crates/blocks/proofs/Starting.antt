@@ -90,6 +90,7 @@ opens shape array next ours m holds = record {
 }
 
 module _ (before after : State) (answer : Recovered) (from : IsRecoveredFrom before after answer) (sound : IsSound before)
+    (sound_then : IsSound after)
     (size_stays : after.size ≡ before.size)
     (fresh : (shape : Shape) (array : Array) (next : ℕ) → IsOurs before.size shape before.content array next
     → EachCut (recovered.IsFresh shape array next) after) where
@@ -109,7 +110,7 @@ module _ (before after : State) (answer : Recovered) (from : IsRecoveredFrom bef
   rests : (ours : Bool) → (ours ≡ true → EachCut (IsOursForSome before.size) before)
       → HoldsView (idle_from (shape_of answer.sizes) answer.next) after (resting_view from.array ours)
   rests ours premise =
-      idle_holds (shape_of answer.sizes) answer.next from.array ours after (omega (arith, from.stood.fits, size_stays)) from.home
+      idle_holds (shape_of answer.sizes) answer.next from.array ours after sound_then (omega (arith, from.stood.fits, size_stays)) from.home
       (λ is image cut. fresh_log (shape_of answer.sizes) from.array answer.next image
       (fresh (shape_of answer.sizes) from.array answer.next (was_ours (premise is)) image cut))
 
@@ -129,4 +130,5 @@ module _ (before after : State) (answer : Recovered) (from : IsRecoveredFrom bef
     live = refl;
     empty = refl;
     rests = refl;
+    recovered = (answer, from);
   }

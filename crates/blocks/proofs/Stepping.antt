@@ -102,17 +102,17 @@ steps_last before after s log' none stepped empty failures size holds cuts spare
     }
 
 -- what a retire step leaves as it was
-record StaysRetired (old new : LogValue) : Type 0 where
-  shape : new.shape ≡ old.shape
-  stamp : new.head + length new.waiting ≡ old.head + length old.waiting
-  steps : new.steps_left ≡ old.steps_left
-  dead : new.dead ≡ old.dead
+pub record StaysRetired (old new : LogValue) : Type 0 where
+  pub shape : new.shape ≡ old.shape
+  pub stamp : new.head + length new.waiting ≡ old.head + length old.waiting
+  pub steps : new.steps_left ≡ old.steps_left
+  pub dead : new.dead ≡ old.dead
 
 length-drop_one : {A : Type 0} (l : List A) → 0 < length l → 1 + length (drop 1 l) ≡ length l
 length-drop_one [] some = absurd (omega (arith, some))
 length-drop_one (x ∷ l) some = omega arith
 
-retired : (old new : LogValue) → 0 < length old.waiting → IsRetireStepped old new → StaysRetired old new
+pub retired : (old new : LogValue) → 0 < length old.waiting → IsRetireStepped old new → StaysRetired old new
 retired old new some stepped = ⊎_elim
     (λ more. let is = stepped.more more in record {
       shape = ap (λ (l : LogValue). l.shape) is;

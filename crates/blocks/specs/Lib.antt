@@ -1,8 +1,10 @@
+pub mod Ahead
 pub mod Background
 pub mod Book
 pub mod Calls
 pub mod Finding
 pub mod Finishing
+pub mod Going
 pub mod Kept
 pub mod Limit
 pub mod Looks
@@ -12,5 +14,6 @@ pub mod Retiring
 pub mod Sent
 pub mod Settled
 pub mod Started
+pub mod Stopping
 pub mod StoreValue
 pub mod Turns

@@ -25,6 +25,7 @@ pub record PassesOn {M : Type 0} (state : M → State) (Follows : M → M → Ty
   pub follows : Follows old.medium new.medium
   -- no sector at home is read
   pub looks : LooksAtLog (state old.medium) (state new.medium) old.cached
+  pub policy : new.goes_ahead ≡ old.goes_ahead
 
 -- A call makes a turn, and no more calls of the medium than the background steps that it takes off
 -- pay for, and so many writes and flushes among them at most. The medium comes after what it was,
@@ -39,12 +40,14 @@ pub record PassesPaid {M : Type 0} (state : M → State) (Follows : M → M → 
       → (state new.medium).failures ≡ (state old.medium).failures
   pub follows : Follows old.medium new.medium
   pub looks : LooksAtLog (state old.medium) (state new.medium) old.cached
+  pub policy : new.goes_ahead ≡ old.goes_ahead
 
 -- a call makes a turn of this kind, and leaves the medium as it is
 pub record KeepsMedium {M : Type 0} (state : M → State)
     (Turn : State → State → Cached → Cached → Type 0) (old new : StoreValue M) : Type 0 where
   pub turn : Turn (state old.medium) (state new.medium) old.cached new.cached
   pub medium : new.medium ≡ old.medium
+  pub policy : new.goes_ahead ≡ old.goes_ahead
 
 -- a store that answers Ok is live, and one that answers Err is dead, and says so
 abbrev pub TellsLife : {A : Type 0} → Result A StoreFault → Cached → Type 0
@@ -60,12 +63,14 @@ pub record KeepsStore {M : Type 0} (state : M → State) (Follows : M → M → 
   pub quiet : IsQuiet (state old.medium) (state new.medium)
   pub follows : Follows old.medium new.medium
   pub looks : LooksAtBlocks (state old.medium) (state new.medium) old.cached address count
+  pub policy : new.goes_ahead ≡ old.goes_ahead
 
 -- A call is none of the medium: it changes no content, no set and no count of it, and nothing that
 -- the store keeps.
 pub record IsUntouched {M : Type 0} (state : M → State) (old new : StoreValue M) : Type 0 where
   pub unchanged : IsUnchanged (state old.medium) (state new.medium)
   pub cached : new.cached ≡ old.cached
+  pub policy : new.goes_ahead ≡ old.goes_ahead
   pub turn : IsTurn (state old.medium) (state new.medium) old.cached new.cached
 
 -- why a read is refused: one of a dead store always is, and makes no call

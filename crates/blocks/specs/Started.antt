@@ -36,6 +36,8 @@ pub record IsStarted (before after : State) (new : Cached) : Type 0 where
   pub live : is_dead new ≡ false
   pub empty : active_of new ≡ []
   pub rests : steps_left new ≡ 0
+  -- the medium was recovered, and nothing was done to it afterwards
+  pub recovered : (answer : Recovered) × IsRecoveredFrom before after answer
 
 -- Why a start is refused: for want of memory only once the medium is recovered, else as recovery
 -- is.
@@ -54,9 +56,9 @@ IsOursSince P before after = before.calls + 2 ≤ after.calls
 pub record IsBounded (before after : State) : Type 0 where
   pub moments : LeavesOnly (λ _. Unit {0}) before after
   pub calls : after.calls ≤ before.calls + 6 + 738 * 64
-  -- fewer in format 1
+  -- where the image has a super, for its format and its slots
   pub most : (shape : Shape) → HasShape before.size shape before.content
-      → after.calls ≤ before.calls + 6 + most_start_of shape.format * 64
+      → after.calls ≤ before.calls + 6 + most_start_of shape.format * shape.slots
   pub sends : RecoverySends before after
 
 -- What a start leaves at each moment, whether it is good or refused.

@@ -21,6 +21,8 @@ pub record Cached : Type 0 where
 pub record StoreValue (M : Type 0) : Type 0 where
   pub medium : M
   pub cached : Cached
+  -- whether it retires ahead
+  pub goes_ahead : Bool
 
 -- the format of the log, how many logical blocks and log slots there are, and where block 0 is at
 -- home

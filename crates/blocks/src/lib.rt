@@ -6,11 +6,13 @@
 //! start after a loss of power finds the first so many of the accepted writes, none in part.
 #![tactic(auto)]
 
+mod ahead;
 mod background;
 mod fault;
 mod read;
 mod start;
 mod start_error;
+mod stop;
 mod store;
 mod sync;
 mod write;

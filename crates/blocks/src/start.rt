@@ -89,6 +89,7 @@ impl<M: Medium> Store<M> {
                 active: parts.active,
                 frozen: parts.frozen,
                 writing: false,
+                goes_ahead: false,
             }),
             Err(fault) => Err(StartError { fault, medium }),
         }

@@ -28,6 +28,8 @@ pub struct Store<M: Medium> {
     pub(crate) frozen: Frozen,
     // Whether the record of the frozen batch is under way.
     pub(crate) writing: bool,
+    // Whether it retires ahead of the flush of the next record.
+    pub(crate) goes_ahead: bool,
 }
 
 impl<M: Medium> Model for Store<M> {
@@ -40,6 +42,7 @@ impl<M: Medium> Model for Store<M> {
     ghost view = { λ s. record {
       medium = s.medium;
       cached = record { log = s.log; active = s.active; frozen = s.frozen };
+      goes_ahead = s.goes_ahead;
     } };
 
     ghost invariant = { λ s. IsKept (M.state s.medium).size s.sizes
@@ -156,6 +159,7 @@ impl<M: Inlet> Store<M> {
     pub fn show(&mut self, first: u64, bytes: &[u8]) -> bool
         ensures shown { M.shown first bytes.now result self.old.medium self.new.medium }
         ensures cached { self.new.cached ≡ self.old.cached }
+        ensures policy { self.new.goes_ahead ≡ self.old.goes_ahead }
         ensures untouched { AreHeld (M.state self.old.medium).content first (length bytes.now / 512)
             bytes.now → IsUntouched M.state self.old self.new }
     {

@@ -4,6 +4,7 @@ use Rattle.blocks.proofs.store.Store.append.Goals as goal
 
 pub returns-clause-keeps : goal.returns-clause-keeps
 returns-clause-keeps g c = record {
+  policy = search rules;
   turn =
       let m = c.self.inside.medium in
       let count = length c.args.bytes.now / 512 in

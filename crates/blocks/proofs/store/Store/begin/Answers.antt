@@ -10,6 +10,7 @@ begin-requires-clause-batch g c =
 
 pub returns-in-Ok-clause-keeps : goal.returns-in-Ok-clause-keeps
 returns-in-Ok-clause-keeps g c = record {
+  policy = search rules;
   turn =
       let m = c.self.inside.medium in
       let some = rw (← c.self.view_is) at c.requires.some in
@@ -21,6 +22,7 @@ returns-in-Ok-clause-keeps g c = record {
 
 pub returns-in-Err-clause-keeps : goal.returns-in-Err-clause-keeps
 returns-in-Err-clause-keeps g c = record {
+  policy = search rules;
   turn =
       let m = c.self.inside.medium in
       rw (← c.self.view_is, c.in-Err.ensures.err.2)

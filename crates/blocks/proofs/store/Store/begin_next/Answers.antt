@@ -4,6 +4,7 @@ use Rattle.blocks.proofs.store.Store.begin_next.Goals as goal
 
 pub returns-then-is_empty-clause-keeps : goal.returns-then-is_empty-clause-keeps
 returns-then-is_empty-clause-keeps g c = record {
+  policy = search rules;
   turn = turns _ _ _ _ _ _ c.freeze.ensures.keeps.turn c.begin.ensures.keeps.turn;
   medium = search rules;
 }

@@ -5,6 +5,7 @@ use Rattle.blocks.proofs.store.Store.fail.Goals as goal
 
 pub returns-clause-untouched : goal.returns-clause-untouched
 returns-clause-untouched g c = record {
+  policy = search rules;
   unchanged = search rules;
   cached = search rules;
   turn =

@@ -17,6 +17,7 @@ use Rattle.blocks.proofs.store.Store.finish.Goals as goal
 
 pub returns-then-is_dead-clause-passes : goal.returns-then-is_dead-clause-passes
 returns-then-is_dead-clause-passes g c = record {
+  policy = search rules;
   turn = stays _ _ (g.met.M.Medium.sound c.args.self.now.medium);
   paid = search rules;
   sent = search rules;
@@ -47,6 +48,7 @@ returns-then-self-clause-batch g c = record {
 
 pub returns-then-is_empty-clause-passes : goal.returns-then-is_empty-clause-passes
 returns-then-is_empty-clause-passes g c = record {
+  policy = search rules;
   turn = stays _ _ (g.met.M.Medium.sound c.args.self.now.medium);
   paid = search rules;
   sent = search rules;
@@ -58,6 +60,7 @@ returns-then-is_empty-clause-passes g c = record {
 
 pub returns-clause-passes : goal.returns-clause-passes
 returns-clause-passes g c = record {
+  policy = search rules;
   turn =
       let written = turns _ _ _ _ _ _ c.begin.ensures.keeps.turn c.write_out-2.ensures.passes.turn in
       turns _ _ _ _ _ _ c.make_room.ensures.passes.turn written;
@@ -130,6 +133,7 @@ returns-clause-batch g c = record {
 
 pub returns-in_err-begin-clause-passes : goal.returns-in_err-begin-clause-passes
 returns-in_err-begin-clause-passes g c = record {
+  policy = search rules;
   turn = turns _ _ _ _ _ _ c.make_room.ensures.passes.turn c.begin.ensures.keeps.turn;
   paid = search rules;
   sent =
@@ -239,6 +243,7 @@ returns-in_err-begin-clause-batch g c = record {
 
 pub returns-then-self-clause-passes : goal.returns-then-self-clause-passes
 returns-then-self-clause-passes g c = record {
+  policy = search rules;
   turn = c.write_out.ensures.passes.turn;
   paid = c.write_out.ensures.passes.paid;
   sent =
@@ -252,6 +257,7 @@ returns-then-self-clause-passes g c = record {
 
 pub returns-in_err-make_room-clause-passes : goal.returns-in_err-make_room-clause-passes
 returns-in_err-make_room-clause-passes g c = record {
+  policy = search rules;
   turn = c.make_room.ensures.passes.turn;
   paid = c.make_room.ensures.passes.paid;
   sent = omega (arith, c.make_room.ensures.passes.sent);

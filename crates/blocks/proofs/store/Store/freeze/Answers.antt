@@ -4,6 +4,7 @@ use Rattle.blocks.proofs.store.Store.freeze.Goals as goal
 
 pub returns-clause-keeps : goal.returns-clause-keeps
 returns-clause-keeps g c = record {
+  policy = search rules;
   turn =
       let m = c.self.inside.medium in
       rw (← c.self.view_is, c.freeze.ensures.thawed, c.freeze.ensures.froze)

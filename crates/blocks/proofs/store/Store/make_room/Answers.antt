@@ -14,6 +14,7 @@ use Rattle.blocks.proofs.store.Store.make_room.Goals as goal
 
 pub loop-self-init : goal.loop-self-init
 loop-self-init g c = record {
+  policy = refl;
   turn = stays _ _ (g.met.M.Medium.sound c.args.self.now.medium);
   paid = pays _ _;
   live = c.requires.live;
@@ -56,6 +57,7 @@ loop-self-preserved g c =
     let stepped = (c.retire.ensures.retiring.live (rw (← c.self-in-loop-self.view_is) left.0) c.in_ok-retire.ensures.answer).1 in
     let log_is = ap (λ v. v.cached.log) c.self-in-loop-self.view_is in
     record {
+      policy = c.retire.ensures.passes.policy ∙ c.loop-self.invariant.policy;
       stays = λ room. absurd (full (subst (λ (log : LogValue). HasRoom log) (sym (c.loop-self.invariant.stays room) ∙ sym log_is) room));
       quiet = λ room. absurd (full (subst (λ (log : LogValue). HasRoom log) (sym (c.loop-self.invariant.stays room) ∙ sym log_is) room));
       one = one_at_most c.args.self.now.cached.log c.self-in-loop-self.inside.log c.retire.new.self.cached.log full under_way idle
@@ -100,6 +102,7 @@ loop-self-preserved g c =
 
 pub returns-in_err-retire-clause-passes : goal.returns-in_err-retire-clause-passes
 returns-in_err-retire-clause-passes g c = record {
+  policy = search rules;
   turn = turns _ _ _ _ _ _ c.loop-self.invariant.turn c.retire.ensures.passes.turn;
   paid =
       let refused : c.has_room.result ≡ false = c.loop-self-test.true in
@@ -136,6 +139,7 @@ returns-in_err-retire-clause-passes g c = record {
 
 pub returns-clause-passes : goal.returns-clause-passes
 returns-clause-passes g c = record {
+  policy = search rules;
   turn = c.loop-self.invariant.turn;
   paid = c.loop-self.invariant.paid;
   sent =

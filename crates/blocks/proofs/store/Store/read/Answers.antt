@@ -60,6 +60,7 @@ loop-i-preserved g c =
     let now = quiet_turn before mid c.args.self.now.cached (g.met.M.Medium.sound c.args.self.now.medium) c.loop-i.invariant.quiet in
     let next : c.args.address + c.loop-i.i + 1 ≡ c.args.address + (c.loop-i.i + 1) = omega arith in
     record {
+      policy = c.read_block.ensures.keeps.policy ∙ c.loop-i.invariant.policy;
       stays = c.read_block.ensures.keeps.stays ∙ c.loop-i.invariant.stays;
       quiet = quiet_joined before mid after c.loop-i.invariant.quiet c.read_block.ensures.keeps.quiet;
       calls = omega (arith, c.loop-i.invariant.calls, c.read_block.ensures.cost.calls);
@@ -107,6 +108,7 @@ returns-in_err-read_block-clause-cost g c = record {
 
 pub returns-in_err-read_block-clause-keeps : goal.returns-in_err-read_block-clause-keeps
 returns-in_err-read_block-clause-keeps g c = record {
+  policy = search rules;
   stays = search rules;
   quiet = quiet_joined _ _ _ c.loop-i.invariant.quiet c.read_block.ensures.keeps.quiet;
   follows = g.met.M.Medium.follows_through _ _ _ c.loop-i.invariant.follows c.read_block.ensures.keeps.follows;
@@ -120,6 +122,7 @@ returns-in_err-read_block-clause-keeps g c = record {
 
 pub returns-then-is_dead-clause-keeps : goal.returns-then-is_dead-clause-keeps
 returns-then-is_dead-clause-keeps g c = record {
+  policy = search rules;
   stays = search rules;
   quiet = search rules;
   follows = search rules;
@@ -129,6 +132,7 @@ returns-then-is_dead-clause-keeps g c = record {
 
 pub returns-clause-keeps : goal.returns-clause-keeps
 returns-clause-keeps g c = record {
+  policy = search rules;
   stays = search rules;
   quiet = search rules;
   follows = search rules;

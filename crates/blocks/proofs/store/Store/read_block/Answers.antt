@@ -69,6 +69,7 @@ returns-in-Err-clause-cost g c = record {
 
 pub returns-in-Some-clause-keeps : goal.returns-in-Some-clause-keeps
 returns-in-Some-clause-keeps g c = record {
+  policy = search rules;
   stays = search rules;
   quiet = search rules;
   follows = search rules;
@@ -79,6 +80,7 @@ returns-in-Some-clause-keeps g c = record {
 
 pub returns-in-Some-older-clause-keeps : goal.returns-in-Some-older-clause-keeps
 returns-in-Some-older-clause-keeps g c = record {
+  policy = search rules;
   stays = search rules;
   quiet = search rules;
   follows = search rules;
@@ -89,6 +91,7 @@ returns-in-Some-older-clause-keeps g c = record {
 
 pub returns-in-Ok-clause-keeps : goal.returns-in-Ok-clause-keeps
 returns-in-Ok-clause-keeps g c = record {
+  policy = search rules;
   stays = search rules;
   quiet = search rules;
   follows = search rules;
@@ -97,6 +100,7 @@ returns-in-Ok-clause-keeps g c = record {
 
 pub returns-in-Err-clause-keeps : goal.returns-in-Err-clause-keeps
 returns-in-Err-clause-keeps g c = record {
+  policy = search rules;
   stays = search rules;
   quiet = search rules;
   follows = search rules;

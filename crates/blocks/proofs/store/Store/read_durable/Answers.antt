@@ -62,6 +62,7 @@ returns-in-None-clause-cost g c =
 
 pub returns-in-Some-clause-keeps : goal.returns-in-Some-clause-keeps
 returns-in-Some-clause-keeps g c = record {
+  policy = search rules;
   stays = search rules;
   quiet = search rules;
   follows = search rules;
@@ -72,6 +73,7 @@ returns-in-Some-clause-keeps g c = record {
 
 pub returns-in-None-clause-keeps : goal.returns-in-None-clause-keeps
 returns-in-None-clause-keeps g c = record {
+  policy = search rules;
   stays = search rules;
   quiet = search rules;
   follows = search rules;

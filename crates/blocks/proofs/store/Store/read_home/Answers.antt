@@ -1,4 +1,4 @@
-use Rattle.std.proofs.Common.{◌≡◌, ◌≤◌, ◌<◌, ◌+◌, ◌-◌, ◌*◌, ◌/◌, ℕ, zero, suc, Bool, true, false, List, Option, Some, None, length}
+use Rattle.std.proofs.Common.{◌≡◌, ◌≤◌, ◌<◌, ◌+◌, ◌-◌, ◌*◌, ◌/◌, ℕ, zero, suc, Bool, true, false, List, Option, Some, None, length, rules}
 use Rattle.std.proofs.Common.{◌∙◌, ap, arith, subst, sym, refl, rules}
 use Rattle.std.specs.Prelude.{if◌then◌else◌, is_some}
 use Rattle.std.proofs.lemmas.Bool.{false≢true}
@@ -85,6 +85,7 @@ loop-i-preserved g c =
     let after = g.M.Medium.state c.read_home_block.new.self.medium in
     let now = quiet_turn before mid c.args.self.now.cached (g.met.M.Medium.sound c.args.self.now.medium) c.loop-i.invariant.quiet in
     record {
+      policy = c.read_home_block.ensures.keeps.policy ∙ c.loop-i.invariant.policy;
       stays = c.read_home_block.ensures.keeps.stays ∙ c.loop-i.invariant.stays;
       quiet = quiet_joined before mid after c.loop-i.invariant.quiet c.read_home_block.ensures.keeps.quiet;
       calls = omega (arith, c.loop-i.invariant.calls, c.read_home_block.ensures.cost.calls);
@@ -126,6 +127,7 @@ returns-in_err-read_home_block-clause-cost g c = record {
 
 pub returns-in_err-read_home_block-clause-keeps : goal.returns-in_err-read_home_block-clause-keeps
 returns-in_err-read_home_block-clause-keeps g c = record {
+  policy = search rules;
   stays = search rules;
   quiet = quiet_joined _ _ _ c.loop-i.invariant.quiet c.read_home_block.ensures.keeps.quiet;
   follows = g.met.M.Medium.follows_through _ _ _ c.loop-i.invariant.follows c.read_home_block.ensures.keeps.follows;
@@ -139,6 +141,7 @@ returns-in_err-read_home_block-clause-keeps g c = record {
 
 pub returns-clause-keeps : goal.returns-clause-keeps
 returns-clause-keeps g c = record {
+  policy = search rules;
   stays = search rules;
   quiet = search rules;
   follows = search rules;

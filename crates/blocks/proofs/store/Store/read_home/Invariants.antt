@@ -9,6 +9,7 @@ use Rattle.blocks.proofs.store.Store.read_home.Given as goal
 
 abbrev pub invariant-loop-i : goal.invariant-loop-i
 invariant-loop-i g l = record {
+  policy : l.self.goes_ahead ≡ l.fn.self.goes_ahead;
   stays : l.self.cached ≡ l.fn.self.cached;
   quiet : IsQuiet (g.M.Medium.state l.fn.self.medium) (g.M.Medium.state l.self.medium);
   calls : (g.M.Medium.state l.self.medium).calls ≤ (g.M.Medium.state l.fn.self.medium).calls + 2 * l.i;

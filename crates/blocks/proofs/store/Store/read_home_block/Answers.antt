@@ -69,6 +69,7 @@ returns-in_default-read-clause-cost g c =
 
 pub returns-clause-keeps : goal.returns-clause-keeps
 returns-clause-keeps g c = record {
+  policy = search rules;
   stays = ap (λ v. v.cached) c.self.view_is;
   quiet = rw (← c.self.view_is) (quiet_call _ _ c.read.ensures.passes c.read.ensures.content c.read.ensures.sets);
   follows = rw (← c.self.view_is) c.read.ensures.follows.0;
@@ -82,6 +83,7 @@ returns-clause-keeps g c = record {
 
 pub returns-in_default-read-clause-keeps : goal.returns-in_default-read-clause-keeps
 returns-in_default-read-clause-keeps g c = record {
+  policy = search rules;
   stays = ap (λ v. v.cached) c.self.view_is;
   quiet = rw (← c.self.view_is) (quiet_call _ _ c.read.ensures.passes c.read.ensures.content c.read.ensures.sets);
   follows = rw (← c.self.view_is) c.read.ensures.follows.0;

@@ -47,6 +47,7 @@ returns-clause-retiring g c =
 
 pub returns-clause-passes : goal.returns-clause-passes
 returns-clause-passes g c = record {
+  policy = search rules;
   turn =
       let before = g.M.Medium.state c.self.inside.medium in
       let after = g.M.Medium.state c.retire_step.new.m in

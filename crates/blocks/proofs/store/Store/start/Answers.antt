@@ -14,7 +14,8 @@ returns-in-Ok-new-clause-ok g c =
     let before = g.M.Medium.state c.args.medium in
     let after = g.M.Medium.state c.recover.new.m in
     let size = c.recover.ensures.leaves.moments.size_stays in
-    let whole = starts before after c.in-Ok.recovered c.in-Ok.ensures.ok (g.met.M.Medium.sound c.args.medium) size c.in-Ok.ensures.fresh in
+    let whole = starts before after c.in-Ok.recovered c.in-Ok.ensures.ok (g.met.M.Medium.sound c.args.medium)
+    (g.met.M.Medium.sound c.recover.new.m) size c.in-Ok.ensures.fresh in
     subst (λ p. IsStarted before after (record { log = p.log; active = p.active; frozen = p.frozen })) (sym c.in-Ok-new.ensures.ok) whole
 
 pub returns-in-Err-new-clause-err : goal.returns-in-Err-new-clause-err

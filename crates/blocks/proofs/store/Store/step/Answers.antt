@@ -4,6 +4,7 @@ use Rattle.blocks.proofs.store.Store.step.Goals as goal
 
 pub returns-in-Ok-More-clause-passes : goal.returns-in-Ok-More-clause-passes
 returns-in-Ok-More-clause-passes g c = record {
+  policy = search rules;
   turn =
       let called = c.in-Ok-More.ensures in
       rw (← c.self.view_is)
@@ -22,6 +23,7 @@ returns-in-Ok-More-clause-passes g c = record {
 
 pub returns-in-Ok-Durable-clause-passes : goal.returns-in-Ok-Durable-clause-passes
 returns-in-Ok-Durable-clause-passes g c = record {
+  policy = search rules;
   turn =
       let called = c.in-Ok-Durable.ensures in
       rw (← c.self.view_is)
@@ -41,6 +43,7 @@ returns-in-Ok-Durable-clause-passes g c = record {
 
 pub returns-in-Err-clause-passes : goal.returns-in-Err-clause-passes
 returns-in-Err-clause-passes g c = record {
+  policy = search rules;
   turn =
       let called = c.in-Err.ensures in
       rw (← c.self.view_is)

@@ -15,6 +15,7 @@ use Rattle.blocks.proofs.store.Store.sync.Goals as goal
 
 pub returns-clause-passes : goal.returns-clause-passes
 returns-clause-passes g c = record {
+  policy = search rules;
   turn = turns _ _ _ _ _ _ c.finish.ensures.passes.turn (turns _ _ _ _ _ _ c.freeze.ensures.keeps.turn c.finish-2.ensures.passes.turn);
   paid = search rules;
   sent =
@@ -103,6 +104,7 @@ returns-clause-cost g c = record {
 
 pub returns-in_err-finish-clause-passes : goal.returns-in_err-finish-clause-passes
 returns-in_err-finish-clause-passes g c = record {
+  policy = search rules;
   turn = c.finish.ensures.passes.turn;
   paid = c.finish.ensures.passes.paid;
   sent = omega (arith, c.finish.ensures.passes.sent);

@@ -5,6 +5,7 @@ use Rattle.blocks.proofs.store.Store.tick.Goals as goal
 
 pub returns-then-is_dead-clause-passes : goal.returns-then-is_dead-clause-passes
 returns-then-is_dead-clause-passes g c = record {
+  policy = search rules;
   turn = stays _ _ (g.met.M.Medium.sound c.args.self.now.medium);
   calls = search rules;
   sent = search rules;

@@ -23,6 +23,7 @@ returns-then-not-is_empty-clause-order g c =
 
 pub returns-then-not-is_empty-clause-passes : goal.returns-then-not-is_empty-clause-passes
 returns-then-not-is_empty-clause-passes g c = record {
+  policy = search rules;
   turn = c.begin_next.ensures.keeps.turn;
   calls = search rules;
   sent = search rules;

@@ -10,6 +10,7 @@ use Rattle.blocks.proofs.store.Store.write.Goals as goal
 
 pub returns-then-is_dead-clause-passes : goal.returns-then-is_dead-clause-passes
 returns-then-is_dead-clause-passes g c = record {
+  policy = search rules;
   turn = not_written _ _ _ _ _ (stays _ _ (g.met.M.Medium.sound c.args.self.now.medium));
   calls = search rules;
   sent = search rules;
@@ -21,6 +22,7 @@ returns-then-is_dead-clause-passes g c = record {
 
 pub returns-in_err-finish-clause-passes : goal.returns-in_err-finish-clause-passes
 returns-in_err-finish-clause-passes g c = record {
+  policy = search rules;
   turn =
       let refused = err_from_is_err_and c.from_residual.result c.from_residual.ensures.1 in
       rw refused.1 (not_written _ _ _ _ _ c.finish.ensures.passes.turn);
@@ -41,6 +43,7 @@ append-requires-2-clause-fits g c =
 
 pub returns-clause-passes : goal.returns-clause-passes
 returns-clause-passes g c = record {
+  policy = search rules;
   turn =
       let frozen = turns _ _ _ _ _ _ c.finish.ensures.passes.turn c.freeze.ensures.keeps.turn in
       then_written _ _ _ _ _ _ _ frozen c.append-2.ensures.keeps.turn;
@@ -62,6 +65,7 @@ returns-clause-passes g c = record {
 
 pub returns-then-fits-clause-passes : goal.returns-then-fits-clause-passes
 returns-then-fits-clause-passes g c = record {
+  policy = search rules;
   turn = c.append.ensures.keeps.turn;
   calls = search rules;
   sent = search rules;

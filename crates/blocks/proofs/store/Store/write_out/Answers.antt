@@ -9,6 +9,7 @@ use Rattle.blocks.proofs.store.Store.write_out.Goals as goal
 
 pub loop-init : goal.loop-init
 loop-init g c = record {
+  policy = refl;
   turn = stays _ _ (g.met.M.Medium.sound c.args.self.now.medium);
   paid = pays _ _;
   live = c.requires.live;
@@ -26,6 +27,7 @@ loop-init g c = record {
 
 pub returns-in_err-step-clause-passes : goal.returns-in_err-step-clause-passes
 returns-in_err-step-clause-passes g c = record {
+  policy = search rules;
   turn = turns _ _ _ _ _ _ c.loop.invariant.turn c.step.ensures.passes.turn;
   paid = search rules;
   sent = omega (arith, c.loop.invariant.sends, c.step.ensures.passes.sent, c.loop.invariant.under_way);
@@ -38,6 +40,7 @@ returns-in_err-step-clause-passes g c = record {
 
 pub loop-preserved : goal.loop-preserved
 loop-preserved g c = record {
+  policy = c.step.ensures.passes.policy ∙ c.loop.invariant.policy;
   turn = turns _ _ _ _ _ _ c.loop.invariant.turn c.step.ensures.passes.turn;
   paid = pays_both _ _ _ _ _ _ c.loop.invariant.paid c.loop.invariant.live
       (pays_step (g.M.Medium.state c.loop.self.medium) (g.M.Medium.state c.step.new.self.medium) c.loop.self.cached c.step.new.self.cached
@@ -69,6 +72,7 @@ loop-preserved g c = record {
 
 pub returns-clause-passes : goal.returns-clause-passes
 returns-clause-passes g c = record {
+  policy = search rules;
   turn = turns _ _ _ _ _ _ c.loop.invariant.turn c.step.ensures.passes.turn;
   paid = search rules;
   sent = omega (arith, c.loop.invariant.sends, c.step.ensures.passes.sent, c.loop.invariant.under_way);

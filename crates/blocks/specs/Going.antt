@@ -1,0 +1,37 @@
+-- What the calls of a store do that make it go ahead.
+use Rattle.std.specs.Prelude.{◌≡◌, ◌≤◌, ◌<◌, ◌+◌, false}
+use Rattle.medium.specs.Medium.{State}
+use Rattle.medium.specs.Sent.{SendsUpTo}
+use Rattle.redo_log.specs.Value.{IsSentHome, next_calls, next_sends, pass_calls}
+use Rattle.blocks.specs.Ahead.{counted, past}
+use Rattle.blocks.specs.StoreValue.{Cached, is_dead, steps_left}
+
+-- so much is known of each of them: both batches stay, and no step is left of a record
+pub record StaysIdle (old new : Cached) : Type 0 where
+  pub active : new.active ≡ old.active
+  pub frozen : new.frozen ≡ old.frozen
+  pub idle : new.log.steps_left ≡ 0
+  pub head : new.log.head ≤ old.log.head + 1
+
+-- a flush is counted, without a call, where it covers the oldest record
+pub record CountsFlush (old new : Cached) : Type 0 where
+  pub log : new.log ≡ counted old.log
+  pub fewer : steps_left new ≤ steps_left old
+  pub head : new.log.head ≡ old.log.head
+  pub stays : StaysIdle old new
+
+-- the head goes past the oldest record, where that is flushed at home, by one write
+pub record PassesHead (before after : State) (old new : Cached) : Type 0 where
+  pub log : is_dead new ≡ false → new.log ≡ past old.log
+  pub calls : is_dead new ≡ false → after.calls ≡ before.calls + pass_calls old.log
+  pub fewer : is_dead new ≡ false → steps_left new ≤ steps_left old
+  pub stays : StaysIdle old new
+
+-- one more block of the oldest record goes home, or a descriptor of it is read
+pub record BringsHome (before after : State) (old new : Cached) : Type 0 where
+  pub log : is_dead new ≡ false → IsSentHome old.log new.log
+  pub calls : is_dead new ≡ false → after.calls ≡ before.calls + next_calls old.log
+  pub sent : SendsUpTo (next_sends old.log) before after
+  pub fewer : is_dead new ≡ false → steps_left new < steps_left old
+  pub head : new.log.head ≡ old.log.head
+  pub stays : StaysIdle old new
