@@ -1,43 +1,46 @@
 -- What the checks of a command come to.
-use Rattle.std.proofs.Common.{◌≡◌, ◌⊎◌, ℕ, Bool, true, false, List, inl, inr, Result, Ok, Err, refl, sym, ◌∙◌, ap, subst}
+use Rattle.std.proofs.Common.{◌≡◌, ◌≢◌, ◌⊎◌, ℕ, Bool, true, false, List, inl, inr, Result, Ok, Err, refl, sym, ◌∙◌, ap, subst}
 use Rattle.std.specs.Prelude.{◌&&◌, not, if◌then◌else◌}
 use Rattle.sense.specs.declared.codes.Sense.{Sense}
 use Rattle.cdb.specs.declared.command.Command.{Command}
 use Rattle.cdb.specs.Table.{byte_at, command_of}
+use Rattle.scsi_unit.specs.declared.intent.Intent.{Intent}
 use Rattle.scsi_unit.specs.declared.intent.Intent.TheVariants as intent
 use Rattle.scsi_unit.specs.Rules.{needs_medium, passes_attention, checked_for_fault, command_by, moves, moves_after, intention_by}
 
--- a command that a faulted unit does not refuse moves what it moves without the fault
-not_refused : (refuses : Bool) (sense : Sense) (command : Command) (n : ℕ)
-    → moves_after (if refuses then Err sense else Ok command) ≡ intent.Out n
-    → moves command ≡ intent.Out n
-not_refused true sense command n out = cc
-not_refused false sense command n out = out
+-- of what is moved: so many bytes to the initiator, or from it
+module _ (moved : ℕ → Intent) (good : (sense : Sense) (n : ℕ) → intent.Fail sense ≢ moved n) where
+  -- a command that a faulted unit does not refuse moves what it moves without the fault
+  not_refused : (refuses : Bool) (sense : Sense) (command : Command) (n : ℕ)
+      → moves_after (if refuses then Err sense else Ok command) ≡ moved n
+      → moves command ≡ moved n
+  not_refused true sense command n out = absurd (good sense n out)
+  not_refused false sense command n out = out
 
-without_fault : (told : Result Command Sense) (n : ℕ)
-    → moves_after (checked_for_fault true told) ≡ intent.Out n
-    → moves_after (checked_for_fault false told) ≡ intent.Out n
-without_fault (Ok command) n out = not_refused (needs_medium command) _ command n out
-without_fault (Err sense) n out = out
+  without_fault : (told : Result Command Sense) (n : ℕ)
+      → moves_after (checked_for_fault true told) ≡ moved n
+      → moves_after (checked_for_fault false told) ≡ moved n
+  without_fault (Ok command) n out = not_refused (needs_medium command) _ command n out
+  without_fault (Err sense) n out = out
 
-without_fault_at : (waits : Bool) (sense : Sense) (told : Result Command Sense) (n : ℕ)
-    → moves_after (if waits then Err sense else checked_for_fault true told) ≡ intent.Out n
-    → moves_after (if waits then Err sense else checked_for_fault false told) ≡ intent.Out n
-without_fault_at true sense told n out = out
-without_fault_at false sense told n out = without_fault told n out
+  without_fault_at : (waits : Bool) (sense : Sense) (told : Result Command Sense) (n : ℕ)
+      → moves_after (if waits then Err sense else checked_for_fault true told) ≡ moved n
+      → moves_after (if waits then Err sense else checked_for_fault false told) ≡ moved n
+  without_fault_at true sense told n out = out
+  without_fault_at false sense told n out = without_fault told n out
 
--- what a faulted unit takes it takes without the fault
-pub steady_by : (blocks limit : ℕ) (attention was is : Bool) (block : List ℕ) (n : ℕ)
-    → (is ≡ was) ⊎ ((was ≡ false) × (is ≡ true))
-    → intention_by blocks limit attention is block ≡ intent.Out n
-    → intention_by blocks limit attention was block ≡ intent.Out n
-unfolding intention_by command_by
-steady_by blocks limit attention was is block n change out = elim change [
-  | inl same ↦ subst (λ (f : Bool). intention_by blocks limit attention f block ≡ intent.Out n) same out
-  | inr died ↦ subst (λ (f : Bool). intention_by blocks limit attention f block ≡ intent.Out n) (sym died.0)
-      (without_fault_at (attention && not (passes_attention (byte_at 0 block))) _ (command_of blocks limit block) n
-      (subst (λ (f : Bool). intention_by blocks limit attention f block ≡ intent.Out n) died.1 out))
-]
+  -- what a faulted unit moves it moves without the fault
+  pub steady_by : (blocks limit : ℕ) (attention was is : Bool) (block : List ℕ) (n : ℕ)
+      → (is ≡ was) ⊎ ((was ≡ false) × (is ≡ true))
+      → intention_by blocks limit attention is block ≡ moved n
+      → intention_by blocks limit attention was block ≡ moved n
+  unfolding intention_by command_by
+  steady_by blocks limit attention was is block n change out = elim change [
+    | inl same ↦ subst (λ (f : Bool). intention_by blocks limit attention f block ≡ moved n) same out
+    | inr died ↦ subst (λ (f : Bool). intention_by blocks limit attention f block ≡ moved n) (sym died.0)
+        (without_fault_at (attention && not (passes_attention (byte_at 0 block))) _ (command_of blocks limit block) n
+        (subst (λ (f : Bool). intention_by blocks limit attention f block ≡ moved n) died.1 out))
+  ]
 
 -- an intention is that of the command that passes the checks
 pub intention_is : (blocks limit : ℕ) (attention faulted : Bool) (block : List ℕ)

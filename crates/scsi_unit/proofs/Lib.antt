@@ -4,8 +4,10 @@ pub mod Performing
 pub mod Writing
 pub mod Serving
 pub mod Calling
+pub mod Looking
 pub mod Bounds
 pub mod Effects
+pub mod Faulting
 pub mod Outcomes
 pub mod DataSizes
 pub mod Intentions

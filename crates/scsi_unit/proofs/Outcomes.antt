@@ -199,7 +199,8 @@ ticks_only = record {
       (λ o. ⊎_elim (λ refused. absurd (false≢true refused)) (λ out. absurd (stamps out)) o.cause) ticked;
   intentions = λ refused old new block n ticked out. ⊎_elim
       (λ same. subst (λ (u : UnitState). intention u block ≡ intent.Out n) same out)
-      (λ o. steady_by old.book.blocks old.limit old.kept.attention old.faulted true block n (died_or_not old.faulted true (λ _. refl))
+      (λ o. steady_by intent.Out (λ sense n e. cc) old.book.blocks old.limit old.kept.attention old.faulted true block n
+      (died_or_not old.faulted true (λ _. refl))
       (subst (λ (u : UnitState). intention u block ≡ intent.Out n) o.after out))
       ticked;
 }

@@ -1,16 +1,19 @@
 -- From the turns of a store to the events of a unit.
-use Rattle.std.proofs.Common.{◌≡◌, ◌⊎◌, ◌<◌, ◌≤◌, ◌+◌, [], inl, inr, ⊎_elim, ℕ, Bool, true, false, arith, refl, ap, subst, ◌∙◌}
+use Rattle.std.proofs.Common.{◌≡◌, ◌≢◌, ◌⊎◌, ◌<◌, ◌≤◌, ◌+◌, ℕ, List, [], inl, inr, ⊎_elim, Bool, true, false, arith, refl, ap, subst, ◌∙◌}
 use Rattle.std.proofs.lemmas.Bool.Decides.{nat_tests}
 use Rattle.medium.specs.Medium.{State}
 use Rattle.medium.specs.Sent.{SendsUpTo}
 use Rattle.blocks.specs.Limit.{Shape, limit_of}
 use Rattle.blocks.specs.Background.{IsBackgroundStep}
+use Rattle.blocks.specs.Looks.{LooksAtLog}
 use Rattle.blocks.specs.Book.{Book}
 use Rattle.blocks.specs.StoreValue.{Cached, StoreValue, FitsBook, layout_of, blocks_of, transfer_limit, is_dead, active_of, steps_left}
 use Rattle.blocks.specs.Turns.{GoesOn, HasCause, IsTurn}
 use Rattle.scsi_unit.specs.Rules.{MayFault, Ticks, intention_by}
+use Rattle.sense.specs.declared.codes.Sense.{Sense}
+use Rattle.scsi_unit.specs.declared.intent.Intent.{Intent}
 use Rattle.scsi_unit.specs.declared.intent.Intent.TheVariants as intent
-use Rattle.scsi_unit.specs.UnitValue.{UnitValue, unit_limit, state_of}
+use Rattle.scsi_unit.specs.UnitValue.{UnitValue, unit_limit, state_of, intention_of}
 use Rattle.scsi_unit.specs.Serving.{has_refused, TicksOver}
 use Rattle.scsi_unit.proofs.Checking.{steady_by}
 
@@ -58,14 +61,25 @@ ticks_line before after old store book on fits =
       })
     ]
 
+-- what a command comes to move it moved before the step
+steady_through : {M : Type 0} {before after : State} (moved : ℕ → Intent) → ((sense : Sense) (n : ℕ) → intent.Fail sense ≢ moved n)
+    → (old : UnitValue M) (store : StoreValue M) → GoesOn before after old.store.cached store.cached
+    → (block : List ℕ) (n : ℕ) → intention_of (record old { store = store }) block ≡ moved n → intention_of old block ≡ moved n
+steady_through moved good old store on block n out =
+    steady_by moved good (blocks_of old.store.cached) (unit_limit old) old.kept.attention (is_dead old.store.cached)
+    (is_dead store.cached) block n (died_or_not (is_dead old.store.cached) (is_dead store.cached) on.dead_stays)
+    (subst (λ (s : Shape). intention_by s.blocks (limit_of s.format) old.kept.attention (is_dead store.cached) block ≡ moved n)
+    on.layout_stays out)
+
 -- a unit over a store that made a step in the background
 pub ticks_over : {M : Type 0} (before after : State) (old : UnitValue M) (store : StoreValue M)
     → IsTurn before after old.store.cached store.cached → IsBackgroundStep before after old.store.cached store.cached
     → after.calls ≤ before.calls + 2 → SendsUpTo 2 before after
+    → LooksAtLog before after old.store.cached
     → (is_dead store.cached ≡ false → (steps_left store.cached < steps_left old.store.cached) ⊎ (steps_left old.store.cached ≡ 0))
     → (active_of store.cached ≡ active_of old.store.cached) ⊎ (active_of store.cached ≡ [])
     → TicksOver before after old (record old { store = store })
-ticks_over before after old store turn step few sends left active = record {
+ticks_over before after old store turn step few sends looks left active = record {
   step = step;
   line = λ book fits. (ticks_line before after old store book turn.goes_on fits, turn.fits book fits);
   cuts = turn.cuts;
@@ -75,12 +89,11 @@ ticks_over before after old store turn step few sends left active = record {
   blocks_stay = turn.goes_on.blocks_stay;
   limit_stays = limit_stays old.store.cached store.cached turn.goes_on.layout_stays;
   others_stay = refl;
-  steady = λ block n out. steady_by (blocks_of old.store.cached) (unit_limit old) old.kept.attention (is_dead old.store.cached)
-      (is_dead store.cached) block n (died_or_not (is_dead old.store.cached) (is_dead store.cached) turn.goes_on.dead_stays)
-      (subst (λ (s : Shape). intention_by s.blocks (limit_of s.format) old.kept.attention (is_dead store.cached) block ≡ intent.Out n)
-      turn.goes_on.layout_stays out);
+  steady = λ block n out. steady_through intent.Out (λ sense n e. cc) old store turn.goes_on block n out;
+  steady_in = λ block n out. steady_through intent.In (λ sense n e. cc) old store turn.goes_on block n out;
   few = few;
   sent = sends;
+  looks = looks;
   left = left;
   active = active;
 }

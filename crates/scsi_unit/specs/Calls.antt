@@ -1,6 +1,6 @@
 -- How many calls of the medium a command makes at most: what its calls of the store add up to.
 use Rattle.std.specs.Prelude.{◌≡◌, ℕ, ◌+◌, ◌*◌, ◌≤◌, ◌||◌, not, Bool, List, Result, Ok, Err}
-use Rattle.std.specs.Prelude.{IfOk, if◌then◌else◌}
+use Rattle.std.specs.Prelude.{IfOk, Option, if◌then◌else◌}
 use Rattle.medium.specs.Medium.{State}
 use Rattle.medium.specs.Sent.{SendsUpTo}
 use Rattle.blocks.specs.Sent.{LogFormat, most_sent}
@@ -15,6 +15,7 @@ use Rattle.cdb.specs.declared.command.Transfer.{Transfer}
 use Rattle.scsi_unit.specs.Rules.{moves_blocks, forces_reading, clears, selected_by}
 use Rattle.scsi_unit.specs.UnitValue.{UnitValue, unit_limit}
 use Rattle.scsi_unit.specs.Serving.{command_for}
+use Rattle.scsi_unit.specs.Reading.{read_of, LooksToRead}
 use Rattle.scsi_unit.specs.declared.intent.Intent.{Intent}
 use Rattle.scsi_unit.specs.declared.intent.Intent.TheVariants as intent
 
@@ -81,19 +82,23 @@ most_sends_of format = 3 * most_sent format
 abbrev pub most_sends : {M : Type 0} → UnitValue M → ℕ
 most_sends unit = most_sends_of (layout_of unit.store.cached).format
 
--- a command makes so many calls at most, and no more writes and flushes than any
-pub record MakesAtMost {M : Type 0} (count : ℕ) (before after : State) (old : UnitValue M)
-    : Type 0 where
+-- A command that reads these blocks, or none, makes so many calls at most, and no more writes and
+-- flushes than any. Its reads name no home sector but theirs.
+pub record MakesAtMost {M : Type 0} (count : ℕ) (read : Option Transfer) (before after : State)
+    (old : UnitValue M) : Type 0 where
   pub calls : after.calls ≤ before.calls + count
   pub sent : SendsUpTo (most_sends old) before after
+  pub looks : LooksToRead before after old read
 
 -- The calls of a command block: no more than its command makes, nor than any makes; and no more
--- writes and flushes than any makes.
+-- writes and flushes than any makes. Each read names a sector of the log, or one of the home
+-- sectors that `Unit::home_sectors` tells for it.
 pub record MakesFew {M : Type 0} (before after : State) (block taken : List ℕ) (old : UnitValue M)
     : Type 0 where
   pub bounded : IsBounded before after block taken old
   pub few : after.calls ≤ before.calls + most_calls old
   pub sent : SendsUpTo (most_sends old) before after
+  pub looks : LooksToRead before after old (read_of (command_for old block))
 
 -- How many bytes a command sends: as many as it is meant to, and no more than a transfer has.
 pub record SendsAsMeant (intention : Intent) (limit : ℕ) (result : Result ℕ Sense) : Type 0 where

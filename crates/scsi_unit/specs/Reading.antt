@@ -1,5 +1,7 @@
--- Which home sectors a command reads.
-use Rattle.std.specs.Prelude.{ℕ, ◌+◌, ◌<◌, ◌≤◌, Option, Some, None, Result, Ok, Err, if◌then◌else◌}
+-- Which home sectors a command reads, and which sectors its reads name.
+use Rattle.std.specs.Prelude.{ℕ, ◌+◌, ◌<◌, ◌≤◌, ◌⊎◌, Option, Some, None, Result, Ok, Err}
+use Rattle.std.specs.Prelude.{if◌then◌else◌}
+use Rattle.medium.specs.Medium.{State, LooksOnly}
 use Rattle.sense.specs.declared.codes.Sense.{Sense}
 use Rattle.cdb.specs.declared.command.Command.{Command}
 use Rattle.cdb.specs.declared.command.Command.TheVariants as command
@@ -29,6 +31,24 @@ abbrev pub home_sectors_of : ℕ → Option Transfer → Option HomeSectors
 home_sectors_of home None = None
 home_sectors_of home (Some transfer) =
     Some (record { first = home + transfer.address; count = transfer.count })
+
+-- one of these home sectors
+abbrev pub IsOneOf : Option HomeSectors → ℕ → Type 0
+IsOneOf None sector = ⊥
+IsOneOf (Some wanted) sector = (wanted.first ≤ sector) × (sector < wanted.first + wanted.count)
+
+-- a sector before the first home sector, so one of the super, the head or the log; or one of these
+abbrev pub IsLogOr : ℕ → Option HomeSectors → ℕ → Type 0
+IsLogOr home wanted sector = (sector < home) ⊎ IsOneOf wanted sector
+
+-- each read that a unit made names such a sector
+abbrev pub LooksAt : {M : Type 0} → State → State → UnitValue M → Option HomeSectors → Type 0
+LooksAt before after unit wanted = LooksOnly (IsLogOr (first_home_of unit) wanted) before after
+
+-- each names a sector of the log, or the home of a block that is read
+abbrev pub LooksToRead : {M : Type 0} → State → State → UnitValue M → Option Transfer → Type 0
+LooksToRead before after unit read =
+    LooksAt before after unit (home_sectors_of (first_home_of unit) read)
 
 -- Some sectors of a medium of this size, no more than one transfer reads.
 pub record AreHome (limit size first count : ℕ) : Type 0 where

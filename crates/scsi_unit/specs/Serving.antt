@@ -9,6 +9,7 @@ use Rattle.blocks.specs.Background.{IsBackgroundStep}
 use Rattle.blocks.specs.Book.{Book}
 use Rattle.blocks.specs.Finding.{MayFind, FoundWith}
 use Rattle.blocks.specs.Calls.{TurnsBatches}
+use Rattle.blocks.specs.Looks.{LooksAtLog}
 use Rattle.blocks.specs.Passing.{MayEmpty}
 use Rattle.blocks.specs.Retiring.{finished}
 use Rattle.blocks.specs.StoreValue.{Cached, layout_of, blocks_of, is_dead, active_of, steps_left}
@@ -165,12 +166,16 @@ pub record TicksOver {M : Type 0} (before after : State) (old new : UnitValue M)
   pub blocks_stay : blocks_of new.store.cached ≡ blocks_of old.store.cached
   pub limit_stays : unit_limit new ≡ unit_limit old
   pub others_stay : new ≡ record old { store = new.store }
-  -- no command comes to take data, or other data, by it
+  -- no command comes to take data, or other data, by it; nor to send any
   pub steady : (block : List ℕ) (n : ℕ) → intention_of new block ≡ intent.Out n
       → intention_of old block ≡ intent.Out n
+  pub steady_in : (block : List ℕ) (n : ℕ) → intention_of new block ≡ intent.In n
+      → intention_of old block ≡ intent.In n
   -- at most two calls, and there is less left to do, or there was nothing
   pub few : after.calls ≤ before.calls + 2
   pub sent : SendsUpTo 2 before after
+  -- no sector at home is read
+  pub looks : LooksAtLog before after old.store.cached
   pub left : is_dead new.store.cached ≡ false
       → (steps_left new.store.cached < steps_left old.store.cached)
       ⊎ (steps_left old.store.cached ≡ 0)

@@ -12,6 +12,8 @@ use Rattle.blocks.specs.Opening.{StartFault}
 pub use Rattle.blocks.specs.Limit.{HasLimit}
 pub use Rattle.blocks.specs.Opening.{IsOursForSome, Stands, StandsForOpening, OpensOn, IsCauseFor}
 pub use Rattle.blocks.specs.Started.{IsStarted, IsStartCause, StartLeaves}
+-- what it leaves of its medium, and which sectors its reads name
+pub use Rattle.blocks.specs.Started.{LeavesMedium}
 -- for the number of blocks with which a life opened
 pub use Rattle.blocks.specs.Opening.{Shape, StandsFor}
 pub use Rattle.blocks.specs.StoreValue.{layout_of, blocks_of}

@@ -5,6 +5,7 @@ use Rattle.medium.specs.Medium.{State}
 use Rattle.blocks.specs.Background.{IsBackgroundStep}
 use Rattle.blocks.specs.Book.{Book, array_of, blocks_at, promised, write_of}
 use Rattle.blocks.specs.Calls.{reads_of, TurnsBatches}
+use Rattle.blocks.specs.Looks.{LooksAtLog, LooksAtBlocks}
 use Rattle.medium.specs.Sent.{SendsUpTo}
 use Rattle.blocks.specs.Passing.{MayEmpty}
 use Rattle.blocks.specs.Sent.{batch_sends}
@@ -33,6 +34,7 @@ pub record MakesDurable (wanted : Bool) (before after : State) (old new : Cached
   pub log : OnOk result (IsFinished wanted old new)
   pub calls : after.calls ≤ before.calls + (if wanted then calls_of_sync old else 0)
   pub sent : SendsUpTo (2 * batch_sends old) before after
+  pub looks : LooksAtLog before after old
 
 -- The blocks of a transfer are at the front of a buffer, where the answer is good. The batches and
 -- the log stay.
@@ -45,6 +47,7 @@ pub record ReadsBlocks (transfer : Transfer) (before after : State) (old new : C
   pub stays : new ≡ old
   pub calls : after.calls ≤ before.calls + reads_of old transfer.address transfer.count
   pub sent : SendsUpTo 0 before after
+  pub looks : LooksAtBlocks before after old transfer.address transfer.count
   pub turn : IsTurn before after old new
 
 -- The blocks at the front of what was taken are accepted, where the answer is good.
@@ -58,6 +61,7 @@ pub record WritesBlocks (transfer : Transfer) (taken : List ℕ) (before after :
   pub batches : OnOk result (TurnsBatches old new transfer.address transfer.count)
   pub calls : after.calls ≤ before.calls + calls_of_sync old
   pub sent : SendsUpTo (batch_sends old) before after
+  pub looks : LooksAtLog before after old
   pub paid : OnOk result (after.calls + calls_of_sync new
       ≤ before.calls + calls_of_sync old + 2 * batch_steps old)
 
@@ -68,6 +72,7 @@ pub record StepsBehind (before after : State) (old new : Cached) : Type 0 where
   pub order : IsBackgroundStep before after old new
   pub calls : after.calls ≤ before.calls + 2
   pub sent : SendsUpTo 2 before after
+  pub looks : LooksAtLog before after old
   pub left : is_dead new ≡ false
       → (steps_left new < steps_left old) ⊎ (steps_left old ≡ 0)
   pub active : MayEmpty (active_of old) (active_of new)

@@ -12,6 +12,7 @@ ghost use Rattle.scsi_unit.specs.Capacity.{capacity_10, capacity_16};
 ghost use Rattle.scsi_unit.specs.Rules.{needs_medium, moves};
 ghost use Rattle.scsi_unit.specs.UnitValue.{unit_limit, intention_of, answer_of};
 ghost use Rattle.scsi_unit.specs.Serving.{command_for};
+ghost use Rattle.scsi_unit.specs.Reading.{read_of};
 ghost use Rattle.scsi_unit.specs.Calls.{calls_of, MakesAtMost, MakesFew, SendsAsMeant};
 ghost use Rattle.scsi_unit.specs.Performing.{Performs, Spares, silent};
 
@@ -96,6 +97,7 @@ impl<M: Medium> Unit<M> {
     }
 
     // Performs a command.
+    #[tactic(auto, using(crate::proofs::Looking::no_calls))]
     fn perform(&mut self, command: Command, taken: &[u8], out: &mut [u8]) -> Result<usize, Sense>
         requires served { (is_dead self.old.store.cached && needs_medium command) ≡ false }
         requires supported { IsSupported (blocks_of self.old.store.cached) (unit_limit self.old)
@@ -109,7 +111,7 @@ impl<M: Medium> Unit<M> {
             (answer_of result out.new) self.new }
         ensures bounded { MakesAtMost
             (calls_of command taken.now self.old.write_cache self.old.store.cached)
-            (M.state self.old.store.medium) (M.state self.new.store.medium) self.old }
+            (read_of (Ok command)) (M.state self.old.store.medium) (M.state self.new.store.medium) self.old }
         ensures sends { SendsAsMeant (moves command) (unit_limit self.old) result }
         ensures follows { M.follows self.old.store.medium self.new.store.medium }
     {

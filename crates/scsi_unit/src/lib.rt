@@ -7,6 +7,7 @@
 
 mod checks;
 mod commands;
+mod fault;
 mod intent;
 mod laws;
 mod reading;

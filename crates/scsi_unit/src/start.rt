@@ -1,7 +1,7 @@
 //! How a unit starts.
 ghost use Rattle.std.specs.Prelude.{ℕ, IfOk, IfErr, MatchResult};
 ghost use Rattle.medium.specs.Moments.{EachCut, LeavesOnly};
-ghost use Rattle.blocks.specs.Started.{StartLeaves};
+ghost use Rattle.blocks.specs.Started.{StartLeaves, LeavesMedium};
 ghost use Rattle.blocks.specs.Limit.{HasLimit};
 ghost use Rattle.scsi_unit.specs.Starting.{IsOursForSome, IsUnitStarted, IsNotStarted};
 
@@ -36,9 +36,9 @@ impl<M: Medium> Unit<M> {
             (M.state medium) (M.state unit.store.medium))
             (λ error. LeavesOnly (HasLimit (M.state medium).size limit)
             (M.state medium) (M.state error.medium)) }
-        ensures follows { MatchResult result
-            (λ unit. M.follows medium unit.store.medium)
-            (λ error. M.follows medium error.medium) }
+        ensures medium { MatchResult result
+            (λ unit. LeavesMedium M.state M.follows medium unit.store.medium)
+            (λ error. LeavesMedium M.state M.follows medium error.medium) }
     {
         let store = Store::start(alloc, medium)?;
         Ok(Unit::new(store, identity))

@@ -1,5 +1,5 @@
 //! The commands that use the store.
-ghost use Rattle.std.specs.Prelude.{◌≡◌, ◌≤◌, ◌+◌, ◌*◌, ℕ, false, List, length, Ok, IfOk};
+ghost use Rattle.std.specs.Prelude.{◌≡◌, ◌≤◌, ◌+◌, ◌*◌, ℕ, false, List, length, None, Ok, IfOk};
 ghost use Rattle.blocks.specs.StoreValue.{blocks_of, is_dead};
 ghost use Rattle.cdb.specs.Supported.{IsWithin};
 ghost use Rattle.cdb.specs.declared.command.BlockRange.{BlockRange};
@@ -8,6 +8,7 @@ ghost use Rattle.scsi_unit.specs.UnitValue.{unit_limit, answer_of};
 ghost use Rattle.scsi_unit.specs.Calls.{calls_of_sync, calls_of_read, calls_of_write, calls_of};
 ghost use Rattle.scsi_unit.specs.Calls.{MakesAtMost};
 ghost use Rattle.scsi_unit.specs.Performing.{Performs, Spares, silent};
+ghost use Rattle.scsi_unit.specs.Reading.{some_read};
 
 use crate::Unit;
 use crate::store_calls::{make_durable, read_blocks, write_blocks};
@@ -18,6 +19,7 @@ use sense::Sense;
 
 impl<M: Medium> Unit<M> {
     /// READ: with FUA all accepted writes are made durable first.
+    #[tactic(auto, using(crate::proofs::Looking::no_calls))]
     pub(crate) fn read(&mut self, transfer: Transfer, out: &mut [u8]) -> Result<usize, Sense>
         requires live { is_dead self.old.store.cached ≡ false }
         requires within { IsWithin (blocks_of self.old.store.cached) (unit_limit self.old)
@@ -29,7 +31,8 @@ impl<M: Medium> Unit<M> {
         ensures spares { (taken : List ℕ) → Spares (Ok (command.Read10 transfer)) taken self.old
             (answer_of result out.new) self.new }
         ensures bounded { MakesAtMost (calls_of_read transfer self.old.store.cached)
-            (M.state self.old.store.medium) (M.state self.new.store.medium) self.old }
+            (some_read transfer) (M.state self.old.store.medium) (M.state self.new.store.medium)
+            self.old }
         ensures sent { IfOk result (λ sent. sent ≡ 512 * transfer.count) }
         ensures follows { M.follows self.old.store.medium self.new.store.medium }
     {
@@ -41,6 +44,7 @@ impl<M: Medium> Unit<M> {
     }
 
     /// WRITE: with FUA, or without the write cache, all accepted writes are made durable.
+    #[tactic(auto, using(crate::proofs::Looking::no_calls))]
     pub(crate) fn write(&mut self, transfer: Transfer, taken: &[u8]) -> Result<(), Sense>
         requires live { is_dead self.old.store.cached ≡ false }
         requires within { IsWithin (blocks_of self.old.store.cached) (unit_limit self.old)
@@ -53,7 +57,7 @@ impl<M: Medium> Unit<M> {
             (silent result) self.new }
         ensures bounded { MakesAtMost
             (calls_of_write transfer self.old.write_cache self.old.store.cached)
-            (M.state self.old.store.medium) (M.state self.new.store.medium) self.old }
+            None (M.state self.old.store.medium) (M.state self.new.store.medium) self.old }
         ensures follows { M.follows self.old.store.medium self.new.store.medium }
     {
         if transfer.count == 0 {
@@ -74,13 +78,14 @@ impl<M: Medium> Unit<M> {
             → Spares (Ok (command.SynchronizeCache10 range)) taken
             self.old (silent result) self.new }
         ensures bounded { MakesAtMost (calls_of_sync self.old.store.cached)
-            (M.state self.old.store.medium) (M.state self.new.store.medium) self.old }
+            None (M.state self.old.store.medium) (M.state self.new.store.medium) self.old }
         ensures follows { M.follows self.old.store.medium self.new.store.medium }
     {
         make_durable(&mut self.store, true)
     }
 
     /// MODE SELECT: WCE goes from 1 to 0 when all accepted writes are durable.
+    #[tactic(auto, using(crate::proofs::Looking::no_calls))]
     pub(crate) fn select(&mut self, list_len: u8, taken: &[u8]) -> Result<(), Sense>
         requires live { is_dead self.old.store.cached ≡ false }
         requires taken { list_len ≤ length taken.now }
@@ -91,7 +96,7 @@ impl<M: Medium> Unit<M> {
             (silent result) self.new }
         ensures bounded { MakesAtMost (calls_of (command.ModeSelect list_len) taken.now
             self.old.write_cache self.old.store.cached)
-            (M.state self.old.store.medium) (M.state self.new.store.medium) self.old }
+            None (M.state self.old.store.medium) (M.state self.new.store.medium) self.old }
         ensures follows { M.follows self.old.store.medium self.new.store.medium }
     {
         let enabled = mode_select(&taken[..usize::from(list_len)], self.write_cache)?;

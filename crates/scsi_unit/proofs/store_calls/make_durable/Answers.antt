@@ -3,6 +3,7 @@ use Rattle.medium.specs.Medium.{State}
 use Rattle.blocks.specs.StoreValue.{Cached, is_dead}
 use Rattle.blocks.specs.Turns.{IsTurn}
 use Rattle.blocks.proofs.Turning.{stays}
+use Rattle.blocks.proofs.Looking.{none}
 use Rattle.scsi_unit.specs.StoreCalls.{MakesDurable}
 use Rattle.scsi_unit.proofs.store_calls.make_durable.Goals as goal
 
@@ -19,6 +20,7 @@ not_wanted m s turn live = record {
   log = refl;
   calls = no_more m.calls;
   sent = omega arith;
+  looks = none m m s refl;
 }
 
 pub returns-else-wanted-clause-makes : goal.returns-else-wanted-clause-makes

@@ -48,4 +48,5 @@ returns-clause-calls g c =
       few = told_few c.command.result c.in_ok-command.command c.args.taken.now unit.write_cache unit.store.cached _ _ (most_calls unit)
           c.in_ok-command.was (c.command.ensures.few c.args.taken.now) c.perform.ensures.bounded.calls;
       sent = c.perform.ensures.bounded.sent;
+      looks = rw (sym c.command.ensures.value ∙ c.in_ok-command.was) c.perform.ensures.bounded.looks;
     }

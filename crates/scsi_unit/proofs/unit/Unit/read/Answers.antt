@@ -5,7 +5,9 @@ use Rattle.blocks.specs.StoreValue.{StoreValue, is_dead}
 use Rattle.scsi_unit.specs.UnitValue.{UnitValue, answer_of}
 use Rattle.scsi_unit.specs.Performing.{Performs}
 use Rattle.scsi_unit.specs.Calls.{calls_of_read, MakesAtMost}
+use Rattle.scsi_unit.specs.Reading.{some_read}
 use Rattle.scsi_unit.proofs.Calling.{read_stops, read_ends}
+use Rattle.scsi_unit.proofs.Looking.{log_looked, read_looked}
 use Rattle.scsi_unit.proofs.Performing.{durable_error, moves_some, forces_as, reads_nothing, reads_blocks_of}
 use Rattle.scsi_unit.proofs.unit.Unit.read.Goals as goal
 
@@ -54,24 +56,27 @@ pub returns-in_err-make_durable-clause-bounded : goal.returns-in_err-make_durabl
 returns-in_err-make_durable-clause-bounded g c =
     let state = g.M.Medium.state in
     let i = c.self.inside in
+    let seen : UnitValue g.row.M.Denot = record { store = i.store; identity = i.identity; kept = i.kept; write_cache = i.write_cache } in
     let last = c.make_durable.new.store in
     let P = λ (u : UnitValue g.row.M.Denot).
-    MakesAtMost (calls_of_read c.args.transfer u.store.cached) (state u.store.medium) (state last.medium) u in
+    MakesAtMost (calls_of_read c.args.transfer u.store.cached) (some_read c.args.transfer) (state u.store.medium) (state last.medium) u in
     subst P c.self.view_is
     (record {
       calls = read_stops c.args.transfer i.store.cached (state i.store.medium).calls (state last.medium).calls
           (moves_some c.args.transfer c.if-transfer-eq0.false) c.make_durable.ensures.makes.calls;
       sent = omega (arith, c.make_durable.ensures.makes.sent);
+      looks = log_looked (state i.store.medium) (state last.medium) seen (some_read c.args.transfer) c.make_durable.ensures.makes.looks;
     })
 
 pub returns-clause-bounded : goal.returns-clause-bounded
 returns-clause-bounded g c =
     let state = g.M.Medium.state in
     let i = c.self.inside in
+    let seen : UnitValue g.row.M.Denot = record { store = i.store; identity = i.identity; kept = i.kept; write_cache = i.write_cache } in
     let half = c.make_durable.new.store in
     let last = c.read_blocks.new.store in
     let P = λ (u : UnitValue g.row.M.Denot).
-    MakesAtMost (calls_of_read c.args.transfer u.store.cached) (state u.store.medium) (state last.medium) u in
+    MakesAtMost (calls_of_read c.args.transfer u.store.cached) (some_read c.args.transfer) (state u.store.medium) (state last.medium) u in
     subst P c.self.view_is
     (record {
       calls = read_ends c.args.transfer i.store.cached half.cached (state i.store.medium).calls (state half.medium).calls
@@ -79,4 +84,7 @@ returns-clause-bounded g c =
           (λ plain. ap (λ (s : StoreValue g.row.M.Denot). s.cached) (c.make_durable.ensures.unwanted plain).0)
           c.make_durable.ensures.makes.turn.goes_on.layout_stays c.read_blocks.ensures.reads.calls;
       sent = omega (arith, c.make_durable.ensures.makes.sent, c.read_blocks.ensures.reads.sent);
+      looks = read_looked (state i.store.medium) (state half.medium) (state last.medium) seen half.cached c.args.transfer
+          (moves_some c.args.transfer c.if-transfer-eq0.false) c.make_durable.ensures.makes.turn.goes_on.layout_stays
+          c.make_durable.ensures.makes.looks c.read_blocks.ensures.reads.looks;
     })

@@ -1,4 +1,4 @@
-use Rattle.std.proofs.Common.{◌≡◌, Bool, ℕ, false, [], Ok, Err, refl, subst, sym, ◌∙◌, ap, arith}
+use Rattle.std.proofs.Common.{◌≡◌, Bool, ℕ, false, [], None, Ok, Err, refl, subst, sym, ◌∙◌, ap, arith}
 use Rattle.std.specs.Prelude.{◌&&◌, not, if◌then◌else◌, OnOk}
 use Rattle.std.proofs.lemmas.Result.{err_from_is_err_and}
 use Rattle.cdb.specs.declared.command.Command.TheVariants as command
@@ -8,6 +8,7 @@ use Rattle.scsi_unit.specs.Rules.{selected_by}
 use Rattle.scsi_unit.specs.UnitValue.{UnitValue}
 use Rattle.scsi_unit.specs.Performing.{Performs, silent}
 use Rattle.scsi_unit.specs.Calls.{calls_of, MakesAtMost}
+use Rattle.scsi_unit.proofs.Looking.{log_looked}
 use Rattle.scsi_unit.proofs.Calling.{select_calls}
 use Rattle.scsi_unit.proofs.Performing.{durable_error}
 use Rattle.scsi_unit.proofs.Writing.{selects_nothing, selects_bit, clears_as}
@@ -83,6 +84,7 @@ pub returns-in_err-make_durable-clause-bounded : goal.returns-in_err-make_durabl
 returns-in_err-make_durable-clause-bounded g c =
     let state = g.M.Medium.state in
     let i = c.self.inside in
+    let seen : UnitValue g.row.M.Denot = record { store = i.store; identity = i.identity; kept = i.kept; write_cache = i.write_cache } in
     let last = c.make_durable.new.store in
     let chosen : selected_by c.args.list_len c.args.taken.now i.write_cache ≡ Ok c.in_ok-enabled.enabled =
     ap (λ (n : ℕ). selected_by n c.args.taken.now i.write_cache) (sym c.from.ensures)
@@ -93,7 +95,7 @@ returns-in_err-make_durable-clause-bounded g c =
       | else-self w ↦ rw w.if-self.false (w.clears-is ∙ w.if-self.false)
     ] in
     let P = λ (u : UnitValue g.row.M.Denot).
-    MakesAtMost (calls_of (command.ModeSelect c.args.list_len) c.args.taken.now u.write_cache u.store.cached) (state u.store.medium)
+    MakesAtMost (calls_of (command.ModeSelect c.args.list_len) c.args.taken.now u.write_cache u.store.cached) None (state u.store.medium)
     (state last.medium) u in
     subst P c.self.view_is
     (record {
@@ -102,12 +104,14 @@ returns-in_err-make_durable-clause-bounded g c =
           (clears_as c.args.list_len c.args.taken.now i.write_cache c.in_ok-enabled.enabled chosen ∙ sym wanted)
           c.make_durable.ensures.makes.calls;
       sent = omega (arith, c.make_durable.ensures.makes.sent);
+      looks = log_looked (state i.store.medium) (state last.medium) seen None c.make_durable.ensures.makes.looks;
     })
 
 pub returns-clause-bounded : goal.returns-clause-bounded
 returns-clause-bounded g c =
     let state = g.M.Medium.state in
     let i = c.self.inside in
+    let seen : UnitValue g.row.M.Denot = record { store = i.store; identity = i.identity; kept = i.kept; write_cache = i.write_cache } in
     let last = c.make_durable.new.store in
     let chosen : selected_by c.args.list_len c.args.taken.now i.write_cache ≡ Ok c.in_ok-enabled.enabled =
     ap (λ (n : ℕ). selected_by n c.args.taken.now i.write_cache) (sym c.from.ensures)
@@ -118,7 +122,7 @@ returns-clause-bounded g c =
       | else-self w ↦ rw w.if-self.false (w.clears-is ∙ w.if-self.false)
     ] in
     let P = λ (u : UnitValue g.row.M.Denot).
-    MakesAtMost (calls_of (command.ModeSelect c.args.list_len) c.args.taken.now u.write_cache u.store.cached) (state u.store.medium)
+    MakesAtMost (calls_of (command.ModeSelect c.args.list_len) c.args.taken.now u.write_cache u.store.cached) None (state u.store.medium)
     (state last.medium) u in
     subst P c.self.view_is
     (record {
@@ -127,4 +131,5 @@ returns-clause-bounded g c =
           (clears_as c.args.list_len c.args.taken.now i.write_cache c.in_ok-enabled.enabled chosen ∙ sym wanted)
           c.make_durable.ensures.makes.calls;
       sent = omega (arith, c.make_durable.ensures.makes.sent);
+      looks = log_looked (state i.store.medium) (state last.medium) seen None c.make_durable.ensures.makes.looks;
     })

@@ -1,4 +1,4 @@
-use Rattle.std.proofs.Common.{◌≡◌, ◌≤◌, ◌+◌, Bool, false, Ok, subst, sym, ap, arith, ◌∙◌}
+use Rattle.std.proofs.Common.{◌≡◌, ◌≤◌, ◌+◌, Bool, false, None, Ok, subst, sym, ap, arith, ◌∙◌}
 use Rattle.std.specs.Prelude.{◌||◌, not, if◌then◌else◌, OnOk}
 use Rattle.blocks.specs.Book.{Book, promised}
 use Rattle.std.proofs.lemmas.Result.{err_from_is_err_and}
@@ -9,6 +9,8 @@ use Rattle.scsi_unit.specs.Performing.{Performs, silent}
 use Rattle.blocks.specs.Limit.{Shape}
 use Rattle.blocks.specs.Sent.{most_sent}
 use Rattle.scsi_unit.specs.Calls.{calls_of_sync, calls_of_write, MakesAtMost}
+use Rattle.blocks.proofs.Looking.{looks_on}
+use Rattle.scsi_unit.proofs.Looking.{log_looked}
 use Rattle.scsi_unit.proofs.Calling.{write_stops, write_ends, OnOk-at}
 use Rattle.scsi_unit.proofs.Performing.{moves_some}
 use Rattle.scsi_unit.proofs.Writing.{writes_nothing, write_refused, writes_blocks}
@@ -65,20 +67,23 @@ pub returns-in_err-write_blocks-clause-bounded : goal.returns-in_err-write_block
 returns-in_err-write_blocks-clause-bounded g c =
     let state = g.M.Medium.state in
     let i = c.self.inside in
+    let seen : UnitValue g.row.M.Denot = record { store = i.store; identity = i.identity; kept = i.kept; write_cache = i.write_cache } in
     let last = c.write_blocks.new.store in
     let P = λ (u : UnitValue g.row.M.Denot).
-    MakesAtMost (calls_of_write c.args.transfer u.write_cache u.store.cached) (state u.store.medium) (state last.medium) u in
+    MakesAtMost (calls_of_write c.args.transfer u.write_cache u.store.cached) None (state u.store.medium) (state last.medium) u in
     subst P c.self.view_is
     (record {
       calls = write_stops c.args.transfer i.write_cache i.store.cached (state i.store.medium).calls (state last.medium).calls
           (moves_some c.args.transfer c.if-transfer-eq0.false) c.write_blocks.ensures.writes.calls;
       sent = omega (arith, c.write_blocks.ensures.writes.sent);
+      looks = log_looked (state i.store.medium) (state last.medium) seen None c.write_blocks.ensures.writes.looks;
     })
 
 pub returns-clause-bounded : goal.returns-clause-bounded
 returns-clause-bounded g c =
     let state = g.M.Medium.state in
     let i = c.self.inside in
+    let seen : UnitValue g.row.M.Denot = record { store = i.store; identity = i.identity; kept = i.kept; write_cache = i.write_cache } in
     let half = c.write_blocks.new.store in
     let last = c.make_durable.new.store in
     let wanted : c.if-transfer.through ≡ (c.args.transfer.fua || not i.write_cache) = elim c.if-transfer.branch [
@@ -89,7 +94,7 @@ returns-clause-bounded g c =
     let more = subst (λ (b : Bool). (state last.medium).calls ≤ (state half.medium).calls + (if b then calls_of_sync half.cached else 0))
     wanted c.make_durable.ensures.makes.calls in
     let P = λ (u : UnitValue g.row.M.Denot).
-    MakesAtMost (calls_of_write c.args.transfer u.write_cache u.store.cached) (state u.store.medium) (state last.medium) u in
+    MakesAtMost (calls_of_write c.args.transfer u.write_cache u.store.cached) None (state u.store.medium) (state last.medium) u in
     subst P c.self.view_is
     (record {
       calls = write_ends c.args.transfer i.write_cache i.store.cached half.cached (state i.store.medium).calls (state half.medium).calls
@@ -97,4 +102,7 @@ returns-clause-bounded g c =
       sent =
           let same = ap (λ (s : Shape). most_sent s.format) c.write_blocks.ensures.writes.turn.goes_on.layout_stays in
           omega (arith, c.write_blocks.ensures.writes.sent, c.make_durable.ensures.makes.sent, same);
+      looks = log_looked (state i.store.medium) (state last.medium) seen None
+          (looks_on (state i.store.medium) (state half.medium) (state last.medium) i.store.cached half.cached
+          c.write_blocks.ensures.writes.turn.goes_on.layout_stays c.write_blocks.ensures.writes.looks c.make_durable.ensures.makes.looks);
     })
