@@ -3,14 +3,15 @@ pub mod Packets
 pub mod Sending
 pub mod Filling
 pub mod UnitLaws
+pub mod Faulting
 pub mod Proceeding
 pub mod Cases
+pub mod ReadAtOnce
 pub mod Opening
 pub mod Taking
 pub mod Telling
 pub mod Stepping
 pub mod Passing
-pub mod ReadAtOnce
 pub mod Alternation
 pub mod Runs
 pub mod OneStep

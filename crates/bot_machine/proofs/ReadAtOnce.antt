@@ -1,17 +1,56 @@
--- What the exchange of a packet reads is what its wrapper reads.
-use Rattle.std.proofs.Common.{◌≡◌, ℕ, List, Option, Some, None, MatchOption, false, sym, subst, arith}
+-- What the exchange of a packet reads is what its wrapper reads, and which sectors its reads name.
+use Rattle.std.proofs.Common.{◌≡◌, ◌≢◌, ◌⊎◌, ◌<◌, ⊎_elim, inl, inr, ℕ, List, Option, Some, None, MatchOption, false, refl, sym, ap, ◌∙◌}
+use Rattle.std.proofs.Common.{subst, arith}
 use Rattle.wrappers.specs.declared.command.Cbw.{Cbw}
+use Rattle.medium.specs.Medium.{State}
+use Rattle.medium.proofs.Looking.{looks_wider}
+use Rattle.wrappers.specs.declared.way.Way.{Way}
 use Rattle.wrappers.specs.declared.case.Case.{Case}
+use Rattle.wrappers.specs.declared.case.Case.TheVariants.{C5, C6}
 use Rattle.wrappers.specs.Cases.{IsCase}
 use Rattle.wrappers.specs.Command.{SpellsNone}
+use Rattle.scsi_unit.proofs.Looking.{sends_none-reads_none}
+use Rattle.scsi_unit.specs.declared.intent.Intent.{Intent}
+use Rattle.scsi_unit.specs.declared.intent.Intent.TheVariants as intent
+use Rattle.scsi_unit.specs.Reading.{first_home_of, home_sectors_of, IsOneOf}
 use Rattle.scsi_unit.specs.UnitValue.{UnitValue, intention_of}
 use Rattle.scsi_unit.specs.declared.reading.HomeSectors.{HomeSectors}
 use Rattle.bot_machine.specs.declared.exchange.Exchange.{Exchange}
 use Rattle.bot_machine.specs.Intentions.{way_of}
 use Rattle.bot_machine.specs.Disk.{DiskValue}
-use Rattle.bot_machine.specs.Exchange.{finished}
+use Rattle.bot_machine.specs.Exchange.{finished, at_once, after_data, never, moment_of}
 use Rattle.bot_machine.specs.Reading.{sectors_in, sectors_for, WrapperReads, WrapperReadsNone, ReadsHome, ReadsNoHome}
+use Rattle.bot_machine.specs.Reading.{LooksBesides, WrapperReadsAt}
 use Rattle.bot_machine.specs.Serving.{IsBegun}
+use Rattle.bot_machine.proofs.Cases.{sends_in, after_data-sends_none}
+
+-- a command that is not about to send anything reads nothing at home
+pub none_for : {M : Type 0} (unit : UnitValue M) (block : List ℕ) → ((n : ℕ) → intention_of unit block ≢ intent.In n)
+    → sectors_for unit block ≡ None
+none_for unit block silent = ap (λ read. home_sectors_of (first_home_of unit) read) (sends_none-reads_none unit block silent)
+
+nothing_named : (wanted : Option HomeSectors) (sector : ℕ) → wanted ≡ None → IsOneOf wanted sector → ⊥
+nothing_named wanted sector none at = subst (λ w. IsOneOf w sector) none at
+
+-- these are the ones that are read in the case
+these : (case : Case) (wanted : Option HomeSectors) (sector : ℕ) → sectors_in case wanted ≡ wanted → IsOneOf wanted sector
+    → (home : HomeSectors) × (sectors_in case wanted ≡ Some home) × IsOneOf (Some home) sector
+these case None sector same at = absurd at
+these case (Some home) sector same at = (home, same, at)
+
+named_at_once : (case : Case) (host : Way) (intention : Intent) → IsCase case host (way_of intention) → moment_of case ≡ at_once
+    → (wanted : Option HomeSectors) → (((n : ℕ) → intention ≢ intent.In n) → wanted ≡ None) → (sector : ℕ) → IsOneOf wanted sector
+    → (home : HomeSectors) × (sectors_in case wanted ≡ Some home) × IsOneOf (Some home) sector
+named_at_once case host (intent.In n) is moment wanted none sector at =
+    let sent : (other : Case) → case ≡ other → sectors_in other wanted ≡ wanted
+    → (home : HomeSectors) × (sectors_in case wanted ≡ Some home) × IsOneOf (Some home) sector
+    = λ other same read. these case wanted sector (subst (λ k. sectors_in k wanted ≡ wanted) (sym same) read) at in
+    ⊎_elim (λ five_or_six. ⊎_elim (λ five. sent C5 five refl) (λ six. sent C6 six refl) five_or_six)
+    (λ not. let late : never ≡ at_once = sym not ∙ moment in absurd (let no : never ≢ at_once = λ e. cc in no late))
+    (sends_in case host n is)
+named_at_once case host intent.None is moment wanted none sector at = absurd (nothing_named wanted sector (none (λ n e. cc)) at)
+named_at_once case host (intent.Out n) is moment wanted none sector at = absurd (nothing_named wanted sector (none (λ n e. cc)) at)
+named_at_once case host (intent.Fail sense) is moment wanted none sector at = absurd (nothing_named wanted sector (none (λ n e. cc)) at)
 
 module _ {M : Type 0} (unit : UnitValue M) (packet : List ℕ) (exchange : Exchange) (begun : IsBegun unit packet exchange) where
   -- it reads these
@@ -41,6 +80,23 @@ module _ {M : Type 0} (unit : UnitValue M) (packet : List ℕ) (exchange : Excha
       subst (λ k. sectors_in k (sectors_for unit exchange.command.block.items) ≡ Some wanted) case
       (subst (λ c. sectors_in reads.case (sectors_for unit c.block.items) ≡ Some wanted) command reads.reads)
 
+  -- where it is carried out at once, each home sector that it reads is one of these
+  pub at_home : moment_of exchange.case ≡ at_once → (sector : ℕ) → IsOneOf (sectors_for unit exchange.command.block.items) sector
+      → WrapperReadsAt unit packet sector
+  at_home moment sector at =
+      let block = exchange.command.block.items in
+      let is = subst (λ way. IsCase exchange.case exchange.command.host way) begun.intended begun.is_case in
+      let named = named_at_once exchange.case exchange.command.host (intention_of unit block) is moment (sectors_for unit block)
+      (none_for unit block) sector at in
+      (named.0, found named.0 named.1, named.2)
+
+  -- where it is carried out after its data, the unit intends to send nothing
+  pub waits_to_send_none : moment_of exchange.case ≡ after_data → (n : ℕ)
+      → intention_of unit exchange.command.block.items ≢ intent.In n
+  waits_to_send_none moment n sends =
+      after_data-sends_none exchange.case exchange.command.host exchange.intended begun.is_case moment n
+      (begun.intended ∙ ap way_of sends)
+
   told : (result : Option HomeSectors) → result ≡ sectors_in exchange.case (sectors_for unit exchange.command.block.items)
       → MatchOption result (WrapperReadsNone unit packet) (WrapperReads unit packet)
   told None is = λ wanted reads. grind (arith, is, read_by wanted reads)
@@ -63,3 +119,19 @@ pub at_rest_reads : {M : Type 0} (disk : DiskValue M) (packet : List ℕ) (resul
 at_rest_reads disk packet None unhalted expected reads = λ wanted home. reads wanted home.wrapper
 at_rest_reads disk packet (Some wanted) unhalted expected reads =
     record { unhalted = unhalted; expected = expected; wrapper = reads }
+
+-- ---- the reads of a unit name sectors of the log, and such at home
+
+-- of which this holds too
+pub besides : {M : Type 0} (before after : State) (unit : UnitValue M) (At Other : ℕ → Type 0) → ((s : ℕ) → At s → Other s)
+    → LooksBesides At before after unit → LooksBesides Other before after unit
+besides before after unit At Other wider looks =
+    looks_wider (λ s. (s < first_home_of unit) ⊎ At s) (λ s. (s < first_home_of unit) ⊎ Other s) before after
+    (λ s named. ⊎_elim inl (λ at. inr (wider s at)) named) looks
+
+-- or the log alone, where the command is not about to send anything
+pub log_alone : {M : Type 0} (before after : State) (unit : UnitValue M) (block : List ℕ)
+    → ((n : ℕ) → intention_of unit block ≢ intent.In n) → LooksBesides (IsOneOf (sectors_for unit block)) before after unit
+    → LooksBesides (λ _. ⊥) before after unit
+log_alone before after unit block silent looks = besides before after unit (IsOneOf (sectors_for unit block)) (λ _. ⊥)
+    (λ s at. nothing_named (sectors_for unit block) s (none_for unit block silent) at) looks

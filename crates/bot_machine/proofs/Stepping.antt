@@ -1,16 +1,21 @@
 -- What a packet to Bulk-Out does, by whether it is halted and by what is left of the exchange.
-use Rattle.std.proofs.Common.{◌≡◌, ℕ, Bool, true, false, if◌then◌else◌, inl, inr, List, [], ◌∷◌, slice_range, refl, sym, subst, ap, ◌∙◌}
+use Rattle.std.proofs.Common.{◌≡◌, ◌⊎◌, ◌<◌, ℕ, Bool, true, false, if◌then◌else◌, inl, inr, List, [], ◌∷◌}
+use Rattle.std.proofs.Common.{slice_range, refl, sym, subst, ap, ◌∙◌}
 use Rattle.std.proofs.Common.{arith}
 use Rattle.std.specs.Prelude.{None, Some, Option, Result}
 use Rattle.wrappers.specs.declared.case.Endpoint.{Endpoint}
 use Rattle.wrappers.specs.declared.case.Endpoint.TheVariants as endpoint
 use Rattle.medium.specs.Medium.{State, IsSound}
+use Rattle.medium.proofs.Looking.{no_looks, looks_wider}
+use Rattle.scsi_unit.specs.Background.{is_dead}
+use Rattle.scsi_unit.specs.Reading.{first_home_of}
 use Rattle.scsi_unit.specs.Rules.{Sense}
 use Rattle.scsi_unit.specs.Books.{Book}
 use Rattle.scsi_unit.specs.Rules.{CarriesOut, Ticks}
 use Rattle.scsi_unit.specs.Calls.{IsBounded}
 use Rattle.scsi_unit.specs.Serving.{has_refused, IsSparing, TicksOver}
 use Rattle.scsi_unit.specs.UnitValue.{UnitValue, unit_limit, state_of}
+use Rattle.bot_machine.specs.declared.event.Event.{Event}
 use Rattle.bot_machine.specs.declared.event.Event.TheVariants as event
 use Rattle.bot_machine.specs.declared.event.Answer.{Answer}
 use Rattle.bot_machine.specs.declared.event.Answer.TheVariants as answer
@@ -28,8 +33,10 @@ use Rattle.scsi_unit.specs.declared.intent.Intent.{Intent}
 use Rattle.scsi_unit.specs.declared.intent.Intent.TheVariants as intent
 use Rattle.bot_machine.specs.Refinement.{taking_of, left_of, halt_of, IsInPhase, IsKept}
 use Rattle.bot_machine.specs.Packets.{packets_of}
+use Rattle.bot_machine.specs.Reading.{LooksBesides, LooksIn, ReadsAt, WrapperReadsAt}
 use Rattle.bot_machine.specs.Serving.{BeginsOn, TakesOn, RestsOn, SparesOn}
 use Rattle.bot_machine.proofs.UnitLaws.{few_ticks}
+use Rattle.bot_machine.proofs.ReadAtOnce.{besides}
 use Rattle.bot_machine.proofs.Proceeding.{staying, proceeding, proceeding_so}
 
 -- no call, no time
@@ -37,7 +44,16 @@ pub no_time : (m : State) → Elapses m m
 no_time m = record { failures_stay = omega arith; size_stays = refl }
 
 pub no_calls : {M : Type 0} (m : State) (unit : UnitValue M) → TakesFew m m unit unit
-no_calls m unit = record { calls = omega arith; sent = omega arith; layout_stays = refl }
+no_calls m unit = record { calls = omega arith; sent = omega arith; layout_stays = refl; faulted = λ dead. (refl, dead) }
+
+-- no read was made
+pub none_named : {M : Type 0} (m : State) (disk : DiskValue M) (happens : Event) → LooksIn m m disk happens
+none_named m disk happens = no_looks (λ s. (s < first_home_of disk.unit) ⊎ ReadsAt disk happens s) m m refl
+
+-- the log alone was read, or home sectors that the event reads
+pub named_in : {M : Type 0} (before after : State) (disk : DiskValue M) (happens : Event) (At : ℕ → Type 0)
+    → ((s : ℕ) → At s → ReadsAt disk happens s) → LooksBesides At before after disk.unit → LooksIn before after disk happens
+named_in before after disk happens At told looks = besides before after disk.unit At (ReadsAt disk happens) told looks
 
 module _ {M : Type 0} (before after : State) (old new : DiskValue M) (packet : List ℕ) (told : Answer) where
   -- what a packet does where Bulk-Out is halted or not, and so much is left of the exchange
@@ -54,6 +70,7 @@ module _ {M : Type 0} (before after : State) (old new : DiskValue M) (packet : L
         → (answer : Result (List ℕ) Sense) × IsSparing block taken old.unit answer new.unit
         × IsBounded before after block taken old.unit × Tells answer new.line
     pub few : TakesFew before after old.unit new.unit
+    pub looks : LooksIn before after old (event.Out (record { items = packet }))
     pub elapses : Elapses before after
     pub limit_stays : unit_limit new.unit ≡ unit_limit old.unit
     pub packets_stay : new.line.packet_size ≡ old.line.packet_size
@@ -66,6 +83,7 @@ module _ {M : Type 0} (before after : State) (old new : DiskValue M) (packet : L
     ticks = tt;
     spares = d.spares;
     few = d.few;
+    looks = d.looks;
     elapses = d.elapses;
     limit_stays = d.limit_stays;
     packets_stay = d.packets_stay;
@@ -85,6 +103,7 @@ stalled m disk packet sound halted =
       rests = λ book fits none. refl;
       spares = λ book fits block taken carries. absurd carries;
       few = no_calls m disk.unit;
+      looks = none_named m disk (event.Out (record { items = packet }));
       elapses = no_time m;
       limit_stays = refl;
       packets_stay = refl;
@@ -100,6 +119,7 @@ not_ready m disk packet packets halt status sound halted left =
       rests = λ book fits none. refl;
       spares = λ book fits block taken carries. absurd carries;
       few = no_calls m disk.unit;
+      looks = none_named m disk (event.Out (record { items = packet }));
       elapses = no_time m;
       limit_stays = refl;
       packets_stay = refl;
@@ -110,15 +130,18 @@ pub begins : {M : Type 0} (before after : State) (old new : DiskValue M) (packet
     → finished ≡ old.line.left → BeginsOn before after old.unit new.unit old.line new.line packet
     → RestsOn old.line.packet_size before old.unit new.unit finished packet
     → SparesOn old.line.packet_size before after old.unit new.unit new.line finished packet → TakesFew before after old.unit new.unit
-    → Elapses before after → unit_limit new.unit ≡ unit_limit old.unit → new.line.packet_size ≡ old.line.packet_size
+    → LooksBesides (WrapperReadsAt old.unit packet) before after old.unit → Elapses before after
+    → unit_limit new.unit ≡ unit_limit old.unit → new.line.packet_size ≡ old.line.packet_size
     → IsStep before after old (event.Out (record { items = packet })) answer.Ack new
-begins before after old new packet halted left opens rests spares few elapses limit size =
+begins before after old new packet halted left opens rests spares few looks elapses limit size =
     does_for before after old new packet answer.Ack false finished halted left (record {
       proceeds = λ book fits. proceeding_so before after old.unit new.unit _ _ None None book (opens book fits) refl
           (λ later moves. (refl, moves));
       rests = rests;
       spares = spares;
       few = few;
+      looks = named_in before after old (event.Out (record { items = packet })) (WrapperReadsAt old.unit packet)
+          (λ s at. (at.0, record { unhalted = sym halted; expected = sym left; wrapper = at.1 }, at.2)) looks;
       elapses = elapses;
       limit_stays = limit;
       packets_stay = size;
@@ -130,16 +153,17 @@ pub goes_on : {M : Type 0} (before after : State) (old new : DiskValue M) (packe
     → TakesOn before after old.unit new.unit old.line new.line t taken packet
     → RestsOn old.line.packet_size before old.unit new.unit (taking_of t taken) packet
     → SparesOn old.line.packet_size before after old.unit new.unit new.line (taking_of t taken) packet
-    → TakesFew before after old.unit new.unit → Elapses before after → unit_limit new.unit ≡ unit_limit old.unit
-    → new.line.packet_size ≡ old.line.packet_size
+    → TakesFew before after old.unit new.unit → LooksBesides (λ _. ⊥) before after old.unit → Elapses before after
+    → unit_limit new.unit ≡ unit_limit old.unit → new.line.packet_size ≡ old.line.packet_size
     → IsStep before after old (event.Out (record { items = packet })) answer.Ack new
-goes_on before after old new packet t taken halted left takes rests spares few elapses limit size =
+goes_on before after old new packet t taken halted left takes rests spares few looks elapses limit size =
     does_for before after old new packet answer.Ack false (taking_of t taken) halted left (record {
       proceeds = λ book fits. proceeding_so before after old.unit new.unit _ _ _ _ book (takes book fits) refl
           (λ later moves. (refl, moves));
       rests = rests;
       spares = spares;
       few = few;
+      looks = named_in before after old (event.Out (record { items = packet })) (λ _. ⊥) (λ s at. absurd at) looks;
       elapses = elapses;
       limit_stays = limit;
       packets_stay = size;
@@ -160,7 +184,10 @@ ticked before after old new ticks line = record {
     calls = few_ticks before.calls after.calls old.unit ticks.few;
     sent = omega (arith, ticks.sent);
     layout_stays = ticks.layout_stays;
+    faulted = λ dead. ((ticks.step.dead dead).1.calls_stay, ap is_dead (ticks.step.dead dead).0 ∙ dead);
   };
+  looks = looks_wider (λ s. s < first_home_of old.unit) (λ s. (s < first_home_of old.unit) ⊎ ReadsAt old event.Tick s) before after
+      (λ s low. inl low) ticks.looks;
   elapses = record {
     failures_stay = ticks.failures_stay;
     size_stays = ticks.size_stays;
@@ -215,6 +242,7 @@ token m disk sound = record {
   ticks = tt;
   spares = λ book fits block taken carries. absurd carries;
   few = no_calls m disk.unit;
+  looks = none_named m disk event.In;
   elapses = no_time m;
   limit_stays = refl;
   packets_stay = after_in_size disk.line;
@@ -229,6 +257,7 @@ asked m disk packet told line sound step = record {
   ticks = tt;
   spares = λ book fits block taken carries. absurd carries;
   few = no_calls m disk.unit;
+  looks = none_named m disk (event.Setup packet);
   elapses = no_time m;
   limit_stays = refl;
   packets_stay = setup_size packet disk.line told line step;
@@ -243,12 +272,13 @@ sends (DataIn from to halt) command out size taken staging status =
     (packets_of size (slice_range staging from to), halt_of halt, refl)
 sends Status command out size taken staging status = ([], None, refl)
 
--- a unit that comes to take no other data goes on with the phase
+-- a unit that comes to take no other data, nor to send any, goes on with the phase
 pub still_in_phase : (limit : ℕ) (old new : List ℕ → Intent)
-    → ((block : List ℕ) (n : ℕ) → new block ≡ intent.Out n → old block ≡ intent.Out n) → (phase : Phase) → IsInPhase limit old phase
+    → ((block : List ℕ) (n : ℕ) → new block ≡ intent.Out n → old block ≡ intent.Out n)
+    → ((block : List ℕ) (n : ℕ) → new block ≡ intent.In n → old block ≡ intent.In n) → (phase : Phase) → IsInPhase limit old phase
     → IsInPhase limit new phase
-still_in_phase limit old new steady Command h = tt
-still_in_phase limit old new steady (DataOut t) h = record {
+still_in_phase limit old new steady steady_in Command h = tt
+still_in_phase limit old new steady steady_in (DataOut t) h = record {
   is_case = h.is_case;
   moment = h.moment;
   some_block = h.some_block;
@@ -257,9 +287,10 @@ still_in_phase limit old new steady (DataOut t) h = record {
   room = h.room;
   filled_is = h.filled_is;
   intended = λ n is. h.intended n (steady t.exchange.command.block.items n is);
+  sends_none = λ n is. h.sends_none n (steady_in t.exchange.command.block.items n is);
 }
-still_in_phase limit old new steady (DataIn from to halt) h = h
-still_in_phase limit old new steady Status h = tt
+still_in_phase limit old new steady steady_in (DataIn from to halt) h = h
+still_in_phase limit old new steady steady_in Status h = tt
 
 -- what is kept with one limit is kept with another that is the same
 pub kept_as : (old new : ℕ) (intention : List ℕ → Intent) (phase : Phase) (taken staging : List ℕ) → new ≡ old

@@ -10,6 +10,7 @@ use Rattle.medium.specs.Medium.{State, Image}
 use Rattle.medium.specs.Moments.{LeavesOnly, EachCut}
 use Rattle.medium.specs.Sent.{SendsUpTo}
 use Rattle.scsi_unit.specs.Rules.{Sense}
+use Rattle.scsi_unit.specs.Background.{is_dead}
 use Rattle.scsi_unit.specs.Books.{Book}
 use Rattle.scsi_unit.specs.Books.{MayFind, FoundWith}
 use Rattle.scsi_unit.specs.Rules.{UnitState, CarriesOut, Ticks}
@@ -20,16 +21,13 @@ use Rattle.scsi_unit.specs.UnitValue.{UnitValue, unit_limit, state_of, FitsUnit}
 use Rattle.bot_machine.specs.declared.event.Event.{Event}
 use Rattle.bot_machine.specs.declared.event.Event.TheVariants as happens
 use Rattle.bot_machine.specs.declared.event.Answer.{Answer}
+pub use Rattle.bot_machine.specs.DiskValue.{DiskValue}
 use Rattle.bot_machine.specs.Exchange.{Line, finished, sending}
 use Rattle.bot_machine.specs.Conversation.{Conversation, Step, Run, refused_events}
 use Rattle.bot_machine.specs.Turns.{ByTurns, marks_in}
 use Rattle.bot_machine.specs.Intentions.{Intends}
 use Rattle.bot_machine.specs.Acts.{EventCarriesOut, Acts, write_of_event}
-
--- what is seen of a disk: the line to the host, and the unit behind it
-pub record DiskValue (M : Type 0) : Type 0 where
-  pub line : Line
-  pub unit : UnitValue M
+use Rattle.bot_machine.specs.Reading.{LooksIn}
 
 -- a unit behind a line
 abbrev pub on_line : Line → UnitState → Conversation UnitState
@@ -60,11 +58,13 @@ pub record Elapses (before after : State) : Type 0 where
   pub size_stays : after.size ≡ before.size
 
 -- No more calls of the medium were made than the most of a command, and no more writes and flushes.
--- The layout, which tells these numbers, stays.
+-- The layout, which tells these numbers, stays. A faulted unit makes none, and stays faulted.
 pub record TakesFew {M : Type 0} (before after : State) (old new : UnitValue M) : Type 0 where
   pub calls : after.calls ≤ before.calls + most_calls old
   pub sent : SendsUpTo (most_sends old) before after
   pub layout_stays : layout_of new.store.cached ≡ layout_of old.store.cached
+  pub faulted : is_dead old.store.cached ≡ true
+      → (after.calls ≡ before.calls) × (is_dead new.store.cached ≡ true)
 
 -- A unit proceeds from one moment to another: from a book that it fits, as Moves says, to one that
 -- it fits then. A cut at any moment between finds accepted writes, perhaps with the one in
@@ -113,6 +113,8 @@ pub record IsStep {M : Type 0} (before after : State) (old : DiskValue M) (event
       × IsBounded before after block taken old.unit × Tells told new.line
   -- whatever the book
   pub few : TakesFew before after old.unit new.unit
+  -- each read names a sector of the log, or one that `Disk::home_sectors` tells for the packet
+  pub looks : LooksIn before after old event
   pub elapses : Elapses before after
   pub limit_stays : unit_limit new.unit ≡ unit_limit old.unit
   pub packets_stay : new.line.packet_size ≡ old.line.packet_size

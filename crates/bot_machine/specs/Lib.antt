@@ -18,11 +18,13 @@ pub mod Intentions
 pub mod Acts
 pub mod Answers
 pub mod Fitting
+pub mod DiskValue
+pub mod Reading
 pub mod Disk
+pub mod Faulting
 pub mod Opening
 pub mod Refinement
 pub mod Serving
-pub mod Reading
 pub mod Striking
 pub mod Transfers
 pub mod Lives

@@ -11,7 +11,7 @@ use Rattle.bot_machine.specs.Device.{Device}
 use Rattle.bot_machine.specs.Exchange.{at_rest}
 use Rattle.bot_machine.specs.Disk.{DiskValue}
 -- what a start leaves is what the start of its unit does
-pub use Rattle.scsi_unit.specs.Starting.{StartLeaves}
+pub use Rattle.scsi_unit.specs.Starting.{StartLeaves, LeavesMedium}
 
 -- A disk that has started: its store has, a command wrapper is expected, and the unit is one that
 -- was just opened.

@@ -1,15 +1,18 @@
--- Which home sectors an event reads.
-use Rattle.std.specs.Prelude.{◌≡◌, ℕ, List, Option, Some, None, false}
+-- Which home sectors an event reads, and which sectors its reads name.
+use Rattle.std.specs.Prelude.{◌≡◌, ◌⊎◌, ◌<◌, ℕ, List, Option, Some, None, false}
+use Rattle.medium.specs.Medium.{State, LooksOnly}
 use Rattle.wrappers.specs.declared.command.Cbw.{Cbw}
 use Rattle.wrappers.specs.declared.case.Case.{Case}
 use Rattle.wrappers.specs.declared.case.Case.TheVariants.{C5, C6}
 use Rattle.wrappers.specs.Cases.{IsCase}
 use Rattle.wrappers.specs.Command.{SpellsCommand}
-use Rattle.scsi_unit.specs.Reading.{first_home_of, home_sectors_of, read_of}
+use Rattle.scsi_unit.specs.Reading.{first_home_of, home_sectors_of, read_of, IsOneOf}
 use Rattle.scsi_unit.specs.Serving.{command_for}
 use Rattle.scsi_unit.specs.UnitValue.{UnitValue, intention_of}
 use Rattle.scsi_unit.specs.declared.reading.HomeSectors.{HomeSectors}
-use Rattle.bot_machine.specs.Disk.{DiskValue}
+use Rattle.bot_machine.specs.declared.event.Event.{Event}
+use Rattle.bot_machine.specs.declared.event.Event.TheVariants as happens
+use Rattle.bot_machine.specs.DiskValue.{DiskValue}
 use Rattle.bot_machine.specs.Exchange.{finished}
 use Rattle.bot_machine.specs.Intentions.{way_of}
 
@@ -47,3 +50,29 @@ pub record ReadsHome {M : Type 0} (disk : DiskValue M) (packet : List ℕ) (want
 -- a packet to Bulk-Out has no block read
 abbrev pub ReadsNoHome : {M : Type 0} → DiskValue M → List ℕ → Type 0
 ReadsNoHome disk packet = (wanted : HomeSectors) → ReadsHome disk packet wanted → ⊥
+
+-- ---- which sectors the reads name
+
+-- each read of a unit names a sector before the first home sector, or one at home of which this
+-- holds
+abbrev pub LooksBesides : {M : Type 0} → (ℕ → Type 0) → State → State → UnitValue M → Type 0
+LooksBesides At before after unit =
+    LooksOnly (λ sector. (sector < first_home_of unit) ⊎ At sector) before after
+
+-- one of the home sectors of the blocks that the wrapper in a packet has read at once
+abbrev pub WrapperReadsAt : {M : Type 0} → UnitValue M → List ℕ → ℕ → Type 0
+WrapperReadsAt unit packet sector =
+    (home : HomeSectors) × WrapperReads unit packet home × IsOneOf (Some home) sector
+
+-- one of the home sectors that an event has read: those that `Disk::home_sectors` tells for its
+-- packet
+abbrev pub ReadsAt : {M : Type 0} → DiskValue M → Event → ℕ → Type 0
+ReadsAt disk (happens.Out packet) sector =
+    (home : HomeSectors) × ReadsHome disk packet.items home × IsOneOf (Some home) sector
+ReadsAt disk happens.In sector = ⊥
+ReadsAt disk (happens.Setup packet) sector = ⊥
+ReadsAt disk happens.Tick sector = ⊥
+
+-- each read of an event names a sector before the first home sector, or one of these
+abbrev pub LooksIn : {M : Type 0} → State → State → DiskValue M → Event → Type 0
+LooksIn before after disk event = LooksBesides (ReadsAt disk event) before after disk.unit

@@ -1,5 +1,5 @@
 -- What the disk's fields stand for.
-use Rattle.std.specs.Prelude.{◌≡◌, ⊤, ◌≤◌, ◌<◌, ℕ, ◌-◌, ◌*◌, min, Bool, true, false, List, []}
+use Rattle.std.specs.Prelude.{◌≡◌, ◌≢◌, ⊤, ◌≤◌, ◌<◌, ℕ, ◌-◌, ◌*◌, min, Bool, true, false, List, []}
 use Rattle.std.specs.Prelude.{take, length, slice_range, Option, Some, None}
 use Rattle.wrappers.specs.declared.case.Case.{Case}
 use Rattle.wrappers.specs.declared.case.Case.TheVariants.{C5, C6}
@@ -60,7 +60,7 @@ line_of wire taken staging =
 
 -- Data is taken: the case takes data, and the bytes taken are the intended ones of those that came,
 -- of as many blocks as a transfer has at most. What the unit intends to take now, if it still does,
--- is what it intended when the wrapper came.
+-- is what it intended when the wrapper came; and it intends to send nothing.
 pub record IsTaking (limit : ℕ) (intention : List ℕ → Intent) (t : Taking) : Type 0 where
   pub is_case : IsCase t.exchange.case t.exchange.command.host t.exchange.intended
   pub moment : moment_of t.exchange.case ≡ after_data
@@ -72,6 +72,7 @@ pub record IsTaking (limit : ℕ) (intention : List ℕ → Intent) (t : Taking)
       ≡ min (size_of_way t.exchange.intended) (size_of_way t.exchange.command.host - t.due)
   pub intended : (n : ℕ) → intention t.exchange.command.block.items ≡ intent.Out n
       → size_of_way t.exchange.intended ≡ n
+  pub sends_none : (n : ℕ) → intention t.exchange.command.block.items ≢ intent.In n
 
 -- what holds of a phase, by the most blocks of a transfer and what the unit intends for a command
 -- block

@@ -23,6 +23,7 @@ use Rattle.bot_machine.specs.Intentions.{way_of, Intends}
 use Rattle.bot_machine.specs.Acts.{PacketCarriesOut, write_of_packet}
 use Rattle.bot_machine.specs.Refinement.{taking_of, line_with, IsInPhase}
 use Rattle.bot_machine.specs.Disk.{on_line, Proceeds, Elapses, TakesFew, Tells}
+use Rattle.bot_machine.specs.Reading.{LooksBesides}
 
 -- A packet spells a command wrapper, and begins this exchange: the one of its command, of what the
 -- unit intends for it, and of the case that this makes.
@@ -93,12 +94,14 @@ pub record TakesData {M : Type 0} (before after : State) (old new : UnitValue M)
       → SparesOn (bytes_of from.size) before after old new to (taking_of pending taken) packet
 
 -- A part of an event passes these on: a phase that the unit allows, its limit and the size of a
--- packet as they were, and the medium, which comes after what it was by few calls.
-pub record HandsOn {M : Type 0} (state : M → State) (Follows : M → M → Type 0)
+-- packet as they were, and the medium, which comes after what it was by few calls, and of which no
+-- home sector is read but such as this holds of.
+pub record HandsOn {M : Type 0} (state : M → State) (Follows : M → M → Type 0) (At : ℕ → Type 0)
     (old new : UnitValue M) (from to : Wire) : Type 0 where
   pub phase : IsInPhase (unit_limit new) (intention_of new) to.phase
   pub limit : unit_limit new ≡ unit_limit old
   pub size : to.size ≡ from.size
   pub few : TakesFew (state old.store.medium) (state new.store.medium) old new
+  pub looks : LooksBesides At (state old.store.medium) (state new.store.medium) old
   pub elapses : Elapses (state old.store.medium) (state new.store.medium)
   pub follows : Follows old.store.medium new.store.medium

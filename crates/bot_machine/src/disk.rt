@@ -16,7 +16,7 @@ ghost use Rattle.bot_machine.specs.Exchange.{in_answer, after_in};
 ghost use Rattle.bot_machine.specs.Answers.{answer_to_out, answer_to_in, answer_to_setup, IsPacket};
 ghost use Rattle.bot_machine.specs.Conversation.{SetupStep};
 ghost use Rattle.bot_machine.specs.Disk.{FitsDisk, IsStep, IsRearmed};
-ghost use Rattle.bot_machine.specs.Opening.{IsOpened, IsNotOpened, StartLeaves};
+ghost use Rattle.bot_machine.specs.Opening.{IsOpened, IsNotOpened, StartLeaves, LeavesMedium};
 ghost use Rattle.bot_machine.specs.declared.event.Event.TheVariants as event;
 ghost use Rattle.bot_machine.specs.declared.event.Answer.TheVariants as answer;
 ghost use Rattle.bot_machine.specs.declared.packet_size.PacketSize.TheVariants.{High512};
@@ -83,9 +83,9 @@ impl<M: Medium> Disk<M> {
             (M.state medium) (M.state disk.unit.store.medium))
             (λ error. LeavesOnly (HasLimit (M.state medium).size limit)
             (M.state medium) (M.state error.medium)) }
-        ensures follows { MatchResult result
-            (λ disk. M.follows medium disk.unit.store.medium)
-            (λ error. M.follows medium error.medium) }
+        ensures medium { MatchResult result
+            (λ disk. LeavesMedium M.state M.follows medium disk.unit.store.medium)
+            (λ error. LeavesMedium M.state M.follows medium error.medium) }
     {
         Disk::start_with(alloc, medium, identity, PacketSize::High512)
     }
@@ -120,9 +120,9 @@ impl<M: Medium> Disk<M> {
             (M.state medium) (M.state disk.unit.store.medium))
             (λ error. LeavesOnly (HasLimit (M.state medium).size limit)
             (M.state medium) (M.state error.medium)) }
-        ensures follows { MatchResult result
-            (λ disk. M.follows medium disk.unit.store.medium)
-            (λ error. M.follows medium error.medium) }
+        ensures medium { MatchResult result
+            (λ disk. LeavesMedium M.state M.follows medium disk.unit.store.medium)
+            (λ error. LeavesMedium M.state M.follows medium error.medium) }
     {
         let unit = Unit::start(alloc, medium, identity)?;
         let room = 512 * unit.limit() as usize;

@@ -6,6 +6,7 @@ mod answers;
 mod disk;
 mod event;
 mod exchange;
+mod fault;
 mod laws;
 mod life;
 mod lifetimes;

@@ -14,6 +14,8 @@ ghost use Rattle.bot_machine.specs.Refinement.{IsTaking, line_of, line_with};
 ghost use Rattle.bot_machine.specs.PacketBytes.{bytes_of};
 ghost use Rattle.bot_machine.specs.Serving.{IsBegun, CarriesOutOn, BeginsOn, RestsOn, SparesOn};
 ghost use Rattle.bot_machine.specs.Serving.{TakesData, HandsOn};
+ghost use Rattle.scsi_unit.specs.Reading.{IsOneOf};
+ghost use Rattle.bot_machine.specs.Reading.{sectors_for, WrapperReadsAt};
 
 use crate::exchange::{Exchange, When, after_failure, size_sent, way_of_intent, when_carried_out};
 use crate::wire::{Phase, Taking, Wire};
@@ -45,7 +47,9 @@ fn carry_out<M: Medium>(
         × IsBounded (M.state unit.old.store.medium) (M.state unit.new.store.medium)
         exchange.now.command.block.items bytes.now unit.old
         × ((taken : List ℕ) → Tells answer (line_of wire.new taken staging.new)) }
-    ensures passes { HandsOn M.state M.follows unit.old unit.new wire.old wire.new }
+    ensures passes { HandsOn M.state M.follows
+        (IsOneOf (sectors_for unit.old exchange.now.command.block.items))
+        unit.old unit.new wire.old wire.new }
 {
     match unit.carry_out(exchange.command.block.as_slice(), bytes, staging) {
         Ok(size) => {
@@ -72,6 +76,7 @@ pub(crate) fn read_exchange<M: Medium>(unit: &Unit<M>, packet: &[u8]) -> Option<
 /// Takes a packet where a command wrapper is expected. It stands apart, so that the code that runs
 /// for a packet of data is short.
 #[inline(never)]
+#[tactic(auto, using(crate::proofs::ReadAtOnce::waits_to_send_none, crate::proofs::Passing::none_besides))]
 pub(crate) fn open<M: Medium>(
     unit: &mut Unit<M>,
     wire: &mut Wire,
@@ -88,7 +93,8 @@ pub(crate) fn open<M: Medium>(
     ensures spares { (taken : List ℕ) → SparesOn (bytes_of wire.old.size)
         (M.state unit.old.store.medium) (M.state unit.new.store.medium) unit.old unit.new
         (line_of wire.new taken staging.new) finished packet.now }
-    ensures passes { HandsOn M.state M.follows unit.old unit.new wire.old wire.new }
+    ensures passes { HandsOn M.state M.follows (WrapperReadsAt unit.old packet.now)
+        unit.old unit.new wire.old wire.new }
 {
     let Some(exchange) = read_exchange(unit, packet) else {
         wire.lock();
@@ -111,6 +117,7 @@ pub(crate) fn open<M: Medium>(
 /// Takes a packet where data is expected. The intended bytes that came already are the first ones of
 /// `taken`. Where more data is due behind the packet, what is pending changes in its place, since a
 /// long transfer is made of such packets.
+#[tactic(auto, using(crate::proofs::Passing::none_besides))]
 pub(crate) fn take_data<M: Medium>(
     unit: &mut Unit<M>,
     wire: &mut Wire,
@@ -124,7 +131,7 @@ pub(crate) fn take_data<M: Medium>(
         × IsTaking (unit_limit unit.old) (intention_of unit.old) pending }
     ensures serves { TakesData (M.state unit.old.store.medium) (M.state unit.new.store.medium)
         unit.old unit.new wire.old (line_of wire.new taken.new staging.new) taken.old packet.now }
-    ensures passes { HandsOn M.state M.follows unit.old unit.new wire.old wire.new }
+    ensures passes { HandsOn M.state M.follows (λ _. ⊥) unit.old unit.new wire.old wire.new }
 {
     let Phase::DataOut(pending) = &mut wire.phase else {
         unreachable!()
@@ -174,7 +181,7 @@ fn end_data<M: Medium>(
         → length packet.now ≡ bytes_of wire.old.size → pending.due ≤ bytes_of wire.old.size }
     ensures serves { TakesData (M.state unit.old.store.medium) (M.state unit.new.store.medium)
         unit.old unit.new wire.old (line_of wire.new taken.new staging.new) taken.old packet.now }
-    ensures passes { HandsOn M.state M.follows unit.old unit.new wire.old wire.new }
+    ensures passes { HandsOn M.state M.follows (λ _. ⊥) unit.old unit.new wire.old wire.new }
 {
     let Phase::DataOut(pending) = mem::replace(&mut wire.phase, Phase::Command) else {
         unreachable!()

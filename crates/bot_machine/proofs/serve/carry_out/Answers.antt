@@ -5,6 +5,7 @@ use Rattle.bot_machine.specs.Exchange.{finished}
 use Rattle.bot_machine.specs.Refinement.{line_with}
 use Rattle.bot_machine.proofs.Sending.{sent_in-size}
 use Rattle.bot_machine.proofs.Telling.{tells}
+use Rattle.bot_machine.proofs.Faulting.{faulted_rests}
 use Rattle.bot_machine.proofs.Packets.{packets_of-none}
 use Rattle.bot_machine.proofs.Sizes.{some_bytes}
 use Rattle.bot_machine.proofs.Proceeding.{proceeding}
@@ -45,7 +46,13 @@ returns-in-Ok-clause-passes g c =
       phase = c.tell.ensures.phase _ _ (omega (arith, stays, c.in-Ok.ensures.sends.most));
       limit = stays;
       size = c.tell.ensures.size;
-      few = record { calls = c.in-Ok.ensures.calls.few; sent = c.in-Ok.ensures.calls.sent; layout_stays = serves.layout_stays };
+      few = record {
+        calls = c.in-Ok.ensures.calls.few;
+        sent = c.in-Ok.ensures.calls.sent;
+        layout_stays = serves.layout_stays;
+        faulted = faulted_rests g.M.Medium.state _ _ _ _ _ c.in-Ok.ensures.sparing;
+      };
+      looks = rw c.as_slice.ensures.value at c.in-Ok.ensures.calls.looks;
       elapses = record { failures_stay = serves.failures_stay; size_stays = serves.size_stays };
       follows = c.in-Ok.ensures.follows;
     }
@@ -81,7 +88,13 @@ returns-in-Err-clause-passes g c =
       phase = c.tell-in-Err.ensures.phase _ _ (omega arith);
       limit = serves.limit_stays;
       size = c.tell-in-Err.ensures.size;
-      few = record { calls = c.in-Err.ensures.calls.few; sent = c.in-Err.ensures.calls.sent; layout_stays = serves.layout_stays };
+      few = record {
+        calls = c.in-Err.ensures.calls.few;
+        sent = c.in-Err.ensures.calls.sent;
+        layout_stays = serves.layout_stays;
+        faulted = faulted_rests g.M.Medium.state _ _ _ _ _ c.in-Err.ensures.sparing;
+      };
+      looks = rw c.as_slice.ensures.value at c.in-Err.ensures.calls.looks;
       elapses = record { failures_stay = serves.failures_stay; size_stays = serves.size_stays };
       follows = c.in-Err.ensures.follows;
     }

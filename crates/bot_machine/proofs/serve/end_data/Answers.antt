@@ -1,4 +1,7 @@
-use Rattle.std.proofs.Common.{ℕ, ◌≡◌, ◌≢◌, ◌<◌, ◌≤◌, inl, inr, length, min, refl, sym, ap, arith, ◌∙◌}
+use Rattle.std.proofs.Common.{ℕ, ◌≡◌, ◌≢◌, ◌<◌, ◌≤◌, inl, inr, length, min, refl, sym, ap, subst, arith, ◌∙◌}
+use Rattle.scsi_unit.specs.UnitValue.{unit_limit, intention_of}
+use Rattle.bot_machine.specs.Refinement.{IsTaking}
+use Rattle.bot_machine.proofs.ReadAtOnce.{log_alone}
 use Rattle.std.proofs.lemmas.Bool.{cases_lt}
 use Rattle.bot_machine.specs.declared.wire.Taking.{Taking}
 use Rattle.bot_machine.specs.PacketBytes.{bytes_of}
@@ -38,7 +41,7 @@ returns-then-packet-min-clause-serves g c =
 
 pub returns-then-packet-min-clause-passes : goal.returns-then-packet-min-clause-passes
 returns-then-packet-min-clause-passes g c =
-    unit_stays _ _ c.args.unit.now c.args.wire.now c.lay_out.new.self g.met.M.Medium.follows_itself
+    unit_stays _ _ _ c.args.unit.now c.args.wire.now c.lay_out.new.self g.met.M.Medium.follows_itself
     (c.lay_out.ensures.phase _ _ (omega arith)) c.lay_out.ensures.size
 
 pub returns-clause-serves : goal.returns-clause-serves
@@ -71,4 +74,22 @@ returns-clause-serves g c =
           let spared = rw bytes at c.carry_out.ensures.spares in
           let last_one = rw (← same) at carries in
           rw (last_one.block_is, last_one.taken_is) (spared.0, spared.1, spared.2, spared.3 c.fill.new.buffer);
+    }
+
+pub returns-clause-passes : goal.returns-clause-passes
+returns-clause-passes g c =
+    let p = c.carry_out.ensures.passes in
+    let d = c.in-DataOut.pending in
+    let unit = c.args.unit.now in
+    let pending = c.requires.taking.0 in
+    let same : d ≡ pending = one_taking d pending (c.in-DataOut.ensures.value ∙ c.requires.taking.1) in
+    let taking = subst (λ (t : Taking). IsTaking (unit_limit unit) (intention_of unit) t) (sym same) c.requires.taking.2 in
+    record {
+      phase = p.phase;
+      limit = p.limit;
+      size = p.size;
+      few = p.few;
+      looks = log_alone _ _ unit d.exchange.command.block.items taking.sends_none p.looks;
+      elapses = p.elapses;
+      follows = p.follows;
     }

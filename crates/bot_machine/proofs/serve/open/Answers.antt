@@ -1,4 +1,7 @@
-use Rattle.std.proofs.Common.{◌≡◌, ◌∙◌, inl, inr, [], refl, arith}
+use Rattle.std.proofs.Common.{◌≡◌, ◌∙◌, inl, inr, [], refl, sym, arith}
+use Rattle.scsi_unit.specs.Reading.{IsOneOf}
+use Rattle.bot_machine.specs.Reading.{sectors_for, WrapperReadsAt}
+use Rattle.bot_machine.proofs.ReadAtOnce.{besides, at_home}
 use Rattle.bot_machine.specs.PacketBytes.{bytes_of}
 use Rattle.bot_machine.proofs.Packets.{packets_of-none}
 use Rattle.bot_machine.proofs.Sizes.{some_bytes}
@@ -21,7 +24,7 @@ returns-in_default-clause-spares g c = λ came book fits block taken carries.
 
 pub returns-in_default-clause-passes : goal.returns-in_default-clause-passes
 returns-in_default-clause-passes g c =
-    unit_stays _ _ c.args.unit.now c.args.wire.now c.lock.new.self g.met.M.Medium.follows_itself
+    unit_stays _ _ _ c.args.unit.now c.args.wire.now c.lock.new.self g.met.M.Medium.follows_itself
     (rw (c.lock.ensures, c.requires.expected) tt) (rw c.lock.ensures refl)
 
 pub returns-in-AtOnce-clause-opens : goal.returns-in-AtOnce-clause-opens
@@ -72,5 +75,21 @@ returns-in-Never-clause-spares g c = λ came book fits block taken carries.
 
 pub returns-in-Never-clause-passes : goal.returns-in-Never-clause-passes
 returns-in-Never-clause-passes g c =
-    unit_stays _ _ c.args.unit.now c.args.wire.now c.tell.new.self g.met.M.Medium.follows_itself
+    unit_stays _ _ _ c.args.unit.now c.args.wire.now c.tell.new.self g.met.M.Medium.follows_itself
     (c.tell.ensures.phase _ _ (omega arith)) c.tell.ensures.size
+
+pub returns-in-AtOnce-clause-passes : goal.returns-in-AtOnce-clause-passes
+returns-in-AtOnce-clause-passes g c =
+    let p = c.carry_out.ensures.passes in
+    let e = c.in-Some.exchange in
+    let unit = c.args.unit.now in
+    record {
+      phase = p.phase;
+      limit = p.limit;
+      size = p.size;
+      few = p.few;
+      looks = besides _ _ unit (IsOneOf (sectors_for unit e.command.block.items)) (WrapperReadsAt unit c.args.packet.now)
+          (at_home unit c.args.packet.now e c.in-Some.ensures (sym c.in-AtOnce.ensures)) p.looks;
+      elapses = p.elapses;
+      follows = p.follows;
+    }

@@ -23,7 +23,7 @@ pub returns-in-Ok-clause-ok : goal.returns-in-Ok-clause-ok
 returns-in-Ok-clause-ok c =
     rw c.in-Rests.is
     (start_has_disk (device_of c.args.identity c.args.size) c.in-Rests.medium (sym c.is_off.ensures ∙ c.if-is_off.false) c.in-Ok.disk
-    c.in-Ok.ensures.ok c.in-Ok.ensures.leaves c.in-Ok.ensures.follows)
+    c.in-Ok.ensures.ok c.in-Ok.ensures.leaves c.in-Ok.ensures.medium.follows)
 
 pub returns-in-Ok-clause-begun : goal.returns-in-Ok-clause-begun
 returns-in-Ok-clause-begun c =
@@ -33,7 +33,7 @@ pub returns-then-is_off-2-clause-ok : goal.returns-then-is_off-2-clause-ok
 returns-then-is_off-2-clause-ok c =
     rw c.in-Rests.is
     (start_is_cut (device_of c.args.identity c.args.size) c.in-Rests.medium (sym c.is_off.ensures ∙ c.if-is_off.false)
-    c.in-Err.error.medium c.in-Err.ensures.leaves c.in-Err.ensures.follows (sym c.is_off-in-Err.ensures ∙ c.if-is_off-2.true))
+    c.in-Err.error.medium c.in-Err.ensures.leaves c.in-Err.ensures.medium.follows (sym c.is_off-in-Err.ensures ∙ c.if-is_off-2.true))
 
 pub returns-then-is_off-2-clause-begun : goal.returns-then-is_off-2-clause-begun
 returns-then-is_off-2-clause-begun c =
@@ -43,7 +43,7 @@ pub returns-else-is_off-2-clause-err : goal.returns-else-is_off-2-clause-err
 returns-else-is_off-2-clause-err c =
     rw c.in-Rests.is (record {
       stops = start_is_refused (device_of c.args.identity c.args.size) c.in-Rests.medium (sym c.is_off.ensures ∙ c.if-is_off.false)
-          c.in-Err.error.medium c.in-Err.ensures.leaves c.in-Err.ensures.follows (sym c.is_off-in-Err.ensures ∙ c.if-is_off-2.false)
+          c.in-Err.error.medium c.in-Err.ensures.leaves c.in-Err.ensures.medium.follows (sym c.is_off-in-Err.ensures ∙ c.if-is_off-2.false)
           c.in-Err.error.fault c.in-Err.ensures.err;
       cause = c.in-Err.ensures.err;
     })

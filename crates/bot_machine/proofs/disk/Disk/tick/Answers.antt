@@ -12,5 +12,5 @@ invariant_of-self g c =
     kept_as _ _ _ d.wire.phase d.taken.items d.staging.items ticks.limit_stays (record {
       taken_room = c.self.invariant.taken_room;
       staging_room = c.self.invariant.staging_room;
-      phase_holds = still_in_phase _ _ _ ticks.steady d.wire.phase c.self.invariant.phase_holds;
+      phase_holds = still_in_phase _ _ _ ticks.steady ticks.steady_in d.wire.phase c.self.invariant.phase_holds;
     })

@@ -1,0 +1,20 @@
+use Rattle.std.proofs.Common.{ap}
+use Rattle.scsi_unit.specs.UnitValue.{UnitValue, unit_limit}
+use Rattle.bot_machine.proofs.Faulting.{turns_good_alone}
+use Rattle.bot_machine.proofs.Stepping.{still_in_phase, kept_as}
+use Rattle.bot_machine.proofs.disk.Disk.fault.Goals as goal
+
+pub invariant_of-self : goal.invariant_of-self
+invariant_of-self g c =
+    let steady = c.fault.ensures.steady in
+    let d = c.self.inside in
+    rw c.take_back-was_good.ensures.phase
+    (kept_as _ _ _ d.wire.phase d.taken.items d.staging.items
+    (ap (λ (u : UnitValue g.row.M.Denot). unit_limit u) c.fault.ensures.unit) (record {
+      taken_room = c.self.invariant.taken_room;
+      staging_room = c.self.invariant.staging_room;
+      phase_holds = still_in_phase _ _ _ steady.takes steady.sends d.wire.phase c.self.invariant.phase_holds;
+    }))
+
+pub returns-clause-wrappers : goal.returns-clause-wrappers
+returns-clause-wrappers g c = turns_good_alone
