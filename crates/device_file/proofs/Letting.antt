@@ -12,7 +12,7 @@ lets_go_none w = record {
       (sym (append-nil w.seen.told.taken));
 }
 
-without : (w : Window) (call : DeviceCall) (rest : List DeviceCall) → w.outbox ≡ call ∷ rest
+pub without : (w : Window) (call : DeviceCall) (rest : List DeviceCall) → w.outbox ≡ call ∷ rest
     → without_first w ≡ taken_out (call ∷ []) rest w
 without w call rest waits = ap (λ (l : List DeviceCall). take_first l w) waits
 

@@ -1,2 +1,5 @@
 pub mod Runs
 pub mod Letting
+pub mod Puts
+pub mod Gave
+pub mod Copies

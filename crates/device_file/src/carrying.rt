@@ -62,6 +62,10 @@ fn gather(window: &mut WindowMedium, run: &mut Run)
 }
 
 /// Has a file write one sector.
+///
+/// # Errors
+///
+/// The file refused the call.
 pub fn write_sector<D: DeviceFile>(
     file: &mut D,
     run: &mut Run,

@@ -1,6 +1,7 @@
 //! What is asked of a device that is a file.
-ghost use Rattle.std.specs.Prelude.{◌≡◌, ℕ, [], ◌∷◌, IfErr, is_ok};
+ghost use Rattle.std.specs.Prelude.{◌≡◌, ◌/◌, ℕ, List, [], ◌∷◌, IfErr, OnOk, OnErr, is_ok, length};
 ghost use Rattle.mirror.specs.declared.call.DeviceCall.TheVariants.{Flush};
+ghost use Rattle.device_file.specs.Reads.{AreRead};
 ghost use Rattle.device_file.specs.Asked.{Told, answered, writes_of};
 
 use crate::fault::{FileCall, FileFault};
@@ -17,15 +18,32 @@ pub trait DeviceFile {
     /// How many sectors it has.
     ghost size: { Self → ℕ };
 
+    /// A read gave this block of this sector. Nothing else is known of it.
+    ghost holds: { Self → ℕ → List ℕ → Type 0 };
+
+    /// A read of so many sectors from this one on was refused. Nothing else is known of it.
+    ghost refuses: { Self → ℕ → ℕ → Type 0 };
+
     /// How many sectors there are.
     fn sectors(&self) -> u64
         ensures { result ≡ size self.now };
 
-    /// Reads as many sectors as the bytes have, from this one on. At an `Err` the bytes may be any.
+    /// Reads as many sectors as the bytes have, from this one on.
+    ///
+    /// # Errors
+    ///
+    /// The file refused the call; the cause is the system's. The bytes may be any then.
     fn read(&self, first: u64, to: &mut [u8]) -> Result<(), FileFault>
-        ensures { IfErr result (λ fault. fault.call ≡ FileCall.Read) };
+        ensures read { OnOk result (AreRead (holds self.now) first to.new) }
+        ensures unread { OnErr result (refuses self.now first (length to.new / 512)) }
+        ensures named { IfErr result (λ fault. fault.call ≡ FileCall.Read) };
 
     /// Writes neighbouring sectors.
+    ///
+    /// # Errors
+    ///
+    /// The file refused the call; the cause is the system's. It counts as asked, and any part of the
+    /// sectors may be written.
     fn write(&mut self, run: &Run) -> Result<(), FileFault>
         ensures asked { told self.new
             ≡ answered (is_ok result) (writes_of run.now.first run.now.blocks.items) (told self.old) }
@@ -33,6 +51,11 @@ pub trait DeviceFile {
         ensures named { IfErr result (λ fault. fault.call ≡ FileCall.Write) };
 
     /// Waits until all that was written before is durable.
+    ///
+    /// # Errors
+    ///
+    /// The file refused the call; the cause is the system's. It counts as asked, and what was written
+    /// may be durable or not.
     fn sync(&mut self) -> Result<(), FileFault>
         ensures asked { told self.new ≡ answered (is_ok result) (Flush ∷ []) (told self.old) }
         ensures size { size self.new ≡ size self.old }

@@ -2,14 +2,21 @@
 #![tactic(auto)]
 
 mod carrying;
+mod copying;
 mod fault;
 mod file;
+mod moving;
+mod opening;
+mod putting;
 mod run;
 mod story;
 mod system;
 
 pub use carrying::{carry_out, write_sector};
+pub use copying::{CopyFault, copy_sectors};
 pub use fault::{FileCall, FileFault};
 pub use file::DeviceFile;
+pub use moving::carry_moved;
+pub use opening::{FirstSectors, OpenFault, show_from};
 pub use run::Run;
 pub use system::SystemFile;

@@ -1,5 +1,5 @@
 //! Neighbouring sectors that are written at once.
-ghost use Rattle.std.specs.Prelude.{◌≡◌, ◌≤◌, ◌<◌, ◌+◌, length, [], ◌∷◌, ◌++◌, true, IfSome, IsSome, vec_capacity};
+ghost use Rattle.std.specs.Prelude.{◌≡◌, ◌≤◌, ◌<◌, ◌+◌, length, [], ◌∷◌, ◌++◌, true, IfSome, IsSome, IsTrue, ◌↔◌, vec_capacity};
 ghost use Rattle.std.specs.Bool.{OnTrue, OnFalse};
 ghost use Rattle.device_file.specs.Asked.{writes_of, GoesOn};
 ghost use Rattle.mirror.specs.declared.call.DeviceCall.TheVariants.{Write};
@@ -20,6 +20,10 @@ pub struct Run {
 
 impl Run {
     /// A run of no blocks, with the memory for all that it may have.
+    ///
+    /// # Errors
+    ///
+    /// Memory ran out.
     pub fn new(alloc: Global) -> Result<Run, AllocError> {
         Ok(Run {
             first: 0,
@@ -32,6 +36,13 @@ impl Run {
         ensures { self.new.blocks.items ≡ [] }
     {
         self.blocks.clear();
+    }
+
+    /// Whether it has no blocks.
+    pub(crate) fn is_empty(&self) -> bool
+        ensures { IsTrue result ↔ (self.now.blocks.items ≡ []) }
+    {
+        self.blocks.is_empty()
     }
 
     /// Takes one write more, where it is of the sector behind the last one and there is room. False,

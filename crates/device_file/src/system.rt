@@ -47,7 +47,30 @@ impl<F: SectorFile + Drop> SystemFile<F> {
         ensures { IfOk result (λ file. file ≡ fresh file.size) }
     {
         let mut how = OpenOptions::new();
-        let file = opened(rt, how.read(true).write(true), path)?;
+        SystemFile::open_as(rt, how.read(true).write(true), path)
+    }
+
+    /// The file at this path, for reading alone: the system refuses its writes. It is locked before
+    /// anything is read of it.
+    ///
+    /// # Errors
+    /// The call that was refused, and the cause, as of `open`.
+    pub fn open_to_read<R: Files<File = F>>(rt: &R, path: &str) -> Result<SystemFile<F>, FileFault>
+        ensures { IfOk result (λ file. file ≡ fresh file.size) }
+    {
+        let mut how = OpenOptions::new();
+        SystemFile::open_as(rt, how.read(true), path)
+    }
+
+    // The file at this path, which is locked.
+    fn open_as<R: Files<File = F>>(
+        rt: &R,
+        how: &OpenOptions,
+        path: &str,
+    ) -> Result<SystemFile<F>, FileFault>
+        ensures { IfOk result (λ file. file ≡ fresh file.size) }
+    {
+        let file = opened(rt, how, path)?;
         let length = lock(&file)?;
         if length % SECTOR != 0 {
             return Err(FileCall::Length.refused_for(ErrorKind::InvalidData));
@@ -149,6 +172,11 @@ impl<F: SectorFile> DeviceFile for SystemFile<F> {
     ghost told = { λ file. file.told };
 
     ghost size = { λ file. file.size };
+
+    // What the system's read gave is what it gave: std names no bytes of a file.
+    ghost holds = { λ file sector block. Unit {0} };
+
+    ghost refuses = { λ file first count. Unit {0} };
 
     fn sectors(&self) -> u64 {
         self.sectors

@@ -5,6 +5,7 @@ use Rattle.medium.specs.Sent.{sent}
 use Rattle.std.specs.Prelude.{Bool}
 use Rattle.mirror.specs.declared.call.DeviceCall.{DeviceCall}
 use Rattle.window.specs.Window.{Window, state_of, kept_out, ComesAfter, CoversDevice}
+use Rattle.window.specs.Looks.{near_in_sight, none_missed}
 use Rattle.log_layout.specs.Places.{Shape, first_home}
 use Rattle.recovery.specs.Unread.{MakesNoRead}
 use Rattle.recovery.specs.Formatted.{IsLaid, LayingLeaves, AreSizes, IsFormatCause}
@@ -13,7 +14,7 @@ use Rattle.recovery.specs.declared.format_fault.FormatFault.{FormatFault}
 use Rattle.recovery.specs.declared.format_fault.FormatFault.TheVariants.{BadSize, Medium}
 use Rattle.recovery.specs.declared.recovered.Recovered.{Recovered}
 use Rattle.recovery.specs.declared.start_fault.StartFault.{StartFault}
-use Rattle.image_calls.specs.Images.{IsLaidOn, IsMigratedOn, IsMigratedNot}
+use Rattle.image_calls.specs.Images.{IsLaidOn, IsMigratedOn, IsMigratedNot, MissesNone}
 
 -- a medium of the device that the first one tells
 pub laid_on : (shape : Shape) (first m new held : Window) → m ≡ first → held ≡ new → IsLaid shape (state_of m) (state_of new)
@@ -46,6 +47,11 @@ pub by_sizes : (shape : Shape) (old new : Window) (fault : FormatFault) → IsFo
 by_sizes shape old new BadSize cause none = cause
 by_sizes shape old new Medium cause none = absurd (none cause.1)
 
+-- all that a migration reads lies in memory
+misses_none : (first after : Window) → ComesAfter first after → MigrationLeaves (state_of first) (state_of after) → MissesNone first after
+misses_none first after follows leaves log =
+    none_missed (λ s. s < first.near) first after follows (near_in_sight first) (leaves.looks first.near log)
+
 pub migrated_on : (first m new held : Window) (answer : Recovered) (was_one : Bool) → m ≡ first → held ≡ new
     → IsMigrationBy was_one (state_of m) (state_of new) answer → MigrationLeaves (state_of m) (state_of new) → ComesAfter m new
     → CoversDevice m new → IsMigratedOn first held
@@ -57,6 +63,7 @@ migrated_on first m new held answer was_one on same migrated leaves follows cove
       migrated = migrated;
       leaves = leaves;
       waits = record { follows = follows; covers = covers };
+      seen = misses_none m new follows leaves;
     }))
 
 pub migrated_not : (first m after : Window) (why : StartFault) → m ≡ first → length m.outbox ≡ 0
@@ -66,4 +73,5 @@ migrated_not first m after why on empty refusal leaves follows =
     subst (λ (w : Window). IsMigratedNot w after why) on (record {
       refusal = refusal;
       kept = λ shape has room. let most = leaves.sends shape has in kept_same m after follows (omega (arith, empty, room, most));
+      seen = misses_none m after follows leaves;
     })

@@ -8,6 +8,7 @@ use Rattle.mirror.specs.Mirror.{first_of}
 use Rattle.window.specs.Window.{Window, state_of, without_first, kept_out, ComesAfter}
 use Rattle.window.specs.Window.{CoversDevice}
 use Rattle.log_layout.specs.Places.{Shape, first_home}
+use Rattle.recovery.specs.Looks.{HoldsLog}
 use Rattle.recovery.specs.Formatted.{IsLaid, LayingLeaves, AreSizes}
 use Rattle.log_image.specs.ImageFaults.{HasShape}
 use Rattle.recovery.specs.Migrated.{IsMigrationBy, IsMigrationRefusal, MigrationLeaves}
@@ -43,6 +44,12 @@ IsLayFault near sectors shape first fault.Length = IsNoLength near sectors
 IsLayFault near sectors shape first fault.Sizes = ¬ AreSizes (state_of first).size shape
 IsLayFault near sectors shape first (fault.Start why) = why ≡ NoMemory
 
+-- No read was refused, where the first sectors are all before the first home sector: none named any
+-- other.
+abbrev pub MissesNone : Window → Window → Type 0
+MissesNone first after = HoldsLog first.near (state_of first).size (state_of first).content
+    → after.seen.told.refused.reads ≡ first.seen.told.refused.reads
+
 -- the image on the device of this medium was migrated
 pub record IsMigratedOn (first new : Window) : Type 0 where
   pub answer : Recovered
@@ -50,6 +57,7 @@ pub record IsMigratedOn (first new : Window) : Type 0 where
   pub migrated : IsMigrationBy was_one (state_of first) (state_of new) answer
   pub leaves : MigrationLeaves (state_of first) (state_of new)
   pub waits : WaitFor first new
+  pub seen : MissesNone first new
 
 -- Why none was. No write and no flush was refused where there was the room that a migration needs
 -- of an image of this format with so many slots.
@@ -58,6 +66,7 @@ pub record IsMigratedNot (first after : Window) (why : StartFault) : Type 0 wher
   pub kept : (shape : Shape) → HasShape (state_of first).size shape (state_of first).content
       → most_migration_sends shape.format shape.slots ≤ first.room
       → kept_out after.seen.told.refused ≡ kept_out first.seen.told.refused
+  pub seen : MissesNone first after
 
 abbrev pub IsMigrateFault : List ℕ → ℕ → Window → ImageFault → Type 0
 IsMigrateFault near sectors first fault.Held = ⊥

@@ -17,6 +17,11 @@ use window::DeviceHolds;
 
 /// Lays a log on a device of so many sectors, of which these are the first: one or more. What the
 /// device has to carry out waits in the handle.
+///
+/// # Errors
+///
+/// `Held` where the handle is in use, `Length` where the first sectors are none, no whole ones or
+/// more than the device has, `Sizes`, or `Start(NoMemory)`. The handle stays as it was.
 pub fn lay_in(
     alloc: Global,
     image: &mut UsbDiskImage,
@@ -44,6 +49,11 @@ pub fn lay_in(
 
 /// Makes an image of format 1 on a device of so many sectors one of format 2. The first sectors are
 /// all before the first home sector.
+///
+/// # Errors
+///
+/// `Held` and `Length` as in `lay_in`; `Start` with `NoMemory` or the fault of `recovery::migrate`,
+/// which is `Write` or `Flush` where the room is too small. The handle stays as it was.
 pub fn migrate_in(
     alloc: Global,
     image: &mut UsbDiskImage,

@@ -1,0 +1,15 @@
+use Rattle.std.proofs.Common.{◌≡◌, ◌≤◌, ◌-◌, [], length}
+use Rattle.device_file.specs.Copied.{IsCopying, waiting_in}
+use Rattle.device_file.proofs.copying.copy_runs.Given as goal
+
+abbrev pub invariant-runs : goal.invariant-runs
+invariant-runs g l = record {
+  within : l.done ≤ l.count;
+  copying : IsCopying (g.S.DeviceFile.holds l.from) l.first l.done l.at (g.D.DeviceFile.told l.fn.to)
+      (g.D.DeviceFile.told l.to) [] (waiting_in l.run);
+  size : g.D.DeviceFile.size l.to ≡ g.D.DeviceFile.size l.fn.to;
+  room : length l.bytes ≡ length l.fn.bytes;
+}
+
+abbrev pub decreases-runs : goal.decreases-runs
+decreases-runs g l = l.count - l.done

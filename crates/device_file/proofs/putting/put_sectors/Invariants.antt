@@ -1,0 +1,11 @@
+use Rattle.std.proofs.Common.{◌≡◌}
+use Rattle.device_file.specs.Reads.{sectors_in}
+use Rattle.device_file.specs.Copied.{Puts, some_writes, waiting_in}
+use Rattle.device_file.proofs.putting.put_sectors.Given as goal
+
+abbrev pub invariant-sectors : goal.invariant-sectors
+invariant-sectors g l = record {
+  puts : Puts (some_writes l.first (sectors_in l.i l.bytes)) (g.D.DeviceFile.told l.fn.file)
+      (g.D.DeviceFile.told l.file) (waiting_in l.fn.run) (waiting_in l.run);
+  size : g.D.DeviceFile.size l.file ≡ g.D.DeviceFile.size l.fn.file;
+}

@@ -1,0 +1,105 @@
+-- Blocks that were read of one file, and that another was asked to write.
+use Rattle.std.specs.Prelude.{◌≡◌, ◌≤◌, ℕ, ◌+◌, ◌-◌, Bool, List, [], ◌∷◌, ◌++◌, length}
+use Rattle.std.specs.Prelude.{if◌then◌else◌, ◌==◌}
+use Rattle.std.specs.List.{list_all}
+use Rattle.mirror.specs.declared.call.DeviceCall.{DeviceCall}
+use Rattle.mirror.specs.declared.call.DeviceCall.TheVariants.{Write, Flush}
+use Rattle.window.specs.Seen.{lies_in}
+use Rattle.device_file.specs.Asked.{Told, asked_for, refused, writes_of}
+use Rattle.device_file.specs.Reads.{AreReadFrom}
+use Rattle.device_file.specs.declared.copying.CopyFault.{CopyFault}
+use Rattle.device_file.specs.declared.copying.CopyFault.TheVariants as fault
+use Rattle.device_file.specs.declared.run.Run.{Run}
+
+-- whether a block is zeros
+abbrev pub is_zeros : List ℕ → Bool
+is_zeros block = list_all (λ byte. byte == 0) block
+
+-- the write of a block, where it is no zeros
+abbrev pub some_write : ℕ → List ℕ → List DeviceCall
+some_write sector block =
+    if is_zeros block then [] else Write (record { sector = sector; block = block }) ∷ []
+
+-- The writes of these blocks to neighbouring sectors, from this one on; blocks of zeros are left
+-- out, since a file that was just made or emptied has them.
+abbrev pub some_writes : ℕ → List (List ℕ) → List DeviceCall
+some_writes first [] = []
+some_writes first (block ∷ blocks) = some_write first block ++ some_writes (first + 1) blocks
+
+-- of a call, where it is a write to one of so many sectors from this one on, that write to the
+-- sectors from 0 on
+abbrev pub moved_call : ℕ → ℕ → DeviceCall → List DeviceCall
+moved_call first count (Write w) = if lies_in first count w.sector
+    then Write (record { sector = w.sector - first; block = w.block }) ∷ [] else []
+moved_call first count Flush = []
+
+-- of these calls, in order, those writes
+abbrev pub moved_calls : ℕ → ℕ → List DeviceCall → List DeviceCall
+moved_calls first count [] = []
+moved_calls first count (call ∷ calls) =
+    moved_call first count call ++ moved_calls first count calls
+
+-- the writes that wait in a run
+abbrev pub waiting_in : Run → List DeviceCall
+waiting_in run = writes_of run.first run.blocks.items
+
+-- Of what waited and these calls a file was asked for a first part, and the others wait.
+pub record Puts (calls : List DeviceCall) (old new : Told) (waited waits : List DeviceCall)
+    : Type 0 where
+  pub part : List DeviceCall
+  pub parts : waited ++ calls ≡ part ++ waits
+  pub told_is : new ≡ asked_for part old
+
+-- of what waited and these calls it was asked for a first part, and refused the last of that part
+pub record PutsSome (calls : List DeviceCall) (old new : Told) (waited : List DeviceCall)
+    : Type 0 where
+  pub part : List DeviceCall
+  pub rest : List DeviceCall
+  pub parts : waited ++ calls ≡ part ++ rest
+  pub told_is : new ≡ refused (asked_for part old)
+
+-- a first part of these calls was asked for; the last of it was refused
+pub record IsAskedInPart (calls : List DeviceCall) (old new : Told) : Type 0 where
+  pub part : List DeviceCall
+  pub rest : List DeviceCall
+  pub parts : calls ≡ part ++ rest
+  pub told_is : new ≡ refused (asked_for part old)
+
+-- So many blocks were read of a file, from a sector on, and the other was asked to write those of
+-- them that are no zeros to its own sectors, in order; it carried all of that out.
+pub record IsCopied (holds : ℕ → List ℕ → Type 0) (first count at : ℕ) (old new : Told)
+    : Type 0 where
+  pub blocks : List (List ℕ)
+  pub count_is : length blocks ≡ count
+  pub were_read : AreReadFrom holds first blocks
+  pub told_is : new ≡ asked_for (some_writes at blocks) old
+
+-- what a file was asked when a copy to it ended so: the last call was refused where it refused one
+abbrev pub asked_until : CopyFault → List DeviceCall → Told → Told
+asked_until (fault.From why) calls t = asked_for calls t
+asked_until (fault.To why) calls t = refused (asked_for calls t)
+
+-- So many were read, and of their writes and what waited the other was asked for a first part; the
+-- others wait.
+pub record IsCopying (holds : ℕ → List ℕ → Type 0) (first count at : ℕ) (old new : Told)
+    (waited waits : List DeviceCall) : Type 0 where
+  pub blocks : List (List ℕ)
+  pub count_is : length blocks ≡ count
+  pub were_read : AreReadFrom holds first blocks
+  pub puts : Puts (some_writes at blocks) old new waited waits
+
+-- So many were read at most, and the other was asked for a first part of what waited and of their
+-- writes; where it refused a call, that is the last of these.
+pub record IsCopiedFrom (holds : ℕ → List ℕ → Type 0) (first count at : ℕ) (old new : Told)
+    (waited : List DeviceCall) (why : CopyFault) : Type 0 where
+  pub blocks : List (List ℕ)
+  pub count_is : length blocks ≤ count
+  pub were_read : AreReadFrom holds first blocks
+  pub part : List DeviceCall
+  pub rest : List DeviceCall
+  pub parts : waited ++ some_writes at blocks ≡ part ++ rest
+  pub told_is : new ≡ asked_until why part old
+
+-- nothing waited
+abbrev pub IsCopiedInPart : (ℕ → List ℕ → Type 0) → ℕ → ℕ → ℕ → Told → Told → CopyFault → Type 0
+IsCopiedInPart holds first count at old new why = IsCopiedFrom holds first count at old new [] why

@@ -1,0 +1,26 @@
+-- The first sectors of a file.
+use Rattle.std.specs.Prelude.{◌≡◌, ◌⊎◌, ◌<◌, ℕ, List, Option, Some, None}
+use Rattle.log_layout.specs.Places.{Shape}
+use Rattle.log_layout.specs.Sectors.{IsSuper}
+use Rattle.log_layout.specs.Values.{shape_of}
+use Rattle.log_layout.specs.declared.super_sector.Super.{Super}
+use Rattle.device_file.specs.declared.fault.FileCall.TheVariants as call
+use Rattle.device_file.specs.declared.opening.OpenFault.{OpenFault}
+use Rattle.device_file.specs.declared.opening.OpenFault.TheVariants as fault
+
+-- how many first sectors are to lie in memory: all before the first home sector, and two where
+-- there is no super
+abbrev pub near_of : Option Super → ℕ
+near_of (Some sizes) = sizes.home
+near_of None = 2
+
+-- the super that a sector spells, where it spells one
+abbrev pub SpellsSuper : Option Super → List ℕ → Type 0
+SpellsSuper (Some sizes) sector = IsSuper (shape_of sizes) sector
+SpellsSuper None sector = (shape : Shape) → ¬ IsSuper shape sector
+
+-- why they were not had: there is no sector, a read was refused, or there was no memory
+abbrev pub IsUnopened : ℕ → OpenFault → Type 0
+IsUnopened size (fault.File why) =
+    ((why.call ≡ call.Length) × (size ≡ 0)) ⊎ (why.call ≡ call.Read)
+IsUnopened size fault.NoMemory = 0 < size

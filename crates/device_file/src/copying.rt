@@ -1,0 +1,111 @@
+//! Sectors of one file that are copied to another.
+ghost use Rattle.std.specs.Prelude.{◌≡◌, ◌+◌, ◌/◌, ◌<◌, ◌≤◌, ◌^◌, [], length, OnOk, IfErr};
+ghost use Rattle.device_file.specs.Copied.{IsCopied, IsCopiedFrom, IsCopiedInPart, IsCopying, waiting_in};
+
+use crate::fault::FileFault;
+use crate::file::DeviceFile;
+use crate::putting::{put_rest, put_sectors};
+use crate::run::Run;
+
+const SECTOR: usize = 512;
+
+/// Why sectors of one file were not copied to another: the file that refused a call.
+#[derive(Clone, Copy, Debug, PartialEq, Eq)]
+pub enum CopyFault {
+    /// The one that was read.
+    From(FileFault),
+    /// The one that was written.
+    To(FileFault),
+}
+
+/// Copies so many sectors of a file, from one on, to another file that was just made or emptied, to
+/// its sectors from this one on. Blocks of zeros are not written, since they are there. As many
+/// sectors are read at once as the bytes have.
+///
+/// # Errors
+///
+/// The first call that a file refused. Nothing was asked of either after that.
+pub fn copy_sectors<S: DeviceFile, D: DeviceFile>(
+    from: &S,
+    first: u64,
+    count: u64,
+    to: &mut D,
+    at: u64,
+    run: &mut Run,
+    bytes: &mut [u8],
+) -> Result<(), CopyFault>
+    requires reads { first + count < 2 ^ 64 }
+    requires writes { at + count < 2 ^ 64 }
+    requires room { 512 ≤ length bytes.old }
+    ensures ok { OnOk result (IsCopied (S.holds from.now) first count at (D.told to.old)
+        (D.told to.new)) }
+    ensures err { IfErr result (IsCopiedInPart (S.holds from.now) first count at (D.told to.old)
+        (D.told to.new)) }
+    ensures size { D.size to.new ≡ D.size to.old }
+{
+    match copy_runs(from, first, count, to, at, run, bytes) {
+        Err(fault) => Err(fault),
+        Ok(()) => match put_rest(to, run) {
+            Ok(()) => Ok(()),
+            Err(fault) => Err(CopyFault::To(fault)),
+        },
+    }
+}
+
+// The same; writes may be left to be made.
+fn copy_runs<S: DeviceFile, D: DeviceFile>(
+    from: &S,
+    first: u64,
+    count: u64,
+    to: &mut D,
+    at: u64,
+    run: &mut Run,
+    bytes: &mut [u8],
+) -> Result<(), CopyFault>
+    requires reads { first + count < 2 ^ 64 }
+    requires writes { at + count < 2 ^ 64 }
+    requires room { 512 ≤ length bytes.old }
+    ensures ok { OnOk result (IsCopying (S.holds from.now) first count at (D.told to.old)
+        (D.told to.new) [] (waiting_in run.new)) }
+    ensures err { IfErr result (IsCopiedInPart (S.holds from.now) first count at (D.told to.old)
+        (D.told to.new)) }
+    ensures size { D.size to.new ≡ D.size to.old }
+{
+    run.clear();
+    let most = (bytes.len() / SECTOR) as u64;
+    let mut done = 0;
+    'runs: while done < count {
+        let part = most.min(count - done);
+        let length = part as usize * SECTOR;
+        match copy_run(from, first + done, to, at + done, run, &mut bytes[..length]) {
+            Ok(()) => done += part,
+            Err(fault) => return Err(fault),
+        }
+    }
+    Ok(())
+}
+
+// Copies the sectors for which there is room; writes may be left to be made.
+fn copy_run<S: DeviceFile, D: DeviceFile>(
+    from: &S,
+    first: u64,
+    to: &mut D,
+    at: u64,
+    run: &mut Run,
+    bytes: &mut [u8],
+) -> Result<(), CopyFault>
+    requires { at + length bytes.old / 512 < 2 ^ 64 }
+    ensures ok { OnOk result (IsCopying (S.holds from.now) first (length bytes.old / 512) at
+        (D.told to.old) (D.told to.new) (waiting_in run.old) (waiting_in run.new)) }
+    ensures err { IfErr result (IsCopiedFrom (S.holds from.now) first (length bytes.old / 512) at
+        (D.told to.old) (D.told to.new) (waiting_in run.old)) }
+    ensures size { D.size to.new ≡ D.size to.old }
+{
+    match from.read(first, bytes) {
+        Err(fault) => Err(CopyFault::From(fault)),
+        Ok(()) => match put_sectors(to, run, at, bytes) {
+            Ok(()) => Ok(()),
+            Err(fault) => Err(CopyFault::To(fault)),
+        },
+    }
+}

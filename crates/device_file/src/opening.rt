@@ -1,0 +1,164 @@
+//! From a file that is open to a window over it.
+ghost use Rattle.std.specs.Prelude.{◌≡◌, ◌*◌, ◌/◌, ◌<◌, ◌≤◌, ◌++◌, IfOk, IfErr, OnOk, length, drop, min};
+ghost use Rattle.medium.specs.Moments.{IsFlushed, IsUnchanged};
+ghost use Rattle.medium.specs.Writes.{sector_of};
+ghost use Rattle.inlet.specs.Inlet.{AreHeld};
+ghost use Rattle.window.specs.Window.{fresh, state_of};
+ghost use Rattle.device_file.specs.Reads.{AreRead};
+ghost use Rattle.device_file.specs.First.{IsUnopened, SpellsSuper, near_of};
+
+use crate::fault::{FileCall, FileFault};
+use crate::file::DeviceFile;
+use inlet::Inlet;
+use log_layout::Super;
+use std::alloc::Global;
+use std::io::ErrorKind;
+use window::{DeviceHolds, WindowMedium};
+
+const SECTOR: usize = 512;
+
+/// Why no window over a file was made.
+#[derive(Clone, Copy, Debug, PartialEq, Eq)]
+pub enum OpenFault {
+    /// The file refused a call, or it has no sector.
+    File(FileFault),
+    NoMemory,
+}
+
+impl From<FileFault> for OpenFault {
+    ghost use Rattle.device_file.specs.declared.opening.OpenFault.TheVariants as fault;
+
+    ghost from_gives = { λ why e. e ≡ fault.File why };
+
+    fn from(fault: FileFault) -> OpenFault {
+        OpenFault::File(fault)
+    }
+}
+
+/// The first sectors of a file: super, head and log, up to the first home sector.
+#[derive(Drop)]
+pub struct FirstSectors {
+    /// The super that sector 0 spells, where it spells one. The file may be shorter than it says.
+    pub sizes: Option<Super>,
+    /// How many sectors the file has.
+    pub sectors: u64,
+    pub bytes: Vec<u8>,
+    pub ghost some: { 0 < sectors },
+    pub ghost count: { length bytes.items ≡ 512 * min (near_of sizes) sectors },
+}
+
+impl FirstSectors {
+    /// Reads the first sectors of a file: all before the first home sector that its super tells, and
+    /// two where it has none; those that it has, where it is shorter.
+    ///
+    /// # Errors
+    /// `InvalidData` where the file has no sector, the read that was refused, and `NoMemory`.
+    pub fn read<D: DeviceFile>(alloc: Global, file: &D) -> Result<FirstSectors, OpenFault>
+        ensures ok { IfOk result (λ first. (first.sectors ≡ D.size file.now)
+            × SpellsSuper first.sizes (sector_of first.bytes.items 0)) }
+        ensures read { IfOk result (λ first. AreRead (D.holds file.now) 0 first.bytes.items) }
+        ensures err { IfErr result (IsUnopened (D.size file.now)) }
+    {
+        let sectors = file.sectors();
+        if sectors == 0 {
+            let fault = FileCall::Length.refused_for(ErrorKind::InvalidData);
+            return Err(OpenFault::File(fault));
+        }
+        let mut sector = [0; SECTOR];
+        file.read(0, &mut sector)?;
+        let sizes = super_in(&sector);
+        let near = near_for(&sizes).min(sectors);
+        let Ok(mut bytes) = vec![in alloc; 0u8; near as usize * SECTOR] else {
+            return Err(OpenFault::NoMemory);
+        };
+        fill(file, &sector, &mut bytes)?;
+        Ok(FirstSectors {
+            sizes,
+            sectors,
+            bytes,
+        })
+    }
+
+    /// A window over the file: its first sectors hold these bytes, the others what the device holds,
+    /// all durably. There is room to show so many sectors, and for so many writes and flushes.
+    ///
+    /// # Errors
+    /// Where the room could not be had.
+    pub fn into_window(
+        self,
+        alloc: Global,
+        device: &DeviceHolds,
+        span: u32,
+        room: usize,
+    ) -> Result<WindowMedium, OpenFault>
+        ensures ok { IfOk result (λ m. m
+            ≡ fresh self.sectors self.bytes.items device.now.bytes span room) }
+        ensures flushed { IfOk result (λ m. IsFlushed (state_of m)) }
+        ensures err { IfErr result (λ fault. fault ≡ OpenFault.NoMemory) }
+    {
+        match WindowMedium::new(alloc, self.bytes, self.sectors, device, span, room) {
+            Ok(window) => Ok(window),
+            Err(_) => Err(OpenFault::NoMemory),
+        }
+    }
+}
+
+// The super that a sector spells.
+fn super_in(sector: &[u8; SECTOR]) -> Option<Super>
+    ensures { SpellsSuper result sector.now }
+{
+    match Super::decode(sector) {
+        Ok(sizes) => Some(sizes),
+        Err(_) => None,
+    }
+}
+
+// How many of the first sectors are to lie in memory.
+fn near_for(sizes: &Option<Super>) -> u64
+    ensures { result ≡ near_of sizes.now }
+{
+    match sizes {
+        Some(sizes) => sizes.home,
+        None => 2,
+    }
+}
+
+// Reads the first sectors, and copies sector 0 to the front as it was read before.
+fn fill<D: DeviceFile>(file: &D, sector: &[u8; SECTOR], bytes: &mut [u8]) -> Result<(), FileFault>
+    requires { 512 ≤ length bytes.old }
+    ensures front { OnOk result (sector_of bytes.new 0 ≡ sector.now) }
+    ensures read { D.holds file.now 0 sector.now → OnOk result (AreRead (D.holds file.now) 0 bytes.new) }
+    ensures err { IfErr result (λ fault. fault.call ≡ FileCall.Read) }
+{
+    file.read(0, bytes)?;
+    put_first(bytes, sector);
+    Ok(())
+}
+
+// Copies bytes over the front of others.
+fn put_first(to: &mut [u8], from: &[u8])
+    requires { length from.now ≤ length to.old }
+    ensures { to.new ≡ from.now ++ drop (length from.now) to.old }
+{
+    to[..from.len()].copy_from_slice(from);
+}
+
+/// Reads sectors of a file, and shows them to a medium. It answers whether the medium took them.
+///
+/// # Errors
+/// The read that was refused. The medium is then as it was.
+pub fn show_from<D: DeviceFile, M: Inlet>(
+    file: &D,
+    medium: &mut M,
+    first: u64,
+    to: &mut [u8],
+) -> Result<bool, FileFault>
+    ensures shown { IfOk result (λ taken. M.shown first to.new taken medium.old medium.new) }
+    ensures size { (M.state medium.new).size ≡ (M.state medium.old).size }
+    ensures unchanged { AreHeld (M.state medium.old).content first (length to.new / 512) to.new
+        → IsUnchanged (M.state medium.old) (M.state medium.new) }
+    ensures err { IfErr result (λ fault. (fault.call ≡ FileCall.Read) × (medium.new ≡ medium.old)) }
+{
+    file.read(first, to)?;
+    Ok(medium.show(first, to))
+}

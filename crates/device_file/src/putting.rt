@@ -1,0 +1,111 @@
+//! Blocks that a file is asked to write, neighbouring ones by one write.
+ghost use Rattle.std.specs.Prelude.{◌≡◌, ◌+◌, ◌*◌, ◌/◌, ◌<◌, ◌≤◌, ◌^◌, [], ◌∷◌, length, OnOk, IfErr, OnErr};
+ghost use Rattle.medium.specs.Writes.{sector_of};
+ghost use Rattle.mirror.specs.declared.call.DeviceCall.TheVariants.{Write};
+ghost use Rattle.device_file.specs.Reads.{sectors_in};
+ghost use Rattle.device_file.specs.Copied.{Puts, PutsSome, is_zeros, some_writes, waiting_in};
+
+use crate::fault::{FileCall, FileFault};
+use crate::file::DeviceFile;
+use crate::run::Run;
+use mirror::SectorWrite;
+
+const SECTOR: usize = 512;
+
+/// Has one write more wait in a run. What waits there is written first, where this one is not of the
+/// sector behind it.
+///
+/// # Errors
+///
+/// The file refused the write of what waited.
+pub(crate) fn put_block<D: DeviceFile>(
+    file: &mut D,
+    run: &mut Run,
+    write: &SectorWrite,
+) -> Result<(), FileFault>
+    ensures ok { OnOk result (Puts (Write write.now ∷ []) (D.told file.old) (D.told file.new)
+        (waiting_in run.old) (waiting_in run.new)) }
+    ensures err { OnErr result (PutsSome (Write write.now ∷ []) (D.told file.old) (D.told file.new)
+        (waiting_in run.old)) }
+    ensures size { D.size file.new ≡ D.size file.old }
+    ensures named { IfErr result (λ fault. fault.call ≡ FileCall.Write) }
+{
+    if run.take(write) {
+        return Ok(());
+    }
+    file.write(run)?;
+    run.clear();
+    let _taken = run.take(write);
+    Ok(())
+}
+
+/// Writes what waits in a run.
+///
+/// # Errors
+///
+/// The file refused that write.
+pub(crate) fn put_rest<D: DeviceFile>(file: &mut D, run: &mut Run) -> Result<(), FileFault>
+    ensures ok { OnOk result (Puts [] (D.told file.old) (D.told file.new) (waiting_in run.old) []) }
+    ensures err { OnErr result (PutsSome [] (D.told file.old) (D.told file.new)
+        (waiting_in run.old)) }
+    ensures size { D.size file.new ≡ D.size file.old }
+    ensures named { IfErr result (λ fault. fault.call ≡ FileCall.Write) }
+{
+    if run.is_empty() {
+        return Ok(());
+    }
+    file.write(run)
+}
+
+/// Has the sectors of these bytes wait to be written from this one on, but those of zeros.
+///
+/// # Errors
+///
+/// The file refused the write of some that waited.
+pub(crate) fn put_sectors<D: DeviceFile>(
+    file: &mut D,
+    run: &mut Run,
+    first: u64,
+    bytes: &[u8],
+) -> Result<(), FileFault>
+    requires { first + length bytes.now / 512 < 2 ^ 64 }
+    ensures ok { OnOk result (Puts (some_writes first (sectors_in (length bytes.now / 512) bytes.now))
+        (D.told file.old) (D.told file.new) (waiting_in run.old) (waiting_in run.new)) }
+    ensures err { OnErr result
+        (PutsSome (some_writes first (sectors_in (length bytes.now / 512) bytes.now))
+        (D.told file.old) (D.told file.new) (waiting_in run.old)) }
+    ensures size { D.size file.new ≡ D.size file.old }
+    ensures named { IfErr result (λ fault. fault.call ≡ FileCall.Write) }
+{
+    'sectors: for i in 0..bytes.len() / SECTOR {
+        let write = SectorWrite {
+            sector: first + i as u64,
+            block: block_at(bytes, i),
+        };
+        if !has_zeros_alone(&write.block) {
+            match put_block(file, run, &write) {
+                Ok(()) => {}
+                Err(fault) => return Err(fault),
+            }
+        }
+    }
+    Ok(())
+}
+
+// A sector of these bytes.
+fn block_at(bytes: &[u8], index: usize) -> [u8; 512]
+    requires { 512 * (index + 1) ≤ length bytes.now }
+    ensures { result ≡ sector_of bytes.now index }
+{
+    let mut block = [0; SECTOR];
+    let at = index * SECTOR;
+    block.copy_from_slice(&bytes[at..at + SECTOR]);
+    block
+}
+
+// Whether a block is zeros.
+fn has_zeros_alone(block: &[u8; 512]) -> bool
+    ensures { result ≡ is_zeros block.now }
+{
+    block.iter().all(|byte| *byte == 0)
+}

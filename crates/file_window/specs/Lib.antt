@@ -1,0 +1,2 @@
+pub mod FileWindows
+pub mod FileWindowLaws
