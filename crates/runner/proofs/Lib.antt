@@ -2,6 +2,7 @@ pub mod Numerals
 pub mod Separators
 pub mod Checking
 pub mod Runs
+pub mod Telling
 pub mod Known
 pub mod Printable
 pub mod OneLife

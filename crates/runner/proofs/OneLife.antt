@@ -81,8 +81,8 @@ module _ {M : Type 0} (state : M → State) (most : ℕ) (remaining was now : Op
     events = so.0;
     plays = so.2;
     answers = so.3.tells.answers;
-    life = lived so.0 so.3.tells.answers so.3.tells.refusals so.3.new after so.3.tells.steps so.3.medium;
-    left_by = left so.0 so.3.tells.answers so.3.tells.refusals so.3.new after so.3.tells.steps so.3.medium;
+    life = lived so.0 so.3.tells.answers so.3.tells.goes.0 so.3.new after so.3.tells.goes.1 so.3.medium;
+    left_by = left so.0 so.3.tells.answers so.3.tells.goes.0 so.3.new after so.3.tells.goes.1 so.3.medium;
     written = subst (λ (text : List ℕ). Appends was now text) so.3.tells.told so.4;
   }
 
@@ -102,7 +102,7 @@ module _ {M : Type 0} (state : M → State) (most : ℕ) (remaining was now : Op
         stops = so.stops;
         answers = breaks.answers;
         answer = breaks.answer;
-        life = lived events answers breaks.refusals so.new error.medium breaks.steps so.medium;
-        left_by = left events answers breaks.refusals so.new error.medium breaks.steps so.medium;
+        life = lived events answers breaks.goes.0 so.new error.medium breaks.goes.1 so.medium;
+        left_by = left events answers breaks.goes.0 so.new error.medium breaks.goes.1 so.medium;
         written = breaks.written;
       })

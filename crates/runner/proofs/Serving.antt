@@ -4,19 +4,20 @@ use Rattle.std.proofs.Common.{inl, inr, refl, sym, ap, subst, ◌∙◌, arith, 
 use Rattle.std.proofs.lemmas.List.Elements.{All-nil}
 use Rattle.std.proofs.KnownBytes.{Consumes-trans}
 use Rattle.std.specs.Io.KnownBytes.{Consumes, IsAtEnd}
-use Rattle.medium.specs.Medium.{State}
-use Rattle.bot_machine.specs.Disk.{DiskValue}
-use Rattle.runner.specs.declared.serve.LineFault.{LineFault}
-use Rattle.runner.specs.declared.serve.LineFault.TheVariants.{Line, Reader, Writer}
+use Rattle.bot_machine.specs.declared.event.Event.{Event}
+use Rattle.bot_machine.specs.declared.event.Answer.{Answer}
+use Rattle.runner.specs.declared.player.ServeFault.{ServeFault}
+use Rattle.runner.specs.declared.player.ServeFault.TheVariants.{Line, Reader, Writer, Player}
+use Rattle.runner.specs.Players.{IsPlayer}
 use Rattle.runner.specs.Lines.{lines_of}
 use Rattle.runner.specs.Script.{LinePlays}
 use Rattle.runner.specs.Streams.{IsAll}
-use Rattle.runner.specs.Served.{line_number, AreAnswered, IsAnswered, IsLineStopped, StopsIn, StopsAtBadLine, StopsUnread, IsServed}
-use Rattle.runner.specs.Served.{IsStopped, HasServed}
+use Rattle.runner.specs.Served.{line_number, AreAnswered, IsAnswered, IsLineStopped, StopsIn, StopsAtBadLine, StopsUnread, IsServedBy}
+use Rattle.runner.specs.Served.{IsStoppedBy, HasServed}
 use Rattle.runner.proofs.InTurn.{InTurn-append}
 use Rattle.runner.proofs.Known.{Appends-none, Appends-more, Appends-kept}
 use Rattle.runner.proofs.LineEnds.{unended-more, ended_line, last_line, begins, plays_line, holds_line, stands-more, first_is, too_long}
-use Rattle.runner.proofs.Runs.{tells-none, tells-more, breaks-more, packets_stay}
+use Rattle.runner.proofs.Telling.{tells-none, tells-more, breaks-more, gives-more, most_stays}
 
 -- the whole script, of which these bytes were taken
 whole_of : (left after : Option (List ℕ)) (read : List ℕ) → Consumes left after read → (more : List ℕ) × IsAll left (read ++ more)
@@ -39,11 +40,19 @@ taken-none left mid after read chunk count first next none =
 next_number : (before : ℕ) → min (line_number before + 1) 18446744073709551615 ≡ line_number (before + 1)
 next_number before = omega arith
 
-module _ {M : Type 0} (state : M → State) (most : ℕ) where
-  answered-none : (was : Option (List ℕ)) (disk : DiskValue M) → AreAnswered state most was was disk disk []
-  answered-none was disk = record { events = []; plays = refl; text = []; tells = tells-none state disk; written = Appends-none was }
+module _ {D : Type 0} (Goes : D → List Event → List Answer → D → Type 0) (Stops : D → Event → D → Type 0) (packet : D → ℕ)
+    (laws : IsPlayer Goes packet) (most : ℕ) where
+  answered-none : (was : Option (List ℕ)) (disk : D) → AreAnswered Goes Stops most was was disk disk []
+  answered-none was disk = record {
+    events = [];
+    plays = refl;
+    text = [];
+    tells = tells-none Goes packet laws disk;
+    written = Appends-none
+        was;
+  }
 
-  pub served-none : (was : Option (List ℕ)) (disk : DiskValue M) → HasServed state most was was disk disk [] 1 []
+  pub served-none : (was : Option (List ℕ)) (disk : D) → HasServed Goes Stops most was was disk disk [] 1 []
   served-none was disk = record {
     before = [];
     line = [];
@@ -54,16 +63,16 @@ module _ {M : Type 0} (state : M → State) (most : ℕ) where
     answered = answered-none was disk;
   }
 
-  module _ (was mid : Option (List ℕ)) (old between : DiskValue M) (held : List ℕ) (number : ℕ) (read : List ℕ)
-      (so : HasServed state most was mid old between held number read) where
+  module _ (was mid : Option (List ℕ)) (old between : D) (held : List ℕ) (number : ℕ) (read : List ℕ)
+      (so : HasServed Goes Stops most was mid old between held number read) where
     -- the size of packets stays
-    pub served-packets : between.line.packet_size ≡ old.line.packet_size
-    served-packets = let told = so.answered.tells in packets_stay state so.answered.events told.answers told.refusals old between told.steps
+    pub served-packets : packet between ≡ packet old
+    served-packets = most_stays Goes packet laws old between so.answered.events so.answered.text so.answered.tells
 
     -- one byte more of the line
     pub served-byte : (new : List ℕ) (next byte : ℕ) (all : List ℕ) → (byte == 10) ≡ false
         → (new ≡ held ++ byte ∷ []) ⊎ ((new ≡ held) × ((comment : List ℕ) × (held ≡ codes "#" ++ comment)))
-        → next ≡ number → all ≡ read ++ byte ∷ [] → HasServed state most was mid old between new next all
+        → next ≡ number → all ≡ read ++ byte ∷ [] → HasServed Goes Stops most was mid old between new next all
     served-byte new next byte all other holds same is = record {
       before = so.before;
       line = so.line ++ byte ∷ [];
@@ -77,8 +86,8 @@ module _ {M : Type 0} (state : M → State) (most : ℕ) where
     }
 
     -- one line more
-    answered-more : (now : Option (List ℕ)) (new : DiskValue M) → IsAnswered state most mid now between new held
-        → AreAnswered state most was now old new (so.before ++ so.line ∷ [])
+    answered-more : (now : Option (List ℕ)) (new : D) → IsAnswered Goes Stops most mid now between new held
+        → AreAnswered Goes Stops most was now old new (so.before ++ so.line ∷ [])
     answered-more now new next =
         let done = so.answered in
         record {
@@ -86,7 +95,7 @@ module _ {M : Type 0} (state : M → State) (most : ℕ) where
           plays = InTurn-append (LinePlays most) so.before (so.line ∷ []) done.events next.events done.plays
               (next.events, [], plays_line most held so.line next.events so.stands next.plays, refl, sym (append-nil next.events));
           text = done.text ++ next.text;
-          tells = tells-more state old between new done.events next.events done.text next.text done.tells next.tells;
+          tells = tells-more Goes packet laws old between new done.events next.events done.text next.text done.tells next.tells;
           written = Appends-more was mid now done.text next.text done.written next.written;
         }
 
@@ -99,9 +108,9 @@ module _ {M : Type 0} (state : M → State) (most : ℕ) where
     parts-last = ap lines_of (sym (append-nil read)) ∙ so.parts [] ∙ ap (λ (l : List ℕ). so.before ++ lines_of l) (append-nil so.line)
         ∙ ap (λ (l : List (List ℕ)). so.before ++ l) (last_line so.line so.unended)
 
-    pub served-line : (now : Option (List ℕ)) (new : DiskValue M) → IsAnswered state most mid now between new held
+    pub served-line : (now : Option (List ℕ)) (new : D) → IsAnswered Goes Stops most mid now between new held
         → (none : List ℕ) (next : ℕ) (all : List ℕ) → none ≡ [] → next ≡ min (number + 1) 18446744073709551615 → all ≡ read ++ 10 ∷ []
-        → HasServed state most was now old new none next all
+        → HasServed Goes Stops most was now old new none next all
     served-line now new answered none next all empty counts is = record {
       before = so.before ++ so.line ∷ [];
       line = [];
@@ -115,9 +124,9 @@ module _ {M : Type 0} (state : M → State) (most : ℕ) where
     }
 
     -- the line stops the serving
-    module _ (now : Option (List ℕ)) (new : DiskValue M) where
-      stops-at : (script : List ℕ) (after : List (List ℕ)) → lines_of script ≡ so.before ++ so.line ∷ after → (fault : LineFault)
-          → IsLineStopped state most mid now between new held number fault → StopsIn state most was now old new script fault
+    module _ (now : Option (List ℕ)) (new : D) where
+      stops-at : (script : List ℕ) (after : List (List ℕ)) → lines_of script ≡ so.before ++ so.line ∷ after → (fault : ServeFault)
+          → IsLineStopped Goes Stops most mid now between new held number fault → StopsIn Goes Stops most was now old new script fault
       stops-at script after parts (Line told) stopped = record {
         before = so.before;
         line = so.line;
@@ -146,23 +155,39 @@ module _ {M : Type 0} (state : M → State) (most : ℕ) where
         rest = stopped.rest;
         here = plays_line most held so.line (stopped.part ++ stopped.event ∷ stopped.rest) so.stands stopped.plays;
         breaks =
-            breaks-more state was mid now old between new so.answered.events stopped.part so.answered.text stopped.event so.answered.tells
+            breaks-more Goes packet laws was mid now old between new so.answered.events stopped.part so.answered.text stopped.event
+            so.answered.tells
             so.answered.written stopped.breaks;
       }
+      stops-at script after parts Player stopped = record {
+        before = so.before;
+        line = so.line;
+        after = after;
+        parts = parts;
+        first = so.answered.events;
+        whole = so.answered.plays;
+        part = stopped.part;
+        event = stopped.event;
+        rest = stopped.rest;
+        here = plays_line most held so.line (stopped.part ++ stopped.event ∷ stopped.rest) so.stands stopped.plays;
+        gives_up =
+            gives-more Goes packet laws Stops was mid now old between new so.answered.events stopped.part so.answered.text stopped.event
+            so.answered.tells so.answered.written stopped.gives_up;
+      }
 
-      pub stops-ended : (more : List ℕ) (fault : LineFault) → IsLineStopped state most mid now between new held number fault
-          → StopsIn state most was now old new (read ++ 10 ∷ more) fault
+      pub stops-ended : (more : List ℕ) (fault : ServeFault) → IsLineStopped Goes Stops most mid now between new held number fault
+          → StopsIn Goes Stops most was now old new (read ++ 10 ∷ more) fault
       stops-ended more fault stopped = stops-at (read ++ 10 ∷ more) (lines_of more) (parts-ended more) fault stopped
 
       -- at the end of the input
-      stops-last : (fault : LineFault) → IsLineStopped state most mid now between new held number fault
-          → StopsIn state most was now old new read fault
+      stops-last : (fault : ServeFault) → IsLineStopped Goes Stops most mid now between new held number fault
+          → StopsIn Goes Stops most was now old new read fault
       stops-last fault stopped = stops-at read [] parts-last fault stopped
 
     -- a line is too long
     pub stops-long : (byte : ℕ) (more : List ℕ) → most ≤ 512 → (byte == 10) ≡ false → length held ≡ 1100
         → ((comment : List ℕ) → held ≡ codes "#" ++ comment → ⊥)
-        → StopsAtBadLine state most was mid old between (read ++ byte ∷ more) number
+        → StopsAtBadLine Goes Stops most was mid old between (read ++ byte ∷ more) number
     stops-long byte more small other full none =
         let is = held_is so.stands in
         let line = so.line ++ byte ∷ [] in
@@ -188,34 +213,38 @@ module _ {M : Type 0} (state : M → State) (most : ℕ) where
         held_is (inr (kept, comment, is_held, is_line)) = absurd (none kept is_held)
 
     -- more is read: all whole lines were answered
-    pub served-unread : StopsUnread state most was mid old between read
+    pub served-unread : StopsUnread Goes Stops most was mid old between read
     served-unread = record { before = so.before; line = so.line; parts = parts-last; answered = so.answered }
 
     -- the input was read to its end
     pub served-all : (left after : Option (List ℕ)) → Consumes left after read → IsAtEnd after
-        → (now : Option (List ℕ)) (new : DiskValue M) → IsAnswered state most mid now between new held
-        → IsServed state most was now old new left after
+        → (now : Option (List ℕ)) (new : D) → IsAnswered Goes Stops most mid now between new held
+        → IsServedBy Goes Stops most was now old new left after
     served-all left after taken end now new answered = record {
       script = read;
       all = all_of left after read taken end;
       at_end = end;
-      answered = subst (λ (l : List (List ℕ)). AreAnswered state most was now old new l) (sym parts-last) (answered-more now new answered);
+      answered = subst (λ (l : List (List ℕ)). AreAnswered Goes Stops most was now old new l) (sym parts-last) (answered-more now new
+          answered);
     }
 
     pub stopped-last : (left after : Option (List ℕ)) → Consumes left after read → IsAtEnd after
-        → (now : Option (List ℕ)) (new : DiskValue M) (fault : LineFault) → IsLineStopped state most mid now between new held number fault
-        → IsStopped state most was now old new left after fault
+        → (now : Option (List ℕ)) (new : D) (fault : ServeFault) → IsLineStopped Goes Stops most mid now between new held number fault
+        → IsStoppedBy Goes Stops most was now old new left after fault
     stopped-last left after taken end now new (Line told) stopped =
         (read, all_of left after read taken end, stops-last now new (Line told) stopped)
     stopped-last left after taken end now new Reader stopped = absurd stopped
     stopped-last left after taken end now new Writer stopped = (read, all_of left after read taken end, stops-last now new Writer stopped)
+    stopped-last left after taken end now new Player stopped = (read, all_of left after read taken end, stops-last now new Player stopped)
 
   -- the serving stopped, whatever stands behind what was read
-  pub stopped-in : (was now : Option (List ℕ)) (old new : DiskValue M) (left after : Option (List ℕ)) (read : List ℕ)
-      → Consumes left after read → (fault : LineFault) → ((more : List ℕ) → StopsIn state most was now old new (read ++ more) fault)
-      → IsStopped state most was now old new left after fault
+  pub stopped-in : (was now : Option (List ℕ)) (old new : D) (left after : Option (List ℕ)) (read : List ℕ)
+      → Consumes left after read → (fault : ServeFault) → ((more : List ℕ) → StopsIn Goes Stops most was now old new (read ++ more) fault)
+      → IsStoppedBy Goes Stops most was now old new left after fault
   stopped-in was now old new left after read taken (Line number) stops =
       let all = whole_of left after read taken in (read ++ all.0, all.1, stops all.0)
   stopped-in was now old new left after read taken Reader stops = absurd (stops [])
   stopped-in was now old new left after read taken Writer stops =
+      let all = whole_of left after read taken in (read ++ all.0, all.1, stops all.0)
+  stopped-in was now old new left after read taken Player stops =
       let all = whole_of left after read taken in (read ++ all.0, all.1, stops all.0)

@@ -4,7 +4,9 @@ pub mod Line
 pub mod Events
 pub mod Text
 pub mod Script
+pub mod Players
 pub mod Played
+pub mod DiskLaws
 pub mod Lifetimes
 pub mod PlayedLives
 pub mod Streams

@@ -1,5 +1,6 @@
 -- Events played on a disk.
 use Rattle.std.specs.Prelude.{◌≡◌, ◌≤◌, ℕ, ◌+◌, Bool, List, [], ◌∷◌, ◌++◌, length, Option}
+use Rattle.std.specs.Io.KnownBytes.{Appends}
 use Rattle.medium.specs.Medium.{State}
 use Rattle.bot_machine.specs.Books.{Book}
 use Rattle.bot_machine.specs.declared.event.Event.{Event}
@@ -23,14 +24,51 @@ pub record Answers {M : Type 0} (before after : State) (old : DiskValue M) (even
       × FitsDisk after new later
       × (later.ours ≡ book.ours)
 
--- it played them step by step, with answers of this text
-pub record Tells {M : Type 0} (state : M → State) (old : DiskValue M) (events : List Event)
-    (text : List ℕ) (new : DiskValue M)
-    : Type 0 where
-  pub answers : List Answer
-  pub refusals : List Bool
-  pub steps : StepsThrough state old events answers refusals new
-  pub told : text ≡ text_of events answers
+-- how a disk goes through events: step by step
+abbrev pub StepsOn : {M : Type 0} → (M → State) → DiskValue M → List Event → List Answer
+    → DiskValue M → Type 0
+StepsOn state old events answers new =
+    (refusals : List Bool) × StepsThrough state old events answers refusals new
+
+-- the most bytes of a packet of a disk
+abbrev pub packets_of : {M : Type 0} → DiskValue M → ℕ
+packets_of disk = disk.line.packet_size
+
+-- each event of a disk has an answer
+abbrev pub HasNoAnswer : {M : Type 0} → DiskValue M → Event → DiskValue M → Type 0
+HasNoAnswer old event new = ⊥
+
+-- how a player goes through events
+module _ {D : Type 0} (Goes : D → List Event → List Answer → D → Type 0) where
+  -- it played them, with answers of this text
+  pub record TellsBy (old : D) (events : List Event) (text : List ℕ) (new : D) : Type 0 where
+    pub answers : List Answer
+    pub goes : Goes old events answers new
+    pub told : text ≡ text_of events answers
+
+  -- It played events, whose answers were written, and then one more, whose answer was not written
+  -- whole.
+  pub record BreaksOffBy (was now : Option (List ℕ)) (old : D) (events : List Event) (event : Event)
+      (new : D) : Type 0 where
+    pub answers : List Answer
+    pub answer : Answer
+    pub goes : Goes old (events ++ event ∷ []) (answers ++ answer ∷ []) new
+    pub written : AppendsUpTo was now (text_of events answers) (line_for event answer)
+
+  -- It played events, whose answers were written, and had no answer to the next. Of that one
+  -- nothing was written.
+  pub record GivesUpBy (Stops : D → Event → D → Type 0) (was now : Option (List ℕ)) (old : D)
+      (events : List Event) (event : Event) (new : D) : Type 0 where
+    pub mid : D
+    pub text : List ℕ
+    pub tells : TellsBy old events text mid
+    pub written : Appends was now text
+    pub stops : Stops mid event new
+
+-- a disk played them step by step, with answers of this text
+abbrev pub Tells : {M : Type 0} → (M → State) → DiskValue M → List Event → List ℕ → DiskValue M
+    → Type 0
+Tells state old events text new = TellsBy (StepsOn state) old events text new
 
 -- it did, and left this medium
 pub record Leaves {M : Type 0} (state : M → State) (old : DiskValue M) (events : List Event)
@@ -40,15 +78,11 @@ pub record Leaves {M : Type 0} (state : M → State) (old : DiskValue M) (events
   pub tells : Tells state old events text new
   pub medium : new.unit.store.medium ≡ after
 
--- It played events, whose answers were written, and then one more, whose answer was not written
--- whole.
-pub record BreaksOff {M : Type 0} (state : M → State) (was now : Option (List ℕ))
-    (old : DiskValue M) (events : List Event) (event : Event) (new : DiskValue M) : Type 0 where
-  pub answers : List Answer
-  pub answer : Answer
-  pub refusals : List Bool
-  pub steps : StepsThrough state old (events ++ event ∷ []) (answers ++ answer ∷ []) refusals new
-  pub written : AppendsUpTo was now (text_of events answers) (line_for event answer)
+-- a disk broke off at an event
+abbrev pub BreaksOff : {M : Type 0} → (M → State) → Option (List ℕ) → Option (List ℕ) → DiskValue M
+    → List Event → Event → DiskValue M → Type 0
+BreaksOff state was now old events event new =
+    BreaksOffBy (StepsOn state) was now old events event new
 
 -- it did at one of these lines, and left this medium
 pub record BreaksOffAt {M : Type 0} (state : M → State) (was now : Option (List ℕ))

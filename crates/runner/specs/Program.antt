@@ -3,6 +3,7 @@ use Rattle.std.specs.Prelude.{◌≡◌, ◌⊎◌, ◌*◌, ℕ, Bool, true, fa
 use Rattle.std.specs.Prelude.{Option, Some, None}
 use Rattle.std.specs.Io.KnownBytes.{Appends, Keeps}
 use Rattle.medium.specs.Medium.{State}
+use Rattle.medium.specs.FileStory.{IsReadWhole}
 use Rattle.medium.specs.ImageFile as file
 use Rattle.medium.specs.ImageFile.{Copied, IsImage, fresh}
 use Rattle.medium.specs.Sim.{Sim}
@@ -62,8 +63,10 @@ migration_text false = ended (codes "already format 2")
 
 -- an image file was opened, and this is its medium before the first call
 pub record IsJustOpened (opened : Copied) : Type 0 where
-  pub is_fresh : opened ≡ fresh opened.bytes
+  pub is_fresh : opened ≡ fresh opened.file opened.bytes
   pub is_image : IsImage opened.bytes
+  -- it was locked, measured and read, and nothing else, and these are its bytes
+  pub is_read : IsReadWhole opened.bytes opened.file
 
 -- What was written then, and now.
 module _ (was now : Option (List ℕ)) where

@@ -1,17 +1,20 @@
--- What serving a disk line by line leaves: the disk, and what was written.
+-- What serving lines leaves: the player of their events, and what was written.
 use Rattle.std.specs.Prelude.{◌≡◌, ◌⊎◌, ◌==◌, ℕ, ◌+◌, min, false, List, [], ◌∷◌, ◌++◌, All}
 use Rattle.std.specs.Prelude.{codes, length, Option}
 use Rattle.std.specs.Io.KnownBytes.{Appends, Keeps, Consumes, IsAtEnd}
 use Rattle.medium.specs.Medium.{State}
 use Rattle.bot_machine.specs.Disk.{DiskValue}
 use Rattle.bot_machine.specs.declared.event.Event.{Event}
+use Rattle.bot_machine.specs.declared.event.Answer.{Answer}
 use Rattle.runner.specs.declared.line.ScriptKind.TheVariants.{OneLife}
 use Rattle.runner.specs.declared.serve.LineFault.{LineFault}
-use Rattle.runner.specs.declared.serve.LineFault.TheVariants.{Line, Reader, Writer}
+use Rattle.runner.specs.declared.serve.LineFault.TheVariants as fault
+use Rattle.runner.specs.declared.player.ServeFault.{ServeFault}
+use Rattle.runner.specs.declared.player.ServeFault.TheVariants.{Line, Reader, Writer, Player}
 use Rattle.runner.specs.Line.{IsScriptLine}
 use Rattle.runner.specs.Lines.{lines_of}
 use Rattle.runner.specs.Script.{LinePlays, Plays}
-use Rattle.runner.specs.Played.{Tells, BreaksOff}
+use Rattle.runner.specs.Played.{TellsBy, BreaksOffBy, GivesUpBy, StepsOn, HasNoAnswer}
 use Rattle.runner.specs.Streams.{IsAll}
 
 -- lines are counted from 1, up to 2^64 - 1
@@ -29,23 +32,33 @@ StandsFor held line = (held ≡ line)
 abbrev pub IsUnended : List ℕ → Type 0
 IsUnended line = All (λ byte. (byte == 10) ≡ false) line
 
--- Packets have at most so many bytes; the disk and what was written then, and now.
-module _ {M : Type 0} (state : M → State) (most : ℕ) (was now : Option (List ℕ))
-    (old new : DiskValue M) where
+-- How a player goes through events, and how it has no answer to one; packets have at most so many
+-- bytes; the player and what was written then, and now.
+module _ {D : Type 0} (Goes : D → List Event → List Answer → D → Type 0)
+    (Stops : D → Event → D → Type 0) (most : ℕ) (was now : Option (List ℕ)) (old new : D) where
   -- these lines were played step by step, and exactly the text of their answers was appended
   pub record AreAnswered (lines : List (List ℕ)) : Type 0 where
     pub events : List Event
     pub plays : Plays most lines events
     pub text : List ℕ
-    pub tells : Tells state old events text new
+    pub tells : TellsBy Goes old events text new
     pub written : Appends was now text
+
+  -- of these events a first part was played, and why no more
+  abbrev pub IsPlayedInPart : List Event → ServeFault → Type 0
+  IsPlayedInPart asked (Line number) = ⊥
+  IsPlayedInPart asked Reader = ⊥
+  IsPlayedInPart asked Writer = (events : List Event) × (event : Event) × (rest : List Event)
+      × (asked ≡ events ++ event ∷ rest) × BreaksOffBy Goes was now old events event new
+  IsPlayedInPart asked Player = (events : List Event) × (event : Event) × (rest : List Event)
+      × (asked ≡ events ++ event ∷ rest) × GivesUpBy Goes Stops was now old events event new
 
   -- One line was played, and exactly the text of its answers was appended.
   pub record IsAnswered (line : List ℕ) : Type 0 where
     pub events : List Event
     pub plays : LinePlays most line events
     pub text : List ℕ
-    pub tells : Tells state old events text new
+    pub tells : TellsBy Goes old events text new
     pub written : Appends was now text
 
   -- Of one line events were played, all of whose answers were written but the last one's: a first
@@ -55,14 +68,23 @@ module _ {M : Type 0} (state : M → State) (most : ℕ) (was now : Option (List
     pub event : Event
     pub rest : List Event
     pub plays : LinePlays most line (part ++ event ∷ rest)
-    pub breaks : BreaksOff state was now old part event new
+    pub breaks : BreaksOffBy Goes was now old part event new
+
+  -- Of one line events were played, whose answers were all written, and the next one has no answer.
+  pub record IsGivenUp (line : List ℕ) : Type 0 where
+    pub part : List Event
+    pub event : Event
+    pub rest : List Event
+    pub plays : LinePlays most line (part ++ event ∷ rest)
+    pub gives_up : GivesUpBy Goes Stops was now old part event new
 
   -- how one line, which has this number, stops the serving
-  abbrev pub IsLineStopped : List ℕ → ℕ → LineFault → Type 0
+  abbrev pub IsLineStopped : List ℕ → ℕ → ServeFault → Type 0
   IsLineStopped line number (Line told) = (told ≡ number) × (¬ IsScriptLine OneLife most line)
       × (new ≡ old) × Keeps was now
   IsLineStopped line number Reader = ⊥
   IsLineStopped line number Writer = IsBrokenOff line
+  IsLineStopped line number Player = IsGivenUp line
 
   -- the lines before one that is none of a script were answered, and this is its number
   pub record StopsAtBadLine (script : List ℕ) (number : ℕ) : Type 0 where
@@ -86,7 +108,21 @@ module _ {M : Type 0} (state : M → State) (most : ℕ) (was now : Option (List
     pub event : Event
     pub rest : List Event
     pub here : LinePlays most line (part ++ event ∷ rest)
-    pub breaks : BreaksOff state was now old (first ++ part) event new
+    pub breaks : BreaksOffBy Goes was now old (first ++ part) event new
+
+  -- the lines before one were answered, and that one in part: its next event has no answer
+  pub record StopsUnplayed (script : List ℕ) : Type 0 where
+    pub before : List (List ℕ)
+    pub line : List ℕ
+    pub after : List (List ℕ)
+    pub parts : lines_of script ≡ before ++ line ∷ after
+    pub first : List Event
+    pub whole : Plays most before first
+    pub part : List Event
+    pub event : Event
+    pub rest : List Event
+    pub here : LinePlays most line (part ++ event ∷ rest)
+    pub gives_up : GivesUpBy Goes Stops was now old (first ++ part) event new
 
   -- All lines of which the line feed was read were answered; behind them stands at most a part of
   -- another.
@@ -97,13 +133,14 @@ module _ {M : Type 0} (state : M → State) (most : ℕ) (was now : Option (List
     pub answered : AreAnswered before
 
   -- how serving these lines of a script stops early
-  abbrev pub StopsIn : List ℕ → LineFault → Type 0
+  abbrev pub StopsIn : List ℕ → ServeFault → Type 0
   StopsIn script (Line number) = StopsAtBadLine script number
   StopsIn script Reader = ⊥
   StopsIn script Writer = StopsUnwritten script
+  StopsIn script Player = StopsUnplayed script
 
   -- the input was read to its end, and each of its lines was answered
-  pub record IsServed (left after : Option (List ℕ)) : Type 0 where
+  pub record IsServedBy (left after : Option (List ℕ)) : Type 0 where
     pub script : List ℕ
     pub all : IsAll left script
     pub at_end : IsAtEnd after
@@ -111,11 +148,12 @@ module _ {M : Type 0} (state : M → State) (most : ℕ) (was now : Option (List
 
   -- How serving stops early. At any moment at which more is read, all lines of which the line feed
   -- is there were answered: it shows where the reader fails then.
-  abbrev pub IsStopped : Option (List ℕ) → Option (List ℕ) → LineFault → Type 0
-  IsStopped left after (Line number) =
+  abbrev pub IsStoppedBy : Option (List ℕ) → Option (List ℕ) → ServeFault → Type 0
+  IsStoppedBy left after (Line number) =
       (script : List ℕ) × IsAll left script × StopsAtBadLine script number
-  IsStopped left after Reader = (read : List ℕ) × Consumes left after read × StopsUnread read
-  IsStopped left after Writer = (script : List ℕ) × IsAll left script × StopsUnwritten script
+  IsStoppedBy left after Reader = (read : List ℕ) × Consumes left after read × StopsUnread read
+  IsStoppedBy left after Writer = (script : List ℕ) × IsAll left script × StopsUnwritten script
+  IsStoppedBy left after Player = (script : List ℕ) × IsAll left script × StopsUnplayed script
 
   -- These bytes were read, and all whole lines of them were answered. So much is held of the line
   -- behind them, which has this number.
@@ -130,10 +168,31 @@ module _ {M : Type 0} (state : M → State) (most : ℕ) (was now : Option (List
 
 -- A source may be asked for more at least where nothing waits: of the bytes that it has given from
 -- a beginning on, all lines with their line feed were answered, and this is written now.
+abbrev pub MayAsk : {D S : Type 0} (Goes : D → List Event → List Answer → D → Type 0)
+    (Stops : D → Event → D → Type 0) (most : ℕ) (was : Option (List ℕ)) (old : D)
+    (beginning : Option (List ℕ)) (left : S → Option (List ℕ))
+    (may_ask : S → Option (List ℕ) → Type 0) → Type 0
+MayAsk {D} {S} Goes Stops most was old beginning left may_ask =
+    (source : S) (now : Option (List ℕ)) (new : D) (read : List ℕ)
+    → Consumes beginning (left source) read → StopsUnread Goes Stops most was now old new read
+    → may_ask source now
+
+-- a disk was served
+module _ {M : Type 0} (state : M → State) (most : ℕ) (was now : Option (List ℕ))
+    (old new : DiskValue M) where
+  abbrev pub IsServed : Option (List ℕ) → Option (List ℕ) → Type 0
+  IsServed left after = IsServedBy (StepsOn state) HasNoAnswer most was now old new left after
+
+  abbrev pub IsStopped : Option (List ℕ) → Option (List ℕ) → LineFault → Type 0
+  IsStopped left after (fault.Line number) =
+      IsStoppedBy (StepsOn state) HasNoAnswer most was now old new left after (Line number)
+  IsStopped left after fault.Reader =
+      IsStoppedBy (StepsOn state) HasNoAnswer most was now old new left after Reader
+  IsStopped left after fault.Writer =
+      IsStoppedBy (StepsOn state) HasNoAnswer most was now old new left after Writer
+
 abbrev pub MayAskInTurn : {M S : Type 0} (state : M → State) (most : ℕ) (was : Option (List ℕ))
     (old : DiskValue M) (beginning : Option (List ℕ)) (left : S → Option (List ℕ))
     (may_ask : S → Option (List ℕ) → Type 0) → Type 0
-MayAskInTurn {M} {S} state most was old beginning left may_ask =
-    (source : S) (now : Option (List ℕ)) (new : DiskValue M) (read : List ℕ)
-    → Consumes beginning (left source) read → StopsUnread state most was now old new read
-    → may_ask source now
+MayAskInTurn state most was old beginning left may_ask =
+    MayAsk (StepsOn state) HasNoAnswer most was old beginning left may_ask

@@ -1,7 +1,7 @@
 //! The line that is being read.
 ghost use Rattle.std.specs.Prelude.{◌≡◌, ◌++◌, ◌∷◌, [], ◌≤◌, ◌+◌, ◌⊎◌, ℕ, List, OnOk, IfErr, codes, min, length};
 
-use crate::serve::LineFault;
+use crate::player::ServeFault;
 use arrayvec::ArrayVec;
 
 /// The most bytes of a line that is no comment: more than any line of a script has.
@@ -47,12 +47,12 @@ impl HeldLine {
     /// # Errors
     ///
     /// The number of a line that has more bytes than any line of a script.
-    pub(crate) fn hold(&mut self, byte: u8) -> Result<(), LineFault>
+    pub(crate) fn hold(&mut self, byte: u8) -> Result<(), ServeFault>
         ensures number { self.new.number ≡ self.old.number }
         ensures held { OnOk result ((self.new.bytes.items ≡ self.old.bytes.items ++ byte ∷ [])
             ⊎ ((self.new.bytes.items ≡ self.old.bytes.items)
             × ((comment : List ℕ) × (self.old.bytes.items ≡ codes "#" ++ comment)))) }
-        ensures too_long { IfErr result (λ fault. (fault ≡ LineFault.Line self.old.number)
+        ensures too_long { IfErr result (λ fault. (fault ≡ ServeFault.Line self.old.number)
             × (length self.old.bytes.items ≡ 1100)
             × ((comment : List ℕ) → self.old.bytes.items ≡ codes "#" ++ comment → ⊥)) }
     {
@@ -62,7 +62,7 @@ impl HeldLine {
         }
         match self.bytes.as_slice() {
             [b'#', ..] => Ok(()),
-            _ => Err(LineFault::Line(self.number)),
+            _ => Err(ServeFault::Line(self.number)),
         }
     }
 

@@ -2,8 +2,8 @@
 ghost use Rattle.std.specs.Prelude.{◌≡◌, ◌⊎◌, ◌↔◌, ℕ, List, IfOk, IfErr, IfSome, IfNone, OnOk};
 ghost use Rattle.log_layout.specs.Places.{new_shape, sectors_of};
 ghost use Rattle.recovery.specs.Formatted.{IsFormatCause, IsFormatted};
-ghost use Rattle.medium.specs.ImageFile.{IsImage, fresh};
-ghost use Rattle.runner.specs.Program.{AreImageSizes, IsMade, simulated};
+ghost use Rattle.medium.specs.ImageFile.{IsImage};
+ghost use Rattle.runner.specs.Program.{AreImageSizes, IsJustOpened, IsMade, simulated};
 
 use crate::read::{ReadFault, read_to_limit};
 use crate::refusal::Refusal;
@@ -83,8 +83,7 @@ pub(crate) fn open_image<R: Files<File = File> + AllocGlobal>(
     rt: &R,
     path: &str,
 ) -> Result<FileMedium<File>, Refusal>
-    ensures opened { IfOk result (λ medium.
-        (medium ≡ fresh medium.bytes) × IsImage medium.bytes) }
+    ensures opened { IfOk result IsJustOpened }
     ensures refused { IfErr result (λ refusal. (refusal ≡ Refusal.ImageLength)
         ⊎ ((refusal ≡ Refusal.File) ⊎ (refusal ≡ Refusal.NoMemory))) }
 {

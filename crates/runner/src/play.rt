@@ -8,16 +8,17 @@ ghost use Rattle.runner.specs.Events.{events_of};
 ghost use Rattle.runner.specs.Line.{IsScriptLine};
 ghost use Rattle.runner.specs.Lines.{lines_of};
 ghost use Rattle.runner.specs.Script.{LinePlays, Plays};
-ghost use Rattle.runner.specs.Played.{Tells, Leaves, BreaksOff, BreaksOffAt};
+ghost use Rattle.runner.specs.Played.{Tells, TellsBy, Leaves, BreaksOff, BreaksOffAt};
+ghost use Rattle.runner.specs.Served.{IsPlayedInPart};
 
 use crate::fault::{ScriptError, ScriptFault};
 use crate::line::{ScriptKind, ScriptLine, read_line};
 use crate::output::write_out;
 use crate::parts::Parts;
+use crate::player::{Player, ServeFault};
 use crate::text::event_line;
-use bot_machine::{Disk, PacketSize, answer_to};
+use bot_machine::{Disk, PacketSize};
 use medium::Medium;
-use std::io;
 use std::io::Write;
 
 /// Plays every line of a script, and writes the line of each answer at once.
@@ -53,7 +54,7 @@ fn play_line<M: Medium, W: Write>(
     size: PacketSize,
     line: &[u8],
     out: &mut W,
-) -> io::Result<()>
+) -> Result<(), ServeFault>
     requires good { IsScriptLine ScriptKind.OneLife (bytes_of size) line.now }
     requires packets { disk.old.line.packet_size ≡ bytes_of size }
     ensures played { OnOk result ((events : List Event) × (text : List ℕ) × LinePlays (bytes_of size) line.now events
@@ -68,22 +69,25 @@ fn play_line<M: Medium, W: Write>(
 }
 
 /// Plays the events of a line, and writes the line of each answer at once.
-pub(crate) fn play_asked<M: Medium, W: Write>(
-    disk: &mut Disk<M>,
+pub(crate) fn play_asked<P: Player, W: Write>(
+    player: &mut P,
     asked: ScriptLine,
     out: &mut W,
-) -> io::Result<()>
-    requires within { AreWithin disk.old.line.packet_size (events_of asked) }
+) -> Result<(), ServeFault>
+    requires within { AreWithin (P.most player.old) (events_of asked) }
     ensures played { OnOk result ((text : List ℕ)
-        × Tells M.state disk.old (events_of asked) text disk.new
+        × TellsBy P.goes player.old (events_of asked) text player.new
         × Appends (W.contents out.old) (W.contents out.new) text) }
-    ensures cut_short { OnErr result ((events : List Event) × (event : Event) × (rest : List Event)
-        × (events_of asked ≡ events ++ event ∷ rest)
-        × BreaksOff M.state (W.contents out.old) (W.contents out.new) disk.old events event disk.new) }
+    ensures cut_short { IfErr result (IsPlayedInPart P.goes P.stops (P.most player.old)
+        (W.contents out.old) (W.contents out.new) player.old player.new (events_of asked)) }
 {
     for event in asked {
-        let answer = answer_to(disk, &event);
-        write_out(out, event_line(&event, &answer).as_slice())?;
+        let Some(answer) = player.play(&event) else {
+            return Err(ServeFault::Player);
+        };
+        if write_out(out, event_line(&event, &answer).as_slice()).is_err() {
+            return Err(ServeFault::Writer);
+        }
     }
     Ok(())
 }

@@ -19,6 +19,11 @@ pub enum ReadFault {
 }
 
 /// Reads to the end, if that comes after at most so many bytes.
+///
+/// # Errors
+///
+/// `TooLong` where more bytes come than the limit, `NoMemory`, or `Reader` where the reader failed:
+/// whichever is met first.
 pub fn read_to_limit<R: Read>(
     alloc: Global,
     reader: &mut R,

@@ -3,13 +3,14 @@ ghost use Rattle.std.specs.Prelude.{◌≡◌, ◌⊎◌, ◌++◌, ◌<◌, ℕ
 ghost use Rattle.std.specs.Io.{ReadsAtMost};
 ghost use Rattle.std.specs.Io.KnownBytes.{ReadConsumes};
 ghost use Rattle.bot_machine.specs.PacketBytes.{bytes_of};
-ghost use Rattle.bot_machine.specs.Disk.{DiskValue};
-ghost use Rattle.runner.specs.Served.{HasServed, IsAnswered, IsLineStopped, IsServed, IsStopped, MayAskInTurn, StopsIn};
+ghost use Rattle.runner.specs.Served.{HasServed, IsAnswered, IsLineStopped, IsServed, IsServedBy};
+ghost use Rattle.runner.specs.Served.{IsStopped, IsStoppedBy, MayAsk, MayAskInTurn, StopsIn};
 ghost use Rattle.runner.specs.Line.{IsScriptLine};
 
 use crate::held::HeldLine;
 use crate::line::{ScriptKind, read_line};
 use crate::play::play_asked;
+use crate::player::{Player, ServeFault};
 use bot_machine::{Disk, PacketSize};
 use medium::Medium;
 use std::io;
@@ -39,6 +40,10 @@ pub trait LineSource<W: Write> {
     ghost may_ask: { Self → Option (List ℕ) → Type 0 };
 
     /// Reads some bytes, as `Read::read` does.
+    ///
+    /// # Errors
+    ///
+    /// Those of the source. `Interrupted` is tried again.
     fn read_behind(&mut self, answered: &W, buf: &mut [u8]) -> io::Result<usize>
         requires { may_ask self.old (W.contents answered.now) }
         ensures bound { ReadsAtMost result buf.new }
@@ -58,6 +63,10 @@ impl<R: Read, W: Write> LineSource<W> for R {
 
 /// Plays the lines of a script on a disk, and writes the line of each answer by one write, before
 /// more is read.
+///
+/// # Errors
+///
+/// Those of `LineFault`, whichever is met first. What was answered stays.
 pub fn serve_lines<M: Medium, R: Read, W: Write>(
     disk: &mut Disk<M>,
     reader: &mut R,
@@ -74,6 +83,10 @@ pub fn serve_lines<M: Medium, R: Read, W: Write>(
 /// Serves a disk as `serve_lines` does, over any source that may be asked for more at least where
 /// nothing waits for an answer. So at each read all lines of which the line feed was read are
 /// answered.
+///
+/// # Errors
+///
+/// Those of `serve_lines`.
 pub fn serve_source<M: Medium, S: LineSource<W>, W: Write>(
     disk: &mut Disk<M>,
     source: &mut S,
@@ -86,54 +99,71 @@ pub fn serve_source<M: Medium, S: LineSource<W>, W: Write>(
     ensures stopped { IfErr result (IsStopped M.state disk.old.line.packet_size (W.contents out.old)
         (W.contents out.new) disk.old disk.new (S.left source.old) (S.left source.new)) }
 {
-    let size = packet_size(disk);
+    match serve_player(disk, source, out) {
+        Ok(()) => Ok(()),
+        Err(ServeFault::Line(number)) => Err(LineFault::Line(number)),
+        Err(ServeFault::Reader) => Err(LineFault::Reader),
+        Err(ServeFault::Writer) => Err(LineFault::Writer),
+        Err(ServeFault::Player) => unreachable!(),
+    }
+}
+
+/// Serves any player as `serve_source` does a disk, until it has no answer to an event.
+///
+/// # Errors
+///
+/// Those of `serve_source`, and `Player` where the player had no answer to an event.
+pub fn serve_player<P: Player, S: LineSource<W>, W: Write>(
+    player: &mut P,
+    source: &mut S,
+    out: &mut W,
+) -> Result<(), ServeFault>
+    requires asks { MayAsk P.goes P.stops (P.most player.old) (W.contents out.old) player.old
+        (S.left source.old) S.left S.may_ask }
+    ensures served { OnOk result (IsServedBy P.goes P.stops (P.most player.old) (W.contents out.old)
+        (W.contents out.new) player.old player.new (S.left source.old) (S.left source.new)) }
+    ensures stopped { IfErr result (IsStoppedBy P.goes P.stops (P.most player.old)
+        (W.contents out.old) (W.contents out.new) player.old player.new (S.left source.old)
+        (S.left source.new)) }
+{
+    let size = player.longest_packet();
     let mut line = HeldLine::new();
     let mut chunk = [0; 4096];
     'reads: for _ in 0..u64::MAX {
         match source.read_behind(out, &mut chunk) {
-            Ok(0) => return answer_line(disk, size, &line, out),
-            Ok(count) => serve_bytes(disk, size, &chunk[..count], &mut line, out)?,
+            Ok(0) => return answer_line(player, size, &line, out),
+            Ok(count) => serve_bytes(player, size, &chunk[..count], &mut line, out)?,
             Err(error) if error.kind() == ErrorKind::Interrupted => {}
-            Err(_) => return Err(LineFault::Reader),
+            Err(_) => return Err(ServeFault::Reader),
         }
     }
-    Err(LineFault::Reader)
-}
-
-// How many bytes the packets of a disk have at most.
-fn packet_size<M: Medium>(disk: &Disk<M>) -> PacketSize
-    ensures { bytes_of result ≡ disk.now.line.packet_size }
-{
-    match disk.packet_size() {
-        64 => PacketSize::Full64,
-        _ => PacketSize::High512,
-    }
+    Err(ServeFault::Reader)
 }
 
 // Answers each line that these bytes end, and holds what stands behind the last of them.
-fn serve_bytes<M: Medium, W: Write>(
-    disk: &mut Disk<M>,
+fn serve_bytes<P: Player, W: Write>(
+    player: &mut P,
     size: PacketSize,
     bytes: &[u8],
     line: &mut HeldLine,
     out: &mut W,
-) -> Result<(), LineFault>
-    requires packets { disk.old.line.packet_size ≡ bytes_of size }
-    ensures goes_on { OnOk result ((was : Option (List ℕ)) (first : DiskValue M) (read : List ℕ)
-        → HasServed M.state (bytes_of size) was (W.contents out.old) first disk.old
+) -> Result<(), ServeFault>
+    requires packets { P.most player.old ≡ bytes_of size }
+    ensures goes_on { OnOk result ((was : Option (List ℕ)) (first : P.row.Denot) (read : List ℕ)
+        → HasServed P.goes P.stops (bytes_of size) was (W.contents out.old) first player.old
         line.old.bytes.items line.old.number read
-        → HasServed M.state (bytes_of size) was (W.contents out.new) first disk.new
+        → HasServed P.goes P.stops (bytes_of size) was (W.contents out.new) first player.new
         line.new.bytes.items line.new.number (read ++ bytes.now)) }
     ensures stops { IfErr result (λ fault.
-        (was : Option (List ℕ)) (first : DiskValue M) (read more : List ℕ)
-        → HasServed M.state (bytes_of size) was (W.contents out.old) first disk.old
+        (was : Option (List ℕ)) (first : P.row.Denot) (read more : List ℕ)
+        → HasServed P.goes P.stops (bytes_of size) was (W.contents out.old) first player.old
         line.old.bytes.items line.old.number read
-        → StopsIn M.state (bytes_of size) was (W.contents out.new) first disk.new
+        → StopsIn P.goes P.stops (bytes_of size) was (W.contents out.new) first player.new
         (read ++ bytes.now ++ more) fault) }
 {
     for byte in bytes {
         if *byte == b'\n' {
-            answer_line(disk, size, line, out)?;
+            answer_line(player, size, line, out)?;
             line.begin_next();
         } else {
             line.hold(*byte)?;
@@ -143,23 +173,21 @@ fn serve_bytes<M: Medium, W: Write>(
 }
 
 // Plays the line that is held, and writes the line of each answer.
-fn answer_line<M: Medium, W: Write>(
-    disk: &mut Disk<M>,
+fn answer_line<P: Player, W: Write>(
+    player: &mut P,
     size: PacketSize,
     line: &HeldLine,
     out: &mut W,
-) -> Result<(), LineFault>
-    requires packets { disk.old.line.packet_size ≡ bytes_of size }
-    ensures answered { OnOk result (IsAnswered M.state (bytes_of size) (W.contents out.old)
-        (W.contents out.new) disk.old disk.new line.now.bytes.items) }
-    ensures stopped { IfErr result (IsLineStopped M.state (bytes_of size) (W.contents out.old)
-        (W.contents out.new) disk.old disk.new line.now.bytes.items line.now.number) }
+) -> Result<(), ServeFault>
+    requires packets { P.most player.old ≡ bytes_of size }
+    ensures answered { OnOk result (IsAnswered P.goes P.stops (bytes_of size) (W.contents out.old)
+        (W.contents out.new) player.old player.new line.now.bytes.items) }
+    ensures stopped { IfErr result (IsLineStopped P.goes P.stops (bytes_of size)
+        (W.contents out.old) (W.contents out.new) player.old player.new line.now.bytes.items
+        line.now.number) }
 {
     let Some(asked) = read_line(ScriptKind::OneLife, size, line.as_slice()) else {
-        return Err(LineFault::Line(line.number()));
+        return Err(ServeFault::Line(line.number()));
     };
-    match play_asked(disk, asked, out) {
-        Ok(()) => Ok(()),
-        Err(_) => Err(LineFault::Writer),
-    }
+    play_asked(player, asked, out)
 }

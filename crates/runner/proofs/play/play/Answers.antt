@@ -9,7 +9,9 @@ use Rattle.runner.specs.Script.{LinePlays}
 use Rattle.runner.proofs.InTurn.{given-start, given-more, given-all, given-part}
 use Rattle.runner.proofs.Known.{Appends-none, Appends-more}
 use Rattle.runner.proofs.Options.{on_ok, on_err}
-use Rattle.runner.proofs.Runs.{packets_stay, tells-none, tells-more, breaks-more}
+use Rattle.runner.specs.DiskLaws.{disk_plays}
+use Rattle.runner.specs.Played.{StepsOn, packets_of}
+use Rattle.runner.proofs.Telling.{most_stays, tells-none, tells-more, breaks-more}
 use Rattle.runner.proofs.play.play.Goals as goal
 
 pub loop-line-init : goal.loop-line-init
@@ -21,7 +23,7 @@ loop-line-init g c =
       so_far = (
         [],
         [],
-        tells-none g.M.Medium.state c.args.disk,
+        tells-none (StepsOn g.M.Medium.state) packets_of (disk_plays g.M.Medium.state) c.args.disk,
         given-start (LinePlays (bytes_of c.args.size)) (lines_of c.args.script.now) left same,
         Appends-none (g.W.Write.contents c.args.out.now),
       );
@@ -34,7 +36,8 @@ play_line-requires g c =
     record {
       good = left 0 [] (omega arith);
       packets =
-          packets_stay g.M.Medium.state c.loop-line.invariant.so_far.0 told.answers told.refusals c.args.disk c.loop-line.disk told.steps
+          most_stays (StepsOn g.M.Medium.state) packets_of (disk_plays g.M.Medium.state) c.args.disk c.loop-line.disk
+          c.loop-line.invariant.so_far.0 c.loop-line.invariant.so_far.1 told
           ∙ c.requires.packets;
     }
 
@@ -50,7 +53,8 @@ loop-line-preserved g c =
       so_far = (
         so.0 ++ here.0,
         so.1 ++ here.1,
-        tells-more state c.args.disk c.loop-line.disk c.play_line.new.disk so.0 here.0 so.1 here.1 so.2 here.3,
+        tells-more (StepsOn state) packets_of (disk_plays state) c.args.disk c.loop-line.disk c.play_line.new.disk so.0 here.0 so.1 here.1
+            so.2 here.3,
         given-more (LinePlays (bytes_of c.args.size)) (lines_of c.args.script.now) (parts_left c.loop-line.line-iterator)
             (parts_left c.next.new.self) c.in-Some.line.now c.in-Some.ensures.steps so.0 here.0 so.3 here.2,
         Appends-more (contents c.args.out.now) (contents c.loop-line.out) (contents c.play_line.new.out) so.1 here.1 so.4 here.4,
@@ -85,7 +89,8 @@ returns-then-is_err-clause-cut_short g c =
             (lines_of c.args.script.now) (parts_left c.loop-line.line-iterator) (parts_left c.next.new.self) c.in-Some.line.now
             c.in-Some.ensures.steps so.0 here.0 here.1 here.2 so.3 here.3 (λ k d lt. left (suc k) d (omega (arith, lt)));
         new = c.play_line.new.disk;
-        breaks = breaks-more state (contents c.args.out.now) (contents c.loop-line.out) (contents c.play_line.new.out) c.args.disk
+        breaks = breaks-more (StepsOn state) packets_of (disk_plays state) (contents c.args.out.now) (contents c.loop-line.out) (contents
+            c.play_line.new.out) c.args.disk
             c.loop-line.disk c.play_line.new.disk so.0 here.0 so.1 here.1 so.2 so.4 here.4;
         medium = sym c.into_medium.ensures;
       },

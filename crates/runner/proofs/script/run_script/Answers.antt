@@ -3,7 +3,7 @@ use Rattle.std.proofs.KnownBytes.{Keeps-refl}
 use Rattle.bot_machine.specs.Exchange.{Line}
 use Rattle.bot_machine.specs.PacketBytes.{bytes_of}
 use Rattle.runner.proofs.OneLife.{is_played, is_cut_short}
-use Rattle.runner.proofs.Options.{if_ok, if_err}
+use Rattle.runner.proofs.Options.{if_ok, if_err, match_result}
 use Rattle.runner.proofs.NoScript.{of_one_life}
 use Rattle.runner.proofs.script.run_script.Goals as goal
 
@@ -48,3 +48,9 @@ returns-in-Err-clause-refused g c =
     let text = g.W.Write.contents c.args.out.now in
     of_one_life g.M.Medium.state (bytes_of c.args.size) (g.R.Read.remaining c.args.script.now) text c.args.medium c.in-Err.fault
     c.in-Err.ensures.refused
+
+-- a script that was played was read to its end
+pub returns-in-Ok-start_with-clause-taken : goal.returns-in-Ok-start_with-clause-taken
+returns-in-Ok-start_with-clause-taken g c =
+    match_result c.play.result (λ medium. c.in-Ok.ensures.taken) (λ error cut. rw (cut.0) c.in-Ok.ensures.taken)
+    c.play.ensures.cut_short

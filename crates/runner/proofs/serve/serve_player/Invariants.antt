@@ -2,12 +2,13 @@ use Rattle.std.proofs.Common.{ℕ, List}
 use Rattle.std.specs.Io.KnownBytes.{Consumes}
 use Rattle.bot_machine.specs.PacketBytes.{bytes_of}
 use Rattle.runner.specs.Served.{HasServed}
-use Rattle.runner.proofs.serve.serve_source.Given as goal
+use Rattle.runner.proofs.serve.serve_player.Given as goal
 
 -- what was read so far was served
 abbrev pub invariant-reads : goal.invariant-reads
 invariant-reads g l = record {
   so_far : (read : List ℕ) × Consumes (g.S.LineSource.left l.fn.source) (g.S.LineSource.left l.source) read
-      × HasServed g.M.Medium.state (bytes_of l.size) (g.W.Write.contents l.fn.out) (g.W.Write.contents l.out) l.fn.disk l.disk
+      × HasServed g.P.Player.goes g.P.Player.stops (bytes_of l.size) (g.W.Write.contents l.fn.out) (g.W.Write.contents l.out) l.fn.player
+      l.player
       l.line.bytes.items l.line.number read;
 }
