@@ -1,0 +1,74 @@
+-- A disk over a file plays events.
+use Rattle.std.specs.Prelude.{◌≡◌, ℕ, suc, true, Bool, List, [], ◌∷◌, ◌++◌, length}
+use Rattle.std.proofs.Common.{inl, inr, refl, ap, ◌∙◌, subst}
+use Rattle.bot_machine.specs.declared.event.Event.{Event}
+use Rattle.bot_machine.specs.declared.event.Event.TheVariants as event
+use Rattle.bot_machine.specs.declared.event.Answer.{Answer}
+use Rattle.device_file.specs.Asked.{Told}
+use Rattle.runner.specs.Played.{packets_of}
+use Rattle.runner.specs.Players.{IsPlayer}
+use Rattle.live.specs.Missing.{DiskOn}
+use Rattle.live.specs.Playing.{Prepares, PreparesPacket, Plays, AnswersThrough}
+
+module _ {D : Type 0} (told : D → Told) (holds : D → ℕ → List ℕ → Type 0)
+    (refuses : D → ℕ → ℕ → Type 0) where
+  abbrev Through : DiskOn D → List Event → List Answer → DiskOn D → Type 0
+  Through = AnswersThrough told holds refuses
+
+  through-append : (first rest : List Event) (said more : List Answer) (old mid new : DiskOn D)
+      → Through old first said mid → Through mid rest more new
+      → Through old (first ++ rest) (said ++ more) new
+  through-append [] rest [] more old mid new done next =
+      subst (λ (d : DiskOn D). Through d rest more new) done next
+  through-append (event ∷ first) rest (answer ∷ said) more old mid new done next =
+      (done.0, done.1, through-append first rest said more done.0 mid new done.2 next)
+  through-append [] rest (a ∷ said) more old mid new done next = absurd done
+  through-append (e ∷ first) rest [] more old mid new done next = absurd done
+
+  packet_keeps : (old : DiskOn D) (packet : List ℕ) (new : DiskOn D)
+      → PreparesPacket told holds refuses old packet new → packets_of new ≡ packets_of old
+  packet_keeps old packet new (inl none) = ap (λ (d : DiskOn D). d.line.packet_size) none.1
+  packet_keeps old packet new (inr (first, count, wants, inl sees)) =
+      ap (λ (d : DiskOn D). d.line.packet_size) sees.others
+  packet_keeps old packet new (inr (first, count, wants, inr misses)) =
+      ap (λ (d : DiskOn D). d.line.packet_size) misses.1
+
+  -- the size of packets stays
+  pub prepared_keeps : (old : DiskOn D) (event : Event) (new : DiskOn D)
+      → Prepares told holds refuses old event new → packets_of new ≡ packets_of old
+  prepared_keeps old (event.Out packet) new prepared = packet_keeps old packet.items new prepared
+  prepared_keeps old event.In new same = ap (λ (d : DiskOn D). d.line.packet_size) same
+  prepared_keeps old (event.Setup packet) new same = ap (λ (d : DiskOn D). d.line.packet_size) same
+  prepared_keeps old event.Tick new same = ap (λ (d : DiskOn D). d.line.packet_size) same
+
+  plays_keeps : (old : DiskOn D) (event : Event) (answer : Answer) (good : Bool) (new : DiskOn D)
+      → Plays told holds refuses old event answer good new → packets_of new ≡ packets_of old
+  plays_keeps old event answer good new plays =
+      ap (λ (d : DiskOn D). d.line.packet_size) plays.plays.others
+      ∙ plays.plays.step.packets_stay ∙ prepared_keeps old event plays.ready plays.prepares
+
+  through_keeps : (events : List Event) (answers : List Answer) (old new : DiskOn D)
+      → Through old events answers new → packets_of new ≡ packets_of old
+  through_keeps [] [] old new done = ap (λ (d : DiskOn D). d.line.packet_size) done
+  through_keeps (event ∷ events) (answer ∷ answers) old new done =
+      through_keeps events answers done.0 new done.2
+      ∙ plays_keeps old event answer true done.0 done.1
+  through_keeps [] (a ∷ answers) old new done = absurd done
+  through_keeps (e ∷ events) [] old new done = absurd done
+
+  one_each : (events : List Event) (answers : List Answer) (old new : DiskOn D)
+      → Through old events answers new → length answers ≡ length events
+  one_each [] [] old new done = refl
+  one_each (event ∷ events) (answer ∷ answers) old new done =
+      ap suc (one_each events answers done.0 new done.2)
+  one_each [] (a ∷ answers) old new done = absurd done
+  one_each (e ∷ events) [] old new done = absurd done
+
+  pub file_plays : IsPlayer Through packets_of
+  file_plays = record {
+    none = λ d. refl;
+    through = λ a b c first rest said more done next.
+        through-append first rest said more a b c done next;
+    one_each = λ a b events answers done. one_each events answers a b done;
+    most_stays = λ a b events answers done. through_keeps events answers a b done;
+  }

@@ -1,0 +1,91 @@
+-- How a disk over a file goes through events.
+use Rattle.std.specs.Prelude.{◌≡◌, ◌⊎◌, ℕ, ◌*◌, ◌/◌, Bool, true, false, List, [], ◌∷◌, length}
+use Rattle.inlet.specs.Inlet.{AreHeld}
+use Rattle.window.specs.Window.{Window, mirror_of, ComesAfter, CoversDevice}
+use Rattle.mirror.specs.Parts as mirror
+use Rattle.scsi_unit.specs.Books.{Book}
+use Rattle.bot_machine.specs.Disk.{FitsDisk, IsStep, IsRearmed}
+use Rattle.bot_machine.specs.declared.event.Event.{Event}
+use Rattle.bot_machine.specs.declared.event.Event.TheVariants as event
+use Rattle.bot_machine.specs.declared.event.Answer.{Answer}
+use Rattle.device_file.specs.Asked.{Told}
+use Rattle.device_file.specs.Reads.{AreRead}
+use Rattle.file_window.specs.FileWindows.{state_of, is_well, GoesOn, Shows, Carries}
+use Rattle.live.specs.Missing.{DiskOn, medium_of, window_of, Wants, WantsNone}
+
+-- a device that was handed what was sent until the first moment, and any first part of what was
+-- sent since, and has carried out any part of the writes behind its last flush
+abbrev pub CoversParts : Window → Window → Type 0
+CoversParts old new = mirror.CoversParts (mirror_of old) (mirror_of new)
+
+-- what a window says of all calls of it that may come
+pub record Foresees (w : Window) : Type 0 where
+  pub covers : (new : Window) → ComesAfter w new → CoversDevice w new
+  pub parts : (new : Window) → ComesAfter w new → CoversParts w new
+
+-- What a file was asked, what its reads gave, and which of them it refused.
+module _ {D : Type 0} (told : D → Told) (holds : D → ℕ → List ℕ → Type 0)
+    (refuses : D → ℕ → ℕ → Type 0) where
+  -- So many sectors were read of the file, and exactly what it gave was shown to the window. Where
+  -- that is what the medium holds, the disk fits what it fitted.
+  pub record SeesRead (old : DiskOn D) (first count : ℕ) (new : DiskOn D) : Type 0 where
+    pub bytes : List ℕ
+    pub whole : length bytes ≡ 512 * count
+    pub read : AreRead (holds (medium_of old).file) first bytes
+    pub taken : Bool
+    pub shown : Shows first bytes taken (medium_of old) (medium_of new)
+    pub others : IsRearmed old new
+    pub fits : AreHeld (state_of (medium_of old)).content first (length bytes / 512) bytes
+        → (book : Book) → FitsDisk (state_of (medium_of old)) old book
+        → FitsDisk (state_of (medium_of new)) new book
+
+  -- the file refused to read them, and nothing was shown
+  abbrev pub MissesRead : DiskOn D → ℕ → ℕ → DiskOn D → Type 0
+  MissesRead old first count new = refuses (medium_of old).file first count × (new ≡ old)
+
+  -- before a packet to Bulk-Out: the sectors that it wants are read and shown, and no others
+  abbrev pub PreparesPacket : DiskOn D → List ℕ → DiskOn D → Type 0
+  PreparesPacket old packet new = (WantsNone old packet × (new ≡ old))
+      ⊎ ((first : ℕ) × (count : ℕ) × Wants old packet first count
+      × (SeesRead old first count new ⊎ MissesRead old first count new))
+
+  -- before any other event nothing happens
+  abbrev pub Prepares : DiskOn D → Event → DiskOn D → Type 0
+  Prepares old (event.Out packet) new = PreparesPacket old packet.items new
+  Prepares old event.In new = new ≡ old
+  Prepares old (event.Setup packet) new = new ≡ old
+  Prepares old event.Tick new = new ≡ old
+
+  -- An event is played, in which the file is asked for nothing. Then it is asked for exactly what
+  -- waits, in order: it carries that out, or refuses a call, behind which it is asked for nothing.
+  pub record PlaysReady (old : DiskOn D) (event : Event) (answer : Answer) (new : DiskOn D)
+      : Type 0 where
+    pub played : DiskOn D
+    pub step : IsStep (state_of (medium_of old)) (state_of (medium_of played)) old event answer
+        played
+    pub follows : GoesOn (medium_of old) (medium_of played)
+    -- wherever among these calls the file is, a cut of it leaves what a cut at some moment could,
+    pub covers : CoversDevice (window_of old) (window_of played)
+    -- whichever of the writes behind its last synchronising it has carried out
+    pub parts : CoversParts (window_of old) (window_of played)
+    pub carried : Carries told (medium_of played) (medium_of new)
+    pub others : IsRearmed played new
+
+  -- one event, and whether the file carried out all that waited behind it
+  pub record Plays (old : DiskOn D) (event : Event) (answer : Answer) (good : Bool)
+      (new : DiskOn D) : Type 0 where
+    pub ready : DiskOn D
+    pub prepares : Prepares old event ready
+    pub plays : PlaysReady ready event answer new
+    pub is_good : is_well (medium_of new).fault ≡ good
+
+  -- Each event is played, and all that it sent was carried out before its answer was given.
+  abbrev pub AnswersThrough : DiskOn D → List Event → List Answer → DiskOn D → Type 0
+  AnswersThrough old [] [] new = new ≡ old
+  AnswersThrough old (event ∷ events) (answer ∷ answers) new =
+      (mid : DiskOn D) × Plays old event answer true mid × AnswersThrough mid events answers new
+  AnswersThrough old events answers new = ⊥
+
+  -- an event has no answer: the file refused a call that it sent
+  abbrev pub IsUnanswered : DiskOn D → Event → DiskOn D → Type 0
+  IsUnanswered old event new = (answer : Answer) × Plays old event answer false new
