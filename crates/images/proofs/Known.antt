@@ -1,5 +1,5 @@
 -- What a writer holds, where it is known.
-use Rattle.std.proofs.Common.{ℕ, List, [], ◌++◌, Option, Some, None, sym, ap, ◌∙◌, append_assoc, append-nil}
+use Rattle.std.proofs.Common.{ℕ, List, [], ◌++◌, Option, Some, None, refl, sym, ap, ◌∙◌, append_assoc, append-nil}
 use Rattle.std.specs.Io.KnownBytes.{Appends, Keeps}
 
 pub Appends-none : (old : Option (List ℕ)) → Appends old old []
@@ -18,3 +18,7 @@ Appends-kept None mid new text first kept = tt
 Appends-kept (Some old) None new text first kept = absurd first
 Appends-kept (Some old) (Some mid) None text first kept = absurd kept
 Appends-kept (Some old) (Some mid) (Some new) text first kept = kept ∙ first
+
+pub Keeps-same : (old : Option (List ℕ)) → Keeps old old
+Keeps-same None = tt
+Keeps-same (Some bytes) = refl

@@ -1,6 +1,11 @@
 pub mod NewImage
 pub mod Numbers
 pub mod Streams
+pub mod Opened
+pub mod Showing
+pub mod Migrating
+pub mod Exporting
+pub mod Importing
 pub mod Status
 pub mod Task
 pub mod Program

@@ -8,21 +8,22 @@ use Rattle.device_file.specs.Asked.{begun}
 use Rattle.device_file.specs.FileValue.{FileValue}
 use Rattle.device_file.specs.declared.fault.FileFault.{FileFault}
 use Rattle.images.specs.NewImage.{IsAskedToBe}
-use Rattle.images.specs.Streams.{AppendsSome}
+use Rattle.images.specs.Streams.{AppendsSome, ended}
+use Rattle.images.specs.Opened.{IsOpened, IsOpenedAlone, HasFirst}
+use Rattle.images.specs.Showing.{IsShown, IsNotShown}
+use Rattle.images.specs.Migrating.{IsMigratedOn, IsNotMigratedOn, migration_text}
 use Rattle.images.specs.Task.{Wanted, Asks}
-use Rattle.images.specs.Task.Wanted.{Help, Version, Make}
+use Rattle.images.specs.Task.Wanted.{Help, Version, Show, Migrate, Make}
+use Rattle.device_file.specs.declared.opening.FirstSectors.{FirstSectors}
 use Rattle.images.specs.declared.refusal.Refusal.{Refusal}
 use Rattle.images.specs.declared.refusal.Refusal.TheVariants as refused
 
--- a text and a line feed
-abbrev pub ended : List ℕ → List ℕ
-ended text = text ++ 10 ∷ []
-
 abbrev pub help_text : List ℕ
 help_text = ended (codes "usbdisk_image make IMAGE --blocks N --slots K --format 1|2 [--replace]")
+    ++ ended (codes "usbdisk_image show IMAGE") ++ ended (codes "usbdisk_image migrate IMAGE")
 
 abbrev pub version_text : List ℕ
-version_text = ended (codes "usbdisk_image 0.9")
+version_text = ended (codes "usbdisk_image 0.10")
 
 abbrev pub made_text : List ℕ
 made_text = ended (codes "made")
@@ -105,16 +106,74 @@ module _ (was now : Option (List ℕ)) (back : Option FileValue) where
       ⊎ (HasNoFile blocks slots refusal ⊎ (IsMakeStopped format blocks slots refusal
       ⊎ IsMakeUntold format blocks slots refusal))
 
+  -- no image file was had: none was opened, or none of its sectors was read
+  pub record HasNoImage (refusal : Refusal) : Type 0 where
+    pub cause : ((back ≡ None) × IsUnmade refusal) ⊎ IsOpenedAlone back refusal
+    pub kept : Keeps was now
+
+  -- an image file was opened and asked for nothing, and what is in it was told
+  pub record IsShow : Type 0 where
+    pub first : FirstSectors
+    pub opened : IsOpened back first
+    pub shown : IsShown first was now
+
+  -- it was not, or not all of it
+  pub record IsOpenedNotShown (refusal : Refusal) : Type 0 where
+    pub first : FirstSectors
+    pub opened : IsOpened back first
+    pub not_shown : IsNotShown first was now refusal
+
+  abbrev pub IsShowRefused : Refusal → Type 0
+  IsShowRefused refusal = HasNoImage refusal ⊎ IsOpenedNotShown refusal
+
+  -- an image file was opened and brought to format 2, and exactly what is told of it was written
+  pub record IsMigration : Type 0 where
+    pub file : FileValue
+    pub given : back ≡ Some file
+    pub first : FirstSectors
+    pub has : HasFirst file.size first
+    pub was_one : Bool
+    pub migrated : IsMigratedOn first begun file.told was_one
+    pub written : Appends was now (migration_text was_one)
+
+  -- it was, but not all of that was written
+  pub record IsMigrationUntold (refusal : Refusal) : Type 0 where
+    pub file : FileValue
+    pub given : back ≡ Some file
+    pub first : FirstSectors
+    pub has : HasFirst file.size first
+    pub was_one : Bool
+    pub migrated : IsMigratedOn first begun file.told was_one
+    pub failed : refusal ≡ refused.Streams
+    pub written : AppendsSome was now (migration_text was_one)
+
+  -- it was not
+  pub record IsOpenedNotMigrated (refusal : Refusal) : Type 0 where
+    pub file : FileValue
+    pub given : back ≡ Some file
+    pub first : FirstSectors
+    pub has : HasFirst file.size first
+    pub not_migrated : IsNotMigratedOn first begun file.told refusal
+    pub kept : Keeps was now
+
+  abbrev pub IsMigrationRefused : Refusal → Type 0
+  IsMigrationRefused refusal = HasNoImage refusal
+      ⊎ (IsOpenedNotMigrated refusal ⊎ IsMigrationUntold refusal)
+
   -- what was asked for was done
   abbrev pub HasDone : Wanted → Type 0
   HasDone Help = IsTold help_text
   HasDone Version = IsTold version_text
+  HasDone (Show image) = IsShow
+  HasDone (Migrate image) = IsMigration
   HasDone (Make image format blocks slots replace) = IsMake format blocks slots
 
   -- it was not, and this is why
   abbrev pub HasNotDone : Wanted → Refusal → Type 0
   HasNotDone Help refusal = IsUntold help_text refusal
   HasNotDone Version refusal = IsUntold version_text refusal
+  HasNotDone (Show image) refusal = IsShowRefused refusal
+  HasNotDone (Migrate image) refusal = IsMigrationRefused refusal
   HasNotDone (Make image format blocks slots replace) refusal =
       IsMakeRefused format blocks slots refusal
 

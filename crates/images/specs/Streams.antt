@@ -1,6 +1,10 @@
 -- The bytes of a writer, where they are known.
-use Rattle.std.specs.Prelude.{◌≡◌, ◌<◌, ◌++◌, ℕ, List, length, Option}
+use Rattle.std.specs.Prelude.{◌≡◌, ◌<◌, ◌++◌, ◌∷◌, [], ℕ, List, length, Option}
 use Rattle.std.specs.Io.KnownBytes.{Appends}
+
+-- a text and a line feed
+abbrev pub ended : List ℕ → List ℕ
+ended text = text ++ 10 ∷ []
 
 -- a first part of these bytes was written, but not all of them
 pub record AppendsSome (was now : Option (List ℕ)) (bytes : List ℕ) : Type 0 where

@@ -10,6 +10,8 @@ use Rattle.images.specs.declared.task.Task.TheVariants as task
 pub data Wanted : Type 0 where
   Help : Wanted
   Version : Wanted
+  Show : List ℕ → Wanted
+  Migrate : List ℕ → Wanted
   Make : List ℕ → LogFormat → ℕ → ℕ → Bool → Wanted
 
 -- a word for a file does not begin with a hyphen
@@ -42,10 +44,17 @@ abbrev pub IsMakeLine : List (List ℕ) → Type 0
 IsMakeLine words = (image : List ℕ) × (format : LogFormat) × (blocks : ℕ) × (slots : ℕ)
     × (replace : Bool) × AreMakeWords words image format blocks slots replace
 
+-- a command's name, and a word for the image
+pub record AreImageWords (name : List ℕ) (words : List (List ℕ)) (image : List ℕ) : Type 0 where
+  pub words_are : words ≡ name ∷ image ∷ []
+  pub image_word : IsFileWord image
+
 -- the words ask for this
 abbrev pub Asks : List (List ℕ) → Wanted → Type 0
 Asks words Help = words ≡ codes "--help" ∷ []
 Asks words Version = words ≡ codes "--version" ∷ []
+Asks words (Show image) = AreImageWords (codes "show") words image
+Asks words (Migrate image) = AreImageWords (codes "migrate") words image
 Asks words (Make image format blocks slots replace) =
     AreMakeWords words image format blocks slots replace
 
@@ -53,4 +62,6 @@ Asks words (Make image format blocks slots replace) =
 abbrev pub wanted_of : Task → Wanted
 wanted_of task.Help = Help
 wanted_of task.Version = Version
+wanted_of (task.Show image) = Show image.now
+wanted_of (task.Migrate image) = Migrate image.now
 wanted_of (task.Make image format blocks slots replace) = Make image.now format blocks slots replace

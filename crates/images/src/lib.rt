@@ -2,18 +2,27 @@
 #![tactic(auto)]
 
 mod ended;
+mod exporting;
 mod image;
+mod importing;
 mod laws;
 mod making;
+mod migrating;
 mod number;
+mod opening;
 mod output;
 mod program;
 mod refusal;
+mod showing;
 mod streams;
 mod task;
+mod text;
 mod words;
 
 pub use ended::Ended;
+pub use exporting::{export_blocks, recover_in_window};
+pub use importing::import_blocks;
 pub use laws::making_laws;
 pub use making::ask_to_be;
 pub use program::{command, run_program};
+pub use refusal::Refusal;

@@ -8,6 +8,10 @@ use log_layout::{Head, Super};
 
 /// Has a file that was just made or emptied become a new image with these sizes: it is made durable
 /// as it is, then the head, then the super. Zeros are not written.
+///
+/// # Errors
+///
+/// The first call that the file refused. Nothing was asked of it after that.
 pub fn ask_to_be<D: DeviceFile>(file: &mut D, run: &mut Run, sizes: &Super) -> Result<(), FileFault>
     ensures asked { IsAskedToBe (shape_of sizes.now) (is_ok result) (D.told file.old)
         (D.told file.new) }

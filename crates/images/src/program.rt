@@ -18,8 +18,10 @@ ghost use Rattle.images.specs.Program.{
 use crate::ended::{Ended, LeftFile, Stopped};
 use crate::image::{new_file, sizes_of};
 use crate::making::ask_to_be;
+use crate::migrating::migrate;
 use crate::output::write_out;
 use crate::refusal::Refusal;
+use crate::showing::show;
 use crate::task::{Task, read_words};
 use crate::words::{arguments, words_of};
 use device_file::{Run, SystemFile};
@@ -28,14 +30,17 @@ use std::env::Env;
 use std::fs::{File, Files};
 use std::io::Write;
 
-const HELP: &[u8] = b"usbdisk_image make IMAGE --blocks N --slots K --format 1|2 [--replace]\n";
+const HELP: &[u8] = b"usbdisk_image make IMAGE --blocks N --slots K --format 1|2 [--replace]\n\
+usbdisk_image show IMAGE\nusbdisk_image migrate IMAGE\n";
 
-const VERSION: &[u8] = b"usbdisk_image 0.9\n";
+const VERSION: &[u8] = b"usbdisk_image 0.10\n";
 
 /// Does what the words after the program's name ask for, and gives the exit status.
 ///
 /// `make IMAGE --blocks N --slots K --format F` makes an image file, of which no zeros are written,
-/// and prints `made`; a file that is there is refused, but where `--replace` stands behind it.
+/// and prints `made`; a file that is there is refused, but where `--replace` stands behind it. `show
+/// IMAGE` tells what is in an image, and writes nothing to it. `migrate IMAGE` brings it to format 2, and
+/// prints `migrated` or `already format 2`.
 /// `--help` and `--version` print a line each.
 pub fn command<R: Files<File = File> + AllocGlobal, O: Write, E: Write>(
     rt: &R,
@@ -77,6 +82,8 @@ fn obey<R: Files<File = File> + AllocGlobal, O: Write>(
     match task {
         Task::Help => say_help(out),
         Task::Version => say_version(out),
+        Task::Show { image } => show(rt, image, out),
+        Task::Migrate { image } => migrate(rt, image, out),
         Task::Make {
             image,
             format,

@@ -3,15 +3,18 @@ ghost use Rattle.std.specs.Prelude.{◌≡◌};
 ghost use Rattle.images.specs.declared.refusal.Refusal.TheVariants as refused;
 
 use device_file::{FileCall, FileFault};
+use recovery::StartFault;
 use std::io::ErrorKind;
 
 /// Why a command was refused.
 #[derive(Clone, Copy, Debug, PartialEq, Eq)]
-pub(crate) enum Refusal {
+pub enum Refusal {
     /// The words are none of a command.
     Words,
     /// The image would have a size out of its limits.
     Sizes,
+    /// The image has a fault.
+    Image(StartFault),
     /// The file of the image refused a call.
     File(FileFault),
     /// An answer was not written, or the null device not opened.
@@ -30,6 +33,7 @@ impl Refusal {
         match self {
             Refusal::Words => 2,
             Refusal::Sizes => 3,
+            Refusal::Image(_) => 3,
             Refusal::File(_) => 4,
             Refusal::Streams => 4,
             Refusal::NoMemory => 5,
@@ -41,10 +45,27 @@ impl Refusal {
         match self {
             Refusal::Words => "bad command line",
             Refusal::Sizes => "the sizes are out of their limits",
+            Refusal::Image(fault) => image_text(fault),
             Refusal::File(fault) => text_of(fault),
             Refusal::Streams => "the answer was not written",
             Refusal::NoMemory => "no memory",
         }
+    }
+}
+
+// The fault of an image in words. A window over its first sectors refuses no call.
+fn image_text(fault: StartFault) -> &'static str {
+    match fault {
+        StartFault::BadSuper => "not an image",
+        StartFault::BadVersion => "an image of a later version",
+        StartFault::BadSize => "the sizes in sector 0 do not fit the file",
+        StartFault::BadHead => "a broken head in sector 1",
+        StartFault::StampsUsedUp => "the stamps are used up",
+        StartFault::LogTooSmall => "the log is too small for format 2",
+        StartFault::NoMemory => "no memory",
+        StartFault::Read => "it was not read",
+        StartFault::Write => "it was not written",
+        StartFault::Flush => "it was not synchronised",
     }
 }
 

@@ -16,6 +16,14 @@ pub(crate) enum Task<'a> {
     Help,
     /// To tell the version.
     Version,
+    /// To tell what is in an image.
+    Show {
+        image: &'a str,
+    },
+    /// To bring an image to format 2.
+    Migrate {
+        image: &'a str,
+    },
     /// To make an image of so many blocks of zeros, with so many slots for the log of a format.
     Make {
         image: &'a str,
@@ -26,8 +34,9 @@ pub(crate) enum Task<'a> {
     },
 }
 
-/// Reads the words after the program's name: `--help`, `--version`, or `make IMAGE --blocks N
-/// --slots K --format F`, behind which `--replace` may stand. No file word begins with a hyphen.
+/// Reads the words after the program's name: `--help`, `--version`, `show IMAGE`, `migrate IMAGE`, or
+/// `make IMAGE --blocks N --slots K --format F`, behind which `--replace` may stand. No file word
+/// begins with a hyphen.
 pub(crate) fn read_words<'a>(words: &'a [&'a str]) -> Option<Task<'a>>
     ensures task { IfSome result
         (λ task. Asks (map (λ word. word.now) words.entry.now) (wanted_of task)) }
@@ -36,6 +45,7 @@ pub(crate) fn read_words<'a>(words: &'a [&'a str]) -> Option<Task<'a>>
 {
     match words {
         [word] => short_task(word),
+        [verb, image] => image_task(verb, image),
         [
             verb,
             image,
@@ -63,6 +73,23 @@ fn short_task<'a>(word: &str) -> Option<Task<'a>>
     match word {
         "--help" => Some(Task::Help),
         "--version" => Some(Task::Version),
+        _ => None,
+    }
+}
+
+// What the name of a command and a word for an image ask for.
+fn image_task<'a>(verb: &str, image: &'a str) -> Option<Task<'a>>
+    ensures task { IfSome result
+        (λ task. Asks (verb.now ∷ image.entry.now ∷ []) (wanted_of task)) }
+    ensures none { IfNone result ((wanted : Wanted)
+        → Asks (verb.now ∷ image.entry.now ∷ []) wanted → ⊥) }
+{
+    if !is_file_word(image) {
+        return None;
+    }
+    match verb {
+        "show" => Some(Task::Show { image }),
+        "migrate" => Some(Task::Migrate { image }),
         _ => None,
     }
 }

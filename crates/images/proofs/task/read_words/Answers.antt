@@ -3,7 +3,7 @@ use Rattle.std.specs.Prelude.{get_or}
 use Rattle.std.specs.Borrow.{Bor}
 use Rattle.std.proofs.lemmas.List.{take_all}
 use Rattle.images.specs.Task.{Wanted, Asks, IsMakeLine}
-use Rattle.images.specs.Task.Wanted.{Help, Version, Make}
+use Rattle.images.specs.Task.Wanted.{Help, Version, Show, Migrate, Make}
 use Rattle.images.proofs.Options.{none_weaker}
 use Rattle.images.proofs.task.read_words.Goals as goal
 
@@ -29,6 +29,8 @@ no_other : (a b c d e f g h : List ℕ) (behind : List (List ℕ)) → (IsMakeLi
     → (wanted : Wanted) → Asks (a ∷ b ∷ c ∷ d ∷ e ∷ f ∷ g ∷ h ∷ behind) wanted → ⊥
 no_other a b c d e f g h behind never Help same = omega (arith, ap length same)
 no_other a b c d e f g h behind never Version same = omega (arith, ap length same)
+no_other a b c d e f g h behind never (Show image) are = omega (arith, ap length are.words_are)
+no_other a b c d e f g h behind never (Migrate image) are = omega (arith, ap length are.words_are)
 no_other a b c d e f g h behind never (Make image format blocks slots replace) are = never (image, format, blocks, slots, replace, are)
 
 pub returns-in-len8-up-clause-none : goal.returns-in-len8-up-clause-none

@@ -1,0 +1,39 @@
+use Rattle.std.proofs.Common.{◌∙◌, ℕ, List, inl, inr, refl, subst}
+use Rattle.std.specs.Io.KnownBytes.{Appends}
+use Rattle.images.specs.Streams.{AppendsSome}
+use Rattle.images.proofs.Known.{Keeps-same}
+use Rattle.images.proofs.showing.show_first.Goals as goal
+
+pub returns-in-Err-clause-err : goal.returns-in-Err-clause-err
+returns-in-Err-clause-err g c = inr (inl (record {
+  window = c.in_ok-window.window;
+  over = c.in_ok-window.ensures.ok;
+  after = c.inspect.new.m;
+  fault = c.in-Err.fault;
+  cause = c.in-Err.ensures.err;
+  refused_is = refl;
+  kept = Keeps-same (g.O.Write.contents c.args.out.now);
+}))
+
+pub returns-in-Ok-write_out-clause-ok : goal.returns-in-Ok-write_out-clause-ok
+returns-in-Ok-write_out-clause-ok g c = record {
+  window = c.in_ok-window.window;
+  over = c.in_ok-window.ensures.ok;
+  answer = c.in-Ok.found;
+  inspected = c.in-Ok.ensures.ok;
+  written = subst
+      (λ (text : List ℕ). Appends (g.O.Write.contents c.args.out.now) (g.O.Write.contents c.write_out.new.out) text)
+      (c.deref.ensures.value ∙ c.in-Ok-text_of.ensures) c.in-Ok-write_out.ensures.ok;
+}
+
+pub returns-clause-err : goal.returns-clause-err
+returns-clause-err g c = inr (inr (record {
+  window = c.in_ok-window.window;
+  over = c.in_ok-window.ensures.ok;
+  answer = c.in-Ok.found;
+  inspected = c.in-Ok.ensures.ok;
+  failed = refl;
+  written = subst
+      (λ (text : List ℕ). AppendsSome (g.O.Write.contents c.args.out.now) (g.O.Write.contents c.write_out.new.out) text)
+      (c.deref.ensures.value ∙ c.in-Ok-text_of.ensures) c.in-Err-write_out.ensures.err;
+}))

@@ -1,0 +1,70 @@
+-- The blocks of an image are copied to a plain file.
+use Rattle.std.specs.Prelude.{◌≡◌, ◌⊎◌, ◌≤◌, ℕ, List, [], ◌∷◌, ◌++◌, length, Option, Some, None}
+use Rattle.mirror.specs.declared.call.DeviceCall.{DeviceCall}
+use Rattle.mirror.specs.declared.call.DeviceCall.TheVariants.{Flush}
+use Rattle.log_layout.specs.declared.super_sector.Super.{Super}
+use Rattle.window.specs.Window.{Window, state_of, ComesAfter}
+use Rattle.recovery.specs.Copies.{most_start_sends}
+use Rattle.recovery.specs.Recovered.{IsRecoveredFrom, IsRecoveryRefusal}
+use Rattle.recovery.specs.declared.recovered.Recovered.{Recovered}
+use Rattle.recovery.specs.declared.start_fault.StartFault.{StartFault}
+use Rattle.device_file.specs.Asked.{Told, asked_for}
+use Rattle.device_file.specs.Reads.{AreReadFrom}
+use Rattle.device_file.specs.Copied.{some_writes, moved_calls, asked_until}
+use Rattle.device_file.specs.declared.copying.CopyFault.{CopyFault}
+use Rattle.device_file.specs.declared.opening.FirstSectors.{FirstSectors}
+use Rattle.images.specs.Opened.{IsWindowOver}
+use Rattle.images.specs.declared.refusal.Refusal.{Refusal}
+use Rattle.images.specs.declared.refusal.Refusal.TheVariants as refused
+
+-- as many writes and flushes as a recovery makes at most; one flush comes before a super is sought
+abbrev pub recovery_room : Option Super → ℕ
+recovery_room (Some sizes) = most_start_sends sizes.format sizes.slots
+recovery_room None = 1
+
+-- the image over these first sectors was recovered in a window over its file
+pub record IsRecoveredIn (first : FirstSectors) (sizes : Super) (after : Window) : Type 0 where
+  pub window : Window
+  pub over : IsWindowOver first (recovery_room first.sizes) window
+  pub answer : Recovered
+  pub sizes_are : sizes ≡ answer.sizes
+  pub recovered : IsRecoveredFrom (state_of window) (state_of after) answer
+  pub follows : ComesAfter window after
+
+-- the image has a fault
+pub record HasFaultIn (first : FirstSectors) (refusal : Refusal) : Type 0 where
+  pub window : Window
+  pub over : IsWindowOver first (recovery_room first.sizes) window
+  pub after : Window
+  pub fault : StartFault
+  pub cause : IsRecoveryRefusal (state_of window) (state_of after) fault
+  pub refused_is : refusal ≡ refused.Image fault
+
+-- it was not recovered in a window
+abbrev pub IsNotRecoveredIn : FirstSectors → Refusal → Type 0
+IsNotRecoveredIn first refusal = (refusal ≡ refused.NoMemory) ⊎ HasFaultIn first refusal
+
+-- What a plain file is asked for: the blocks as they lie at home, but those of zeros; then, of what
+-- waits in the window, the writes that go home, in order; and a flush.
+abbrev pub exporting : Super → List (List ℕ) → List DeviceCall → List DeviceCall
+exporting sizes blocks waiting =
+    (some_writes 0 blocks ++ moved_calls sizes.home sizes.blocks waiting) ++ Flush ∷ []
+
+-- all of it, with the blocks as a read of the image gave them
+pub record HasBlocks (holds : ℕ → List ℕ → Type 0) (sizes : Super) (waiting : List DeviceCall)
+    (old new : Told) : Type 0 where
+  pub blocks : List (List ℕ)
+  pub count_is : length blocks ≡ sizes.blocks
+  pub were_read : AreReadFrom holds sizes.home blocks
+  pub told_is : new ≡ asked_for (exporting sizes blocks waiting) old
+
+-- a first part of it, with as many blocks as were read; where a call was refused, it is the last
+pub record HasSomeBlocks (holds : ℕ → List ℕ → Type 0) (sizes : Super)
+    (waiting : List DeviceCall) (old new : Told) (why : CopyFault) : Type 0 where
+  pub blocks : List (List ℕ)
+  pub count_is : length blocks ≤ sizes.blocks
+  pub were_read : AreReadFrom holds sizes.home blocks
+  pub part : List DeviceCall
+  pub rest : List DeviceCall
+  pub parts : exporting sizes blocks waiting ≡ part ++ rest
+  pub told_is : new ≡ asked_until why part old

@@ -1,0 +1,32 @@
+-- The blocks of a plain file become those of a new image.
+use Rattle.std.specs.Prelude.{◌≡◌, ◌⊎◌, ℕ, List, true, false}
+use Rattle.log_layout.specs.Places.{Shape, first_home}
+use Rattle.device_file.specs.Asked.{Told}
+use Rattle.device_file.specs.Copied.{IsCopied, IsCopiedInPart}
+use Rattle.device_file.specs.declared.copying.CopyFault.{CopyFault}
+use Rattle.device_file.specs.declared.copying.CopyFault.TheVariants as fault
+use Rattle.device_file.specs.declared.fault.FileFault.{FileFault}
+use Rattle.images.specs.NewImage.{IsAskedToBe}
+
+-- A file that was just made or emptied was asked to write the blocks at home, as a read of the
+-- plain file gave them, but those of zeros. Only then was it asked to become a new image, and that
+-- begins with a flush: until that one is carried out it has no super.
+pub record IsImported (holds : ℕ → List ℕ → Type 0) (shape : Shape) (old new : Told) : Type 0 where
+  pub between : Told
+  pub copied : IsCopied holds 0 shape.blocks (first_home shape) old between
+  pub made : IsAskedToBe shape true between new
+
+-- its last call was refused on the way to a new image
+pub record IsImportedUnmade (holds : ℕ → List ℕ → Type 0) (shape : Shape) (old new : Told)
+    (why : CopyFault) : Type 0 where
+  pub between : Told
+  pub copied : IsCopied holds 0 shape.blocks (first_home shape) old between
+  pub made : IsAskedToBe shape false between new
+  pub refused : FileFault
+  pub why_is : why ≡ fault.To refused
+
+-- not all blocks were copied, or it did not become a new image
+abbrev pub IsNotImported : (ℕ → List ℕ → Type 0) → Shape → Told → Told → CopyFault → Type 0
+IsNotImported holds shape old new why =
+    IsCopiedInPart holds 0 shape.blocks (first_home shape) old new why
+    ⊎ IsImportedUnmade holds shape old new why

@@ -1,0 +1,76 @@
+-- An image in a file is migrated.
+use Rattle.std.specs.Prelude.{◌≡◌, ◌⊎◌, ◌≤◌, ℕ, Bool, true, false, List, [], codes, Option, Some}
+use Rattle.std.specs.Prelude.{None}
+use Rattle.log_layout.specs.declared.super_sector.Super.{Super}
+use Rattle.log_layout.specs.Places.{Shape}
+use Rattle.log_image.specs.ImageFaults.{HasShape}
+use Rattle.window.specs.Window.{Window, state_of, kept_out, ComesAfter, CoversDevice}
+use Rattle.recovery.specs.Migrated.{IsMigrationBy, IsMigrationRefusal, MigrationLeaves}
+use Rattle.recovery.specs.Migrated.{most_migration_sends}
+use Rattle.recovery.specs.declared.recovered.Recovered.{Recovered}
+use Rattle.recovery.specs.declared.start_fault.StartFault.{StartFault}
+use Rattle.device_file.specs.Asked.{Told}
+use Rattle.device_file.specs.Outbox.{IsCarriedOut}
+use Rattle.device_file.specs.declared.fault.FileFault.{FileFault}
+use Rattle.device_file.specs.declared.opening.FirstSectors.{FirstSectors}
+use Rattle.images.specs.Opened.{IsWindowOver}
+use Rattle.images.specs.Streams.{ended}
+use Rattle.images.specs.declared.refusal.Refusal.{Refusal}
+use Rattle.images.specs.declared.refusal.Refusal.TheVariants as refused
+
+-- as many writes and flushes as a migration makes at most; one flush comes before a super is sought
+abbrev pub migration_room : Option Super → ℕ
+migration_room (Some sizes) = most_migration_sends sizes.format sizes.slots
+migration_room None = 1
+
+-- what is told of an image that is of format 2 now: whether it was of format 1
+abbrev pub migration_text : Bool → List ℕ
+migration_text true = ended (codes "migrated")
+migration_text false = ended (codes "already format 2")
+
+-- The image over these first sectors was migrated in a window over its file. What waits there then
+-- is all that was given to the device: wherever among these calls it is, a cut of it leaves what a
+-- cut at some moment of the migration could.
+pub record IsMigratedIn (first : FirstSectors) (was_one : Bool) (after : Window) : Type 0 where
+  pub window : Window
+  pub over : IsWindowOver first (migration_room first.sizes) window
+  pub answer : Recovered
+  pub migrated : IsMigrationBy was_one (state_of window) (state_of after) answer
+  pub leaves : MigrationLeaves (state_of window) (state_of after)
+  pub follows : ComesAfter window after
+  pub covers : CoversDevice window after
+
+-- and all that waited there was asked of the file, in order, and carried out
+pub record IsMigratedOn (first : FirstSectors) (old new : Told) (was_one : Bool) : Type 0 where
+  pub after : Window
+  pub migrated : IsMigratedIn first was_one after
+  pub left : Window
+  pub carried : IsCarriedOut true old new after left
+  pub none_left : left.outbox ≡ []
+
+-- or the file refused a call on the way there
+pub record IsMigratedInPart (first : FirstSectors) (old new : Told) (refusal : Refusal)
+    : Type 0 where
+  pub was_one : Bool
+  pub after : Window
+  pub migrated : IsMigratedIn first was_one after
+  pub left : Window
+  pub carried : IsCarriedOut false old new after left
+  pub fault : FileFault
+  pub refused_is : refusal ≡ refused.File fault
+
+-- The image has a fault: the file is asked for nothing. No write and no flush was refused for want
+-- of room where it has a super.
+pub record HasFault (first : FirstSectors) (old new : Told) (refusal : Refusal) : Type 0 where
+  pub window : Window
+  pub over : IsWindowOver first (migration_room first.sizes) window
+  pub after : Window
+  pub fault : StartFault
+  pub cause : IsMigrationRefusal (state_of window) (state_of after) fault
+  pub refused_is : refusal ≡ refused.Image fault
+  pub unasked : new ≡ old
+
+-- why an image in a file was not migrated
+abbrev pub IsNotMigratedOn : FirstSectors → Told → Told → Refusal → Type 0
+IsNotMigratedOn first old new refusal = ((refusal ≡ refused.NoMemory) × (new ≡ old))
+    ⊎ (HasFault first old new refusal ⊎ IsMigratedInPart first old new refusal)

@@ -1,0 +1,43 @@
+-- An image file that was opened, and a window over it.
+use Rattle.std.specs.Prelude.{◌≡◌, ◌⊎◌, ◌*◌, ℕ, List, length, min, Option, Some}
+use Rattle.medium.specs.Writes.{sector_of}
+use Rattle.window.specs.Window.{Window}
+use Rattle.window.specs.Window as window
+use Rattle.device_file.specs.FileValue.{FileValue, fresh}
+use Rattle.device_file.specs.First.{SpellsSuper, near_of}
+use Rattle.device_file.specs.declared.fault.FileFault.{FileFault}
+use Rattle.device_file.specs.declared.opening.FirstSectors.{FirstSectors}
+use Rattle.images.specs.declared.refusal.Refusal.{Refusal}
+use Rattle.images.specs.declared.refusal.Refusal.TheVariants as refused
+
+-- These are the first sectors of a file of so many, as they were read: all before the first home
+-- sector that their super tells, and two where they have none; those that the file has, where it is
+-- shorter.
+pub record HasFirst (size : ℕ) (first : FirstSectors) : Type 0 where
+  pub size_is : first.sectors ≡ size
+  pub spells : SpellsSuper first.sizes (sector_of first.bytes.items 0)
+  pub count : length first.bytes.items ≡ 512 * min (near_of first.sizes) size
+
+-- a window over a device that holds these first sectors, with room for so many calls
+abbrev pub IsWindowOver : FirstSectors → ℕ → Window → Type 0
+IsWindowOver first room w = (holds : List ℕ)
+    × (w ≡ window.fresh first.sectors first.bytes.items holds 0 room)
+
+-- a file was opened, and asked for nothing
+pub record IsOpened (back : Option FileValue) (first : FirstSectors) : Type 0 where
+  pub file : FileValue
+  pub given : back ≡ Some file
+  pub untouched : file ≡ fresh file.size
+  pub has : HasFirst file.size first
+
+-- it refused, or there was no memory
+abbrev pub IsFileOrMemory : Refusal → Type 0
+IsFileOrMemory refusal = ((fault : FileFault) × (refusal ≡ refused.File fault))
+    ⊎ (refusal ≡ refused.NoMemory)
+
+-- a file was opened and asked for nothing, and its first sectors were not had
+pub record IsOpenedAlone (back : Option FileValue) (refusal : Refusal) : Type 0 where
+  pub file : FileValue
+  pub given : back ≡ Some file
+  pub untouched : file ≡ fresh file.size
+  pub cause : IsFileOrMemory refusal

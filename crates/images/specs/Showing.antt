@@ -1,0 +1,68 @@
+-- What is told of an image.
+use Rattle.std.specs.Prelude.{◌≡◌, ◌⊎◌, ℕ, ◌+◌, List, [], ◌∷◌, ◌++◌, codes, decimal, Option}
+use Rattle.std.specs.Io.KnownBytes.{Appends, Keeps}
+use Rattle.log_layout.specs.Sectors.{version_of}
+use Rattle.window.specs.Window.{Window, state_of}
+use Rattle.recovery.specs.Inspected.{IsInspected, IsLookRefusal}
+use Rattle.recovery.specs.declared.inspection.Inspection.{Inspection}
+use Rattle.recovery.specs.declared.start_fault.StartFault.{StartFault}
+use Rattle.device_file.specs.declared.opening.FirstSectors.{FirstSectors}
+use Rattle.images.specs.Opened.{IsWindowOver}
+use Rattle.images.specs.Streams.{AppendsSome}
+use Rattle.images.specs.declared.refusal.Refusal.{Refusal}
+use Rattle.images.specs.declared.refusal.Refusal.TheVariants as refused
+
+-- a word with a space behind it, a number and a line feed
+abbrev pub number_line : List ℕ → ℕ → List ℕ
+number_line word number = word ++ decimal number ++ 10 ∷ []
+
+-- of each record that waits, from this stamp on, the stamp and how many blocks it has
+abbrev pub record_lines : ℕ → List ℕ → List ℕ
+record_lines stamp [] = []
+record_lines stamp (count ∷ counts) =
+    (codes "record " ++ decimal stamp ++ number_line (codes " ") count)
+    ++ record_lines (stamp + 1) counts
+
+abbrev pub sizes_text : Inspection → List ℕ
+sizes_text found = number_line (codes "format ") (version_of found.sizes.format)
+    ++ number_line (codes "blocks ") found.sizes.blocks
+    ++ number_line (codes "slots ") found.sizes.slots
+    ++ number_line (codes "home ") found.sizes.home
+    ++ number_line (codes "head ") found.head
+
+-- what is told of an image
+abbrev pub image_text : Inspection → List ℕ
+image_text found = sizes_text found ++ record_lines found.head found.waiting.items
+
+-- Over these first sectors of a file. What was written then, and now.
+module _ (first : FirstSectors) (was now : Option (List ℕ)) where
+  -- exactly what they stand for was told
+  pub record IsShown : Type 0 where
+    pub window : Window
+    pub over : IsWindowOver first 0 window
+    pub answer : Inspection
+    pub inspected : IsInspected (state_of window) answer
+    pub written : Appends was now (image_text answer)
+
+  -- they have a fault, and nothing was told
+  pub record IsFaulty (refusal : Refusal) : Type 0 where
+    pub window : Window
+    pub over : IsWindowOver first 0 window
+    pub after : Window
+    pub fault : StartFault
+    pub cause : IsLookRefusal (state_of window) (state_of after) fault
+    pub refused_is : refusal ≡ refused.Image fault
+    pub kept : Keeps was now
+
+  -- not all was told
+  pub record IsShownInPart (refusal : Refusal) : Type 0 where
+    pub window : Window
+    pub over : IsWindowOver first 0 window
+    pub answer : Inspection
+    pub inspected : IsInspected (state_of window) answer
+    pub failed : refusal ≡ refused.Streams
+    pub written : AppendsSome was now (image_text answer)
+
+  abbrev pub IsNotShown : Refusal → Type 0
+  IsNotShown refusal = ((refusal ≡ refused.NoMemory) × Keeps was now)
+      ⊎ (IsFaulty refusal ⊎ IsShownInPart refusal)

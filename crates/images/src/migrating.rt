@@ -1,0 +1,99 @@
+//! An image in a file is brought to format 2.
+ghost use Rattle.std.specs.Prelude.{◌≡◌, IfOk, IfErr};
+ghost use Rattle.images.specs.Migrating.{IsMigratedOn, IsNotMigratedOn, migration_room, migration_text};
+ghost use Rattle.images.specs.Program.{IsMigration, IsMigrationRefused};
+
+use crate::ended::{LeftFile, Stopped};
+use crate::opening::{open_image, window_over};
+use crate::output::write_out;
+use crate::refusal::Refusal;
+use device_file::{DeviceFile, FirstSectors, Run, carry_out};
+use log_layout::{LogFormat, Super};
+use std::alloc::Global;
+use std::fs::{File, Files};
+use std::io::Write;
+
+/// Brings an image file to format 2, and says whether it was of format 1.
+#[inline(never)]
+pub(crate) fn migrate<R: Files<File = File> + AllocGlobal, O: Write>(
+    rt: &R,
+    image: &str,
+    out: &mut O,
+) -> Result<LeftFile, Stopped>
+    ensures done { IfOk result (IsMigration (O.contents out.old) (O.contents out.new)) }
+    ensures refused { IfErr result (λ stopped. IsMigrationRefused (O.contents out.old)
+        (O.contents out.new) stopped.file stopped.refusal) }
+{
+    let Ok(mut run) = Run::new(rt.alloc()) else {
+        return Err(Stopped::from(Refusal::NoMemory));
+    };
+    let (mut file, first) = open_image(rt, image)?;
+    let was_one = match migrate_file(rt.alloc(), &mut file, first, &mut run) {
+        Ok(was_one) => was_one,
+        Err(refusal) => {
+            return Err(Stopped {
+                refusal,
+                file: Some(file),
+            });
+        }
+    };
+    match write_out(out, migration_line(was_one)) {
+        Ok(()) => Ok(Some(file)),
+        Err(_) => Err(Stopped {
+            refusal: Refusal::Streams,
+            file: Some(file),
+        }),
+    }
+}
+
+/// Has a file with these first sectors carry out what a migration of its image sends, in order. It
+/// answers whether the image was of format 1. Where the image has a fault, the file is asked for
+/// nothing.
+pub(crate) fn migrate_file<D: DeviceFile>(
+    alloc: Global,
+    file: &mut D,
+    first: FirstSectors,
+    run: &mut Run,
+) -> Result<bool, Refusal>
+    ensures ok { IfOk result (IsMigratedOn first (D.told file.old) (D.told file.new)) }
+    ensures err { IfErr result (IsNotMigratedOn first (D.told file.old) (D.told file.new)) }
+    ensures size { D.size file.new ≡ D.size file.old }
+{
+    let room = room_to_migrate(&first.sizes);
+    let mut window = window_over(alloc, first, room)?;
+    // The law of the outbox, from the first call on.
+    let _waiting = window.waiting();
+    let was_one = match recovery::migrate(&mut window) {
+        Ok((_, was_one)) => was_one,
+        Err(fault) => return Err(Refusal::Image(fault)),
+    };
+    match carry_out(&mut window, file, run) {
+        Ok(()) => Ok(was_one),
+        Err(fault) => Err(Refusal::File(fault)),
+    }
+}
+
+// How many calls an outbox has to have room for, over an image with such a super.
+fn room_to_migrate(sizes: &Option<Super>) -> usize
+    ensures { result ≡ migration_room sizes.now }
+{
+    let Some(sizes) = sizes else {
+        return 1;
+    };
+    let room = match sizes.format {
+        LogFormat::One => 98 * sizes.slots + 9,
+        LogFormat::Two => 240 * sizes.slots + 4,
+    };
+    room as usize
+}
+
+// What is told of an image that is of format 2 now.
+fn migration_line(was_one: bool) -> &'static [u8]
+    ensures { result.now ≡ migration_text was_one }
+{
+    if was_one {
+        b"migrated\n"
+    } else {
+        b"already format 2\n"
+    }
+}

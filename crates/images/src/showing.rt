@@ -1,0 +1,55 @@
+//! What is in an image is told, and nothing is written to it.
+ghost use Rattle.std.specs.Prelude.{OnOk, IfOk, IfErr};
+ghost use Rattle.images.specs.Program.{IsShow, IsShowRefused};
+ghost use Rattle.images.specs.Showing.{IsShown, IsNotShown};
+
+use crate::ended::{LeftFile, Stopped};
+use crate::opening::{open_image, window_over};
+use crate::output::write_out;
+use crate::refusal::Refusal;
+use crate::text::text_of;
+use device_file::FirstSectors;
+use recovery::inspect;
+use std::alloc::Global;
+use std::fs::{File, Files};
+use std::io::Write;
+
+/// Tells what is in an image file, which is asked for nothing.
+#[inline(never)]
+pub(crate) fn show<R: Files<File = File> + AllocGlobal, O: Write>(
+    rt: &R,
+    image: &str,
+    out: &mut O,
+) -> Result<LeftFile, Stopped>
+    ensures done { IfOk result (IsShow (O.contents out.old) (O.contents out.new)) }
+    ensures refused { IfErr result (λ stopped. IsShowRefused (O.contents out.old) (O.contents out.new)
+        stopped.file stopped.refusal) }
+{
+    let (file, first) = open_image(rt, image)?;
+    match show_first(rt.alloc(), first, out) {
+        Ok(()) => Ok(Some(file)),
+        Err(refusal) => Err(Stopped {
+            refusal,
+            file: Some(file),
+        }),
+    }
+}
+
+// Tells what the first sectors of an image say.
+fn show_first<O: Write>(alloc: Global, first: FirstSectors, out: &mut O) -> Result<(), Refusal>
+    ensures ok { OnOk result (IsShown first (O.contents out.old) (O.contents out.new)) }
+    ensures err { IfErr result (IsNotShown first (O.contents out.old) (O.contents out.new)) }
+{
+    let mut window = window_over(alloc, first, 0)?;
+    let found = match inspect(&mut window) {
+        Ok(found) => found,
+        Err(fault) => return Err(Refusal::Image(fault)),
+    };
+    let Ok(text) = text_of(alloc, &found) else {
+        return Err(Refusal::NoMemory);
+    };
+    match write_out(out, &text) {
+        Ok(()) => Ok(()),
+        Err(_) => Err(Refusal::Streams),
+    }
+}
