@@ -1,0 +1,168 @@
+-- What each call does to a store.
+use Rattle.std.specs.Prelude.{◌≡◌, ◌≢◌, ◌⊎◌, ◌↔◌, ℕ, ◌+◌, ◌*◌, ◌/◌, ◌%◌, ◌<◌, Bool, true, false}
+use Rattle.std.specs.Prelude.{not, List, length, Option, Some, None, Result, Ok, Err}
+use Rattle.inlet.specs.Inlet.{AreHeld}
+use Rattle.medium.specs.Blocks.{Write}
+use Rattle.mirror.specs.declared.call.DeviceCall.{DeviceCall}
+use Rattle.mirror.specs.declared.call.DeviceCall.TheVariants as call
+use Rattle.mirror.specs.Mirror.{first_of}
+use Rattle.log_layout.specs.Places.{first_home}
+use Rattle.window.specs.Window.{state_of, without_first, ComesAfter, IsShown}
+use Rattle.blocks.specs.Background.{IsBackgroundStep, CountsDown}
+use Rattle.blocks.specs.Book.{Book, IsTransfer, array_of, blocks_at, write_of, promised}
+use Rattle.blocks.specs.Passing.{KeepsStore, PassesOn, PassesPaid, IsUntouched}
+use Rattle.blocks.specs.Sent.{batch_sends}
+use Rattle.blocks.specs.Settled.{IsSettled}
+use Rattle.blocks.specs.StoreValue.{Cached, layout_of, blocks_of, transfer_limit, is_dead}
+use Rattle.blocks.specs.StoreValue.{steps_left, FitsBook}
+use Rattle.blocks.specs.Turns.{IsTurn, IsWriteTurn}
+use Rattle.store_calls.specs.Stores.{Store}
+use Rattle.store_calls.specs.Rooms.{Appends, HoldsLog, AreInSight, AreMissing}
+use Rattle.store_calls.specs.declared.call_fault.CallFault.{CallFault}
+use Rattle.store_calls.specs.declared.call_fault.CallFault.TheVariants as fault
+use Rattle.store_calls.specs.declared.reading.Missing.{Missing}
+use Rattle.store_calls.specs.declared.calls.Sizes.{Sizes}
+
+-- ---- whether a call may move blocks
+
+-- the store is live, and so many bytes are whole blocks of it from this address on, 1 to as many as
+-- its limit
+pub record MayMove (s : Cached) (address size : ℕ) : Type 0 where
+  pub transfer : IsTransfer (transfer_limit s) (blocks_of s) address size
+  pub live : is_dead s ≡ false
+
+-- so many bytes are no whole blocks, none, or more than the limit
+abbrev pub IsNoSize : Cached → ℕ → Type 0
+IsNoSize s size = (size ≡ 0) ⊎ (size % 512 ≢ 0) ⊎ (transfer_limit s * 512 < size)
+
+-- Why they may not: for the length first, then for the range, and then since the store is dead.
+abbrev pub MayNotMove : Cached → ℕ → ℕ → CallFault → Type 0
+MayNotMove s address size why = ((why ≡ fault.Length) × IsNoSize s size)
+    ⊎ ((why ≡ fault.Range) × (¬ IsNoSize s size) × (blocks_of s < address + size / 512))
+    ⊎ ((why ≡ fault.Dead) × IsTransfer (transfer_limit s) (blocks_of s) address size
+    × (is_dead s ≡ true))
+
+-- ---- a read
+
+-- the home sector of a block
+abbrev pub home_of : Store → ℕ → ℕ
+home_of s address = first_home (layout_of s.cached) + address
+
+-- The store is as it was, and nothing is written.
+pub record KeepsAll (address count : ℕ) (old new : Store) : Type 0 where
+  pub keeps : KeepsStore state_of ComesAfter address count old new
+  pub turn : IsTurn (state_of old.medium) (state_of new.medium) old.cached new.cached
+  pub appends : Appends old new
+
+-- So many blocks were read: those after all accepted writes.
+pub record IsRead (address count : ℕ) (old : Store) (filled : List ℕ) (new : Store) : Type 0 where
+  pub bytes : (book : Book) → FitsBook (state_of old.medium) old.cached book
+      → filled ≡ blocks_at (array_of book) address count
+  pub all : KeepsAll address count old new
+
+-- a sector of the log is not in memory
+pub record IsUnread (address count : ℕ) (old new : Store) : Type 0 where
+  pub unseen : ¬ HoldsLog old
+  pub all : KeepsAll address count old new
+
+-- The blocks were read; or sectors are to be shown before, and nothing has changed.
+abbrev pub ReadsBlocks : ℕ → Store → List ℕ → Store → List ℕ → Result (Option Missing) CallFault
+    → Type 0
+ReadsBlocks address old room new filled (Ok None) = MayMove old.cached address (length room)
+    × AreInSight old.medium (home_of old address) (length room / 512)
+    × IsRead address (length room / 512) old filled new
+ReadsBlocks address old room new filled (Ok (Some missing)) =
+    MayMove old.cached address (length room) × (new ≡ old) × (filled ≡ room)
+    × AreMissing old.medium (home_of old address) (length room / 512) missing.first missing.count
+ReadsBlocks address old room new filled (Err why) =
+    (MayNotMove old.cached address (length room) why × (new ≡ old) × (filled ≡ room))
+    ⊎ ((why ≡ fault.Unread) × MayMove old.cached address (length room)
+    × IsUnread address (length room / 512) old new)
+
+-- ---- a write
+
+-- One write was accepted, whole, or none. A store that does not accept it is dead then.
+pub record IsWritten (write : Write) (accepted : Bool) (old new : Store) : Type 0 where
+  pub passes : PassesOn state_of ComesAfter (IsWriteTurn write accepted)
+      (2 * steps_left old.cached) (batch_sends old.cached) old new
+  pub dead : is_dead new.cached ≡ not accepted
+  pub appends : Appends old new
+
+abbrev pub WritesBlocks : ℕ → List ℕ → Store → Store → Result (Unit {0}) CallFault → Type 0
+WritesBlocks address bytes old new (Ok done) = MayMove old.cached address (length bytes)
+    × IsWritten (write_of address bytes) true old new
+WritesBlocks address bytes old new (Err why) =
+    (MayNotMove old.cached address (length bytes) why × (new ≡ old))
+    ⊎ ((why ≡ fault.Dead) × MayMove old.cached address (length bytes)
+    × IsWritten (write_of address bytes) false old new)
+
+-- ---- a sync, and the work in the background
+
+-- The accepted writes were on their way to the log.
+pub record IsSynced (old new : Store) : Type 0 where
+  pub passes : PassesPaid state_of ComesAfter (2 * batch_sends old.cached) old new
+  pub appends : Appends old new
+
+-- All accepted writes are promised, or the store is dead. One that was dead stays as it is.
+abbrev pub SyncsStore : Store → Store → Result (Unit {0}) CallFault → Type 0
+SyncsStore old new (Ok done) = IsSynced old new × (is_dead new.cached ≡ false)
+    × ((book : Book) → FitsBook (state_of old.medium) old.cached book
+    → FitsBook (state_of new.medium) new.cached (promised book))
+SyncsStore old new (Err why) = (why ≡ fault.Dead) × IsSynced old new
+    × (is_dead new.cached ≡ true) × (is_dead old.cached ≡ true → new ≡ old)
+
+-- a step in the background
+pub record IsStep (old new : Store) : Type 0 where
+  pub passes : PassesOn state_of ComesAfter IsTurn 2 2 old new
+  pub order : IsBackgroundStep (state_of old.medium) (state_of new.medium) old.cached new.cached
+  pub counts : CountsDown old new
+  pub appends : Appends old new
+
+-- a step, and whether one is left
+pub record MakesStep (old new : Store) (more : Bool) : Type 0 where
+  pub step : IsStep old new
+  pub none_left : (more ≡ false) ↔ ((is_dead new.cached ≡ false) × (steps_left new.cached ≡ 0))
+  pub at_home : more ≡ false → IsSettled (state_of new.medium) new.cached
+
+abbrev pub StepsOn : Store → Store → Result Bool CallFault → Type 0
+StepsOn old new (Ok more) = MakesStep old new more
+StepsOn old new (Err why) = ⊥
+
+-- ---- the device
+
+-- the number of a call's kind, and where it is a write its sector and bytes
+abbrev pub Shows : Option DeviceCall → ℕ → List ℕ → ℕ → List ℕ → ℕ → Type 0
+Shows None sector bytes sector' bytes' kind =
+    (kind ≡ 0) × (sector' ≡ sector) × (bytes' ≡ bytes)
+Shows (Some (call.Write w)) sector bytes sector' bytes' kind =
+    (kind ≡ 1) × (sector' ≡ w.sector) × (bytes' ≡ w.block)
+Shows (Some call.Flush) sector bytes sector' bytes' kind =
+    (kind ≡ 2) × (sector' ≡ sector) × (bytes' ≡ bytes)
+
+-- the first call leaves the outbox, and nothing else of the store changes
+pub record LetsGo (old new : Store) : Type 0 where
+  pub medium : new.medium ≡ without_first old.medium
+  pub untouched : IsUntouched state_of old new
+
+abbrev pub HandsOn : ℕ → List ℕ → ℕ → List ℕ → Store → Store → Result ℕ CallFault → Type 0
+HandsOn sector room sector' filled old new (Ok kind) =
+    Shows (first_of old.medium.outbox) sector room sector' filled kind × LetsGo old new
+HandsOn sector room sector' filled old new (Err why) = ⊥
+
+-- Sectors are shown, and taken or not. Where they are what the medium holds, the store fits what it
+-- fitted; where they are not, nothing but the medium has changed.
+pub record Sees (first : ℕ) (bytes : List ℕ) (taken : Bool) (old new : Store) : Type 0 where
+  pub shown : IsShown first bytes taken old.medium new.medium
+  pub cached : new.cached ≡ old.cached
+  pub untouched : AreHeld (state_of old.medium).content first (length bytes / 512) bytes
+      → IsUntouched state_of old new
+
+abbrev pub IsShownTo : ℕ → List ℕ → Store → Store → Result Bool CallFault → Type 0
+IsShownTo first bytes old new (Ok taken) = Sees first bytes taken old new
+IsShownTo first bytes old new (Err why) = ⊥
+
+-- how many blocks there are, and how many a read and a write have at most
+abbrev pub TellsSizes : Store → Store → Result Sizes CallFault → Type 0
+TellsSizes old new (Ok sizes) = (new ≡ old) × (sizes.blocks ≡ blocks_of old.cached)
+    × (sizes.limit ≡ transfer_limit old.cached)
+TellsSizes old new (Err why) = ⊥

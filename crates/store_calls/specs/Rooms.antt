@@ -1,0 +1,98 @@
+-- Nothing that a store asks of its medium is refused: no write and no flush for want of room, and
+-- no read of a sector that is not in sight.
+use Rattle.std.specs.Prelude.{◌≡◌, ◌⊎◌, ℕ, ◌+◌, ◌*◌, ◌<◌, ◌≤◌, true, length, max}
+use Rattle.log_layout.specs.Places.{Shape, first_home, sectors_of}
+use Rattle.log_layout.specs.Sectors.{IsSuper}
+use Rattle.log_layout.specs.declared.log_format.LogFormat.{LogFormat}
+use Rattle.log_layout.specs.declared.log_format.LogFormat.TheVariants.{Two}
+use Rattle.medium.specs.Medium.{State}
+use Rattle.mirror.specs.Parts as mirror
+use Rattle.recovery.specs.Copies.{most_start_sends}
+use Rattle.recovery.specs.Looks as recovery
+use Rattle.window.specs.Window.{Window, state_of, mirror_of, kept_out, is_in_sight, ComesAfter}
+use Rattle.window.specs.Window.{CoversDevice, IsServed}
+use Rattle.blocks.specs.Sent.{most_sent}
+use Rattle.blocks.specs.StoreValue.{layout_of}
+use Rattle.store_calls.specs.Stores.{Store}
+
+-- As many writes and flushes as `usbdisk_room` tells: those of an event of a disk, which are more
+-- than those of any call of a store, and those of a start that finds so many slots.
+abbrev pub room_of : LogFormat → ℕ → ℕ
+room_of format slots = max (3 * most_sent format) (most_start_sends format slots)
+
+-- that of an image
+abbrev pub room_for : Shape → ℕ
+room_for shape = room_of shape.format shape.slots
+
+-- From one moment to another no write and no flush was refused, given this room; no read, given
+-- this sight; and given both, no call at all.
+pub record RefusesNothing (Room Sight : Type 0) (old new : Window) : Type 0 where
+  pub kept : Room → kept_out new.seen.told.refused ≡ kept_out old.seen.told.refused
+  pub seen : Sight → new.seen.told.refused.reads ≡ old.seen.told.refused.reads
+  pub none : Room → Sight → (state_of new).failures ≡ (state_of old).failures
+
+-- a device that was handed what was sent until the first moment, and any first part of what was
+-- sent since, and has carried out any part of the writes behind its last flush
+abbrev pub CoversParts : Window → Window → Type 0
+CoversParts old new = mirror.CoversParts (mirror_of old) (mirror_of new)
+
+-- what a medium says of all calls of it that may come
+pub record Foresees (m : Window) : Type 0 where
+  pub covers : (new : Window) → ComesAfter m new → CoversDevice m new
+  pub parts : (new : Window) → ComesAfter m new → CoversParts m new
+  pub served : (new : Window) → ComesAfter m new → IsServed m new
+
+-- ---- a call
+
+-- the outbox has room, beside what waits, for as many calls as `usbdisk_room` tells for the image
+abbrev pub HasRoom : Store → Type 0
+HasRoom s = length s.medium.outbox + room_for (layout_of s.cached) ≤ s.medium.room
+
+-- all sectors before the first home sector lie in memory
+abbrev pub HoldsLog : Store → Type 0
+HoldsLog s = first_home (layout_of s.cached) ≤ s.medium.near
+
+-- All that a call gave to the device is appended to the outbox. Wherever in it the device is, and
+-- whichever of the writes behind its last flush it has carried out, a cut of it leaves what a cut
+-- at some moment of the call could. With the room, and the log in memory, none of its calls of the
+-- medium is refused.
+pub record Appends (old new : Store) : Type 0 where
+  pub follows : ComesAfter old.medium new.medium
+  pub covers : CoversDevice old.medium new.medium
+  pub parts : CoversParts old.medium new.medium
+  pub served : IsServed old.medium new.medium
+  pub refuses : RefusesNothing (HasRoom old) (HoldsLog old) old.medium new.medium
+
+-- each of so many sectors from one on is in sight
+abbrev pub AreInSight : Window → ℕ → ℕ → Type 0
+AreInSight m home count = (s : ℕ) → home ≤ s → s < home + count → is_in_sight m s ≡ true
+
+-- The sectors of a device that are to be shown, of so many home sectors from one on: those behind
+-- the first ones, which lie in memory, and not all of them are in sight.
+pub record AreMissing (m : Window) (home count first missing : ℕ) : Type 0 where
+  pub some : 0 < missing
+  pub few : missing ≤ 240
+  pub begin : first ≡ max home m.near
+  pub end : first + missing ≡ home + count
+  pub on_device : first + missing ≤ (state_of m).size
+  pub unseen : m.from ≤ first → m.from + m.held < first + missing
+
+-- ---- a start
+
+-- the room that `usbdisk_room` tells for the format and the slots of the super, or whatever the
+-- bytes that it tells for format 2 and 64 slots
+abbrev pub HasRoomToStart : Window → Type 0
+HasRoomToStart first =
+    let before : State = state_of first in
+    ((shape : Shape) × IsSuper shape (before.content 0) × (sectors_of shape ≤ before.size)
+    × (room_for shape ≤ first.room))
+    ⊎ (room_of Two 64 ≤ first.room)
+
+-- the first sectors are all before the first home sector, as `usbdisk_near` tells how many they are
+abbrev pub HoldsImageLog : Window → Type 0
+HoldsImageLog first = recovery.HoldsLog first.near (state_of first).size (state_of first).content
+
+-- no start misses: none has a call refused, good or refused itself
+abbrev pub StartRefusesNothing : Window → Window → Type 0
+StartRefusesNothing first after =
+    RefusesNothing (HasRoomToStart first) (HoldsImageLog first) first after

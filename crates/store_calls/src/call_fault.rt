@@ -1,0 +1,28 @@
+//! Why a call of a store behind a handle is refused.
+use blocks::StartFault;
+use thiserror::Error;
+
+#[derive(Clone, Copy, Debug, PartialEq, Eq, Error)]
+pub enum CallFault {
+    /// The handle has no store.
+    #[error("the handle is empty")]
+    Empty,
+    /// The handle has a store already.
+    #[error("the handle is in use")]
+    Held,
+    /// The bytes are no whole sectors, none, or more than there may be.
+    #[error("bad length")]
+    Length,
+    /// A block is behind the last one.
+    #[error("out of range")]
+    Range,
+    /// A sector of the log was read that is not in memory.
+    #[error("a read was refused")]
+    Unread,
+    /// The store accepts no write until the next start.
+    #[error("the store is dead")]
+    Dead,
+    /// No store has started.
+    #[error("the start is refused")]
+    Start(StartFault),
+}

@@ -1,0 +1,115 @@
+//! How blocks are read, and which sectors are to be shown before.
+ghost use Rattle.std.specs.Prelude.{◌≡◌, ◌<◌, ◌≤◌, ◌+◌, ◌/◌, None, IfSome, OnOk, IfErr, length};
+ghost use Rattle.log_layout.specs.Places.{first_home};
+ghost use Rattle.blocks.specs.StoreValue.{layout_of, blocks_of};
+ghost use Rattle.store_calls.specs.Rooms.{AreInSight, AreMissing, Foresees};
+ghost use Rattle.store_calls.specs.Calls.{MayMove, MayNotMove, ReadsBlocks, IsRead, IsUnread, home_of};
+
+use crate::CallFault;
+use blocks::Store;
+use medium::Medium;
+use mirror::device_laws;
+use window::WindowMedium;
+
+/// How many bytes a block has.
+pub(crate) const BLOCK: usize = 512;
+
+/// The home sectors that are to be shown before some blocks are read: the first, and how many.
+#[derive(Clone, Copy)]
+pub struct Missing {
+    pub first: u64,
+    pub count: u32,
+}
+
+// Does nothing. The laws of the outbox say of all that may come what it is for the device, and that
+// none of it is refused for which there is room.
+pub(crate) fn foresee(store: &Store<WindowMedium>)
+    ensures { Foresees store.now.medium }
+{
+    let _waiting = store.medium().waiting();
+    device_laws();
+}
+
+/// Whether so many bytes may be moved from or to the blocks from this address on.
+pub(crate) fn may_move(
+    store: &Store<WindowMedium>,
+    address: u64,
+    size: usize,
+) -> Result<(), CallFault>
+    ensures ok { OnOk result (MayMove store.now.cached address size) }
+    ensures err { IfErr result (MayNotMove store.now.cached address size) }
+{
+    let limit = store.limit() as usize;
+    if size == 0 || size % BLOCK != 0 || size > limit * BLOCK {
+        return Err(CallFault::Length);
+    }
+    let count = (size / BLOCK) as u64;
+    if address > store.blocks() || count > store.blocks() - address {
+        return Err(CallFault::Range);
+    }
+    if store.is_dead() {
+        return Err(CallFault::Dead);
+    }
+    Ok(())
+}
+
+/// Reads blocks as they are after all accepted writes; or tells which sectors are to be shown
+/// before, and changes nothing.
+pub(crate) fn read_blocks(
+    store: &mut Store<WindowMedium>,
+    address: u64,
+    to: &mut [u8],
+) -> Result<Option<Missing>, CallFault>
+    ensures { ReadsBlocks address store.old to.old store.new to.new result }
+{
+    may_move(store, address, to.len())?;
+    let count = (to.len() / BLOCK) as u32;
+    if let Some(missing) = unseen(store, address, count) {
+        return Ok(Some(missing));
+    }
+    match read_seen(store, address, to) {
+        Ok(()) => Ok(None),
+        Err(why) => Err(why),
+    }
+}
+
+// Those of the home sectors of so many blocks that are neither in memory nor in sight: all from the
+// first of them on.
+fn unseen(store: &Store<WindowMedium>, address: u64, count: u32) -> Option<Missing>
+    requires some { 0 < count }
+    requires few { count ≤ 240 }
+    requires inside { address + count ≤ blocks_of store.now.cached }
+    ensures some { IfSome result (λ asked. AreMissing store.now.medium
+        (home_of store.now address) count asked.first asked.count) }
+    ensures none { result ≡ None
+        → AreInSight store.now.medium (home_of store.now address) count }
+{
+    let home = store.home_of(address);
+    let _sectors = store.medium().sectors();
+    let end = home + u64::from(count);
+    let first = home.max(store.medium().near());
+    if end <= first {
+        return None;
+    }
+    let count = (end - first) as u32;
+    if store.medium().holds(first, u64::from(count)) {
+        return None;
+    }
+    Some(Missing { first, count })
+}
+
+// Reads blocks whose home sectors are in sight.
+fn read_seen(store: &mut Store<WindowMedium>, address: u64, to: &mut [u8]) -> Result<(), CallFault>
+    requires may { MayMove store.old.cached address (length to.old) }
+    requires seen { AreInSight store.old.medium (home_of store.old address) (length to.old / 512) }
+    ensures ok { OnOk result
+        (IsRead address (length to.old / 512) store.old to.new store.new) }
+    ensures err { IfErr result (λ why. (why ≡ CallFault.Unread)
+        × IsUnread address (length to.old / 512) store.old store.new) }
+{
+    foresee(store);
+    match store.read(address, to) {
+        Ok(()) => Ok(()),
+        Err(_) => Err(CallFault::Unread),
+    }
+}

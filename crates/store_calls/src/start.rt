@@ -1,0 +1,62 @@
+//! How a store starts on the first sectors of a device.
+ghost use Rattle.std.specs.Prelude.{◌≡◌, ◌⊎◌, IfOk, IfErr};
+ghost use Rattle.window.specs.Window.{fresh};
+ghost use Rattle.store_calls.specs.Starts.{Begins, IsNoStart, IsNoLength};
+ghost use Rattle.recovery.specs.declared.start_fault.StartFault.TheVariants.{NoMemory};
+
+use crate::CallFault;
+use blocks::{StartFault, Store};
+use mirror::device_laws;
+use std::alloc::Global;
+use window::{DeviceHolds, WindowError, WindowMedium};
+
+// A medium of a device of so many sectors, of which these are the first.
+fn window_of(
+    alloc: Global,
+    near: &[u8],
+    sectors: u64,
+    device: &DeviceHolds,
+    span: u32,
+    room: usize,
+) -> Result<WindowMedium, CallFault>
+    ensures ok { IfOk result (λ m. m ≡ fresh sectors near.now device.now.bytes span room) }
+    ensures err { IfErr result (λ why. (why ≡ CallFault.Start NoMemory)
+        ⊎ ((why ≡ CallFault.Length) × IsNoLength near.now sectors)) }
+{
+    let Ok(copy) = Vec::from_slice(alloc, near) else {
+        return Err(CallFault::Start(StartFault::NoMemory));
+    };
+    match WindowMedium::new(alloc, copy, sectors, device, span, room) {
+        Ok(medium) => Ok(medium),
+        Err(WindowError::BadLength) => Err(CallFault::Length),
+        Err(WindowError::NoMemory) => Err(CallFault::Start(StartFault::NoMemory)),
+    }
+}
+
+/// A store on a device of so many sectors, of which these are the first.
+pub(crate) fn begin(
+    alloc: Global,
+    near: &[u8],
+    sectors: u64,
+    device: &DeviceHolds,
+    span: u32,
+    room: usize,
+) -> Result<Box<Store<WindowMedium>>, CallFault>
+    ensures ok { IfOk result (λ held.
+        Begins (fresh sectors near.now device.now.bytes span room) held.value) }
+    ensures err { IfErr result (IsNoStart near.now sectors
+        (fresh sectors near.now device.now.bytes span room)) }
+{
+    let medium = window_of(alloc, near, sectors, device, span, room)?;
+    // The law of the medium, from the first call on.
+    let _waiting = medium.waiting();
+    device_laws();
+    let store = match Store::start(alloc, medium) {
+        Ok(store) => store,
+        Err(error) => return Err(CallFault::Start(error.fault)),
+    };
+    match Box::new(alloc, store) {
+        Ok(held) => Ok(held),
+        Err(_) => Err(CallFault::Start(StartFault::NoMemory)),
+    }
+}
