@@ -8,12 +8,13 @@
  * packet in again.
  *
  *     while ((code = usbdisk_bulk_out(&disk, packet, size, &first, &count)) == USBDISK_NEEDS) {
- *         (read `count` sectors from sector `first` on into `buffer`: one read of the device)
+ *         (read `count` sectors from sector `first` on into `buffer`: one read of the device; where
+ *          it cannot read them: code = usbdisk_bulk_out_unread(&disk, packet, size), and break)
  *         if (usbdisk_show(&disk, first, buffer, count * 512))
- *             break;
+ *             break;       (calls wait in the outbox: answer NAK, carry them out, and call again)
  *     }
  *
- * What the disk writes comes out of an outbox. After each call that may write (start, bulk_out, tick)
+ * What the disk writes comes out of an outbox. After each call that may write (start, bulk_out, bulk_out_unread, tick)
  * take the calls out with usbdisk_take_run, neighbouring sectors together, or with usbdisk_take, one
  * by one; carry each out on the device, in order, and only then let the answer of the call go to the
  * host, or make the next one. docs/MAKERS.md tells what the device must promise.
@@ -21,8 +22,8 @@
  * Link the program with libusbdisk_c.a, and define the two functions at the end of this file.
  *
  * Threads: a disk is used by one thread, the one that started it. No call may be made from a signal
- * handler or from an interrupt that can interrupt another call. No call waits. Only usbdisk_format and
- * usbdisk_start take memory.
+ * handler or from an interrupt that can interrupt another call. No call waits. Only usbdisk_start,
+ * usbdisk_store_start, usbdisk_format, usbdisk_lay_log and usbdisk_migrate take memory.
  *
  * Errors: a call that answers one of the numbers from 16 on changed nothing, neither the disk nor
  * what its pointers point to. No pointer may be null, also where the size beside it is 0, and no two
@@ -38,9 +39,9 @@
 extern "C" {
 #endif
 
-/* The version, 0.9.0: two bytes for the first number, and one for each other. The library tells its
+/* The version, 0.10.0: two bytes for the first number, and one for each other. The library tells its
  * own: where the two differ, header and library are not of one version. */
-#define USBDISK_VERSION 0x000900u
+#define USBDISK_VERSION 0x000A00u
 
 uint32_t usbdisk_version(void);
 
@@ -87,6 +88,9 @@ enum {
     USBDISK_LOG_TOO_SMALL = 10   /* never of a start */
 };
 
+/* A store neither reads nor writes until the next start: a call had no room in the outbox. */
+enum { USBDISK_DEAD = 11 };
+
 /* What is wrong with the arguments of a call. */
 enum {
     USBDISK_EMPTY = 16,           /* the handle has no disk */
@@ -96,7 +100,8 @@ enum {
     USBDISK_BAD_PACKET_SIZE = 20, /* neither 64 nor 512 */
     USBDISK_BAD_LENGTH = 21,      /* bytes of no sectors or a part of one, or more than the device has */
     USBDISK_BAD_SIZES = 22,       /* sizes out of their limits, or too few bytes for them */
-    USBDISK_NOT_TAKEN = 23        /* sectors that cannot be shown */
+    USBDISK_NOT_TAKEN = 23,       /* sectors that cannot be shown */
+    USBDISK_BAD_RANGE = 24        /* a block behind the last one */
 };
 
 /* What usbdisk_take or usbdisk_take_run took out. */
@@ -113,7 +118,8 @@ uint64_t usbdisk_room(uint32_t format, uint64_t slots);
 
 /* How many bytes of memory a start takes where it is given so many bytes of the first sectors: for an
  * image of this format, with so many log slots, a window of this span, and an outbox of so much room.
- * It is the same for every size of the device. 0 where these are no such. */
+ * It is the same for every size of the device. 0 where there is no such format or no such number of
+ * slots; near_size is not judged. A store without the transport takes less. */
 uint64_t usbdisk_memory(uint64_t near_size, uint32_t format, uint64_t slots, uint32_t span, uint64_t room);
 
 /* Makes an image in memory, for a new device that fits there: so many blocks of zeros, 1 to 2^31, and
@@ -132,8 +138,8 @@ uint64_t usbdisk_near(const uint8_t sector[512]);
  *
  * near: the device's first sectors, as many as usbdisk_near tells, or as the device has where these
  * are fewer. span: how many sectors are shown at a time at most: 48 in format 1, 240 in format 2, as
- * one READ may have; with less a longer READ is never served, since usbdisk_show takes no more. packet: 64 at full speed, 512 at high speed. room: how many calls the
- * outbox has room for.
+ * one READ may have. With less a longer READ is never served, since usbdisk_show takes no more.
+ * packet: 64 at full speed, 512 at high speed. room: how many calls the outbox has room for.
  *
  * Answers 0, a number from 1 to 10, or STARTED, BAD_IDENTITY, BAD_PACKET_SIZE or BAD_LENGTH. At all
  * but 0 the handle stays as it was, and no memory is kept. */
@@ -150,10 +156,18 @@ uint32_t usbdisk_stop(struct usbdisk *disk);
 /* A packet came to the Bulk-Out endpoint. Answers ACK, NAK, STALL, EMPTY or TOO_LONG; or NEEDS, and
  * nothing happened: show the `*count` sectors from `*first` on, and call it again with the same
  * packet. At all but NEEDS `*first` and `*count` stay. It needs sectors before a READ alone, and these
- * are home sectors, at most 240. Where the device cannot read them, do as after a loss of power: stop,
- * and start anew. */
+ * are home sectors, at most 240. Where the device cannot read them, call usbdisk_bulk_out_unread. */
 uint32_t usbdisk_bulk_out(struct usbdisk *disk, const uint8_t *packet, size_t size, uint64_t *first,
                           uint32_t *count);
+
+/* Plays a packet before which usbdisk_bulk_out answered NEEDS, without the sectors that it asked for:
+ * the device cannot read them. The READ ends with CHECK CONDITION then, and its sense is 3/11/00, an
+ * unrecovered read error; or it ends good, where the newest bytes of each of its blocks wait in memory
+ * or are in sight. The disk goes on, and each other command is served as ever. Nothing needs to be
+ * remembered between the two calls, and the same READ may be asked for again.
+ *
+ * Answers ACK, NAK, STALL, EMPTY or TOO_LONG. */
+uint32_t usbdisk_bulk_out_unread(struct usbdisk *disk, const uint8_t *packet, size_t size);
 
 /* Shows sectors as the device holds them, from `first` on, in place of those that were shown before.
  * size: 512 for each of them.
@@ -174,8 +188,9 @@ uint32_t usbdisk_bulk_in(struct usbdisk *disk, uint8_t packet[512], uint32_t *si
 uint32_t usbdisk_setup(struct usbdisk *disk, const uint8_t setup[8], uint8_t data[2], uint32_t *size);
 
 /* Makes a step in the background, of at most two calls of the medium. Call it while the bus is idle.
- * Answers 1 while steps are left, 0 where every accepted write is durable and at its home place, or
- * EMPTY. After a call that the outbox had no room for it stays 1: stop, and start with more room. */
+ * Answers 1 while steps are left, or EMPTY; 0 where every accepted write is durable and at its home
+ * place once the device has carried out what waits then, so carry the outbox out after a 0 too. After a
+ * call that the outbox had no room for it stays 1: stop, and start with more room. */
 uint32_t usbdisk_tick(struct usbdisk *disk);
 
 /* Takes the first call out of the outbox. At WRITE `bytes` are to be written to sector `*sector`; at
@@ -193,6 +208,15 @@ uint32_t usbdisk_take(struct usbdisk *disk, uint64_t *sector, uint8_t bytes[512]
  * where size is 0 or no multiple of 512. */
 uint32_t usbdisk_take_run(struct usbdisk *disk, uint64_t *sector, uint8_t *bytes, size_t size,
                           size_t *count);
+
+/* The device refused the call that usbdisk_take or usbdisk_take_run handed out last. The disk is faulted
+ * from then on: nothing waits in the outbox, and nothing comes into it. A good status that usbdisk_bulk_in
+ * has not handed out yet turns from 00h into 01h, and REQUEST SENSE tells 3/0C/00, a write error. Each
+ * later command that needs the medium ends with CHECK CONDITION and 4/44/00, until the next start.
+ *
+ * What was promised before is on the device. WRITEs that were answered good and not promised may be
+ * lost, as by a cut. Answers 0 or EMPTY. */
+uint32_t usbdisk_refused(struct usbdisk *disk);
 
 /* A handle of calls that make an image on a device, or change its format. Set it to USBDISK_IMAGE_NONE
  * before usbdisk_lay_log or usbdisk_migrate; never write or copy it after. */
@@ -212,8 +236,8 @@ struct usbdisk_image {
  * NOTHING; then end the handle. Power may go at any point: a cut leaves what was there before, no image,
  * or the new one, whole.
  *
- * near: the device's first sectors; one is enough. Takes memory for a copy of them, and 528 bytes for
- * each call.
+ * near: the device's first sectors; one is enough. Takes memory for a copy of them, 528 bytes for each
+ * call, and 120 more.
  *
  * Answers 0, NO_MEMORY, STARTED, BAD_LENGTH or BAD_SIZES. At all but 0 the handle stays as it was. */
 uint32_t usbdisk_lay_log(struct usbdisk_image *image, const uint8_t *near, size_t near_size, uint64_t sectors,
@@ -225,8 +249,8 @@ uint32_t usbdisk_lay_log(struct usbdisk_image *image, const uint8_t *near, size_
  *
  * near: the device's first sectors, as many as usbdisk_near tells. room: how many writes and flushes the
  * handle has room for; enough are 98 * slots + 9 for format 1, and 240 * slots + 4 for format 2, with the
- * slots of the image. Takes memory for a copy of `near`, and 528 bytes for each
- * call of the room. With less room than is needed it answers WRITE_REFUSED or FLUSH_REFUSED.
+ * slots of the image. Takes memory for a copy of `near`, and 528 bytes for each call of the room. With
+ * less room than is needed it answers WRITE_REFUSED or FLUSH_REFUSED.
  *
  * Answers 0, a number from 1 to 10, STARTED or BAD_LENGTH. At all but 0 the handle stays as it was, and
  * nothing is for the device to do: the image is as it was. */
@@ -240,6 +264,67 @@ uint32_t usbdisk_next(struct usbdisk_image *image, uint64_t *sector, uint8_t byt
 /* Ends the handle, and frees all memory. What still waits is let go: carry it out before, or the device
  * is left as by a cut. Answers 0 or EMPTY. */
 uint32_t usbdisk_end(struct usbdisk_image *image);
+
+/* The store without the transport, for a USB stack that has SCSI in it: its callbacks read and write
+ * blocks of 512 bytes and synchronise them. docs/MAKERS.md has a section on it, examples/c/tinyusb.c a program.
+ * All that is told above of the first sectors, the outbox, its order and threads holds here too.
+ *
+ * A handle. Set it to USBDISK_STORE_NONE before usbdisk_store_start; never write or copy it after. */
+struct usbdisk_store {
+    void *at;
+};
+
+#define USBDISK_STORE_NONE { 0 }
+
+/* Starts a store on a device, as usbdisk_start starts a disk: near, sectors, span and room are as there.
+ * A span of as many sectors as the blocks of one read is enough.
+ *
+ * Answers 0, a number from 1 to 10, STARTED or BAD_LENGTH. At all but 0 the handle stays as it was, and
+ * no memory is kept. */
+uint32_t usbdisk_store_start(struct usbdisk_store *store, const uint8_t *near, size_t near_size,
+                             uint64_t sectors, const struct usbdisk_device *device, uint32_t span,
+                             size_t room);
+
+/* Stops the store, as usbdisk_stop does a disk. Answers 0 or EMPTY. */
+uint32_t usbdisk_store_stop(struct usbdisk_store *store);
+
+/* How many blocks there are, and how many of them a read and a write have at most: 48 in format 1, 240
+ * in format 2. Answers 0 or EMPTY. */
+uint32_t usbdisk_store_sizes(struct usbdisk_store *store, uint64_t *blocks, uint32_t *limit);
+
+/* Reads whole blocks, from `block` on, as they are after all accepted writes. size: 512 for each.
+ *
+ * Answers 0; NEEDS, and nothing happened: show the `*count` sectors from `*first` on, and call it again
+ * (at all others `*first` and `*count` stay); EMPTY, BAD_LENGTH where the bytes are no whole blocks, none
+ * or more than the limit, or BAD_RANGE; DEAD, and nothing happened; or READ_REFUSED where not all sectors
+ * of usbdisk_near were given to the start: the bytes may be any then. Where the device cannot read the
+ * sectors that it asks for, let the stack tell its host, and call nothing. */
+uint32_t usbdisk_store_read(struct usbdisk_store *store, uint64_t block, uint8_t *bytes, size_t size,
+                            uint64_t *first, uint32_t *count);
+
+/* Shows sectors as the device holds them, as usbdisk_show. Answers 0, NOT_TAKEN or EMPTY. */
+uint32_t usbdisk_store_show(struct usbdisk_store *store, uint64_t first, const uint8_t *bytes, size_t size);
+
+/* Writes whole blocks, from `block` on: one write, which no cut leaves in part. The next good sync
+ * promises it. Take the calls out of the outbox after it.
+ *
+ * Answers 0 where it is accepted; EMPTY, BAD_LENGTH or BAD_RANGE as usbdisk_store_read; or DEAD, and none
+ * of it is written: the store was dead, or died in this call since the outbox had no room. */
+uint32_t usbdisk_store_write(struct usbdisk_store *store, uint64_t block, const uint8_t *bytes, size_t size);
+
+/* Makes every accepted write durable, once the device has carried out what waits in the outbox then.
+ * Answers 0, EMPTY, or DEAD as usbdisk_store_write: nothing more is promised then. */
+uint32_t usbdisk_store_sync(struct usbdisk_store *store);
+
+/* Makes a step in the background, as usbdisk_tick. Answers 1, 0 or EMPTY. Carry the outbox out after
+ * each, that of a 0 too. */
+uint32_t usbdisk_store_tick(struct usbdisk_store *store);
+
+/* Takes the first call out of the outbox, as usbdisk_take. Where the device refuses one, take out no
+ * more, answer each callback of the stack with an error, and call nothing but usbdisk_store_stop before
+ * the next start: what follows a lost write must not be there without it. Answers NOTHING, WRITE, FLUSH
+ * or EMPTY. */
+uint32_t usbdisk_store_take(struct usbdisk_store *store, uint64_t *sector, uint8_t bytes[512]);
 
 /* What the program gives to the library.
  *

@@ -1,5 +1,5 @@
 /* How much memory a start takes, by format and slots, against what usbdisk_memory tells; that a start
- * for want of any block of memory keeps none; and how much stack the calls take. */
+ * for want of any block of memory keeps none; and how much stack a start and the events take. */
 #include "gadget.h"
 #include "usbdisk.h"
 #include <stdio.h>
@@ -32,40 +32,52 @@ static uint32_t start(struct usbdisk *disk, size_t room)
     return usbdisk_start(disk, medium, near_size(), sectors, &name, &who, 512, SPAN, room);
 }
 
-/* One event of each kind, and all steps in the background. */
-static void play(struct usbdisk *disk)
+/* Carries out the outbox on the image. */
+static void persist(struct usbdisk *disk)
 {
-    static uint8_t out[31] = { 'U', 'S', 'B', 'C', 1, 0, 0, 0, 0, 2, 0, 0, 0, 0, 10, 0x2A, 8 };
-    static uint8_t packet[512];
-    uint64_t sector, first;
-    uint32_t count;
-    out[23] = 1;
-    usbdisk_bulk_out(disk, out, sizeof out, &first, &count);
-    usbdisk_bulk_out(disk, packet, sizeof packet, &first, &count);
-    usbdisk_bulk_in(disk, packet, &count);
-    while (usbdisk_take(disk, &sector, packet) != USBDISK_NOTHING)
-        ;
-    out[12] = 0x80;
-    out[15] = 0x28;
-    out[16] = 0;
-    if (usbdisk_bulk_out(disk, out, sizeof out, &first, &count) != USBDISK_NEEDS)
-        abort();
-    usbdisk_show(disk, first, medium + 512 * first, 512 * count);
-    usbdisk_bulk_out(disk, out, sizeof out, &first, &count);
-    usbdisk_bulk_in(disk, packet, &count);
-    usbdisk_bulk_in(disk, packet, &count);
-    while (usbdisk_tick(disk) == 1)
-        while (usbdisk_take(disk, &sector, packet) != USBDISK_NOTHING)
-            ;
+    static uint8_t bytes[512];
+    uint64_t sector;
+    for (uint32_t kind; (kind = usbdisk_take(disk, &sector, bytes)) != USBDISK_NOTHING;)
+        if (kind == USBDISK_WRITE)
+            memcpy(medium + 512 * sector, bytes, 512);
 }
 
-static void live(void)
+/* A command: its wrapper, its data and its status, with what is needed shown and the outbox carried out. */
+static void command(struct usbdisk *disk, uint8_t code, uint8_t flags, uint8_t block, uint8_t count)
 {
-    struct usbdisk disk = USBDISK_NONE;
-    if (start(&disk, 64))
-        abort();
-    play(&disk);
-    usbdisk_stop(&disk);
+    static uint8_t packet[512];
+    uint8_t out[31] = { 'U', 'S', 'B', 'C', 1, 0, 0, 0, 0, count * 2, 0, 0, code == 0x28 ? 0x80 : 0, 0, 10, code, flags };
+    uint64_t first;
+    uint32_t needed, size;
+    out[20] = block;
+    out[23] = count;
+    if (usbdisk_bulk_out(disk, out, sizeof out, &first, &needed) == USBDISK_NEEDS) {
+        usbdisk_show(disk, first, medium + 512 * first, 512 * needed);
+        usbdisk_bulk_out(disk, out, sizeof out, &first, &needed);
+    }
+    for (int i = 0; i < count && code == 0x2A; i++) {
+        usbdisk_bulk_out(disk, packet, sizeof packet, &first, &needed);
+        persist(disk);
+    }
+    persist(disk);
+    while (usbdisk_bulk_in(disk, packet, &size) == USBDISK_ACK)
+        ;
+}
+
+/* Events of all kinds. A forced WRITE is a record each time, so that the ring is full soon, and the oldest record goes home. */
+static void play(struct usbdisk *disk)
+{
+    static const uint8_t class_reset[8] = { 0x21, 0xFF };
+    uint8_t data[2];
+    uint32_t size;
+    for (uint8_t i = 0; i < 8; i++) {
+        command(disk, 0x2A, 8, i, 40);
+        command(disk, 0x2A, 0, 100 + i, 40);
+        command(disk, 0x28, 0, 110 - 10 * i, 40);
+    }
+    command(disk, 0x35, 0, 0, 0);
+    command(disk, 0x2A, 8, 0, 40);
+    usbdisk_setup(disk, class_reset, data, &size);
 }
 
 /* Paints the stack below, makes the calls, and looks how far the paint is gone. */
@@ -84,6 +96,31 @@ static __attribute__((noinline)) size_t unpainted(void)
     while (i < STACK && below[i] == PAINT)
         i++;
     return STACK - i;
+}
+
+static size_t more(size_t one, size_t other)
+{
+    return one > other ? one : other;
+}
+
+/* Two lives on one image: the second start recovers what the first life left. Notes the most stack that a start took, and the
+ * most that an event took. */
+static __attribute__((noinline)) void live_twice(uint32_t format, size_t *starts, size_t *events)
+{
+    for (int life = 1; life <= 2; life++) {
+        struct usbdisk disk = USBDISK_NONE;
+        paint();
+        if (start(&disk, usbdisk_room(format, 2)))
+            abort();
+        *starts = more(*starts, unpainted());
+        paint();
+        persist(&disk);
+        play(&disk);
+        while (life == 2 && usbdisk_tick(&disk) == 1)
+            persist(&disk);
+        *events = more(*events, unpainted());
+        usbdisk_stop(&disk);
+    }
 }
 
 int main(int count, char **words)
@@ -105,14 +142,18 @@ int main(int count, char **words)
             free(medium);
         }
     }
+    size_t starts = 0, events = 0;
+    for (uint32_t format = 1; format <= 2; format++) {
+        if (!make_device(format, 2))
+            return EXIT_FAILURE;
+        live_twice(format, &starts, &events);
+        free(medium);
+    }
+    if (!quiet)
+        printf("stack: %zu bytes in a start, %zu in an event\n", starts, events);
+    wrong |= starts > 32768 || events > 16384;
     if (!make_device(1, 2))
         return EXIT_FAILURE;
-    paint();
-    live();
-    size_t stack = unpainted();
-    if (!quiet)
-        printf("stack: %zu bytes\n", stack);
-    wrong |= stack > 32768;
     int taken = 0;
     for (uint32_t code = USBDISK_NO_MEMORY; code; taken++) {
         struct usbdisk disk = USBDISK_NONE;

@@ -8,8 +8,9 @@
 #include <unistd.h>
 
 enum { FORMAT = 1, BLOCKS = 64, SLOTS = 2, PACKET = 512, SPAN = 48, SECTORS = 2 + 50 * SLOTS + BLOCKS };
-/* How many neighbouring sectors are written by one write at most. */
-enum { RUN = 48 };
+/* How many neighbouring sectors are written by one write at most, and more steps than are ever left: those
+ * of a faulted disk do not end. */
+enum { RUN = 48, STEPS = (SLOTS + 4) * (2 * SPAN + 16) };
 
 static const struct usbdisk_identity who = { "EXAMPLE ", "IMAGE FILE      ", "0001",
                                              "000000000001" };
@@ -51,8 +52,8 @@ static bool bulk_out(struct usbdisk *disk, FILE *device, const struct event *eve
 }
 
 /* Persist first, then send: carries out all that waits, in order, neighbouring sectors by one write.
- * A device that refuses a call is treated as a loss of power: stop, read the device again, start. */
-static bool persist(struct usbdisk *disk, FILE *device)
+ * Where the device refuses a call the disk is told. Nothing waits then, and the host hears of it. */
+static void persist(struct usbdisk *disk, FILE *device)
 {
     static uint8_t bytes[RUN * 512];
     uint64_t sector;
@@ -61,17 +62,17 @@ static bool persist(struct usbdisk *disk, FILE *device)
         switch (usbdisk_take_run(disk, &sector, bytes, sizeof bytes, &count)) {
         case USBDISK_WRITE:
             if (fseek(device, (long)(sector * 512), SEEK_SET) || fwrite(bytes, 512, count, device) != count)
-                return false;
+                usbdisk_refused(disk);
             sectors_written += (unsigned)count;
             writes++;
             break;
         case USBDISK_FLUSH:
             if (fflush(device) || fsync(fileno(device)))
-                return false;
+                usbdisk_refused(disk);
             flushes++;
             break;
         default:
-            return true;
+            return;
         }
     }
 }
@@ -114,16 +115,15 @@ static bool serve(struct usbdisk *disk, FILE *device)
             reset(disk);
             continue;
         case IDLE:
-            do
-                code = usbdisk_tick(disk);
-            while (persist(disk, device) && code == 1);
+            for (int steps = 0; steps < STEPS && usbdisk_tick(disk) == 1; steps++)
+                persist(disk, device);
+            persist(disk, device);
             printf("all at home: %u sectors by %u writes, %u flushes\n", sectors_written, writes, flushes);
             continue;
         default:
             return true;
         }
-        if (!persist(disk, device))
-            return false;
+        persist(disk, device);
         tell_host(code, packet, size);
     }
 }
@@ -144,7 +144,8 @@ int main(int count, char **words)
     printf("start again %u\n", start(&disk, device));
     printf("a long packet %u\n", usbdisk_bulk_out(&disk, image, 513, &first, &needed));
     printf("the log is shown %u\n", usbdisk_show(&disk, 2, image, 512));
-    if (!persist(&disk, device) || !serve(&disk, device))
+    persist(&disk, device);
+    if (!serve(&disk, device))
         return EXIT_FAILURE;
     printf("stop %u\n", usbdisk_stop(&disk));
     printf("stop again %u, %zu blocks of memory left\n", usbdisk_stop(&disk), heap_blocks);

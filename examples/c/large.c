@@ -1,5 +1,6 @@
 /* A device larger than memory: 2^31 blocks, of which a map has the sectors that were written. A log is laid on it, a disk
- * started, a block written and read again; then the image is migrated. The power goes at each call on the way. */
+ * started, a block written and read again, also while the device cannot read it; then the image is migrated. The power
+ * goes at each call on the way. */
 #include "gadget.h"
 #include "usbdisk.h"
 #include <stdbool.h>
@@ -27,6 +28,9 @@ static struct place *place_of(uint64_t sector)
         at = (at + 1) % PLACES;
     return &device[at];
 }
+
+/* The device cannot read home sectors. */
+static bool is_worn;
 
 static void read_sectors(uint64_t first, uint8_t *bytes, uint64_t count)
 {
@@ -113,6 +117,10 @@ static uint32_t out(struct usbdisk *disk, const uint8_t *packet, size_t size)
     uint64_t first;
     uint32_t code, count;
     while ((code = usbdisk_bulk_out(disk, packet, size, &first, &count)) == USBDISK_NEEDS) {
+        if (is_worn) {
+            code = usbdisk_bulk_out_unread(disk, packet, size);
+            break;
+        }
         read_sectors(first, buffer, count);
         if (usbdisk_show(disk, first, buffer, count * 512))
             return code;
@@ -133,17 +141,40 @@ static bool move_block(struct usbdisk *disk, uint8_t *block, bool writes)
            !usbdisk_bulk_in(disk, status, &size) && size == 13 && status[12] == 0;
 }
 
+/* REQUEST SENSE: the sense key, and the code behind it. */
+static int sense_of(struct usbdisk *disk)
+{
+    uint8_t wrapper[31] = { 'U', 'S', 'B', 'C', 1, 0, 0, 0, 18, 0, 0, 0, 0x80, 0, 6, 3, 0, 0, 0, 18 }, data[512], status[512];
+    uint32_t size;
+    if (out(disk, wrapper, sizeof wrapper) || usbdisk_bulk_in(disk, data, &size) || size != 18 ||
+        usbdisk_bulk_in(disk, status, &size))
+        return -1;
+    return data[2] << 16 | data[12] << 8 | data[13];
+}
+
+/* A block that the device cannot read ends one READ, and is read once the device can again. */
+static bool goes_on(struct usbdisk *disk)
+{
+    static const uint8_t clear[8] = { 2, 1, 0, 0, 0x81 };
+    uint8_t block[512], status[512], none[2];
+    uint32_t size;
+    is_worn = true;
+    /* Bulk-In is halted before the status, as no byte of the data comes. */
+    bool is_told = !move_block(disk, block, false) && !usbdisk_setup(disk, clear, none, &size) &&
+                   !usbdisk_bulk_in(disk, status, &size) && size == 13 && status[12] == 1 && sense_of(disk) == 0x031100;
+    is_worn = false;
+    return is_told && move_block(disk, block, false);
+}
+
 /* What a start finds: the byte of the last block, or -1 where there is no image. */
 static int found(void)
 {
     struct usbdisk disk = USBDISK_NONE;
-    uint8_t block[512], again[512], sense[31] = { 'U', 'S', 'B', 'C', 1, 0, 0, 0, 18, 0, 0, 0, 0x80, 0, 6, 3, 0, 0, 0, 18 };
-    uint32_t size;
+    uint8_t block[512];
     if (start(&disk))
         return -1;
     persist(&disk);
-    bool good = !out(&disk, sense, sizeof sense) && !usbdisk_bulk_in(&disk, again, &size) &&
-                !usbdisk_bulk_in(&disk, again, &size) && move_block(&disk, block, false);
+    bool good = sense_of(&disk) == 0x062900 && move_block(&disk, block, false);
     usbdisk_stop(&disk);
     return good ? block[511] : -2;
 }
@@ -165,8 +196,7 @@ static bool cuts(uint32_t format, int calls, int one, int other)
 int main(void)
 {
     struct usbdisk disk = USBDISK_NONE;
-    uint8_t block[512], sense[31] = { 'U', 'S', 'B', 'C', 1, 0, 0, 0, 18, 0, 0, 0, 0x80, 0, 6, 3, 0, 0, 0, 18 }, packet[512];
-    uint32_t size;
+    uint8_t block[512];
     /* The last block is at home behind a log of format 1, and that of another image too. */
     memset(block, 0x5A, 512);
     write_sector(2 + 50 * SLOTS + BLOCKS - 1, block);
@@ -179,8 +209,9 @@ int main(void)
         return EXIT_FAILURE;
     persist(&disk);
     memset(block, 0xA5, 512);
-    bool good = !out(&disk, sense, sizeof sense) && !usbdisk_bulk_in(&disk, packet, &size) &&
-                !usbdisk_bulk_in(&disk, packet, &size) && move_block(&disk, block, true);
+    bool good = sense_of(&disk) == 0x062900 && goes_on(&disk);
+    printf("a block that the device cannot read for a while: %s\n", good ? "ends one READ" : "WRONG");
+    good = good && move_block(&disk, block, true);
     usbdisk_stop(&disk);
     printf("a block is written: %s\n", good ? "yes" : "no");
     printf("a migration: %s\n", cuts(0, 50 * SLOTS + 20, 0xA5, 0xA5) ? "good at each cut" : "WRONG");

@@ -1,20 +1,25 @@
 -- A start that was refused: its own calls say why.
-use Rattle.std.proofs.Common.{◌≡◌, ◌⊎◌, inl, inr, ◌<◌, ◌+◌, false, length, subst, arith}
+use Rattle.std.proofs.Common.{◌≡◌, ◌≢◌, ◌⊎◌, inl, inr, ◌<◌, ◌+◌, false, length, subst, arith}
 use Rattle.std.specs.List.{list_all}
 use Rattle.std.proofs.lemmas.Bool.{cases_Bool}
 use Rattle.medium.specs.declared.fault.MediumFault.TheVariants as kind
 use Rattle.medium.specs.declared.fault.MediumFault.{MediumFault}
 use Rattle.medium.specs.Sent.{sent}
 use Rattle.window.specs.Window.{Window, state_of, kept_out, is_in_sight, ComesAfter, IsServed}
+use Rattle.window.specs.Looks.{near_in_sight, none_missed}
 use Rattle.recovery.specs.Causes.{start_fault_of}
 use Rattle.recovery.specs.declared.start_fault.StartFault.TheVariants as fault
 use Rattle.scsi_unit.specs.StartFaults.{StartFault}
-use Rattle.bot_machine.specs.Opening.{IsNotOpened, StartLeaves}
+use Rattle.bot_machine.specs.Opening.{IsNotOpened, StartLeaves, LeavesMedium}
 use Rattle.usbdisk_c.specs.Plays.{EndsIn}
-use Rattle.usbdisk_c.proofs.Rooms.{spared}
+use Rattle.usbdisk_c.specs.Refusals.{HoldsImageLog}
+use Rattle.usbdisk_c.proofs.Rooms.{start_refuses}
 
 module _ (first after : Window) (empty : length first.outbox ≡ 0) (leaves : StartLeaves (state_of first) (state_of after))
-    (follows : ComesAfter first after) where
+    (medium : LeavesMedium state_of ComesAfter first after) where
+  abbrev follows : ComesAfter first after
+  follows = medium.follows
+
   -- the call of this kind that the fault names was refused
   grew : (why : MediumFault) → IsNotOpened (state_of first) (state_of after) (start_fault_of why)
       → (state_of first).refused why < (state_of after).refused why
@@ -59,12 +64,21 @@ module _ (first after : Window) (empty : length first.outbox ≡ 0) (leaves : St
     | inr some ↦ some
   ]
 
+  -- each sector that was read lies in memory
+  sighted : (why : StartFault) → IsNotOpened (state_of first) (state_of after) why → HoldsImageLog first → why ≢ fault.Read
+  sighted why not log is = absurd (omega (
+    arith,
+    grew kind.Read (subst (IsNotOpened (state_of first) (state_of after)) is not),
+    none_missed (λ s. s < first.near) first after follows (near_in_sight first) (medium.looks first.near log),
+  ))
+
   pub ends_in : (why : StartFault) → IsNotOpened (state_of first) (state_of after) why → IsServed first after → EndsIn first after why
   ends_in why not served = record {
     not = not;
     leaves = leaves;
     follows = follows;
-    spared = spared first after empty leaves follows served;
+    refuses = start_refuses first after empty leaves medium served;
     full = full why not;
     unseen = unseen why not;
+    sighted = sighted why not;
   }

@@ -25,7 +25,7 @@ same_writes (suc count) sector was filled same =
     (λ i. same_writes count sector was filled (λ k lt. same k (omega (arith, lt))) i
     ++ Write (record { sector = sector + count; block = sym (same count (omega arith)) i }) ∷ [])
 
-rearmed_through : (a b c : Disk) → IsRearmed a b → IsRearmed b c → IsRearmed a c
+pub rearmed_through : (a b c : Disk) → IsRearmed a b → IsRearmed b c → IsRearmed a c
 rearmed_through a b c f g = g ∙ ap (λ (d : Disk). record d {
   unit = record d.unit {
     store = record d.unit.store { medium = c.unit.store.medium };

@@ -72,7 +72,7 @@ NOT_TAKEN = 23
 
 -- the version of the library, by two bytes for the first number and one for each other
 abbrev pub VERSION : ℕ
-VERSION = 0x000900
+VERSION = 0x000a00
 
 -- (a clause that names VERSION itself would mean the constant of the source)
 abbrev pub TellsVersion : ℕ → Type 0

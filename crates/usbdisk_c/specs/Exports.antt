@@ -1,7 +1,7 @@
 -- What each export answers, and what it leaves in the handle.
 use Rattle.std.specs.Prelude.{◌≡◌, ◌≢◌, ◌⊎◌, ◌↔◌, ℕ, ◌*◌, ◌/◌, ◌%◌, ◌<◌, ◌≤◌, Bool, true, false}
 use Rattle.std.specs.Prelude.{List, length, Option, Some, None}
-use Rattle.medium.specs.Medium.{State}
+use Rattle.medium.specs.Medium.{State, Image}
 use Rattle.medium.specs.Writes.{sector_of}
 use Rattle.mirror.specs.Mirror.{Mirror, state_of, first_of}
 use Rattle.window.specs.Window.{Window}
@@ -10,6 +10,7 @@ use Rattle.log_layout.specs.Sectors.{IsSuper}
 use Rattle.log_layout.specs.declared.log_format.LogFormat.{LogFormat}
 use Rattle.log_layout.specs.declared.log_format.LogFormat.TheVariants.{One, Two}
 use Rattle.recovery.specs.Formatted.{IsFormatted, AreSizes}
+use Rattle.recovery.specs.Looks.{HoldsLog}
 use Rattle.scsi_unit.specs.Identification.{Identification, IsLegible}
 use Rattle.scsi_unit.specs.StartFaults.{NoMemory}
 use Rattle.bot_machine.specs.Device.{device_of}
@@ -18,7 +19,7 @@ use Rattle.bot_machine.specs.declared.packet_size.PacketSize.{PacketSize}
 use Rattle.usbdisk_c.specs.Codes.{number_of, EMPTY, STARTED, BAD_IDENTITY, BAD_PACKET_SIZE}
 use Rattle.usbdisk_c.specs.Codes.{BAD_LENGTH, BAD_SIZES, NOT_TAKEN}
 use Rattle.usbdisk_c.specs.Plays.{Disk, medium_of, Begins, BeginsNot, TakesPacket, SendsPacket}
-use Rattle.usbdisk_c.specs.Plays.{AnswersRequest, MakesStep, Shows, LetsGo, Sees}
+use Rattle.usbdisk_c.specs.Plays.{AnswersRequest, MakesStep, Shows, LetsGo, Sees, TakesUnread}
 use Rattle.usbdisk_c.specs.declared.start.UsbDiskIdentity.{UsbDiskIdentity}
 use Rattle.usbdisk_c.specs.declared.start.Refusal.{Refusal}
 use Rattle.usbdisk_c.specs.declared.start.Refusal.TheVariants as refusal
@@ -81,6 +82,11 @@ TakesOut (Some old) packet first count None first' count' code = ⊥
 TakesOut None packet first count new first' count' code =
     (code ≡ EMPTY) × (new ≡ None) × (first' ≡ first) × (count' ≡ count)
 
+abbrev pub TakesOutUnread : Option Disk → List ℕ → Option Disk → ℕ → Type 0
+TakesOutUnread (Some old) packet (Some new) code = TakesUnread old packet new code
+TakesOutUnread (Some old) packet None code = ⊥
+TakesOutUnread None packet new code = (code ≡ EMPTY) × (new ≡ None)
+
 abbrev pub SendsIn : Option Disk → List ℕ → ℕ → Option Disk → List ℕ → ℕ → ℕ → Type 0
 SendsIn (Some old) room was (Some new) filled size code = SendsPacket old room new filled size code
 SendsIn (Some old) room was None filled size code = ⊥
@@ -122,6 +128,8 @@ IsShownTo None first bytes new code = (code ≡ EMPTY) × (new ≡ None)
 pub record TellsNear (sector : List ℕ) (told : ℕ) : Type 0 where
   pub home : (shape : Shape) → IsSuper shape sector → told ≡ first_home shape
   pub none : ((shape : Shape) → ¬ IsSuper shape sector) → told ≡ 2
+  -- so that they are all that a start reads of a device that begins with it
+  pub holds : (size : ℕ) (image : Image) → image 0 ≡ sector → HoldsLog told size image
 
 -- the bytes of the medium, as reads give them, where there is just the room for them
 pub record GivesBytes (m : Mirror) (old new : List ℕ) (gives : Bool) : Type 0 where

@@ -1,23 +1,19 @@
 -- What each call does to a disk over a medium that reads on demand.
-use Rattle.std.specs.Prelude.{◌≡◌, ◌⊎◌, ◌↔◌, ℕ, ◌+◌, ◌/◌, ◌<◌, ◌≤◌, ◌++◌, Bool, true, false, List}
+use Rattle.std.specs.Prelude.{◌≡◌, ◌≢◌, ◌⊎◌, ◌↔◌, ℕ, ◌+◌, ◌/◌, ◌<◌, ◌≤◌, ◌++◌, Bool, true, false}
+use Rattle.std.specs.Prelude.{List}
 use Rattle.std.specs.Prelude.{length, drop, Option, Some, None}
 use Rattle.std.specs.List.{list_all}
-use Rattle.log_layout.specs.Places.{Shape, sectors_of}
-use Rattle.log_layout.specs.Sectors.{IsSuper}
-use Rattle.log_layout.specs.declared.log_format.LogFormat.TheVariants.{Two}
-use Rattle.medium.specs.Medium.{State}
 use Rattle.medium.specs.Sent.{sent}
 use Rattle.medium.specs.Moments.{IsUnchanged}
 use Rattle.inlet.specs.Inlet.{AreHeld}
 use Rattle.window.specs.Window.{Window, state_of, without_first, ComesAfter}
-use Rattle.window.specs.Window.{CoversDevice, IsServed, IsShown, is_in_sight, kept_out}
+use Rattle.window.specs.Window.{CoversDevice, IsServed, IsShown, is_in_sight}
 use Rattle.mirror.specs.declared.call.DeviceCall.{DeviceCall}
 use Rattle.mirror.specs.declared.call.DeviceCall.TheVariants.{Write, Flush}
 use Rattle.scsi_unit.specs.Background.{IsSettled, is_dead, steps_left}
 use Rattle.scsi_unit.specs.Books.{Book}
 use Rattle.recovery.specs.declared.start_fault.StartFault.TheVariants as fault
 use Rattle.scsi_unit.specs.StartFaults.{StartFault, NoMemory}
-use Rattle.scsi_unit.specs.Starting.{layout_of}
 use Rattle.bot_machine.specs.Device.{Device}
 use Rattle.bot_machine.specs.Disk.{FitsDisk, IsStep, IsRearmed}
 use Rattle.bot_machine.specs.Opening.{IsOpened, IsNotOpened, StartLeaves}
@@ -26,28 +22,17 @@ use Rattle.bot_machine.specs.declared.event.Event.TheVariants as event
 use Rattle.bot_machine.specs.declared.event.Answer.{Answer}
 use Rattle.bot_machine.specs.declared.event.Answer.TheVariants as answer
 use Rattle.usbdisk_c.specs.Codes.{code_of, bytes_of, TOO_LONG, NEEDS}
-pub use Rattle.usbdisk_c.specs.Seen.{Disk, medium_of}
+pub use Rattle.usbdisk_c.specs.Seen.{Disk, medium_of, layout_on}
 use Rattle.usbdisk_c.specs.Wanted.{Wants, WantsNone}
 use Rattle.usbdisk_c.specs.Parts.{CoversParts}
-use Rattle.usbdisk_c.specs.Room.{room_of, room_for}
+use Rattle.usbdisk_c.specs.Refusals.{RefusesNothing, HasRoom, HoldsLog, EventRefusesNothing}
+use Rattle.usbdisk_c.specs.Refusals.{HoldsImageLog, StartRefusesNothing}
 
 -- what a medium says of all calls of it that may come
 pub record Foresees (m : Window) : Type 0 where
   pub covers : (new : Window) → ComesAfter m new → CoversDevice m new
   pub parts : (new : Window) → ComesAfter m new → CoversParts m new
   pub served : (new : Window) → ComesAfter m new → IsServed m new
-
--- No write and no flush was refused since; and where each sector that was read since was in sight,
--- nothing was.
-pub record NothingIsRefused (old new : Window) : Type 0 where
-  pub kept : kept_out new.seen.told.refused ≡ kept_out old.seen.told.refused
-  pub served : (looks : List ℕ) → new.seen.looked ≡ old.seen.looked ++ looks
-      → list_all (is_in_sight old) looks ≡ true
-      → (state_of new).failures ≡ (state_of old).failures
-
--- the layout of the image, with its format and its slots
-abbrev pub layout_on : Disk → Shape
-layout_on disk = layout_of disk.unit.store.cached
 
 -- one event of the disk; all that it gave to the device is appended to the outbox
 pub record Plays (old : Disk) (event : Event) (answer : Answer) (new : Disk) : Type 0 where
@@ -60,9 +45,13 @@ pub record Plays (old : Disk) (event : Event) (answer : Answer) (new : Disk) : T
   -- none of its calls is refused where the sectors that it read were in sight, and the outbox had
   -- room for all of its writes and flushes,
   pub served : IsServed (medium_of old) (medium_of new)
-  -- as it has where `usbdisk_room` tells no more than what is left of the room
-  pub fits : length (medium_of old).outbox + room_for (layout_on old) ≤ (medium_of old).room
-      → NothingIsRefused (medium_of old) (medium_of new)
+  -- as they were, and as it had, where the log is in memory, what is read at home is in sight, and
+  -- `usbdisk_room` tells no more than what is left of the room
+  pub refuses : EventRefusesNothing old event new
+  -- a faulted disk asks its device for nothing, and stays faulted
+  pub faulted : is_dead old.unit.store.cached ≡ true
+      → ((medium_of new).outbox ≡ (medium_of old).outbox)
+      × (is_dead new.unit.store.cached ≡ true)
 
 -- a packet to Bulk-Out is played, and this is the number of its answer
 abbrev pub PlaysPacket : Disk → List ℕ → Disk → ℕ → Type 0
@@ -70,7 +59,7 @@ PlaysPacket old packet new code = (answer : Answer)
     × Plays old (event.Out (record { items = packet })) answer new × (code ≡ code_of answer)
 
 -- A packet that is too long changes nothing; nor does one before which sectors are to be shown, and
--- they are told then alone.
+-- they are told then alone. One that is played reads nothing that is not in sight.
 pub record TakesPacket (old : Disk) (packet : List ℕ) (first count : ℕ) (new : Disk)
     (first' count' code : ℕ) : Type 0 where
   pub one : ((old.line.packet_size < length packet) × (code ≡ TOO_LONG) × (new ≡ old)
@@ -78,7 +67,16 @@ pub record TakesPacket (old : Disk) (packet : List ℕ) (first count : ℕ) (new
       ⊎ ((length packet ≤ old.line.packet_size) × (code ≡ NEEDS) × (new ≡ old)
       × Wants old packet first' count')
       ⊎ ((length packet ≤ old.line.packet_size) × WantsNone old packet
-      × PlaysPacket old packet new code × (first' ≡ first) × (count' ≡ count))
+      × PlaysPacket old packet new code
+      × RefusesNothing (HasRoom old) (HoldsLog old) (medium_of old) (medium_of new)
+      × (first' ≡ first) × (count' ≡ count))
+
+-- The same without any sector that was not shown: a packet that is not too long is played, whatever
+-- of what it reads is out of sight. Each read names a sector of the log, or one of the home sectors
+-- that `Disk::home_sectors` tells for it; the medium refuses those that are out of sight.
+pub record TakesUnread (old : Disk) (packet : List ℕ) (new : Disk) (code : ℕ) : Type 0 where
+  pub one : ((old.line.packet_size < length packet) × (code ≡ TOO_LONG) × (new ≡ old))
+      ⊎ ((length packet ≤ old.line.packet_size) × PlaysPacket old packet new code)
 
 -- Sectors are shown, and taken or not. Where they are what the medium holds, the disk fits what it
 -- fitted; where they are not, nothing but the medium has changed.
@@ -130,16 +128,6 @@ pub record LetsGo (old new : Disk) : Type 0 where
   pub fits : (book : Book) → FitsDisk (state_of (medium_of old)) old book
       → FitsDisk (state_of (medium_of new)) new book
 
--- What a start on this medium leaves, good or refused: no write and no flush was refused where the
--- room is what `usbdisk_room` tells for the format and the slots of the super; nor, whatever the
--- bytes, where it is what that tells for format 2 and 64 slots; nor a read whose sector lies in
--- memory.
-pub record IsSpared (first after : Window) : Type 0 where
-  pub fits : let before : State = state_of first in
-      (shape : Shape) → IsSuper shape (before.content 0) → sectors_of shape ≤ before.size
-      → room_for shape ≤ first.room → NothingIsRefused first after
-  pub fits_any : room_of Two 64 ≤ first.room → NothingIsRefused first after
-
 -- a disk was started on this medium
 pub record Begins (first : Window) (device : Device) (new : Disk) : Type 0 where
   pub opened : IsOpened (state_of first) (state_of (medium_of new)) device new
@@ -148,19 +136,22 @@ pub record Begins (first : Window) (device : Device) (new : Disk) : Type 0 where
   pub covers : CoversDevice first (medium_of new)
   pub parts : CoversParts first (medium_of new)
   pub served : IsServed first (medium_of new)
-  pub spared : IsSpared first (medium_of new)
+  pub refuses : StartRefusesNothing first (medium_of new)
+  -- where the first sectors were all before the first home sector, they are for each event
+  pub holds : HoldsImageLog first → HoldsLog new
 
 -- A start on this medium was refused, and left that one. Where a write or a flush was refused, the
 -- writes and flushes of this very start had no room together; where a read was, one of its reads
--- named a sector that is not in memory.
+-- named a sector that is not in memory, which is none of the log.
 pub record EndsIn (first after : Window) (why : StartFault) : Type 0 where
   pub not : IsNotOpened (state_of first) (state_of after) why
   pub leaves : StartLeaves (state_of first) (state_of after)
   pub follows : ComesAfter first after
-  pub spared : IsSpared first after
+  pub refuses : StartRefusesNothing first after
   pub full : (why ≡ fault.Write) ⊎ (why ≡ fault.Flush)
       → sent (state_of first) + first.room < sent (state_of after)
   pub unseen : why ≡ fault.Read → list_all (is_in_sight first) follows.looks ≡ false
+  pub sighted : HoldsImageLog first → why ≢ fault.Read
 
 -- no disk was started on this medium
 abbrev pub BeginsNot : Window → StartFault → Type 0

@@ -12,6 +12,10 @@ pub(crate) const STALL: u32 = 2;
 
 pub(crate) const NEEDS: u32 = 3;
 
+pub(crate) const UNREAD: u32 = 2;
+
+pub(crate) const DEAD: u32 = 11;
+
 pub(crate) const EMPTY: u32 = 16;
 
 pub(crate) const STARTED: u32 = 17;
@@ -28,8 +32,10 @@ pub(crate) const BAD_SIZES: u32 = 22;
 
 pub(crate) const NOT_TAKEN: u32 = 23;
 
+pub(crate) const BAD_RANGE: u32 = 24;
+
 /// The version: two bytes for the first number, and one for each other.
-pub(crate) const VERSION: u32 = 0x000900;
+pub(crate) const VERSION: u32 = 0x000A00;
 
 /// The number of the fault for which a start is refused.
 pub(crate) fn number_of(fault: StartFault) -> u32

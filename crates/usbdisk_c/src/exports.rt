@@ -1,9 +1,10 @@
 //! One export for each call of include/usbdisk.h, which tells what each does.
 ghost use Rattle.usbdisk_c.specs.Exports.{identity_of, Starts, Stops, TakesOut, SendsIn};
 ghost use Rattle.usbdisk_c.specs.Exports.{AnswersSetup, Ticks, HandsOut, IsShownTo, Formats};
-ghost use Rattle.usbdisk_c.specs.Exports.{TellsNear};
+ghost use Rattle.usbdisk_c.specs.Exports.{TellsNear, TakesOutUnread};
 ghost use Rattle.usbdisk_c.specs.Codes.{TellsVersion};
 ghost use Rattle.usbdisk_c.specs.Room.{TellsRoom, TellsMemory};
+ghost use Rattle.usbdisk_c.specs.Refused.{IsTold};
 ghost use Rattle.usbdisk_c.specs.Runs.{HandsOutRun};
 ghost use Rattle.window.specs.Window.{fresh};
 
@@ -11,7 +12,10 @@ use crate::codes::{ACK, EMPTY, NOT_TAKEN, STARTED, VERSION};
 use crate::format::{make_image, memory_for, room_for};
 use crate::handle::UsbDisk;
 use crate::moves::{adopt, reclaim};
-use crate::play::{answer_request, make_step, next_call, send_packet, show_sectors, take_packet};
+use crate::play::{
+    answer_request, make_step, next_call, send_packet, show_sectors, take_packet, take_unread,
+};
+use crate::refused::refuse;
 use crate::run::next_run;
 use crate::start::{UsbDiskIdentity, begin, near_for};
 use std::alloc::Global;
@@ -122,6 +126,18 @@ pub extern "C" fn usbdisk_bulk_out(
 }
 
 #[unsafe(no_mangle)]
+pub extern "C" fn usbdisk_bulk_out_unread(alloc: Global, disk: &mut UsbDisk, packet: &[u8]) -> u32
+    ensures { TakesOutUnread disk.old.disk packet.now disk.new.disk result }
+{
+    let Some(mut held) = reclaim(disk, alloc) else {
+        return EMPTY;
+    };
+    let code = take_unread(&mut held, packet);
+    adopt(disk, alloc, held);
+    code
+}
+
+#[unsafe(no_mangle)]
 pub extern "C" fn usbdisk_show(alloc: Global, disk: &mut UsbDisk, first: u64, bytes: &[u8]) -> u32
     ensures { IsShownTo disk.old.disk first bytes.now disk.new.disk result }
 {
@@ -215,4 +231,16 @@ pub extern "C" fn usbdisk_take_run(
     let code = next_run(&mut held, sector, to, count);
     adopt(disk, alloc, held);
     code
+}
+
+#[unsafe(no_mangle)]
+pub extern "C" fn usbdisk_refused(alloc: Global, disk: &mut UsbDisk) -> u32
+    ensures { IsTold disk.old.disk disk.new.disk result }
+{
+    let Some(mut held) = reclaim(disk, alloc) else {
+        return EMPTY;
+    };
+    refuse(&mut held);
+    adopt(disk, alloc, held);
+    ACK
 }

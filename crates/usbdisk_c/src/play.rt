@@ -1,15 +1,15 @@
 //! What C asks of a disk, and what it is told.
-ghost use Rattle.usbdisk_c.specs.Plays.{TakesPacket, Tells, SendsPacket, AnswersRequest};
+ghost use Rattle.usbdisk_c.specs.Plays.{TakesPacket, SendsPacket, AnswersRequest};
 ghost use Rattle.usbdisk_c.specs.Plays.{MakesStep, Shows, LetsGo, Plays, Foresees, medium_of};
 ghost use Rattle.bot_machine.specs.declared.event.Answer.TheVariants as answer;
 ghost use Rattle.bot_machine.specs.declared.event.Event.TheVariants as event;
-ghost use Rattle.usbdisk_c.specs.Plays.{Sees, PlaysPacket};
+ghost use Rattle.usbdisk_c.specs.Plays.{Sees, PlaysPacket, TakesUnread};
 ghost use Rattle.std.specs.Prelude.{◌≤◌, length};
 ghost use Rattle.mirror.specs.Mirror.{first_of};
 
 use crate::codes::{ACK, NAK, NEEDS, STALL, TOO_LONG};
 use crate::wanted::unseen;
-use bot_machine::{Answer, Disk, Event, OutAnswer, SetupAnswer, answer_to};
+use bot_machine::{Disk, InAnswer, OutAnswer, SetupAnswer};
 use medium::Medium;
 use mirror::{DeviceCall, device_laws};
 use window::WindowMedium;
@@ -47,6 +47,17 @@ pub(crate) fn take_packet(
     }
 }
 
+/// A packet to Bulk-Out, of which the device cannot read the sectors that were asked for.
+pub(crate) fn take_unread(disk: &mut Disk<WindowMedium>, packet: &[u8]) -> u32
+    ensures { TakesUnread disk.old packet.now disk.new result }
+{
+    let most = disk.packet_size() as usize;
+    if packet.len() > most {
+        return TOO_LONG;
+    }
+    play_packet(disk, packet)
+}
+
 // Plays a packet that is no longer than those of the disk.
 fn play_packet(disk: &mut Disk<WindowMedium>, packet: &[u8]) -> u32
     requires { length packet.now ≤ disk.old.line.packet_size }
@@ -67,46 +78,20 @@ pub(crate) fn show_sectors(disk: &mut Disk<WindowMedium>, first: u64, bytes: &[u
     disk.show(first, bytes)
 }
 
-/// A token to Bulk-In.
+/// A token to Bulk-In. The packet that the disk lends is copied once.
 pub(crate) fn send_packet(disk: &mut Disk<WindowMedium>, to: &mut [u8; 512], size: &mut u32) -> u32
     ensures { SendsPacket disk.old to.old disk.new to.new size.new result }
 {
-    let answer = take_token(disk);
-    tell(&answer, to, size)
-}
-
-fn take_token(disk: &mut Disk<WindowMedium>) -> Answer
-    ensures { Plays disk.old event.In result disk.new }
-{
-    foresee(disk);
-    answer_to(disk, &Event::In)
-}
-
-// The number of an answer, its bytes at the front of the room, and how many they are.
-fn tell(answer: &Answer, to: &mut [u8; 512], size: &mut u32) -> u32
-    ensures { Tells answer.now to.old to.new size.new result }
-{
     *size = 0;
-    match answer {
-        Answer::Data(packet) => {
-            let bytes = packet.as_slice();
-            to[..bytes.len()].copy_from_slice(bytes);
-            *size = bytes.len() as u32;
+    foresee(disk);
+    match disk.bulk_in() {
+        InAnswer::Data(packet) => {
+            to[..packet.len()].copy_from_slice(packet);
+            *size = packet.len() as u32;
             ACK
         }
-        Answer::Byte(byte) => {
-            to[0] = *byte;
-            *size = 1;
-            ACK
-        }
-        Answer::Two(bytes) => {
-            to[..2].copy_from_slice(bytes);
-            *size = 2;
-            ACK
-        }
-        Answer::Ack | Answer::Ticked => ACK,
-        Answer::Nak => NAK,
-        Answer::Stall | Answer::Off => STALL,
+        InAnswer::Nak => NAK,
+        InAnswer::Stall => STALL,
     }
 }
 

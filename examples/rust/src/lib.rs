@@ -8,7 +8,7 @@ mod raw;
 use std::io;
 
 /// The version of usbdisk.h that this wrapper is written for.
-pub const VERSION: u32 = 0x000900;
+pub const VERSION: u32 = 0x000A00;
 
 const NEEDS: u32 = 3;
 
@@ -142,7 +142,8 @@ impl UsbDisk {
         Ok(disk)
     }
 
-    /// A packet to Bulk-Out. The disk is shown what it needs of the device.
+    /// A packet to Bulk-Out. The disk is shown what it needs of the device. A READ of sectors that the
+    /// device cannot read ends alone, with a check condition.
     pub fn bulk_out(
         &mut self,
         device: &mut impl Device,
@@ -164,19 +165,29 @@ impl UsbDisk {
                 self.persist(device)?;
                 return answer(code, &[]);
             }
-            self.show(device, first, count as usize)?;
+            if !self.show(device, first, count as usize)? {
+                // SAFETY: as above.
+                let code = unsafe {
+                    raw::usbdisk_bulk_out_unread(&mut self.raw, packet.as_ptr(), packet.len())
+                };
+                self.persist(device)?;
+                return answer(code, &[]);
+            }
         }
     }
 
-    // Reads these sectors of the device, and shows them to the disk.
-    fn show(&mut self, device: &mut impl Device, first: u64, count: usize) -> Result<(), Error> {
+    // Reads these sectors of the device, and shows them to the disk; false where it cannot read them.
+    fn show(&mut self, device: &mut impl Device, first: u64, count: usize) -> Result<bool, Error> {
         if self.shown.len() < count * 512 {
             return Err(Error::Refused(NEEDS));
         }
         let bytes = &mut self.shown[..count * 512];
-        device.read(first, bytes)?;
+        if device.read(first, bytes).is_err() {
+            return Ok(false);
+        }
         // SAFETY: as in `bulk_out`; pointer and length are of one slice, lent for the call.
-        check(unsafe { raw::usbdisk_show(&mut self.raw, first, bytes.as_ptr(), bytes.len()) })
+        check(unsafe { raw::usbdisk_show(&mut self.raw, first, bytes.as_ptr(), bytes.len()) })?;
+        Ok(true)
     }
 
     /// A token to Bulk-In.

@@ -47,6 +47,7 @@ extern "C" {
         first: *mut u64,
         count: *mut u32,
     ) -> u32;
+    pub fn usbdisk_bulk_out_unread(disk: *mut UsbDisk, packet: *const u8, size: usize) -> u32;
     pub fn usbdisk_show(disk: *mut UsbDisk, first: u64, bytes: *const u8, size: usize) -> u32;
     pub fn usbdisk_bulk_in(disk: *mut UsbDisk, packet: *mut u8, size: *mut u32) -> u32;
     pub fn usbdisk_setup(

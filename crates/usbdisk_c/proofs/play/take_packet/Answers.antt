@@ -1,7 +1,9 @@
 use Rattle.std.proofs.Common.{inr, refl, arith}
+use Rattle.usbdisk_c.proofs.Rooms.{nothing_missed}
 use Rattle.usbdisk_c.proofs.play.take_packet.Goals as goal
 
 pub returns-in-None : goal.returns-in-None
 returns-in-None c =
     let plays = c.play_packet.ensures in
-    record { one = inr (inr (omega arith, c.unseen.ensures.none c.in-None.is, plays, refl, refl)) }
+    let none = c.unseen.ensures.none c.in-None.is in
+    record { one = inr (inr (omega arith, none, plays, nothing_missed _ _ _ _ none plays, refl, refl)) }
