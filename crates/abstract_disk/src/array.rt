@@ -22,6 +22,10 @@ pub struct Write {
 
 impl Array {
     /// So many blocks of zeros.
+    ///
+    /// # Errors
+    ///
+    /// Memory ran out.
     pub fn zeros(alloc: Global, count: usize) -> Result<Array, AllocError>
         ensures { IfOk result (λ array. array.blocks.items ≡ replicate count (replicate 512 0)) }
     {

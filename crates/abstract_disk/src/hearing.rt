@@ -22,6 +22,10 @@ pub struct Hearing {
 impl Hearing {
     /// A life opens over these blocks: the start answered Ok. A READ or a WRITE moves at most `limit`
     /// blocks (48 in format 1, 240 in format 2).
+    ///
+    /// # Errors
+    ///
+    /// Memory ran out, or there are 2^32 blocks or more.
     pub fn new(
         alloc: Global,
         opening: &Array,
@@ -51,6 +55,10 @@ impl Hearing {
 
     /// Whether a disk of the definitions can give this answer to this event. Goes on with each that
     /// can. Never called with `Answer::Off`.
+    ///
+    /// # Errors
+    ///
+    /// Memory ran out. Which disks are followed then is not told: let it go.
     pub fn hear(&mut self, event: &Event, answer: &Answer) -> Result<bool, AllocError>
         ensures { IfOk result (λ possible. IsTrue possible ↔ (0 < length (disks_of self.new))) }
     {
@@ -72,6 +80,10 @@ impl Hearing {
     /// The power goes, in this event or after the last one: the numbers k of accepted writes (with
     /// that of the event, if it carries one out) after which the blocks may be found: from the
     /// promised ones to all and the one in progress.
+    ///
+    /// # Errors
+    ///
+    /// Memory ran out.
     pub fn may_find(&self, cut_in: Option<&Event>) -> Result<Found, AllocError>
         ensures { IfOk result (λ found. found.least ≡ least_promised (disks_of self.now)) }
     {
@@ -89,6 +101,10 @@ impl Hearing {
 
     /// The least number k of those for which the blocks after the first k accepted writes are these,
     /// or None: no cut may leave them.
+    ///
+    /// # Errors
+    ///
+    /// Memory ran out.
     pub fn found(&self, cut_in: Option<&Event>, blocks: &Array) -> Result<Option<usize>, AllocError>
         ensures { IfOk result (λ least. IfSome least
             (λ count. least_promised (disks_of self.now) ≤ count)) }

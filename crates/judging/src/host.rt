@@ -72,6 +72,10 @@ impl Host {
     }
 
     /// REQUEST SENSE for 18 bytes.
+    ///
+    /// # Errors
+    ///
+    /// `NoMemory` alone.
     pub fn request_sense(&mut self) -> Result<(), Finding>
         ensures { OnOk result (self.new ≡ with_tokens (with_command self.old sense_command) 2) }
     {
@@ -80,6 +84,10 @@ impl Host {
     }
 
     /// READ(10) of so many blocks from this address on.
+    ///
+    /// # Errors
+    ///
+    /// `NoMemory` alone.
     pub fn read(&mut self, address: u32, count: u16) -> Result<(), Finding>
         ensures { OnOk result (self.new
             ≡ with_tokens (with_command self.old (read_command address count)) (count + 1)) }
@@ -89,6 +97,10 @@ impl Host {
     }
 
     /// WRITE(10), with FUA where it is forced.
+    ///
+    /// # Errors
+    ///
+    /// `Packet` where the write has more blocks than a command counts, 65,535; else `NoMemory`.
     pub fn write(&mut self, write: &Write, forced: bool) -> Result<(), Finding>
         ensures { OnOk result (self.new ≡ with_write self.old write.now.address
             write.now.blocks.items forced) }
@@ -100,6 +112,10 @@ impl Host {
     }
 
     /// SYNCHRONIZE CACHE(10) of all blocks.
+    ///
+    /// # Errors
+    ///
+    /// `NoMemory` alone.
     pub fn synchronize(&mut self) -> Result<(), Finding>
         ensures { OnOk result (self.new
             ≡ with_event (with_command self.old synchronize_command) In) }
@@ -109,6 +125,10 @@ impl Host {
     }
 
     /// The wrapper of a command, with the next tag.
+    ///
+    /// # Errors
+    ///
+    /// `NoMemory` alone.
     pub fn command(&mut self, command: &Command) -> Result<(), Finding>
         ensures { OnOk result (self.new ≡ with_command self.old command.now) }
     {
@@ -125,6 +145,10 @@ impl Host {
     }
 
     /// A token to Bulk-In.
+    ///
+    /// # Errors
+    ///
+    /// `NoMemory` alone.
     pub fn token(&mut self) -> Result<(), Finding>
         ensures { OnOk result (self.new ≡ with_event self.old In) }
     {
@@ -142,6 +166,10 @@ impl Host {
     }
 
     /// An event, with the steps in the background before it where there was one already.
+    ///
+    /// # Errors
+    ///
+    /// `NoMemory` alone. Some of the steps may be there then.
     pub fn event(&mut self, event: Event) -> Result<(), Finding>
         ensures { OnOk result (self.new ≡ with_event self.old event) }
     {

@@ -32,6 +32,10 @@ impl Model for Player {
 
 impl Player {
     /// No life has been yet.
+    ///
+    /// # Errors
+    ///
+    /// `Identity`, which never comes: the identity is a constant one.
     pub fn new(medium: SimMedium) -> Result<Player, Finding>
         ensures { IfOk result (λ player. player.stage ≡ Rests medium) }
     {

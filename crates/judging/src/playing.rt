@@ -48,6 +48,10 @@ pub fn play(
 }
 
 /// The identity of the disks that are judged.
+///
+/// # Errors
+///
+/// `Identity`, which never comes: all its characters are printable.
 pub fn disk_identity() -> Result<Identity, Finding>
     ensures { IfOk result (λ identity. identity ≡ judged_identity) }
 {

@@ -16,6 +16,10 @@ pub fn cut(mut medium: SimMedium, kept: &Kept) -> SimMedium
 
 /// A copy of a medium, with its power on. Where writes of the medium are unflushed, the copy has lost
 /// them.
+///
+/// # Errors
+///
+/// Memory ran out.
 pub fn copied(alloc: Global, medium: &SimMedium) -> Result<SimMedium, AllocError>
     ensures rests { IfOk result IsAtRest }
     ensures unfused { IfOk result (λ m. m.power.fuse ≡ None) }

@@ -58,6 +58,10 @@ impl Shape {
     }
 
     /// A fresh image, with room for as many unflushed writes as there are sectors.
+    ///
+    /// # Errors
+    ///
+    /// `NoMemory`; `Medium` or `NoFormat` where the sizes are out of their limits.
     pub fn fresh(self, alloc: Global) -> Result<SimMedium, Finding>
         ensures rests { IfOk result IsAtRest }
         ensures unfused { IfOk result (λ m. m.power.fuse ≡ None) }

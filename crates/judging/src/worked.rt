@@ -48,6 +48,10 @@ pub const STROKES: [Stroke; 5] = [
 
 impl Stroke {
     /// The write whose blocks are full of this byte.
+    ///
+    /// # Errors
+    ///
+    /// Memory ran out.
     pub fn filled(self, alloc: Global, byte: u8) -> Result<Write, AllocError>
         ensures address { IfOk result (λ write. write.address ≡ self.address) }
         ensures blocks { IfOk result (λ write. write.blocks.items
@@ -67,6 +71,10 @@ impl Stroke {
 impl Host {
     /// The worked life: REQUEST SENSE, the five writes, the first full of the byte 1, the second of 2
     /// and so on, and SYNCHRONIZE CACHE.
+    ///
+    /// # Errors
+    ///
+    /// `NoMemory` alone.
     pub fn worked_life(&mut self, alloc: Global) -> Result<(), Finding>
         ensures { let begun = with_tokens (with_command self.old sense_command) 2 in
             let written = with_strokes begun STROKES in

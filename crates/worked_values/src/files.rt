@@ -1,13 +1,15 @@
 //! Image files in the current folder, and files that refuse calls.
-use crate::answer::{tell, tell_run};
+use crate::answer::{space, tell, tell_run};
 use crate::call::Call;
 use crate::medium_calls;
 use crate::play::Player;
 use crate::stop::Stop;
-use crate::stubborn::{Shelf, Stubborn};
+use crate::stubborn::{Held, Refused, Shelf, Stubborn};
 use medium::{FileError, FileMedium, Medium};
+use std::cell::Cell;
 use std::fs;
 use std::fs::File;
+use std::rc::Rc;
 
 /// A medium over a file.
 #[derive(Drop)]
@@ -15,6 +17,7 @@ pub(crate) struct ImageFiles {
     rt: HostRuntime,
     file: Option<FileMedium<File>>,
     stubborn: Option<FileMedium<Stubborn>>,
+    held: Option<Rc<Cell<Held>>>,
 }
 
 impl Player for ImageFiles {
@@ -26,6 +29,7 @@ impl Player for ImageFiles {
                 Ok(())
             }
             "stubborn" => self.take_stubborn(call, answer),
+            "held" | "asked" => self.look_at_held(call, answer),
             "exists" | "length" | "content" => self.look(call, answer),
             "empty" | "remove" => self.change(call),
             _ => match (&mut self.file, &mut self.stubborn) {
@@ -44,6 +48,7 @@ impl ImageFiles {
             rt,
             file: None,
             stubborn: None,
+            held: None,
         }
     }
 
@@ -67,13 +72,23 @@ impl ImageFiles {
 
     // `stubborn REFUSED BYTE COUNT`, and how many sectors the medium has.
     fn take_stubborn(&mut self, call: Call, answer: &mut String) -> Result<(), Stop> {
-        let file = Stubborn {
-            writes: call.word(1) == "writes",
-            syncs: call.word(1) == "syncs",
-            byte: call.byte(2)?,
-            left: call.size(3)?,
+        let refused = match call.word(1) {
+            "lock" => Refused::Lock,
+            "writes" => Refused::Writes,
+            "syncs" => Refused::Syncs,
+            _ => Refused::Nothing,
         };
-        let told = match FileMedium::open(&(Shelf { file }, self.rt.alloc()), "any") {
+        let bytes = Cell::new(Held {
+            bytes: [call.byte(2)?; 1024],
+            length: call.size(3)?,
+            reads: 0,
+            syncs: 0,
+        });
+        let Ok(held) = Rc::new(self.rt.alloc(), bytes) else {
+            return Err(Stop::NoMemory);
+        };
+        self.held = Some(held.clone()?);
+        let told = match FileMedium::open(&(Shelf { refused, held }, self.rt.alloc()), "any") {
             Ok(m) => {
                 let sectors = m.sectors();
                 self.stubborn = Some(m);
@@ -82,6 +97,21 @@ impl ImageFiles {
             Err(error) => Err(error),
         };
         tell(answer, told)
+    }
+
+    // `held SECTOR`, what that file holds there, or `asked`, how many reads and syncs it was asked.
+    fn look_at_held(&self, call: Call, answer: &mut String) -> Result<(), Stop> {
+        let Some(cell) = &self.held else {
+            return Err(Stop::Missing);
+        };
+        let held = cell.get();
+        if call.word(0) == "asked" {
+            tell(answer, held.reads)?;
+            space(answer)?;
+            return tell(answer, held.syncs);
+        }
+        let (first, second) = held.bytes.as_slice().split_at(512);
+        tell_run(answer, if call.number(1)? == 0 { first } else { second })
     }
 
     // `exists NAME`, `length NAME` or `content NAME`.

@@ -1,25 +1,47 @@
-//! A file that refuses calls, or gives few bytes at a time.
+//! A file in memory that refuses calls, and gives and takes few bytes at a time.
 use medium::SectorFile;
-use std::alloc::Allocator;
+use std::alloc::{AllocError, Allocator};
+use std::cell::Cell;
 use std::fs::{Files, Metadata, OpenFile, OpenOptions};
 use std::io;
 use std::io::{Read, Seek, SeekFrom, Write};
 use std::os::unix::fs::FileExt;
+use std::rc::Rc;
 
-/// A file of two sectors that refuses what it is told to. It has so many bytes to give, each of the
-/// same value, and gives no more than 100 at a time.
+/// The most bytes that it gives or takes by one call.
+const AT_ONCE: usize = 100;
+
+/// The calls that such a file refuses.
+#[derive(Clone, Copy, PartialEq, Eq)]
+pub(crate) enum Refused {
+    Nothing,
+    Lock,
+    Writes,
+    Syncs,
+}
+
+/// What such a file holds, how many of its bytes it has to give, and how often it was asked.
 #[derive(Clone, Copy)]
+pub(crate) struct Held {
+    pub(crate) bytes: [u8; 1024],
+    pub(crate) length: usize,
+    pub(crate) reads: u64,
+    pub(crate) syncs: u64,
+}
+
+/// A file of two sectors that refuses what it is told to, and remembers what it was given. It gives
+/// and takes no more than 100 bytes at a time.
+#[derive(Drop)]
 pub(crate) struct Stubborn {
-    pub(crate) writes: bool,
-    pub(crate) syncs: bool,
-    pub(crate) byte: u8,
-    pub(crate) left: usize,
+    refused: Refused,
+    held: Rc<Cell<Held>>,
 }
 
 /// A file system in which each path is such a file.
 #[derive(Drop)]
 pub(crate) struct Shelf {
-    pub(crate) file: Stubborn,
+    pub(crate) refused: Refused,
+    pub(crate) held: Rc<Cell<Held>>,
 }
 
 fn answer(refused: bool) -> io::Result<()> {
@@ -29,12 +51,19 @@ fn answer(refused: bool) -> io::Result<()> {
     Ok(())
 }
 
+impl Stubborn {
+    // Counts a sync, and answers it.
+    fn sync(&self) -> io::Result<()> {
+        let mut held = self.held.get();
+        held.syncs = held.syncs.saturating_add(1);
+        self.held.set(held);
+        answer(self.refused == Refused::Syncs)
+    }
+}
+
 impl Read for Stubborn {
-    fn read(&mut self, buf: &mut [u8]) -> io::Result<usize> {
-        let given = buf.len().min(self.left).min(100);
-        buf[..given].fill(self.byte);
-        self.left -= given;
-        Ok(given)
+    fn read(&mut self, _buf: &mut [u8]) -> io::Result<usize> {
+        Err(io::Error::from(io::ErrorKind::Unsupported))
     }
 }
 
@@ -55,19 +84,41 @@ impl Seek for Stubborn {
 }
 
 impl FileExt for Stubborn {
-    fn read_at(&self, _buf: &mut [u8], _offset: u64) -> io::Result<usize> {
-        Ok(0)
+    fn read_at(&self, buf: &mut [u8], offset: u64) -> io::Result<usize> {
+        let mut held = self.held.get();
+        held.reads = held.reads.saturating_add(1);
+        self.held.set(held);
+        let start = offset as usize;
+        let count = held
+            .length
+            .saturating_sub(start)
+            .min(buf.len())
+            .min(AT_ONCE);
+        for (to, from) in buf
+            .iter_mut()
+            .zip(held.bytes.iter().skip(start))
+            .take(count)
+        {
+            *to = *from;
+        }
+        Ok(count)
     }
 
-    fn write_at(&self, buf: &[u8], _offset: u64) -> io::Result<usize> {
-        answer(self.writes)?;
-        Ok(buf.len())
+    fn write_at(&self, buf: &[u8], offset: u64) -> io::Result<usize> {
+        answer(self.refused == Refused::Writes)?;
+        let mut held = self.held.get();
+        let from = buf.iter().take(AT_ONCE);
+        for (to, from) in held.bytes.iter_mut().skip(offset as usize).zip(from) {
+            *to = *from;
+        }
+        self.held.set(held);
+        Ok(buf.len().min(AT_ONCE))
     }
 }
 
 impl SectorFile for Stubborn {
     fn try_lock(&self) -> io::Result<()> {
-        Ok(())
+        answer(self.refused == Refused::Lock)
     }
 }
 
@@ -81,11 +132,11 @@ impl OpenFile for Stubborn {
     }
 
     fn sync_all(&self) -> io::Result<()> {
-        answer(self.syncs)
+        self.sync()
     }
 
     fn sync_data(&self) -> io::Result<()> {
-        answer(self.syncs)
+        self.sync()
     }
 }
 
@@ -95,7 +146,14 @@ impl Files for Shelf {
     type Dir = Stubborn;
 
     fn open_file(&self, _how: &OpenOptions, _path: &str) -> io::Result<Stubborn> {
-        Ok(self.file)
+        let held: Result<Rc<Cell<Held>>, AllocError> = self.held.clone();
+        match held {
+            Ok(held) => Ok(Stubborn {
+                refused: self.refused,
+                held,
+            }),
+            Err(_) => Err(io::Error::from(io::ErrorKind::OutOfMemory)),
+        }
     }
 
     fn open_dir(&self, _path: &str) -> io::Result<Stubborn> {
