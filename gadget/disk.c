@@ -30,12 +30,14 @@ static bool refuse_call(struct disk *disk, const char *call)
     return refuse(disk, STATUS_FILE, cause);
 }
 
-/* The device refused a call. What was promised stays, and what follows a lost write must not be there without it. */
-static bool lose(struct disk *disk, const char *call)
+/* The device refused a call, and the core is told. What was promised stays. Nothing that follows a lost write is asked for any
+ * more, and no answer goes out good that is not out yet. */
+static void lose(struct disk *disk, const char *call)
 {
     refuse_call(disk, call);
-    disk_stop(disk);
-    return refuse(disk, STATUS_FILE, "ends as by a loss of power; look after the device before the next start");
+    usbdisk_refused(&disk->core);
+    disk->has_faulted = true;
+    refuse(disk, STATUS_FILE, "serves no block until the next start; look after the device before it");
 }
 
 static bool read_sectors(struct disk *disk, uint8_t *bytes, uint64_t first, uint64_t count)
@@ -70,9 +72,9 @@ static bool write_sectors(struct disk *disk, const uint8_t *bytes, uint64_t firs
     return true;
 }
 
-/* Carries out the outbox, in order: each run of neighbouring sectors by one write, each flush by one synchronisation. Answers
- * false where the device refuses. */
-static bool persist(struct disk *disk)
+/* Carries out the outbox, in order: each run of neighbouring sectors by one write, each flush by one synchronisation. Where the
+ * device refuses one nothing waits behind it. */
+static void persist(struct disk *disk)
 {
     for (;;) {
         uint64_t first = 0;
@@ -80,14 +82,14 @@ static bool persist(struct disk *disk)
         switch (usbdisk_take_run(&disk->core, &first, disk->window[0], SPAN * sizeof *disk->window, &count)) {
         case USBDISK_WRITE:
             if (!write_sectors(disk, disk->window[0], first, count))
-                return lose(disk, "a write was refused");
+                lose(disk, "a write was refused");
             break;
         case USBDISK_FLUSH:
             if (fdatasync(disk->file))
-                return lose(disk, "a flush was refused");
+                lose(disk, "a flush was refused");
             break;
         default:
-            return true;
+            return;
         }
     }
 }
@@ -221,14 +223,21 @@ bool disk_start(struct disk *disk, uint32_t packet)
     if (fault)
         return is_read ? refuse_start(disk, fault) : false;
     disk->packet = packet;
-    return persist(disk);
+    disk->has_faulted = false;
+    persist(disk);
+    if (disk->has_faulted)
+        disk_stop(disk);
+    return !disk->has_faulted;
 }
 
-/* The disk needs sectors of the device before it takes this packet: reads and shows them. */
+/* The disk needs sectors of the device before it takes this packet: reads and shows them. Where the device cannot read them
+ * the READ ends alone, and the disk goes on. */
 static bool show(struct disk *disk, uint64_t first, uint32_t count)
 {
-    if (count > SPAN || !read_sectors(disk, disk->window[0], first, count))
+    if (count > SPAN || !read_sectors(disk, disk->window[0], first, count)) {
+        say("%s: %" PRIu32 " sectors from %" PRIu64 " on are not read: %s", disk->path, count, first, strerror(errno));
         return false;
+    }
     return usbdisk_show(&disk->core, first, disk->window[0], (size_t)count * 512) == 0;
 }
 
@@ -238,9 +247,12 @@ static uint32_t bulk_out(struct disk *disk, const uint8_t *packet, size_t size)
     uint32_t count = 0, code;
     disk->steps = 0;
     while ((code = usbdisk_bulk_out(&disk->core, packet, size, &first, &count)) == USBDISK_NEEDS)
-        if (!show(disk, first, count) && !lose(disk, "a read was refused"))
-            return DISK_LOST;
-    return persist(disk) ? code : DISK_LOST;
+        if (!show(disk, first, count)) {
+            code = usbdisk_bulk_out_unread(&disk->core, packet, size);
+            break;
+        }
+    persist(disk);
+    return code;
 }
 
 uint32_t disk_out(struct disk *disk, const uint8_t *bytes, size_t size, size_t *taken)
@@ -300,7 +312,7 @@ void disk_bus_reset(struct disk *disk)
     disk_clear_halt(disk, 0x02);
 }
 
-/* More steps are never left, but on a disk that faulted, where they are left for ever. */
+/* More steps are never left, but on a disk that faulted in a call of its own, where they are left for ever. */
 static uint64_t most_steps(const struct disk *disk)
 {
     return (disk->slots + 4) * (2 * SPAN + 16);
@@ -308,11 +320,12 @@ static uint64_t most_steps(const struct disk *disk)
 
 uint32_t disk_tick(struct disk *disk)
 {
-    if (disk->steps > most_steps(disk))
+    if (disk->has_faulted || disk->steps > most_steps(disk))
         return 0;
     disk->steps++;
     uint32_t left = usbdisk_tick(&disk->core);
-    return persist(disk) ? left : DISK_LOST;
+    persist(disk);
+    return left;
 }
 
 bool disk_settle(struct disk *disk)
@@ -321,9 +334,7 @@ bool disk_settle(struct disk *disk)
     disk->steps = 0;
     while (left == 1)
         left = disk_tick(disk);
-    if (left == DISK_LOST)
-        return false;
-    if (disk->steps > most_steps(disk))
+    if (disk->has_faulted || disk->steps > most_steps(disk))
         return refuse(disk, STATUS_FILE, "the disk has faulted: what was not synchronised may be lost");
     say("%s: all is written and at home", disk->path);
     return true;

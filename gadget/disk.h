@@ -1,8 +1,8 @@
 /* What both gadgets share: a disk of the library over an image file or a block device.
  *
  * Each call that plays an event carries out the outbox before it answers. So an answer may go to the host as soon as it is
- * there. Where a call answers DISK_LOST the device refused a read, a write or a flush, and the cause was said: that is a loss
- * of power. No answer may go to the host then; end with `status`. */
+ * there. Where the device refuses a write or a flush the cause is said, and the disk is told: it goes on answering, but serves
+ * no block until the next start. */
 #ifndef DISK_H
 #define DISK_H
 
@@ -10,7 +10,6 @@
 
 /* What a call answers beside USBDISK_ACK, USBDISK_NAK and USBDISK_STALL. */
 enum {
-    DISK_LOST = 64,    /* the device refused a call, which was said: end */
     DISK_OVERFLOW = 65 /* the disk sent a packet that is longer than what the host has room for (a babble) */
 };
 
@@ -30,6 +29,7 @@ struct disk {
     uint32_t format;  /* 1 or 2 */
     uint32_t packet;  /* bytes of a packet, 64 or 512; 0 while no disk is started */
     char serial[13];  /* 12 hexadecimal digits, always the same for the same path */
+    bool has_faulted; /* the device refused a write or a flush since the start */
     int status;       /* the exit status that belongs to the last refusal */
 };
 
@@ -41,7 +41,7 @@ bool disk_open(struct disk *disk, const char *path);
 bool disk_start(struct disk *disk, uint32_t packet);
 
 /* Bytes of one Bulk-Out transfer came: plays them packet by packet (0 bytes are one empty packet), and tells how many were
- * taken. ACK: all. NAK: the host has to wait; call again with the rest. STALL: the endpoint is halted. Or DISK_LOST. */
+ * taken. ACK: all. NAK: the host has to wait; call again with the rest. STALL: the endpoint is halted. */
 uint32_t disk_out(struct disk *disk, const uint8_t *bytes, size_t size, size_t *taken);
 
 /* The host waits for so many bytes from Bulk-In: collects packets, and tells how many bytes there are. ACK: the room is full,
@@ -61,7 +61,7 @@ void disk_clear_halt(struct disk *disk, uint8_t endpoint);
 void disk_bus_reset(struct disk *disk);
 
 /* A step in the background. Answers 1 while steps are left, 0 where all is at home or the disk has faulted and will get no
- * further, or DISK_LOST. */
+ * further. */
 uint32_t disk_tick(struct disk *disk);
 
 /* Steps until all is at home and durable, and says so. False: said why. Not for a signal's handler. */

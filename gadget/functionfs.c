@@ -101,8 +101,8 @@ static void play_events(struct gadget *gadget)
         play_event(gadget, &events[i]);
 }
 
-/* Waits for the host. Where it is idle, a step in the background is made. False: the device refused a call. */
-static bool wait_or_step(struct gadget *gadget, int most)
+/* Waits for the host. Where it is idle, a step in the background is made. */
+static void wait_or_step(struct gadget *gadget, int most)
 {
     struct pollfd files[2] = { { gadget->control, POLLIN, 0 }, { gadget->bulk.engine.ready, POLLIN, 0 } };
     bool may_step = gadget->has_steps && !bulk_is_busy(&gadget->bulk);
@@ -112,23 +112,18 @@ static bool wait_or_step(struct gadget *gadget, int most)
     if (files[0].revents)
         play_events(gadget);
     while (may_step && ready == 0 && wait == IDLE && gadget->has_steps && !is_asked_to_end()) {
-        uint32_t left = disk_tick(&gadget->disk);
-        gadget->has_steps = left == 1;
-        if (left == DISK_LOST)
-            return false;
+        gadget->has_steps = disk_tick(&gadget->disk) == 1;
         if (wait_for(files, 2, 0) > 0)
             break;
     }
-    return true;
 }
 
-/* Serves until a signal asks to end, or the disk is lost. Answers the exit status. */
+/* Serves until a signal asks to end. Answers the exit status. */
 static int serve(struct gadget *gadget)
 {
     while (!is_asked_to_end() && !gadget->is_ended) {
         int most = bulk_play(&gadget->bulk);
-        if (gadget->bulk.is_lost || !wait_or_step(gadget, most))
-            return gadget->disk.status;
+        wait_or_step(gadget, most);
     }
     if (gadget->binds)
         unbind_controller(gadget->folder);

@@ -104,9 +104,7 @@ static void feed(struct bulk *bulk)
     uint32_t code = disk_out(bulk->disk, transfer->bytes + bulk->taken, left, &taken);
     bulk->is_moving |= taken > 0;
     bulk->taken += taken;
-    if (code == DISK_LOST)
-        bulk->is_lost = true;
-    else if (code == USBDISK_ACK) {
+    if (code == USBDISK_ACK) {
         bulk->is_moving = true;
         end_transfer(bulk, transfer);
     }
@@ -182,8 +180,6 @@ int bulk_play(struct bulk *bulk)
         engine_collect(&bulk->engine, 0);
         release(bulk);
         feed(bulk);
-        if (bulk->is_lost)
-            return -1;
         fetch(bulk);
         halt_in(bulk);
         ask(bulk);

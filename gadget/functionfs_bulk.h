@@ -17,7 +17,6 @@ struct bulk {
     uint64_t out_due;  /* those of them that no transfer asks for yet */
     size_t taken;      /* how many bytes of the oldest transfer from the host the disk has taken */
     bool is_moving;    /* something has changed since the last look */
-    bool is_lost;      /* the device refused a call: no answer may go out any more */
 };
 
 /* Opens both endpoints in the folder of FunctionFS. False: the system refused. */

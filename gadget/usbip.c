@@ -13,8 +13,8 @@
 #include <unistd.h>
 
 /* REQUEST_WAIT: how many milliseconds a client may take for its request. IDLE: how long nothing happens before a step in the
- * background. CLIENTS: how many there are at a time, the attached one among them. */
-enum { REQUEST_WAIT = 5000, IDLE = 20, CLIENTS = 16, PORT = 3240 };
+ * background. CLIENTS: how many there are at a time, the attached one among them. BUFFER: bytes that the system keeps for each way. */
+enum { REQUEST_WAIT = 5000, IDLE = 20, CLIENTS = 16, PORT = 3240, BUFFER = 256 * 1024 };
 
 static const char usage[] =
     "usbdisk-usbip IMAGE [--port N] [--packet 64|512] [--listen ADDRESS]\n"
@@ -131,7 +131,7 @@ static bool open_listener(struct server *server, const struct options *options)
     return true;
 }
 
-/* What is sent goes out at once. A peer that is silently gone is found within a minute. */
+/* What is sent goes out at once, and the longest transfer at a time. A peer that is silently gone is found within a minute. */
 static void set_up(int socket)
 {
     static const struct {
@@ -139,6 +139,7 @@ static void set_up(int socket)
     } options[] = {
         { IPPROTO_TCP, TCP_NODELAY, 1 },    { SOL_SOCKET, SO_KEEPALIVE, 1 }, { IPPROTO_TCP, TCP_KEEPIDLE, 30 },
         { IPPROTO_TCP, TCP_KEEPINTVL, 10 }, { IPPROTO_TCP, TCP_KEEPCNT, 3 },
+        { SOL_SOCKET, SO_SNDBUF, BUFFER },  { SOL_SOCKET, SO_RCVBUF, BUFFER },
     };
     for (size_t i = 0; i < sizeof options / sizeof *options; i++)
         setsockopt(socket, options[i].level, options[i].name, &options[i].value, sizeof options[i].value);
@@ -200,15 +201,14 @@ static enum outcome serve_request(struct server *server, struct client *client)
     return client->have == REQUEST + BUS_ID ? import(server, client, client->head + REQUEST) : GOES_ON;
 }
 
-/* Serves a client that sent something. False: the disk is lost. */
-static bool serve_client(struct server *server, struct client *client)
+/* Serves a client that sent something. */
+static void serve_client(struct server *server, struct client *client)
 {
     const char *cause = NULL;
     enum outcome outcome = client->is_attached ? serve_attached(client, &server->device, &cause)
                                                : serve_request(server, client);
     if (outcome == ENDS)
         part(server, client, cause);
-    return outcome != LOST;
 }
 
 /* What is waited for: a client that comes, and what each one sends. */
@@ -224,51 +224,45 @@ static int wait_for_clients(struct server *server, struct pollfd files[CLIENTS +
     return wait_for(files, CLIENTS + 1, server->has_steps ? (is_idle ? 0 : IDLE) : is_asked ? 1000 : -1);
 }
 
-static bool serve_clients(struct server *server, const struct pollfd files[CLIENTS + 1])
+static void serve_clients(struct server *server, const struct pollfd files[CLIENTS + 1])
 {
     for (int i = 0; i < CLIENTS; i++) {
         struct client *client = &server->clients[i];
-        if (files[i].revents && client->socket >= 0 && !serve_client(server, client))
-            return false;
+        if (files[i].revents && client->socket >= 0)
+            serve_client(server, client);
         if (client->socket >= 0 && !client->is_attached && now() > client->deadline)
             part(server, client, "");
     }
     if (files[CLIENTS].revents)
         greet(server);
-    return true;
 }
 
-/* Serves until a signal asks to end, with steps in the background while nothing comes. False: the disk is lost. */
-static bool serve(struct server *server)
+/* Serves until a signal asks to end, with steps in the background while nothing comes. */
+static void serve(struct server *server)
 {
     struct pollfd files[CLIENTS + 1];
     bool is_idle = false;
     while (!is_asked_to_end()) {
         bool something = wait_for_clients(server, files, is_idle) > 0;
-        if (!serve_clients(server, files))
-            return false;
+        serve_clients(server, files);
         if (something || !server->has_steps) {
             server->has_steps = server->has_steps || something;
             is_idle = false;
             continue;
         }
-        uint32_t left = disk_tick(&server->disk);
-        if (left == DISK_LOST)
-            return false;
-        server->has_steps = left == 1;
+        server->has_steps = disk_tick(&server->disk) == 1;
         is_idle = true;
     }
-    return true;
 }
 
-/* Ends: the clients go, and what is left is brought home. False: the disk is lost. */
-static bool end(struct server *server, bool is_whole)
+/* Ends: the clients go, and what is left is brought home. False: the disk has faulted. */
+static bool end(struct server *server)
 {
     for (int i = 0; i < CLIENTS; i++)
         if (server->clients[i].socket >= 0)
             part(server, &server->clients[i], "the server ends");
     close(server->listener);
-    return is_whole && disk_settle(&server->disk);
+    return disk_settle(&server->disk);
 }
 
 /* Opens, serves and ends. Answers the exit status. */
@@ -283,8 +277,10 @@ static int run(struct server *server, const struct options *options)
         return server->disk.status;
     if (!disk_start(&server->disk, (uint32_t)options->packet))
         status = server->disk.status;
-    else if (open_listener(server, options) && end(server, serve(server)))
-        status = 0;
+    else if (open_listener(server, options)) {
+        serve(server);
+        status = end(server) ? 0 : server->disk.status;
+    }
     disk_close(&server->disk);
     return status;
 }

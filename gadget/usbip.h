@@ -70,8 +70,8 @@ struct client {
     size_t count, bytes;         /* of all that wait, and of the one that comes */
 };
 
-/* What became of a client: it goes on, it is to be ended for the cause that stands in `cause`, or the disk is lost. */
-enum outcome { GOES_ON, ENDS, LOST };
+/* What became of a client: it goes on, or it is to be ended for the cause that stands in `cause`. */
+enum outcome { GOES_ON, ENDS };
 
 /* usbip_client.c */
 enum outcome serve_attached(struct client *client, struct usb_device *device, const char **cause);

@@ -118,8 +118,6 @@ static enum outcome play_first(struct client *client, struct usb_device *device,
     uint32_t code = endpoint == BULK_IN ? disk_in(device->disk, at, left, &bytes) : disk_out(device->disk, at, left, &bytes);
     first->done += (uint32_t)bytes;
     *moved = *moved || bytes || code != USBDISK_NAK;
-    if (code == DISK_LOST)
-        return LOST;
     if (code == USBDISK_NAK)
         return GOES_ON;
     client->waiting[endpoint] = first->next;

@@ -316,44 +316,53 @@ def limit_writes(size):
     resource.setrlimit(resource.RLIMIT_FSIZE, (size, resource.RLIM_INFINITY))
 
 
-def it_ends_where_the_device_refuses_a_write():
+def faulted(server, host, text):
+    """The device refused a call: no block is served, each command is answered, and the program ends at a signal alone."""
+    until = time.monotonic() + 60
+    while text not in server.text() and time.monotonic() < until:
+        time.sleep(0.002)
+    assert host.write(0, bytes(5120)) == 1 and host.sense() == (4, 0x44, 0)
+    assert host.command(bytes(6)) == (1, b"") and host.sense() == (4, 0x44, 0)
+    assert server.end() == 4 and text in server.text() and "the disk has faulted" in server.text(), server.text()
+
+
+def it_goes_on_where_the_device_refuses_a_write():
     home = make_image("disk.img", 2, BLOCKS, SLOTS)
     forced = pattern(3, 30)
     for sectors, is_promised in ((home, True), (2, False)):
         server = Server(PROGRAM, "disk.img", preexec_fn=lambda most=sectors: limit_writes(512 * most))
         host = attached(server.port).set_up()
-        try:
-            assert host.write(0, forced if is_promised else pattern(4, 30), forced=True) == 0 and is_promised
-        except Gone:
-            assert not is_promised
-        assert server.wait() == 4 and "a write was refused" in server.text(), server.text()
+        assert host.write(0, forced if is_promised else pattern(4, 30), forced=True) == (0 if is_promised else 1)
+        assert is_promised or host.sense() == (3, 0x0C, 0)
+        faulted(server, host, "a write was refused")
         server = again()
         host = attached(server.port).set_up()
         assert host.read_blocks(0, 30) == forced
         ends_well(server)
 
 
-def it_ends_where_the_device_refuses_a_flush():
+def it_goes_on_where_the_device_refuses_a_flush():
     make_image("disk.img", 2, BLOCKS, SLOTS)
-    promised = bytes(5120)
+    promised, told = bytes(5120), set()
     for number in range(1, 8):
         refusing = {"LD_PRELOAD": f"{FOLDER}/refuse_flush.so", "FLUSHES": str(number), "ASAN_OPTIONS": "verify_asan_link_order=0"}
         server = Server(PROGRAM, "disk.img", env=os.environ | refusing)
         data = pattern(number, 10)
-        try:
-            if server.port:
-                host = attached(server.port).set_up()
-                assert host.write(0, data, forced=True) == 0
-                promised = data
-        except (Gone, ConnectionError):
-            pass
-        assert server.wait() == 4 and "a flush was refused" in server.text(), (number, server.text())
+        if server.port:
+            host = attached(server.port).set_up()
+            status = host.write(0, data, forced=True)
+            assert status == 0 or (status == 1 and host.sense() == (3, 0x0C, 0))
+            promised = promised if status else data
+            told.add(status)
+            faulted(server, host, "a flush was refused")
+        else:
+            assert server.wait() == 4 and "a flush was refused" in server.text(), (number, server.text())
         server = again()
         found = attached(server.port).set_up().read_blocks(0, 10)
         assert found in (promised, data), number
         promised = found
         ends_well(server)
-    assert promised != bytes(5120)
+    assert promised != bytes(5120) and told == {0, 1}
 
 
 def it_ends_at_a_signal_also_while_hosts_ask():
@@ -367,17 +376,17 @@ def it_ends_at_a_signal_also_while_hosts_ask():
     flood.wait(timeout=60)
 
 
-def it_ends_where_the_device_refuses_a_read():
+def it_goes_on_where_the_device_refuses_a_read():
     server = served()
     host = attached(server.port).set_up()
     os.truncate("disk.img", 512 * (server.home + 100))
-    host.read_blocks(0, 100)
-    try:
-        host.read_blocks(50, 51)
-        raise AssertionError("blocks were read that are not there")
-    except Gone:
-        pass
-    assert server.wait() == 4 and "a read was refused" in server.text(), server.text()
+    found = host.read_blocks(0, 100)
+    for _ in range(2):
+        assert host.command(struct.pack(">BBIxHx", 0x28, 0, 50, 51), size=51 * 512) == (1, b"")
+        assert host.sense() == (3, 0x11, 0)
+        assert host.read_blocks(0, 100) == found
+    ends_well(server)
+    assert "51 sectors from" in server.text() and "are not read" in server.text(), server.text()
 
 
 def it_bounds_what_a_host_leaves_waiting():
