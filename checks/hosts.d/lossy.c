@@ -10,7 +10,7 @@
 #include <unistd.h>
 
 /* FLUSH: how many microseconds a flush takes, as of a card, so that a kill comes before one as often as behind it. */
-enum { SECTOR = 512, MOST = 512, FLUSH = 4000 };
+enum { SECTOR = 512, MOST = 32, FLUSH = 4000 };
 
 struct record {
     uint64_t place;

@@ -3,6 +3,7 @@
  *   poke reset DISK            a reset of the device by its host (SG_SCSI_RESET), as behind a time-out: the class reset
  *   poke write FOLDER FIRST    files of a known content, each synced, until one fails; a line for each synced one: its number
  *   poke check FOLDER FIRST    whether each file told on standard input is there whole
+ *   poke pages DISK COUNT      so many pages of 4 KiB from its begin on, each forced: as dd with oflag=direct,dsync
  *   poke lose IMAGE JOURNAL HOW SEED   writes that were not flushed are lost: `all`, `some` or `none` of them are kept */
 #define _GNU_SOURCE
 #include <fcntl.h>
@@ -15,7 +16,7 @@
 #include <sys/ioctl.h>
 #include <unistd.h>
 
-enum { MOST = 256 * 1024, KEPT = 24, SECTOR = 512 };
+enum { MOST = 256 * 1024, KEPT = 24, SECTOR = 512, PAGE = 4096 };
 
 static uint8_t bytes[MOST], found[MOST];
 
@@ -34,6 +35,16 @@ static int reset(const char *disk)
         return 0;
     perror(disk);
     return 1;
+}
+
+static int write_pages(const char *disk, uint64_t count)
+{
+    static _Alignas(PAGE) uint8_t page[PAGE];
+    int file = open(disk, O_WRONLY | O_DIRECT | O_DSYNC);
+    for (uint64_t i = 0; file >= 0 && i < count; i++)
+        if (pwrite(file, page, PAGE, (off_t)(i * PAGE)) != PAGE)
+            return 1;
+    return file < 0 || close(file);
 }
 
 /* The content of a file of this number; answers how long it is. */
@@ -147,6 +158,8 @@ int main(int count, char **words)
     const char *what = count > 2 ? words[1] : "";
     if (!strcmp(what, "reset"))
         return reset(words[2]);
+    if (!strcmp(what, "pages") && count == 4)
+        return write_pages(words[2], strtoull(words[3], NULL, 10));
     if (!strcmp(what, "write") && count == 4)
         return write_files(words[2], strtoull(words[3], NULL, 10));
     if (!strcmp(what, "check"))
