@@ -246,13 +246,34 @@ static uint32_t bulk_out(struct disk *disk, const uint8_t *packet, size_t size)
     uint64_t first = 0;
     uint32_t count = 0, code;
     disk->steps = 0;
-    while ((code = usbdisk_bulk_out(&disk->core, packet, size, &first, &count)) == USBDISK_NEEDS)
+    while ((code = usbdisk_bulk_out(&disk->core, packet, size, &first, &count)) == USBDISK_NEEDS) {
+        disk->reads_on = first == disk->behind;
+        disk->behind = first + count;
+        disk->ahead = 0;
         if (!show(disk, first, count)) {
             code = usbdisk_bulk_out_unread(&disk->core, packet, size);
             break;
         }
+    }
     persist(disk);
     return code;
+}
+
+/* What is guessed wrong costs the read of it alone: the READ that comes asks for its own sectors. */
+void disk_look_ahead(struct disk *disk, uint64_t size)
+{
+    uint64_t count = size / 512, next = disk->before, end = disk->near + disk->blocks;
+    bool is_found = disk->ahead && disk->ahead == count;
+    if (!count || (disk->ahead && !is_found))
+        return;
+    disk->before = count;
+    disk->behind += disk->ahead;
+    disk->ahead = 0;
+    if (!(is_found || disk->reads_on) || !next || next > SPAN || next > end - disk->behind)
+        return;
+    if (read_sectors(disk, disk->window[0], disk->behind, next) &&
+        !usbdisk_show(&disk->core, disk->behind, disk->window[0], (size_t)next * 512))
+        disk->ahead = next;
 }
 
 uint32_t disk_out(struct disk *disk, const uint8_t *bytes, size_t size, size_t *taken)

@@ -25,6 +25,10 @@ struct disk {
     int file;
     uint8_t (*window)[512];
     uint64_t sectors, near, slots, steps;
+    uint64_t behind;  /* the sector behind the last READ */
+    uint64_t before;  /* how many sectors the READ before it had */
+    uint64_t ahead;   /* how many from there on were shown before they were asked for */
+    bool reads_on;    /* the last READ began where the one before it ended */
     uint64_t blocks;  /* how many blocks the host sees */
     uint32_t format;  /* 1 or 2 */
     uint32_t packet;  /* bytes of a packet, 64 or 512; 0 while no disk is started */
@@ -49,6 +53,11 @@ uint32_t disk_out(struct disk *disk, const uint8_t *bytes, size_t size, size_t *
  * endpoint is halted behind these bytes. DISK_OVERFLOW: a packet did not fit, and is lost; never so where the room is a
  * multiple of the packet. It makes no call of the device. */
 uint32_t disk_in(struct disk *disk, uint8_t *bytes, size_t size, size_t *got);
+
+/* So many bytes are on their way to the host, and nothing else is to be done. Where READs follow each other, what the next one
+ * will ask for is shown ahead: as many sectors as the one before this READ had, since hosts read in turns of a long READ and
+ * the rest. */
+void disk_look_ahead(struct disk *disk, uint64_t size);
 
 /* A setup packet for the mass storage interface or one of its two endpoints (81h and 02h). Answers ACK with 0 to 2 bytes,
  * or STALL. It makes no call of the device. */

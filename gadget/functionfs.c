@@ -101,12 +101,13 @@ static void play_events(struct gadget *gadget)
         play_event(gadget, &events[i]);
 }
 
-/* Waits for the host. Where it is idle, a step in the background is made. */
+/* Waits for the host. Where it is idle, a step in the background is made. That a transfer to the host is done nobody tells, so a
+ * look at the queues comes first. */
 static void wait_or_step(struct gadget *gadget, int most)
 {
     struct pollfd files[2] = { { gadget->control, POLLIN, 0 }, { gadget->bulk.engine.ready, POLLIN, 0 } };
     bool may_step = gadget->has_steps && !bulk_is_busy(&gadget->bulk);
-    int wait = may_step && (most < 0 || most > IDLE) ? IDLE : most;
+    int wait = gadget->has_steps && (most < 0 || most > IDLE) ? IDLE : most;
     int ready = wait_for(files, 2, wait);
     gadget->has_steps |= ready > 0;
     if (files[0].revents)

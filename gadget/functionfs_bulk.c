@@ -61,7 +61,7 @@ static void begin_command(struct bulk *bulk, const uint8_t *wrapper, size_t size
     if (size == WRAPPER)
         length = wrapper[8] | wrapper[9] << 8 | wrapper[10] << 16 | (uint64_t)wrapper[11] << 24;
     bool sends = size == WRAPPER && wrapper[12] & 0x80;
-    bulk->in_left = sends ? length : 0;
+    bulk->in_left = bulk->reads = sends ? length : 0;
     bulk->out_left = 0;
     if (is_halted(bulk, BULK_OUT))
         halt_out(bulk);
@@ -175,18 +175,22 @@ static void keep_lock(struct bulk *bulk)
 
 int bulk_play(struct bulk *bulk)
 {
+    engine_collect(&bulk->engine, 0);
     do {
         bulk->is_moving = false;
-        engine_collect(&bulk->engine, 0);
         release(bulk);
         feed(bulk);
         fetch(bulk);
         halt_in(bulk);
         ask(bulk);
     } while (bulk->is_moving && bulk->is_enabled);
+    if (bulk->reads && bulk->in.count && !bulk->in_left) {
+        disk_look_ahead(bulk->disk, bulk->reads);
+        bulk->reads = 0;
+    }
     if (bulk->is_locked && bulk->is_enabled)
         keep_lock(bulk);
-    return !bulk->is_enabled ? -1 : bulk->is_locked ? LOCK : bulk->halts_in && !bulk->in.count ? SOON : -1;
+    return !bulk->is_enabled ? -1 : bulk->is_locked ? LOCK : bulk->halts_in ? SOON : -1;
 }
 
 void bulk_reset(struct bulk *bulk)
@@ -195,7 +199,7 @@ void bulk_reset(struct bulk *bulk)
     queue_cancel(&bulk->engine, &bulk->out);
     disk_bus_reset(bulk->disk);
     bulk->is_locked = bulk->halts_in = false;
-    bulk->in_left = bulk->out_left = bulk->out_due = bulk->taken = 0;
+    bulk->reads = bulk->in_left = bulk->out_left = bulk->out_due = bulk->taken = 0;
 }
 
 bool bulk_is_busy(const struct bulk *bulk)

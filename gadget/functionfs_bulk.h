@@ -12,6 +12,7 @@ struct bulk {
     bool is_enabled;   /* the host has set the configuration */
     bool is_locked;    /* a refused wrapper: both endpoints are halted until the class reset */
     bool halts_in;     /* Bulk-In is to be halted when all before it is sent */
+    uint64_t reads;    /* bytes of the READ on its way, behind which nobody has looked */
     uint64_t in_left;  /* bytes of data that the host still waits for */
     uint64_t out_left; /* bytes of data that the disk still waits for */
     uint64_t out_due;  /* those of them that no transfer asks for yet */

@@ -19,9 +19,7 @@ void engine_collect(struct engine *engine, unsigned least)
 {
     struct io_event done[2 * DEPTH];
     uint64_t times;
-    if (read(engine->ready, &times, sizeof times) < 0 && !least)
-        return;
-    long count;
+    long count = read(engine->ready, &times, sizeof times);
     do
         count = syscall(SYS_io_getevents, engine->context, (long)least, (long)(2 * DEPTH), done,
                         least ? NULL : &(struct timespec){ 0, 0 });
@@ -61,8 +59,10 @@ bool queue_submit(struct engine *engine, struct queue *queue, size_t size)
     call->aio_fildes = (uint32_t)queue->file;
     call->aio_buf = (uintptr_t)transfer->bytes;
     call->aio_nbytes = size;
-    call->aio_flags = IOCB_FLAG_RESFD;
-    call->aio_resfd = (uint32_t)engine->ready;
+    if (!queue->sends || queue->count + 1 == DEPTH) {
+        call->aio_flags = IOCB_FLAG_RESFD;
+        call->aio_resfd = (uint32_t)engine->ready;
+    }
     transfer->size = size;
     transfer->is_done = false;
     if (syscall(SYS_io_submit, engine->context, 1L, &call) != 1)

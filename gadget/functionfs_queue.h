@@ -8,8 +8,9 @@
 #include <stddef.h>
 #include <stdint.h>
 
-/* CHUNK: the most bytes of a transfer. The kernel copies each into one block of its memory: 8 pages are always to be had. */
-enum { DEPTH = 4, CHUNK = 32768 };
+/* DEPTH: the longest READ in transfers, its status, and one more.
+ * CHUNK: the most bytes of a transfer. The kernel copies each into one block of its memory: 8 pages are always to be had. */
+enum { DEPTH = 6, CHUNK = 32768 };
 
 struct transfer {
     struct iocb call;
@@ -27,7 +28,8 @@ struct queue {
     unsigned first, count;
 };
 
-/* The kernel's side of both queues. `ready` can be read when a transfer is done. */
+/* The kernel's side of both queues. `ready` can be read when a transfer from the host is done, or one to the host behind which
+ * there was no room for another. Nobody is woken for the others to the host: what follows them comes from the host. */
 struct engine {
     aio_context_t context;
     int ready;
@@ -36,7 +38,7 @@ struct engine {
 /* False: the system refused, errno tells why. */
 bool engine_open(struct engine *engine);
 
-/* Notes which transfers are done. Waits for at least so many. */
+/* Notes which transfers are done, and empties `ready`. Waits for at least so many. */
 void engine_collect(struct engine *engine, unsigned least);
 
 /* Opens an endpoint's file. Bulk-In sends. */

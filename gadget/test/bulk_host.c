@@ -243,10 +243,26 @@ static void bad_wrapper(void)
     recover();
 }
 
+/* READs that follow each other, in turns of a long one and the rest, as Linux makes them; what is shown ahead of one may be
+ * written before it comes. */
+static void read_on(void)
+{
+    uint32_t length = 1 + below(200), rest = 1 + below(40), address = below(500), reads = 2 + below(10);
+    for (uint32_t i = 0; i < reads && address + length < 2048; i++) {
+        uint32_t count = i % 2 ? rest : length;
+        transfer(0x28, address, count, count * 512);
+        address += count;
+        if (below(8) == 0)
+            transfer(0x2A, address + below(rest), 1, 512);
+        if (below(4) == 0)
+            disk_tick(&disk);
+    }
+}
+
 static void round_of(void)
 {
     static const uint8_t ready[6] = { 0 }, sense[6] = { 3, 0, 0, 0, 18, 0 }, unknown[6] = { 0xEE };
-    uint32_t count = 1 + below(240), address = below(2049 - count), what = below(12);
+    uint32_t count = 1 + below(240), address = below(2049 - count), what = below(13);
     if (what < 4)
         transfer(0x2A, address, count, count * 512);
     else if (what < 8)
@@ -256,6 +272,8 @@ static void round_of(void)
     else if (what == 9) /* data of another size than the block's, which may not be what fits */
         transfer(below(2) ? 0x28 : 0x2A, 60000, 1 + below(4), 512 * below(6));
     else if (what == 10)
+        read_on();
+    else if (what == 11)
         command(unknown, 6, below(2) ? 0 : below(5000), below(2));
     else
         command(below(2) ? ready : sense, 6, below(2) ? 0 : 18 + below(2) * 494, true);
