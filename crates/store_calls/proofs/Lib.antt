@@ -1,3 +1,5 @@
 pub mod Served
 pub mod Starting
 pub mod Values
+pub mod Taking
+pub mod Untouched

@@ -1,5 +1,5 @@
 -- What `usbdisk_room` tells is enough, and what is read is in sight.
-use Rattle.std.proofs.Common.{◌≡◌, ◌⊎◌, ◌<◌, ◌≤◌, ◌+◌, ◌*◌, ℕ, true, length, inl, inr, sym, ◌∙◌, false, arith}
+use Rattle.std.proofs.Common.{◌≡◌, ◌<◌, ◌≤◌, ◌+◌, ◌*◌, ℕ, true, length, inl, inr, sym, ◌∙◌, false, arith}
 use Rattle.std.proofs.Math.Nat.{le-max_left, le-max_right}
 use Rattle.std.proofs.lemmas.Bool.{cases_lt, false≢true}
 use Rattle.log_layout.specs.Places.{first_home}
@@ -19,7 +19,7 @@ use Rattle.blocks.specs.declared.fault.StoreFault.{StoreFault}
 use Rattle.blocks.specs.declared.fault.StoreFault.TheVariants.{ReadFault, Dead}
 use Rattle.store_calls.specs.Stores.{Store}
 use Rattle.store_calls.specs.Rooms.{RefusesNothing, Foresees, HasRoom, HoldsLog, Appends, AreInSight}
-use Rattle.store_calls.specs.Rooms.{HasRoomToStart, HoldsImageLog, StartRefusesNothing, room_of, room_for}
+use Rattle.store_calls.specs.Rooms.{HasRoomToStart, StartRefusesNothing, room_of, room_for}
 
 -- for each call
 enough : (format : LogFormat) (slots : ℕ) → 3 * most_sent format ≤ room_of format slots

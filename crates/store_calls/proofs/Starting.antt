@@ -1,6 +1,5 @@
 -- A start of a store, good or refused.
-use Rattle.std.proofs.Common.{◌≡◌, ◌≢◌, ◌⊎◌, inl, inr, ℕ, ◌<◌, ◌≤◌, ◌+◌, length, sym, subst, arith}
-use Rattle.medium.specs.Medium.{State, IsSound}
+use Rattle.std.proofs.Common.{◌≡◌, ◌≢◌, ◌⊎◌, inl, inr, ◌<◌, ◌+◌, length, sym, subst, arith}
 use Rattle.medium.specs.Sent.{sent}
 use Rattle.medium.specs.declared.fault.MediumFault.TheVariants as kind
 use Rattle.medium.specs.declared.fault.MediumFault.{MediumFault}

@@ -3,8 +3,6 @@ use Rattle.std.specs.Prelude.{◌≡◌, ◌≢◌, ◌⊎◌, ◌↔◌, ℕ, �
 use Rattle.std.specs.Prelude.{not, List, length, Option, Some, None, Result, Ok, Err}
 use Rattle.inlet.specs.Inlet.{AreHeld}
 use Rattle.medium.specs.Blocks.{Write}
-use Rattle.mirror.specs.declared.call.DeviceCall.{DeviceCall}
-use Rattle.mirror.specs.declared.call.DeviceCall.TheVariants as call
 use Rattle.mirror.specs.Mirror.{first_of}
 use Rattle.log_layout.specs.Places.{first_home}
 use Rattle.window.specs.Window.{state_of, without_first, ComesAfter, IsShown}
@@ -17,6 +15,7 @@ use Rattle.blocks.specs.StoreValue.{Cached, layout_of, blocks_of, transfer_limit
 use Rattle.blocks.specs.StoreValue.{steps_left, FitsBook}
 use Rattle.blocks.specs.Turns.{IsTurn, IsWriteTurn}
 use Rattle.store_calls.specs.Stores.{Store}
+use Rattle.store_calls.specs.Outbox.{Shows, ShowsRun, IsNoRoom}
 use Rattle.store_calls.specs.Rooms.{Appends, HoldsLog, AreInSight, AreMissing}
 use Rattle.store_calls.specs.declared.call_fault.CallFault.{CallFault}
 use Rattle.store_calls.specs.declared.call_fault.CallFault.TheVariants as fault
@@ -130,15 +129,6 @@ StepsOn old new (Err why) = ⊥
 
 -- ---- the device
 
--- the number of a call's kind, and where it is a write its sector and bytes
-abbrev pub Shows : Option DeviceCall → ℕ → List ℕ → ℕ → List ℕ → ℕ → Type 0
-Shows None sector bytes sector' bytes' kind =
-    (kind ≡ 0) × (sector' ≡ sector) × (bytes' ≡ bytes)
-Shows (Some (call.Write w)) sector bytes sector' bytes' kind =
-    (kind ≡ 1) × (sector' ≡ w.sector) × (bytes' ≡ w.block)
-Shows (Some call.Flush) sector bytes sector' bytes' kind =
-    (kind ≡ 2) × (sector' ≡ sector) × (bytes' ≡ bytes)
-
 -- the first call leaves the outbox, and nothing else of the store changes
 pub record LetsGo (old new : Store) : Type 0 where
   pub medium : new.medium ≡ without_first old.medium
@@ -148,6 +138,16 @@ abbrev pub HandsOn : ℕ → List ℕ → ℕ → List ℕ → Store → Store �
 HandsOn sector room sector' filled old new (Ok kind) =
     Shows (first_of old.medium.outbox) sector room sector' filled kind × LetsGo old new
 HandsOn sector room sector' filled old new (Err why) = ⊥
+
+-- A run leaves the outbox, or one call that is no write, and nothing else of the store changes.
+-- Room for no sector, or for a part of one, is refused, and nothing changes.
+abbrev pub HandsOnRun : ℕ → List ℕ → ℕ → ℕ → List ℕ → ℕ → Store → Store → Result ℕ CallFault
+    → Type 0
+HandsOnRun sector room was sector' filled count old new (Ok kind) = (¬ IsNoRoom (length room))
+    × ShowsRun (first_of old.medium.outbox) old.medium sector room was
+    new.medium sector' filled count kind × IsUntouched state_of old new
+HandsOnRun sector room was sector' filled count old new (Err why) = (why ≡ fault.Length)
+    × IsNoRoom (length room) × (new ≡ old) × (sector' ≡ sector) × (filled ≡ room) × (count ≡ was)
 
 -- Sectors are shown, and taken or not. Where they are what the medium holds, the store fits what it
 -- fitted; where they are not, nothing but the medium has changed.

@@ -1,5 +1,5 @@
 -- What a call does to a handle.
-use Rattle.std.specs.Prelude.{◌≡◌, ℕ, List, Option, Some, None, Result, Ok, Err, MatchResult}
+use Rattle.std.specs.Prelude.{◌≡◌, ℕ, List, Option, Some, None, Result, Err, MatchResult}
 use Rattle.window.specs.Window.{Window}
 use Rattle.store_calls.specs.Stores.{Store}
 use Rattle.store_calls.specs.Starts.{Begins, IsNoStart}

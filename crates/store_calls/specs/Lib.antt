@@ -2,6 +2,8 @@ pub mod Held
 pub mod StoreRow
 pub mod Stores
 pub mod Rooms
+pub mod Outbox
 pub mod Starts
 pub mod Calls
+pub mod Refused
 pub mod Handles

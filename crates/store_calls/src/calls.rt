@@ -2,7 +2,8 @@
 ghost use Rattle.std.specs.Prelude.{◌≡◌, ◌↔◌, None, IsTrue, IsSome};
 ghost use Rattle.window.specs.Window.{fresh};
 ghost use Rattle.store_calls.specs.Calls.{ReadsBlocks, WritesBlocks, SyncsStore, StepsOn};
-ghost use Rattle.store_calls.specs.Calls.{HandsOn, IsShownTo, TellsSizes};
+ghost use Rattle.store_calls.specs.Calls.{HandsOn, HandsOnRun, IsShownTo, TellsSizes};
+ghost use Rattle.store_calls.specs.Refused.{IsTold};
 ghost use Rattle.store_calls.specs.Handles.{InHandle, StartsIn};
 
 use crate::CallFault;
@@ -11,6 +12,8 @@ use crate::handle::UsbDiskStore;
 use crate::moves::{adopt, reclaim};
 use crate::outbox::{next_call, show_sectors};
 use crate::reading::{Missing, read_blocks};
+use crate::refused::refuse;
+use crate::run::next_run;
 use crate::start::begin;
 use crate::writing::{sync_store, write_blocks};
 use std::alloc::Global;
@@ -178,6 +181,49 @@ pub fn take_in(
     let kind = next_call(&mut held, sector, to);
     adopt(store, alloc, held);
     Ok(kind)
+}
+
+/// The next calls for the device leave the outbox: a flush, or writes to neighbouring sectors, as
+/// many as wait one behind the other and have room. Their kind, and of writes the first sector, the
+/// bytes, one behind the other, and how many they are.
+///
+/// # Errors
+///
+/// `Empty`; `Length` where the room is for no sector, or for a part of one. Nothing changes.
+pub fn take_run_in(
+    alloc: Global,
+    store: &mut UsbDiskStore,
+    sector: &mut u64,
+    to: &mut [u8],
+    count: &mut usize,
+) -> Result<u32, CallFault>
+    ensures { InHandle (HandsOnRun sector.old to.old count.old sector.new to.new count.new)
+        ((sector.new ≡ sector.old) × (to.new ≡ to.old) × (count.new ≡ count.old))
+        store.old.store store.new.store result }
+{
+    let Some(mut held) = reclaim(store, alloc) else {
+        return Err(CallFault::Empty);
+    };
+    let kind = next_run(&mut held, sector, to, count);
+    adopt(store, alloc, held);
+    kind
+}
+
+/// The device refused the call that was handed out last: nothing waits any more, and the store is
+/// dead until the next start.
+///
+/// # Errors
+///
+/// `Empty`.
+pub fn refused_in(alloc: Global, store: &mut UsbDiskStore) -> Result<(), CallFault>
+    ensures { InHandle IsTold Unit store.old.store store.new.store result }
+{
+    let Some(mut held) = reclaim(store, alloc) else {
+        return Err(CallFault::Empty);
+    };
+    refuse(&mut held);
+    adopt(store, alloc, held);
+    Ok(())
 }
 
 /// Shows sectors as the device holds them, and answers whether they were taken.

@@ -10,6 +10,8 @@ mod moves;
 mod outbox;
 mod parts;
 mod reading;
+mod refused;
+mod run;
 mod start;
 mod turns;
 mod writing;
@@ -17,7 +19,10 @@ mod writing;
 pub use blocks::StartFault;
 pub use call_fault::CallFault;
 pub use calls::{
-    Sizes, end, read_in, show_in, sizes_in, start_in, sync_in, take_in, tick_in, write_in,
+    Sizes, end, read_in, refused_in, show_in, sizes_in, start_in, sync_in, take_in, take_run_in,
+    tick_in, write_in,
 };
 pub use handle::{Opaque, UsbDiskStore};
+pub use outbox::show_call;
 pub use reading::Missing;
+pub use run::block_for;

@@ -1,6 +1,7 @@
 //! What a device has to carry out, and what it shows.
 ghost use Rattle.mirror.specs.Mirror.{first_of};
-ghost use Rattle.store_calls.specs.Calls.{Shows, LetsGo, Sees};
+ghost use Rattle.store_calls.specs.Outbox.{Shows};
+ghost use Rattle.store_calls.specs.Calls.{LetsGo, Sees};
 
 use blocks::Store;
 use mirror::DeviceCall;
@@ -18,11 +19,11 @@ pub(crate) fn next_call(
 {
     let call = store.medium().first();
     store.give();
-    show(call, sector, to)
+    show_call(call, sector, to)
 }
 
-// The number of a call's kind, and where it is a write its sector and bytes.
-fn show(call: Option<DeviceCall>, sector: &mut u64, to: &mut [u8; 512]) -> u32
+/// The number of a call's kind, and where it is a write its sector and bytes.
+pub fn show_call(call: Option<DeviceCall>, sector: &mut u64, to: &mut [u8; 512]) -> u32
     ensures { Shows call sector.old to.old sector.new to.new result }
 {
     match call {

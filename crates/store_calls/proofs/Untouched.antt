@@ -1,0 +1,48 @@
+-- Calls that are none of the medium follow one another.
+use Rattle.std.proofs.Common.{◌≡◌, refl, sym, ◌∙◌, ap, subst}
+use Rattle.medium.specs.Moments.{IsUnchanged}
+use Rattle.medium.proofs.Moments.{unchanged, unchanged_through}
+use Rattle.window.specs.Window.{Window, state_of}
+use Rattle.window.specs.WindowLaws.{is_sound}
+use Rattle.blocks.specs.Book.{Book}
+use Rattle.blocks.specs.Passing.{IsUntouched}
+use Rattle.blocks.specs.Stopping.{stopped, stopped_store}
+use Rattle.blocks.specs.StoreValue.{FitsBook}
+use Rattle.blocks.proofs.Turning.{stays, turns}
+use Rattle.store_calls.specs.Outbox.{IsEmptied}
+use Rattle.store_calls.specs.Refused.{IsDrained, IsRefused}
+use Rattle.store_calls.specs.Stores.{Store}
+
+pub none_yet : (store : Store) → IsUntouched state_of store store
+none_yet store = record {
+  unchanged = unchanged (state_of store.medium);
+  cached = refl;
+  policy = refl;
+  turn = stays (state_of store.medium) store.cached (is_sound store.medium);
+}
+
+pub one_more : (old mid new : Store) → IsUntouched state_of old mid → IsUntouched state_of mid new → IsUntouched state_of old new
+one_more old mid new first second = record {
+  unchanged = unchanged_through (state_of old.medium) (state_of mid.medium) (state_of new.medium) first.unchanged second.unchanged;
+  cached = second.cached ∙ first.cached;
+  policy = second.policy ∙ first.policy;
+  turn = turns (state_of old.medium) (state_of mid.medium) (state_of new.medium) old.cached mid.cached new.cached first.turn second.turn;
+}
+
+-- a store whose outbox was emptied, and then stopped
+pub is_refused : (old mid new : Store) → IsDrained old mid → new ≡ stopped_store mid
+    → ((book : Book) → FitsBook (state_of mid.medium) mid.cached book → FitsBook (state_of new.medium) new.cached book)
+    → IsRefused old new
+is_refused old mid new drained is fits =
+    let same : new.medium ≡ mid.medium = ap (λ (s : Store). s.medium) is in
+    let stops : stopped_store mid ≡ record (stopped_store old) { medium = new.medium } = (λ i. record {
+      medium = sym same i;
+      cached = stopped (drained.untouched.cached i);
+      goes_ahead = drained.untouched.policy i;
+    }) in
+    record {
+      emptied = subst (λ (w : Window). IsEmptied old.medium w) (sym same) drained.emptied;
+      others = is ∙ stops;
+      unchanged = subst (λ (w : Window). IsUnchanged (state_of old.medium) (state_of w)) (sym same) drained.untouched.unchanged;
+      fits = λ book f. fits book (drained.untouched.turn.fits book f);
+    }

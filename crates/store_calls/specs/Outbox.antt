@@ -1,0 +1,71 @@
+-- What leaves an outbox: one call, or writes to neighbouring sectors together.
+use Rattle.std.specs.Prelude.{◌≡◌, ◌≢◌, ◌⊎◌, ℕ, zero, suc, ◌+◌, ◌/◌, ◌%◌, ◌<◌, ◌≤◌, List, [], ◌∷◌}
+use Rattle.std.specs.Prelude.{◌++◌, length, Option, Some, None}
+use Rattle.medium.specs.Writes.{sector_of}
+use Rattle.mirror.specs.declared.call.DeviceCall.{DeviceCall}
+use Rattle.mirror.specs.declared.call.DeviceCall.TheVariants.{Write, Flush}
+use Rattle.mirror.specs.Mirror.{first_of}
+use Rattle.window.specs.Window.{Window, without_first}
+
+-- the number of a call's kind, and where it is a write its sector and bytes
+abbrev pub Shows : Option DeviceCall → ℕ → List ℕ → ℕ → List ℕ → ℕ → Type 0
+Shows None sector bytes sector' bytes' kind =
+    (kind ≡ 0) × (sector' ≡ sector) × (bytes' ≡ bytes)
+Shows (Some (Write w)) sector bytes sector' bytes' kind =
+    (kind ≡ 1) × (sector' ≡ w.sector) × (bytes' ≡ w.block)
+Shows (Some Flush) sector bytes sector' bytes' kind =
+    (kind ≡ 2) × (sector' ≡ sector) × (bytes' ≡ bytes)
+
+-- so many calls leave the outbox, one by one
+abbrev pub without : ℕ → Window → Window
+without zero w = w
+without (suc count) w = without_first (without count w)
+
+-- all that waits leaves it
+pub record IsEmptied (old new : Window) : Type 0 where
+  pub medium : new ≡ without (length old.outbox) old
+  pub empty : new.outbox ≡ []
+
+-- ---- a run
+
+-- writes of so many blocks of these bytes, in order, to the sectors from this one on
+abbrev pub writes_of : ℕ → ℕ → List ℕ → List DeviceCall
+writes_of zero sector bytes = []
+writes_of (suc count) sector bytes = writes_of count sector bytes
+    ++ Write (record { sector = sector + count; block = sector_of bytes count }) ∷ []
+
+-- the call that waits first is a write to this sector
+abbrev pub IsTo : ℕ → Option DeviceCall → Type 0
+IsTo sector (Some (Write w)) = w.sector ≡ sector
+IsTo sector (Some Flush) = ⊥
+IsTo sector None = ⊥
+
+-- So many calls leave the outbox, one by one: writes to neighbouring sectors from this one on.
+-- Their bytes lie one behind the other, and the others in the room stay.
+pub record IsRun (old new : Window) (sector count : ℕ) (room filled : List ℕ) : Type 0 where
+  pub writes : old.outbox ≡ writes_of count sector filled ++ new.outbox
+  pub medium : new ≡ without count old
+  pub behind : (i : ℕ) → count ≤ i → sector_of filled i ≡ sector_of room i
+
+-- all of them that wait and have room
+pub record IsLongestRun (old new : Window) (sector count : ℕ) (room filled : List ℕ) : Type 0 where
+  pub run : IsRun old new sector count room filled
+  pub most : count ≤ length room / 512
+  -- the room is full, or what waits next is no write to the next sector
+  pub ends : (count ≡ length room / 512) ⊎ ¬ IsTo (sector + count) (first_of new.outbox)
+
+-- so many bytes are room for no sector, or for a part of one
+abbrev pub IsNoRoom : ℕ → Type 0
+IsNoRoom size = (size ≡ 0) ⊎ (size % 512 ≢ 0)
+
+-- Where a write waits first, it and its neighbours behind it leave the outbox, as many as there are
+-- or have room; else one call does.
+abbrev pub ShowsRun : Option DeviceCall → Window → ℕ → List ℕ → ℕ → Window → ℕ → List ℕ → ℕ → ℕ
+    → Type 0
+ShowsRun (Some (Write w)) old sector room was new sector' filled count kind =
+    (kind ≡ 1) × (sector' ≡ w.sector) × (0 < count)
+    × IsLongestRun old new w.sector count room filled
+ShowsRun (Some Flush) old sector room was new sector' filled count kind =
+    Shows (Some Flush) sector room sector' filled kind × (count ≡ was) × (new ≡ without_first old)
+ShowsRun None old sector room was new sector' filled count kind =
+    Shows None sector room sector' filled kind × (count ≡ was) × (new ≡ without_first old)
