@@ -2,8 +2,13 @@
  * (USB Mass Storage Class Bulk-Only Transport 1.0), behind any USB controller, over any medium of
  * sectors of 512 bytes, of any size.
  *
- * The disk has the device's first sectors in memory: the super, the head and the log. The blocks lie
- * in home sectors behind these, and stay on the device. Before a READ of some of them the disk asks
+ * There are two ways in. The calls usbdisk_* are the whole disk, for a controller that hands packets over.
+ * The calls usbdisk_store_* are the store without the transport, for a stack that speaks SCSI itself, as
+ * TinyUSB does. They come last here. Of what stands before them read this page, the numbers, usbdisk_room,
+ * usbdisk_memory, usbdisk_look and usbdisk_lay_log.
+ *
+ * The disk has the device's first sectors in memory: the super (sector 0, which tells the sizes of the
+ * image), the head (sector 1) and the log. The blocks lie in home sectors behind these, and stay on the device. Before a READ of some of them the disk asks
  * for their bytes, by the answer NEEDS of usbdisk_bulk_out: read them, show them, and hand the same
  * packet in again.
  *
@@ -14,14 +19,15 @@
  *             break;       (calls wait in the outbox: answer NAK, carry them out, and call again)
  *     }
  *
- * What the disk writes comes out of an outbox. After each call that may write (start, bulk_out, bulk_out_unread, tick)
- * take the calls out with usbdisk_take_run, neighbouring sectors together, or with usbdisk_take, one
- * by one; carry each out on the device, in order, and only then let the answer of the call go to the
- * host, or make the next one. docs/MAKERS.md tells what the device must promise.
+ * What the disk writes comes out of an outbox. After each call that may write (start, bulk_out,
+ * bulk_out_unread, tick) take the calls out with usbdisk_take_run, neighbouring sectors together, or with
+ * usbdisk_take, one by one. Carry each out on the device, in order, and only then let the answer of the call
+ * go to the host, or make the next one. Where the device refuses one: usbdisk_refused. docs/MAKERS.md tells
+ * what the device must promise.
  *
  * Link the program with libusbdisk_c.a, and define the two functions at the end of this file.
  *
- * Threads: a disk is used by one thread, the one that started it. No call may be made from a signal
+ * Threads: a disk or a store is used by one thread, the one that started it. No call may be made from a signal
  * handler or from an interrupt that can interrupt another call. No call waits. Only usbdisk_start,
  * usbdisk_store_start, usbdisk_format, usbdisk_lay_log and usbdisk_migrate take memory.
  *
@@ -66,15 +72,15 @@ struct usbdisk_device {
     unsigned char mark;
 };
 
-/* What an endpoint is to answer; or, at NEEDS, what is to be done before it answers. */
+/* What an endpoint is to answer; or, at NEEDS, what is to be done before it does. */
 enum {
     USBDISK_ACK = 0,   /* taken, or here is the packet */
     USBDISK_NAK = 1,   /* nothing now: the host tries again */
     USBDISK_STALL = 2, /* the endpoint is halted, or the request is refused */
-    USBDISK_NEEDS = 3  /* show some sectors first, and hand the same packet in again */
+    USBDISK_NEEDS = 3  /* show some sectors first, and make the same call again */
 };
 
-/* Why usbdisk_start found no disk on the device. */
+/* Why a start found no disk on the device. */
 enum {
     USBDISK_NO_MEMORY = 1,
     USBDISK_READ_REFUSED = 2,    /* it read a sector that is not in memory: pass all of usbdisk_near */
@@ -88,13 +94,14 @@ enum {
     USBDISK_LOG_TOO_SMALL = 10   /* never of a start */
 };
 
-/* A store neither reads nor writes until the next start: a call had no room in the outbox. */
+/* A store neither reads nor writes until the next start: usbdisk_store_refused was called, or a call had
+ * no room in the outbox. */
 enum { USBDISK_DEAD = 11 };
 
 /* What is wrong with the arguments of a call. */
 enum {
-    USBDISK_EMPTY = 16,           /* the handle has no disk */
-    USBDISK_STARTED = 17,         /* the handle has one already */
+    USBDISK_EMPTY = 16,           /* the handle holds nothing: not started, or stopped */
+    USBDISK_STARTED = 17,         /* the handle holds something already */
     USBDISK_TOO_LONG = 18,        /* a packet has more bytes than those of the disk */
     USBDISK_BAD_IDENTITY = 19,    /* a character is not printable ASCII (20h to 7Eh) */
     USBDISK_BAD_PACKET_SIZE = 20, /* neither 64 nor 512 */
@@ -104,16 +111,16 @@ enum {
     USBDISK_BAD_RANGE = 24        /* a block behind the last one */
 };
 
-/* What usbdisk_take or usbdisk_take_run took out. */
+/* What a call took out of the outbox. */
 enum {
     USBDISK_NOTHING = 0,
     USBDISK_WRITE = 1,
     USBDISK_FLUSH = 2
 };
 
-/* How many writes and flushes the outbox must have room for, so that no start and no event is refused
- * for want of it: for an image of this format (1 or 2) with so many log slots. 0 where these are no
- * such. Where the image may have more slots, or the bytes may be none, ask for format 2 and 64. */
+/* How many writes and flushes the outbox must have room for, so that no start and no later call is refused
+ * for want of it: for an image of this format (1 or 2) with so many log slots, as usbdisk_look tells them.
+ * 0 where there is no such format or number of slots. Where you do not know them, ask for format 2 and 64. */
 uint64_t usbdisk_room(uint32_t format, uint64_t slots);
 
 /* How many bytes of memory a start takes where it is given so many bytes of the first sectors: for an
@@ -132,6 +139,21 @@ uint32_t usbdisk_format(uint8_t *image, size_t size, uint32_t format, uint64_t b
 /* How many of the device's first sectors go into memory, from the bytes of sector 0: all before the
  * first home sector. Where sector 0 is no super it tells 2, and a start on these tells what is wrong. */
 uint64_t usbdisk_near(const uint8_t sector[512]);
+
+/* What image begins with a sector 0. */
+struct usbdisk_layout {
+    uint32_t format;  /* 1 or 2 */
+    uint64_t slots;   /* how many slots the log has, 1 to 64 */
+    uint64_t blocks;  /* how many blocks a host sees, 1 to 2^31 */
+    uint64_t near;    /* how many first sectors go into memory, as usbdisk_near tells */
+    uint64_t sectors; /* how many sectors the image takes: the device has to have as many */
+};
+
+/* Tells from the bytes of sector 0 what image there is, before a start: the room and the memory that it
+ * takes depend on the format and the slots. It looks at nothing else, so a start may still be refused.
+ *
+ * Answers 0; or BAD_SUPER, BAD_VERSION or BAD_SIZE, as a start does, and `*layout` stays. */
+uint32_t usbdisk_look(const uint8_t sector[512], struct usbdisk_layout *layout);
 
 /* Starts a disk on a device of so many sectors: copies the first ones, and recovers the disk from
  * whatever a loss of power left. The recovery's own writes are in the outbox then.
@@ -189,8 +211,8 @@ uint32_t usbdisk_setup(struct usbdisk *disk, const uint8_t setup[8], uint8_t dat
 
 /* Makes a step in the background, of at most two calls of the medium. Call it while the bus is idle.
  * Answers 1 while steps are left, or EMPTY; 0 where every accepted write is durable and at its home
- * place once the device has carried out what waits then, so carry the outbox out after a 0 too. After a
- * call that the outbox had no room for it stays 1: stop, and start with more room. */
+ * place once the device has carried out what waits then, so carry the outbox out after a 0 too. After
+ * usbdisk_refused, or a call that the outbox had no room for, it stays 1 and makes no step. */
 uint32_t usbdisk_tick(struct usbdisk *disk);
 
 /* Takes the first call out of the outbox. At WRITE `bytes` are to be written to sector `*sector`; at
@@ -266,8 +288,14 @@ uint32_t usbdisk_next(struct usbdisk_image *image, uint64_t *sector, uint8_t byt
 uint32_t usbdisk_end(struct usbdisk_image *image);
 
 /* The store without the transport, for a USB stack that has SCSI in it: its callbacks read and write
- * blocks of 512 bytes and synchronise them. docs/MAKERS.md has a section on it, examples/c/tinyusb.c a program.
- * All that is told above of the first sectors, the outbox, its order and threads holds here too.
+ * blocks of 512 bytes and synchronise them. docs/MAKERS.md has a section on it, and examples/c/tinyusb.c
+ * has the callbacks. What is told above of pointers, threads, the first sectors and the outbox holds here too.
+ *
+ * After each start, write, sync and tick carry out what waits, and only then answer the stack:
+ *
+ *     while ((kind = usbdisk_store_take_run(&store, &sector, bytes, sizeof bytes, &count)) != USBDISK_NOTHING)
+ *         (WRITE: write `count` sectors from `sector` on; FLUSH: flush; where the device refuses it:
+ *          usbdisk_store_refused(&store), and answer the stack with an error)
  *
  * A handle. Set it to USBDISK_STORE_NONE before usbdisk_store_start; never write or copy it after. */
 struct usbdisk_store {
@@ -276,8 +304,8 @@ struct usbdisk_store {
 
 #define USBDISK_STORE_NONE { 0 }
 
-/* Starts a store on a device, as usbdisk_start starts a disk: near, sectors, span and room are as there.
- * A span of as many sectors as the blocks of one read is enough.
+/* Starts a store on a device, as usbdisk_start starts a disk: near, sectors, device and room are as there.
+ * span: as many sectors as the longest read has blocks.
  *
  * Answers 0, a number from 1 to 10, STARTED or BAD_LENGTH. At all but 0 the handle stays as it was, and
  * no memory is kept. */
@@ -285,46 +313,62 @@ uint32_t usbdisk_store_start(struct usbdisk_store *store, const uint8_t *near, s
                              uint64_t sectors, const struct usbdisk_device *device, uint32_t span,
                              size_t room);
 
-/* Stops the store, as usbdisk_stop does a disk. Answers 0 or EMPTY. */
+/* Stops the store, and frees all memory. It writes nothing: what was not synchronised is lost as by a cut.
+ * Answers 0 or EMPTY. */
 uint32_t usbdisk_store_stop(struct usbdisk_store *store);
 
-/* How many blocks there are, and how many of them a read and a write have at most: 48 in format 1, 240
- * in format 2. Answers 0 or EMPTY. */
+/* How many blocks there are, and how many of them one read or write may have: 48 in format 1, 240 in
+ * format 2. Answers 0, or EMPTY, and nothing is told. */
 uint32_t usbdisk_store_sizes(struct usbdisk_store *store, uint64_t *blocks, uint32_t *limit);
 
 /* Reads whole blocks, from `block` on, as they are after all accepted writes. size: 512 for each.
  *
- * Answers 0; NEEDS, and nothing happened: show the `*count` sectors from `*first` on, and call it again
- * (at all others `*first` and `*count` stay); EMPTY, BAD_LENGTH where the bytes are no whole blocks, none
- * or more than the limit, or BAD_RANGE; DEAD, and nothing happened; or READ_REFUSED where not all sectors
- * of usbdisk_near were given to the start: the bytes may be any then. Where the device cannot read the
- * sectors that it asks for, let the stack tell its host, and call nothing. */
+ * Answers 0, and the bytes are there. Or NEEDS, and nothing happened: read the `*count` sectors of the device
+ * from `*first` on, show them, and call it again. (At all other answers `*first` and `*count` stay.) Where the
+ * device cannot read them, answer the stack with a read error, and call nothing.
+ *
+ * Errors: EMPTY; BAD_LENGTH where the bytes are no whole blocks, none, or more blocks than the limit;
+ * BAD_RANGE where a block is behind the last one; DEAD. Nothing happens at these. READ_REFUSED comes only
+ * where the start was not given all sectors that usbdisk_near tells; the bytes may be any then. */
 uint32_t usbdisk_store_read(struct usbdisk_store *store, uint64_t block, uint8_t *bytes, size_t size,
                             uint64_t *first, uint32_t *count);
 
 /* Shows sectors as the device holds them, as usbdisk_show. Answers 0, NOT_TAKEN or EMPTY. */
 uint32_t usbdisk_store_show(struct usbdisk_store *store, uint64_t first, const uint8_t *bytes, size_t size);
 
-/* Writes whole blocks, from `block` on: one write, which no cut leaves in part. The next good sync
- * promises it. Take the calls out of the outbox after it.
+/* Writes whole blocks, from `block` on: one write, of which a cut leaves all or nothing. The next good
+ * sync promises it.
  *
- * Answers 0 where it is accepted; EMPTY, BAD_LENGTH or BAD_RANGE as usbdisk_store_read; or DEAD, and none
- * of it is written: the store was dead, or died in this call since the outbox had no room. */
+ * Answers 0 where it is accepted. Errors: EMPTY, BAD_LENGTH and BAD_RANGE, as of usbdisk_store_read; DEAD,
+ * and none of it is written: the store was dead, or the outbox had no room in this call. */
 uint32_t usbdisk_store_write(struct usbdisk_store *store, uint64_t block, const uint8_t *bytes, size_t size);
 
-/* Makes every accepted write durable, once the device has carried out what waits in the outbox then.
- * Answers 0, EMPTY, or DEAD as usbdisk_store_write: nothing more is promised then. */
+/* Makes every accepted write durable: it is so once the device has carried out what waits in the outbox
+ * then. Answers 0; EMPTY; or DEAD, and nothing more is promised. */
 uint32_t usbdisk_store_sync(struct usbdisk_store *store);
 
-/* Makes a step in the background, as usbdisk_tick. Answers 1, 0 or EMPTY. Carry the outbox out after
- * each, that of a 0 too. */
+/* Makes a step in the background: call it while the bus is idle. Answers 1 while steps are left, 0 where
+ * none is, or EMPTY. Carry the outbox out after each, that of a 0 too. On a dead store it does nothing, and
+ * answers 1: end a loop over it where carrying out fails. */
 uint32_t usbdisk_store_tick(struct usbdisk_store *store);
 
-/* Takes the first call out of the outbox, as usbdisk_take. Where the device refuses one, take out no
- * more, answer each callback of the stack with an error, and call nothing but usbdisk_store_stop before
- * the next start: what follows a lost write must not be there without it. Answers NOTHING, WRITE, FLUSH
- * or EMPTY. */
+/* Takes the first call out of the outbox, as usbdisk_take. Answers NOTHING, WRITE, FLUSH or EMPTY. */
 uint32_t usbdisk_store_take(struct usbdisk_store *store, uint64_t *sector, uint8_t bytes[512]);
+
+/* Takes a run out of the outbox, as usbdisk_take_run: at WRITE `*count` sectors, at least 1, are to be
+ * written from sector `*sector` on, and their bytes lie one behind the other in `bytes`. size: 512 for each
+ * sector that there is room for. Answers NOTHING, WRITE, FLUSH, EMPTY or BAD_LENGTH. */
+uint32_t usbdisk_store_take_run(struct usbdisk_store *store, uint64_t *sector, uint8_t *bytes, size_t size,
+                                size_t *count);
+
+/* The device refused the call that usbdisk_store_take or usbdisk_store_take_run handed out last. The store
+ * is dead from then on: nothing waits in the outbox, and nothing comes into it; each read, write and sync
+ * that is within the sizes answers DEAD, until the next start. Answer the stack with an error for the call
+ * behind which the device refused.
+ *
+ * What was promised before is on the device. Writes that were accepted and not promised may be lost, as by
+ * a cut. Answers 0 or EMPTY. */
+uint32_t usbdisk_store_refused(struct usbdisk_store *store);
 
 /* What the program gives to the library.
  *

@@ -1,5 +1,5 @@
 /* The store behind a stack that has SCSI in it: the callbacks, and what they need. Then a host in their
- * place, which cuts the power: what was synchronised is there after. */
+ * place, which cuts the power: what was synchronised is there after. Last a device that refuses a call. */
 #include "device.h"
 #include "gadget.h"
 #include "tinyusb.h"
@@ -8,12 +8,9 @@
 #include <stdlib.h>
 #include <string.h>
 
-enum { BLOCKS = 200, SLOTS = 4, SECTORS = 2 + 249 * SLOTS + BLOCKS, SPAN = 8 };
+enum { BLOCKS = 200, SLOTS = 4, SECTORS = 2 + 249 * SLOTS + BLOCKS, SPAN = 8, RUN = 16 };
 
 static struct usbdisk_store store = USBDISK_STORE_NONE;
-
-/* The device refused a call. What still waits must not be there without it: nothing is done until the next start. */
-static bool has_failed;
 
 /* For the test: the device refuses the call of this number from here on, or none. */
 static uint32_t refuses;
@@ -25,18 +22,30 @@ static bool is_refused(void)
 
 /* ---- the callbacks */
 
-/* Carries out what waits, in order, up to the first call that the device refuses. */
+/* One command of your device; this one writes sector by sector, and may refuse in the middle. */
+static bool write_run(uint64_t sector, const uint8_t *bytes, size_t count)
+{
+    for (size_t i = 0; i < count; i++)
+        if (is_refused() || !device_write(sector + i, bytes + 512 * i))
+            return false;
+    return true;
+}
+
+/* Carries out what waits, in order. Where the device refuses a call the store is told: nothing waits then,
+ * and each later read, write and sync answers DEAD until the next start. */
 static bool carry_out(void)
 {
+    static uint8_t bytes[RUN * 512];
     uint64_t sector;
-    uint8_t bytes[512];
-    while (!has_failed)
-        switch (usbdisk_store_take(&store, &sector, bytes)) {
+    size_t count;
+    for (bool good = true; good;)
+        switch (usbdisk_store_take_run(&store, &sector, bytes, sizeof bytes, &count)) {
         case USBDISK_NOTHING: return true;
-        case USBDISK_WRITE: has_failed = is_refused() || !device_write(sector, bytes); break;
-        case USBDISK_FLUSH: has_failed = is_refused() || !device_flush(); break;
-        default: has_failed = true;
+        case USBDISK_WRITE: good = write_run(sector, bytes, count); break;
+        case USBDISK_FLUSH: good = !is_refused() && device_flush(); break;
+        default: good = false;
         }
+    usbdisk_store_refused(&store);
     return false;
 }
 
@@ -56,7 +65,7 @@ int32_t tud_msc_read10_cb(uint8_t lun, uint32_t lba, uint32_t offset, void *buff
     uint64_t first;
     uint32_t code, count;
     (void)lun;
-    if (offset || has_failed)
+    if (offset)
         return -1;
     while ((code = usbdisk_store_read(&store, lba, buffer, bufsize, &first, &count)) == USBDISK_NEEDS) {
         for (uint32_t i = 0; i < count && i < SPAN; i++)
@@ -71,7 +80,7 @@ int32_t tud_msc_read10_cb(uint8_t lun, uint32_t lba, uint32_t offset, void *buff
 int32_t tud_msc_write10_cb(uint8_t lun, uint32_t lba, uint32_t offset, uint8_t *buffer, uint32_t bufsize)
 {
     (void)lun;
-    if (offset || has_failed)
+    if (offset)
         return -1;
     uint32_t code = usbdisk_store_write(&store, lba, buffer, bufsize);
     return carry_out() && !code ? (int32_t)bufsize : -1;
@@ -80,13 +89,22 @@ int32_t tud_msc_write10_cb(uint8_t lun, uint32_t lba, uint32_t offset, uint8_t *
 int32_t tud_msc_scsi_cb(uint8_t lun, const uint8_t command[16], void *buffer, uint16_t bufsize)
 {
     (void)lun, (void)buffer, (void)bufsize;
-    if (command[0] != 0x35 || has_failed)
+    if (command[0] != 0x35)
         return -1;
     uint32_t code = usbdisk_store_sync(&store);
     return carry_out() && !code ? 0 : -1;
 }
 
+/* While the bus is idle. False at the end of the work, and on a store that is dead: there is none left. */
+static bool step(void)
+{
+    uint32_t code = usbdisk_store_tick(&store);
+    return carry_out() && code == 1;
+}
+
 /* ---- a start, and a host */
+
+static const uint8_t synchronize[16] = { 0x35 };
 
 static void must(bool good, const char *what)
 {
@@ -100,63 +118,122 @@ static void start(void)
 {
     static const struct usbdisk_device device;
     static uint8_t near[SECTORS * 512];
-    must(device_read(0, near), "no sector 0");
-    uint64_t home = usbdisk_near(near);
-    for (uint64_t i = 0; i < home; i++)
+    struct usbdisk_layout layout;
+    must(device_read(0, near) && !usbdisk_look(near, &layout), "no image");
+    must(layout.format == 2 && layout.slots == SLOTS && layout.blocks == BLOCKS, "another image");
+    must(layout.sectors == SECTORS && layout.near == usbdisk_near(near), "its sectors");
+    for (uint64_t i = 0; i < layout.near; i++)
         must(device_read(i, near + 512 * i), "no near sector");
-    must(!usbdisk_store_start(&store, near, 512 * home, SECTORS, &device, SPAN, usbdisk_room(2, SLOTS)), "no start");
-    has_failed = false;
+    must(!usbdisk_store_start(&store, near, 512 * layout.near, SECTORS, &device, SPAN,
+                              usbdisk_room(layout.format, layout.slots)), "no start");
     must(carry_out(), "the start is not carried out");
 }
 
-static void move(bool write, uint32_t lba, unsigned char fill)
+/* The power goes: what was written and not flushed may be lost. */
+static void restart(void)
 {
-    uint8_t bytes[SPAN * 512], was[SPAN * 512];
-    memset(was, fill, sizeof was);
-    memcpy(bytes, was, sizeof bytes);
-    if (!write)
-        memset(bytes, 0x5A, sizeof bytes);
-    int32_t moved = write ? tud_msc_write10_cb(0, lba, 0, bytes, sizeof bytes) : tud_msc_read10_cb(0, lba, 0, bytes, sizeof bytes);
-    must(moved == sizeof bytes && !memcmp(bytes, was, sizeof was), write ? "a write" : "a read");
+    must(!usbdisk_store_stop(&store) && device_cut(), "the cut");
+    start();
+}
+
+static bool write_blocks(uint32_t lba, unsigned char fill)
+{
+    uint8_t bytes[SPAN * 512];
+    memset(bytes, fill, sizeof bytes);
+    return tud_msc_write10_cb(0, lba, 0, bytes, sizeof bytes) == sizeof bytes;
+}
+
+static bool has_blocks(uint32_t lba, unsigned char fill)
+{
+    uint8_t bytes[SPAN * 512] = { 0 }, wanted[SPAN * 512];
+    memset(wanted, fill, sizeof wanted);
+    return tud_msc_read10_cb(0, lba, 0, bytes, sizeof bytes) == sizeof bytes && !memcmp(bytes, wanted, sizeof bytes);
+}
+
+static void live(unsigned round)
+{
+    for (uint32_t lba = 0; lba < BLOCKS; lba += SPAN)
+        must(write_blocks(lba, (unsigned char)(round + lba)), "a write");
+    must(!tud_msc_scsi_cb(0, synchronize, NULL, 0), "a sync");
+    while (round % 3 == 0 && step())
+        ;
+    restart();
+    for (uint32_t lba = 0; lba < BLOCKS; lba += SPAN)
+        must(has_blocks(lba, (unsigned char)(round + lba)), "a read");
+}
+
+/* ---- a device that refuses a call */
+
+/* Behind a refusal nothing waits, nothing comes to wait, and no call does more than to say so. */
+static void is_dead(void)
+{
+    uint8_t bytes[512] = { 0 };
+    uint64_t sector;
+    uint32_t missing;
+    size_t count;
+    must(usbdisk_store_take_run(&store, &sector, bytes, sizeof bytes, &count) == USBDISK_NOTHING, "a call waits behind a refused one");
+    must(usbdisk_store_write(&store, 0, bytes, sizeof bytes) == USBDISK_DEAD, "a write behind a refused call");
+    must(usbdisk_store_read(&store, 0, bytes, sizeof bytes, &sector, &missing) == USBDISK_DEAD, "a read behind a refused call");
+    must(usbdisk_store_sync(&store) == USBDISK_DEAD && usbdisk_store_tick(&store) == 1, "a sync or a step behind a refused call");
+    must(usbdisk_store_take(&store, &sector, bytes) == USBDISK_NOTHING, "a dead store asks for something");
+}
+
+/* Writes, synchronises and makes all steps, on a device that refuses its call of this number. Answers
+ * whether it was reached. What was synchronised is there behind a cut, and a write is there whole or not. */
+static bool refuse_one(uint32_t call, unsigned char was, unsigned char fill)
+{
+    refuses = call;
+    bool is_written = write_blocks(0, fill) && write_blocks(SPAN, fill);
+    bool is_synchronised = is_written && !tud_msc_scsi_cb(0, synchronize, NULL, 0);
+    while (is_synchronised && step())
+        ;
+    bool is_reached = refuses == 0;
+    refuses = 0;
+    if (is_reached)
+        is_dead();
+    must(is_reached || is_synchronised, "a call fails, and the device refused none");
+    restart();
+    must(has_blocks(0, fill) || (!is_synchronised && has_blocks(0, was)), "a write is in part, or lost");
+    must(has_blocks(SPAN, fill) || (!is_synchronised && has_blocks(SPAN, was)), "a write is in part, or lost");
+    must(has_blocks(0, fill) || has_blocks(SPAN, was), "the second write is there without the first");
+    must(write_blocks(0, was) && write_blocks(SPAN, was) && !tud_msc_scsi_cb(0, synchronize, NULL, 0), "the next writes");
+    return is_reached;
+}
+
+static void misuse(void)
+{
+    static struct usbdisk_store none = USBDISK_STORE_NONE;
+    uint8_t bytes[512] = { 0 };
+    uint64_t sector;
+    size_t count;
+    must(usbdisk_store_write(&store, BLOCKS, bytes, 512) == USBDISK_BAD_RANGE, "a block behind the last one");
+    must(usbdisk_store_take_run(&store, &sector, bytes, 0, &count) == USBDISK_BAD_LENGTH, "room for no sector");
+    must(usbdisk_store_take_run(&store, &sector, bytes, 511, &count) == USBDISK_BAD_LENGTH, "room for a part of a sector");
+    must(usbdisk_store_take_run(&none, &sector, bytes, 512, &count) == USBDISK_EMPTY, "a run of no store");
+    must(usbdisk_store_refused(&none) == USBDISK_EMPTY, "a refusal of no store");
+    must(!usbdisk_store_stop(&store) && usbdisk_store_sync(&store) == USBDISK_EMPTY && !heap_blocks, "the end");
+    struct usbdisk_layout layout = { .slots = 7 };
+    must(usbdisk_look(bytes, &layout) == USBDISK_BAD_SUPER && layout.slots == 7, "zeros are no image");
 }
 
 int main(void)
 {
-    static const uint8_t synchronize[16] = { 0x35 };
     static uint8_t image[SECTORS * 512];
     uint32_t blocks;
     uint16_t size;
     must(!usbdisk_format(image, sizeof image, 2, BLOCKS, SLOTS) && device_open(SECTORS), "no format");
-    for (uint64_t i = 0; i < SECTORS; i++) {
-        must(device_write(i, image + 512 * i), "no room");
-        must(device_flush(), "no flush");
-    }
+    for (uint64_t i = 0; i < SECTORS; i++)
+        must(device_write(i, image + 512 * i) && device_flush(), "no room");
     start();
     tud_msc_capacity_cb(0, &blocks, &size);
     must(blocks == BLOCKS && size == 512, "the capacity");
-    for (uint32_t round = 1; round <= 20; round++) {
-        for (uint32_t lba = 0; lba < BLOCKS; lba += SPAN)
-            move(true, lba, (unsigned char)(round + lba));
-        must(tud_msc_scsi_cb(0, synchronize, NULL, 0) == 0, "a sync");
-        for (uint32_t steps = round % 3 == 0; steps == 1; must(carry_out(), "a step"))
-            steps = usbdisk_store_tick(&store);
-        must(!usbdisk_store_stop(&store) && device_cut(), "the cut");
-        start();
-        for (uint32_t lba = 0; lba < BLOCKS; lba += SPAN)
-            move(false, lba, (unsigned char)(round + lba));
-    }
-    uint8_t byte[512] = { 0 };
-    for (uint32_t call = 1; call <= 3; call++) {
-        refuses = call;
-        must(tud_msc_write10_cb(0, 0, 0, byte, 512) == 512, "a write");
-        must(tud_msc_scsi_cb(0, synchronize, NULL, 0) < 0, "a sync whose call was refused");
-        must(tud_msc_write10_cb(0, SPAN, 0, byte, 512) < 0 && tud_msc_scsi_cb(0, synchronize, NULL, 0) < 0, "a call behind a refused one");
-        must(!usbdisk_store_stop(&store) && device_cut(), "the cut");
-        start();
-        move(false, SPAN, (unsigned char)(20 + SPAN));
-    }
-    must(usbdisk_store_write(&store, BLOCKS, byte, 512) == USBDISK_BAD_RANGE, "a block behind the last one");
-    must(!usbdisk_store_stop(&store) && usbdisk_store_sync(&store) == USBDISK_EMPTY && !heap_blocks, "the end");
-    printf("a stack with SCSI in it: 20 cuts, all that was synchronised is there\n");
+    for (unsigned round = 1; round <= 20; round++)
+        live(round);
+    must(write_blocks(0, 1) && write_blocks(SPAN, 1) && !tud_msc_scsi_cb(0, synchronize, NULL, 0), "the first writes");
+    uint32_t calls = 1;
+    while (refuse_one(calls, 1, 2))
+        calls++;
+    misuse();
+    printf("a stack with SCSI in it: 20 cuts and %u refused calls, all that was synchronised is there\n", calls - 1);
     return 0;
 }

@@ -1,6 +1,5 @@
 pub mod Refusals
 pub mod Rooms
 pub mod TakingOut
-pub mod RunLemmas
-pub mod Draining
+pub mod Resting
 pub mod Values

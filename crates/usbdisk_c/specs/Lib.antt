@@ -12,3 +12,4 @@ pub mod Plays
 pub mod Room
 pub mod Runs
 pub mod Refused
+pub mod Layouts

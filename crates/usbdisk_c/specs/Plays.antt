@@ -8,8 +8,7 @@ use Rattle.medium.specs.Moments.{IsUnchanged}
 use Rattle.inlet.specs.Inlet.{AreHeld}
 use Rattle.window.specs.Window.{Window, state_of, without_first, ComesAfter}
 use Rattle.window.specs.Window.{CoversDevice, IsServed, IsShown, is_in_sight}
-use Rattle.mirror.specs.declared.call.DeviceCall.{DeviceCall}
-use Rattle.mirror.specs.declared.call.DeviceCall.TheVariants.{Write, Flush}
+pub use Rattle.store_calls.specs.Outbox.{Shows}
 use Rattle.scsi_unit.specs.Background.{IsSettled, is_dead, steps_left}
 use Rattle.scsi_unit.specs.Books.{Book}
 use Rattle.recovery.specs.declared.start_fault.StartFault.TheVariants as fault
@@ -111,15 +110,6 @@ pub record MakesStep (old new : Disk) (code : ℕ) : Type 0 where
   pub none_left : (code ≡ 0) ↔ ((is_dead new.unit.store.cached ≡ false)
       × (steps_left new.unit.store.cached ≡ 0))
   pub at_home : code ≡ 0 → IsSettled (state_of (medium_of new)) new.unit.store.cached
-
--- the number of a call's kind, and where it is a write its sector and bytes
-abbrev pub Shows : Option DeviceCall → ℕ → List ℕ → ℕ → List ℕ → ℕ → Type 0
-Shows None sector bytes sector' bytes' code =
-    (code ≡ 0) × (sector' ≡ sector) × (bytes' ≡ bytes)
-Shows (Some (Write w)) sector bytes sector' bytes' code =
-    (code ≡ 1) × (sector' ≡ w.sector) × (bytes' ≡ w.block)
-Shows (Some Flush) sector bytes sector' bytes' code =
-    (code ≡ 2) × (sector' ≡ sector) × (bytes' ≡ bytes)
 
 -- the first call leaves the outbox, and nothing else of the disk changes
 pub record LetsGo (old new : Disk) : Type 0 where

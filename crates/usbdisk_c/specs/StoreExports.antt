@@ -3,7 +3,8 @@ use Rattle.std.specs.Prelude.{◌≡◌, ℕ, List, Bool, true, false, Option, S
 use Rattle.window.specs.Window.{Window}
 use Rattle.store_calls.specs.Stores.{Store}
 use Rattle.store_calls.specs.Calls.{ReadsBlocks, WritesBlocks, SyncsStore, StepsOn}
-use Rattle.store_calls.specs.Calls.{HandsOn, IsShownTo, TellsSizes}
+use Rattle.store_calls.specs.Calls.{HandsOn, HandsOnRun, IsShownTo, TellsSizes}
+use Rattle.store_calls.specs.Refused.{IsTold}
 use Rattle.store_calls.specs.Handles.{InHandle, StartsIn}
 use Rattle.store_calls.specs.declared.call_fault.CallFault.{CallFault}
 use Rattle.store_calls.specs.declared.call_fault.CallFault.TheVariants as fault
@@ -94,6 +95,18 @@ StoreHandsOut old sector room new sector' filled code = (result : Result ℕ Cal
     × (code ≡ code_of_kind result)
     × InHandle (HandsOn sector room sector' filled) ((sector' ≡ sector) × (filled ≡ room))
     old new result
+
+abbrev pub StoreHandsOutRun : Option Store → ℕ → List ℕ → ℕ → Option Store → ℕ → List ℕ → ℕ → ℕ
+    → Type 0
+StoreHandsOutRun old sector room was new sector' filled count code = (result : Result ℕ CallFault)
+    × (code ≡ code_of_kind result)
+    × InHandle (HandsOnRun sector room was sector' filled count)
+    ((sector' ≡ sector) × (filled ≡ room) × (count ≡ was)) old new result
+
+-- the store is told that the device refused a call
+abbrev pub StoreIsTold : Option Store → Option Store → ℕ → Type 0
+StoreIsTold old new code = (result : Result (Unit {0}) CallFault)
+    × (code ≡ code_of_done result) × InHandle IsTold Unit old new result
 
 abbrev pub StoreIsShown : Option Store → ℕ → List ℕ → Option Store → ℕ → Type 0
 StoreIsShown old first bytes new code = (result : Result Bool CallFault)

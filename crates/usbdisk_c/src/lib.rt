@@ -6,6 +6,7 @@ mod exports;
 mod format;
 mod handle;
 mod image_exports;
+mod look;
 mod moves;
 mod parts;
 mod play;
@@ -23,9 +24,10 @@ pub use exports::{
 };
 pub use handle::{Opaque, UsbDisk};
 pub use image_exports::{usbdisk_end, usbdisk_lay_log, usbdisk_migrate, usbdisk_next};
+pub use look::{UsbDiskLayout, usbdisk_look};
 pub use start::UsbDiskIdentity;
 pub use store_exports::{
-    usbdisk_store_read, usbdisk_store_show, usbdisk_store_sizes, usbdisk_store_start,
-    usbdisk_store_stop, usbdisk_store_sync, usbdisk_store_take, usbdisk_store_tick,
-    usbdisk_store_write,
+    usbdisk_store_read, usbdisk_store_refused, usbdisk_store_show, usbdisk_store_sizes,
+    usbdisk_store_start, usbdisk_store_stop, usbdisk_store_sync, usbdisk_store_take,
+    usbdisk_store_take_run, usbdisk_store_tick, usbdisk_store_write,
 };

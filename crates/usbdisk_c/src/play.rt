@@ -11,7 +11,8 @@ use crate::codes::{ACK, NAK, NEEDS, STALL, TOO_LONG};
 use crate::wanted::unseen;
 use bot_machine::{Disk, InAnswer, OutAnswer, SetupAnswer};
 use medium::Medium;
-use mirror::{DeviceCall, device_laws};
+use mirror::device_laws;
+use store_calls::show_call;
 use window::WindowMedium;
 
 // Does nothing. The laws of the outbox say of all that may come what it is for the device, and that
@@ -145,21 +146,5 @@ pub(crate) fn next_call(disk: &mut Disk<WindowMedium>, sector: &mut u64, to: &mu
 {
     let call = disk.medium().first();
     disk.give();
-    show(call, sector, to)
-}
-
-// The number of a call's kind, and where it is a write its sector and bytes.
-fn show(call: Option<DeviceCall>, sector: &mut u64, to: &mut [u8; 512]) -> u32
-    ensures { Shows call sector.old to.old sector.new to.new result }
-{
-    match call {
-        None => 0,
-        Some(DeviceCall::Write(write)) => {
-            let block = write.block;
-            *sector = write.sector;
-            *to = block;
-            1
-        }
-        Some(DeviceCall::Flush) => 2,
-    }
+    show_call(call, sector, to)
 }

@@ -1,11 +1,12 @@
 //! Writes to neighbouring sectors leave the outbox together.
-ghost use Rattle.std.specs.Prelude.{◌≡◌, ◌+◌, ◌/◌, ◌≤◌, Some, MatchOption, length};
-ghost use Rattle.mirror.specs.declared.call.DeviceCall.TheVariants as call;
-ghost use Rattle.usbdisk_c.specs.Runs.{TakesRun, IsRun, IsLongest, IsTo};
+ghost use Rattle.store_calls.specs.Outbox.{IsLongestRun};
+ghost use Rattle.usbdisk_c.specs.Plays.{medium_of};
+ghost use Rattle.usbdisk_c.specs.Runs.{TakesRun, KeepsRest};
 
 use crate::codes::BAD_LENGTH;
 use bot_machine::Disk;
 use mirror::{DeviceCall, put_sector};
+use store_calls::block_for;
 use window::WindowMedium;
 
 const SECTOR: usize = 512;
@@ -43,9 +44,9 @@ pub(crate) fn next_run(
 // Lets go of writes to the sectors from this one on, as long as they wait first and have room, and
 // copies their bytes. How many they were.
 fn gather(disk: &mut Disk<WindowMedium>, first: u64, to: &mut [u8]) -> usize
-    ensures run { IsRun disk.old disk.new first result to.old to.new }
-    ensures longest { IsLongest disk.new first result (length to.old / 512) }
-    ensures most { result ≤ length to.old / 512 }
+    ensures run { IsLongestRun (medium_of disk.old) (medium_of disk.new) first result
+        to.old to.new }
+    ensures rest { KeepsRest disk.old disk.new }
 {
     let most = to.len() / SECTOR;
     for at in 0..most {
@@ -56,18 +57,4 @@ fn gather(disk: &mut Disk<WindowMedium>, first: u64, to: &mut [u8]) -> usize
         disk.give();
     }
     most
-}
-
-// What the call writes, where it is a write to the sector so far behind the first.
-fn block_for(next: Option<DeviceCall>, first: u64, behind: u64) -> Option<[u8; 512]>
-    ensures { MatchOption result (¬ IsTo (first + behind) next)
-        (λ block. next ≡ Some (call.Write (record { sector = first + behind; block = block }))) }
-{
-    match next {
-        Some(DeviceCall::Write(write)) => {
-            let is_next = write.sector >= first && write.sector - first == behind;
-            if is_next { Some(write.block) } else { None }
-        }
-        _ => None,
-    }
 }

@@ -4,15 +4,16 @@ ghost use Rattle.window.specs.Window.{fresh};
 ghost use Rattle.usbdisk_c.specs.StoreExports.{code_of_fault, code_of_done};
 ghost use Rattle.usbdisk_c.specs.StoreExports.{StoreStarts, StoreStops, StoreTells, StoreReads};
 ghost use Rattle.usbdisk_c.specs.StoreExports.{StoreWrites, StoreSyncs, StoreTicks};
-ghost use Rattle.usbdisk_c.specs.StoreExports.{StoreHandsOut, StoreIsShown};
+ghost use Rattle.usbdisk_c.specs.StoreExports.{StoreHandsOut, StoreHandsOutRun, StoreIsShown};
+ghost use Rattle.usbdisk_c.specs.StoreExports.{StoreIsTold};
 
 use crate::codes::{
     ACK, BAD_LENGTH, BAD_RANGE, DEAD, EMPTY, NEEDS, NOT_TAKEN, STARTED, UNREAD, number_of,
 };
 use std::alloc::Global;
 use store_calls::{
-    CallFault, UsbDiskStore, end, read_in, show_in, sizes_in, start_in, sync_in, take_in, tick_in,
-    write_in,
+    CallFault, UsbDiskStore, end, read_in, refused_in, show_in, sizes_in, start_in, sync_in,
+    take_in, take_run_in, tick_in, write_in,
 };
 use window::DeviceHolds;
 
@@ -167,4 +168,28 @@ pub extern "C" fn usbdisk_store_take(
         Ok(kind) => kind,
         Err(why) => code_of(why),
     }
+}
+
+#[unsafe(no_mangle)]
+pub extern "C" fn usbdisk_store_take_run(
+    alloc: Global,
+    store: &mut UsbDiskStore,
+    sector: &mut u64,
+    to: &mut [u8],
+    count: &mut usize,
+) -> u32
+    ensures { StoreHandsOutRun store.old.store sector.old to.old count.old
+        store.new.store sector.new to.new count.new result }
+{
+    match take_run_in(alloc, store, sector, to, count) {
+        Ok(kind) => kind,
+        Err(why) => code_of(why),
+    }
+}
+
+#[unsafe(no_mangle)]
+pub extern "C" fn usbdisk_store_refused(alloc: Global, store: &mut UsbDiskStore) -> u32
+    ensures { StoreIsTold store.old.store store.new.store result }
+{
+    code_for(refused_in(alloc, store))
 }

@@ -1,15 +1,26 @@
-use Rattle.std.proofs.Common.{arith, ap, length}
+use Rattle.std.proofs.Common.{arith, ap, refl, length}
 use Rattle.window.specs.Window.{Window}
-use Rattle.usbdisk_c.proofs.Draining.{one_more, drained}
+use Rattle.store_calls.proofs.Taking as taking
+use Rattle.usbdisk_c.specs.Plays.{medium_of}
+use Rattle.usbdisk_c.proofs.Resting.{none_yet, one_more}
 use Rattle.usbdisk_c.proofs.refused.drain.Goals as goal
 
+pub loop-gone-init : goal.loop-gone-init
+loop-gone-init c = (refl, none_yet c.args.disk.now)
+
 pub loop-gone-preserved : goal.loop-gone-preserved
-loop-gone-preserved c =
-    one_more c.loop-gone._gone c.args.disk.now c.loop-gone.disk c.give.new.self c.loop-gone.invariant
-    (record { medium = c.give.ensures.given; others = c.give.ensures.others; fits = c.give.ensures.fits })
+loop-gone-preserved c = (
+  taking.one_more c.loop-gone._gone (medium_of c.args.disk.now) (medium_of c.loop-gone.disk) (medium_of c.give.new.self)
+      c.loop-gone.invariant.0 c.give.ensures.given,
+  one_more c.args.disk.now c.loop-gone.disk c.give.new.self c.loop-gone.invariant.1
+      (record { others = c.give.ensures.others; fits = c.give.ensures.fits }),
+)
 
 pub returns : goal.returns
 returns c =
-    let waits = ap (λ (w : Window). length w.outbox) c.medium.ensures.is in
-    drained c.loop-gone._gone c.args.disk.now c.loop-gone.disk
-    (omega (arith, c.loop-gone-test.false, c.loop-gone.auto._gone-end, c.waiting-waiting.ensures.is, waits)) c.loop-gone.invariant
+    let waits = ap (λ (w : Window). length w.outbox) c.medium.ensures.is in record {
+      emptied = taking.emptied c.loop-gone._gone (medium_of c.args.disk.now) (medium_of c.loop-gone.disk)
+          (omega (arith, c.loop-gone-test.false, c.loop-gone.auto._gone-end, c.waiting-waiting.ensures.is, waits))
+          c.loop-gone.invariant.0;
+      rest = c.loop-gone.invariant.1;
+    }
