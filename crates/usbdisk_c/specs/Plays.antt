@@ -1,7 +1,7 @@
 -- What each call does to a disk over a medium that reads on demand.
 use Rattle.std.specs.Prelude.{◌≡◌, ◌≢◌, ◌⊎◌, ◌↔◌, ℕ, ◌+◌, ◌/◌, ◌<◌, ◌≤◌, ◌++◌, Bool, true, false}
 use Rattle.std.specs.Prelude.{List}
-use Rattle.std.specs.Prelude.{length, drop, Option, Some, None}
+use Rattle.std.specs.Prelude.{length, drop}
 use Rattle.std.specs.List.{list_all}
 use Rattle.medium.specs.Sent.{sent}
 use Rattle.medium.specs.Moments.{IsUnchanged}
