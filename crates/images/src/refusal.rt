@@ -27,7 +27,7 @@ impl Refusal {
     ghost use Rattle.images.specs.Status.{status_of};
 
     /// The exit status.
-    pub(crate) fn status(self) -> u8
+    pub fn status(self) -> u8
         ensures { result ≡ status_of self }
     {
         match self {
@@ -41,7 +41,7 @@ impl Refusal {
     }
 
     /// What it is called on standard error.
-    pub(crate) fn text(self) -> &'static str {
+    pub fn text(self) -> &'static str {
         match self {
             Refusal::Words => "bad command line",
             Refusal::Sizes => "the sizes are out of their limits",
