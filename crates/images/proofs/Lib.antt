@@ -1,4 +1,6 @@
+pub mod Written
 pub mod NewImages
+pub mod ExportLaw
 pub mod InOrder
 pub mod Lines
 pub mod Known

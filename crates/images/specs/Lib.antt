@@ -2,10 +2,14 @@ pub mod NewImage
 pub mod Numbers
 pub mod Streams
 pub mod Opened
+pub mod Limits
 pub mod Showing
 pub mod Migrating
 pub mod Exporting
 pub mod Importing
+pub mod CopyLaws
+pub mod Exported
+pub mod Imported
 pub mod Status
 pub mod Task
 pub mod Program

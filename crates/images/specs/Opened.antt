@@ -1,4 +1,4 @@
--- An image file that was opened, and a window over it.
+-- Files that were opened or made, and a window over that of an image.
 use Rattle.std.specs.Prelude.{◌≡◌, ◌⊎◌, ◌*◌, ℕ, List, length, min, Option, Some}
 use Rattle.medium.specs.Writes.{sector_of}
 use Rattle.window.specs.Window.{Window}
@@ -41,3 +41,18 @@ pub record IsOpenedAlone (back : Option FileValue) (refusal : Refusal) : Type 0 
   pub given : back ≡ Some file
   pub untouched : file ≡ fresh file.size
   pub cause : IsFileOrMemory refusal
+
+-- no file was made or opened: it refused, or a stream, or there was no memory
+abbrev pub IsUnmade : Refusal → Type 0
+IsUnmade refusal = ((fault : FileFault) × (refusal ≡ refused.File fault))
+    ⊎ ((refusal ≡ refused.Streams) ⊎ (refusal ≡ refused.NoMemory))
+
+-- the same of the plain file that an import reads
+abbrev pub IsPlainUnopened : Refusal → Type 0
+IsPlainUnopened refusal = ((fault : FileFault) × (refusal ≡ refused.Plain fault))
+    ⊎ (refusal ≡ refused.Streams)
+
+-- and of the new file of an export or an import
+abbrev pub IsTargetUnmade : Refusal → Type 0
+IsTargetUnmade refusal = ((fault : FileFault) × (refusal ≡ refused.Target fault))
+    ⊎ ((refusal ≡ refused.Streams) ⊎ (refusal ≡ refused.NoMemory))

@@ -1,26 +1,31 @@
 -- What the program's commands do.
-use Rattle.std.specs.Prelude.{◌≡◌, ◌⊎◌, ℕ, ◌≤◌, ◌^◌, Bool, true, false, List, [], ◌∷◌, ◌++◌, codes}
+use Rattle.std.specs.Prelude.{◌≡◌, ◌⊎◌, ℕ, Bool, true, false, List, ◌++◌, codes}
 use Rattle.std.specs.Prelude.{Option, Some, None}
 use Rattle.std.specs.Io.KnownBytes.{Appends, Keeps}
 use Rattle.log_layout.specs.declared.log_format.LogFormat.{LogFormat}
 use Rattle.log_layout.specs.Places.{Shape, new_shape, sectors_of}
 use Rattle.device_file.specs.Asked.{begun}
-use Rattle.device_file.specs.FileValue.{FileValue}
+use Rattle.device_file.specs.FileValue.{FileValue, fresh}
 use Rattle.device_file.specs.declared.fault.FileFault.{FileFault}
+use Rattle.device_file.specs.declared.opening.FirstSectors.{FirstSectors}
 use Rattle.images.specs.NewImage.{IsAskedToBe}
 use Rattle.images.specs.Streams.{AppendsSome, ended}
-use Rattle.images.specs.Opened.{IsOpened, IsOpenedAlone, HasFirst}
+use Rattle.images.specs.Limits.{AreLimits}
+use Rattle.images.specs.Opened.{IsOpened, IsOpenedAlone, IsPlainUnopened, IsUnmade, HasFirst}
 use Rattle.images.specs.Showing.{IsShown, IsNotShown}
 use Rattle.images.specs.Migrating.{IsMigratedOn, IsNotMigratedOn, migration_text}
+use Rattle.images.specs.Exported.{IsExported, IsNotExported}
+use Rattle.images.specs.Imported.{IsImage, IsNoImage}
 use Rattle.images.specs.Task.{Wanted, Asks}
-use Rattle.images.specs.Task.Wanted.{Help, Version, Show, Migrate, Make}
-use Rattle.device_file.specs.declared.opening.FirstSectors.{FirstSectors}
+use Rattle.images.specs.Task.Wanted.{Help, Version, Show, Migrate, Make, Import, Export}
 use Rattle.images.specs.declared.refusal.Refusal.{Refusal}
 use Rattle.images.specs.declared.refusal.Refusal.TheVariants as refused
 
 abbrev pub help_text : List ℕ
 help_text = ended (codes "usbdisk_image make IMAGE --blocks N --slots K --format 1|2 [--replace]")
     ++ ended (codes "usbdisk_image show IMAGE") ++ ended (codes "usbdisk_image migrate IMAGE")
+    ++ ended (codes "usbdisk_image import RAW IMAGE --slots K --format 1|2 [--replace]")
+    ++ ended (codes "usbdisk_image export IMAGE RAW [--replace]")
 
 abbrev pub version_text : List ℕ
 version_text = ended (codes "usbdisk_image 0.10")
@@ -28,23 +33,11 @@ version_text = ended (codes "usbdisk_image 0.10")
 abbrev pub made_text : List ℕ
 made_text = ended (codes "made")
 
--- an image may have these sizes
-pub record AreLimits (blocks slots : ℕ) : Type 0 where
-  pub some_blocks : 1 ≤ blocks
-  pub most_blocks : blocks ≤ 2 ^ 31
-  pub some_slots : 1 ≤ slots
-  pub most_slots : slots ≤ 64
-
 -- A file of exactly the sectors of an image with these sizes was made, or emptied, and asked to
 -- become that image.
 pub record IsMade (good : Bool) (shape : Shape) (file : FileValue) : Type 0 where
   pub size : file.size ≡ sectors_of shape
   pub asked : IsAskedToBe shape good begun file.told
-
--- no file was made or opened: it refused, or a stream, or there was no memory
-abbrev pub IsUnmade : Refusal → Type 0
-IsUnmade refusal = ((fault : FileFault) × (refusal ≡ refused.File fault))
-    ⊎ ((refusal ≡ refused.Streams) ⊎ (refusal ≡ refused.NoMemory))
 
 -- What was written then, and now, and the file that comes back, where one was made or opened.
 module _ (was now : Option (List ℕ)) (back : Option FileValue) where
@@ -160,26 +153,82 @@ module _ (was now : Option (List ℕ)) (back : Option FileValue) where
   IsMigrationRefused refusal = HasNoImage refusal
       ⊎ (IsOpenedNotMigrated refusal ⊎ IsMigrationUntold refusal)
 
-  -- what was asked for was done
+-- of a file of the system no bytes are named, so nothing is known of what a read of it gave
+abbrev pub unnamed : ℕ → List ℕ → Type 0
+unnamed sector block = Unit {0}
+
+-- What was written then, and now, and the files that come back, where they were made or opened:
+-- that of the image, and the plain one.
+module _ (was now : Option (List ℕ)) (back raw : Option FileValue) where
+  -- an image file was opened and asked for nothing, and its blocks were copied to a plain file
+  pub record IsExport : Type 0 where
+    pub first : FirstSectors
+    pub opened : IsOpened back first
+    pub exported : IsExported unnamed first was now raw
+
+  -- they were not, or not all of that was told
+  pub record IsOpenedNotExported (refusal : Refusal) : Type 0 where
+    pub first : FirstSectors
+    pub opened : IsOpened back first
+    pub not_exported : IsNotExported unnamed first was now raw refusal
+
+  abbrev pub IsExportRefused : Refusal → Type 0
+  IsExportRefused refusal =
+      ((raw ≡ None) × HasNoImage was now back refusal) ⊎ IsOpenedNotExported refusal
+
+  -- a plain file was opened and asked for nothing, and its blocks became those of a new image
+  pub record IsImport (format : LogFormat) (slots : ℕ) : Type 0 where
+    pub plain : FileValue
+    pub given : raw ≡ Some plain
+    pub untouched : plain ≡ fresh plain.size
+    pub imported : IsImage unnamed format plain.size slots was now back
+
+  -- they did not, or not all of that was told
+  pub record IsOpenedNotImported (format : LogFormat) (slots : ℕ) (refusal : Refusal)
+      : Type 0 where
+    pub plain : FileValue
+    pub given : raw ≡ Some plain
+    pub untouched : plain ≡ fresh plain.size
+    pub not_imported : IsNoImage unnamed format plain.size slots was now back refusal
+
+  -- no plain file was opened
+  pub record HasNoPlain (refusal : Refusal) : Type 0 where
+    pub none : back ≡ None
+    pub no_plain : raw ≡ None
+    pub cause : IsPlainUnopened refusal
+    pub kept : Keeps was now
+
+  abbrev pub IsImportRefused : LogFormat → ℕ → Refusal → Type 0
+  IsImportRefused format slots refusal =
+      HasNoPlain refusal ⊎ IsOpenedNotImported format slots refusal
+
+  -- what was asked for was done; a plain file is there of an export or an import alone
   abbrev pub HasDone : Wanted → Type 0
-  HasDone Help = IsTold help_text
-  HasDone Version = IsTold version_text
-  HasDone (Show image) = IsShow
-  HasDone (Migrate image) = IsMigration
-  HasDone (Make image format blocks slots replace) = IsMake format blocks slots
+  HasDone Help = (raw ≡ None) × IsTold was now back help_text
+  HasDone Version = (raw ≡ None) × IsTold was now back version_text
+  HasDone (Show image) = (raw ≡ None) × IsShow was now back
+  HasDone (Migrate image) = (raw ≡ None) × IsMigration was now back
+  HasDone (Make image format blocks slots replace) =
+      (raw ≡ None) × IsMake was now back format blocks slots
+  HasDone (Import plain image format slots replace) = IsImport format slots
+  HasDone (Export image plain replace) = IsExport
 
   -- it was not, and this is why
   abbrev pub HasNotDone : Wanted → Refusal → Type 0
-  HasNotDone Help refusal = IsUntold help_text refusal
-  HasNotDone Version refusal = IsUntold version_text refusal
-  HasNotDone (Show image) refusal = IsShowRefused refusal
-  HasNotDone (Migrate image) refusal = IsMigrationRefused refusal
+  HasNotDone Help refusal = (raw ≡ None) × IsUntold was now back help_text refusal
+  HasNotDone Version refusal = (raw ≡ None) × IsUntold was now back version_text refusal
+  HasNotDone (Show image) refusal = (raw ≡ None) × IsShowRefused was now back refusal
+  HasNotDone (Migrate image) refusal = (raw ≡ None) × IsMigrationRefused was now back refusal
   HasNotDone (Make image format blocks slots replace) refusal =
-      IsMakeRefused format blocks slots refusal
+      (raw ≡ None) × IsMakeRefused was now back format blocks slots refusal
+  HasNotDone (Import plain image format slots replace) refusal =
+      IsImportRefused format slots refusal
+  HasNotDone (Export image plain replace) refusal = IsExportRefused refusal
 
   -- these words ask for nothing
   pub record AreNoWords (words : List (List ℕ)) (refusal : Refusal) : Type 0 where
     pub none : back ≡ None
+    pub no_plain : raw ≡ None
     pub nothing : (wanted : Wanted) → ¬ Asks words wanted
     pub refused_is : refusal ≡ refused.Words
     pub kept : Keeps was now

@@ -8,5 +8,7 @@ status_of refused.Words = 2
 status_of refused.Sizes = 3
 status_of (refused.Image fault) = 3
 status_of (refused.File fault) = 4
+status_of (refused.Plain fault) = 4
+status_of (refused.Target fault) = 4
 status_of refused.Streams = 4
 status_of refused.NoMemory = 5

@@ -1,10 +1,14 @@
 -- The bytes of a writer, where they are known.
-use Rattle.std.specs.Prelude.{◌≡◌, ◌<◌, ◌++◌, ◌∷◌, [], ℕ, List, length, Option}
+use Rattle.std.specs.Prelude.{◌≡◌, ◌<◌, ◌++◌, ◌∷◌, [], ℕ, List, length, Option, codes, decimal}
 use Rattle.std.specs.Io.KnownBytes.{Appends}
 
 -- a text and a line feed
 abbrev pub ended : List ℕ → List ℕ
 ended text = text ++ 10 ∷ []
+
+-- a word with a space behind it, and how many blocks there were
+abbrev pub blocks_text : List ℕ → ℕ → List ℕ
+blocks_text word blocks = word ++ decimal blocks ++ codes " blocks\n"
 
 -- a first part of these bytes was written, but not all of them
 pub record AppendsSome (was now : Option (List ℕ)) (bytes : List ℕ) : Type 0 where

@@ -13,6 +13,8 @@ pub data Wanted : Type 0 where
   Show : List ℕ → Wanted
   Migrate : List ℕ → Wanted
   Make : List ℕ → LogFormat → ℕ → ℕ → Bool → Wanted
+  Import : List ℕ → List ℕ → LogFormat → ℕ → Bool → Wanted
+  Export : List ℕ → List ℕ → Bool → Wanted
 
 -- a word for a file does not begin with a hyphen
 abbrev pub IsFileWord : List ℕ → Type 0
@@ -23,7 +25,7 @@ abbrev pub format_word : LogFormat → List ℕ
 format_word One = codes "1"
 format_word Two = codes "2"
 
--- what stands behind the sizes where a file is replaced
+-- what stands at the end where a file is replaced
 abbrev pub replace_words : Bool → List (List ℕ)
 replace_words true = codes "--replace" ∷ []
 replace_words false = []
@@ -44,6 +46,32 @@ abbrev pub IsMakeLine : List (List ℕ) → Type 0
 IsMakeLine words = (image : List ℕ) × (format : LogFormat) × (blocks : ℕ) × (slots : ℕ)
     × (replace : Bool) × AreMakeWords words image format blocks slots replace
 
+-- `import`, words for the plain file and for the image, the slots behind their name, and the format
+pub record AreImportWords (words : List (List ℕ)) (raw image : List ℕ) (format : LogFormat)
+    (slots : ℕ) (replace : Bool) : Type 0 where
+  pub slots_word : List ℕ
+  pub words_are : words
+      ≡ codes "import" ∷ raw ∷ image ∷ codes "--slots" ∷ slots_word
+      ∷ codes "--format" ∷ format_word format ∷ replace_words replace
+  pub raw_word : IsFileWord raw
+  pub image_word : IsFileWord image
+  pub slots_are : SpellsNumber 0 4294967295 slots_word slots
+
+abbrev pub IsImportLine : List (List ℕ) → Type 0
+IsImportLine words = (raw : List ℕ) × (image : List ℕ) × (format : LogFormat) × (slots : ℕ)
+    × (replace : Bool) × AreImportWords words raw image format slots replace
+
+-- `export`, and words for the image and for the plain file
+pub record AreExportWords (words : List (List ℕ)) (image raw : List ℕ) (replace : Bool)
+    : Type 0 where
+  pub words_are : words ≡ codes "export" ∷ image ∷ raw ∷ replace_words replace
+  pub image_word : IsFileWord image
+  pub raw_word : IsFileWord raw
+
+abbrev pub IsExportLine : List (List ℕ) → Type 0
+IsExportLine words = (image : List ℕ) × (raw : List ℕ) × (replace : Bool)
+    × AreExportWords words image raw replace
+
 -- a command's name, and a word for the image
 pub record AreImageWords (name : List ℕ) (words : List (List ℕ)) (image : List ℕ) : Type 0 where
   pub words_are : words ≡ name ∷ image ∷ []
@@ -57,6 +85,9 @@ Asks words (Show image) = AreImageWords (codes "show") words image
 Asks words (Migrate image) = AreImageWords (codes "migrate") words image
 Asks words (Make image format blocks slots replace) =
     AreMakeWords words image format blocks slots replace
+Asks words (Import raw image format slots replace) =
+    AreImportWords words raw image format slots replace
+Asks words (Export image raw replace) = AreExportWords words image raw replace
 
 -- what a task is
 abbrev pub wanted_of : Task → Wanted
@@ -65,3 +96,6 @@ wanted_of task.Version = Version
 wanted_of (task.Show image) = Show image.now
 wanted_of (task.Migrate image) = Migrate image.now
 wanted_of (task.Make image format blocks slots replace) = Make image.now format blocks slots replace
+wanted_of (task.Import raw image format slots replace) =
+    Import raw.now image.now format slots replace
+wanted_of (task.Export image raw replace) = Export image.now raw.now replace

@@ -1,25 +1,42 @@
-//! How a command ended, and what it has left of its file.
+//! How a command ended, and what it has left of its files.
 use crate::refusal::Refusal;
 use device_file::SystemFile;
 use std::fs::File;
 
-/// The file of an image, where one was opened or made.
+/// A file that was opened or made, where there is one.
 pub(crate) type LeftFile = Option<SystemFile<File>>;
 
-/// How a command ended, and the file that it opened or made, exactly as it was left. Nothing is
-/// behind it for a caller to do but to let go of it, which closes the file.
+/// How a command ended, and the files that it opened or made, exactly as they were left. Nothing is
+/// behind them for a caller to do but to let go of them, which closes them.
 #[derive(Drop)]
 pub struct Ended {
     /// The exit status.
     pub status: u8,
+    /// The file of the image.
     pub file: Option<SystemFile<File>>,
+    /// The plain file of an export or an import.
+    pub raw: Option<SystemFile<File>>,
 }
 
-/// Why what was asked for was not done, and the file as it was left.
+/// The files of a command as they were left: that of the image, and the plain one.
+#[derive(Drop)]
+pub(crate) struct LeftFiles {
+    pub(crate) file: LeftFile,
+    pub(crate) raw: LeftFile,
+}
+
+/// Why what was asked for was not done, and the one file as it was left.
 #[derive(Drop)]
 pub(crate) struct Stopped {
     pub(crate) refusal: Refusal,
     pub(crate) file: LeftFile,
+}
+
+/// Why what was asked for was not done, and both files as they were left.
+#[derive(Drop)]
+pub(crate) struct Refused {
+    pub(crate) refusal: Refusal,
+    pub(crate) files: LeftFiles,
 }
 
 impl From<Refusal> for Stopped {
@@ -32,6 +49,43 @@ impl From<Refusal> for Stopped {
         Stopped {
             refusal,
             file: None,
+        }
+    }
+}
+
+impl From<Refusal> for Refused {
+    ghost use Rattle.std.specs.Prelude.{◌≡◌, None};
+
+    ghost from_gives = { λ refusal refused.
+        refused ≡ record { refusal = refusal; files = record { file = None; raw = None } } };
+
+    fn from(refusal: Refusal) -> Refused {
+        Refused {
+            refusal,
+            files: LeftFiles {
+                file: None,
+                raw: None,
+            },
+        }
+    }
+}
+
+impl From<Stopped> for Refused {
+    ghost use Rattle.std.specs.Prelude.{◌≡◌, None};
+
+    ghost from_gives = { λ stopped refused.
+        refused ≡ record {
+          refusal = stopped.refusal;
+          files = record { file = stopped.file; raw = None };
+        } };
+
+    fn from(stopped: Stopped) -> Refused {
+        Refused {
+            refusal: stopped.refusal,
+            files: LeftFiles {
+                file: stopped.file,
+                raw: None,
+            },
         }
     }
 }

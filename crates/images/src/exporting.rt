@@ -1,14 +1,133 @@
 //! The blocks of an image are copied to a plain file.
-ghost use Rattle.std.specs.Prelude.{◌≡◌, ◌≤◌, length, OnOk, IfOk, IfErr};
-ghost use Rattle.images.specs.Exporting.{HasBlocks, HasSomeBlocks, IsNotRecoveredIn, IsRecoveredIn, recovery_room};
+ghost use Rattle.std.specs.Prelude.{◌≡◌, ◌≤◌, Some, length, OnOk, IfOk, IfErr};
+ghost use Rattle.images.specs.Exported.{
+  IsExported,
+  IsNoPlainCopy,
+  IsNotExported,
+  IsPlainCopy,
+  export_refusal,
+};
+ghost use Rattle.images.specs.Exporting.{
+  HasBlocks,
+  HasSomeBlocks,
+  IsNotRecoveredIn,
+  IsRecoveredIn,
+  recovery_room,
+};
+ghost use Rattle.images.specs.Program.{IsExport, IsExportRefused};
 
-use crate::opening::window_over;
+use crate::copying::copy_room;
+use crate::ended::{LeftFiles, Refused, Stopped};
+use crate::image::new_target;
+use crate::opening::{Access, open_image, window_over};
+use crate::output::write_out;
 use crate::refusal::Refusal;
-use device_file::{CopyFault, DeviceFile, FirstSectors, Run, carry_moved, copy_sectors};
+use device_file::{
+    CopyFault, DeviceFile, FirstSectors, Run, SystemFile, carry_moved, copy_sectors,
+};
 use log_layout::{LogFormat, Super};
 use recovery::recover;
 use std::alloc::Global;
+use std::fs::{File, Files};
+use std::io::Write;
 use window::WindowMedium;
+
+/// Copies the blocks of an image file to a new plain file, and says how many there are.
+#[inline(never)]
+pub(crate) fn export<R: Files<File = File> + AllocGlobal, O: Write>(
+    rt: &R,
+    image: &str,
+    raw: &str,
+    replace: bool,
+    out: &mut O,
+) -> Result<LeftFiles, Refused>
+    ensures done { IfOk result
+        (λ left. IsExport (O.contents out.old) (O.contents out.new) left.file left.raw) }
+    ensures refused { IfErr result (λ refused. IsExportRefused (O.contents out.old)
+        (O.contents out.new) refused.files.file refused.files.raw refused.refusal) }
+{
+    let (file, first) = open_image(rt, image, Access::Look)?;
+    match export_from(rt, &file, first, raw, replace, out) {
+        Ok(plain) => Ok(LeftFiles {
+            file: Some(file),
+            raw: Some(plain),
+        }),
+        Err(stopped) => Err(Refused {
+            refusal: stopped.refusal,
+            files: LeftFiles {
+                file: Some(file),
+                raw: stopped.file,
+            },
+        }),
+    }
+}
+
+// Copies the blocks of an image with these first sectors, which is only read. The plain file is
+// made once the image is recovered: one with a fault makes none.
+fn export_from<R: Files<File = File> + AllocGlobal, S: DeviceFile, O: Write>(
+    rt: &R,
+    image: &S,
+    first: FirstSectors,
+    raw: &str,
+    replace: bool,
+    out: &mut O,
+) -> Result<SystemFile<File>, Stopped>
+    ensures ok { IfOk result (λ plain. IsExported (S.holds image.now) first (O.contents out.old)
+        (O.contents out.new) (Some plain)) }
+    ensures err { IfErr result (λ stopped. IsNotExported (S.holds image.now) first
+        (O.contents out.old) (O.contents out.new) stopped.file stopped.refusal) }
+{
+    match recover_in_window(rt.alloc(), first) {
+        Ok((window, sizes)) => copy_out(rt, image, &sizes, window, raw, replace, out),
+        Err(refusal) => Err(Stopped {
+            refusal,
+            file: None,
+        }),
+    }
+}
+
+// Copies the blocks of an image that was recovered in this window.
+fn copy_out<R: Files<File = File> + AllocGlobal, S: DeviceFile, O: Write>(
+    rt: &R,
+    image: &S,
+    sizes: &Super,
+    mut window: WindowMedium,
+    raw: &str,
+    replace: bool,
+    out: &mut O,
+) -> Result<SystemFile<File>, Stopped>
+    ensures ok { IfOk result (λ plain. IsPlainCopy (S.holds image.now) sizes.now window.outbox
+        (O.contents out.old) (O.contents out.new) (Some plain)) }
+    ensures err { IfErr result (λ stopped. IsNoPlainCopy (S.holds image.now) sizes.now window.outbox
+        (O.contents out.old) (O.contents out.new) stopped.file stopped.refusal) }
+{
+    let (mut run, mut bytes, line) = copy_room(rt.alloc(), b"exported ", sizes.blocks)?;
+    let mut plain = new_target(rt, raw, sizes.blocks, replace)?;
+    let copied = export_blocks(image, sizes, &mut window, &mut plain, &mut run, &mut bytes);
+    if let Err(fault) = copied {
+        return Err(Stopped {
+            refusal: refusal_of(fault),
+            file: Some(plain),
+        });
+    }
+    match write_out(out, &line) {
+        Ok(()) => Ok(plain),
+        Err(_) => Err(Stopped {
+            refusal: Refusal::Streams,
+            file: Some(plain),
+        }),
+    }
+}
+
+// The file that refused a call: the image's, or the plain one.
+fn refusal_of(fault: CopyFault) -> Refusal
+    ensures { result ≡ export_refusal fault }
+{
+    match fault {
+        CopyFault::From(fault) => Refusal::File(fault),
+        CopyFault::To(fault) => Refusal::Target(fault),
+    }
+}
 
 /// Recovers an image with these first sectors in a window over its file, which is asked for nothing.
 /// What the recovery would write waits in the window then.

@@ -1,10 +1,11 @@
-//! The file of a new image.
+//! The file of a new image, or of a copy.
 ghost use Rattle.std.specs.Prelude.{◌≡◌, ◌⊎◌, IfOk, IfErr, MatchOption};
 ghost use Rattle.log_layout.specs.Places.{new_shape};
 ghost use Rattle.log_layout.specs.Values.{shape_of};
 ghost use Rattle.device_file.specs.FileValue.{fresh};
 ghost use Rattle.device_file.specs.declared.fault.FileFault.{FileFault};
-ghost use Rattle.images.specs.Program.{AreLimits};
+ghost use Rattle.images.specs.Limits.{AreLimits};
+ghost use Rattle.images.specs.Opened.{IsTargetUnmade};
 ghost use Rattle.images.specs.declared.refusal.Refusal.TheVariants as refused;
 
 use crate::refusal::Refusal;
@@ -40,5 +41,22 @@ pub(crate) fn new_file<R: Files<File = File>>(
     match SystemFile::create(rt, path, sectors, replace) {
         Ok(file) => Ok(file),
         Err(fault) => Err(Refusal::File(fault)),
+    }
+}
+
+/// The same, for the second file that a line names.
+pub(crate) fn new_target<R: Files<File = File>>(
+    rt: &R,
+    path: &str,
+    sectors: u64,
+    replace: bool,
+) -> Result<SystemFile<File>, Refusal>
+    ensures ok { IfOk result (λ target. target ≡ fresh sectors) }
+    ensures err { IfErr result IsTargetUnmade }
+{
+    match new_file(rt, path, sectors, replace) {
+        Ok(file) => Ok(file),
+        Err(Refusal::File(fault)) => Err(Refusal::Target(fault)),
+        Err(_) => Err(Refusal::Streams),
     }
 }

@@ -1,11 +1,99 @@
 //! The blocks of a plain file become those of a new image.
-ghost use Rattle.std.specs.Prelude.{◌≡◌, ◌≤◌, length, OnOk, IfErr};
+ghost use Rattle.std.specs.Prelude.{◌≡◌, ◌≤◌, Some, length, IfOk, OnOk, IfErr};
 ghost use Rattle.log_layout.specs.Values.{shape_of};
+ghost use Rattle.images.specs.Imported.{IsImage, IsNoImage, import_refusal};
 ghost use Rattle.images.specs.Importing.{IsImported, IsNotImported};
+ghost use Rattle.images.specs.Program.{IsImport, IsImportRefused};
 
+use crate::copying::copy_room;
+use crate::ended::{LeftFiles, Refused, Stopped};
+use crate::image::{new_target, sizes_of};
 use crate::making::ask_to_be;
-use device_file::{CopyFault, DeviceFile, Run, copy_sectors};
-use log_layout::Super;
+use crate::opening::open_plain;
+use crate::output::write_out;
+use crate::refusal::Refusal;
+use device_file::{CopyFault, DeviceFile, Run, SystemFile, copy_sectors};
+use log_layout::{LogFormat, Super};
+use std::fs::{File, Files};
+use std::io::Write;
+
+/// Makes an image file whose blocks are those of a plain file, and says how many there are.
+#[inline(never)]
+pub(crate) fn import<R: Files<File = File> + AllocGlobal, O: Write>(
+    rt: &R,
+    raw: &str,
+    image: &str,
+    format: LogFormat,
+    slots: u64,
+    replace: bool,
+    out: &mut O,
+) -> Result<LeftFiles, Refused>
+    ensures done { IfOk result (λ left. IsImport (O.contents out.old) (O.contents out.new)
+        left.file left.raw format slots) }
+    ensures refused { IfErr result (λ refused. IsImportRefused (O.contents out.old)
+        (O.contents out.new) refused.files.file refused.files.raw format slots refused.refusal) }
+{
+    let plain = open_plain(rt, raw)?;
+    match import_from(rt, &plain, image, format, slots, replace, out) {
+        Ok(file) => Ok(LeftFiles {
+            file: Some(file),
+            raw: Some(plain),
+        }),
+        Err(stopped) => Err(Refused {
+            refusal: stopped.refusal,
+            files: LeftFiles {
+                file: stopped.file,
+                raw: Some(plain),
+            },
+        }),
+    }
+}
+
+// Makes an image of the blocks of a plain file, which is only read. The sizes are tested before a
+// file is made.
+fn import_from<R: Files<File = File> + AllocGlobal, S: DeviceFile, O: Write>(
+    rt: &R,
+    plain: &S,
+    image: &str,
+    format: LogFormat,
+    slots: u64,
+    replace: bool,
+    out: &mut O,
+) -> Result<SystemFile<File>, Stopped>
+    ensures ok { IfOk result (λ file. IsImage (S.holds plain.now) format (S.size plain.now) slots
+        (O.contents out.old) (O.contents out.new) (Some file)) }
+    ensures err { IfErr result (λ stopped. IsNoImage (S.holds plain.now) format (S.size plain.now)
+        slots (O.contents out.old) (O.contents out.new) stopped.file stopped.refusal) }
+{
+    let Some(sizes) = sizes_of(format, plain.sectors(), slots) else {
+        return Err(Stopped::from(Refusal::Sizes));
+    };
+    let (mut run, mut bytes, line) = copy_room(rt.alloc(), b"imported ", sizes.blocks)?;
+    let mut file = new_target(rt, image, sizes.sectors(), replace)?;
+    if let Err(fault) = import_blocks(plain, &sizes, &mut file, &mut run, &mut bytes) {
+        return Err(Stopped {
+            refusal: refusal_of(fault),
+            file: Some(file),
+        });
+    }
+    match write_out(out, &line) {
+        Ok(()) => Ok(file),
+        Err(_) => Err(Stopped {
+            refusal: Refusal::Streams,
+            file: Some(file),
+        }),
+    }
+}
+
+// The file that refused a call: the plain one, or the image's.
+fn refusal_of(fault: CopyFault) -> Refusal
+    ensures { result ≡ import_refusal fault }
+{
+    match fault {
+        CopyFault::From(fault) => Refusal::Plain(fault),
+        CopyFault::To(fault) => Refusal::Target(fault),
+    }
+}
 
 /// Has a file that was just made or emptied become a new image with these sizes, whose blocks are
 /// those of a plain file: they are written at home, and only then is it made an image. The plain file

@@ -1,6 +1,7 @@
 //! Image files of any size: what the program `usbdisk_image` does.
 #![tactic(auto)]
 
+mod copying;
 mod ended;
 mod exporting;
 mod image;
@@ -22,7 +23,7 @@ mod words;
 pub use ended::Ended;
 pub use exporting::{export_blocks, recover_in_window};
 pub use importing::import_blocks;
-pub use laws::making_laws;
+pub use laws::{copy_laws, making_laws};
 pub use making::ask_to_be;
 pub use program::{command, run_program};
 pub use refusal::Refusal;

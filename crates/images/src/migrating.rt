@@ -4,7 +4,7 @@ ghost use Rattle.images.specs.Migrating.{IsMigratedOn, IsNotMigratedOn, migratio
 ghost use Rattle.images.specs.Program.{IsMigration, IsMigrationRefused};
 
 use crate::ended::{LeftFile, Stopped};
-use crate::opening::{open_image, window_over};
+use crate::opening::{Access, open_image, window_over};
 use crate::output::write_out;
 use crate::refusal::Refusal;
 use device_file::{DeviceFile, FirstSectors, Run, carry_out};
@@ -27,7 +27,7 @@ pub(crate) fn migrate<R: Files<File = File> + AllocGlobal, O: Write>(
     let Ok(mut run) = Run::new(rt.alloc()) else {
         return Err(Stopped::from(Refusal::NoMemory));
     };
-    let (mut file, first) = open_image(rt, image)?;
+    let (mut file, first) = open_image(rt, image, Access::Change)?;
     let was_one = match migrate_file(rt.alloc(), &mut file, first, &mut run) {
         Ok(was_one) => was_one,
         Err(refusal) => {

@@ -1,28 +1,45 @@
-//! An image file that is there: it is opened, and its first sectors are read.
+//! Files that are there: they are opened, and of an image the first sectors are read.
 ghost use Rattle.std.specs.Prelude.{◌≡◌, ◌⊎◌, IfOk, IfErr, None};
 ghost use Rattle.device_file.specs.FileValue.{fresh};
-ghost use Rattle.images.specs.Opened.{HasFirst, IsFileOrMemory, IsOpenedAlone, IsWindowOver};
-ghost use Rattle.images.specs.Program.{IsUnmade};
+ghost use Rattle.images.specs.Opened.{
+  HasFirst,
+  IsFileOrMemory,
+  IsOpenedAlone,
+  IsPlainUnopened,
+  IsUnmade,
+  IsWindowOver,
+};
 
 use crate::ended::Stopped;
 use crate::refusal::Refusal;
 use crate::streams::hold_streams;
-use device_file::{FirstSectors, OpenFault, SystemFile};
+use device_file::{FileCall, FileFault, FirstSectors, OpenFault, SystemFile};
 use std::alloc::Global;
+use std::fs;
 use std::fs::{File, Files};
+use std::io::ErrorKind;
 use window::{DeviceHolds, WindowMedium};
+
+/// What a file is opened for.
+#[derive(Clone, Copy)]
+pub(crate) enum Access {
+    /// To be read alone: the system refuses its writes.
+    Look,
+    Change,
+}
 
 /// The image file at this path, which is locked, and its first sectors. It is asked for nothing.
 pub(crate) fn open_image<R: Files<File = File> + AllocGlobal>(
     rt: &R,
     path: &str,
+    access: Access,
 ) -> Result<(SystemFile<File>, FirstSectors), Stopped>
     ensures ok { IfOk result (λ image. (image.0 ≡ fresh image.0.size)
         × HasFirst image.0.size image.1) }
     ensures err { IfErr result (λ stopped. ((stopped.file ≡ None) × IsUnmade stopped.refusal)
         ⊎ IsOpenedAlone stopped.file stopped.refusal) }
 {
-    let file = open_file(rt, path)?;
+    let file = open_file(rt, path, access)?;
     match FirstSectors::read(rt.alloc(), &file) {
         Ok(first) => Ok((file, first)),
         Err(fault) => Err(Stopped {
@@ -32,15 +49,52 @@ pub(crate) fn open_image<R: Files<File = File> + AllocGlobal>(
     }
 }
 
+/// The plain file at this path, which is locked, to be read alone. It is asked for nothing.
+pub(crate) fn open_plain<R: Files<File = File>>(
+    rt: &R,
+    path: &str,
+) -> Result<SystemFile<File>, Refusal>
+    ensures ok { IfOk result (λ plain. plain ≡ fresh plain.size) }
+    ensures err { IfErr result IsPlainUnopened }
+{
+    match open_file(rt, path, Access::Look) {
+        Ok(file) => Ok(file),
+        Err(Refusal::File(fault)) => Err(Refusal::Plain(fault)),
+        Err(_) => Err(Refusal::Streams),
+    }
+}
+
 // The file at this path, which is locked.
-fn open_file<R: Files<File = File>>(rt: &R, path: &str) -> Result<SystemFile<File>, Refusal>
+fn open_file<R: Files<File = File>>(
+    rt: &R,
+    path: &str,
+    access: Access,
+) -> Result<SystemFile<File>, Refusal>
     ensures ok { IfOk result (λ file. file ≡ fresh file.size) }
     ensures err { IfErr result IsUnmade }
 {
     let _streams = hold_streams(rt)?;
-    match SystemFile::open(rt, path) {
+    let opened = match access {
+        Access::Look => open_to_read(rt, path),
+        Access::Change => SystemFile::open(rt, path),
+    };
+    match opened {
         Ok(file) => Ok(file),
         Err(fault) => Err(Refusal::File(fault)),
+    }
+}
+
+// The file at this path, to be read alone. What is no plain file is refused before it is opened: a
+// pipe would wait for a writer.
+fn open_to_read<R: Files<File = File>>(rt: &R, path: &str) -> Result<SystemFile<File>, FileFault>
+    ensures { IfOk result (λ looked. looked ≡ fresh looked.size) }
+{
+    match fs::metadata(rt, path) {
+        Ok(metadata) if !metadata.is_file() => Err(FileFault {
+            call: FileCall::Length,
+            cause: ErrorKind::InvalidInput,
+        }),
+        _ => SystemFile::open_to_read(rt, path),
     }
 }
 

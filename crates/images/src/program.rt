@@ -4,6 +4,8 @@ ghost use Rattle.std.specs.Io.KnownBytes.{Keeps};
 ghost use Rattle.images.specs.declared.refusal.Refusal.{Refusal};
 ghost use Rattle.images.specs.Status.{status_of};
 ghost use Rattle.images.specs.Program.{
+  HasDone,
+  HasNotDone,
   IsMake,
   IsMakeRefused,
   IsObeyed,
@@ -14,9 +16,12 @@ ghost use Rattle.images.specs.Program.{
   made_text,
   version_text,
 };
+ghost use Rattle.images.specs.Task.{wanted_of};
 
-use crate::ended::{Ended, LeftFile, Stopped};
+use crate::ended::{Ended, LeftFile, LeftFiles, Refused, Stopped};
+use crate::exporting::export;
 use crate::image::{new_file, sizes_of};
+use crate::importing::import;
 use crate::making::ask_to_be;
 use crate::migrating::migrate;
 use crate::output::write_out;
@@ -31,16 +36,20 @@ use std::fs::{File, Files};
 use std::io::Write;
 
 const HELP: &[u8] = b"usbdisk_image make IMAGE --blocks N --slots K --format 1|2 [--replace]\n\
-usbdisk_image show IMAGE\nusbdisk_image migrate IMAGE\n";
+usbdisk_image show IMAGE\nusbdisk_image migrate IMAGE\n\
+usbdisk_image import RAW IMAGE --slots K --format 1|2 [--replace]\n\
+usbdisk_image export IMAGE RAW [--replace]\n";
 
 const VERSION: &[u8] = b"usbdisk_image 0.10\n";
 
 /// Does what the words after the program's name ask for, and gives the exit status.
 ///
-/// `make IMAGE --blocks N --slots K --format F` makes an image file, of which no zeros are written,
-/// and prints `made`; a file that is there is refused, but where `--replace` stands behind it. `show
-/// IMAGE` tells what is in an image, and writes nothing to it. `migrate IMAGE` brings it to format 2, and
-/// prints `migrated` or `already format 2`.
+/// `make IMAGE --blocks N --slots K --format F` makes an image file, of which no zeros are
+/// written, and prints `made`. `show IMAGE` tells what is in an image, and writes nothing to it.
+/// `migrate IMAGE` brings it to format 2, and prints `migrated` or `already format 2`. `import RAW
+/// IMAGE --slots K --format F` makes an image of the blocks of a plain file, and `export IMAGE
+/// RAW` copies those of an image to one: they print `imported N blocks` and `exported N blocks`.
+/// A new file is refused where one is there, but where `--replace` stands behind the words.
 /// `--help` and `--version` print a line each.
 pub fn command<R: Files<File = File> + AllocGlobal, O: Write, E: Write>(
     rt: &R,
@@ -49,18 +58,23 @@ pub fn command<R: Files<File = File> + AllocGlobal, O: Write, E: Write>(
     err: &mut E,
 ) -> Ended
     ensures statuses { result.status ≤ 5 }
-    ensures done { result.status ≡ 0 → IsObeyed (O.contents out.old) (O.contents out.new) result.file
-        (map (λ word. word.now) words.now) }
+    ensures done { result.status ≡ 0 → IsObeyed (O.contents out.old) (O.contents out.new)
+        result.file result.raw (map (λ word. word.now) words.now) }
     ensures refused { result.status ≢ 0
         → (refusal : Refusal) × (result.status ≡ status_of refusal)
-        × IsRefusedFor (O.contents out.old) (O.contents out.new) result.file
+        × IsRefusedFor (O.contents out.old) (O.contents out.new) result.file result.raw
         (map (λ word. word.now) words.now) refusal }
 {
     match obey(rt, words, out) {
-        Ok(file) => Ended { status: 0, file },
-        Err(stopped) => Ended {
-            status: tell(stopped.refusal, words, err),
-            file: stopped.file,
+        Ok(left) => Ended {
+            status: 0,
+            file: left.file,
+            raw: left.raw,
+        },
+        Err(refused) => Ended {
+            status: tell(refused.refusal, words, err),
+            file: refused.files.file,
+            raw: refused.files.raw,
         },
     }
 }
@@ -70,27 +84,66 @@ fn obey<R: Files<File = File> + AllocGlobal, O: Write>(
     rt: &R,
     words: &[&str],
     out: &mut O,
-) -> Result<LeftFile, Stopped>
-    ensures done { IfOk result (λ back. IsObeyed (O.contents out.old) (O.contents out.new) back
-        (map (λ word. word.now) words.now)) }
-    ensures refused { IfErr result (λ stopped. IsRefusedFor (O.contents out.old) (O.contents out.new)
-        stopped.file (map (λ word. word.now) words.now) stopped.refusal) }
+) -> Result<LeftFiles, Refused>
+    ensures done { IfOk result (λ left. IsObeyed (O.contents out.old) (O.contents out.new) left.file
+        left.raw (map (λ word. word.now) words.now)) }
+    ensures refused { IfErr result (λ refused. IsRefusedFor (O.contents out.old)
+        (O.contents out.new) refused.files.file refused.files.raw (map (λ word. word.now) words.now)
+        refused.refusal) }
 {
-    let Some(task) = read_words(words) else {
-        return Err(Stopped::from(Refusal::Words));
-    };
+    match read_words(words) {
+        Some(task) => do_task(rt, task, out),
+        None => Err(Refused::from(Refusal::Words)),
+    }
+}
+
+// Does what a command line asks for.
+fn do_task<R: Files<File = File> + AllocGlobal, O: Write>(
+    rt: &R,
+    task: Task,
+    out: &mut O,
+) -> Result<LeftFiles, Refused>
+    ensures done { IfOk result (λ left. HasDone (O.contents out.old) (O.contents out.new) left.file
+        left.raw (wanted_of task.entry)) }
+    ensures refused { IfErr result (λ refused. HasNotDone (O.contents out.old) (O.contents out.new)
+        refused.files.file refused.files.raw (wanted_of task.entry) refused.refusal) }
+{
     match task {
-        Task::Help => say_help(out),
-        Task::Version => say_version(out),
-        Task::Show { image } => show(rt, image, out),
-        Task::Migrate { image } => migrate(rt, image, out),
+        Task::Help => alone(say_help(out)),
+        Task::Version => alone(say_version(out)),
+        Task::Show { image } => alone(show(rt, image, out)),
+        Task::Migrate { image } => alone(migrate(rt, image, out)),
         Task::Make {
             image,
             format,
             blocks,
             slots,
             replace,
-        } => make(rt, image, format, blocks, slots, replace, out),
+        } => alone(make(rt, image, format, blocks, slots, replace, out)),
+        Task::Import {
+            raw,
+            image,
+            format,
+            slots,
+            replace,
+        } => import(rt, raw, image, format, slots, replace, out),
+        Task::Export {
+            image,
+            raw,
+            replace,
+        } => export(rt, image, raw, replace, out),
+    }
+}
+
+// How a command of one file ended: there is no plain one.
+fn alone(ended: Result<LeftFile, Stopped>) -> Result<LeftFiles, Refused>
+    ensures ok { IfOk result (λ left. (left.raw ≡ None) × (ended ≡ Ok left.file)) }
+    ensures err { IfErr result (λ refused. (refused.files.raw ≡ None)
+        × (ended ≡ Err (record { refusal = refused.refusal; file = refused.files.file }))) }
+{
+    match ended {
+        Ok(file) => Ok(LeftFiles { file, raw: None }),
+        Err(stopped) => Err(Refused::from(stopped)),
     }
 }
 
@@ -167,6 +220,7 @@ fn tell<E: Write>(refusal: Refusal, words: &[&str], err: &mut E) -> u8
     let text = refusal.text();
     let _ = match (refusal, words) {
         (Refusal::Words, _) => writeln!(err, "{text}"),
+        (Refusal::Target(_), [_, _, target, ..]) => writeln!(err, "{target}: {text}"),
         (_, [_, image, ..]) => writeln!(err, "{image}: {text}"),
         _ => writeln!(err, "{text}"),
     };
@@ -181,12 +235,13 @@ pub fn run_program<R: Env + Files<File = File> + AllocGlobal, O: Write, E: Write
 ) -> Ended
     ensures statuses { result.status ≤ 5 }
     ensures done { result.status ≡ 0 → (args : List (List ℕ))
-        × IsObeyed (O.contents out.old) (O.contents out.new) result.file (drop 1 args) }
+        × IsObeyed (O.contents out.old) (O.contents out.new) result.file result.raw (drop 1 args) }
     ensures refused { result.status ≢ 0
-        → ((result.file ≡ None) × Keeps (O.contents out.old) (O.contents out.new))
+        → ((result.file ≡ None) × (result.raw ≡ None)
+        × Keeps (O.contents out.old) (O.contents out.new))
         ⊎ ((args : List (List ℕ)) × (refusal : Refusal) × (result.status ≡ status_of refusal)
-        × IsRefusedFor (O.contents out.old) (O.contents out.new) result.file (drop 1 args)
-        refusal) }
+        × IsRefusedFor (O.contents out.old) (O.contents out.new) result.file result.raw
+        (drop 1 args) refusal) }
 {
     let args = match arguments(rt) {
         Ok(args) => args,
@@ -202,9 +257,11 @@ pub fn run_program<R: Env + Files<File = File> + AllocGlobal, O: Write, E: Write
 fn refuse<E: Write>(refusal: Refusal, err: &mut E) -> Ended
     ensures status { result.status ≡ status_of refusal }
     ensures file { result.file ≡ None }
+    ensures raw { result.raw ≡ None }
 {
     Ended {
         status: tell(refusal, &[], err),
         file: None,
+        raw: None,
     }
 }

@@ -17,6 +17,10 @@ pub enum Refusal {
     Image(StartFault),
     /// The file of the image refused a call.
     File(FileFault),
+    /// The plain file that an import reads refused a call.
+    Plain(FileFault),
+    /// The new file of an export or an import, the second that its line names, refused a call.
+    Target(FileFault),
     /// An answer was not written, or the null device not opened.
     Streams,
     /// Memory ran out.
@@ -35,6 +39,8 @@ impl Refusal {
             Refusal::Sizes => 3,
             Refusal::Image(_) => 3,
             Refusal::File(_) => 4,
+            Refusal::Plain(_) => 4,
+            Refusal::Target(_) => 4,
             Refusal::Streams => 4,
             Refusal::NoMemory => 5,
         }
@@ -47,6 +53,8 @@ impl Refusal {
             Refusal::Sizes => "the sizes are out of their limits",
             Refusal::Image(fault) => image_text(fault),
             Refusal::File(fault) => text_of(fault),
+            Refusal::Plain(fault) => plain_text(fault),
+            Refusal::Target(fault) => text_of(fault),
             Refusal::Streams => "the answer was not written",
             Refusal::NoMemory => "no memory",
         }
@@ -83,6 +91,14 @@ fn text_of(fault: FileFault) -> &'static str {
         (FileCall::Read, ErrorKind::UnexpectedEof) => "it is too short",
         (_, ErrorKind::StorageFull) => "no space is left",
         (call, _) => call_text(call),
+    }
+}
+
+// The cause of a refusal of a plain file that is read in words.
+fn plain_text(fault: FileFault) -> &'static str {
+    match (fault.call, fault.cause) {
+        (FileCall::Length, ErrorKind::InvalidData) => "its length is no multiple of 512 bytes",
+        _ => text_of(fault),
     }
 }
 

@@ -4,7 +4,7 @@ ghost use Rattle.images.specs.Program.{IsShow, IsShowRefused};
 ghost use Rattle.images.specs.Showing.{IsShown, IsNotShown};
 
 use crate::ended::{LeftFile, Stopped};
-use crate::opening::{open_image, window_over};
+use crate::opening::{Access, open_image, window_over};
 use crate::output::write_out;
 use crate::refusal::Refusal;
 use crate::text::text_of;
@@ -25,7 +25,7 @@ pub(crate) fn show<R: Files<File = File> + AllocGlobal, O: Write>(
     ensures refused { IfErr result (λ stopped. IsShowRefused (O.contents out.old) (O.contents out.new)
         stopped.file stopped.refusal) }
 {
-    let (file, first) = open_image(rt, image)?;
+    let (file, first) = open_image(rt, image, Access::Look)?;
     match show_first(rt.alloc(), first, out) {
         Ok(()) => Ok(Some(file)),
         Err(refusal) => Err(Stopped {

@@ -1,6 +1,17 @@
 //! The words of a command line.
 ghost use Rattle.std.specs.Prelude.{◌≡◌, ◌↔◌, [], ◌∷◌, ◌++◌, IfSome, IfNone, IsTrue, Bool, map};
-ghost use Rattle.images.specs.Task.{Wanted, Asks, IsMakeLine, IsFileWord, format_word, replace_words, wanted_of};
+ghost use Rattle.std.specs.Prelude.{codes};
+ghost use Rattle.images.specs.Task.{
+  Wanted,
+  Asks,
+  IsExportLine,
+  IsFileWord,
+  IsImportLine,
+  IsMakeLine,
+  format_word,
+  replace_words,
+  wanted_of,
+};
 ghost use Rattle.log_layout.specs.declared.log_format.LogFormat.{LogFormat};
 
 use crate::number::read_number;
@@ -24,6 +35,20 @@ pub(crate) enum Task<'a> {
     Migrate {
         image: &'a str,
     },
+    /// To make an image of the blocks of a plain file, with so many slots for the log of a format.
+    Import {
+        raw: &'a str,
+        image: &'a str,
+        format: LogFormat,
+        slots: u64,
+        replace: bool,
+    },
+    /// To copy the blocks of an image to a plain file.
+    Export {
+        image: &'a str,
+        raw: &'a str,
+        replace: bool,
+    },
     /// To make an image of so many blocks of zeros, with so many slots for the log of a format.
     Make {
         image: &'a str,
@@ -34,9 +59,10 @@ pub(crate) enum Task<'a> {
     },
 }
 
-/// Reads the words after the program's name: `--help`, `--version`, `show IMAGE`, `migrate IMAGE`, or
-/// `make IMAGE --blocks N --slots K --format F`, behind which `--replace` may stand. No file word
-/// begins with a hyphen.
+/// Reads the words after the program's name: `--help`, `--version`, `show IMAGE`, `migrate IMAGE`,
+/// `make IMAGE --blocks N --slots K --format F`, `import RAW IMAGE --slots K --format F`, or
+/// `export IMAGE RAW`. Behind the last three `--replace` may stand. No file word begins with a
+/// hyphen.
 pub(crate) fn read_words<'a>(words: &'a [&'a str]) -> Option<Task<'a>>
     ensures task { IfSome result
         (λ task. Asks (map (λ word. word.now) words.entry.now) (wanted_of task)) }
@@ -46,21 +72,7 @@ pub(crate) fn read_words<'a>(words: &'a [&'a str]) -> Option<Task<'a>>
     match words {
         [word] => short_task(word),
         [verb, image] => image_task(verb, image),
-        [
-            verb,
-            image,
-            first,
-            blocks,
-            second,
-            slots,
-            third,
-            format,
-            ending @ ..,
-        ] => {
-            make_task(
-                verb, image, first, blocks, second, slots, third, format, ending,
-            )
-        }
+        [verb, first, second, rest @ ..] => long_task(verb, first, second, rest),
         _ => None,
     }
 }
@@ -94,9 +106,38 @@ fn image_task<'a>(verb: &str, image: &'a str) -> Option<Task<'a>>
     }
 }
 
-// What eight words ask for, and the one that may stand behind them.
-fn make_task<'a>(
-    verb: &str,
+// What three words ask for, and those behind them.
+fn long_task<'a>(verb: &str, first: &'a str, second: &'a str, rest: &[&str]) -> Option<Task<'a>>
+    ensures task { IfSome result (λ task. Asks (verb.now ∷ first.entry.now ∷ second.entry.now
+        ∷ map (λ word. word.now) rest.now) (wanted_of task)) }
+    ensures none { IfNone result ((wanted : Wanted) → Asks (verb.now ∷ first.entry.now
+        ∷ second.entry.now ∷ map (λ word. word.now) rest.now) wanted → ⊥) }
+{
+    match verb {
+        "make" => make_task(first, second, rest),
+        "import" => import_task(first, second, rest),
+        "export" => export_task(first, second, rest),
+        _ => None,
+    }
+}
+
+// What the words behind `make` ask for.
+fn make_task<'a>(image: &'a str, first: &str, rest: &[&str]) -> Option<Task<'a>>
+    ensures task { IfSome result (λ task. Asks (codes "make" ∷ image.entry.now ∷ first.now
+        ∷ map (λ word. word.now) rest.now) (wanted_of task)) }
+    ensures none { IfNone result (IsMakeLine (codes "make" ∷ image.entry.now ∷ first.now
+        ∷ map (λ word. word.now) rest.now) → ⊥) }
+{
+    match rest {
+        [blocks, second, slots, third, format, ending @ ..] => {
+            make_words(image, first, blocks, second, slots, third, format, ending)
+        }
+        _ => None,
+    }
+}
+
+// What seven words behind `make` ask for, and the one that may stand behind them.
+fn make_words<'a>(
     image: &'a str,
     first: &str,
     blocks: &str,
@@ -106,14 +147,14 @@ fn make_task<'a>(
     format: &str,
     ending: &[&str],
 ) -> Option<Task<'a>>
-    ensures task { IfSome result (λ task. Asks (verb.now ∷ image.entry.now ∷ first.now
+    ensures task { IfSome result (λ task. Asks (codes "make" ∷ image.entry.now ∷ first.now
         ∷ blocks.now ∷ second.now ∷ slots.now ∷ third.now ∷ format.now
         ∷ map (λ word. word.now) ending.now) (wanted_of task)) }
-    ensures none { IfNone result (IsMakeLine (verb.now ∷ image.entry.now ∷ first.now
+    ensures none { IfNone result (IsMakeLine (codes "make" ∷ image.entry.now ∷ first.now
         ∷ blocks.now ∷ second.now ∷ slots.now ∷ third.now ∷ format.now
         ∷ map (λ word. word.now) ending.now) → ⊥) }
 {
-    if verb != "make" || first != "--blocks" || second != "--slots" || third != "--format" {
+    if first != "--blocks" || second != "--slots" || third != "--format" {
         return None;
     }
     if !is_file_word(image) {
@@ -132,6 +173,74 @@ fn make_task<'a>(
     })
 }
 
+// What the words behind `import` ask for.
+fn import_task<'a>(raw: &'a str, image: &'a str, rest: &[&str]) -> Option<Task<'a>>
+    ensures task { IfSome result (λ task. Asks (codes "import" ∷ raw.entry.now ∷ image.entry.now
+        ∷ map (λ word. word.now) rest.now) (wanted_of task)) }
+    ensures none { IfNone result (IsImportLine (codes "import" ∷ raw.entry.now ∷ image.entry.now
+        ∷ map (λ word. word.now) rest.now) → ⊥) }
+{
+    match rest {
+        [first, slots, second, format, ending @ ..] => {
+            import_words(raw, image, first, slots, second, format, ending)
+        }
+        _ => None,
+    }
+}
+
+// What six words behind `import` ask for, and the one that may stand behind them.
+fn import_words<'a>(
+    raw: &'a str,
+    image: &'a str,
+    first: &str,
+    slots: &str,
+    second: &str,
+    format: &str,
+    ending: &[&str],
+) -> Option<Task<'a>>
+    ensures task { IfSome result (λ task. Asks (codes "import" ∷ raw.entry.now ∷ image.entry.now
+        ∷ first.now ∷ slots.now ∷ second.now ∷ format.now ∷ map (λ word. word.now) ending.now)
+        (wanted_of task)) }
+    ensures none { IfNone result (IsImportLine (codes "import" ∷ raw.entry.now ∷ image.entry.now
+        ∷ first.now ∷ slots.now ∷ second.now ∷ format.now ∷ map (λ word. word.now) ending.now)
+        → ⊥) }
+{
+    if first != "--slots" || second != "--format" {
+        return None;
+    }
+    if !is_file_word(raw) || !is_file_word(image) {
+        return None;
+    }
+    let slots = read_number(slots.as_bytes(), 0, MOST)?;
+    let format = read_format(format)?;
+    let replace = read_replace(ending)?;
+    Some(Task::Import {
+        raw,
+        image,
+        format,
+        slots,
+        replace,
+    })
+}
+
+// What the words behind `export` ask for.
+fn export_task<'a>(image: &'a str, raw: &'a str, ending: &[&str]) -> Option<Task<'a>>
+    ensures task { IfSome result (λ task. Asks (codes "export" ∷ image.entry.now ∷ raw.entry.now
+        ∷ map (λ word. word.now) ending.now) (wanted_of task)) }
+    ensures none { IfNone result (IsExportLine (codes "export" ∷ image.entry.now ∷ raw.entry.now
+        ∷ map (λ word. word.now) ending.now) → ⊥) }
+{
+    if !is_file_word(image) || !is_file_word(raw) {
+        return None;
+    }
+    let replace = read_replace(ending)?;
+    Some(Task::Export {
+        image,
+        raw,
+        replace,
+    })
+}
+
 // The format of this number.
 fn read_format(number: &str) -> Option<LogFormat>
     ensures some { IfSome result (λ format. number.now ≡ format_word format) }
@@ -144,7 +253,7 @@ fn read_format(number: &str) -> Option<LogFormat>
     }
 }
 
-// Whether a file is to be replaced, from the words behind the sizes.
+// Whether a file is to be replaced, from the words at the end.
 fn read_replace(ending: &[&str]) -> Option<bool>
     ensures some { IfSome result
         (λ replace. map (λ word. word.now) ending.now ≡ replace_words replace) }

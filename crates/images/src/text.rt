@@ -1,5 +1,7 @@
-//! The lines that tell what is in an image.
-ghost use Rattle.std.specs.Prelude.{◌≡◌, ◌+◌, ◌<◌, ◌≤◌, ◌^◌, ◌++◌, decimal, codes, length, IfOk, OnOk};
+//! The lines that tell what is in an image, and what was copied.
+ghost use Rattle.std.specs.Prelude.{◌≡◌, ◌+◌, ◌<◌, ◌≤◌, ◌^◌, ◌++◌, length, IfOk, OnOk};
+ghost use Rattle.std.specs.Prelude.{codes, decimal};
+ghost use Rattle.images.specs.Streams.{blocks_text};
 ghost use Rattle.images.specs.Showing.{image_text, sizes_text, number_line, record_lines};
 
 use itoa::Buffer;
@@ -63,4 +65,15 @@ fn put_number(text: &mut Vec<u8>, word: &[u8], number: u64) -> Result<(), AllocE
     text.extend_from_slice(buffer.format(number).as_bytes())?;
     text.push(b'\n')?;
     Ok(())
+}
+
+/// A line that tells what was done, and of how many blocks.
+pub(crate) fn blocks_line(alloc: Global, done: &[u8], blocks: u64) -> Result<Vec<u8>, AllocError>
+    ensures { IfOk result (λ text. text.items ≡ blocks_text done.now blocks) }
+{
+    let mut buffer = Buffer::new();
+    let mut text = Vec::from_slice(alloc, done)?;
+    text.extend_from_slice(buffer.format(blocks).as_bytes())?;
+    text.extend_from_slice(b" blocks\n")?;
+    Ok(text)
 }

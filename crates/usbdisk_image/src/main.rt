@@ -1,4 +1,4 @@
-//! The program `usbdisk_image`: makes image files of any size, and tells what is in them. What it
+//! The program `usbdisk_image`: makes image files of any size, tells what is in them, and copies. What it
 //! leaves of a file is what `images` gives back; here that is only let go of.
 #![tactic(auto)]
 

@@ -1,4 +1,4 @@
-use Rattle.std.proofs.Common.{◌≡◌, ℕ, List, Bool, inl, inr, refl, sym, ap, subst}
+use Rattle.std.proofs.Common.{◌≡◌, ℕ, List, inl, inr, refl, sym, ap, subst}
 use Rattle.std.specs.Io.KnownBytes.{Appends}
 use Rattle.device_file.specs.Asked.{Told, begun}
 use Rattle.device_file.specs.FileValue.{FileValue, fresh}
@@ -6,7 +6,6 @@ use Rattle.device_file.specs.declared.opening.FirstSectors.{FirstSectors}
 use Rattle.images.specs.Opened.{HasFirst}
 use Rattle.images.specs.Migrating.{IsMigratedOn, IsNotMigratedOn}
 use Rattle.images.specs.Streams.{AppendsSome}
-use Rattle.images.specs.declared.refusal.Refusal.{Refusal}
 use Rattle.images.proofs.Known.{Keeps-same}
 use Rattle.images.proofs.migrating.migrate.Goals as goal
 

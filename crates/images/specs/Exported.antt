@@ -1,0 +1,92 @@
+-- What the command `export` leaves of the plain file, and of the output.
+use Rattle.std.specs.Prelude.{◌≡◌, ◌⊎◌, ℕ, List, codes, Option, Some, None}
+use Rattle.std.specs.Io.KnownBytes.{Appends, Keeps}
+use Rattle.mirror.specs.declared.call.DeviceCall.{DeviceCall}
+use Rattle.log_layout.specs.declared.super_sector.Super.{Super}
+use Rattle.window.specs.Window.{Window}
+use Rattle.device_file.specs.Asked.{begun}
+use Rattle.device_file.specs.FileValue.{FileValue}
+use Rattle.device_file.specs.declared.copying.CopyFault.{CopyFault}
+use Rattle.device_file.specs.declared.copying.CopyFault.TheVariants as fault
+use Rattle.device_file.specs.declared.opening.FirstSectors.{FirstSectors}
+use Rattle.images.specs.Exporting.{HasBlocks, HasSomeBlocks, IsNotRecoveredIn, IsRecoveredIn}
+use Rattle.images.specs.Opened.{IsTargetUnmade}
+use Rattle.images.specs.Streams.{AppendsSome, blocks_text}
+use Rattle.images.specs.declared.refusal.Refusal.{Refusal}
+use Rattle.images.specs.declared.refusal.Refusal.TheVariants as refused
+
+-- what is told of so many blocks
+abbrev pub exported_text : ℕ → List ℕ
+exported_text blocks = blocks_text (codes "exported ") blocks
+
+-- the file that refused a call is the image's or the new one
+abbrev pub export_refusal : CopyFault → Refusal
+export_refusal (fault.From why) = refused.File why
+export_refusal (fault.To why) = refused.Target why
+
+-- Of a recovered image with these sizes, whose writes that go home wait: what a read of it gave,
+-- what was written then and now, and the plain file, where one was made.
+module _ (holds : ℕ → List ℕ → Type 0) (sizes : Super) (waiting : List DeviceCall)
+    (was now : Option (List ℕ)) (raw : Option FileValue) where
+  -- A plain file of exactly its blocks was made, or emptied, and asked for them, and that was told.
+  pub record IsPlainCopy : Type 0 where
+    pub plain : FileValue
+    pub given : raw ≡ Some plain
+    pub size : plain.size ≡ sizes.blocks
+    pub asked : HasBlocks holds sizes waiting begun plain.told
+    pub written : Appends was now (exported_text sizes.blocks)
+
+  -- not all was told
+  pub record IsCopyUntold (refusal : Refusal) : Type 0 where
+    pub plain : FileValue
+    pub given : raw ≡ Some plain
+    pub size : plain.size ≡ sizes.blocks
+    pub asked : HasBlocks holds sizes waiting begun plain.told
+    pub failed : refusal ≡ refused.Streams
+    pub written : AppendsSome was now (exported_text sizes.blocks)
+
+  -- the image or the plain file refused a call on the way there
+  pub record IsCopyStopped (refusal : Refusal) : Type 0 where
+    pub plain : FileValue
+    pub given : raw ≡ Some plain
+    pub size : plain.size ≡ sizes.blocks
+    pub why : CopyFault
+    pub asked : HasSomeBlocks holds sizes waiting begun plain.told why
+    pub refused_is : refusal ≡ export_refusal why
+    pub kept : Keeps was now
+
+  -- no plain file was had
+  pub record IsCopyUnmade (refusal : Refusal) : Type 0 where
+    pub none : raw ≡ None
+    pub cause : IsTargetUnmade refusal
+    pub kept : Keeps was now
+
+  abbrev pub IsNoPlainCopy : Refusal → Type 0
+  IsNoPlainCopy refusal =
+      IsCopyUnmade refusal ⊎ (IsCopyStopped refusal ⊎ IsCopyUntold refusal)
+
+-- of an image with these first sectors
+module _ (holds : ℕ → List ℕ → Type 0) (first : FirstSectors) (was now : Option (List ℕ))
+    (raw : Option FileValue) where
+  -- it was recovered in a window, and copied
+  pub record IsExported : Type 0 where
+    pub sizes : Super
+    pub after : Window
+    pub recovered : IsRecoveredIn first sizes after
+    pub copied : IsPlainCopy holds sizes after.outbox was now raw
+
+  -- it was recovered, and not copied
+  pub record IsExportStopped (refusal : Refusal) : Type 0 where
+    pub sizes : Super
+    pub after : Window
+    pub recovered : IsRecoveredIn first sizes after
+    pub stopped : IsNoPlainCopy holds sizes after.outbox was now raw refusal
+
+  -- it was not recovered, and no plain file was made
+  pub record IsExportUnbegun (refusal : Refusal) : Type 0 where
+    pub none : raw ≡ None
+    pub cause : IsNotRecoveredIn first refusal
+    pub kept : Keeps was now
+
+  abbrev pub IsNotExported : Refusal → Type 0
+  IsNotExported refusal = IsExportUnbegun refusal ⊎ IsExportStopped refusal
