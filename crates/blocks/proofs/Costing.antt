@@ -9,7 +9,7 @@ use Rattle.blocks.specs.Retiring.{oldest_retired, room_calls, finish_from, finis
 use Rattle.blocks.proofs.Room.{OneAtMost}
 
 -- the calls of the steps that are left are those of the next one and of the others
-turns_more : (format : LogFormat) (home left : ℕ) → 0 < left
+pub turns_more : (format : LogFormat) (home left : ℕ) → 0 < left
     → turns_calls format home left ≡ turn_calls format home left + turns_calls format home (left - 1)
 turns_more format home zero some = absurd (omega (arith, some))
 turns_more format home (suc left) some =
@@ -28,7 +28,7 @@ CostsOldest old new before after =
     ⊎ ((new ≡ oldest_retired old) × (after ≡ before + retiring_calls old (of_oldest old)))
 
 -- a log that came only so far makes the calls of a step of the old one
-next_is : (old mid : LogValue) → mid ≡ record old { retire_steps_left = mid.retire_steps_left; kept = mid.kept }
+pub next_is : (old mid : LogValue) → mid ≡ record old { retire_steps_left = mid.retire_steps_left; kept = mid.kept }
     → next_calls mid ≡ turn_calls old.shape.format (home_of_oldest old) (of_oldest mid)
 next_is old mid same =
     let format = ap (λ (l : LogValue). l.shape.format) same in

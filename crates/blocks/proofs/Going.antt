@@ -2,7 +2,7 @@
 use Rattle.std.proofs.Common.{◌≡◌, ◌⊎◌, ◌≤◌, ◌<◌, ℕ, ◌+◌, ◌-◌, ◌*◌, inl, inr, ⊎_elim, arith, ◌∙◌, sym, refl, ap, subst}
 use Rattle.std.proofs.Common.{Bool, true, false, List, [], ◌∷◌, length}
 use Rattle.std.specs.Prelude.{if◌then◌else◌, nat_lt, ◌==◌}
-use Rattle.std.proofs.lemmas.Bool.{false≢true, cases_eq, cases_lt, cases_Bool, eq-eqb, eqb-true, lt-ltb, ltb-true}
+use Rattle.std.proofs.lemmas.Bool.{false≢true, cases_eq, cases_lt, eq-eqb, eqb-true, lt-ltb, ltb-true}
 use Rattle.medium.specs.Medium.{State, IsSound}
 use Rattle.medium.specs.Moments.{LeavesOnly, SparesFrom}
 use Rattle.medium.specs.Sent.{SendsUpTo}
@@ -16,9 +16,8 @@ use Rattle.blocks.specs.Finding.{MayFind}
 use Rattle.blocks.specs.Going.{StaysIdle, PassesHead, BringsHome}
 use Rattle.blocks.specs.Ahead.{past}
 use Rattle.blocks.specs.Retiring.{oldest_retired}
-use Rattle.blocks.specs.Book.{Book}
-use Rattle.blocks.specs.StoreValue.{Cached, layout_of, is_dead, steps_left}
-use Rattle.blocks.specs.Turns.{IsTurn, IsPaid}
+use Rattle.blocks.specs.StoreValue.{Cached, layout_of, steps_left}
+use Rattle.blocks.specs.Turns.{IsTurn}
 use Rattle.blocks.proofs.Fitting.{moves}
 use Rattle.blocks.proofs.Turning.{exits}
 use Rattle.blocks.proofs.Stepping.{StaysRetired, retired, here, lives, cuts_found}

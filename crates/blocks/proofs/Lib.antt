@@ -3,6 +3,7 @@ pub mod Costing
 pub mod Counting
 pub mod Fitting
 pub mod Going
+pub mod Homing
 pub mod ImageLimit
 pub mod Limits
 pub mod Looking

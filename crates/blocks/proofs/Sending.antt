@@ -9,7 +9,7 @@ use Rattle.blocks.specs.Retiring.{oldest_retired}
 use Rattle.blocks.proofs.Room.{OneAtMost}
 
 -- those of the steps that are left are those of the next one and of the others
-turns_more : (format : LogFormat) (home left : ℕ) → 0 < left
+pub turns_more : (format : LogFormat) (home left : ℕ) → 0 < left
     → turns_sends format home left ≡ turn_sends format home left + turns_sends format home (left - 1)
 turns_more format home zero some = absurd (omega (arith, some))
 turns_more format home (suc left) some =
@@ -17,7 +17,7 @@ turns_more format home (suc left) some =
     ap (λ (n : ℕ). turn_sends format home (suc left) + turns_sends format home n) less
 
 -- the next one alone makes no more
-next_few : (format : LogFormat) (home left : ℕ) → turn_sends format home left ≤ turns_sends format home left
+pub next_few : (format : LogFormat) (home left : ℕ) → turn_sends format home left ≤ turns_sends format home left
 next_few format home zero = omega arith
 next_few format home (suc left) = omega arith
 
@@ -33,7 +33,7 @@ SendsOldest old new before after =
     ⊎ ((new ≡ oldest_retired old) × (after ≤ before + retiring_sends old (of_oldest old)))
 
 -- a log that came only so far makes those of a step of the old one
-next_is : (old mid : LogValue) → mid ≡ record old { retire_steps_left = mid.retire_steps_left; kept = mid.kept }
+pub next_is : (old mid : LogValue) → mid ≡ record old { retire_steps_left = mid.retire_steps_left; kept = mid.kept }
     → next_sends mid ≡ turn_sends old.shape.format (home_of_oldest old) (of_oldest mid)
 next_is old mid same =
     let format = ap (λ (l : LogValue). l.shape.format) same in

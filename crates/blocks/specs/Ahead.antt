@@ -1,11 +1,19 @@
 -- What a store that retires ahead does before it begins a record, and how many calls that takes:
 -- the head goes past an oldest record whose blocks an earlier flush covers, and the oldest one goes
 -- home. None of these calls is a flush: that of the record that is begun covers them.
-use Rattle.std.specs.Prelude.{◌≡◌, ◌+◌, ◌-◌, ◌&&◌, ◌==◌, ℕ, Bool, true, false, length}
-use Rattle.std.specs.Prelude.{nat_lt, if◌then◌else◌}
+use Rattle.std.specs.Prelude.{◌≡◌, ◌+◌, ◌-◌, ◌&&◌, ◌==◌, ℕ, Bool, length}
+use Rattle.std.specs.Prelude.{nat_lt, if◌then◌else◌, drop, replicate}
 use Rattle.redo_log.specs.Value.{LogValue, settled, behind_oldest, of_oldest, home_of_oldest}
 use Rattle.redo_log.specs.Value.{ahead_of, turns_calls, pass_calls}
-use Rattle.blocks.specs.Retiring.{oldest_retired}
+
+-- the oldest record is retired
+abbrev pub oldest_retired : LogValue → LogValue
+oldest_retired log = record log {
+  head = log.head + 1;
+  waiting = drop 1 log.waiting;
+  retire_steps_left = behind_oldest log;
+  kept = replicate 512 0;
+}
 
 -- how many calls make all the steps that are left of the oldest record
 abbrev pub retiring_calls : LogValue → ℕ
@@ -64,3 +72,8 @@ ahead_room log = if nat_lt (log.next - log.head) log.shape.slots then sent_home 
 abbrev pub ahead_room_calls : LogValue → ℕ
 ahead_room_calls log = if nat_lt (log.next - log.head) log.shape.slots
     then passed_calls log + sent_calls (passed log) else retiring_calls log
+
+-- the log is this one, but for the descriptor of its oldest record that is kept: which that is, the
+-- medium tells
+abbrev pub IsBut : LogValue → LogValue → Type 0
+IsBut is log = log ≡ record is { kept = log.kept }

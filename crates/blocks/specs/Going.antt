@@ -1,8 +1,8 @@
 -- What the calls of a store do that make it go ahead.
-use Rattle.std.specs.Prelude.{◌≡◌, ◌≤◌, ◌<◌, ◌+◌, false}
+use Rattle.std.specs.Prelude.{◌≡◌, ◌≤◌, ◌<◌, ◌+◌, ℕ, false}
 use Rattle.medium.specs.Medium.{State}
 use Rattle.medium.specs.Sent.{SendsUpTo}
-use Rattle.redo_log.specs.Value.{IsSentHome, next_calls, next_sends, pass_calls}
+use Rattle.redo_log.specs.Value.{LogValue, IsSentHome, next_calls, next_sends, pass_calls}
 use Rattle.blocks.specs.Ahead.{counted, past}
 use Rattle.blocks.specs.StoreValue.{Cached, is_dead, steps_left}
 
@@ -34,4 +34,11 @@ pub record BringsHome (before after : State) (old new : Cached) : Type 0 where
   pub sent : SendsUpTo (next_sends old.log) before after
   pub fewer : is_dead new ≡ false → steps_left new < steps_left old
   pub head : new.log.head ≡ old.log.head
+  pub stays : StaysIdle old new
+
+-- Where it is good, the log is such a one, by exactly so many calls.
+pub record GoesAhead (Is : LogValue → Type 0) (count : ℕ) (before after : State)
+    (old new : Cached) : Type 0 where
+  pub log : is_dead new ≡ false → Is new.log
+  pub calls : is_dead new ≡ false → after.calls ≡ before.calls + count
   pub stays : StaysIdle old new

@@ -1,26 +1,17 @@
 -- Which records a call of a store writes to the log, and which it retires: none but what room asks
 -- for.
-use Rattle.std.specs.Prelude.{◌≡◌, ◌+◌, ◌-◌, ◌≤◌, ℕ, zero, suc, List, [], ◌∷◌, ◌++◌, drop}
-use Rattle.std.specs.Prelude.{replicate, nat_lt}
+use Rattle.std.specs.Prelude.{◌≡◌, ◌+◌, ◌-◌, ◌≤◌, ℕ, zero, suc, List, [], ◌∷◌, ◌++◌, nat_lt}
 use Rattle.std.specs.Prelude.{if◌then◌else◌}
 use Rattle.log_layout.specs.declared.log_format.LogFormat.{LogFormat}
-use Rattle.redo_log.specs.Value.{LogValue, HasRoom, begun, steps_of, behind_oldest}
+use Rattle.redo_log.specs.Value.{LogValue, HasRoom, begun, steps_of}
 use Rattle.redo_log.specs.Value.{of_oldest, home_of_oldest, turns_calls}
+pub use Rattle.blocks.specs.Ahead.{oldest_retired}
 use Rattle.blocks.specs.StoreValue.{wants, waiting}
 
 -- Room is made for one record: none is retired where the log has room, and else one at most.
 pub record RetiresForRoom (old new : LogValue) : Type 0 where
   pub one : new.head ≤ old.head + 1
   pub roomy : HasRoom old → new.head ≡ old.head
-
--- the oldest record is retired
-abbrev pub oldest_retired : LogValue → LogValue
-oldest_retired log = record log {
-  head = log.head + 1;
-  waiting = drop 1 log.waiting;
-  retire_steps_left = behind_oldest log;
-  kept = replicate 512 0;
-}
 
 -- room for one more record: the oldest alone is retired, and only where no slot is free
 abbrev pub with_room : LogValue → LogValue
