@@ -5,7 +5,7 @@ use Rattle.std.proofs.lemmas.Bool.{cases_Bool, cases_lt, ltb-true, lt-ltb}
 use Rattle.log_layout.specs.declared.log_format.LogFormat.{LogFormat}
 use Rattle.redo_log.specs.Value.{LogValue, HasRoom, IsRetireStepped, behind_oldest, of_oldest, home_of_oldest, turn_calls, turns_calls}
 use Rattle.redo_log.specs.Value.{next_calls, steps_of}
-use Rattle.blocks.specs.Retiring.{oldest_retired, room_calls, finish_from, finish_calls}
+use Rattle.blocks.specs.Retiring.{oldest_retired, room_calls, ready_calls, finish_from, finish_calls}
 use Rattle.blocks.proofs.Room.{OneAtMost}
 
 -- the calls of the steps that are left are those of the next one and of the others
@@ -107,18 +107,20 @@ costs_room old new before after stays quiet room so_far = ⊎_elim
 
 -- ---- the calls of one batch
 
-pub finish_under_way : (numbers : List ℕ) (log : LogValue) → 0 < log.steps_left → finish_calls numbers log ≡ log.steps_left
-finish_under_way numbers log = from log.steps_left
+pub finish_under_way : (ahead : Bool) (numbers : List ℕ) (log : LogValue) → 0 < log.steps_left
+    → finish_calls ahead numbers log ≡ log.steps_left
+finish_under_way ahead numbers log = from log.steps_left
   where
-    from : (steps : ℕ) → 0 < steps → finish_from steps numbers log ≡ steps
+    from : (steps : ℕ) → 0 < steps → finish_from ahead steps numbers log ≡ steps
     from zero some = absurd (omega (arith, some))
     from (suc steps) some = refl
 
-pub finish_none : (numbers : List ℕ) (log : LogValue) → log.steps_left ≡ 0 → numbers ≡ [] → finish_calls numbers log ≡ 0
-finish_none numbers log idle none =
-    ap (λ (n : ℕ). finish_from n numbers log) idle ∙ ap (λ (ns : List ℕ). finish_from 0 ns log) none
+pub finish_none : (ahead : Bool) (numbers : List ℕ) (log : LogValue) → log.steps_left ≡ 0 → numbers ≡ []
+    → finish_calls ahead numbers log ≡ 0
+finish_none ahead numbers log idle none =
+    ap (λ (n : ℕ). finish_from ahead n numbers log) idle ∙ ap (λ (ns : List ℕ). finish_from ahead 0 ns log) none
 
-pub finish_begun : (numbers : List ℕ) (log : LogValue) → log.steps_left ≡ 0 → 0 < length numbers
-    → finish_calls numbers log ≡ room_calls log + steps_of log.shape.format numbers
-finish_begun [] log idle some = absurd (omega (arith, some))
-finish_begun (n ∷ numbers) log idle some = ap (λ (s : ℕ). finish_from s (n ∷ numbers) log) idle
+pub finish_begun : (ahead : Bool) (numbers : List ℕ) (log : LogValue) → log.steps_left ≡ 0 → 0 < length numbers
+    → finish_calls ahead numbers log ≡ ready_calls ahead log + steps_of log.shape.format numbers
+finish_begun ahead [] log idle some = absurd (omega (arith, some))
+finish_begun ahead (n ∷ numbers) log idle some = ap (λ (s : ℕ). finish_from ahead s (n ∷ numbers) log) idle

@@ -10,6 +10,7 @@ pub mod Looking
 pub mod Opening
 pub mod Paying
 pub mod Reading
+pub mod Ready
 pub mod Retired
 pub mod Room
 pub mod Sending

@@ -4,7 +4,7 @@ use Rattle.std.proofs.lemmas.Bool.{cases_lt}
 use Rattle.std.specs.Prelude.{ℕ, suc, zero, List, ◌∷◌, length, nat_lt, Bool, true, false, if◌then◌else◌}
 use Rattle.std.proofs.Common.{refl, sym, subst}
 use Rattle.std.proofs.lemmas.Bool.{cases_Bool, ltb-true, lt-ltb}
-use Rattle.redo_log.specs.Value.{LogValue, HasRoom, IsStepped, IsRetireStepped, begun, behind_oldest}
+use Rattle.redo_log.specs.Value.{LogValue, HasRoom, IsStepped, IsRetireStepped, behind_oldest}
 use Rattle.redo_log.specs.declared.progress.Progress.{Progress}
 use Rattle.redo_log.specs.declared.progress.Progress.TheVariants.{More, Durable}
 use Rattle.blocks.specs.Retiring.{oldest_retired, with_room, written_out, finished_from, finished}
@@ -109,23 +109,19 @@ writes_last old mid new Durable stepped none same = stepped.1 ∙ ap (λ (l : Lo
 -- ---- a batch is durable
 
 -- its record was under way
-pub finishes_under_way : (numbers : List ℕ) (log : LogValue) → 0 < log.steps_left → written_out log ≡ finished numbers log
-finishes_under_way numbers log some = from log.steps_left some
+pub finishes_under_way : (ahead : Bool) (numbers : List ℕ) (log : LogValue) → 0 < log.steps_left
+    → written_out log ≡ finished ahead numbers log
+finishes_under_way ahead numbers log some = from log.steps_left some
   where
-    from : (steps : ℕ) → 0 < steps → written_out log ≡ finished_from steps numbers log
+    from : (steps : ℕ) → 0 < steps → written_out log ≡ finished_from ahead steps numbers log
     from zero some = absurd (omega (arith, some))
     from (suc steps) some = refl
 
 -- it is empty
-pub finishes_none : (numbers : List ℕ) (log : LogValue) → log.steps_left ≡ 0 → numbers ≡ [] → log ≡ finished numbers log
-finishes_none numbers log idle none =
-    ap (λ (steps : ℕ). finished_from steps [] log) (sym idle) ∙ ap (λ (ns : List ℕ). finished ns log) (sym none)
-
--- its record was begun
-pub finishes_begun : (numbers : List ℕ) (log : LogValue) → log.steps_left ≡ 0 → 0 < length numbers
-    → written_out (begun numbers (with_room log)) ≡ finished numbers log
-finishes_begun [] log idle some = absurd (omega (arith, some))
-finishes_begun (n ∷ numbers) log idle some = ap (λ (steps : ℕ). finished_from steps (n ∷ numbers) log) (sym idle)
+pub finishes_none : (ahead : Bool) (numbers : List ℕ) (log : LogValue) → log.steps_left ≡ 0 → numbers ≡ []
+    → log ≡ finished ahead numbers log
+finishes_none ahead numbers log idle none =
+    ap (λ (steps : ℕ). finished_from ahead steps [] log) (sym idle) ∙ ap (λ (ns : List ℕ). finished ahead ns log) (sym none)
 
 -- a list that is not empty has a number
 pub some_listed : (numbers : List ℕ) → (numbers ≡ [] → ⊥) → 0 < length numbers

@@ -6,7 +6,7 @@ use Rattle.medium.specs.Sent.{SendsUpTo}
 use Rattle.cache.specs.Blocks.{is_listed}
 pub use Rattle.log_image.specs.Copies.{copy_reads_of}
 use Rattle.redo_log.specs.Value.{LogValue}
-use Rattle.blocks.specs.Retiring.{finished, finish_calls}
+use Rattle.blocks.specs.Retiring.{finished, finish_calls, IsLog}
 use Rattle.blocks.specs.StoreValue.{Cached, layout_of, FitsBeside, TakesRange, transfer_limit}
 use Rattle.blocks.specs.StoreValue.{active_of, batch_steps, steps_left}
 
@@ -48,29 +48,29 @@ pub record CostsReads {A E : Type 0} (result : Result A E) (most count : ℕ) (b
 -- A good write whose range fits beside the active batch changes that batch alone. After any other
 -- the frozen batch is what the active one was, and the log is that with the batch before it
 -- durable: nothing else is written, or retired but for room.
-pub record TurnsBatches (old new : Cached) (address count : ℕ) : Type 0 where
+pub record TurnsBatches (ahead : Bool) (old new : Cached) (address count : ℕ) : Type 0 where
   pub beside : FitsBeside (transfer_limit old) old.active.numbers address count
       → (new.frozen ≡ old.frozen) × (new.log ≡ old.log)
   pub alone : ¬ FitsBeside (transfer_limit old) old.active.numbers address count
-      → (new.frozen ≡ old.active) × (new.log ≡ finished old.frozen.numbers old.log)
+      → (new.frozen ≡ old.active) × IsLog ahead (finished ahead old.frozen.numbers old.log) new.log
 
 -- What a good write of so many blocks from this address on costs. One batch more is to become a
 -- record. Where the range does not fit beside the active batch, it makes the calls that make the
 -- frozen one durable, and no other.
-pub record CostsWrite {A E : Type 0} (result : Result A E) (address count : ℕ)
+pub record CostsWrite {A E : Type 0} (ahead : Bool) (result : Result A E) (address count : ℕ)
     (before after : State) (old new : Cached) : Type 0 where
   pub paid : OnOk result (after.calls + 2 * steps_left new
       ≤ before.calls + 2 * steps_left old + 2 * batch_steps old)
   pub alone : ¬ FitsBeside (transfer_limit old) (active_of old) address count
-      → OnOk result (after.calls ≡ before.calls + finish_calls old.frozen.numbers old.log)
+      → OnOk result (after.calls ≡ before.calls + finish_calls ahead old.frozen.numbers old.log)
 
 -- where a write of so many blocks from this address on is good: the batch that takes it, and the
 -- batches before that
-pub record WritesRange {A E : Type 0} (result : Result A E) (address count : ℕ) (old new : Cached)
-    : Type 0 where
+pub record WritesRange {A E : Type 0} (ahead : Bool) (result : Result A E) (address count : ℕ)
+    (old new : Cached) : Type 0 where
   pub active : OnOk result
       (TakesRange (transfer_limit old) (active_of old) address count (active_of new))
-  pub batches : OnOk result (TurnsBatches old new address count)
+  pub batches : OnOk result (TurnsBatches ahead old new address count)
 
 -- The active batch takes the range, for which one more is to become a record at most. The log and
 -- the frozen batch stay.

@@ -1,14 +1,15 @@
 -- What is durable after a call of a store that writes its batches out, and which records it retires
 -- for that.
-use Rattle.std.specs.Prelude.{◌≡◌, ◌+◌, ◌≤◌, ◌<◌, [], length, Result, OnOk}
+use Rattle.std.specs.Prelude.{◌≡◌, ◌+◌, ◌≤◌, ◌<◌, [], length, Bool, Result, OnOk}
 use Rattle.medium.specs.Medium.{State}
 use Rattle.redo_log.specs.Value.{HasRoom}
 use Rattle.blocks.specs.declared.fault.StoreFault.{StoreFault}
 use Rattle.blocks.specs.StoreValue.{Cached, StoreValue, active_of, unwritten, wants}
 use Rattle.blocks.specs.StoreValue.{steps_left}
 use Rattle.blocks.specs.Passing.{MayEmpty}
-use Rattle.blocks.specs.Retiring.{RetiresForRoom, finished, with_room, written_out}
-use Rattle.blocks.specs.Retiring.{HasSlots, to_begin, record_calls, calls_from, both_calls}
+use Rattle.blocks.specs.Retiring.{RetiresForRoom, finished, made_ready, written_out, IsLog, IsRoomy}
+use Rattle.blocks.specs.Retiring.{HasSlots, with_spare, to_begin, record_calls, calls_from}
+use Rattle.blocks.specs.Retiring.{both_calls}
 
 -- what a call of a store answers that gives nothing
 abbrev pub Answer : Type 0
@@ -24,12 +25,13 @@ pub record WritesOut (result : Answer) (old new : Cached) : Type 0 where
   pub active : new.active ≡ old.active
 
 -- Where Ok the log has room: nothing is retired for it but the oldest record, and that only where
--- there was none. Both batches stay.
-pub record MakesRoom {M : Type 0} (result : Answer) (old new : StoreValue M) : Type 0 where
-  pub retires : RetiresForRoom old.cached.log new.cached.log
+-- there was none, or where the store goes ahead. Both batches stay.
+pub record MakesRoom {M : Type 0} (ahead : Bool) (result : Answer) (old new : StoreValue M)
+    : Type 0 where
+  pub retires : RetiresForRoom ahead old.cached.log new.cached.log
   pub room : OnOk result (HasRoom new.cached.log)
-  pub made : OnOk result (new.cached.log ≡ with_room old.cached.log)
-  pub quiet : HasRoom old.cached.log → new.medium ≡ old.medium
+  pub made : OnOk result (IsLog ahead (made_ready ahead old.cached.log) new.cached.log)
+  pub quiet : IsRoomy ahead old.cached.log → new.medium ≡ old.medium
   pub active : new.cached.active ≡ old.cached.active
   pub frozen : new.cached.frozen ≡ old.cached.frozen
 
@@ -40,18 +42,20 @@ pub record FinishesFrozen {M : Type 0} (result : Answer) (old new : StoreValue M
   pub rests : old.cached.frozen.numbers ≡ [] → new ≡ old
   pub waits : 0 < length old.cached.frozen.numbers
       → OnOk result (0 < new.cached.log.retire_steps_left)
-  pub finishes : OnOk result
-      (new.cached.log ≡ finished old.cached.frozen.numbers old.cached.log)
-  pub retires : RetiresForRoom old.cached.log new.cached.log
+  pub finishes : OnOk result (IsLog old.goes_ahead
+      (finished old.goes_ahead old.cached.frozen.numbers old.cached.log) new.cached.log)
+  pub retires : RetiresForRoom old.goes_ahead old.cached.log new.cached.log
   pub active : new.cached.active ≡ old.cached.active
 
 -- How many calls a good sync makes: those that make one batch durable, and then the other, and no
--- other. Where a slot is free for each record that is to be begun, they are those that write the
--- records.
-pub record CostsSync (result : Answer) (before after : State) (old : Cached) : Type 0 where
+-- other. Where a slot is free for each record that is to be begun, and two besides where the store
+-- goes ahead, they are those that write the records.
+pub record CostsSync (ahead : Bool) (result : Answer) (before after : State) (old : Cached)
+    : Type 0 where
   pub exactly : OnOk result (after.calls
-      ≡ before.calls + both_calls old.frozen.numbers old.active.numbers old.log)
-  pub roomy : HasSlots (to_begin old.frozen.numbers old.log + wants old.active.numbers) old.log
+      ≡ before.calls + both_calls ahead old.frozen.numbers old.active.numbers old.log)
+  pub roomy : HasSlots (with_spare ahead
+      (to_begin old.frozen.numbers old.log + wants old.active.numbers)) old.log
       → OnOk result (after.calls ≡ before.calls + record_calls old.frozen.numbers old.log
       + calls_from 0 old.log.shape.format old.active.numbers)
 
@@ -62,8 +66,9 @@ pub record FinishesBoth {M : Type 0} (result : Answer) (old new : StoreValue M) 
   pub rests : unwritten old.cached ≡ 0 → new.medium ≡ old.medium
   pub waits : 0 < unwritten old.cached → OnOk result (0 < steps_left new.cached)
   -- Where Ok: the record of each batch is written, and nothing is retired but the oldest record
-  -- before one that finds no slot free.
-  pub finishes : OnOk result (new.cached.log ≡ finished old.cached.active.numbers
-      (finished old.cached.frozen.numbers old.cached.log))
+  -- before one that finds no slot free, or, where the store goes ahead, what that makes of the log.
+  pub finishes : OnOk result (IsLog old.goes_ahead (finished old.goes_ahead
+      old.cached.active.numbers
+      (finished old.goes_ahead old.cached.frozen.numbers old.cached.log)) new.cached.log)
   -- no record is retired but one for each batch, where the ring is full
   pub retires : new.cached.log.head ≤ old.cached.log.head + 2

@@ -1,22 +1,43 @@
 -- Which records a call of a store writes to the log, and which it retires: none but what room asks
 -- for.
 use Rattle.std.specs.Prelude.{◌≡◌, ◌+◌, ◌-◌, ◌≤◌, ℕ, zero, suc, List, [], ◌∷◌, ◌++◌, nat_lt}
-use Rattle.std.specs.Prelude.{if◌then◌else◌}
+use Rattle.std.specs.Prelude.{Bool, true, false, if◌then◌else◌}
 use Rattle.log_layout.specs.declared.log_format.LogFormat.{LogFormat}
 use Rattle.redo_log.specs.Value.{LogValue, HasRoom, begun, steps_of}
 use Rattle.redo_log.specs.Value.{of_oldest, home_of_oldest, turns_calls}
 pub use Rattle.blocks.specs.Ahead.{oldest_retired}
+use Rattle.blocks.specs.Ahead.{ahead_room, ahead_room_calls, IsBut}
 use Rattle.blocks.specs.StoreValue.{wants, waiting}
 
--- Room is made for one record: none is retired where the log has room, and else one at most.
-pub record RetiresForRoom (old new : LogValue) : Type 0 where
+-- so many slots are free
+abbrev pub HasSlots : ℕ → LogValue → Type 0
+HasSlots count log = (log.next - log.head) + count ≤ log.shape.slots
+
+-- the log has room for one record, and where the store goes ahead two slots besides
+abbrev pub IsRoomy : Bool → LogValue → Type 0
+IsRoomy false log = HasRoom log
+IsRoomy true log = HasRoom log × HasSlots 3 log
+
+-- Room is made for one record: none is retired where the log has room, and else one at most. Where
+-- the store goes ahead one may be passed as long as fewer slots are free than three.
+pub record RetiresForRoom (ahead : Bool) (old new : LogValue) : Type 0 where
   pub one : new.head ≤ old.head + 1
-  pub roomy : HasRoom old → new.head ≡ old.head
+  pub roomy : IsRoomy ahead old → new.head ≡ old.head
 
 -- room for one more record: the oldest alone is retired, and only where no slot is free
 abbrev pub with_room : LogValue → LogValue
 with_room log =
     if nat_lt (log.next - log.head) log.shape.slots then log else oldest_retired log
+
+-- the same, as the store makes it that goes ahead or does not
+abbrev pub made_ready : Bool → LogValue → LogValue
+made_ready false log = with_room log
+made_ready true log = ahead_room log
+
+-- the log is this one, and where the store goes ahead, but for the descriptor that is kept
+abbrev pub IsLog : Bool → LogValue → LogValue → Type 0
+IsLog false is log = log ≡ is
+IsLog true is log = IsBut is log
 
 -- the record under way is durable
 abbrev pub written_out : LogValue → LogValue
@@ -27,15 +48,16 @@ written_out log = record log {
 }
 
 -- where so many steps are left of the record of a batch
-abbrev pub finished_from : ℕ → List ℕ → LogValue → LogValue
-finished_from (suc steps) numbers log = written_out log
-finished_from zero [] log = log
-finished_from zero (n ∷ numbers) log = written_out (begun (n ∷ numbers) (with_room log))
+abbrev pub finished_from : Bool → ℕ → List ℕ → LogValue → LogValue
+finished_from ahead (suc steps) numbers log = written_out log
+finished_from ahead zero [] log = log
+finished_from ahead zero (n ∷ numbers) log =
+    written_out (begun (n ∷ numbers) (made_ready ahead log))
 
 -- The batch of these blocks is durable: its record is written, or, where that is under way already,
 -- goes on. An empty batch has none.
-abbrev pub finished : List ℕ → LogValue → LogValue
-finished numbers log = finished_from log.steps_left numbers log
+abbrev pub finished : Bool → List ℕ → LogValue → LogValue
+finished ahead numbers log = finished_from ahead log.steps_left numbers log
 
 -- how many calls write the record of a batch, of whose record so many are left
 abbrev pub calls_from : ℕ → LogFormat → List ℕ → ℕ
@@ -54,25 +76,33 @@ abbrev pub room_calls : LogValue → ℕ
 room_calls log = if nat_lt (log.next - log.head) log.shape.slots then 0
     else turns_calls log.shape.format (home_of_oldest log) (of_oldest log)
 
+-- the same, as the store makes it that goes ahead or does not
+abbrev pub ready_calls : Bool → LogValue → ℕ
+ready_calls false log = room_calls log
+ready_calls true log = ahead_room_calls log
+
 -- so many calls make a batch durable, of whose record so many are left: those, or those for room
 -- and for its own record
-abbrev pub finish_from : ℕ → List ℕ → LogValue → ℕ
-finish_from (suc steps) numbers log = suc steps
-finish_from zero [] log = 0
-finish_from zero (n ∷ numbers) log = room_calls log + steps_of log.shape.format (n ∷ numbers)
+abbrev pub finish_from : Bool → ℕ → List ℕ → LogValue → ℕ
+finish_from ahead (suc steps) numbers log = suc steps
+finish_from ahead zero [] log = 0
+finish_from ahead zero (n ∷ numbers) log =
+    ready_calls ahead log + steps_of log.shape.format (n ∷ numbers)
 
 -- how many calls it takes to make the batch of these blocks durable, whether or not a slot is free
-abbrev pub finish_calls : List ℕ → LogValue → ℕ
-finish_calls numbers log = finish_from log.steps_left numbers log
+abbrev pub finish_calls : Bool → List ℕ → LogValue → ℕ
+finish_calls ahead numbers log = finish_from ahead log.steps_left numbers log
 
 -- how many for this batch, and then for another one
-abbrev pub both_calls : List ℕ → List ℕ → LogValue → ℕ
-both_calls frozen active log = finish_calls frozen log + finish_calls active (finished frozen log)
+abbrev pub both_calls : Bool → List ℕ → List ℕ → LogValue → ℕ
+both_calls ahead frozen active log =
+    finish_calls ahead frozen log + finish_calls ahead active (finished ahead frozen log)
 
 -- how many records are to be begun of a batch: none where that is under way, or empty
 abbrev pub to_begin : List ℕ → LogValue → ℕ
 to_begin numbers log = waiting log.steps_left (wants numbers)
 
--- so many slots are free
-abbrev pub HasSlots : ℕ → LogValue → Type 0
-HasSlots count log = (log.next - log.head) + count ≤ log.shape.slots
+-- so many slots, and two besides where the store goes ahead
+abbrev pub with_spare : Bool → ℕ → ℕ
+with_spare false count = count
+with_spare true count = count + 2

@@ -6,7 +6,7 @@ ghost use Rattle.blocks.specs.StoreValue.{layout_of, is_dead, FitsBook};
 ghost use Rattle.blocks.specs.Sent.{batch_sends};
 ghost use Rattle.blocks.specs.Passing.{PassesPaid, TellsLife, Answers};
 ghost use Rattle.blocks.specs.Finishing.{WritesOut, MakesRoom, FinishesFrozen, FinishesBoth, CostsSync};
-ghost use Rattle.blocks.specs.Retiring.{record_calls, room_calls, finish_calls, to_begin, HasSlots};
+ghost use Rattle.blocks.specs.Retiring.{room_calls, ready_calls, finish_calls};
 
 use crate::{Store, StoreFault};
 use medium::Medium;
@@ -27,8 +27,8 @@ impl<M: Medium> Store<M> {
         ensures answers { Answers result self.old self.new }
         ensures batches { FinishesBoth result self.old self.new }
         // It makes the calls that write the records and that retire for their room, and no other.
-        ensures cost { CostsSync result (M.state self.old.medium) (M.state self.new.medium)
-            self.old.cached }
+        ensures cost { CostsSync self.old.goes_ahead result (M.state self.old.medium)
+            (M.state self.new.medium) self.old.cached }
     {
         self.finish()?;
         self.freeze();
@@ -41,13 +41,10 @@ impl<M: Medium> Store<M> {
             (batch_sends self.old.cached) self.old self.new }
         ensures answers { Answers result self.old self.new }
         ensures batch { FinishesFrozen result self.old self.new }
-        ensures exactly { HasSlots (to_begin self.old.cached.frozen.numbers self.old.cached.log)
-            self.old.cached.log
-            → OnOk result ((M.state self.new.medium).calls ≡ (M.state self.old.medium).calls
-            + record_calls self.old.cached.frozen.numbers self.old.cached.log) }
         ensures cost { OnOk result ((M.state self.new.medium).calls
             ≡ (M.state self.old.medium).calls
-            + finish_calls self.old.cached.frozen.numbers self.old.cached.log) }
+            + finish_calls self.old.goes_ahead self.old.cached.frozen.numbers
+            self.old.cached.log) }
     {
         if self.is_dead() {
             return Err(StoreFault::Dead);
@@ -58,7 +55,7 @@ impl<M: Medium> Store<M> {
         if self.frozen.is_empty() {
             return Ok(());
         }
-        self.make_room()?;
+        self.make_ready()?;
         self.begin()?;
         self.write_out()
     }
@@ -78,6 +75,27 @@ impl<M: Medium> Store<M> {
         Ok(())
     }
 
+    // Makes room for one more record: where the store goes ahead and a slot is free, as that does.
+    fn make_ready(&mut self) -> Result<(), StoreFault>
+        requires live { is_dead self.old.cached ≡ false }
+        requires idle { self.old.cached.log.steps_left ≡ 0 }
+        ensures passes { PassesPaid M.state M.follows
+            (most_retire_sends (layout_of self.old.cached).format) self.old self.new }
+        ensures answer { TellsLife result self.new.cached }
+        ensures room { MakesRoom self.old.goes_ahead result self.old self.new }
+        ensures cost { OnOk result ((M.state self.new.medium).calls
+            ≡ (M.state self.old.medium).calls
+            + ready_calls self.old.goes_ahead self.old.cached.log) }
+    {
+        if !self.goes_ahead {
+            return self.make_room();
+        }
+        if self.log.has_room() {
+            return self.go_ahead();
+        }
+        self.make_room()
+    }
+
     // Retires records until the log has room.
     fn make_room(&mut self) -> Result<(), StoreFault>
         requires live { is_dead self.old.cached ≡ false }
@@ -85,7 +103,7 @@ impl<M: Medium> Store<M> {
         ensures passes { PassesPaid M.state M.follows
             (most_retire_sends (layout_of self.old.cached).format) self.old self.new }
         ensures answer { TellsLife result self.new.cached }
-        ensures room { MakesRoom result self.old self.new }
+        ensures room { MakesRoom false result self.old self.new }
         ensures cost { OnOk result ((M.state self.new.medium).calls
             ≡ (M.state self.old.medium).calls + room_calls self.old.cached.log) }
     {

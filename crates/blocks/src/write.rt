@@ -31,14 +31,14 @@ impl<M: Medium> Store<M> {
             (is_ok result)) (2 * steps_left self.old.cached) (batch_sends self.old.cached)
             self.old self.new }
         ensures answers { Answers result self.old self.new }
-        ensures batches { WritesRange result address (length bytes.now / 512)
+        ensures batches { WritesRange self.old.goes_ahead result address (length bytes.now / 512)
             self.old.cached self.new.cached }
         ensures quiet { FitsBeside (transfer_limit self.old.cached) (active_of self.old.cached)
             address (length bytes.now / 512)
             → (self.new.medium ≡ self.old.medium)
             × (is_dead self.old.cached ≡ false → IsOk result) }
         // One that does not fit makes the calls for the batch before it, and no other.
-        ensures cost { CostsWrite result address (length bytes.now / 512)
+        ensures cost { CostsWrite self.old.goes_ahead result address (length bytes.now / 512)
             (M.state self.old.medium) (M.state self.new.medium) self.old.cached self.new.cached }
     {
         if self.is_dead() {

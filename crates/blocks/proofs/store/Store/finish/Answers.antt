@@ -3,13 +3,13 @@ use Rattle.std.proofs.lemmas.Bool.{false≢true}
 use Rattle.std.proofs.lemmas.Result.{on_ok_weaker}
 use Rattle.cache.specs.Entries.{Entries}
 use Rattle.medium.specs.Sent.{sent}
-use Rattle.redo_log.specs.Value.{LogValue, HasRoom, begun, steps_of, most_steps}
+use Rattle.redo_log.specs.Value.{LogValue, begun, steps_of, most_steps}
 use Rattle.redo_log.proofs.Counting.{few_steps_for}
 use Rattle.log_layout.specs.Places.{Shape, limit_of}
-use Rattle.blocks.specs.Retiring.{written_out}
-use Rattle.blocks.proofs.Room.{some_listed, finishes_under_way, finishes_none, finishes_begun}
+use Rattle.blocks.specs.Retiring.{written_out, finished}
+use Rattle.blocks.proofs.Room.{some_listed, finishes_under_way, finishes_none}
+use Rattle.blocks.proofs.Ready.{is_log, made_finished}
 use Rattle.blocks.specs.StoreValue.{is_dead}
-use Rattle.blocks.proofs.Writing.{calls_under_way, calls_none, calls_begun, slot_free, with_room_is}
 use Rattle.blocks.proofs.Costing.{finish_under_way, finish_none, finish_begun}
 use Rattle.blocks.proofs.Turning.{turns, stays}
 use Rattle.blocks.proofs.Looking.{none, looks_on}
@@ -40,8 +40,10 @@ returns-then-self-clause-batch g c = record {
       let some = c.self.invariant.writes (rw (← c.self.view_is) at live) c.if-self.true in
       let log_is : c.self.inside.log ≡ c.args.self.now.cached.log = ap (λ v. v.cached.log) c.self.view_is in
       let old = c.args.self.now.cached in
-      let finishing = finishes_under_way old.frozen.numbers old.log (subst (λ (log : LogValue). 0 < log.steps_left) log_is some) in
-      on_ok_weaker c.write_out.result (λ written. written ∙ finishing) c.write_out.ensures.batch.written;
+      let ahead = c.args.self.now.goes_ahead in
+      let finishing = finishes_under_way ahead old.frozen.numbers old.log (subst (λ (log : LogValue). 0 < log.steps_left) log_is some) in
+      on_ok_weaker c.write_out.result (λ written. is_log ahead (finished ahead old.frozen.numbers old.log)
+      c.write_out.new.self.cached.log (written ∙ finishing)) c.write_out.ensures.batch.written;
   retires = search rules;
   active = search rules;
 }
@@ -63,33 +65,33 @@ returns-clause-passes g c = record {
   policy = search rules;
   turn =
       let written = turns _ _ _ _ _ _ c.begin.ensures.keeps.turn c.write_out-2.ensures.passes.turn in
-      turns _ _ _ _ _ _ c.make_room.ensures.passes.turn written;
+      turns _ _ _ _ _ _ c.make_ready.ensures.passes.turn written;
   paid = search rules;
   sent =
       let old = c.args.self.now.cached in
-      let mid = c.make_room.new.self.cached in
+      let mid = c.make_ready.new.self.cached in
       let frozen_is : c.self.inside.frozen ≡ old.frozen = ap (λ v. v.cached.frozen) c.self.view_is in
       let log_is : c.self.inside.log ≡ old.log = ap (λ v. v.cached.log) c.self.view_is in
       let begun_is = (c.begin.ensures.begins.live c.in_ok-begin.ensures.answer).1
-      ∙ ap (λ (batch : Entries). begun batch.numbers mid.log) c.make_room.ensures.room.frozen in
+      ∙ ap (λ (batch : Entries). begun batch.numbers mid.log) c.make_ready.ensures.room.frozen in
       let steps = ap (λ (log : LogValue). log.steps_left) begun_is
-      ∙ ap (λ (shape : Shape). steps_of shape.format old.frozen.numbers) c.make_room.ensures.passes.turn.goes_on.layout_stays in
+      ∙ ap (λ (shape : Shape). steps_of shape.format old.frozen.numbers) c.make_ready.ensures.passes.turn.goes_on.layout_stays in
       let long = ap (λ (batch : Entries). length batch.numbers) frozen_is in
       let format = ap (λ (log : LogValue). limit_of log.shape.format) log_is in
       let few = few_steps_for old.log.shape.format (length old.frozen.numbers)
       (omega (arith, c.self.invariant.frozen.well_formed.within, c.self.invariant.frozen.room, long, format)) in
       let quiet = ap (λ m. sent (g.M.Medium.state m)) c.begin.ensures.keeps.medium in
-      omega (arith, c.make_room.ensures.passes.sent, c.write_out-2.ensures.passes.sent, steps, few, quiet);
+      omega (arith, c.make_ready.ensures.passes.sent, c.write_out-2.ensures.passes.sent, steps, few, quiet);
   none_refused = search rules;
   follows = search rules;
   looks =
-      let mid = g.M.Medium.state c.make_room.new.self.medium in
+      let mid = g.M.Medium.state c.make_ready.new.self.medium in
       let begun = g.M.Medium.state c.begin.new.self.medium in
       let after = g.M.Medium.state c.write_out-2.new.self.medium in
-      looks_on (g.M.Medium.state c.args.self.now.medium) mid after c.args.self.now.cached c.make_room.new.self.cached
-      c.make_room.ensures.passes.turn.goes_on.layout_stays c.make_room.ensures.passes.looks
-      (looks_on mid begun after c.make_room.new.self.cached c.begin.new.self.cached c.begin.ensures.keeps.turn.goes_on.layout_stays
-      (none mid begun c.make_room.new.self.cached (ap (λ m. (g.M.Medium.state m).looked) c.begin.ensures.keeps.medium))
+      looks_on (g.M.Medium.state c.args.self.now.medium) mid after c.args.self.now.cached c.make_ready.new.self.cached
+      c.make_ready.ensures.passes.turn.goes_on.layout_stays c.make_ready.ensures.passes.looks
+      (looks_on mid begun after c.make_ready.new.self.cached c.begin.new.self.cached c.begin.ensures.keeps.turn.goes_on.layout_stays
+      (none mid begun c.make_ready.new.self.cached (ap (λ m. (g.M.Medium.state m).looked) c.begin.ensures.keeps.medium))
       c.write_out-2.ensures.passes.looks);
 }
 
@@ -100,8 +102,15 @@ returns-then-is_empty-clause-batch g c = record {
   waits = search rules;
   finishes =
       let live : is_dead c.args.self.now.cached ≡ false = sym c.is_dead.ensures ∙ c.if-is_dead.false in
-      rw (← c.self.view_is) (finishes_none c.self.inside.frozen.numbers c.self.inside.log
-      (c.self.invariant.rests (rw (← c.self.view_is) at live) c.if-self.false) (c.is_empty.ensures.0 c.if-is_empty.true));
+      let ahead = c.args.self.now.goes_ahead in
+      let old = c.args.self.now.cached in
+      let log_is : c.self.inside.log ≡ old.log = ap (λ v. v.cached.log) c.self.view_is in
+      let frozen_is : c.self.inside.frozen ≡ old.frozen = ap (λ v. v.cached.frozen) c.self.view_is in
+      let idle : old.log.steps_left ≡ 0 = subst (λ (log : LogValue). log.steps_left ≡ 0) log_is
+      (c.self.invariant.rests (rw (← c.self.view_is) at live) c.if-self.false) in
+      let empty : old.frozen.numbers ≡ [] = subst (λ (batch : Entries). batch.numbers ≡ []) frozen_is
+      (c.is_empty.ensures.0 c.if-is_empty.true) in
+      is_log ahead (finished ahead old.frozen.numbers old.log) old.log (finishes_none ahead old.frozen.numbers old.log idle empty);
   retires = search rules;
   active = search rules;
 }
@@ -113,7 +122,7 @@ returns-clause-batch g c = record {
   waits = search rules;
   finishes =
       let old = c.args.self.now.cached in
-      let mid = c.make_room.new.self.cached in
+      let mid = c.make_ready.new.self.cached in
       let live : is_dead old ≡ false = sym c.is_dead.ensures ∙ c.if-is_dead.false in
       let log_is : c.self.inside.log ≡ old.log = ap (λ v. v.cached.log) c.self.view_is in
       let frozen_is : c.self.inside.frozen ≡ old.frozen = ap (λ v. v.cached.frozen) c.self.view_is in
@@ -122,10 +131,10 @@ returns-clause-batch g c = record {
       let some : 0 < length old.frozen.numbers = subst (λ (batch : Entries). 0 < length batch.numbers) frozen_is
       (some_listed c.self.inside.frozen.numbers (λ none. false≢true (sym c.if-is_empty.false ∙ c.is_empty.ensures.1 none))) in
       let begun_is = (c.begin.ensures.begins.live c.in_ok-begin.ensures.answer).1
-      ∙ ap (λ (batch : Entries). begun batch.numbers mid.log) c.make_room.ensures.room.frozen
-      ∙ ap (λ (log : LogValue). begun old.frozen.numbers log) c.in_ok-make_room.ensures.room.made in
+      ∙ ap (λ (batch : Entries). begun batch.numbers mid.log) c.make_ready.ensures.room.frozen in
       on_ok_weaker c.write_out-2.result
-      (λ written. written ∙ ap (λ (log : LogValue). written_out log) begun_is ∙ finishes_begun old.frozen.numbers old.log idle some)
+      (λ written. made_finished c.args.self.now.goes_ahead old.frozen.numbers old.log mid.log c.write_out-2.new.self.cached.log idle some
+      c.in_ok-make_ready.ensures.room.made (written ∙ ap (λ (log : LogValue). written_out log) begun_is))
       c.write_out-2.ensures.batch.written;
   retires = search rules;
   active = search rules;
@@ -134,62 +143,20 @@ returns-clause-batch g c = record {
 pub returns-in_err-begin-clause-passes : goal.returns-in_err-begin-clause-passes
 returns-in_err-begin-clause-passes g c = record {
   policy = search rules;
-  turn = turns _ _ _ _ _ _ c.make_room.ensures.passes.turn c.begin.ensures.keeps.turn;
+  turn = turns _ _ _ _ _ _ c.make_ready.ensures.passes.turn c.begin.ensures.keeps.turn;
   paid = search rules;
   sent =
       let quiet = ap (λ m. sent (g.M.Medium.state m)) c.begin.ensures.keeps.medium in
-      omega (arith, c.make_room.ensures.passes.sent, quiet);
+      omega (arith, c.make_ready.ensures.passes.sent, quiet);
   none_refused = search rules;
   follows = search rules;
   looks =
-      let mid = g.M.Medium.state c.make_room.new.self.medium in
+      let mid = g.M.Medium.state c.make_ready.new.self.medium in
       let after = g.M.Medium.state c.begin.new.self.medium in
-      looks_on (g.M.Medium.state c.args.self.now.medium) mid after c.args.self.now.cached c.make_room.new.self.cached
-      c.make_room.ensures.passes.turn.goes_on.layout_stays c.make_room.ensures.passes.looks
-      (none mid after c.make_room.new.self.cached (ap (λ m. (g.M.Medium.state m).looked) c.begin.ensures.keeps.medium));
+      looks_on (g.M.Medium.state c.args.self.now.medium) mid after c.args.self.now.cached c.make_ready.new.self.cached
+      c.make_ready.ensures.passes.turn.goes_on.layout_stays c.make_ready.ensures.passes.looks
+      (none mid after c.make_ready.new.self.cached (ap (λ m. (g.M.Medium.state m).looked) c.begin.ensures.keeps.medium));
 }
-
-pub returns-then-self-clause-exactly : goal.returns-then-self-clause-exactly
-returns-then-self-clause-exactly g c slots =
-    let old = c.args.self.now.cached in
-    let live : is_dead old ≡ false = sym c.is_dead.ensures ∙ c.if-is_dead.false in
-    let log_is : c.self.inside.log ≡ old.log = ap (λ v. v.cached.log) c.self.view_is in
-    let some =
-    subst (λ (log : LogValue). 0 < log.steps_left) log_is (c.self.invariant.writes (rw (← c.self.view_is) at live) c.if-self.true) in
-    let calls = calls_under_way old.log.steps_left old.log.shape.format old.frozen.numbers some in
-    on_ok_weaker c.write_out.result (λ all. omega (arith, all, calls)) c.write_out.ensures.exactly
-
-pub returns-then-is_empty-clause-exactly : goal.returns-then-is_empty-clause-exactly
-returns-then-is_empty-clause-exactly g c slots =
-    let live : is_dead c.args.self.now.cached ≡ false = sym c.is_dead.ensures ∙ c.if-is_dead.false in
-    let log = c.self.inside.log in
-    let none = calls_none log.steps_left log.shape.format c.self.inside.frozen.numbers
-    (c.self.invariant.rests (rw (← c.self.view_is) at live) c.if-self.false) (c.is_empty.ensures.0 c.if-is_empty.true) in
-    rw (← c.self.view_is) (omega (arith, none))
-
-pub returns-clause-exactly : goal.returns-clause-exactly
-returns-clause-exactly g c slots =
-    let old = c.args.self.now.cached in
-    let mid = c.make_room.new.self.cached in
-    let live : is_dead old ≡ false = sym c.is_dead.ensures ∙ c.if-is_dead.false in
-    let log_is : c.self.inside.log ≡ old.log = ap (λ v. v.cached.log) c.self.view_is in
-    let frozen_is : c.self.inside.frozen ≡ old.frozen = ap (λ v. v.cached.frozen) c.self.view_is in
-    let idle : old.log.steps_left ≡ 0 =
-    subst (λ (log : LogValue). log.steps_left ≡ 0) log_is (c.self.invariant.rests (rw (← c.self.view_is) at live) c.if-self.false) in
-    let none_under_way : old.log.under_way ≡ [] = subst (λ (log : LogValue). log.under_way ≡ []) log_is
-    (c.self.invariant.none_under_way (rw (← c.self.view_is) at live)
-    (c.self.invariant.rests (rw (← c.self.view_is) at live) c.if-self.false)) in
-    let some : 0 < length old.frozen.numbers = subst (λ (batch : Entries). 0 < length batch.numbers) frozen_is
-    (some_listed c.self.inside.frozen.numbers (λ none. false≢true (sym c.if-is_empty.false ∙ c.is_empty.ensures.1 none))) in
-    let free = slot_free old.frozen.numbers old.log idle some slots in
-    let room : HasRoom old.log = record { none_under_way = none_under_way; no_steps = idle; free = free } in
-    let begun_is = (c.begin.ensures.begins.live c.in_ok-begin.ensures.answer).1
-    ∙ ap (λ (batch : Entries). begun batch.numbers mid.log) c.make_room.ensures.room.frozen
-    ∙ ap (λ (log : LogValue). begun old.frozen.numbers log) (c.in_ok-make_room.ensures.room.made ∙ with_room_is old.log free) in
-    let steps = ap (λ (log : LogValue). log.steps_left) begun_is in
-    let calls = calls_begun old.log.steps_left old.log.shape.format old.frozen.numbers idle some in
-    let quiet = ap (λ m. (g.M.Medium.state m).calls) (c.begin.ensures.keeps.medium ∙ c.make_room.ensures.room.quiet room) in
-    on_ok_weaker c.write_out-2.result (λ all. omega (arith, all, steps, calls, quiet)) c.write_out-2.ensures.exactly
 
 pub returns-then-self-clause-cost : goal.returns-then-self-clause-cost
 returns-then-self-clause-cost g c =
@@ -198,20 +165,26 @@ returns-then-self-clause-cost g c =
     let log_is : c.self.inside.log ≡ old.log = ap (λ v. v.cached.log) c.self.view_is in
     let some =
     subst (λ (log : LogValue). 0 < log.steps_left) log_is (c.self.invariant.writes (rw (← c.self.view_is) at live) c.if-self.true) in
-    let calls = finish_under_way old.frozen.numbers old.log some in
+    let calls = finish_under_way c.args.self.now.goes_ahead old.frozen.numbers old.log some in
     on_ok_weaker c.write_out.result (λ all. omega (arith, all, calls)) c.write_out.ensures.exactly
 
 pub returns-then-is_empty-clause-cost : goal.returns-then-is_empty-clause-cost
 returns-then-is_empty-clause-cost g c =
-    let live : is_dead c.args.self.now.cached ≡ false = sym c.is_dead.ensures ∙ c.if-is_dead.false in
-    let none = finish_none c.self.inside.frozen.numbers c.self.inside.log
-    (c.self.invariant.rests (rw (← c.self.view_is) at live) c.if-self.false) (c.is_empty.ensures.0 c.if-is_empty.true) in
-    rw (← c.self.view_is) (omega (arith, none))
+    let old = c.args.self.now.cached in
+    let live : is_dead old ≡ false = sym c.is_dead.ensures ∙ c.if-is_dead.false in
+    let log_is : c.self.inside.log ≡ old.log = ap (λ v. v.cached.log) c.self.view_is in
+    let frozen_is : c.self.inside.frozen ≡ old.frozen = ap (λ v. v.cached.frozen) c.self.view_is in
+    let idle : old.log.steps_left ≡ 0 =
+    subst (λ (log : LogValue). log.steps_left ≡ 0) log_is (c.self.invariant.rests (rw (← c.self.view_is) at live) c.if-self.false) in
+    let empty : old.frozen.numbers ≡ [] =
+    subst (λ (batch : Entries). batch.numbers ≡ []) frozen_is (c.is_empty.ensures.0 c.if-is_empty.true) in
+    let none = finish_none c.args.self.now.goes_ahead old.frozen.numbers old.log idle empty in
+    omega (arith, none)
 
 pub returns-clause-cost : goal.returns-clause-cost
 returns-clause-cost g c =
     let old = c.args.self.now.cached in
-    let mid = c.make_room.new.self.cached in
+    let mid = c.make_ready.new.self.cached in
     let live : is_dead old ≡ false = sym c.is_dead.ensures ∙ c.if-is_dead.false in
     let log_is : c.self.inside.log ≡ old.log = ap (λ v. v.cached.log) c.self.view_is in
     let frozen_is : c.self.inside.frozen ≡ old.frozen = ap (λ v. v.cached.frozen) c.self.view_is in
@@ -220,12 +193,12 @@ returns-clause-cost g c =
     let some : 0 < length old.frozen.numbers = subst (λ (batch : Entries). 0 < length batch.numbers) frozen_is
     (some_listed c.self.inside.frozen.numbers (λ none. false≢true (sym c.if-is_empty.false ∙ c.is_empty.ensures.1 none))) in
     let begun_is = (c.begin.ensures.begins.live c.in_ok-begin.ensures.answer).1
-    ∙ ap (λ (batch : Entries). begun batch.numbers mid.log) c.make_room.ensures.room.frozen in
+    ∙ ap (λ (batch : Entries). begun batch.numbers mid.log) c.make_ready.ensures.room.frozen in
     let steps = ap (λ (log : LogValue). log.steps_left) begun_is
-    ∙ ap (λ (shape : Shape). steps_of shape.format old.frozen.numbers) c.make_room.ensures.passes.turn.goes_on.layout_stays in
-    let calls = finish_begun old.frozen.numbers old.log idle some in
+    ∙ ap (λ (shape : Shape). steps_of shape.format old.frozen.numbers) c.make_ready.ensures.passes.turn.goes_on.layout_stays in
+    let calls = finish_begun c.args.self.now.goes_ahead old.frozen.numbers old.log idle some in
     let quiet = ap (λ m. (g.M.Medium.state m).calls) c.begin.ensures.keeps.medium in
-    let room = c.in_ok-make_room.ensures.cost in
+    let room = c.in_ok-make_ready.ensures.cost in
     on_ok_weaker c.write_out-2.result (λ all. omega (arith, all, steps, calls, quiet, room)) c.write_out-2.ensures.exactly
 
 pub returns-in_err-begin-clause-batch : goal.returns-in_err-begin-clause-batch
@@ -236,7 +209,7 @@ returns-in_err-begin-clause-batch g c = record {
   finishes = search rules;
   retires =
       let head = c.begin.ensures.begins.head in
-      let before = c.make_room.ensures.room.retires in
+      let before = c.make_ready.ensures.room.retires in
       record { one = omega (arith, head, before.one); roomy = λ room. head ∙ before.roomy room };
   active = search rules;
 }
@@ -255,13 +228,13 @@ returns-then-self-clause-passes g c = record {
   looks = c.write_out.ensures.passes.looks;
 }
 
-pub returns-in_err-make_room-clause-passes : goal.returns-in_err-make_room-clause-passes
-returns-in_err-make_room-clause-passes g c = record {
+pub returns-in_err-make_ready-clause-passes : goal.returns-in_err-make_ready-clause-passes
+returns-in_err-make_ready-clause-passes g c = record {
   policy = search rules;
-  turn = c.make_room.ensures.passes.turn;
-  paid = c.make_room.ensures.passes.paid;
-  sent = omega (arith, c.make_room.ensures.passes.sent);
-  none_refused = c.make_room.ensures.passes.none_refused;
-  follows = c.make_room.ensures.passes.follows;
-  looks = c.make_room.ensures.passes.looks;
+  turn = c.make_ready.ensures.passes.turn;
+  paid = c.make_ready.ensures.passes.paid;
+  sent = omega (arith, c.make_ready.ensures.passes.sent);
+  none_refused = c.make_ready.ensures.passes.none_refused;
+  follows = c.make_ready.ensures.passes.follows;
+  looks = c.make_ready.ensures.passes.looks;
 }

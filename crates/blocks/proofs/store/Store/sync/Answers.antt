@@ -1,14 +1,15 @@
-use Rattle.std.proofs.Common.{◌≡◌, ◌∙◌, ℕ, ap, sym, subst, arith, [], rules}
+use Rattle.std.proofs.Common.{◌≡◌, ◌∙◌, Bool, ap, subst, arith, [], rules}
 use Rattle.std.proofs.lemmas.Result.{on_ok_weaker}
 use Rattle.cache.specs.Entries.{Entries}
 use Rattle.redo_log.specs.Value.{LogValue}
 use Rattle.log_layout.specs.Places.{Shape}
-use Rattle.blocks.specs.Retiring.{finished, finish_calls, calls_from, record_calls, to_begin, HasSlots}
+use Rattle.blocks.specs.Retiring.{finished, finish_calls, IsLog}
 use Rattle.medium.specs.Sent.{sent}
 use Rattle.blocks.specs.Sent.{most_sent}
-use Rattle.blocks.specs.StoreValue.{Cached, wants}
-use Rattle.blocks.proofs.Writing.{waits_idle, slots_after}
+use Rattle.blocks.specs.StoreValue.{Cached}
+use Rattle.blocks.proofs.Ready.{twice, calls_of, roomy_both}
 use Rattle.blocks.proofs.Fitting.{settles}
+use Rattle.blocks.proofs.Settling.{none_of}
 use Rattle.blocks.proofs.Turning.{turns}
 use Rattle.blocks.proofs.Looking.{none, looks_on}
 use Rattle.blocks.proofs.store.Store.sync.Goals as goal
@@ -49,15 +50,32 @@ returns-clause-ok g c book fits =
 pub returns-clause-batches : goal.returns-clause-batches
 returns-clause-batches g c = record {
   active = search rules;
-  rests = search rules;
+  rests = λ none.
+      let old = c.args.self.now.cached in
+      let no_frozen = none_of old.frozen.numbers (omega (arith, none)) in
+      let no_active = none_of old.active.numbers (omega (arith, none)) in
+      let empty : c.freeze.new.self.cached.frozen.numbers ≡ [] =
+      ap (λ (cached : Cached). cached.frozen.numbers) c.freeze.ensures.swapped
+      ∙ ap (λ (batch : Entries). batch.numbers) c.finish.ensures.batch.active
+      ∙ no_active in
+      ap (λ v. v.medium) (c.finish-2.ensures.batch.rests empty)
+      ∙ c.freeze.ensures.keeps.medium
+      ∙ ap (λ v. v.medium) (c.finish.ensures.batch.rests no_frozen);
   waits = search rules;
   finishes =
       let old = c.args.self.now.cached in
       let half = c.finish.new.self.cached in
-      let swapped = ap (λ (cached : Cached). finished cached.frozen.numbers cached.log) c.freeze.ensures.swapped in
-      let active = ap (λ (batch : Entries). finished batch.numbers half.log) c.finish.ensures.batch.active in
-      let first = ap (λ (log : LogValue). finished old.active.numbers log) c.in_ok-finish.ensures.batch.finishes in
-      on_ok_weaker c.finish-2.result (λ last. last ∙ swapped ∙ active ∙ first) c.finish-2.ensures.batch.finishes;
+      let last = c.finish-2.new.self.cached.log in
+      let ahead = c.args.self.now.goes_ahead in
+      let policy = c.freeze.ensures.keeps.policy ∙ c.finish.ensures.passes.policy in
+      let first = c.in_ok-finish.ensures.batch.finishes in
+      let is = ap (λ (cached : Cached). finished ahead cached.frozen.numbers cached.log) c.freeze.ensures.swapped
+      ∙ ap (λ (batch : Entries). finished ahead batch.numbers half.log) c.finish.ensures.batch.active in
+      on_ok_weaker c.finish-2.result
+      (λ done. twice ahead old.frozen.numbers old.active.numbers old.log half.log last first
+      (subst (λ (l : LogValue). IsLog ahead l last) is
+      (subst (λ (b : Bool). IsLog b (finished b c.freeze.new.self.cached.frozen.numbers c.freeze.new.self.cached.log) last) policy done)))
+      c.finish-2.ensures.batch.finishes;
   retires = search rules;
 }
 
@@ -65,42 +83,23 @@ pub returns-in_err-finish-clause-cost : goal.returns-in_err-finish-clause-cost
 returns-in_err-finish-clause-cost g c = record { exactly = search rules; roomy = λ slots. search rules }
 
 pub returns-clause-cost : goal.returns-clause-cost
-returns-clause-cost g c = record {
-  exactly =
-      let old = c.args.self.now.cached in
-      let half = c.finish.new.self.cached in
-      let first = c.in_ok-finish.ensures.batch.finishes in
-      let active = c.finish.ensures.batch.active in
-      let calls = ap (λ (cached : Cached). finish_calls cached.frozen.numbers cached.log) c.freeze.ensures.swapped
-      ∙ ap (λ (batch : Entries). finish_calls batch.numbers half.log) active
-      ∙ ap (λ (log : LogValue). finish_calls old.active.numbers log) first in
-      let quiet = ap (λ m. (g.M.Medium.state m).calls) c.freeze.ensures.keeps.medium in
-      let before = c.in_ok-finish.ensures.cost in
-      on_ok_weaker c.finish-2.result (λ all. omega (arith, all, calls, quiet, before)) c.finish-2.ensures.cost;
-  roomy = λ slots.
-      let old = c.args.self.now.cached in
-      let half = c.finish.new.self.cached in
-      let idle = c.in_ok-finish.ensures.batch.done.0 in
-      let first = c.in_ok-finish.ensures.batch.finishes in
-      let active = c.finish.ensures.batch.active in
-      let waits = waits_idle half.log.steps_left (wants old.active.numbers) idle in
-      let left : HasSlots (wants old.active.numbers) half.log =
-      subst (λ (log : LogValue). HasSlots (wants old.active.numbers) log) (sym first)
-      (slots_after old.frozen.numbers old.log (wants old.active.numbers) slots) in
-      let for_next : HasSlots (to_begin old.active.numbers half.log) half.log = omega (arith, left, waits) in
-      let of_half : HasSlots (to_begin half.active.numbers half.log) half.log =
-      subst (λ (batch : Entries). HasSlots (to_begin batch.numbers half.log) half.log) (sym active) for_next in
-      let of_swapped = subst (λ (cached : Cached). HasSlots (to_begin cached.frozen.numbers cached.log) cached.log)
-      (sym c.freeze.ensures.swapped) of_half in
-      let calls = ap (λ (cached : Cached). record_calls cached.frozen.numbers cached.log) c.freeze.ensures.swapped
-      ∙ ap (λ (batch : Entries). record_calls batch.numbers half.log) active
-      ∙ ap (λ (steps : ℕ). calls_from steps half.log.shape.format old.active.numbers) idle
-      ∙ ap (λ (shape : Shape). calls_from 0 shape.format old.active.numbers) c.finish.ensures.passes.turn.goes_on.layout_stays in
-      let quiet = ap (λ m. (g.M.Medium.state m).calls) c.freeze.ensures.keeps.medium in
-      let begin : HasSlots (to_begin old.frozen.numbers old.log) old.log = omega (arith, slots) in
-      let before = c.in_ok-finish.ensures.exactly begin in
-      on_ok_weaker c.finish-2.result (λ all. omega (arith, all, calls, quiet, before)) (c.finish-2.ensures.exactly of_swapped);
-}
+returns-clause-cost g c =
+    let old = c.args.self.now.cached in
+    let half = c.finish.new.self.cached in
+    let ahead = c.args.self.now.goes_ahead in
+    let policy = c.freeze.ensures.keeps.policy ∙ c.finish.ensures.passes.policy in
+    let calls = ap (λ (b : Bool). finish_calls b c.freeze.new.self.cached.frozen.numbers c.freeze.new.self.cached.log) policy
+    ∙ ap (λ (cached : Cached). finish_calls ahead cached.frozen.numbers cached.log) c.freeze.ensures.swapped
+    ∙ ap (λ (batch : Entries). finish_calls ahead batch.numbers half.log) c.finish.ensures.batch.active
+    ∙ calls_of ahead old.active.numbers (finished ahead old.frozen.numbers old.log) half.log c.in_ok-finish.ensures.batch.finishes in
+    let quiet = ap (λ m. (g.M.Medium.state m).calls) c.freeze.ensures.keeps.medium in
+    let before = c.in_ok-finish.ensures.cost in
+    record {
+      exactly = on_ok_weaker c.finish-2.result (λ all. omega (arith, all, calls, quiet, before)) c.finish-2.ensures.cost;
+      roomy = λ slots.
+          let records = roomy_both ahead old.frozen.numbers old.active.numbers old.log slots in
+          on_ok_weaker c.finish-2.result (λ all. omega (arith, all, calls, quiet, before, records)) c.finish-2.ensures.cost;
+    }
 
 pub returns-in_err-finish-clause-passes : goal.returns-in_err-finish-clause-passes
 returns-in_err-finish-clause-passes g c = record {
