@@ -2,6 +2,7 @@
 use Rattle.std.proofs.Common.{◌≡◌, inl, inr, ⊎_elim, ℕ, Bool, true, false, List, [], ◌∷◌, length, Some, None, Option, Result, Ok, Err}
 use Rattle.std.proofs.Common.{arith, refl, ap, sym, ◌∙◌, subst, length-append}
 use Rattle.std.proofs.lemmas.Result.{IfOk-at_ok, MatchResult-at_ok, MatchResult-at_err}
+use Rattle.std.proofs.lemmas.Bool.{false≢true}
 use Rattle.std.specs.Prelude.{◌&&◌, ◌||◌, ◌==◌, not, if◌then◌else◌, OnOk, MatchResult, is_ok}
 use Rattle.medium.specs.Medium.{State, IsSound}
 use Rattle.medium.specs.Moments.{LeavesOnly}
@@ -9,7 +10,8 @@ use Rattle.medium.specs.Blocks.{Write}
 use Rattle.medium.proofs.Moments.{weaker, joined_same}
 use Rattle.blocks.specs.Book.{Book, promised, with_write, StampsOut}
 use Rattle.blocks.specs.Finding.{MayFind, Found, FoundWith}
-use Rattle.blocks.specs.StoreValue.{Cached, StoreValue, FitsBook, is_dead}
+use Rattle.blocks.specs.Calls.{TurnsBatches}
+use Rattle.blocks.specs.StoreValue.{Cached, StoreValue, FitsBook, TakesRange, is_dead, active_of, transfer_limit}
 use Rattle.blocks.specs.Turns.{HasCause, IsTurn, IsWriteTurn}
 use Rattle.sense.specs.declared.codes.Sense.{Sense}
 use Rattle.sense.specs.Codes.{write_error}
@@ -20,7 +22,7 @@ use Rattle.cdb.specs.declared.command.BlockRange.{BlockRange}
 use Rattle.scsi_unit.specs.Rules.{UnitState, Effect, gives, clears, selected_by, made_durable, accepting, selects, moves_blocks, write_by}
 use Rattle.scsi_unit.specs.Rules.{some_write, wants_writing, with_progress, MayFault, IsByTable, IsOutcome}
 use Rattle.scsi_unit.specs.UnitValue.{UnitValue, unit_limit, state_of}
-use Rattle.scsi_unit.specs.Serving.{has_refused}
+use Rattle.scsi_unit.specs.Serving.{has_refused, IsFinished, IsLoggedWrite}
 use Rattle.scsi_unit.specs.Performing.{settled, silent, Performs}
 use Rattle.scsi_unit.proofs.Turning.{may_fault, refused_so, limit_stays}
 use Rattle.scsi_unit.proofs.Performing.{become, limited, outcome_as, died, durable_if, given, performs_by, performs_none, dies_writing}
@@ -215,6 +217,20 @@ module _ {M : Type 0} (before mid after : State) (old : UnitValue M) (half last 
         })),
         more.fits (with_write book (write_by transfer taken)) (turn.fits book fits),
       ))
+
+-- ---- the log of a good WRITE
+
+pub silent_ok : (done : Result (Unit {0}) Sense) (X : Type 0) → is_ok (silent done) ≡ true → OnOk done X → X
+silent_ok (Ok value) X good made = made
+silent_ok (Err sense) X good made = absurd (false≢true good)
+
+pub logged_write : (ahead durable : Bool) (transfer : Transfer) (old mid new : Cached) → moves_blocks transfer ≡ true
+    → TurnsBatches ahead old mid transfer.address transfer.count
+    → TakesRange (transfer_limit old) (active_of old) transfer.address transfer.count (active_of mid) → IsFinished ahead durable mid new
+    → IsLoggedWrite ahead (moves_blocks transfer) durable transfer old new
+logged_write ahead durable transfer old mid new moves turned takes finished =
+    subst (λ (b : Bool). IsLoggedWrite ahead b durable transfer old new) (sym moves)
+    (record { mid = mid; turns = turned; takes = takes; finishes = finished })
 
 -- ---- SYNCHRONIZE CACHE and MODE SELECT
 

@@ -52,7 +52,8 @@ pub record Spares {M : Type 0} (told : Result Command Sense) (taken : List ℕ) 
       → ActiveAfter (unit_limit old) told taken old.write_cache
       (active_of old.store.cached) (active_of new.store.cached)
   pub log : is_ok answer ≡ true
-      → LogAfter told taken old.write_cache old.store.cached new.store.cached
+      → LogAfter old.store.goes_ahead told taken old.write_cache
+      old.store.cached new.store.cached
 
 -- the answer of a command that sends no data
 abbrev pub silent : Result (Unit {0}) Sense → Result (List ℕ) Sense

@@ -11,7 +11,7 @@ use Rattle.blocks.specs.Finding.{MayFind, FoundWith}
 use Rattle.blocks.specs.Calls.{TurnsBatches}
 use Rattle.blocks.specs.Looks.{LooksAtLog}
 use Rattle.blocks.specs.Passing.{MayEmpty}
-use Rattle.blocks.specs.Retiring.{finished}
+use Rattle.blocks.specs.Retiring.{finished, IsLog}
 use Rattle.blocks.specs.StoreValue.{Cached, layout_of, blocks_of, is_dead, active_of, steps_left}
 use Rattle.blocks.specs.StoreValue.{transfer_limit, FitsBeside, TakesRange}
 use Rattle.sense.specs.declared.codes.Sense.{Sense}
@@ -102,34 +102,36 @@ ActiveAfter limit (Ok command) taken write_cache old new =
 ActiveAfter limit (Err sense) taken write_cache old new = new ≡ old
 
 -- Where writes are made durable the record of each batch is written, and none is retired but for
--- room; else nothing changes.
-abbrev pub IsFinished : Bool → Cached → Cached → Type 0
-IsFinished false old new = new ≡ old
-IsFinished true old new =
-    new.log ≡ finished old.active.numbers (finished old.frozen.numbers old.log)
+-- room, as the store's policy says; else nothing changes.
+abbrev pub IsFinished : Bool → Bool → Cached → Cached → Type 0
+IsFinished ahead false old new = new ≡ old
+IsFinished ahead true old new = IsLog ahead
+    (finished ahead old.active.numbers (finished ahead old.frozen.numbers old.log)) new.log
 
 -- a good write of the store, and then its writes are made durable or are not
-pub record IsWrittenThrough (durable : Bool) (transfer : Transfer) (old new : Cached) : Type 0 where
+pub record IsWrittenThrough (ahead durable : Bool) (transfer : Transfer) (old new : Cached)
+    : Type 0 where
   pub mid : Cached
-  pub turns : TurnsBatches old mid transfer.address transfer.count
+  pub turns : TurnsBatches ahead old mid transfer.address transfer.count
   pub takes : TakesRange (transfer_limit old) (active_of old) transfer.address transfer.count
       (active_of mid)
-  pub finishes : IsFinished durable mid new
+  pub finishes : IsFinished ahead durable mid new
 
 -- the same after a WRITE that moves blocks or none
-abbrev pub IsLoggedWrite : Bool → Bool → Transfer → Cached → Cached → Type 0
-IsLoggedWrite false durable transfer old new = new ≡ old
-IsLoggedWrite true durable transfer old new = IsWrittenThrough durable transfer old new
+abbrev pub IsLoggedWrite : Bool → Bool → Bool → Transfer → Cached → Cached → Type 0
+IsLoggedWrite ahead false durable transfer old new = new ≡ old
+IsLoggedWrite ahead true durable transfer old new =
+    IsWrittenThrough ahead durable transfer old new
 
 -- the batches and the log after a good command
-abbrev pub LogAfter : Result Command Sense → List ℕ → Bool → Cached → Cached → Type 0
-LogAfter (Ok (command.Write10 transfer)) taken write_cache old new =
-    IsLoggedWrite (moves_blocks transfer) (transfer.fua || not write_cache) transfer old new
-LogAfter (Ok (command.Write16 transfer)) taken write_cache old new =
-    IsLoggedWrite (moves_blocks transfer) (transfer.fua || not write_cache) transfer old new
-LogAfter (Ok command) taken write_cache old new =
-    IsFinished (wants_writing command taken write_cache) old new
-LogAfter (Err sense) taken write_cache old new = new ≡ old
+abbrev pub LogAfter : Bool → Result Command Sense → List ℕ → Bool → Cached → Cached → Type 0
+LogAfter ahead (Ok (command.Write10 transfer)) taken write_cache old new =
+    IsLoggedWrite ahead (moves_blocks transfer) (transfer.fua || not write_cache) transfer old new
+LogAfter ahead (Ok (command.Write16 transfer)) taken write_cache old new =
+    IsLoggedWrite ahead (moves_blocks transfer) (transfer.fua || not write_cache) transfer old new
+LogAfter ahead (Ok command) taken write_cache old new =
+    IsFinished ahead (wants_writing command taken write_cache) old new
+LogAfter ahead (Err sense) taken write_cache old new = new ≡ old
 
 -- Which calls of the medium a command makes: none that it does not need.
 pub record IsSparing {M : Type 0} (block taken : List ℕ) (old : UnitValue M)
@@ -147,7 +149,8 @@ pub record IsSparing {M : Type 0} (block taken : List ℕ) (old : UnitValue M)
       (active_of old.store.cached) (active_of new.store.cached)
   -- a good one writes no record but those of its batches, and retires none but for room
   pub log : is_ok answer ≡ true
-      → LogAfter (command_for old block) taken old.write_cache old.store.cached new.store.cached
+      → LogAfter old.store.goes_ahead (command_for old block) taken old.write_cache
+      old.store.cached new.store.cached
 
 -- ---- a step in the background
 

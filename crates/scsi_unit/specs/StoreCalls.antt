@@ -24,14 +24,14 @@ TellsDeath result new = MatchResult result (λ _. is_dead new ≡ false)
     (λ sense. (sense ≡ write_error) × (is_dead new ≡ true))
 
 -- All accepted writes are durable, where that is wanted and the answer is good.
-pub record MakesDurable (wanted : Bool) (before after : State) (old new : Cached)
+pub record MakesDurable (ahead wanted : Bool) (before after : State) (old new : Cached)
     (result : Result (Unit {0}) Sense) : Type 0 where
   pub turn : IsTurn before after old new
   pub ok : (book : Book) → FitsBook before old book
       → OnOk result (FitsBook after new (if wanted then promised book else book))
   pub answer : TellsDeath result new
   pub active : IsEmptied wanted (active_of old) (active_of new)
-  pub log : OnOk result (IsFinished wanted old new)
+  pub log : OnOk result (IsFinished ahead wanted old new)
   pub calls : after.calls ≤ before.calls + (if wanted then calls_of_sync old else 0)
   pub sent : SendsUpTo (2 * batch_sends old) before after
   pub looks : LooksAtLog before after old
@@ -51,14 +51,14 @@ pub record ReadsBlocks (transfer : Transfer) (before after : State) (old new : C
   pub turn : IsTurn before after old new
 
 -- The blocks at the front of what was taken are accepted, where the answer is good.
-pub record WritesBlocks (transfer : Transfer) (taken : List ℕ) (before after : State)
-    (old new : Cached) (result : Result (Unit {0}) Sense) : Type 0 where
+pub record WritesBlocks (ahead : Bool) (transfer : Transfer) (taken : List ℕ)
+    (before after : State) (old new : Cached) (result : Result (Unit {0}) Sense) : Type 0 where
   pub turn : IsWriteTurn (write_of transfer.address (take (512 * transfer.count) taken))
       (is_ok result) before after old new
   pub answer : TellsDeath result new
   pub active : OnOk result (TakesRange (transfer_limit old) (active_of old) transfer.address
       transfer.count (active_of new))
-  pub batches : OnOk result (TurnsBatches old new transfer.address transfer.count)
+  pub batches : OnOk result (TurnsBatches ahead old new transfer.address transfer.count)
   pub calls : after.calls ≤ before.calls + calls_of_sync old
   pub sent : SendsUpTo (batch_sends old) before after
   pub looks : LooksAtLog before after old

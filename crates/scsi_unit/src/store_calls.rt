@@ -14,8 +14,8 @@ use sense::Sense;
 /// Makes all accepted writes durable, where that is wanted.
 pub(crate) fn make_durable<M: Medium>(store: &mut Store<M>, wanted: bool) -> Result<(), Sense>
     requires live { is_dead store.old.cached ≡ false }
-    ensures makes { MakesDurable wanted (M.state store.old.medium) (M.state store.new.medium)
-        store.old.cached store.new.cached result }
+    ensures makes { MakesDurable store.old.goes_ahead wanted (M.state store.old.medium)
+        (M.state store.new.medium) store.old.cached store.new.cached result }
     ensures unwanted { wanted ≡ false → (store.new ≡ store.old) × (is_ok result ≡ true) }
     ensures follows { M.follows store.old.medium store.new.medium }
 {
@@ -60,8 +60,10 @@ pub(crate) fn write_blocks<M: Medium>(
     requires within { IsWithin (blocks_of store.old.cached) (transfer_limit store.old.cached)
         transfer }
     requires taken { 512 * transfer.count ≤ length taken.now }
-    ensures writes { WritesBlocks transfer taken.now (M.state store.old.medium)
-        (M.state store.new.medium) store.old.cached store.new.cached result }
+    ensures writes { WritesBlocks store.old.goes_ahead transfer taken.now
+        (M.state store.old.medium) (M.state store.new.medium) store.old.cached store.new.cached
+        result }
+    ensures policy { store.new.goes_ahead ≡ store.old.goes_ahead }
     ensures quiet { FitsBeside (transfer_limit store.old.cached) (active_of store.old.cached)
         transfer.address transfer.count
         → (store.new.medium ≡ store.old.medium) × (is_ok result ≡ true) }

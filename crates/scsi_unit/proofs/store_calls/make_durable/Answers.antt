@@ -11,8 +11,8 @@ no_more : (calls : ℕ) → calls ≤ calls + 0
 no_more calls = omega arith
 
 -- where it is not wanted, nothing is done
-not_wanted : (m : State) (s : Cached) → IsTurn m m s s → is_dead s ≡ false → MakesDurable false m m s s (Ok tt)
-not_wanted m s turn live = record {
+not_wanted : (ahead : Bool) (m : State) (s : Cached) → IsTurn m m s s → is_dead s ≡ false → MakesDurable ahead false m m s s (Ok tt)
+not_wanted ahead m s turn live = record {
   turn = turn;
   ok = λ book fits. fits;
   answer = live;
@@ -27,5 +27,5 @@ pub returns-else-wanted-clause-makes : goal.returns-else-wanted-clause-makes
 returns-else-wanted-clause-makes g c =
     let store = c.args.store.now in
     let m = g.M.Medium.state store.medium in
-    subst (λ (wanted : Bool). MakesDurable wanted m m store.cached store.cached (Ok tt)) (sym c.if-wanted.false)
-    (not_wanted m store.cached (stays m store.cached (g.met.M.Medium.sound store.medium)) c.requires.live)
+    subst (λ (wanted : Bool). MakesDurable store.goes_ahead wanted m m store.cached store.cached (Ok tt)) (sym c.if-wanted.false)
+    (not_wanted store.goes_ahead m store.cached (stays m store.cached (g.met.M.Medium.sound store.medium)) c.requires.live)

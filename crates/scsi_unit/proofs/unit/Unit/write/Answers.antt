@@ -1,5 +1,5 @@
-use Rattle.std.proofs.Common.{◌≡◌, ◌≤◌, ◌+◌, Bool, false, None, Ok, subst, sym, ap, arith, ◌∙◌}
-use Rattle.std.specs.Prelude.{◌||◌, not, if◌then◌else◌, OnOk}
+use Rattle.std.proofs.Common.{rules, ◌≡◌, ◌≤◌, ◌+◌, Bool, true, false, None, Ok, subst, sym, ap, arith, ◌∙◌}
+use Rattle.std.specs.Prelude.{◌||◌, not, if◌then◌else◌, OnOk, is_ok}
 use Rattle.blocks.specs.Book.{Book, promised}
 use Rattle.std.proofs.lemmas.Result.{err_from_is_err_and}
 use Rattle.cdb.specs.declared.command.Command.TheVariants as command
@@ -13,7 +13,8 @@ use Rattle.blocks.proofs.Looking.{looks_on}
 use Rattle.scsi_unit.proofs.Looking.{log_looked}
 use Rattle.scsi_unit.proofs.Calling.{write_stops, write_ends, OnOk-at}
 use Rattle.scsi_unit.proofs.Performing.{moves_some}
-use Rattle.scsi_unit.proofs.Writing.{writes_nothing, write_refused, writes_blocks}
+use Rattle.scsi_unit.proofs.Writing.{writes_nothing, write_refused, writes_blocks, logged_write, silent_ok}
+use Rattle.scsi_unit.specs.Serving.{IsFinished, LogAfter}
 use Rattle.scsi_unit.proofs.unit.Unit.write.Goals as goal
 use Rattle.scsi_unit.proofs.unit.Unit.write.Goals.{then-transfer, else-transfer}
 
@@ -106,3 +107,31 @@ returns-clause-bounded g c =
           (looks_on (state i.store.medium) (state half.medium) (state last.medium) i.store.cached half.cached
           c.write_blocks.ensures.writes.turn.goes_on.layout_stays c.write_blocks.ensures.writes.looks c.make_durable.ensures.makes.looks);
     })
+
+pub returns-clause-spares : goal.returns-clause-spares
+returns-clause-spares g c = record {
+  untouched = search rules;
+  plain = search rules;
+  active = search rules;
+  log =
+      let i = c.self.inside in
+      let half = c.write_blocks.new.store in
+      let last = c.make_durable.new.store in
+      let done = c.make_durable.result in
+      let durable = c.args.transfer.fua || not i.write_cache in
+      let wanted : c.if-transfer.through ≡ durable = elim c.if-transfer.branch [
+        | then-transfer w ↦ rw w.if-transfer.true (w.through-is ∙ w.if-transfer.true)
+        | else-transfer w ↦ rw w.if-transfer.false w.through-is
+      ] in
+      let wrote = c.write_blocks.ensures.writes in
+      let made = subst (λ (b : Bool). OnOk done (IsFinished half.goes_ahead b half.cached last.cached)) wanted c.make_durable.ensures.makes.log in
+      let finished = subst (λ (b : Bool). OnOk done (IsFinished b durable half.cached last.cached)) c.write_blocks.ensures.policy made in
+      let P = λ (u : UnitValue g.row.M.Denot). is_ok (silent done) ≡ true
+      → LogAfter u.store.goes_ahead (Ok (command.Write10 c.args.transfer)) c.args.taken.now u.write_cache u.store.cached last.cached in
+      subst P c.self.view_is
+      (λ good. logged_write i.store.goes_ahead durable c.args.transfer i.store.cached half.cached last.cached
+      (moves_some c.args.transfer c.if-transfer-eq0.false)
+      (OnOk-at c.write_blocks.result c.in_ok-write_blocks.field-0 c.in_ok-write_blocks.was wrote.batches)
+      (OnOk-at c.write_blocks.result c.in_ok-write_blocks.field-0 c.in_ok-write_blocks.was wrote.active)
+      (silent_ok done (IsFinished i.store.goes_ahead durable half.cached last.cached) good finished));
+}
