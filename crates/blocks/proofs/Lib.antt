@@ -16,6 +16,7 @@ pub mod Room
 pub mod Sending
 pub mod Settling
 pub mod Starting
+pub mod Steady
 pub mod Stepping
 pub mod Stopping
 pub mod Turning

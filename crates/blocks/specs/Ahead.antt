@@ -2,7 +2,10 @@
 -- the head goes past an oldest record whose blocks an earlier flush covers, and the oldest one goes
 -- home. None of these calls is a flush: that of the record that is begun covers them.
 use Rattle.std.specs.Prelude.{◌≡◌, ◌+◌, ◌-◌, ◌&&◌, ◌==◌, ℕ, Bool, length}
-use Rattle.std.specs.Prelude.{nat_lt, if◌then◌else◌, drop, replicate}
+use Rattle.std.specs.Prelude.{nat_lt, nat_le, false, if◌then◌else◌, drop, replicate}
+use Rattle.log_layout.specs.Places.{Shape}
+use Rattle.log_layout.specs.declared.log_format.LogFormat.{LogFormat}
+use Rattle.log_layout.specs.declared.log_format.LogFormat.TheVariants.{One, Two}
 use Rattle.redo_log.specs.Value.{LogValue, settled, behind_oldest, of_oldest, home_of_oldest}
 use Rattle.redo_log.specs.Value.{ahead_of, turns_calls, pass_calls}
 
@@ -77,3 +80,13 @@ ahead_room_calls log = if nat_lt (log.next - log.head) log.shape.slots
 -- medium tells
 abbrev pub IsBut : LogValue → LogValue → Type 0
 IsBut is log = log ≡ record is { kept = log.kept }
+
+-- a store of such a log may go ahead: the one record that is passed, the one that is on its way
+-- home and the one that is begun have a slot each, and the record's one flush covers all that goes
+-- before it
+abbrev pub may_go_by : LogFormat → ℕ → Bool
+may_go_by One slots = false
+may_go_by Two slots = nat_le 3 slots
+
+abbrev pub may_go_ahead : Shape → Bool
+may_go_ahead shape = may_go_by shape.format shape.slots

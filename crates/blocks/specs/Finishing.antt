@@ -1,6 +1,6 @@
 -- What is durable after a call of a store that writes its batches out, and which records it retires
 -- for that.
-use Rattle.std.specs.Prelude.{◌≡◌, ◌+◌, ◌≤◌, ◌<◌, [], length, Bool, Result, OnOk}
+use Rattle.std.specs.Prelude.{◌≡◌, ◌+◌, ◌≤◌, ◌<◌, true, [], length, Bool, Result, OnOk}
 use Rattle.medium.specs.Medium.{State}
 use Rattle.redo_log.specs.Value.{HasRoom}
 use Rattle.blocks.specs.declared.fault.StoreFault.{StoreFault}
@@ -10,6 +10,7 @@ use Rattle.blocks.specs.Passing.{MayEmpty}
 use Rattle.blocks.specs.Retiring.{RetiresForRoom, finished, made_ready, written_out, IsLog, IsRoomy}
 use Rattle.blocks.specs.Retiring.{HasSlots, with_spare, to_begin, record_calls, calls_from}
 use Rattle.blocks.specs.Retiring.{both_calls}
+use Rattle.blocks.specs.Steady.{IsSteady, steady_calls}
 
 -- what a call of a store answers that gives nothing
 abbrev pub Answer : Type 0
@@ -58,6 +59,11 @@ pub record CostsSync (ahead : Bool) (result : Answer) (before after : State) (ol
       (to_begin old.frozen.numbers old.log + wants old.active.numbers)) old.log
       → OnOk result (after.calls ≡ before.calls + record_calls old.frozen.numbers old.log
       + calls_from 0 old.log.shape.format old.active.numbers)
+  -- Where the store goes ahead, in a ring that records alone have filled, a sync of one batch
+  -- brings one record home under the one flush of its own.
+  pub steady : ahead ≡ true → IsSteady old.log → old.frozen.numbers ≡ []
+      → 0 < length old.active.numbers
+      → OnOk result (after.calls ≡ before.calls + steady_calls old.active.numbers old.log)
 
 -- what both batches and the log become where each accepted write is made durable
 pub record FinishesBoth {M : Type 0} (result : Answer) (old new : StoreValue M) : Type 0 where

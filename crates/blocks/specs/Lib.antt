@@ -14,6 +14,7 @@ pub mod Retiring
 pub mod Sent
 pub mod Settled
 pub mod Started
+pub mod Steady
 pub mod Stopping
 pub mod StoreValue
 pub mod Turns

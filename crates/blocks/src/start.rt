@@ -1,5 +1,5 @@
 //! How a store starts.
-ghost use Rattle.std.specs.Prelude.{◌≡◌, ◌⊎◌, ◌<◌, ◌≤◌, ◌^◌, ℕ, []};
+ghost use Rattle.std.specs.Prelude.{◌≡◌, ◌⊎◌, ◌<◌, ◌≤◌, ◌^◌, ℕ, [], false};
 ghost use Rattle.std.specs.Prelude.{IfOk, IfErr, MatchResult};
 ghost use Rattle.medium.specs.Blocks.{Array};
 ghost use Rattle.log_layout.specs.Places.{Shape, limit_of};
@@ -7,10 +7,13 @@ ghost use Rattle.log_image.specs.Standing.{StandsFor};
 ghost use Rattle.log_layout.specs.Values.{shape_of};
 ghost use Rattle.redo_log.specs.Value.{idle_from};
 ghost use Rattle.recovery.specs.Causes.{IsDeviceFault};
+ghost use Rattle.blocks.specs.Ahead.{may_go_ahead};
 ghost use Rattle.blocks.specs.Started.{IsStarted, IsStartCause, LeavesMedium};
+ghost use Rattle.blocks.specs.StoreValue.{layout_of};
 
 use crate::{StartError, Store};
 use cache::{Batch, Frozen};
+use log_layout::{LogFormat, Super};
 use medium::Medium;
 use recovery::{Recovered, StartFault, recover};
 use redo_log::Log;
@@ -63,6 +66,7 @@ impl<M: Medium> Store<M> {
     pub fn start(alloc: Global, medium: M) -> Result<Store<M>, StartError<M>>
         ensures ok { IfOk result (λ store.
             IsStarted (M.state medium) (M.state store.medium) store.cached) }
+        ensures policy { IfOk result (λ store. store.goes_ahead ≡ false) }
         ensures err { IfErr result (λ error.
             IsStartCause (M.state medium) (M.state error.medium) error.fault) }
         // Contents that stand for something with a stamp left are refused by the device alone, or
@@ -93,5 +97,47 @@ impl<M: Medium> Store<M> {
             }),
             Err(fault) => Err(StartError { fault, medium }),
         }
+    }
+
+    /// Starts a store as `start` does, but one that retires ahead of the flush of its next record:
+    /// a good sync flushes once for each record that it writes, as long as records alone fill the
+    /// ring and a slot of it is free. It needs format 2 and three slots; else it is as from
+    /// `start`.
+    ///
+    /// # Errors
+    ///
+    /// Those of `start`.
+    pub fn start_ahead(alloc: Global, medium: M) -> Result<Store<M>, StartError<M>>
+        ensures ok { IfOk result (λ store.
+            IsStarted (M.state medium) (M.state store.medium) store.cached) }
+        ensures policy { IfOk result (λ store.
+            store.goes_ahead ≡ may_go_ahead (layout_of store.cached)) }
+        ensures err { IfErr result (λ error.
+            IsStartCause (M.state medium) (M.state error.medium) error.fault) }
+        ensures served { (shape : Shape) (array : Array) (next : ℕ)
+            → StandsFor (M.state medium).size shape (M.state medium).content array next
+            → next < 2 ^ 63
+            → IfErr result (λ error. IsDeviceFault error.fault
+            ⊎ (error.fault ≡ StartFault.NoMemory)) }
+        ensures leaves { MatchResult result
+            (λ store. LeavesMedium M.state M.follows medium store.medium)
+            (λ error. LeavesMedium M.state M.follows medium error.medium) }
+    {
+        let mut store = match Store::start(alloc, medium) {
+            Ok(store) => store,
+            Err(error) => return Err(error),
+        };
+        store.goes_ahead = may_go_ahead(&store.sizes);
+        Ok(store)
+    }
+}
+
+// Whether a store of a log with these sizes may go ahead.
+fn may_go_ahead(sizes: &Super) -> bool
+    ensures { result ≡ may_go_ahead (shape_of sizes.now) }
+{
+    match sizes.format {
+        LogFormat::One => false,
+        LogFormat::Two => 3 <= sizes.slots,
     }
 }

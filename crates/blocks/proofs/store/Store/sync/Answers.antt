@@ -3,13 +3,14 @@ use Rattle.std.proofs.lemmas.Result.{on_ok_weaker}
 use Rattle.cache.specs.Entries.{Entries}
 use Rattle.redo_log.specs.Value.{LogValue}
 use Rattle.log_layout.specs.Places.{Shape}
-use Rattle.blocks.specs.Retiring.{finished, finish_calls, IsLog}
+use Rattle.blocks.specs.Retiring.{finished, finish_calls, both_calls, IsLog}
 use Rattle.medium.specs.Sent.{sent}
 use Rattle.blocks.specs.Sent.{most_sent}
 use Rattle.blocks.specs.StoreValue.{Cached}
 use Rattle.blocks.proofs.Ready.{twice, calls_of, roomy_both}
 use Rattle.blocks.proofs.Fitting.{settles}
 use Rattle.blocks.proofs.Settling.{none_of}
+use Rattle.blocks.proofs.Steady.{steady_sync}
 use Rattle.blocks.proofs.Turning.{turns}
 use Rattle.blocks.proofs.Looking.{none, looks_on}
 use Rattle.blocks.proofs.store.Store.sync.Goals as goal
@@ -80,7 +81,11 @@ returns-clause-batches g c = record {
 }
 
 pub returns-in_err-finish-clause-cost : goal.returns-in_err-finish-clause-cost
-returns-in_err-finish-clause-cost g c = record { exactly = search rules; roomy = λ slots. search rules }
+returns-in_err-finish-clause-cost g c = record {
+  exactly = search rules;
+  roomy = λ slots. search rules;
+  steady = λ on still none some. search rules;
+}
 
 pub returns-clause-cost : goal.returns-clause-cost
 returns-clause-cost g c =
@@ -98,6 +103,10 @@ returns-clause-cost g c =
       exactly = on_ok_weaker c.finish-2.result (λ all. omega (arith, all, calls, quiet, before)) c.finish-2.ensures.cost;
       roomy = λ slots.
           let records = roomy_both ahead old.frozen.numbers old.active.numbers old.log slots in
+          on_ok_weaker c.finish-2.result (λ all. omega (arith, all, calls, quiet, before, records)) c.finish-2.ensures.cost;
+      steady = λ on still none some.
+          let records = ap (λ (b : Bool). both_calls b old.frozen.numbers old.active.numbers old.log) on
+          ∙ steady_sync old.frozen.numbers old.active.numbers old.log still none some in
           on_ok_weaker c.finish-2.result (λ all. omega (arith, all, calls, quiet, before, records)) c.finish-2.ensures.cost;
     }
 

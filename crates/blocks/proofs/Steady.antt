@@ -1,0 +1,86 @@
+-- What a record costs a store that goes ahead, once records alone have filled the ring.
+use Rattle.std.proofs.Common.{◌≡◌, ◌<◌, ◌≤◌, ◌+◌, ◌-◌, ◌∙◌, ap, sym, refl, arith}
+use Rattle.std.specs.Prelude.{ℕ, List, [], ◌∷◌, length, get_or, drop, sum_by, nat_lt, Bool, true, if◌then◌else◌, ◌==◌, ◌&&◌}
+use Rattle.std.proofs.lemmas.Bool.{eq-eqb, lt-ltb}
+use Rattle.std.proofs.lemmas.List.Sums.{sum_by-cons}
+use Rattle.log_layout.specs.declared.log_format.LogFormat.{LogFormat}
+use Rattle.log_layout.specs.declared.log_format.LogFormat.TheVariants.{One, Two}
+use Rattle.redo_log.specs.Value.{LogValue, IsCovered, settled, of_oldest, home_of_oldest, turns_home, turns_calls}
+use Rattle.redo_log.specs.Value.{retire_steps_of, pass_calls}
+use Rattle.blocks.specs.Ahead.{oldest_retired, is_covered, counted, past, passed, going_calls, sent_calls, ahead_room_calls, retiring_calls}
+use Rattle.blocks.specs.Retiring.{HasSlots, finish_calls, both_calls}
+use Rattle.blocks.specs.Steady.{IsSteady, home_calls_of, second_of, steady_calls}
+use Rattle.blocks.proofs.Costing.{finish_none, finish_begun}
+use Rattle.blocks.proofs.Going.{one_pass}
+use Rattle.blocks.proofs.Homing.{calls_short, going_short, passes_short}
+use Rattle.blocks.proofs.Ready.{ahead_free_calls}
+use Rattle.blocks.proofs.Room.{finishes_none}
+
+-- a record that has blocks has as many turns to go home at least
+some_turns : (format : LogFormat) (count : ℕ) → count ≤ turns_home format count
+some_turns One count = omega arith
+some_turns Two count = omega arith
+
+-- the steps behind the oldest record are those of the next one, and those behind that
+second_owed : (format : LogFormat) (w : List (List ℕ)) → 0 < length (get_or w 1 [])
+    → sum_by (retire_steps_of format) (drop 1 w)
+    ≡ (turns_home format (length (get_or w 1 [])) + 2) + sum_by (retire_steps_of format) (drop 1 (drop 1 w))
+second_owed format [] some = absurd (omega (arith, some))
+second_owed format (a ∷ []) some = absurd (omega (arith, some))
+second_owed format (a ∷ [] ∷ rest) some = absurd (omega (arith, some))
+second_owed format (a ∷ (n ∷ ns) ∷ rest) some = sum_by-cons (retire_steps_of format) (n ∷ ns) rest
+
+second_is : (w : List (List ℕ)) → get_or (drop 1 w) 0 [] ≡ get_or w 1 []
+second_is [] = refl
+second_is (a ∷ []) = refl
+second_is (a ∷ b ∷ rest) = refl
+
+counted_is : (log : LogValue) → IsCovered log → counted log ≡ settled log
+counted_is log c =
+    let home = eq-eqb log.ahead.home log.head c.oldest in
+    let flushes = eq-eqb (of_oldest log) 2 c.flushes in
+    let since = lt-ltb log.ahead.before (log.head + length log.waiting) c.since in
+    let all : is_covered log ≡ true =
+    ap (λ (b : Bool). b && (of_oldest log == 2) && nat_lt log.ahead.before (log.head + length log.waiting)) home
+    ∙ ap (λ (b : Bool). true && b && nat_lt log.ahead.before (log.head + length log.waiting)) flushes
+    ∙ ap (λ (b : Bool). true && true && b) since in
+    ap (λ (b : Bool). if b then settled log else log) all
+
+-- room for the next record: the head, and one record's way home
+pub steady_room : (log : LogValue) → IsSteady log
+    → ahead_room_calls log ≡ 1 + home_calls_of log.shape.format (length (second_of log))
+steady_room log s =
+    let free : log.next - log.head < log.shape.slots = omega (arith, s.one_free) in
+    let few : HasSlots 3 log → ⊥ = λ slots. omega (arith, slots, s.one_free) in
+    let counts = counted_is log s.covered in
+    let one : of_oldest (settled log) ≡ 1 = omega (arith, s.covered.flushes) in
+    let passes = one_pass (settled log) (record { flushed = one; besides = free }) in
+    let first = calls_short log few ∙ ap (λ (l : LogValue). pass_calls l) counts ∙ passes in
+    let passed_is : passed log ≡ oldest_retired (settled log) =
+    sym (passes_short log few)
+    ∙ ap (λ (l : LogValue). past l) counts
+    ∙ ap (λ (n : ℕ). if n == 1 then oldest_retired (settled log) else settled log) passes in
+    let next : LogValue = oldest_retired (settled log) in
+    let still : HasSlots 3 next → ⊥ = λ slots. omega (arith, slots, s.one_free) in
+    let home = turns_home log.shape.format (length (second_of log)) in
+    let owed = second_owed log.shape.format log.waiting s.some in
+    let turns = some_turns log.shape.format (length (second_of log)) in
+    let left : of_oldest next ≡ home + 2 = omega (arith, owed) in
+    let goes : going_calls next ≡ retiring_calls next - 3 =
+    ap (λ (b : Bool). if b then retiring_calls next - 3 else 0) (lt-ltb 2 (of_oldest next) (omega (arith, left, turns, s.some))) in
+    let calls : retiring_calls next ≡ turns_calls log.shape.format home (home + 2) =
+    ap (λ (n : ℕ). turns_calls log.shape.format (home_of_oldest next) n) left
+    ∙ ap (λ (r : List ℕ). turns_calls log.shape.format (turns_home log.shape.format (length r)) (home + 2)) (second_is log.waiting) in
+    let last = ap (λ (l : LogValue). sent_calls l) passed_is ∙ going_short next still in
+    let all = ahead_free_calls log free in
+    omega (arith, all, first, last, goes, calls)
+
+-- a sync of one batch
+pub steady_sync : (numbers active : List ℕ) (log : LogValue) → IsSteady log → numbers ≡ [] → 0 < length active
+    → both_calls true numbers active log ≡ steady_calls active log
+steady_sync numbers active log s none some =
+    let first = finish_none true numbers log s.idle none in
+    let same = finishes_none true numbers log s.idle none in
+    let last = ap (λ (l : LogValue). finish_calls true active l) (sym same) ∙ finish_begun true active log s.idle some in
+    let room = steady_room log s in
+    omega (arith, first, last, room)
