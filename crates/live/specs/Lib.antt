@@ -1,3 +1,7 @@
 pub mod Missing
 pub mod Playing
 pub mod FileLaws
+pub mod Status
+pub mod Starting
+pub mod Serving
+pub mod Program

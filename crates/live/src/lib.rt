@@ -1,7 +1,16 @@
-//! An image file of any size, served line by line.
+//! An image file of any size, served line by line: what the program `usbdisk_live` does.
 #![tactic(auto)]
 
+mod ended;
 mod missing;
 mod player;
+mod program;
+mod refusal;
+mod serving;
+mod starting;
 
+pub use ended::{Ended, Stopped};
 pub use player::{FileDisk, TRANSFER};
+pub use program::{live_command, run_live};
+pub use refusal::Refusal;
+pub use serving::serve_file;

@@ -65,12 +65,19 @@ impl<D: DeviceFile> FileDisk<D> {
     }
 }
 
-// Does nothing. The laws of the outbox say of all that may come what it is for the file.
+/// Does nothing. The laws of the outbox say of all that may come what it is for the file.
+pub(crate) fn foresee_window<D: DeviceFile>(medium: &FileWindow<D>)
+    ensures { Foresees medium.now.window }
+{
+    let _waiting = medium.window().waiting();
+    device_laws();
+}
+
+// So for the window of a disk.
 fn foresee<D: DeviceFile>(disk: &Disk<FileWindow<D>>)
     ensures { Foresees (window_of disk.now) }
 {
-    let _waiting = disk.medium().window().waiting();
-    device_laws();
+    foresee_window(disk.medium());
 }
 
 // Reads sectors of the file, and shows them. Where the file refuses that, nothing is shown.

@@ -25,5 +25,4 @@ pub mod Within
 pub mod Refusals
 pub mod LineEnds
 pub mod Serving
-pub mod LiveRefusals
 pub mod NoScript

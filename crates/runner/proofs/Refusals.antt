@@ -22,7 +22,7 @@ some_status (refused.Image fault) is = omega (arith, is)
 some_status refused.File is = omega (arith, is)
 some_status refused.NoMemory is = omega (arith, is)
 
-pub status_of_words : (refusal : Refusal) → status_of refusal ≡ 2 → refusal ≡ refused.Words
+status_of_words : (refusal : Refusal) → status_of refusal ≡ 2 → refusal ≡ refused.Words
 status_of_words (refused.Line number) is = absurd (omega (arith, is))
 status_of_words refused.TooLong is = absurd (omega (arith, is))
 status_of_words refused.Words is = refl
@@ -32,7 +32,7 @@ status_of_words (refused.Image fault) is = absurd (omega (arith, is))
 status_of_words refused.File is = absurd (omega (arith, is))
 status_of_words refused.NoMemory is = absurd (omega (arith, is))
 
-pub start_not_words : (fault : StartFault) → refusal_of_start fault ≡ refused.Words → ⊥
+start_not_words : (fault : StartFault) → refusal_of_start fault ≡ refused.Words → ⊥
 start_not_words start.NoMemory is = cc
 start_not_words start.Read is = cc
 start_not_words start.Write is = cc
@@ -52,7 +52,7 @@ script_not_words script.NoMemory is = cc
 script_not_words script.Reader is = cc
 script_not_words script.Writer is = cc
 
-pub unread_not_words : (refusal : Refusal) → IsUnread refusal → refusal ≡ refused.Words → ⊥
+unread_not_words : (refusal : Refusal) → IsUnread refusal → refusal ≡ refused.Words → ⊥
 unread_not_words refusal (inl is) words = cc
 unread_not_words refusal (inr (inl is)) words = cc
 unread_not_words refusal (inr (inr is)) words = cc

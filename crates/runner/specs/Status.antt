@@ -9,8 +9,6 @@ use Rattle.bot_machine.specs.StartFaults as start
 use Rattle.runner.specs.declared.fault.ScriptFault.{ScriptFault}
 use Rattle.runner.specs.declared.fault.ScriptFault.TheVariants as script
 use Rattle.runner.specs.declared.refusal.Refusal.{Refusal}
-use Rattle.runner.specs.declared.serve.LineFault.{LineFault}
-use Rattle.runner.specs.declared.serve.LineFault.TheVariants as line
 use Rattle.runner.specs.declared.refusal.Refusal.TheVariants as refused
 
 abbrev pub status_of : Refusal → ℕ
@@ -56,9 +54,3 @@ refusal_of_fault (script.Start fault) = refusal_of_start fault
 refusal_of_fault script.NoMemory = refused.NoMemory
 refusal_of_fault script.Reader = refused.File
 refusal_of_fault script.Writer = refused.File
-
--- lines that were not served to their end
-abbrev pub refusal_of_line : LineFault → Refusal
-refusal_of_line (line.Line number) = refused.Line number
-refusal_of_line line.Reader = refused.File
-refusal_of_line line.Writer = refused.File

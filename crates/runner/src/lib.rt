@@ -32,11 +32,14 @@ mod words;
 
 pub use ended::Ended;
 pub use fault::{ScriptError, ScriptFault};
+pub use identity::disk_identity;
 pub use laws::lives_laws;
-pub use live::{live_command, run_live};
+pub use live::read_live_words;
 pub use player::{Player, ServeFault};
-pub use program::{command, run_program};
+pub use program::{arguments, command, run_program, words_of};
 pub use read_script::SCRIPT_LIMIT;
+pub use refusal::Refusal;
 pub use script::run_script;
 pub use serve::{LineFault, LineSource, serve_lines, serve_player, serve_source};
 pub use sim::sim_script;
+pub use streams::{HeldStreams, hold_streams};

@@ -100,8 +100,8 @@ pub fn run_program<R: Env + Files<File = File> + AllocGlobal, O: Write, E: Write
     }
 }
 
-/// Refuses a command that has opened no image file.
-pub(crate) fn refuse<E: Write>(refusal: Refusal, err: &mut E) -> Ended
+// Refuses a command that has opened no image file.
+fn refuse<E: Write>(refusal: Refusal, err: &mut E) -> Ended
     ensures status { result.status ≡ status_of refusal }
     ensures medium { result.medium ≡ None }
 {
@@ -112,7 +112,11 @@ pub(crate) fn refuse<E: Write>(refusal: Refusal, err: &mut E) -> Ended
 }
 
 /// The words after the program's name.
-pub(crate) fn words_of<'a>(alloc: Global, args: &'a [String]) -> Result<Vec<&'a str>, AllocError>
+///
+/// # Errors
+///
+/// Memory ran out.
+pub fn words_of<'a>(alloc: Global, args: &'a [String]) -> Result<Vec<&'a str>, AllocError>
     ensures { IfOk result (λ words. map (λ word. word.now) words.items
         ≡ drop 1 (map string_bytes args.entry.now)) }
 {
@@ -126,8 +130,12 @@ pub(crate) fn words_of<'a>(alloc: Global, args: &'a [String]) -> Result<Vec<&'a 
     Ok(words)
 }
 
-/// The program's arguments, its name first; one that is no text is no word of a command.
-pub(crate) fn arguments<R: Env + AllocGlobal>(rt: &R) -> Result<Vec<String>, Refusal>
+/// The program's arguments, its name first.
+///
+/// # Errors
+///
+/// `Words` where one is no text, which is no word of a command, and `NoMemory`.
+pub fn arguments<R: Env + AllocGlobal>(rt: &R) -> Result<Vec<String>, Refusal>
     ensures { IfErr result (λ refusal. (refusal ≡ Refusal.NoMemory) ⊎ (refusal ≡ Refusal.Words)) }
 {
     match env::args(rt) {
@@ -137,8 +145,8 @@ pub(crate) fn arguments<R: Env + AllocGlobal>(rt: &R) -> Result<Vec<String>, Ref
     }
 }
 
-/// Writes why a command was refused, and gives the exit status, also where that cannot be written.
-pub(crate) fn tell<E: Write>(refusal: Refusal, err: &mut E) -> u8
+// Writes why a command was refused, and gives the exit status, also where that cannot be written.
+fn tell<E: Write>(refusal: Refusal, err: &mut E) -> u8
     ensures { result ≡ status_of refusal }
 {
     let _ = writeln!(err, "{refusal}");

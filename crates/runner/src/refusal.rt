@@ -4,7 +4,6 @@ ghost use Rattle.clap.specs.Words.{kind_of};
 ghost use Rattle.runner.specs.declared.refusal.Refusal.TheVariants as refused;
 
 use crate::fault::ScriptFault;
-use crate::serve::LineFault;
 use bot_machine::StartFault;
 use clap::error::ErrorKind;
 use medium::FileError;
@@ -13,7 +12,7 @@ use thiserror::Error;
 
 /// Why a command was refused. Its text is what standard error gets.
 #[derive(Clone, Copy, Debug, PartialEq, Eq, Error)]
-pub(crate) enum Refusal {
+pub enum Refusal {
     /// The number of the first line that is none of a script.
     #[error("line {0}: not a script line")]
     Line(u64),
@@ -125,20 +124,6 @@ impl From<ScriptFault> for Refusal {
             ScriptFault::NoMemory => Refusal::NoMemory,
             ScriptFault::Reader => Refusal::File,
             ScriptFault::Writer => Refusal::File,
-        }
-    }
-}
-
-impl From<LineFault> for Refusal {
-    ghost use Rattle.runner.specs.Status.{refusal_of_line};
-
-    ghost from_gives = { λ fault e. e ≡ refusal_of_line fault };
-
-    fn from(fault: LineFault) -> Refusal {
-        match fault {
-            LineFault::Line(number) => Refusal::Line(number),
-            LineFault::Reader => Refusal::File,
-            LineFault::Writer => Refusal::File,
         }
     }
 }

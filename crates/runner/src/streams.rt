@@ -14,7 +14,7 @@ const NULL_DEVICE: &str = "/dev/null";
 /// standard streams. Where some of them were closed at the start, these handles take their places:
 /// so a file that is opened while they are held is never written to as an output.
 #[derive(Drop)]
-pub(crate) struct HeldStreams<F> {
+pub struct HeldStreams<F> {
     first: F,
     second: F,
     third: F,
@@ -22,7 +22,11 @@ pub(crate) struct HeldStreams<F> {
 
 /// Takes the places of those standard streams that were closed at the start. Such an input is then
 /// empty, and such an output takes nothing.
-pub(crate) fn hold_streams<R: Files>(rt: &R) -> Result<HeldStreams<R::File>, Refusal>
+///
+/// # Errors
+///
+/// `File` where the null device was not opened.
+pub fn hold_streams<R: Files>(rt: &R) -> Result<HeldStreams<R::File>, Refusal>
     ensures { IfErr result (λ refusal. refusal ≡ Refusal.File) }
 {
     Ok(HeldStreams {

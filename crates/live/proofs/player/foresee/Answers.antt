@@ -1,16 +1,7 @@
-use Rattle.std.proofs.Common.{◌∙◌, ap, subst}
-use Rattle.mirror.specs.Parts.{PartsFollow}
-use Rattle.window.specs.Window.{Window, mirror_of, ComesAfter, CoversDevice}
+use Rattle.std.proofs.Common.{subst}
 use Rattle.file_window.specs.declared.file.FileWindow.{FileWindow}
 use Rattle.live.specs.Playing.{Foresees}
 use Rattle.live.proofs.player.foresee.Goals as goal
 
-foreseen : (w : Window) → PartsFollow → ((new : Window) → ComesAfter w new → CoversDevice w new) → Foresees w
-foreseen w law covers = record {
-  covers = covers;
-  parts = λ new follows. law (mirror_of w) (mirror_of new) (covers new follows);
-}
-
 pub returns : goal.returns
-returns g c = subst Foresees (c.window.ensures ∙ ap (λ (m : FileWindow g.row.D.Denot). m.window) c.medium.ensures.is)
-    (foreseen c.window.result.now c.device_laws.ensures c.waiting-waiting.ensures.device)
+returns g c = subst (λ (m : FileWindow g.row.D.Denot). Foresees m.window) c.medium.ensures.is c.foresee_window.ensures

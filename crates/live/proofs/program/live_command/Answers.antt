@@ -1,16 +1,15 @@
 use Rattle.std.proofs.Common.{◌∙◌, map, sym}
-use Rattle.runner.proofs.LiveRefusals.{most_status, no_line_at_two, two_without_line}
-use Rattle.runner.proofs.Refusals.{some_status}
-use Rattle.runner.proofs.live.live_command.Goals as goal
+use Rattle.live.proofs.Refusals.{most_status, some_status, no_line_at_two, two_without_line}
+use Rattle.live.proofs.program.live_command.Goals as goal
 
 pub returns-in-Ok-clause-other_words : goal.returns-in-Ok-clause-other_words
 returns-in-Ok-clause-other_words g c never = let done = c.in-Ok.ensures.done in absurd (never (done.0, done.1, done.2))
 
 pub returns-in-Err-clause-statuses : goal.returns-in-Err-clause-statuses
-returns-in-Err-clause-statuses g c = rw c.tell.ensures (most_status c.in-Err.stopped.refusal)
+returns-in-Err-clause-statuses g c = rw c.status.ensures (most_status c.in-Err.stopped.refusal)
 
 pub returns-in-Err-clause-done : goal.returns-in-Err-clause-done
-returns-in-Err-clause-done g c zero = absurd (some_status c.in-Err.stopped.refusal (sym c.tell.ensures ∙ zero))
+returns-in-Err-clause-done g c zero = absurd (some_status c.in-Err.stopped.refusal (sym c.status.ensures ∙ zero))
 
 pub returns-in-Err-clause-words : goal.returns-in-Err-clause-words
 returns-in-Err-clause-words g c two =
@@ -19,8 +18,8 @@ returns-in-Err-clause-words g c two =
     let words = map (λ word. word.now) c.args.words.now in
     let stopped = c.in-Err.stopped in
     no_line_at_two (contents c.args.out.now) (contents c.serve_image.new.out) (remaining c.args.input.now)
-    (remaining c.serve_image.new.input) stopped.medium words stopped.refusal c.in-Err.ensures.refused
-    (sym c.tell.ensures ∙ two)
+    (remaining c.serve_image.new.input) stopped.file words stopped.refusal c.in-Err.ensures.refused
+    (sym c.status.ensures ∙ two)
 
 pub returns-in-Err-clause-other_words : goal.returns-in-Err-clause-other_words
 returns-in-Err-clause-other_words g c never =
@@ -28,6 +27,6 @@ returns-in-Err-clause-other_words g c never =
     let remaining = g.I.Read.remaining in
     let words = map (λ word. word.now) c.args.words.now in
     let stopped = c.in-Err.stopped in
-    c.tell.ensures
+    c.status.ensures
     ∙ two_without_line (contents c.args.out.now) (contents c.serve_image.new.out) (remaining c.args.input.now)
-    (remaining c.serve_image.new.input) stopped.medium words stopped.refusal c.in-Err.ensures.refused never
+    (remaining c.serve_image.new.input) stopped.file words stopped.refusal c.in-Err.ensures.refused never

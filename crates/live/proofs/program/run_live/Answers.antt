@@ -1,0 +1,32 @@
+use Rattle.std.proofs.Common.{◌∙◌, ℕ, List, ap, subst, inr, map}
+use Rattle.std.specs.Prelude.{string_bytes}
+use Rattle.live.specs.Program.{HasDoneLive, IsLiveRefusedFor}
+use Rattle.live.proofs.program.run_live.Goals as goal
+
+pub returns-in-Ok-words_of-clause-done : goal.returns-in-Ok-words_of-clause-done
+returns-in-Ok-words_of-clause-done g c zero =
+    let contents = g.O.Write.contents in
+    let remaining = g.I.Read.remaining in
+    let so = c.live_command.ensures.done zero in
+    let same = ap (map (λ word. word.now)) c.as_slice-in-Ok-words_of.ensures.value ∙ c.in-Ok-words_of.ensures in (
+      (
+        map string_bytes c.as_slice.result.now,
+        subst (λ (words : List (List ℕ)). HasDoneLive (contents c.args.out.now) (contents c.live_command.new.out)
+            (remaining c.args.input.now) (remaining c.live_command.new.input) c.live_command.result.file words) same so.0,
+      ),
+      so.1,
+    )
+
+pub returns-in-Ok-words_of-clause-refused : goal.returns-in-Ok-words_of-clause-refused
+returns-in-Ok-words_of-clause-refused g c not =
+    let contents = g.O.Write.contents in
+    let remaining = g.I.Read.remaining in
+    let so = c.live_command.ensures.refused not in
+    let same = ap (map (λ word. word.now)) c.as_slice-in-Ok-words_of.ensures.value ∙ c.in-Ok-words_of.ensures in
+    inr (
+      map string_bytes c.as_slice.result.now,
+      so.0,
+      so.1,
+      subst (λ (words : List (List ℕ)). IsLiveRefusedFor (contents c.args.out.now) (contents c.live_command.new.out)
+          (remaining c.args.input.now) (remaining c.live_command.new.input) c.live_command.result.file words so.0) same so.2,
+    )

@@ -1,0 +1,20 @@
+use Rattle.std.proofs.Common.{inl, inr, sym, subst}
+use Rattle.bot_machine.specs.PacketBytes.{bytes_of}
+use Rattle.live.specs.Missing.{DiskOn}
+use Rattle.live.specs.Starting.{IsStarted}
+use Rattle.live.proofs.starting.start_on.Goals as goal
+
+pub returns-in-Ok-start_disk-clause-started : goal.returns-in-Ok-start_disk-clause-started
+returns-in-Ok-start_disk-clause-started g c = record {
+  medium = c.new.result;
+  on = record { window = c.in-Ok.window; of = c.in-Ok.ensures.ok; over = c.new.ensures };
+  started = subst (λ (d : DiskOn g.row.D.Denot). IsStarted g.D.DeviceFile.told (bytes_of c.args.size) c.new.result d)
+      (sym c.new-in-Ok-start_disk.ensures) c.in-Ok-start_disk.ensures.started;
+}
+
+pub returns-in-Err-start_disk-clause-refused : goal.returns-in-Err-start_disk-clause-refused
+returns-in-Err-start_disk-clause-refused g c = inr (record {
+  medium = c.new.result;
+  on = record { window = c.in-Ok.window; of = c.in-Ok.ensures.ok; over = c.new.ensures };
+  refused = c.in-Err-start_disk.ensures.refused;
+})

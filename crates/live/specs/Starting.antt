@@ -1,0 +1,124 @@
+-- How a disk starts on an open file.
+use Rattle.std.specs.Prelude.{◌≡◌, ◌⊎◌, ℕ, List, max, Option, Some, None}
+use Rattle.medium.specs.Writes.{sector_of}
+use Rattle.log_layout.specs.declared.log_format.LogFormat.{LogFormat}
+use Rattle.log_layout.specs.declared.super_sector.Super.{Super}
+use Rattle.recovery.specs.Copies.{most_start_sends}
+use Rattle.window.specs.Window.{Window, CoversDevice, fresh}
+use Rattle.device_file.specs.Asked.{Told}
+use Rattle.device_file.specs.First.{IsUnopened, SpellsSuper}
+use Rattle.device_file.specs.Reads.{AreRead}
+use Rattle.device_file.specs.declared.fault.FileFault.{FileFault}
+use Rattle.device_file.specs.declared.opening.FirstSectors.{FirstSectors}
+use Rattle.device_file.specs.declared.opening.OpenFault.{OpenFault}
+use Rattle.file_window.specs.declared.file.FileWindow.{FileWindow}
+use Rattle.file_window.specs.FileWindows.{state_of, GoesOn, Carries, IsOver}
+use Rattle.scsi_unit.specs.Calls.{most_sends_of}
+use Rattle.bot_machine.specs.Disk.{IsRearmed}
+use Rattle.bot_machine.specs.Opening.{IsOpened, IsNotOpened, StartLeaves}
+use Rattle.bot_machine.specs.StartFaults.{StartFault}
+use Rattle.runner.specs.Script.{device}
+use Rattle.live.specs.Missing.{DiskOn, medium_of, window_of}
+use Rattle.live.specs.Playing.{CoversParts}
+use Rattle.live.specs.Status.{refusal_of_open}
+use Rattle.live.specs.declared.refusal.Refusal.{Refusal}
+use Rattle.live.specs.declared.refusal.Refusal.TheVariants as refused
+
+-- as many writes and flushes as an event makes at most, and as a start does that finds so many
+-- slots
+abbrev pub room_of : LogFormat → ℕ → ℕ
+room_of format slots = max (most_sends_of format) (most_start_sends format slots)
+
+-- those of an image; one flush comes before a super is sought
+abbrev pub room_for : Option Super → ℕ
+room_for (Some sizes) = room_of sizes.format sizes.slots
+room_for None = 1
+
+-- What reads of a file gave, and how many sectors it has.
+module _ {D : Type 0} (holds : D → ℕ → List ℕ → Type 0) (size : D → ℕ) where
+  -- a window over the first sectors of a file, as they were read of it, with the room that a disk
+  -- wants and a span of the longest transfer
+  pub record IsWindowOf (file : D) (w : Window) : Type 0 where
+    pub first : FirstSectors
+    pub size_is : first.sectors ≡ size file
+    pub spells : SpellsSuper first.sizes (sector_of first.bytes.items 0)
+    pub read : AreRead (holds file) 0 first.bytes.items
+    pub device : List ℕ
+    pub is : w ≡ fresh first.sectors first.bytes.items device 240 (room_for first.sizes)
+
+  -- it, and the file behind it
+  pub record IsMediumOn (file : D) (m : FileWindow D) : Type 0 where
+    pub window : Window
+    pub of : IsWindowOf file window
+    pub over : IsOver window file m
+
+-- no window was had over a file of so many sectors: it has none, it refused a read, or there was no
+-- memory
+abbrev pub HasNoWindow : ℕ → Refusal → Type 0
+HasNoWindow size refusal =
+    ((why : OpenFault) × IsUnopened size why × (refusal ≡ refusal_of_open why))
+    ⊎ (refusal ≡ refused.NoMemory)
+
+-- What a file was asked. Packets have at most so many bytes.
+module _ {D : Type 0} (told : D → Told) (most : ℕ) (medium : FileWindow D) where
+  -- A disk started on the medium, and the file was asked for nothing. Then it was asked for exactly
+  -- what waits, in order: it carried that out, or refused a call, behind which it was asked for
+  -- nothing.
+  pub record Starts (new : DiskOn D) : Type 0 where
+    pub started : DiskOn D
+    pub opens : IsOpened (state_of medium) (state_of (medium_of started)) (device most) started
+    pub leaves : StartLeaves (state_of medium) (state_of (medium_of started))
+    pub follows : GoesOn medium (medium_of started)
+    -- wherever among these calls the file is, a cut of it leaves what a cut at some moment could,
+    pub covers : CoversDevice medium.window (window_of started)
+    -- whichever of the writes behind its last synchronising it has carried out
+    pub parts : CoversParts medium.window (window_of started)
+    pub carried : Carries told (medium_of started) (medium_of new)
+    pub others : IsRearmed started new
+
+  -- No disk started. The file comes back, which was asked for nothing.
+  pub record IsNotStarted (back : D) (refusal : Refusal) : Type 0 where
+    pub after : FileWindow D
+    pub fault : StartFault
+    pub cause : IsNotOpened (state_of medium) (state_of after) fault
+    pub leaves : StartLeaves (state_of medium) (state_of after)
+    pub follows : GoesOn medium after
+    pub refused_is : refusal ≡ refused.Image fault
+    pub unasked : back ≡ medium.file
+
+  -- a disk started, and the file refused a call that it sent
+  pub record IsStartedInPart (back : D) (refusal : Refusal) : Type 0 where
+    pub disk : DiskOn D
+    pub starts : Starts disk
+    pub fault : FileFault
+    pub fault_is : (medium_of disk).fault ≡ Some fault
+    pub refused_is : refusal ≡ refused.File fault
+    pub given : back ≡ (medium_of disk).file
+
+  abbrev pub IsRefusedStart : D → Refusal → Type 0
+  IsRefusedStart back refusal = IsNotStarted back refusal ⊎ IsStartedInPart back refusal
+
+  -- a disk started, and the file carried out all that it sent
+  pub record IsStarted (new : DiskOn D) : Type 0 where
+    pub starts : Starts new
+    pub well : (medium_of new).fault ≡ None
+
+-- What reads of a file gave, how many sectors it has, and what it was asked.
+module _ {D : Type 0} (told : D → Told) (holds : D → ℕ → List ℕ → Type 0) (size : D → ℕ)
+    (most : ℕ) (file : D) where
+  -- a disk started on the file
+  pub record IsStartedOn (new : DiskOn D) : Type 0 where
+    pub medium : FileWindow D
+    pub on : IsMediumOn holds size file medium
+    pub started : IsStarted told most medium new
+
+  -- none did, since it was refused
+  pub record IsRefusedOn (back : D) (refusal : Refusal) : Type 0 where
+    pub medium : FileWindow D
+    pub on : IsMediumOn holds size file medium
+    pub refused : IsRefusedStart told most medium back refusal
+
+  -- or since no medium was had; the file was asked for nothing
+  abbrev pub IsNotStartedOn : D → Refusal → Type 0
+  IsNotStartedOn back refusal = (HasNoWindow (size file) refusal × (back ≡ file))
+      ⊎ IsRefusedOn back refusal

@@ -1,0 +1,149 @@
+//! The work of the program that serves an image file line by line.
+ghost use Rattle.std.specs.Prelude.{◌≡◌, ◌≢◌, ◌⊎◌, ◌≤◌, List, ℕ, None, IfOk, IfErr, map, drop};
+ghost use Rattle.std.specs.Io.KnownBytes.{Keeps};
+ghost use Rattle.device_file.specs.FileValue.{fresh};
+ghost use Rattle.live.specs.declared.refusal.Refusal.{Refusal};
+ghost use Rattle.live.specs.Program.{HasDoneLive, IsLiveRefusedFor};
+ghost use Rattle.live.specs.Status.{status_of};
+ghost use Rattle.runner.specs.Live.{IsLiveLine};
+
+use crate::ended::{Ended, Stopped};
+use crate::refusal::Refusal;
+use crate::serving::serve_file;
+use device_file::SystemFile;
+use runner::{arguments, hold_streams, read_live_words, words_of};
+use std::env::Env;
+use std::fs::{File, Files};
+use std::io::{Read, Write};
+
+/// The file of an image, where one was opened.
+type LeftFile = Option<SystemFile<File>>;
+
+/// Serves an image file, line by line of an input, and gives the exit status.
+///
+/// The words are the image's, behind which `--packet 64` or `--packet 512` may stand: packets have at
+/// most so many bytes, 512 where nothing is told. A refusal names the image and the cause on `err`,
+/// and a line that is none of a script its number.
+pub fn live_command<R: Files<File = File> + AllocGlobal, I: Read, O: Write, E: Write>(
+    rt: &R,
+    words: &[&str],
+    input: &mut I,
+    out: &mut O,
+    err: &mut E,
+) -> Ended
+    ensures statuses { result.status ≤ 5 }
+    ensures done { result.status ≡ 0 → HasDoneLive (O.contents out.old) (O.contents out.new)
+        (I.remaining input.old) (I.remaining input.new) result.file
+        (map (λ word. word.now) words.now) × (err.new ≡ err.old) }
+    ensures words { result.status ≡ 2 → IsLiveLine (map (λ word. word.now) words.now) → ⊥ }
+    ensures other_words { (IsLiveLine (map (λ word. word.now) words.now) → ⊥)
+        → result.status ≡ 2 }
+    ensures refused { result.status ≢ 0
+        → (refusal : Refusal) × (result.status ≡ status_of refusal)
+        × IsLiveRefusedFor (O.contents out.old) (O.contents out.new) (I.remaining input.old)
+        (I.remaining input.new) result.file (map (λ word. word.now) words.now) refusal }
+{
+    match serve_image(rt, words, input, out) {
+        Ok(file) => Ended { status: 0, file },
+        Err(stopped) => {
+            tell(stopped.refusal, words, err);
+            Ended {
+                status: stopped.refusal.status(),
+                file: stopped.file,
+            }
+        }
+    }
+}
+
+/// Serves the image file that the program's arguments name, and gives the exit status.
+pub fn run_live<R: Env + Files<File = File> + AllocGlobal, I: Read, O: Write, E: Write>(
+    rt: &R,
+    input: &mut I,
+    out: &mut O,
+    err: &mut E,
+) -> Ended
+    ensures statuses { result.status ≤ 5 }
+    ensures done { result.status ≡ 0 → ((args : List (List ℕ))
+        × HasDoneLive (O.contents out.old) (O.contents out.new) (I.remaining input.old)
+        (I.remaining input.new) result.file (drop 1 args)) × (err.new ≡ err.old) }
+    ensures refused { result.status ≢ 0 → ((result.file ≡ None) × Keeps (O.contents out.old)
+        (O.contents out.new)) ⊎ ((args : List (List ℕ)) × (refusal : Refusal)
+        × (result.status ≡ status_of refusal)
+        × IsLiveRefusedFor (O.contents out.old) (O.contents out.new) (I.remaining input.old)
+        (I.remaining input.new) result.file (drop 1 args) refusal) }
+{
+    let args = match arguments(rt) {
+        Ok(args) => args,
+        Err(runner::Refusal::NoMemory) => return refuse(Refusal::NoMemory, err),
+        Err(_) => return refuse(Refusal::Words, err),
+    };
+    match words_of(rt.alloc(), args.as_slice()) {
+        Ok(words) => live_command(rt, words.as_slice(), input, out, err),
+        Err(_) => refuse(Refusal::NoMemory, err),
+    }
+}
+
+// Serves what the words ask for. What takes the places of closed standard streams is held until the
+// end.
+fn serve_image<R: Files<File = File> + AllocGlobal, I: Read, O: Write>(
+    rt: &R,
+    words: &[&str],
+    input: &mut I,
+    out: &mut O,
+) -> Result<LeftFile, Stopped<LeftFile>>
+    ensures done { IfOk result (λ back. HasDoneLive (O.contents out.old) (O.contents out.new)
+        (I.remaining input.old) (I.remaining input.new) back (map (λ word. word.now) words.now)) }
+    ensures refused { IfErr result (λ stopped. IsLiveRefusedFor (O.contents out.old)
+        (O.contents out.new) (I.remaining input.old) (I.remaining input.new) stopped.file
+        (map (λ word. word.now) words.now) stopped.refusal) }
+{
+    let Some((image, size)) = read_live_words(words) else {
+        return Err(stopped(Refusal::Words));
+    };
+    let Ok(_streams) = hold_streams(rt) else {
+        return Err(stopped(Refusal::Streams));
+    };
+    let file = match SystemFile::open(rt, image) {
+        Ok(file) => file,
+        Err(fault) => return Err(stopped(Refusal::File(fault))),
+    };
+    match serve_file(rt.alloc(), file, size, input, out) {
+        Ok(file) => Ok(Some(file)),
+        Err(stopped) => Err(Stopped {
+            refusal: stopped.refusal,
+            file: Some(stopped.file),
+        }),
+    }
+}
+
+// Nothing was opened.
+fn stopped(refusal: Refusal) -> Stopped<LeftFile>
+    ensures { result ≡ record { refusal = refusal; file = None } }
+{
+    Stopped {
+        refusal,
+        file: None,
+    }
+}
+
+// Refuses before the words are known.
+fn refuse<E: Write>(refusal: Refusal, err: &mut E) -> Ended
+    ensures { result ≡ record { status = status_of refusal; file = None } }
+{
+    tell(refusal, &[], err);
+    Ended {
+        status: refusal.status(),
+        file: None,
+    }
+}
+
+// Writes why the words or the image were refused, where that can be written.
+fn tell<E: Write>(refusal: Refusal, words: &[&str], err: &mut E) {
+    let text = refusal.text();
+    let _ = match (refusal, words) {
+        (Refusal::Line(number), _) => writeln!(err, "line {number}: {text}"),
+        (Refusal::Words, _) => writeln!(err, "{text}"),
+        (_, [image, ..]) => writeln!(err, "{image}: {text}"),
+        _ => writeln!(err, "{text}"),
+    };
+}

@@ -1,0 +1,84 @@
+//! Why an image file was not served to the end of its input: the exit status, and the text.
+ghost use Rattle.std.specs.Prelude.{◌≡◌};
+ghost use Rattle.live.specs.Status.{status_of_call, status_of_start};
+
+use bot_machine::StartFault;
+use device_file::{FileCall, FileFault};
+
+/// Why an image file was not served to the end of the input.
+#[derive(Clone, Copy, Debug, PartialEq, Eq)]
+pub enum Refusal {
+    /// The words are none of a command.
+    Words,
+    /// The number of the first line of the input that is none of a script.
+    Line(u64),
+    /// The image has a fault.
+    Image(StartFault),
+    /// The file of the image refused a call.
+    File(FileFault),
+    /// The null device was not opened.
+    Streams,
+    /// The input was not read.
+    Input,
+    /// An answer was not written.
+    Output,
+    /// Memory ran out.
+    NoMemory,
+}
+
+impl Refusal {
+    ghost use Rattle.live.specs.Status.{status_of};
+
+    /// The exit status.
+    pub(crate) fn status(&self) -> u8
+        ensures { result ≡ status_of self.now }
+    {
+        match *self {
+            Refusal::Words => 2,
+            Refusal::Line(_) => 1,
+            Refusal::Image(fault) => status_of_fault(fault),
+            Refusal::File(fault) => status_of_refused(fault.call),
+            Refusal::Streams => 4,
+            Refusal::Input => 4,
+            Refusal::Output => 4,
+            Refusal::NoMemory => 5,
+        }
+    }
+
+    /// What it is called on standard error, but for the number of a line.
+    pub(crate) fn text(self) -> &'static str {
+        match self {
+            Refusal::Words => "bad command line",
+            Refusal::Line(_) => "not a script line",
+            Refusal::Image(fault) => images::Refusal::Image(fault).text(),
+            Refusal::File(fault) => images::Refusal::File(fault).text(),
+            Refusal::Streams => "the null device was not opened",
+            Refusal::Input => "the input was not read",
+            Refusal::Output => "an answer was not written",
+            Refusal::NoMemory => "no memory",
+        }
+    }
+}
+
+// The status where a disk does not start.
+fn status_of_fault(fault: StartFault) -> u8
+    ensures { result ≡ status_of_start fault }
+{
+    match fault {
+        StartFault::NoMemory => 5,
+        StartFault::Read => 4,
+        StartFault::Write => 4,
+        StartFault::Flush => 4,
+        _ => 3,
+    }
+}
+
+// The status where the file refuses a call.
+fn status_of_refused(call: FileCall) -> u8
+    ensures { result ≡ status_of_call call }
+{
+    match call {
+        FileCall::Length => 3,
+        _ => 4,
+    }
+}

@@ -1,0 +1,61 @@
+//! The lines of an input are served on an open file.
+ghost use Rattle.std.specs.Prelude.{◌≡◌, Option, IfOk, IfErr};
+ghost use Rattle.bot_machine.specs.PacketBytes.{bytes_of};
+ghost use Rattle.live.specs.Serving.{IsServedOn, IsNotServedOn};
+ghost use Rattle.live.specs.Status.{refusal_of_serving};
+
+use crate::ended::Stopped;
+use crate::refusal::Refusal;
+use crate::starting::start_on;
+use bot_machine::PacketSize;
+use device_file::{DeviceFile, FileFault};
+use runner::{ServeFault, serve_player};
+use std::alloc::Global;
+use std::io::{Read, Write};
+
+/// Starts a disk on an open file and serves the lines of an input, each before more is read. Behind
+/// the start, and behind each event before it is answered, the file carries out what was sent. The
+/// file comes back with exactly what it was asked.
+///
+/// # Errors
+///
+/// Why no disk started, and then nothing was read or written; or why the input was not served to
+/// its end.
+pub fn serve_file<D: DeviceFile, I: Read, O: Write>(
+    alloc: Global,
+    file: D,
+    size: PacketSize,
+    input: &mut I,
+    out: &mut O,
+) -> Result<D, Stopped<D>>
+    ensures served { IfOk result (IsServedOn D.told D.holds D.refuses D.size (bytes_of size) file
+        (O.contents out.old) (O.contents out.new) (I.remaining input.old) (I.remaining input.new)) }
+    ensures refused { IfErr result (λ stopped. IsNotServedOn D.told D.holds D.refuses D.size
+        (bytes_of size) file (O.contents out.old) (O.contents out.new) (I.remaining input.old)
+        (I.remaining input.new) stopped.file stopped.refusal) }
+{
+    let mut disk = match start_on(alloc, file, size) {
+        Ok(disk) => disk,
+        Err(stopped) => return Err(stopped),
+    };
+    match serve_player(&mut disk, input, out) {
+        Ok(()) => Ok(disk.into_file()),
+        Err(fault) => Err(Stopped {
+            refusal: refusal_of(fault, disk.fault()),
+            file: disk.into_file(),
+        }),
+    }
+}
+
+// Why lines were not served to their end, given the call that the file refused.
+fn refusal_of(fault: ServeFault, why: Option<FileFault>) -> Refusal
+    ensures { result ≡ refusal_of_serving fault why }
+{
+    match (fault, why) {
+        (ServeFault::Line(number), _) => Refusal::Line(number),
+        (ServeFault::Reader, _) => Refusal::Input,
+        (ServeFault::Writer, _) => Refusal::Output,
+        (ServeFault::Player, Some(why)) => Refusal::File(why),
+        (ServeFault::Player, None) => Refusal::Output,
+    }
+}

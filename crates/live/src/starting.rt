@@ -1,0 +1,131 @@
+//! A disk starts on an open file.
+ghost use Rattle.std.specs.Prelude.{◌≡◌, IfOk, IfErr, length};
+ghost use Rattle.bot_machine.specs.PacketBytes.{bytes_of};
+ghost use Rattle.live.specs.Starting.{HasNoWindow, IsNotStartedOn, IsRefusedStart, IsStarted};
+ghost use Rattle.live.specs.Starting.{IsStartedOn, IsWindowOf, room_for};
+ghost use Rattle.live.specs.Status.{refusal_of_open};
+
+use crate::ended::Stopped;
+use crate::player::{FileDisk, TRANSFER, foresee_window};
+use crate::refusal::Refusal;
+use bot_machine::{Disk, PacketSize};
+use device_file::{DeviceFile, FirstSectors, OpenFault, Run};
+use file_window::FileWindow;
+use log_layout::{LogFormat, Super};
+use medium::Outlet;
+use runner::disk_identity;
+use std::alloc::{AllocError, Global};
+use window::{DeviceHolds, WindowMedium};
+
+/// The most sectors that are in sight at once behind the first ones: those of the longest transfer.
+const SPAN: u32 = 240;
+
+/// A disk that has started on an open file, once the file has carried out what the start sent.
+pub(crate) fn start_on<D: DeviceFile>(
+    alloc: Global,
+    file: D,
+    size: PacketSize,
+) -> Result<FileDisk<D>, Stopped<D>>
+    ensures started { IfOk result (IsStartedOn D.told D.holds D.size (bytes_of size) file) }
+    ensures refused { IfErr result (λ stopped. IsNotStartedOn D.told D.holds D.size (bytes_of size)
+        file stopped.file stopped.refusal) }
+{
+    let window = match window_over(alloc, &file) {
+        Ok(window) => window,
+        Err(refusal) => return Err(Stopped { refusal, file }),
+    };
+    let (bytes, run) = match memory(alloc) {
+        Ok(memory) => memory,
+        Err(_) => {
+            return Err(Stopped {
+                refusal: Refusal::NoMemory,
+                file,
+            });
+        }
+    };
+    match start_disk(alloc, FileWindow::new(window, file, run), size) {
+        Ok(disk) => Ok(FileDisk::new(disk, bytes)),
+        Err(stopped) => Err(stopped),
+    }
+}
+
+// A window over a file, of which the first sectors are read.
+fn window_over<D: DeviceFile>(alloc: Global, file: &D) -> Result<WindowMedium, Refusal>
+    ensures ok { IfOk result (IsWindowOf D.holds D.size file.now) }
+    ensures err { IfErr result (HasNoWindow (D.size file.now)) }
+{
+    let first = match FirstSectors::read(alloc, file) {
+        Ok(first) => first,
+        Err(fault) => return Err(refusal_of(fault)),
+    };
+    let room = room_to_serve(&first.sizes);
+    let device = DeviceHolds::any();
+    match first.into_window(alloc, &device, SPAN, room) {
+        Ok(window) => Ok(window),
+        Err(_) => Err(Refusal::NoMemory),
+    }
+}
+
+// Why no first sectors were had.
+fn refusal_of(fault: OpenFault) -> Refusal
+    ensures { result ≡ refusal_of_open fault }
+{
+    match fault {
+        OpenFault::File(fault) => Refusal::File(fault),
+        OpenFault::NoMemory => Refusal::NoMemory,
+    }
+}
+
+// How many calls an outbox has to have room for, over an image with such a super.
+fn room_to_serve(sizes: &Option<Super>) -> usize
+    ensures { result ≡ room_for sizes.now }
+{
+    let Some(sizes) = sizes else {
+        return 1;
+    };
+    let room = match sizes.format {
+        LogFormat::One => (48 * sizes.slots + 4).max(309),
+        LogFormat::Two => (240 * sizes.slots + 4).max(1_479),
+    };
+    room as usize
+}
+
+// The memory for what one packet has read, and for the longest write.
+fn memory(alloc: Global) -> Result<(Vec<u8>, Run), AllocError>
+    ensures { IfOk result (λ memory. length memory.0.items ≡ 122880) }
+{
+    let bytes = vec![in alloc; 0; TRANSFER]?;
+    let run = Run::new(alloc)?;
+    Ok((bytes, run))
+}
+
+// A disk that has started on a window over a file, which then carries out what waits there. Where
+// the start is refused the file is asked for nothing.
+fn start_disk<D: DeviceFile>(
+    alloc: Global,
+    medium: FileWindow<D>,
+    size: PacketSize,
+) -> Result<Disk<FileWindow<D>>, Stopped<D>>
+    ensures started { IfOk result (IsStarted D.told (bytes_of size) medium) }
+    ensures refused { IfErr result (λ stopped. IsRefusedStart D.told (bytes_of size) medium
+        stopped.file stopped.refusal) }
+{
+    foresee_window(&medium);
+    let mut disk = match Disk::start_with(alloc, medium, disk_identity(), size) {
+        Ok(disk) => disk,
+        Err(error) => {
+            return Err(Stopped {
+                refusal: Refusal::Image(error.fault),
+                file: error.medium.into_file(),
+            });
+        }
+    };
+    disk.give();
+    match disk.medium().fault() {
+        None => Ok(disk),
+        Some(fault) => Err(Stopped {
+            refusal: Refusal::File(fault),
+            file: disk.into_medium().into_file(),
+        }),
+    }
+}
