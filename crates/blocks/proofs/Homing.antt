@@ -60,7 +60,8 @@ goes_on_home old mid new away sent so_far =
     let left = ap (λ (l : LogValue). of_oldest l) is in
     inl (record {
       so_far =
-          all ∙ ap (λ (n : ℕ). record old { retire_steps_left = n; kept = new.kept }) (sym (ap (λ (l : LogValue). l.retire_steps_left) all));
+          all
+          ∙ ap (λ (n : ℕ). record old { retire_steps_left = n; kept = new.kept }) (sym (ap (λ (l : LogValue). l.retire_steps_left) all));
       away = λ far. omega (arith, left, more);
       none = λ few. absurd (omega (arith, few, some));
     }))

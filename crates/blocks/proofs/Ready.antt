@@ -50,7 +50,8 @@ counted_one log k = alike_if (is_covered log) (settled (record log { kept = k })
     (λ j. refl) (λ j. refl)
 
 past_one : (log : LogValue) (k : List ℕ) → Alike (past (record log { kept = k })) (past log)
-past_one log k = alike_if (pass_calls log == 1) (oldest_retired (record log { kept = k })) (record log { kept = k }) (oldest_retired log) log
+past_one log k = alike_if (pass_calls log == 1) (oldest_retired (record log { kept = k })) (record log { kept = k })
+    (oldest_retired log) log
     (λ j. refl) (λ j. refl)
 
 passed_one : (log : LogValue) (k : List ℕ) → Alike (passed (record log { kept = k })) (passed log)
@@ -76,13 +77,15 @@ wrote_one : (numbers : List ℕ) (log : LogValue) (k : List ℕ)
     → Alike (written_out (begun numbers (record log { kept = k }))) (written_out (begun numbers log))
 wrote_one numbers log k j = refl
 
-finished_one : (numbers : List ℕ) (log : LogValue) (k : List ℕ) → Alike (finished true numbers (record log { kept = k })) (finished true numbers log)
+finished_one : (numbers : List ℕ) (log : LogValue) (k : List ℕ)
+    → Alike (finished true numbers (record log { kept = k })) (finished true numbers log)
 finished_one numbers log k = from log.steps_left numbers
   where
     from : (steps : ℕ) (ns : List ℕ) → Alike (finished_from true steps ns (record log { kept = k })) (finished_from true steps ns log)
     from (suc steps) ns = λ j. refl
     from zero [] = λ j. refl
-    from zero (n ∷ ns) = lifted (λ (l : LogValue). written_out (begun (n ∷ ns) l)) (wrote_one (n ∷ ns)) (ahead_room (record log { kept = k }))
+    from zero (n ∷ ns) = lifted (λ (l : LogValue). written_out (begun (n ∷ ns) l)) (wrote_one (n ∷ ns))
+        (ahead_room (record log { kept = k }))
         (ahead_room log) (ahead_one log k)
 
 -- ---- its calls
@@ -105,7 +108,8 @@ ahead_same log k =
     ≡ passed_calls log + sent_calls (passed log) = omega (arith, first, last) in
     ap (λ (n : ℕ). if nat_lt (log.next - log.head) log.shape.slots then n else retiring_calls log) both
 
-calls_one : (numbers : List ℕ) (log : LogValue) (k : List ℕ) → finish_calls true numbers (record log { kept = k }) ≡ finish_calls true numbers log
+calls_one : (numbers : List ℕ) (log : LogValue) (k : List ℕ)
+    → finish_calls true numbers (record log { kept = k }) ≡ finish_calls true numbers log
 calls_one numbers log k = from log.steps_left numbers
   where
     from : (steps : ℕ) (ns : List ℕ) → finish_from true steps ns (record log { kept = k }) ≡ finish_from true steps ns log
@@ -184,7 +188,8 @@ passed_so log = prepared_if (is_short log) log (past (counted log)) log
     (then_so log (counted log) (past (counted log)) (counted_so log) (past_so (counted log))) (itself log)
 
 gone_so : (log : LogValue) → Prepared log (gone_home log)
-gone_so log = prepared_if (nat_lt 2 (of_oldest log)) log (record log { retire_steps_left = behind_oldest log + 2; ahead = ahead_of log }) log
+gone_so log = prepared_if (nat_lt 2 (of_oldest log)) log
+    (record log { retire_steps_left = behind_oldest log + 2; ahead = ahead_of log }) log
     (record { shape = refl; head = omega arith; next = refl; under_way = refl; steps = refl }) (itself log)
 
 sent_so : (log : LogValue) → Prepared log (sent_home log)
@@ -264,7 +269,8 @@ more_spare false count more = refl
 more_spare true count more = omega arith
 
 -- the calls of a batch for which slots are free
-pub roomy_one : (ahead : Bool) (numbers : List ℕ) (log : LogValue) (more : ℕ) → HasSlots (with_spare ahead (to_begin numbers log + more)) log
+pub roomy_one : (ahead : Bool) (numbers : List ℕ) (log : LogValue) (more : ℕ)
+    → HasSlots (with_spare ahead (to_begin numbers log + more)) log
     → finish_calls ahead numbers log ≡ record_calls numbers log
 roomy_one ahead numbers log more = from log.steps_left numbers
   where

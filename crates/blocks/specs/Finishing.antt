@@ -2,14 +2,14 @@
 -- for that.
 use Rattle.std.specs.Prelude.{◌≡◌, ◌+◌, ◌≤◌, ◌<◌, true, [], length, Bool, Result, OnOk}
 use Rattle.medium.specs.Medium.{State}
-use Rattle.redo_log.specs.Value.{HasRoom}
+use Rattle.redo_log.specs.Value.{HasRoom, most_retire_sends}
 use Rattle.blocks.specs.declared.fault.StoreFault.{StoreFault}
-use Rattle.blocks.specs.StoreValue.{Cached, StoreValue, active_of, unwritten, wants}
+use Rattle.blocks.specs.StoreValue.{Cached, StoreValue, layout_of, active_of, unwritten, wants}
 use Rattle.blocks.specs.StoreValue.{steps_left}
-use Rattle.blocks.specs.Passing.{MayEmpty}
+use Rattle.blocks.specs.Passing.{MayEmpty, PassesPaid, TellsLife}
 use Rattle.blocks.specs.Retiring.{RetiresForRoom, finished, made_ready, written_out, IsLog, IsRoomy}
 use Rattle.blocks.specs.Retiring.{HasSlots, with_spare, to_begin, record_calls, calls_from}
-use Rattle.blocks.specs.Retiring.{both_calls}
+use Rattle.blocks.specs.Retiring.{both_calls, ready_calls}
 use Rattle.blocks.specs.Steady.{IsSteady, steady_calls}
 
 -- what a call of a store answers that gives nothing
@@ -35,6 +35,15 @@ pub record MakesRoom {M : Type 0} (ahead : Bool) (result : Answer) (old new : St
   pub quiet : IsRoomy ahead old.cached.log → new.medium ≡ old.medium
   pub active : new.cached.active ≡ old.cached.active
   pub frozen : new.cached.frozen ≡ old.cached.frozen
+
+-- The same as the store's policy says, by exactly the calls for that, with all that a turn promises.
+pub record MakesReady {M : Type 0} (state : M → State) (Follows : M → M → Type 0)
+    (result : Answer) (old new : StoreValue M) : Type 0 where
+  pub passes : PassesPaid state Follows (most_retire_sends (layout_of old.cached).format) old new
+  pub answer : TellsLife result new.cached
+  pub room : MakesRoom old.goes_ahead result old new
+  pub cost : OnOk result ((state new.medium).calls
+      ≡ (state old.medium).calls + ready_calls old.goes_ahead old.cached.log)
 
 -- Where Ok the frozen batch is durable and empty. Where it was empty nothing happens, and else the
 -- record that was written waits. The active batch stays.

@@ -1,9 +1,11 @@
 -- What the calls of a store do that make it go ahead.
-use Rattle.std.specs.Prelude.{◌≡◌, ◌≤◌, ◌<◌, ◌+◌, ℕ, false}
+use Rattle.std.specs.Prelude.{◌≡◌, ◌≤◌, ◌<◌, ◌+◌, ℕ, false, Result}
 use Rattle.medium.specs.Medium.{State}
 use Rattle.medium.specs.Sent.{SendsUpTo}
 use Rattle.redo_log.specs.Value.{LogValue, IsSentHome, next_calls, next_sends, pass_calls}
-use Rattle.blocks.specs.Ahead.{counted, past}
+use Rattle.blocks.specs.declared.fault.StoreFault.{StoreFault}
+use Rattle.blocks.specs.Ahead.{counted, past, IsBut}
+use Rattle.blocks.specs.Passing.{TellsLife}
 use Rattle.blocks.specs.StoreValue.{Cached, is_dead, steps_left}
 
 -- so much is known of each of them: both batches stay, and no step is left of a record
@@ -36,9 +38,12 @@ pub record BringsHome (before after : State) (old new : Cached) : Type 0 where
   pub head : new.log.head ≡ old.log.head
   pub stays : StaysIdle old new
 
--- Where it is good, the log is such a one, by exactly so many calls.
-pub record GoesAhead (Is : LogValue → Type 0) (count : ℕ) (before after : State)
-    (old new : Cached) : Type 0 where
-  pub log : is_dead new ≡ false → Is new.log
+-- Where it is good, the log is this one but for the descriptor that is kept, by exactly so many
+-- calls. No more records are passed than so many, and whether the store is live it tells.
+pub record GoesAhead (result : Result (Unit {0}) StoreFault) (is : LogValue) (count most : ℕ)
+    (before after : State) (old new : Cached) : Type 0 where
+  pub log : is_dead new ≡ false → IsBut is new.log
   pub calls : is_dead new ≡ false → after.calls ≡ before.calls + count
   pub stays : StaysIdle old new
+  pub head : new.log.head ≤ old.log.head + most
+  pub answer : TellsLife result new

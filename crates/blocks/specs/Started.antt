@@ -6,7 +6,7 @@ use Rattle.medium.specs.Blocks.{Array}
 use Rattle.log_layout.specs.Places.{Shape}
 use Rattle.log_image.specs.Standing.{StandsFor, IsOurs}
 use Rattle.log_image.specs.ImageFaults.{HasShape}
-use Rattle.recovery.specs.Causes.{IsCause}
+use Rattle.recovery.specs.Causes.{IsCause, IsDeviceFault}
 use Rattle.recovery.specs.Copies.{most_start_of}
 use Rattle.recovery.specs.Recovered.{IsRecoveredFrom, IsOursForSome, IsOursWithNext, StandsForOneOf}
 use Rattle.recovery.specs.Looks as recovery
@@ -14,11 +14,12 @@ use Rattle.recovery.specs.Recovered.{RecoverySends, SparesTheRest}
 use Rattle.recovery.specs.declared.recovered.Recovered.{Recovered}
 use Rattle.recovery.specs.declared.start_fault.StartFault.{StartFault}
 use Rattle.recovery.specs.declared.start_fault.StartFault.TheVariants.{NoMemory}
+use Rattle.blocks.specs.Ahead.{may_go_ahead}
 use Rattle.blocks.specs.Book.{Book, opened}
 use Rattle.blocks.specs.Finding.{MayFind}
 use Rattle.blocks.specs.Opening.{OpensOn}
 use Rattle.blocks.specs.StoreValue.{Cached, layout_of, blocks_of, is_dead, active_of, steps_left}
-use Rattle.blocks.specs.StoreValue.{FitsBook}
+use Rattle.blocks.specs.StoreValue.{FitsBook, StoreValue}
 
 -- A store that has started serves the array for which the contents of the medium stood. It fits a
 -- life that opens with it, under the premise that every image was ours only where every one was.
@@ -93,3 +94,20 @@ pub record LeavesMedium {M : Type 0} (state : M → State) (Follows : M → M �
   pub follows : Follows old new
   -- each read names a sector of the log
   pub looks : recovery.LooksAtLog (state old) (state new)
+
+-- A store that was started as any, and that goes ahead where its log allows it.
+pub record StartsAhead {M : Type 0} (state : M → State) (Follows : M → M → Type 0) (medium : M)
+    (store : StoreValue M) : Type 0 where
+  pub started : IsStarted (state medium) (state store.medium) store.cached
+  pub policy : store.goes_ahead ≡ may_go_ahead (layout_of store.cached)
+  pub leaves : LeavesMedium state Follows medium store.medium
+
+-- Its start was refused, as any: contents that stand for something with a stamp left are refused by
+-- the device alone, or for want of memory.
+pub record RefusesStart {M : Type 0} (state : M → State) (Follows : M → M → Type 0)
+    (medium back : M) (fault : StartFault) : Type 0 where
+  pub cause : IsStartCause (state medium) (state back) fault
+  pub served : (shape : Shape) (array : Array) (next : ℕ)
+      → StandsFor (state medium).size shape (state medium).content array next → next < 2 ^ 63
+      → IsDeviceFault fault ⊎ (fault ≡ NoMemory)
+  pub leaves : LeavesMedium state Follows medium back

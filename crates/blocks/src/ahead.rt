@@ -6,7 +6,7 @@ ghost use Rattle.blocks.specs.StoreValue.{layout_of, is_dead};
 ghost use Rattle.blocks.specs.Turns.{IsTurn};
 ghost use Rattle.blocks.specs.Passing.{PassesPaid, KeepsMedium, TellsLife};
 ghost use Rattle.blocks.specs.Ahead.{gone_home, going_calls, passed, passed_calls};
-ghost use Rattle.blocks.specs.Ahead.{sent_home, sent_calls, IsBut};
+ghost use Rattle.blocks.specs.Ahead.{sent_home, sent_calls};
 ghost use Rattle.blocks.specs.Retiring.{HasSlots};
 ghost use Rattle.blocks.specs.Going.{CountsFlush, PassesHead, BringsHome, GoesAhead};
 
@@ -58,36 +58,15 @@ impl<M: Medium> Store<M> {
         }
     }
 
-    // Passes the oldest record where fewer slots are free than three, and an earlier flush covers
-    // it.
-    fn pass(&mut self) -> Result<(), StoreFault>
-        requires live { is_dead self.old.cached ≡ false }
-        requires idle { self.old.cached.log.steps_left ≡ 0 }
-        ensures passes { PassesPaid M.state M.follows 1 self.old self.new }
-        ensures going { GoesAhead (λ log. log ≡ passed self.old.cached.log)
-            (passed_calls self.old.cached.log) (M.state self.old.medium) (M.state self.new.medium)
-            self.old.cached self.new.cached }
-        ensures rests { HasSlots 3 self.old.cached.log → self.new ≡ self.old }
-        ensures answer { TellsLife result self.new.cached }
-    {
-        if self.log.has_slots(3) {
-            return Ok(());
-        }
-        self.count_flush();
-        self.pass_head()
-    }
-
     // Brings the blocks of the oldest record home that are away.
     fn go_home(&mut self) -> Result<(), StoreFault>
         requires live { is_dead self.old.cached ≡ false }
         requires idle { self.old.cached.log.steps_left ≡ 0 }
         ensures passes { PassesPaid M.state M.follows
             (limit_of (layout_of self.old.cached).format) self.old self.new }
-        ensures going { GoesAhead (IsBut (gone_home self.old.cached.log))
-            (going_calls self.old.cached.log) (M.state self.old.medium) (M.state self.new.medium)
+        ensures going { GoesAhead result (gone_home self.old.cached.log)
+            (going_calls self.old.cached.log) 0 (M.state self.old.medium) (M.state self.new.medium)
             self.old.cached self.new.cached }
-        ensures head { self.new.cached.log.head ≡ self.old.cached.log.head }
-        ensures answer { TellsLife result self.new.cached }
     {
         // The log says here how many writes and flushes retire its oldest record at most.
         let _few = self.log.has_room();
@@ -97,39 +76,27 @@ impl<M: Medium> Store<M> {
         Ok(())
     }
 
-    // The same where fewer slots are free than three.
-    fn send_home(&mut self) -> Result<(), StoreFault>
-        requires live { is_dead self.old.cached ≡ false }
-        requires idle { self.old.cached.log.steps_left ≡ 0 }
-        ensures passes { PassesPaid M.state M.follows
-            (limit_of (layout_of self.old.cached).format) self.old self.new }
-        ensures going { GoesAhead (IsBut (sent_home self.old.cached.log))
-            (sent_calls self.old.cached.log) (M.state self.old.medium) (M.state self.new.medium)
-            self.old.cached self.new.cached }
-        ensures head { self.new.cached.log.head ≡ self.old.cached.log.head }
-        ensures rests { HasSlots 3 self.old.cached.log → self.new ≡ self.old }
-        ensures answer { TellsLife result self.new.cached }
-    {
-        if self.log.has_slots(3) {
-            return Ok(());
-        }
-        self.go_home()
-    }
-
     /// Makes a flush of the next record stand for those that retiring its oldest one would make:
-    /// the head goes past that where it is flushed at home, and the oldest one then goes home.
+    /// where fewer slots are free than three, the head goes past that record, if it is flushed at
+    /// home, and where they are still fewer, the oldest one goes home.
     pub(crate) fn go_ahead(&mut self) -> Result<(), StoreFault>
         requires live { is_dead self.old.cached ≡ false }
         requires idle { self.old.cached.log.steps_left ≡ 0 }
         ensures passes { PassesPaid M.state M.follows
             (limit_of (layout_of self.old.cached).format + 1) self.old self.new }
-        ensures going { GoesAhead (IsBut (sent_home (passed self.old.cached.log)))
-            (passed_calls self.old.cached.log + sent_calls (passed self.old.cached.log))
+        ensures going { GoesAhead result (sent_home (passed self.old.cached.log))
+            (passed_calls self.old.cached.log + sent_calls (passed self.old.cached.log)) 1
             (M.state self.old.medium) (M.state self.new.medium) self.old.cached self.new.cached }
         ensures rests { HasSlots 3 self.old.cached.log → self.new ≡ self.old }
-        ensures answer { TellsLife result self.new.cached }
     {
-        self.pass()?;
-        self.send_home()
+        if self.log.has_slots(3) {
+            return Ok(());
+        }
+        self.count_flush();
+        self.pass_head()?;
+        if self.log.has_slots(3) {
+            return Ok(());
+        }
+        self.go_home()
     }
 }

@@ -9,7 +9,7 @@ ghost use Rattle.redo_log.specs.Value.{idle_from};
 ghost use Rattle.recovery.specs.Causes.{IsDeviceFault};
 ghost use Rattle.blocks.specs.Ahead.{may_go_ahead};
 ghost use Rattle.blocks.specs.Started.{IsStarted, IsStartCause, LeavesMedium};
-ghost use Rattle.blocks.specs.StoreValue.{layout_of};
+ghost use Rattle.blocks.specs.Started.{StartsAhead, RefusesStart};
 
 use crate::{StartError, Store};
 use cache::{Batch, Frozen};
@@ -108,20 +108,9 @@ impl<M: Medium> Store<M> {
     ///
     /// Those of `start`.
     pub fn start_ahead(alloc: Global, medium: M) -> Result<Store<M>, StartError<M>>
-        ensures ok { IfOk result (λ store.
-            IsStarted (M.state medium) (M.state store.medium) store.cached) }
-        ensures policy { IfOk result (λ store.
-            store.goes_ahead ≡ may_go_ahead (layout_of store.cached)) }
-        ensures err { IfErr result (λ error.
-            IsStartCause (M.state medium) (M.state error.medium) error.fault) }
-        ensures served { (shape : Shape) (array : Array) (next : ℕ)
-            → StandsFor (M.state medium).size shape (M.state medium).content array next
-            → next < 2 ^ 63
-            → IfErr result (λ error. IsDeviceFault error.fault
-            ⊎ (error.fault ≡ StartFault.NoMemory)) }
-        ensures leaves { MatchResult result
-            (λ store. LeavesMedium M.state M.follows medium store.medium)
-            (λ error. LeavesMedium M.state M.follows medium error.medium) }
+        ensures starts { MatchResult result
+            (λ store. StartsAhead M.state M.follows medium store)
+            (λ error. RefusesStart M.state M.follows medium error.medium error.fault) }
     {
         let mut store = match Store::start(alloc, medium) {
             Ok(store) => store,

@@ -5,8 +5,9 @@ ghost use Rattle.blocks.specs.Book.{Book, promised};
 ghost use Rattle.blocks.specs.StoreValue.{layout_of, is_dead, FitsBook};
 ghost use Rattle.blocks.specs.Sent.{batch_sends};
 ghost use Rattle.blocks.specs.Passing.{PassesPaid, TellsLife, Answers};
-ghost use Rattle.blocks.specs.Finishing.{WritesOut, MakesRoom, FinishesFrozen, FinishesBoth, CostsSync};
-ghost use Rattle.blocks.specs.Retiring.{room_calls, ready_calls, finish_calls};
+ghost use Rattle.blocks.specs.Finishing.{WritesOut, MakesRoom, MakesReady, FinishesFrozen};
+ghost use Rattle.blocks.specs.Finishing.{FinishesBoth, CostsSync};
+ghost use Rattle.blocks.specs.Retiring.{room_calls, finish_calls};
 
 use crate::{Store, StoreFault};
 use medium::Medium;
@@ -79,13 +80,7 @@ impl<M: Medium> Store<M> {
     fn make_ready(&mut self) -> Result<(), StoreFault>
         requires live { is_dead self.old.cached ≡ false }
         requires idle { self.old.cached.log.steps_left ≡ 0 }
-        ensures passes { PassesPaid M.state M.follows
-            (most_retire_sends (layout_of self.old.cached).format) self.old self.new }
-        ensures answer { TellsLife result self.new.cached }
-        ensures room { MakesRoom self.old.goes_ahead result self.old self.new }
-        ensures cost { OnOk result ((M.state self.new.medium).calls
-            ≡ (M.state self.old.medium).calls
-            + ready_calls self.old.goes_ahead self.old.cached.log) }
+        ensures ready { MakesReady M.state M.follows result self.old self.new }
     {
         if !self.goes_ahead {
             return self.make_room();

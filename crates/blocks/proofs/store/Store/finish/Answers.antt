@@ -65,7 +65,7 @@ returns-clause-passes g c = record {
   policy = search rules;
   turn =
       let written = turns _ _ _ _ _ _ c.begin.ensures.keeps.turn c.write_out-2.ensures.passes.turn in
-      turns _ _ _ _ _ _ c.make_ready.ensures.passes.turn written;
+      turns _ _ _ _ _ _ c.make_ready.ensures.ready.passes.turn written;
   paid = search rules;
   sent =
       let old = c.args.self.now.cached in
@@ -73,15 +73,15 @@ returns-clause-passes g c = record {
       let frozen_is : c.self.inside.frozen ≡ old.frozen = ap (λ v. v.cached.frozen) c.self.view_is in
       let log_is : c.self.inside.log ≡ old.log = ap (λ v. v.cached.log) c.self.view_is in
       let begun_is = (c.begin.ensures.begins.live c.in_ok-begin.ensures.answer).1
-      ∙ ap (λ (batch : Entries). begun batch.numbers mid.log) c.make_ready.ensures.room.frozen in
+      ∙ ap (λ (batch : Entries). begun batch.numbers mid.log) c.make_ready.ensures.ready.room.frozen in
       let steps = ap (λ (log : LogValue). log.steps_left) begun_is
-      ∙ ap (λ (shape : Shape). steps_of shape.format old.frozen.numbers) c.make_ready.ensures.passes.turn.goes_on.layout_stays in
+      ∙ ap (λ (shape : Shape). steps_of shape.format old.frozen.numbers) c.make_ready.ensures.ready.passes.turn.goes_on.layout_stays in
       let long = ap (λ (batch : Entries). length batch.numbers) frozen_is in
       let format = ap (λ (log : LogValue). limit_of log.shape.format) log_is in
       let few = few_steps_for old.log.shape.format (length old.frozen.numbers)
       (omega (arith, c.self.invariant.frozen.well_formed.within, c.self.invariant.frozen.room, long, format)) in
       let quiet = ap (λ m. sent (g.M.Medium.state m)) c.begin.ensures.keeps.medium in
-      omega (arith, c.make_ready.ensures.passes.sent, c.write_out-2.ensures.passes.sent, steps, few, quiet);
+      omega (arith, c.make_ready.ensures.ready.passes.sent, c.write_out-2.ensures.passes.sent, steps, few, quiet);
   none_refused = search rules;
   follows = search rules;
   looks =
@@ -89,7 +89,7 @@ returns-clause-passes g c = record {
       let begun = g.M.Medium.state c.begin.new.self.medium in
       let after = g.M.Medium.state c.write_out-2.new.self.medium in
       looks_on (g.M.Medium.state c.args.self.now.medium) mid after c.args.self.now.cached c.make_ready.new.self.cached
-      c.make_ready.ensures.passes.turn.goes_on.layout_stays c.make_ready.ensures.passes.looks
+      c.make_ready.ensures.ready.passes.turn.goes_on.layout_stays c.make_ready.ensures.ready.passes.looks
       (looks_on mid begun after c.make_ready.new.self.cached c.begin.new.self.cached c.begin.ensures.keeps.turn.goes_on.layout_stays
       (none mid begun c.make_ready.new.self.cached (ap (λ m. (g.M.Medium.state m).looked) c.begin.ensures.keeps.medium))
       c.write_out-2.ensures.passes.looks);
@@ -131,10 +131,10 @@ returns-clause-batch g c = record {
       let some : 0 < length old.frozen.numbers = subst (λ (batch : Entries). 0 < length batch.numbers) frozen_is
       (some_listed c.self.inside.frozen.numbers (λ none. false≢true (sym c.if-is_empty.false ∙ c.is_empty.ensures.1 none))) in
       let begun_is = (c.begin.ensures.begins.live c.in_ok-begin.ensures.answer).1
-      ∙ ap (λ (batch : Entries). begun batch.numbers mid.log) c.make_ready.ensures.room.frozen in
+      ∙ ap (λ (batch : Entries). begun batch.numbers mid.log) c.make_ready.ensures.ready.room.frozen in
       on_ok_weaker c.write_out-2.result
       (λ written. made_finished c.args.self.now.goes_ahead old.frozen.numbers old.log mid.log c.write_out-2.new.self.cached.log idle some
-      c.in_ok-make_ready.ensures.room.made (written ∙ ap (λ (log : LogValue). written_out log) begun_is))
+      c.in_ok-make_ready.ensures.ready.room.made (written ∙ ap (λ (log : LogValue). written_out log) begun_is))
       c.write_out-2.ensures.batch.written;
   retires = search rules;
   active = search rules;
@@ -143,18 +143,18 @@ returns-clause-batch g c = record {
 pub returns-in_err-begin-clause-passes : goal.returns-in_err-begin-clause-passes
 returns-in_err-begin-clause-passes g c = record {
   policy = search rules;
-  turn = turns _ _ _ _ _ _ c.make_ready.ensures.passes.turn c.begin.ensures.keeps.turn;
+  turn = turns _ _ _ _ _ _ c.make_ready.ensures.ready.passes.turn c.begin.ensures.keeps.turn;
   paid = search rules;
   sent =
       let quiet = ap (λ m. sent (g.M.Medium.state m)) c.begin.ensures.keeps.medium in
-      omega (arith, c.make_ready.ensures.passes.sent, quiet);
+      omega (arith, c.make_ready.ensures.ready.passes.sent, quiet);
   none_refused = search rules;
   follows = search rules;
   looks =
       let mid = g.M.Medium.state c.make_ready.new.self.medium in
       let after = g.M.Medium.state c.begin.new.self.medium in
       looks_on (g.M.Medium.state c.args.self.now.medium) mid after c.args.self.now.cached c.make_ready.new.self.cached
-      c.make_ready.ensures.passes.turn.goes_on.layout_stays c.make_ready.ensures.passes.looks
+      c.make_ready.ensures.ready.passes.turn.goes_on.layout_stays c.make_ready.ensures.ready.passes.looks
       (none mid after c.make_ready.new.self.cached (ap (λ m. (g.M.Medium.state m).looked) c.begin.ensures.keeps.medium));
 }
 
@@ -193,12 +193,12 @@ returns-clause-cost g c =
     let some : 0 < length old.frozen.numbers = subst (λ (batch : Entries). 0 < length batch.numbers) frozen_is
     (some_listed c.self.inside.frozen.numbers (λ none. false≢true (sym c.if-is_empty.false ∙ c.is_empty.ensures.1 none))) in
     let begun_is = (c.begin.ensures.begins.live c.in_ok-begin.ensures.answer).1
-    ∙ ap (λ (batch : Entries). begun batch.numbers mid.log) c.make_ready.ensures.room.frozen in
+    ∙ ap (λ (batch : Entries). begun batch.numbers mid.log) c.make_ready.ensures.ready.room.frozen in
     let steps = ap (λ (log : LogValue). log.steps_left) begun_is
-    ∙ ap (λ (shape : Shape). steps_of shape.format old.frozen.numbers) c.make_ready.ensures.passes.turn.goes_on.layout_stays in
+    ∙ ap (λ (shape : Shape). steps_of shape.format old.frozen.numbers) c.make_ready.ensures.ready.passes.turn.goes_on.layout_stays in
     let calls = finish_begun c.args.self.now.goes_ahead old.frozen.numbers old.log idle some in
     let quiet = ap (λ m. (g.M.Medium.state m).calls) c.begin.ensures.keeps.medium in
-    let room = c.in_ok-make_ready.ensures.cost in
+    let room = c.in_ok-make_ready.ensures.ready.cost in
     on_ok_weaker c.write_out-2.result (λ all. omega (arith, all, steps, calls, quiet, room)) c.write_out-2.ensures.exactly
 
 pub returns-in_err-begin-clause-batch : goal.returns-in_err-begin-clause-batch
@@ -209,7 +209,7 @@ returns-in_err-begin-clause-batch g c = record {
   finishes = search rules;
   retires =
       let head = c.begin.ensures.begins.head in
-      let before = c.make_ready.ensures.room.retires in
+      let before = c.make_ready.ensures.ready.room.retires in
       record { one = omega (arith, head, before.one); roomy = λ room. head ∙ before.roomy room };
   active = search rules;
 }
@@ -231,10 +231,10 @@ returns-then-self-clause-passes g c = record {
 pub returns-in_err-make_ready-clause-passes : goal.returns-in_err-make_ready-clause-passes
 returns-in_err-make_ready-clause-passes g c = record {
   policy = search rules;
-  turn = c.make_ready.ensures.passes.turn;
-  paid = c.make_ready.ensures.passes.paid;
-  sent = omega (arith, c.make_ready.ensures.passes.sent);
-  none_refused = c.make_ready.ensures.passes.none_refused;
-  follows = c.make_ready.ensures.passes.follows;
-  looks = c.make_ready.ensures.passes.looks;
+  turn = c.make_ready.ensures.ready.passes.turn;
+  paid = c.make_ready.ensures.ready.passes.paid;
+  sent = omega (arith, c.make_ready.ensures.ready.passes.sent);
+  none_refused = c.make_ready.ensures.ready.passes.none_refused;
+  follows = c.make_ready.ensures.ready.passes.follows;
+  looks = c.make_ready.ensures.ready.passes.looks;
 }

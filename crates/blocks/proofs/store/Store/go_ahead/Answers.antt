@@ -1,71 +1,218 @@
-use Rattle.std.proofs.Common.{◌∙◌, ap, sym, subst, arith, rules}
+use Rattle.std.proofs.Common.{◌≡◌, ◌≤◌, ◌+◌, ◌∙◌, ℕ, false, ap, sym, refl, subst, arith, rules}
 use Rattle.std.proofs.lemmas.Bool.{false≢true}
-use Rattle.redo_log.specs.Value.{LogValue}
 use Rattle.log_layout.specs.Places.{Shape, limit_of}
-use Rattle.blocks.specs.Ahead.{sent_home, sent_calls, IsBut}
+use Rattle.medium.specs.Medium.{State}
+use Rattle.medium.specs.Sent.{sent}
+use Rattle.redo_log.specs.Value.{LogValue, pass_calls}
+use Rattle.blocks.specs.Ahead.{past, passed, sent_home, sent_calls, IsBut}
+use Rattle.blocks.specs.Going.{StaysIdle, CountsFlush}
+use Rattle.blocks.specs.Passing.{PassesPaid, KeepsMedium}
 use Rattle.blocks.specs.Retiring.{HasSlots}
-use Rattle.blocks.proofs.Turning.{turns}
+use Rattle.blocks.specs.StoreValue.{Cached, StoreValue, layout_of, is_dead}
+use Rattle.blocks.specs.Turns.{IsTurn}
+use Rattle.blocks.proofs.Homing.{rests_passed, rests_calls, rests_home, rests_home_calls, passes_short, calls_short, goes_short, going_short}
+use Rattle.blocks.proofs.Turning.{turns, stays}
 use Rattle.blocks.proofs.Paying.{pays_both}
-use Rattle.blocks.proofs.Looking.{looks_on}
+use Rattle.blocks.proofs.Looking.{none, looks_on}
 use Rattle.blocks.proofs.store.Store.go_ahead.Goals as goal
 
-pub returns-clause-passes : goal.returns-clause-passes
-returns-clause-passes g c = record {
-  policy = c.send_home.ensures.passes.policy ∙ c.pass.ensures.passes.policy;
-  turn = turns _ _ _ _ _ _ c.pass.ensures.passes.turn c.send_home.ensures.passes.turn;
-  paid = pays_both _ _ _ _ _ _ c.pass.ensures.passes.paid c.in_ok-pass.ensures.answer c.send_home.ensures.passes.paid;
-  sent =
-      let same = ap (λ (shape : Shape). limit_of shape.format) c.pass.ensures.passes.turn.goes_on.layout_stays in
-      omega (arith, c.pass.ensures.passes.sent, c.send_home.ensures.passes.sent, same);
+pub returns-then-has_slots-clause-passes : goal.returns-then-has_slots-clause-passes
+returns-then-has_slots-clause-passes g c = record {
+  policy = search rules;
+  turn = stays _ _ (g.met.M.Medium.sound c.args.self.now.medium);
+  paid = search rules;
+  sent = search rules;
   none_refused = search rules;
-  follows = g.met.M.Medium.follows_through _ _ _ c.pass.ensures.passes.follows c.send_home.ensures.passes.follows;
-  looks = looks_on (g.M.Medium.state c.args.self.now.medium) (g.M.Medium.state c.pass.new.self.medium)
-      (g.M.Medium.state c.send_home.new.self.medium) c.args.self.now.cached c.pass.new.self.cached
-      c.pass.ensures.passes.turn.goes_on.layout_stays c.pass.ensures.passes.looks c.send_home.ensures.passes.looks;
+  follows = search rules;
+  looks = none (g.M.Medium.state c.args.self.now.medium) (g.M.Medium.state c.args.self.now.medium) c.args.self.now.cached
+      (λ i. (g.M.Medium.state c.args.self.now.medium).looked);
 }
 
-pub returns-in_err-pass-clause-passes : goal.returns-in_err-pass-clause-passes
-returns-in_err-pass-clause-passes g c = record {
-  policy = c.pass.ensures.passes.policy;
-  turn = c.pass.ensures.passes.turn;
-  paid = c.pass.ensures.passes.paid;
-  sent = omega (arith, c.pass.ensures.passes.sent);
-  none_refused = c.pass.ensures.passes.none_refused;
-  follows = c.pass.ensures.passes.follows;
-  looks = c.pass.ensures.passes.looks;
+pub returns-then-has_slots-clause-going : goal.returns-then-has_slots-clause-going
+returns-then-has_slots-clause-going g c =
+    let log = c.args.self.now.cached.log in
+    let log_is = ap (λ v. v.cached.log) c.self.view_is in
+    let slots = subst (λ (l : LogValue). HasSlots 3 l) log_is (c.has_slots.ensures.0 c.if-has_slots.true) in
+    let same = rests_passed log slots in
+    let no = rests_calls log slots in
+    let more = rests_home_calls log slots in
+    let still = ap (λ (l : LogValue). sent_calls l) same in
+    record {
+      log = λ alive. subst (λ (l : LogValue). IsBut (sent_home l) log) same (rests_home log slots);
+      calls = λ alive. omega (arith, no, more, still);
+      stays = record { active = refl; frozen = refl; idle = c.requires.idle; head = omega arith };
+      head = omega arith;
+      answer = c.requires.live;
+    }
+
+-- a flush was counted, and then the head passed
+counted : {M : Type 0} (state : M → State) (Follows : M → M → Type 0) (old mid new : StoreValue M) → KeepsMedium state IsTurn old mid
+    → CountsFlush old.cached mid.cached → is_dead mid.cached ≡ false → PassesPaid state Follows 1 mid new → PassesPaid state Follows 1 old new
+counted state Follows old mid new keeps counts live passes =
+    let calls = ap (λ m. (state m).calls) keeps.medium in
+    let quiet = ap (λ m. sent (state m)) keeps.medium in
+    let failures = ap (λ m. (state m).failures) keeps.medium in
+    record {
+      turn = turns _ _ _ _ _ _ keeps.turn passes.turn;
+      paid = record {
+        most = omega (arith, passes.paid.most, counts.fewer, calls);
+        rest = λ lives. omega (arith, passes.paid.rest lives, counts.fewer, calls);
+      };
+      sent = omega (arith, passes.sent, quiet);
+      none_refused = λ lives. passes.none_refused lives ∙ failures;
+      follows = subst (λ m. Follows m new.medium) keeps.medium passes.follows;
+      looks = looks_on (state old.medium) (state mid.medium) (state new.medium) old.cached mid.cached keeps.turn.goes_on.layout_stays
+          (none (state old.medium) (state mid.medium) old.cached (ap (λ m. (state m).looked) keeps.medium)) passes.looks;
+      policy = passes.policy ∙ keeps.policy;
+    }
+
+-- fewer writes and flushes were made than that
+fewer : {M : Type 0} (state : M → State) (Follows : M → M → Type 0) (few many : ℕ) (old new : StoreValue M) → few ≤ many
+    → PassesPaid state Follows few old new → PassesPaid state Follows many old new
+fewer state Follows few many old new le passes = record {
+  turn = passes.turn;
+  paid = passes.paid;
+  sent = omega (arith, passes.sent, le);
+  none_refused = passes.none_refused;
+  follows = passes.follows;
+  looks = passes.looks;
+  policy = passes.policy;
 }
 
-pub returns-in_err-pass-clause-going : goal.returns-in_err-pass-clause-going
-returns-in_err-pass-clause-going g c =
-    let dead = c.in_err-pass.ensures.answer.1 in
+-- both batches stay
+idles : (old mid new : Cached) → CountsFlush old mid → StaysIdle mid new → StaysIdle old new
+idles old mid new counts stays = record {
+  active = stays.active ∙ counts.stays.active;
+  frozen = stays.frozen ∙ counts.stays.frozen;
+  idle = stays.idle;
+  head = omega (arith, stays.head, counts.head);
+}
+
+pub returns-in_err-pass_head-clause-passes : goal.returns-in_err-pass_head-clause-passes
+returns-in_err-pass_head-clause-passes g c =
+    fewer g.M.Medium.state g.M.Medium.follows 1 (limit_of (layout_of c.args.self.now.cached).format + 1) c.args.self.now
+    c.pass_head.new.self (omega arith)
+    (counted g.M.Medium.state g.M.Medium.follows c.args.self.now c.count_flush.new.self c.pass_head.new.self c.count_flush.ensures.keeps
+    c.count_flush.ensures.counts (c.count_flush.ensures.life ∙ c.requires.live) c.pass_head.ensures.passes)
+
+pub returns-in_err-pass_head-clause-going : goal.returns-in_err-pass_head-clause-going
+returns-in_err-pass_head-clause-going g c =
+    let dead = c.in_err-pass_head.ensures.answer.1 in
+    let counts = c.count_flush.ensures.counts in
+    let passing = c.pass_head.ensures.passing in
     record {
       log = λ alive. absurd (false≢true (sym alive ∙ dead));
       calls = λ alive. absurd (false≢true (sym alive ∙ dead));
-      stays = c.pass.ensures.going.stays;
+      stays = idles c.args.self.now.cached c.count_flush.new.self.cached c.pass_head.new.self.cached counts passing.stays;
+      head = omega (arith, passing.stays.head, counts.head);
+      answer = search rules;
+    }
+
+pub returns-then-has_slots-2-clause-passes : goal.returns-then-has_slots-2-clause-passes
+returns-then-has_slots-2-clause-passes g c =
+    fewer g.M.Medium.state g.M.Medium.follows 1 (limit_of (layout_of c.args.self.now.cached).format + 1) c.args.self.now
+    c.pass_head.new.self (omega arith)
+    (counted g.M.Medium.state g.M.Medium.follows c.args.self.now c.count_flush.new.self c.pass_head.new.self c.count_flush.ensures.keeps
+    c.count_flush.ensures.counts (c.count_flush.ensures.life ∙ c.requires.live) c.pass_head.ensures.passes)
+
+pub returns-then-has_slots-2-clause-going : goal.returns-then-has_slots-2-clause-going
+returns-then-has_slots-2-clause-going g c =
+    let log = c.args.self.now.cached.log in
+    let mid = c.pass_head.new.self.cached.log in
+    let log_is = ap (λ v. v.cached.log) c.self.view_is in
+    let mid_is = ap (λ v. v.cached.log) c.self-2.view_is in
+    let few : HasSlots 3 log → ⊥ = λ slots. false≢true (sym c.if-has_slots.false
+    ∙ c.has_slots.ensures.1 (subst (λ (l : LogValue). HasSlots 3 l) (sym log_is) slots)) in
+    let slots = subst (λ (l : LogValue). HasSlots 3 l) mid_is (c.has_slots-2.ensures.0 c.if-has_slots-2.true) in
+    let counts = c.count_flush.ensures.counts in
+    let passing = c.pass_head.ensures.passing in
+    let live = c.in_ok-pass_head.ensures.answer in
+    let is : mid ≡ passed log = passing.log live ∙ ap (λ (l : LogValue). past l) counts.log ∙ passes_short log few in
+    let quiet = ap (λ m. (g.M.Medium.state m).calls) c.count_flush.ensures.keeps.medium in
+    let made = passing.calls live in
+    let same = ap (λ (l : LogValue). pass_calls l) counts.log in
+    let all = calls_short log few in
+    let no = rests_home_calls mid slots in
+    let more = ap (λ (l : LogValue). sent_calls l) is in
+    record {
+      log = λ alive. subst (λ (l : LogValue). IsBut (sent_home l) mid) is (rests_home mid slots);
+      calls = λ alive. omega (arith, made, same, all, quiet, no, more);
+      stays = idles c.args.self.now.cached c.count_flush.new.self.cached c.pass_head.new.self.cached counts passing.stays;
+      head = omega (arith, passing.stays.head, counts.head);
+      answer = live;
+    }
+
+pub returns-clause-passes : goal.returns-clause-passes
+returns-clause-passes g c =
+    let before = c.args.self.now in
+    let mid = c.pass_head.new.self in
+    let after = c.go_home.new.self in
+    let first = counted g.M.Medium.state g.M.Medium.follows before c.count_flush.new.self mid c.count_flush.ensures.keeps
+    c.count_flush.ensures.counts (c.count_flush.ensures.life ∙ c.requires.live) c.pass_head.ensures.passes in
+    let last = c.go_home.ensures.passes in
+    let same = ap (λ (shape : Shape). limit_of shape.format) first.turn.goes_on.layout_stays in
+    let failures = first.none_refused c.in_ok-pass_head.ensures.answer in
+    record {
+      policy = last.policy ∙ first.policy;
+      turn = turns _ _ _ _ _ _ first.turn last.turn;
+      paid = pays_both _ _ _ _ _ _ first.paid c.in_ok-pass_head.ensures.answer last.paid;
+      sent = omega (arith, first.sent, last.sent, same);
+      none_refused = λ lives. last.none_refused lives ∙ failures;
+      follows = g.met.M.Medium.follows_through _ _ _ first.follows last.follows;
+      looks = looks_on (g.M.Medium.state before.medium) (g.M.Medium.state mid.medium) (g.M.Medium.state after.medium) before.cached
+          mid.cached first.turn.goes_on.layout_stays first.looks last.looks;
     }
 
 pub returns-clause-going : goal.returns-clause-going
 returns-clause-going g c =
-    let first = c.pass.ensures.going in
-    let last = c.send_home.ensures.going in
-    let passed_is = first.log c.in_ok-pass.ensures.answer in
+    let log = c.args.self.now.cached.log in
+    let mid = c.pass_head.new.self.cached.log in
+    let new = c.go_home.new.self.cached.log in
+    let log_is = ap (λ v. v.cached.log) c.self.view_is in
+    let mid_is = ap (λ v. v.cached.log) c.self-2.view_is in
+    let few : HasSlots 3 log → ⊥ = λ slots. false≢true (sym c.if-has_slots.false
+    ∙ c.has_slots.ensures.1 (subst (λ (l : LogValue). HasSlots 3 l) (sym log_is) slots)) in
+    let fewer : HasSlots 3 mid → ⊥ = λ slots. false≢true (sym c.if-has_slots-2.false
+    ∙ c.has_slots-2.ensures.1 (subst (λ (l : LogValue). HasSlots 3 l) (sym mid_is) slots)) in
+    let counts = c.count_flush.ensures.counts in
+    let passing = c.pass_head.ensures.passing in
+    let going = c.go_home.ensures.going in
+    let live = c.in_ok-pass_head.ensures.answer in
+    let is : mid ≡ passed log = passing.log live ∙ ap (λ (l : LogValue). past l) counts.log ∙ passes_short log few in
+    let quiet = ap (λ m. (g.M.Medium.state m).calls) c.count_flush.ensures.keeps.medium in
+    let made = passing.calls live in
+    let same = ap (λ (l : LogValue). pass_calls l) counts.log in
+    let all = calls_short log few in
+    let home = going_short mid fewer in
+    let more = ap (λ (l : LogValue). sent_calls l) is in
+    let stays = idles c.args.self.now.cached c.count_flush.new.self.cached c.pass_head.new.self.cached counts passing.stays in
     record {
-      log = λ alive. subst (λ (l : LogValue). IsBut (sent_home l) c.send_home.new.self.cached.log) passed_is (last.log alive);
-      calls = λ alive.
-          let made = first.calls c.in_ok-pass.ensures.answer in
-          let more = last.calls alive in
-          let same = ap (λ (l : LogValue). sent_calls l) passed_is in
-          omega (arith, made, more, same);
+      log = λ alive. subst (λ (l : LogValue). IsBut (sent_home l) new) is (goes_short mid new fewer (going.log alive));
+      calls = λ alive. let last = going.calls alive in omega (arith, made, same, all, quiet, home, more, last);
       stays = record {
-        active = last.stays.active ∙ first.stays.active;
-        frozen = last.stays.frozen ∙ first.stays.frozen;
-        idle = last.stays.idle;
-        head = omega (arith, first.stays.head, c.send_home.ensures.head);
+        active = going.stays.active ∙ stays.active;
+        frozen = going.stays.frozen ∙ stays.frozen;
+        idle = going.stays.idle;
+        head = omega (arith, going.head, stays.head);
       };
+      head = omega (arith, going.head, stays.head);
+      answer = going.answer;
     }
+
+pub returns-in_err-pass_head-clause-rests : goal.returns-in_err-pass_head-clause-rests
+returns-in_err-pass_head-clause-rests g c slots =
+    let log_is = ap (λ v. v.cached.log) c.self.view_is in
+    absurd (false≢true (sym c.if-has_slots.false
+    ∙ c.has_slots.ensures.1 (subst (λ (l : LogValue). HasSlots 3 l) (sym log_is) slots)))
+
+pub returns-then-has_slots-2-clause-rests : goal.returns-then-has_slots-2-clause-rests
+returns-then-has_slots-2-clause-rests g c slots =
+    let log_is = ap (λ v. v.cached.log) c.self.view_is in
+    absurd (false≢true (sym c.if-has_slots.false
+    ∙ c.has_slots.ensures.1 (subst (λ (l : LogValue). HasSlots 3 l) (sym log_is) slots)))
 
 pub returns-clause-rests : goal.returns-clause-rests
 returns-clause-rests g c slots =
-    let same = c.pass.ensures.rests slots in
-    let still = subst (λ v. HasSlots 3 v.cached.log) (sym same) slots in
-    c.send_home.ensures.rests still ∙ same
+    let log_is = ap (λ v. v.cached.log) c.self.view_is in
+    absurd (false≢true (sym c.if-has_slots.false
+    ∙ c.has_slots.ensures.1 (subst (λ (l : LogValue). HasSlots 3 l) (sym log_is) slots)))

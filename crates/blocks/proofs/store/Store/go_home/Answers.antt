@@ -2,7 +2,8 @@ use Rattle.std.proofs.Common.{◌≤◌, refl, ◌∙◌, ap, sym, subst, arith,
 use Rattle.std.proofs.lemmas.Bool.{false≢true}
 use Rattle.medium.specs.Sent.{sent}
 use Rattle.redo_log.specs.Value.{LogValue, IsAway, sends_of_oldest, most_retire_sends}
-use Rattle.blocks.proofs.Homing.{begins_home, goes_on_home, costs_home, sends_home, all_home, all_costs, all_sends, few_home, home_stays_head}
+use Rattle.blocks.proofs.Homing.{begins_home, goes_on_home, costs_home, sends_home, all_home, all_costs, all_sends, few_home}
+use Rattle.blocks.proofs.Homing.{home_stays_head}
 use Rattle.blocks.proofs.Turning.{turns, stays}
 use Rattle.blocks.proofs.Paying.{pays, pays_both}
 use Rattle.blocks.proofs.Looking.{none, looks_on}
@@ -100,6 +101,7 @@ pub returns-in_err-bring_home-clause-going : goal.returns-in_err-bring_home-clau
 returns-in_err-bring_home-clause-going g c =
     let dead = c.in_err-bring_home.ensures.answer.1 in
     let brings = c.bring_home.ensures.brings in
+    let so_far = home_stays_head c.args.self.now.cached.log c.loop-self.self.cached.log c.loop-self.invariant.home in
     record {
       log = λ alive. absurd (false≢true (sym alive ∙ dead));
       calls = λ alive. absurd (false≢true (sym alive ∙ dead));
@@ -107,10 +109,10 @@ returns-in_err-bring_home-clause-going g c =
         active = brings.stays.active ∙ c.loop-self.invariant.active;
         frozen = brings.stays.frozen ∙ c.loop-self.invariant.frozen;
         idle = brings.stays.idle;
-        head =
-            let so_far = home_stays_head c.args.self.now.cached.log c.loop-self.self.cached.log c.loop-self.invariant.home in
-            omega (arith, so_far, brings.head);
+        head = omega (arith, so_far, brings.head);
       };
+      head = omega (arith, so_far, brings.head);
+      answer = search rules;
     }
 
 pub returns-clause-going : goal.returns-clause-going
@@ -130,11 +132,6 @@ returns-clause-going g c =
         idle = c.loop-self.invariant.idle;
         head = let so_far = home_stays_head old new c.loop-self.invariant.home in omega (arith, so_far);
       };
+      head = let so_far = home_stays_head old new c.loop-self.invariant.home in omega (arith, so_far);
+      answer = c.loop-self.invariant.live;
     }
-
-pub returns-in_err-bring_home-clause-head : goal.returns-in_err-bring_home-clause-head
-returns-in_err-bring_home-clause-head g c =
-    c.bring_home.ensures.brings.head ∙ home_stays_head c.args.self.now.cached.log c.loop-self.self.cached.log c.loop-self.invariant.home
-
-pub returns-clause-head : goal.returns-clause-head
-returns-clause-head g c = home_stays_head c.args.self.now.cached.log c.loop-self.self.cached.log c.loop-self.invariant.home

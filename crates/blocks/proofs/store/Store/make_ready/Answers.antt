@@ -1,4 +1,4 @@
-use Rattle.std.proofs.Common.{◌≡◌, ◌<◌, ◌+◌, ◌-◌, ◌∙◌, true, [], ap, sym, subst, arith}
+use Rattle.std.proofs.Common.{◌≡◌, ◌<◌, ◌+◌, ◌-◌, ◌∙◌, true, false, [], ap, sym, subst, arith}
 use Rattle.std.proofs.lemmas.Bool.{false≢true}
 use Rattle.std.proofs.lemmas.Result.{on_ok_weaker}
 use Rattle.redo_log.specs.Value.{LogValue, HasRoom}
@@ -8,31 +8,8 @@ use Rattle.blocks.specs.Retiring.{ready_calls}
 use Rattle.blocks.proofs.Ready.{is_but, still_room, ahead_free, ahead_free_calls, ahead_full, ahead_full_calls, on_live}
 use Rattle.blocks.proofs.store.Store.make_ready.Goals as goal
 
-pub returns-then-has_room-clause-room : goal.returns-then-has_room-clause-room
-returns-then-has_room-clause-room g c =
-    let old = c.args.self.now in
-    let new = c.go_ahead.new.self in
-    let ahead : old.goes_ahead ≡ true = sym (ap (λ v. v.goes_ahead) c.self.view_is) ∙ c.if-not-self.false in
-    let log_is = ap (λ v. v.cached.log) c.self.view_is in
-    let room : HasRoom old.cached.log = subst (λ (l : LogValue). HasRoom l) log_is (c.has_room.ensures.room.0 c.if-has_room.true) in
-    let going = c.go_ahead.ensures.going in
-    let answer = c.go_ahead.ensures.answer in
-    subst (λ b. MakesRoom b c.go_ahead.result old new) (sym ahead) (record {
-      retires = record {
-        one = going.stays.head;
-        roomy = λ roomy. ap (λ v. v.cached.log.head) (c.go_ahead.ensures.rests roomy.1);
-      };
-      room = on_live c.go_ahead.result new.cached (HasRoom new.cached.log) answer
-          (λ live. still_room old.cached.log new.cached.log (going.log live) room);
-      made = on_live c.go_ahead.result new.cached (IsBut (ahead_room old.cached.log) new.cached.log) answer
-          (λ live. subst (λ (l : LogValue). IsBut l new.cached.log) (sym (ahead_free old.cached.log room.free)) (going.log live));
-      quiet = λ roomy. ap (λ v. v.medium) (c.go_ahead.ensures.rests roomy.1);
-      active = going.stays.active;
-      frozen = going.stays.frozen;
-    })
-
-pub returns-then-has_room-clause-cost : goal.returns-then-has_room-clause-cost
-returns-then-has_room-clause-cost g c =
+pub returns-then-has_room : goal.returns-then-has_room
+returns-then-has_room g c =
     let old = c.args.self.now in
     let new = c.go_ahead.new.self in
     let before = (g.M.Medium.state old.medium).calls in
@@ -40,12 +17,54 @@ returns-then-has_room-clause-cost g c =
     let ahead : old.goes_ahead ≡ true = sym (ap (λ v. v.goes_ahead) c.self.view_is) ∙ c.if-not-self.false in
     let log_is = ap (λ v. v.cached.log) c.self.view_is in
     let room : HasRoom old.cached.log = subst (λ (l : LogValue). HasRoom l) log_is (c.has_room.ensures.room.0 c.if-has_room.true) in
+    let going = c.go_ahead.ensures.going in
+    let passes = c.go_ahead.ensures.passes in
+    let made : MakesRoom true c.go_ahead.result old new = record {
+      retires = record { one = going.head; roomy = λ roomy. ap (λ v. v.cached.log.head) (c.go_ahead.ensures.rests roomy.1) };
+      room = on_live c.go_ahead.result new.cached (HasRoom new.cached.log) going.answer
+          (λ live. still_room old.cached.log new.cached.log (going.log live) room);
+      made = on_live c.go_ahead.result new.cached (IsBut (ahead_room old.cached.log) new.cached.log) going.answer
+          (λ live. subst (λ (l : LogValue). IsBut l new.cached.log) (sym (ahead_free old.cached.log room.free)) (going.log live));
+      quiet = λ roomy. ap (λ v. v.medium) (c.go_ahead.ensures.rests roomy.1);
+      active = going.stays.active;
+      frozen = going.stays.frozen;
+    } in
     let all = ap (λ b. ready_calls b old.cached.log) ahead ∙ ahead_free_calls old.cached.log room.free in
-    on_live c.go_ahead.result new.cached (after ≡ before + ready_calls old.goes_ahead old.cached.log) c.go_ahead.ensures.answer
-    (λ live. let made = c.go_ahead.ensures.going.calls live in omega (arith, made, all))
+    record {
+      ready = record {
+        passes = record {
+          turn = passes.turn;
+          paid = passes.paid;
+          sent = omega (arith, passes.sent);
+          none_refused = passes.none_refused;
+          follows = passes.follows;
+          looks = passes.looks;
+          policy = passes.policy;
+        };
+        answer = going.answer;
+        room = subst (λ b. MakesRoom b c.go_ahead.result old new) (sym ahead) made;
+        cost = on_live c.go_ahead.result new.cached (after ≡ before + ready_calls old.goes_ahead old.cached.log) going.answer
+            (λ live. let made = going.calls live in omega (arith, made, all));
+      };
+    }
 
-pub returns-clause-room : goal.returns-clause-room
-returns-clause-room g c =
+pub returns-then-not-self : goal.returns-then-not-self
+returns-then-not-self g c =
+    let old = c.args.self.now in
+    let new = c.make_room.new.self in
+    let ahead : old.goes_ahead ≡ false = sym (ap (λ v. v.goes_ahead) c.self.view_is) ∙ c.if-not-self.true in
+    let all = ap (λ b. ready_calls b old.cached.log) ahead in
+    record {
+      ready = record {
+        passes = c.make_room.ensures.passes;
+        answer = c.make_room.ensures.answer;
+        room = subst (λ b. MakesRoom b c.make_room.result old new) (sym ahead) c.make_room.ensures.room;
+        cost = on_ok_weaker c.make_room.result (λ made. omega (arith, made, all)) c.make_room.ensures.cost;
+      };
+    }
+
+pub returns : goal.returns
+returns g c =
     let old = c.args.self.now in
     let new = c.make_room-2.new.self in
     let ahead : old.goes_ahead ≡ true = sym (ap (λ v. v.goes_ahead) c.self.view_is) ∙ c.if-not-self.false in
@@ -58,7 +77,7 @@ returns-clause-room g c =
       free = free;
     }))) in
     let made = c.make_room-2.ensures.room in
-    subst (λ b. MakesRoom b c.make_room-2.result old new) (sym ahead) (record {
+    let room : MakesRoom true c.make_room-2.result old new = record {
       retires = record { one = made.retires.one; roomy = λ roomy. made.retires.roomy roomy.0 };
       room = made.room;
       made = on_ok_weaker c.make_room-2.result
@@ -66,20 +85,14 @@ returns-clause-room g c =
       quiet = λ roomy. made.quiet roomy.0;
       active = made.active;
       frozen = made.frozen;
-    })
-
-pub returns-clause-cost : goal.returns-clause-cost
-returns-clause-cost g c =
-    let old = c.args.self.now in
-    let ahead : old.goes_ahead ≡ true = sym (ap (λ v. v.goes_ahead) c.self.view_is) ∙ c.if-not-self.false in
-    let log_is = ap (λ v. v.cached.log) c.self.view_is in
-    let under_way = c.self.invariant.none_under_way (rw (← c.self.view_is) at c.requires.live) (rw (← c.self.view_is) at c.requires.idle) in
-    let full : old.cached.log.next - old.cached.log.head < old.cached.log.shape.slots → ⊥ = λ free.
-    false≢true (sym c.if-has_room.false ∙ c.has_room.ensures.room.1 (subst (λ (l : LogValue). HasRoom l) (sym log_is) (record {
-      none_under_way = subst (λ (l : LogValue). l.under_way ≡ []) log_is under_way;
-      no_steps = c.requires.idle;
-      free = free;
-    }))) in
+    } in
     let all = ap (λ b. ready_calls b old.cached.log) ahead in
     let same = ahead_full_calls old.cached.log full in
-    on_ok_weaker c.make_room-2.result (λ made. omega (arith, made, all, same)) c.make_room-2.ensures.cost
+    record {
+      ready = record {
+        passes = c.make_room-2.ensures.passes;
+        answer = c.make_room-2.ensures.answer;
+        room = subst (λ b. MakesRoom b c.make_room-2.result old new) (sym ahead) room;
+        cost = on_ok_weaker c.make_room-2.result (λ cost. omega (arith, cost, all, same)) c.make_room-2.ensures.cost;
+      };
+    }

@@ -124,7 +124,8 @@ returns-clause-spares g c = record {
         | else-transfer w ↦ rw w.if-transfer.false w.through-is
       ] in
       let wrote = c.write_blocks.ensures.writes in
-      let made = subst (λ (b : Bool). OnOk done (IsFinished half.goes_ahead b half.cached last.cached)) wanted c.make_durable.ensures.makes.log in
+      let made = subst (λ (b : Bool). OnOk done (IsFinished half.goes_ahead b half.cached last.cached)) wanted
+      c.make_durable.ensures.makes.log in
       let finished = subst (λ (b : Bool). OnOk done (IsFinished b durable half.cached last.cached)) c.write_blocks.ensures.policy made in
       let P = λ (u : UnitValue g.row.M.Denot). is_ok (silent done) ≡ true
       → LogAfter u.store.goes_ahead (Ok (command.Write10 c.args.transfer)) c.args.taken.now u.write_cache u.store.cached last.cached in
