@@ -36,7 +36,8 @@ pub record MakesRoom {M : Type 0} (ahead : Bool) (result : Answer) (old new : St
   pub active : new.cached.active ≡ old.cached.active
   pub frozen : new.cached.frozen ≡ old.cached.frozen
 
--- The same as the store's policy says, by exactly the calls for that, with all that a turn promises.
+-- The same as the store's policy says, by exactly the calls for that, with all that a turn
+-- promises.
 pub record MakesReady {M : Type 0} (state : M → State) (Follows : M → M → Type 0)
     (result : Answer) (old new : StoreValue M) : Type 0 where
   pub passes : PassesPaid state Follows (most_retire_sends (layout_of old.cached).format) old new

@@ -10,7 +10,8 @@ use Rattle.blocks.specs.Passing.{PassesPaid, KeepsMedium}
 use Rattle.blocks.specs.Retiring.{HasSlots}
 use Rattle.blocks.specs.StoreValue.{Cached, StoreValue, layout_of, is_dead}
 use Rattle.blocks.specs.Turns.{IsTurn}
-use Rattle.blocks.proofs.Homing.{rests_passed, rests_calls, rests_home, rests_home_calls, passes_short, calls_short, goes_short, going_short}
+use Rattle.blocks.proofs.Homing.{rests_passed, rests_calls, rests_home, rests_home_calls, passes_short, calls_short}
+use Rattle.blocks.proofs.Homing.{goes_short, going_short}
 use Rattle.blocks.proofs.Turning.{turns, stays}
 use Rattle.blocks.proofs.Paying.{pays_both}
 use Rattle.blocks.proofs.Looking.{none, looks_on}
@@ -47,7 +48,8 @@ returns-then-has_slots-clause-going g c =
 
 -- a flush was counted, and then the head passed
 counted : {M : Type 0} (state : M → State) (Follows : M → M → Type 0) (old mid new : StoreValue M) → KeepsMedium state IsTurn old mid
-    → CountsFlush old.cached mid.cached → is_dead mid.cached ≡ false → PassesPaid state Follows 1 mid new → PassesPaid state Follows 1 old new
+    → CountsFlush old.cached mid.cached → is_dead mid.cached ≡ false → PassesPaid state Follows 1 mid new
+    → PassesPaid state Follows 1 old new
 counted state Follows old mid new keeps counts live passes =
     let calls = ap (λ m. (state m).calls) keeps.medium in
     let quiet = ap (λ m. sent (state m)) keeps.medium in

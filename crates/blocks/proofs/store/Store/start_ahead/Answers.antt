@@ -8,8 +8,10 @@ pub returns : goal.returns
 returns g c = record {
   starts = record {
     started =
-        subst (λ v. IsStarted (g.M.Medium.state c.args.medium) (g.M.Medium.state v.medium) v.cached) (sym c.store.view_is) c.in-Ok.ensures.ok;
+        subst (λ v. IsStarted (g.M.Medium.state c.args.medium) (g.M.Medium.state v.medium) v.cached) (sym c.store.view_is)
+        c.in-Ok.ensures.ok;
     policy = c.may_go_ahead.ensures ∙ ap (λ (shape : Shape). may_go_ahead shape) (sym c.store.invariant.shape);
-    leaves = subst (λ v. LeavesMedium g.M.Medium.state g.M.Medium.follows c.args.medium v.medium) (sym c.store.view_is) c.in-Ok.ensures.leaves;
+    leaves = subst (λ v. LeavesMedium g.M.Medium.state g.M.Medium.follows c.args.medium v.medium) (sym c.store.view_is)
+        c.in-Ok.ensures.leaves;
   };
 }
