@@ -4,6 +4,7 @@
  *   poke write FOLDER FIRST    files of a known content, each synced, until one fails; a line for each synced one: its number
  *   poke check FOLDER FIRST    whether each file told on standard input is there whole
  *   poke pages DISK COUNT      so many pages of 4 KiB from its begin on, each forced: as dd with oflag=direct,dsync
+ *   poke clock                 microseconds
  *   poke lose IMAGE JOURNAL HOW SEED   writes that were not flushed are lost: `all`, `some` or `none` of them are kept */
 #define _GNU_SOURCE
 #include <fcntl.h>
@@ -14,6 +15,7 @@
 #include <stdlib.h>
 #include <string.h>
 #include <sys/ioctl.h>
+#include <time.h>
 #include <unistd.h>
 
 enum { MOST = 256 * 1024, KEPT = 24, SECTOR = 512, PAGE = 4096 };
@@ -153,9 +155,18 @@ static int lose(const char *image, const char *journal, const char *how, uint64_
     return fclose(from) || close(to);
 }
 
+static int tell_time(void)
+{
+    struct timespec now;
+    clock_gettime(CLOCK_MONOTONIC, &now);
+    return printf("%lld\n", now.tv_sec * 1000000ll + now.tv_nsec / 1000) < 0;
+}
+
 int main(int count, char **words)
 {
     const char *what = count > 2 ? words[1] : "";
+    if (count == 2 && !strcmp(words[1], "clock"))
+        return tell_time();
     if (!strcmp(what, "reset"))
         return reset(words[2]);
     if (!strcmp(what, "pages") && count == 4)
