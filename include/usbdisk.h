@@ -2,15 +2,16 @@
  * (USB Mass Storage Class Bulk-Only Transport 1.0), behind any USB controller, over any medium of
  * sectors of 512 bytes, of any size.
  *
- * There are two ways in. The calls usbdisk_* are the whole disk, for a controller that hands packets over.
- * The calls usbdisk_store_* are the store without the transport, for a stack that speaks SCSI itself, as
- * TinyUSB does. They come last here. Of what stands before them read this page, the numbers, usbdisk_room,
- * usbdisk_memory, usbdisk_look and usbdisk_lay_log.
+ * There are two ways in. The calls usbdisk_start to usbdisk_refused are the whole disk, for a controller
+ * that hands packets over. The calls usbdisk_store_* are the store without the transport, for a stack that
+ * speaks SCSI itself, as TinyUSB does. They come last here. Whoever takes them reads this page, the numbers,
+ * usbdisk_room, usbdisk_memory, usbdisk_look and usbdisk_lay_log before them.
  *
  * The disk has the device's first sectors in memory: the super (sector 0, which tells the sizes of the
- * image), the head (sector 1) and the log. The blocks lie in home sectors behind these, and stay on the device. Before a READ of some of them the disk asks
- * for their bytes, by the answer NEEDS of usbdisk_bulk_out: read them, show them, and hand the same
- * packet in again.
+ * image), the head (sector 1) and the log. The blocks lie in home sectors behind these, and stay on the
+ * device. Before a READ with a home sector that is not in sight, the disk asks for the home sectors of the
+ * READ's blocks, by the answer NEEDS of usbdisk_bulk_out: read them, show them, and hand the same packet in
+ * again.
  *
  *     while ((code = usbdisk_bulk_out(&disk, packet, size, &first, &count)) == USBDISK_NEEDS) {
  *         (read `count` sectors from sector `first` on into `buffer`: one read of the device; where
@@ -45,8 +46,8 @@
 extern "C" {
 #endif
 
-/* The version, 0.10.0: two bytes for the first number, and one for each other. The library tells its
- * own: where the two differ, header and library are not of one version. */
+/* The version, 0.10.0: two bytes hold the first number, and one byte each of the others. The library
+ * tells its own. Where the two differ, header and library are not of one version. */
 #define USBDISK_VERSION 0x000A00u
 
 uint32_t usbdisk_version(void);
@@ -91,11 +92,11 @@ enum {
     USBDISK_BAD_SIZE = 7,        /* bad sizes, or the device is too short for them */
     USBDISK_BAD_HEAD = 8,        /* sector 1 is no head */
     USBDISK_STAMPS_USED_UP = 9,
-    USBDISK_LOG_TOO_SMALL = 10   /* never of a start */
+    USBDISK_LOG_TOO_SMALL = 10   /* of usbdisk_migrate alone: fewer than 5 slots */
 };
 
 /* A store neither reads nor writes until the next start: usbdisk_store_refused was called, or a call had
- * no room in the outbox. */
+ * no room in the outbox, or the stamps are used up, which no disk reaches by use. */
 enum { USBDISK_DEAD = 11 };
 
 /* What is wrong with the arguments of a call. */
@@ -177,8 +178,8 @@ uint32_t usbdisk_stop(struct usbdisk *disk);
 
 /* A packet came to the Bulk-Out endpoint. Answers ACK, NAK, STALL, EMPTY or TOO_LONG; or NEEDS, and
  * nothing happened: show the `*count` sectors from `*first` on, and call it again with the same
- * packet. At all but NEEDS `*first` and `*count` stay. It needs sectors before a READ alone, and these
- * are home sectors, at most 240. Where the device cannot read them, call usbdisk_bulk_out_unread. */
+ * packet. At all but NEEDS `*first` and `*count` stay. NEEDS comes before a READ alone. It asks for
+ * home sectors, at most 240. Where the device cannot read them, call usbdisk_bulk_out_unread. */
 uint32_t usbdisk_bulk_out(struct usbdisk *disk, const uint8_t *packet, size_t size, uint64_t *first,
                           uint32_t *count);
 
@@ -199,7 +200,7 @@ uint32_t usbdisk_bulk_out_unread(struct usbdisk *disk, const uint8_t *packet, si
 uint32_t usbdisk_show(struct usbdisk *disk, uint64_t first, const uint8_t *bytes, size_t size);
 
 /* The host asks the Bulk-In endpoint for a packet. At ACK the packet lies in `packet`, and has
- * `*size` bytes; it is the disk's own no more. At NAK and STALL `*size` is 0. The bytes behind
+ * `*size` bytes, and the disk goes on to the next. At NAK and STALL `*size` is 0. The bytes behind
  * `*size` stay. It makes no call of the medium. Answers ACK, NAK, STALL or EMPTY. */
 uint32_t usbdisk_bulk_in(struct usbdisk *disk, uint8_t packet[512], uint32_t *size);
 
@@ -240,7 +241,7 @@ uint32_t usbdisk_take_run(struct usbdisk *disk, uint64_t *sector, uint8_t *bytes
  * lost, as by a cut. Answers 0 or EMPTY. */
 uint32_t usbdisk_refused(struct usbdisk *disk);
 
-/* A handle of calls that make an image on a device, or change its format. Set it to USBDISK_IMAGE_NONE
+/* A handle with the calls that make an image on a device, or change its format. Set it to USBDISK_IMAGE_NONE
  * before usbdisk_lay_log or usbdisk_migrate; never write or copy it after. */
 struct usbdisk_image {
     void *at;
@@ -265,9 +266,9 @@ struct usbdisk_image {
 uint32_t usbdisk_lay_log(struct usbdisk_image *image, const uint8_t *near, size_t near_size, uint64_t sectors,
                          const struct usbdisk_device *device, uint32_t format, uint64_t blocks, uint64_t slots);
 
-/* Makes an image of format 1 one of format 2, with the same blocks at the same home sectors: recovers it,
- * and brings the records that wait home. An image of format 2 is recovered. What the device has to carry
- * out waits in the handle, as above; at each point of it the image stands for the same blocks.
+/* Turns an image of format 1 into one of format 2, with the same blocks at the same home sectors: recovers
+ * it, and brings the records that wait home. An image of format 2 is recovered. What the device has to
+ * carry out waits in the handle, as above. At each point of it the image stands for the same blocks.
  *
  * near: the device's first sectors, as many as usbdisk_near tells. room: how many writes and flushes the
  * handle has room for; enough are 98 * slots + 9 for format 1, and 240 * slots + 4 for format 2, with the
@@ -340,7 +341,7 @@ uint32_t usbdisk_store_show(struct usbdisk_store *store, uint64_t first, const u
  * sync promises it.
  *
  * Answers 0 where it is accepted. Errors: EMPTY, BAD_LENGTH and BAD_RANGE, as of usbdisk_store_read; DEAD,
- * and none of it is written: the store was dead, or the outbox had no room in this call. */
+ * and none of it is written: the store was dead, or died in this call. */
 uint32_t usbdisk_store_write(struct usbdisk_store *store, uint64_t block, const uint8_t *bytes, size_t size);
 
 /* Makes every accepted write durable: it is so once the device has carried out what waits in the outbox
