@@ -365,7 +365,7 @@ uint32_t usbdisk_store_take_run(struct usbdisk_store *store, uint64_t *sector, u
 /* The device refused the call that usbdisk_store_take or usbdisk_store_take_run handed out last. The store
  * is dead from then on: nothing waits in the outbox, and nothing comes into it; each read, write and sync
  * that is within the sizes answers DEAD, until the next start. Answer the stack with an error for the call
- * behind which the device refused.
+ * after which the device refused.
  *
  * What was promised before is on the device. Writes that were accepted and not promised may be lost, as by
  * a cut. Answers 0 or EMPTY. */
