@@ -4,8 +4,8 @@
  *
  * There are two ways in. The calls usbdisk_start to usbdisk_refused are the whole disk, for a controller
  * that hands packets over. The calls usbdisk_store_* are the store without the transport, for a stack that
- * speaks SCSI itself, as TinyUSB does. They come last here. Whoever takes them reads this page, the numbers,
- * usbdisk_room, usbdisk_memory, usbdisk_look and usbdisk_lay_log before them.
+ * speaks SCSI itself, as TinyUSB does. They come last here. If you use these, first read this page, the
+ * numbers, usbdisk_room, usbdisk_memory, usbdisk_look and usbdisk_lay_log.
  *
  * The disk has the device's first sectors in memory: the super (sector 0, which tells the sizes of the
  * image), the head (sector 1) and the log. The blocks lie in home sectors behind these, and stay on the
