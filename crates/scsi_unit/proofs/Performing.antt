@@ -343,19 +343,19 @@ pub spares_reading_16 : {M : Type 0} (transfer : Transfer) (taken : List ℕ) (o
     (new : UnitValue M) → Spares (Ok (command.Read10 transfer)) taken old answer new
     → Spares (Ok (command.Read16 transfer)) taken old answer new
 spares_reading_16 transfer taken old answer new spares =
-    record { untouched = spares.untouched; plain = spares.plain; active = spares.active; log = spares.log }
+    record { untouched = spares.untouched; plain = spares.plain; active = spares.active; log = spares.log; policy = spares.policy }
 
 pub spares_writing_16 : {M : Type 0} (transfer : Transfer) (taken : List ℕ) (old : UnitValue M) (answer : Result (List ℕ) Sense)
     (new : UnitValue M) → Spares (Ok (command.Write10 transfer)) taken old answer new
     → Spares (Ok (command.Write16 transfer)) taken old answer new
 spares_writing_16 transfer taken old answer new spares =
-    record { untouched = spares.untouched; plain = spares.plain; active = spares.active; log = spares.log }
+    record { untouched = spares.untouched; plain = spares.plain; active = spares.active; log = spares.log; policy = spares.policy }
 
 pub spares_synchronizing_16 : {M : Type 0} (range : BlockRange) (taken : List ℕ) (old : UnitValue M) (answer : Result (List ℕ) Sense)
     (new : UnitValue M) → Spares (Ok (command.SynchronizeCache10 range)) taken old answer new
     → Spares (Ok (command.SynchronizeCache16 range)) taken old answer new
 spares_synchronizing_16 range taken old answer new spares =
-    record { untouched = spares.untouched; plain = spares.plain; active = spares.active; log = spares.log }
+    record { untouched = spares.untouched; plain = spares.plain; active = spares.active; log = spares.log; policy = spares.policy }
 
 -- what was told, where it is known
 pub answer_at : (result : Result ℕ Sense) (size : ℕ) (out bytes : List ℕ) → result ≡ Ok size → IfOk result (λ sent. take sent out ≡ bytes)

@@ -1,5 +1,5 @@
 -- A command that was performed, and whose sense is kept, is carried out.
-use Rattle.std.proofs.Common.{ℕ, List, Result, subst}
+use Rattle.std.proofs.Common.{◌≡◌, ℕ, List, Result, subst}
 use Rattle.medium.specs.Medium.{State}
 use Rattle.medium.specs.Moments.{LeavesOnly}
 use Rattle.blocks.specs.Finding.{FoundWith}
@@ -11,9 +11,9 @@ use Rattle.scsi_unit.specs.Serving.{has_refused, command_for, Serves, IsSparing}
 use Rattle.scsi_unit.specs.Performing.{settled, settled_kept, Performs, Spares}
 
 module _ {M : Type 0} (before after : State) (block taken : List ℕ) (old mid : UnitValue M) (answer : Result (List ℕ) Sense) where
-  pub serves : Performs before after (command_for old block) taken old answer mid
+  pub serves : Performs before after (command_for old block) taken old answer mid → mid.store.goes_ahead ≡ old.store.goes_ahead
       → Serves before after block taken old answer (record mid { kept = settled_kept answer mid.kept })
-  serves done = record {
+  serves done policy = record {
     line = λ book fits.
         let found = done.line book fits in (
           found.0,
@@ -35,6 +35,7 @@ module _ {M : Type 0} (before after : State) (block taken : List ℕ) (old mid :
     layout_stays = done.layout_stays;
     blocks_stay = done.blocks_stay;
     limit_stays = done.limit_stays;
+    policy_stays = policy;
     identity_stays = done.identity_stays;
   }
 

@@ -78,8 +78,9 @@ pub ticks_over : {M : Type 0} (before after : State) (old : UnitValue M) (store 
     → LooksAtLog before after old.store.cached
     → (is_dead store.cached ≡ false → (steps_left store.cached < steps_left old.store.cached) ⊎ (steps_left old.store.cached ≡ 0))
     → (active_of store.cached ≡ active_of old.store.cached) ⊎ (active_of store.cached ≡ [])
+    → store.goes_ahead ≡ old.store.goes_ahead
     → TicksOver before after old (record old { store = store })
-ticks_over before after old store turn step few sends looks left active = record {
+ticks_over before after old store turn step few sends looks left active policy = record {
   step = step;
   line = λ book fits. (ticks_line before after old store book turn.goes_on fits, turn.fits book fits);
   cuts = turn.cuts;
@@ -88,6 +89,7 @@ ticks_over before after old store turn step few sends looks left active = record
   layout_stays = turn.goes_on.layout_stays;
   blocks_stay = turn.goes_on.blocks_stay;
   limit_stays = limit_stays old.store.cached store.cached turn.goes_on.layout_stays;
+  policy_stays = policy;
   others_stay = refl;
   steady = λ block n out. steady_through intent.Out (λ sense n e. cc) old store turn.goes_on block n out;
   steady_in = λ block n out. steady_through intent.In (λ sense n e. cc) old store turn.goes_on block n out;

@@ -5,6 +5,7 @@ pub mod StartFaults
 pub mod Capacity
 pub mod Rules
 pub mod UnitValue
+pub mod Retiring
 pub mod Faulting
 pub mod Starting
 pub mod Laws

@@ -41,7 +41,7 @@ pub record Performs {M : Type 0} (before after : State) (told : Result Command S
   pub limit_stays : unit_limit new ≡ unit_limit old
   pub identity_stays : new.identity ≡ old.identity
 
--- which calls of the medium it made
+-- which calls of the medium it made, by the policy of the store, which stays
 pub record Spares {M : Type 0} (told : Result Command Sense) (taken : List ℕ) (old : UnitValue M)
     (answer : Result (List ℕ) Sense) (new : UnitValue M) : Type 0 where
   pub untouched : wants_medium told taken old.write_cache ≡ false → new.store ≡ old.store
@@ -54,6 +54,7 @@ pub record Spares {M : Type 0} (told : Result Command Sense) (taken : List ℕ) 
   pub log : is_ok answer ≡ true
       → LogAfter old.store.goes_ahead told taken old.write_cache
       old.store.cached new.store.cached
+  pub policy : new.store.goes_ahead ≡ old.store.goes_ahead
 
 -- the answer of a command that sends no data
 abbrev pub silent : Result (Unit {0}) Sense → Result (List ℕ) Sense

@@ -49,6 +49,7 @@ pub record Serves {M : Type 0} (before after : State) (block taken : List ℕ) (
   pub layout_stays : layout_of new.store.cached ≡ layout_of old.store.cached
   pub blocks_stay : blocks_of new.store.cached ≡ blocks_of old.store.cached
   pub limit_stays : unit_limit new ≡ unit_limit old
+  pub policy_stays : new.store.goes_ahead ≡ old.store.goes_ahead
   pub identity_stays : new.identity ≡ old.identity
 
 -- ---- the calls of the medium that a command makes, and the batch that takes writes
@@ -168,6 +169,7 @@ pub record TicksOver {M : Type 0} (before after : State) (old new : UnitValue M)
   pub layout_stays : layout_of new.store.cached ≡ layout_of old.store.cached
   pub blocks_stay : blocks_of new.store.cached ≡ blocks_of old.store.cached
   pub limit_stays : unit_limit new ≡ unit_limit old
+  pub policy_stays : new.store.goes_ahead ≡ old.store.goes_ahead
   pub others_stay : new ≡ record old { store = new.store }
   -- no command comes to take data, or other data, by it; nor to send any
   pub steady : (block : List ℕ) (n : ℕ) → intention_of new block ≡ intent.Out n

@@ -9,14 +9,20 @@ use Rattle.blocks.specs.Looks.{LooksAtLog, LooksAtBlocks}
 use Rattle.medium.specs.Sent.{SendsUpTo}
 use Rattle.blocks.specs.Passing.{MayEmpty}
 use Rattle.blocks.specs.Sent.{batch_sends}
-use Rattle.blocks.specs.StoreValue.{Cached, transfer_limit, is_dead, active_of, batch_steps}
-use Rattle.blocks.specs.StoreValue.{steps_left, FitsBook, TakesRange}
+use Rattle.blocks.specs.StoreValue.{Cached, StoreValue, transfer_limit, is_dead, active_of}
+use Rattle.blocks.specs.StoreValue.{batch_steps, steps_left, FitsBook, TakesRange}
 use Rattle.blocks.specs.Turns.{IsTurn, IsWriteTurn}
 use Rattle.sense.specs.declared.codes.Sense.{Sense}
 use Rattle.sense.specs.Codes.{unrecovered_read_error, write_error}
 use Rattle.cdb.specs.declared.command.Transfer.{Transfer}
 use Rattle.scsi_unit.specs.Serving.{IsEmptied, IsFinished}
 use Rattle.scsi_unit.specs.Calls.{calls_of_sync}
+
+-- the medium comes after what it was, by calls alone, and the policy stays
+pub record ComesAfter {M : Type 0} (Follows : M → M → Type 0) (old new : StoreValue M)
+    : Type 0 where
+  pub medium : Follows old.medium new.medium
+  pub policy : new.goes_ahead ≡ old.goes_ahead
 
 -- the store is live behind a good answer, and dead behind a write error
 abbrev pub TellsDeath : Result (Unit {0}) Sense → Cached → Type 0

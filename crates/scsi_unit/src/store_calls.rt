@@ -3,7 +3,8 @@ ghost use Rattle.std.specs.Prelude.{◌≡◌, ◌≤◌, ◌<◌, ◌*◌, true
 ghost use Rattle.blocks.specs.StoreValue.{blocks_of, transfer_limit, is_dead, active_of};
 ghost use Rattle.blocks.specs.StoreValue.{FitsBeside};
 ghost use Rattle.cdb.specs.Supported.{IsWithin};
-ghost use Rattle.scsi_unit.specs.StoreCalls.{MakesDurable, ReadsBlocks, WritesBlocks, StepsBehind};
+ghost use Rattle.scsi_unit.specs.StoreCalls.{ComesAfter, MakesDurable, ReadsBlocks, WritesBlocks};
+ghost use Rattle.scsi_unit.specs.StoreCalls.{StepsBehind};
 
 use crate::checks::BLOCK;
 use blocks::Store;
@@ -17,7 +18,7 @@ pub(crate) fn make_durable<M: Medium>(store: &mut Store<M>, wanted: bool) -> Res
     ensures makes { MakesDurable store.old.goes_ahead wanted (M.state store.old.medium)
         (M.state store.new.medium) store.old.cached store.new.cached result }
     ensures unwanted { wanted ≡ false → (store.new ≡ store.old) × (is_ok result ≡ true) }
-    ensures follows { M.follows store.old.medium store.new.medium }
+    ensures follows { ComesAfter M.follows store.old store.new }
 {
     if wanted {
         store.sync().map_err(|_| Sense::WRITE_ERROR)
@@ -40,7 +41,7 @@ pub(crate) fn read_blocks<M: Medium>(
     ensures reads { ReadsBlocks transfer (M.state store.old.medium) (M.state store.new.medium)
         store.old.cached store.new.cached out.new result }
     ensures sent { IfOk result (λ sent. sent ≡ 512 * transfer.count) }
-    ensures follows { M.follows store.old.medium store.new.medium }
+    ensures follows { ComesAfter M.follows store.old store.new }
 {
     let size = (BLOCK * transfer.count) as usize;
     match store.read(transfer.address, &mut out[..size]) {
@@ -63,11 +64,10 @@ pub(crate) fn write_blocks<M: Medium>(
     ensures writes { WritesBlocks store.old.goes_ahead transfer taken.now
         (M.state store.old.medium) (M.state store.new.medium) store.old.cached store.new.cached
         result }
-    ensures policy { store.new.goes_ahead ≡ store.old.goes_ahead }
     ensures quiet { FitsBeside (transfer_limit store.old.cached) (active_of store.old.cached)
         transfer.address transfer.count
         → (store.new.medium ≡ store.old.medium) × (is_ok result ≡ true) }
-    ensures follows { M.follows store.old.medium store.new.medium }
+    ensures follows { ComesAfter M.follows store.old store.new }
 {
     let blocks = &taken[..(BLOCK * transfer.count) as usize];
     store
@@ -79,7 +79,7 @@ pub(crate) fn write_blocks<M: Medium>(
 pub(crate) fn step<M: Medium>(store: &mut Store<M>)
     ensures steps { StepsBehind (M.state store.old.medium) (M.state store.new.medium)
         store.old.cached store.new.cached }
-    ensures follows { M.follows store.old.medium store.new.medium }
+    ensures follows { ComesAfter M.follows store.old store.new }
 {
     store.tick();
 }

@@ -1,4 +1,4 @@
-use Rattle.std.proofs.Common.{subst, sym}
+use Rattle.std.proofs.Common.{◌≡◌, subst, sym}
 use Rattle.sense.specs.Waiting.{Waiting}
 use Rattle.scsi_unit.specs.UnitValue.{UnitValue, answer_of}
 use Rattle.scsi_unit.specs.Serving.{Serves, command_for}
@@ -20,5 +20,7 @@ returns-clause-serves g c =
     let performed = subst
     (λ (u : UnitValue g.row.M.Denot). Performs before (state u.store.medium) (command_for old block) taken old answer u)
     (sym c.self.view_is) c.perform_block-answer.ensures.performs in
+    let policy = subst (λ (u : UnitValue g.row.M.Denot). u.store.goes_ahead ≡ old.store.goes_ahead) (sym c.self.view_is)
+    c.perform_block-answer.ensures.spares.policy in
     subst (λ (k : Waiting). Serves before (state i.store.medium) block taken old answer (record seen { kept = k }))
-    (sym (c.settle.ensures out)) (serves before (state i.store.medium) block taken old seen answer performed)
+    (sym (c.settle.ensures out)) (serves before (state i.store.medium) block taken old seen answer performed policy)

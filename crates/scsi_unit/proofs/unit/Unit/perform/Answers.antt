@@ -114,6 +114,14 @@ returns-in-Read10-clause-performs g c =
     (answer_of c.read.result c.read.new.out) c.read.new.self)
     (sym c.in-Read10.is) (c.read.ensures.performs c.args.taken.now)
 
+pub returns-in-Read10-clause-spares : goal.returns-in-Read10-clause-spares
+returns-in-Read10-clause-spares g c =
+    let unit = c.args.self.now in
+    let after = c.read.new.self in
+    let answer = answer_of c.read.result c.read.new.out in
+    subst (λ (cmd : Command). Spares (Ok cmd) c.args.taken.now unit answer after) (sym c.in-Read10.is)
+    (c.read.ensures.spares c.args.taken.now)
+
 pub returns-in-Read16-clause-performs : goal.returns-in-Read16-clause-performs
 returns-in-Read16-clause-performs g c =
     let state = g.M.Medium.state in

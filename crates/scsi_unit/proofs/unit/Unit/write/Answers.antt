@@ -126,7 +126,8 @@ returns-clause-spares g c = record {
       let wrote = c.write_blocks.ensures.writes in
       let made = subst (λ (b : Bool). OnOk done (IsFinished half.goes_ahead b half.cached last.cached)) wanted
       c.make_durable.ensures.makes.log in
-      let finished = subst (λ (b : Bool). OnOk done (IsFinished b durable half.cached last.cached)) c.write_blocks.ensures.policy made in
+      let finished = subst (λ (b : Bool). OnOk done (IsFinished b durable half.cached last.cached))
+      c.write_blocks.ensures.follows.policy made in
       let P = λ (u : UnitValue g.row.M.Denot). is_ok (silent done) ≡ true
       → LogAfter u.store.goes_ahead (Ok (command.Write10 c.args.transfer)) c.args.taken.now u.write_cache u.store.cached last.cached in
       subst P c.self.view_is
@@ -135,4 +136,7 @@ returns-clause-spares g c = record {
       (OnOk-at c.write_blocks.result c.in_ok-write_blocks.field-0 c.in_ok-write_blocks.was wrote.batches)
       (OnOk-at c.write_blocks.result c.in_ok-write_blocks.field-0 c.in_ok-write_blocks.was wrote.active)
       (silent_ok done (IsFinished i.store.goes_ahead durable half.cached last.cached) good finished));
+  policy =
+      subst (λ (u : UnitValue g.row.M.Denot). c.make_durable.new.store.goes_ahead ≡ u.store.goes_ahead) c.self.view_is
+      (c.make_durable.ensures.follows.policy ∙ c.write_blocks.ensures.follows.policy);
 }
