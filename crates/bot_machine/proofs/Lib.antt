@@ -20,6 +20,7 @@ pub mod Hearing
 pub mod Transfers
 pub mod Moved
 pub mod Fitting
+pub mod Policy
 pub mod Playing
 pub mod Happening
 pub mod Arming

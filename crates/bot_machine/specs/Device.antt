@@ -1,13 +1,24 @@
 -- What is known of a disk before it starts.
 use Rattle.std.specs.Prelude.{ℕ}
 use Rattle.scsi_unit.specs.Identification.{Identification}
+pub use Rattle.scsi_unit.specs.declared.retiring.Retiring.{Retiring}
+pub use Rattle.scsi_unit.specs.declared.retiring.Retiring.TheVariants.{Late, Ahead}
 use Rattle.bot_machine.specs.declared.packet_size.PacketSize.{PacketSize}
 use Rattle.bot_machine.specs.PacketBytes.{bytes_of}
 
--- who the disk is, and how many bytes a bulk packet has at most
+-- who the disk is, how many bytes a bulk packet has at most, and when a record of the log goes home
 pub record Device : Type 0 where
   pub identity : Identification
   pub packet_size : ℕ
+  pub retiring : Retiring
 
+abbrev pub device_by : Identification → PacketSize → Retiring → Device
+device_by identity size retiring = record {
+  identity = identity;
+  packet_size = bytes_of size;
+  retiring = retiring;
+}
+
+-- one that retires late
 abbrev pub device_of : Identification → PacketSize → Device
-device_of identity size = record { identity = identity; packet_size = bytes_of size }
+device_of identity size = device_by identity size Late

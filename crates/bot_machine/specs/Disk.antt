@@ -58,11 +58,13 @@ pub record Elapses (before after : State) : Type 0 where
   pub size_stays : after.size ≡ before.size
 
 -- No more calls of the medium were made than the most of a command, and no more writes and flushes.
--- The layout, which tells these numbers, stays. A faulted unit makes none, and stays faulted.
+-- The layout, which tells these numbers, stays, and so does the policy. A faulted unit makes none,
+-- and stays faulted.
 pub record TakesFew {M : Type 0} (before after : State) (old new : UnitValue M) : Type 0 where
   pub calls : after.calls ≤ before.calls + most_calls old
   pub sent : SendsUpTo (most_sends old) before after
   pub layout_stays : layout_of new.store.cached ≡ layout_of old.store.cached
+  pub policy_stays : new.store.goes_ahead ≡ old.store.goes_ahead
   pub faulted : is_dead old.store.cached ≡ true
       → (after.calls ≡ before.calls) × (is_dead new.store.cached ≡ true)
 

@@ -3,6 +3,7 @@ pub use Rattle.scsi_unit.specs.Background
 pub use Rattle.scsi_unit.specs.Books
 pub use Rattle.scsi_unit.specs.Calls
 pub use Rattle.scsi_unit.specs.Identification
+pub use Rattle.scsi_unit.specs.Retiring
 pub use Rattle.scsi_unit.specs.StartFaults
 pub use Rattle.scsi_unit.specs.Starting
 pub use Rattle.scsi_unit.specs.Rules
@@ -31,4 +32,5 @@ pub mod Lives
 pub mod LivesValue
 pub mod LivesView
 pub mod Moving
+pub mod Policy
 pub mod Lifetimes

@@ -18,6 +18,7 @@ use Rattle.bot_machine.specs.Lives.{Opens, LivesRun}
 use Rattle.bot_machine.specs.declared.stage.Stage.TheVariants.{Rests}
 use Rattle.bot_machine.specs.Moving.{MovesBy, IsRefusedStart}
 use Rattle.bot_machine.specs.LivesValue.{LivesValue, LivesGoOn, IsAtRest, OpensOn, HasLimit}
+use Rattle.bot_machine.specs.LivesValue.{FitsLives}
 use Rattle.bot_machine.specs.LivesValue.{LeavesLimit, FoundAt, MayRefuse}
 
 -- what is done before the start of a life
@@ -46,6 +47,14 @@ Appends told old new = new ≡ record old { list = old.list ++ told }
 -- before the first life, which opens with this book and has this limit
 abbrev pub first_standing : ℕ → Book → Standing
 first_standing limit book = record { place = before_first book; armed = false; limit = limit }
+
+-- Where the power of a medium is on, nothing is unflushed and no fuse is armed, these lives stand
+-- before the first, on each book with which it may open.
+abbrev pub StandsFirst : Sim → LivesValue → Type 0
+StandsFirst medium lives = (limit : ℕ) (book : Book) → IsAtRest medium → medium.power.fuse ≡ None
+    → OpensOn (state_of medium) book
+    → HasLimit (state_of medium).size limit (state_of medium).content
+    → FitsLives lives (first_standing limit book)
 
 -- Lives whose first opens with this book and has this limit, and what a cut of the medium may leave
 -- after them.

@@ -2,6 +2,7 @@
 use Rattle.std.specs.Prelude.{◌≡◌, ◌⊎◌}
 use Rattle.medium.specs.Medium.{State}
 use Rattle.scsi_unit.specs.Books.{Book}
+use Rattle.scsi_unit.specs.Retiring.{RetiresBy}
 use Rattle.scsi_unit.specs.StartFaults.{StartFault, NoMemory}
 use Rattle.scsi_unit.specs.Starting.{IsStarted, IsStartCause, HasStore, HasLimit}
 use Rattle.scsi_unit.specs.Starting.{OpensOn, IsCauseFor}
@@ -11,14 +12,15 @@ use Rattle.bot_machine.specs.Device.{Device}
 use Rattle.bot_machine.specs.Exchange.{at_rest}
 use Rattle.bot_machine.specs.Disk.{DiskValue}
 -- what a start leaves is what the start of its unit does
-pub use Rattle.scsi_unit.specs.Starting.{StartLeaves, LeavesMedium}
+pub use Rattle.scsi_unit.specs.Starting.{StartLeaves, LeavesMedium, LeavesStarted}
 
 -- A disk that has started: its store has, a command wrapper is expected, and the unit is one that
--- was just opened.
+-- was just opened, and retires as is known of the disk.
 pub record IsOpened {M : Type 0} (before after : State) (device : Device)
     (disk : DiskValue M) : Type 0 where
   pub store : IsStarted before after disk.unit.store.cached
   pub line : disk.line ≡ at_rest device.packet_size
+  pub retires : RetiresBy device.retiring disk.unit
   pub unit : (book : Book)
       → state_of disk.unit book ≡ opened_unit (unit_limit disk.unit) device.identity book
   -- its limit is that of the image
@@ -29,3 +31,15 @@ pub record IsOpened {M : Type 0} (before after : State) (device : Device)
 pub record IsNotOpened (before after : State) (fault : StartFault) : Type 0 where
   pub cause : IsStartCause before after fault ⊎ ((fault ≡ NoMemory) × HasStore before after)
   pub possible : (book : Book) → OpensOn before book → IsCauseFor book before after fault
+
+-- a disk starts, of which this is known
+pub record StartsDisk {M : Type 0} (state : M → State) (Follows : M → M → Type 0) (medium : M)
+    (device : Device) (disk : DiskValue M) : Type 0 where
+  pub opened : IsOpened (state medium) (state disk.unit.store.medium) device disk
+  pub leaves : LeavesStarted state Follows medium disk.unit.store.medium
+
+-- no disk starts, and the medium comes back
+pub record RefusesDisk {M : Type 0} (state : M → State) (Follows : M → M → Type 0)
+    (medium back : M) (fault : StartFault) : Type 0 where
+  pub cause : IsNotOpened (state medium) (state back) fault
+  pub leaves : LeavesStarted state Follows medium back

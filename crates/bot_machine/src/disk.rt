@@ -1,36 +1,31 @@
 //! A disk: the transport over a logical unit.
 ghost use Rattle.std.specs.Prelude.{⊤, ◌↔◌, ◌≡◌, ◌⊎◌, ◌≤◌, ◌<◌, ◌/◌, ℕ, false, true, length};
 ghost use Rattle.inlet.specs.Inlet.{AreHeld};
-ghost use Rattle.std.specs.Prelude.{IsTrue, IfOk, IfErr, MatchResult};
+ghost use Rattle.std.specs.Prelude.{IsTrue};
 ghost use Rattle.std.specs.Borrow.{sem, follows_so};
 ghost use mathlib.Core.Option.{none};
-ghost use Rattle.medium.specs.Moments.{EachCut, LeavesOnly, IsUnchanged};
+ghost use Rattle.medium.specs.Moments.{EachCut, IsUnchanged};
 ghost use Rattle.scsi_unit.specs.Books.{Book};
 ghost use Rattle.scsi_unit.specs.Books.{MayFind};
 ghost use Rattle.scsi_unit.specs.Background.{IsSettled, HasLimits, is_dead, steps_left};
 ghost use Rattle.scsi_unit.specs.Serving.{TicksOver};
-ghost use Rattle.scsi_unit.specs.Starting.{HasLimit, IsOursForSome};
+ghost use Rattle.scsi_unit.specs.Starting.{HasLimit};
 ghost use Rattle.scsi_unit.specs.UnitValue.{unit_limit};
-ghost use Rattle.bot_machine.specs.Device.{device_of};
 ghost use Rattle.bot_machine.specs.Exchange.{in_answer, after_in};
 ghost use Rattle.bot_machine.specs.Answers.{answer_to_out, answer_to_in, answer_to_setup, IsPacket};
 ghost use Rattle.bot_machine.specs.Conversation.{SetupStep};
 ghost use Rattle.bot_machine.specs.Disk.{FitsDisk, IsStep, IsRearmed};
-ghost use Rattle.bot_machine.specs.Opening.{IsOpened, IsNotOpened, StartLeaves, LeavesMedium};
 ghost use Rattle.bot_machine.specs.declared.event.Event.TheVariants as event;
 ghost use Rattle.bot_machine.specs.declared.event.Answer.TheVariants as answer;
-ghost use Rattle.bot_machine.specs.declared.packet_size.PacketSize.TheVariants.{High512};
 ghost use Rattle.bot_machine.specs.contracts.disk.Disk.{the_row};
 
 use crate::event::{InAnswer, OutAnswer, SetupAnswer};
-use crate::packet_size::PacketSize;
 use crate::request::{ControlRequest, read_request};
 use crate::serve::{open, take_data};
 use crate::wire::{Phase, Wire};
 use inlet::Inlet;
 use medium::{Medium, Outlet, Switch};
-use scsi_unit::{Identity, StartError, StartFault, Unit};
-use std::alloc::Global;
+use scsi_unit::Unit;
 use std::marker::Model;
 
 /// A disk over a medium.
@@ -39,9 +34,9 @@ pub struct Disk<M: Medium> {
     pub(crate) unit: Unit<M>,
     pub(crate) wire: Wire,
     // The intended bytes that came of the data being taken.
-    taken: Vec<u8>,
+    pub(crate) taken: Vec<u8>,
     // The bytes that are sent.
-    staging: Vec<u8>,
+    pub(crate) staging: Vec<u8>,
 }
 
 impl<M: Medium> Model for Disk<M> {
@@ -63,89 +58,6 @@ impl<M: Medium> Model for Disk<M> {
 }
 
 impl<M: Medium> Disk<M> {
-    /// Starts a disk on a medium, for packets of at most 512 bytes (high speed): see `start_with`.
-    ///
-    /// # Errors
-    ///
-    /// Those of `start_with`.
-    pub fn start(alloc: Global, medium: M, identity: Identity) -> Result<Disk<M>, StartError<M>>
-        ensures ok { IfOk result (λ disk. IsOpened
-            (M.state medium) (M.state disk.unit.store.medium) (device_of identity High512) disk) }
-        ensures err { IfErr result (λ error.
-            IsNotOpened (M.state medium) (M.state error.medium) error.fault) }
-        ensures leaves { MatchResult result
-            (λ disk. StartLeaves (M.state medium) (M.state disk.unit.store.medium))
-            (λ error. StartLeaves (M.state medium) (M.state error.medium)) }
-        ensures limit { (limit : ℕ) → EachCut (IsOursForSome (M.state medium).size) (M.state medium)
-            → EachCut (HasLimit (M.state medium).size limit) (M.state medium)
-            → MatchResult result
-            (λ disk. LeavesOnly (HasLimit (M.state medium).size limit)
-            (M.state medium) (M.state disk.unit.store.medium))
-            (λ error. LeavesOnly (HasLimit (M.state medium).size limit)
-            (M.state medium) (M.state error.medium)) }
-        ensures medium { MatchResult result
-            (λ disk. LeavesMedium M.state M.follows medium disk.unit.store.medium)
-            (λ error. LeavesMedium M.state M.follows medium error.medium) }
-    {
-        Disk::start_with(alloc, medium, identity, PacketSize::High512)
-    }
-
-    /// Starts a disk on a medium, for packets of this size: recovers the medium, and makes the room
-    /// for all that is kept in memory. A command block wrapper is expected, the unit attention of a power on is pending,
-    /// and the write cache is enabled. The blocks are those for which the contents of the medium
-    /// stood, and the room is that for a transfer over them. Where every image was ours and had one
-    /// limit, every image that a cut may leave has it.
-    ///
-    /// # Errors
-    ///
-    /// The fault of the recovery; once the medium is recovered `NoMemory` alone. The medium comes
-    /// back.
-    pub fn start_with(
-        alloc: Global,
-        medium: M,
-        identity: Identity,
-        size: PacketSize,
-    ) -> Result<Disk<M>, StartError<M>>
-        ensures ok { IfOk result (λ disk. IsOpened
-            (M.state medium) (M.state disk.unit.store.medium) (device_of identity size) disk) }
-        ensures err { IfErr result (λ error.
-            IsNotOpened (M.state medium) (M.state error.medium) error.fault) }
-        ensures leaves { MatchResult result
-            (λ disk. StartLeaves (M.state medium) (M.state disk.unit.store.medium))
-            (λ error. StartLeaves (M.state medium) (M.state error.medium)) }
-        ensures limit { (limit : ℕ) → EachCut (IsOursForSome (M.state medium).size) (M.state medium)
-            → EachCut (HasLimit (M.state medium).size limit) (M.state medium)
-            → MatchResult result
-            (λ disk. LeavesOnly (HasLimit (M.state medium).size limit)
-            (M.state medium) (M.state disk.unit.store.medium))
-            (λ error. LeavesOnly (HasLimit (M.state medium).size limit)
-            (M.state medium) (M.state error.medium)) }
-        ensures medium { MatchResult result
-            (λ disk. LeavesMedium M.state M.follows medium disk.unit.store.medium)
-            (λ error. LeavesMedium M.state M.follows medium error.medium) }
-    {
-        let unit = Unit::start(alloc, medium, identity)?;
-        let room = 512 * unit.limit() as usize;
-        let Ok(taken) = vec![in alloc; 0; room] else {
-            return Err(StartError {
-                fault: StartFault::NoMemory,
-                medium: unit.into_medium(),
-            });
-        };
-        let Ok(staging) = vec![in alloc; 0; room] else {
-            return Err(StartError {
-                fault: StartFault::NoMemory,
-                medium: unit.into_medium(),
-            });
-        };
-        Ok(Disk {
-            unit,
-            wire: Wire::at_rest(size),
-            taken,
-            staging,
-        })
-    }
-
     /// How many blocks one READ or WRITE moves at most. The image tells it, and no call changes it.
     pub fn limit(&self) -> u32
         ensures is { result ≡ unit_limit self.now.unit }

@@ -1,4 +1,5 @@
 //! What holds of every conversation.
+ghost use Rattle.bot_machine.specs.Policy.{KeepsPolicy, PolicyIsUnseen};
 ghost use Rattle.bot_machine.specs.Striking.{TicksAreStruck};
 ghost use Rattle.bot_machine.specs.Transfers.{SizesAreAlike};
 
@@ -11,4 +12,11 @@ pub fn conversation_laws()
 /// whatever the size of a packet.
 pub fn packet_laws()
     ensures { SizesAreAlike }
+{}
+
+/// Does nothing: its contract says that over its lives a disk retires as was asked at their start,
+/// and that a host sees nothing of it.
+pub fn policy_laws()
+    ensures kept { KeepsPolicy }
+    ensures unseen { PolicyIsUnseen }
 {}

@@ -5,7 +5,7 @@ ghost use Rattle.medium.specs.Sim.{IsFused};
 ghost use Rattle.medium.specs.Writes.{keeps};
 ghost use Rattle.bot_machine.specs.declared.event.Answer.{Answer};
 ghost use Rattle.bot_machine.specs.Lives.{plays};
-ghost use Rattle.bot_machine.specs.Device.{device_of};
+ghost use Rattle.bot_machine.specs.Device.{device_by, device_of};
 ghost use Rattle.bot_machine.specs.Fitting.{AreWithin, LivesAreWithin};
 ghost use Rattle.bot_machine.specs.PacketBytes.{bytes_of};
 ghost use Rattle.bot_machine.specs.declared.packet_size.PacketSize.TheVariants.{High512};
@@ -34,7 +34,7 @@ use crate::event::Event;
 use crate::life::Life;
 use crate::lives::Lives;
 use crate::packet_size::PacketSize;
-use crate::{Identity, StartError, StartFault};
+use crate::{Identity, Retiring, StartError, StartFault};
 use medium::SimMedium;
 use std::alloc::Global;
 
@@ -62,16 +62,12 @@ pub fn run_lives(
     run_lives_with(alloc, medium, identity, PacketSize::High512, lives, answers)
 }
 
-/// Lives a disk's lives with packets of this size, which no packet of the events exceeds, and appends
-/// an answer to each event. In each life a disk is started on the
-/// medium that the one before has left, its events come, and the power is cut. Where a fuse lets the
-/// power go, in the start or in an event, every answer from there on is `Off`. Memory is taken by the
-/// starts alone.
+/// Lives a disk's lives with packets of this size, which no packet of the events exceeds, where the
+/// disks retire late: see `run_lives_by`.
 ///
 /// # Errors
 ///
-/// The first start that is refused though the power is on ends the lives. The answers of the lives
-/// before it are appended, and the medium comes back.
+/// Those of `run_lives_by`.
 pub fn run_lives_with(
     alloc: Global,
     medium: SimMedium,
@@ -90,7 +86,48 @@ pub fn run_lives_with(
         × Appends told answers.old answers.new
         × AreLivedUpTo medium (device_of identity size) lives.now told error.fault error.medium) }
 {
-    let mut run = Lives::new_with(medium, identity, size);
+    run_lives_by(
+        alloc,
+        medium,
+        identity,
+        size,
+        Retiring::Late,
+        lives,
+        answers,
+    )
+}
+
+/// Lives a disk's lives with packets of this size, which no packet of the events exceeds, and appends
+/// an answer to each event. In each life a disk that retires as is asked here is started on the
+/// medium that the one before has left, its events come, and the power is cut. Where a fuse lets the
+/// power go, in the start or in an event, every answer from there on is `Off`. Memory is taken by the
+/// starts alone.
+///
+/// # Errors
+///
+/// The first start that is refused though the power is on ends the lives. The answers of the lives
+/// before it are appended, and the medium comes back.
+pub fn run_lives_by(
+    alloc: Global,
+    medium: SimMedium,
+    identity: Identity,
+    size: PacketSize,
+    retiring: Retiring,
+    lives: &[Life],
+    answers: &mut Answers,
+) -> Result<SimMedium, StartError<SimMedium>>
+    requires rests { IsAtRest medium }
+    requires unfused { medium.power.fuse ≡ None }
+    requires within { LivesAreWithin (bytes_of size) lives.now }
+    requires room { length answers.old.list + events_in lives.now ≤ answers.old.room }
+    ensures ok { IfOk result (λ after. (told : List Answer) × Appends told answers.old answers.new
+        × AreLived medium (device_by identity size retiring) lives.now told after) }
+    ensures err { IfErr result (λ error. (told : List Answer)
+        × Appends told answers.old answers.new
+        × AreLivedUpTo medium (device_by identity size retiring) lives.now told error.fault
+        error.medium) }
+{
+    let mut run = Lives::new_by(medium, identity, size, retiring);
     for life in lives {
         if let Err(fault) = live(alloc, &mut run, life, answers) {
             return Err(StartError {

@@ -4,15 +4,15 @@ ghost use Rattle.medium.specs.Sim.{state_of, IsCut, IsFused, IsFailing, ComesAft
 ghost use Rattle.medium.specs.Writes.{keeps};
 ghost use Rattle.scsi_unit.specs.Books.{Book};
 ghost use Rattle.bot_machine.specs.Lives.{starts, plays, cuts, arms, fails};
-ghost use Rattle.bot_machine.specs.Lifetimes.{first_standing};
-ghost use Rattle.bot_machine.specs.Device.{device_of};
+ghost use Rattle.bot_machine.specs.Lifetimes.{first_standing, StandsFirst};
+ghost use Rattle.bot_machine.specs.Device.{device_by, device_of};
 ghost use Rattle.bot_machine.specs.Fitting.{IsWithin};
 ghost use Rattle.bot_machine.specs.declared.packet_size.PacketSize.TheVariants.{High512};
 
 use crate::event::{Answer, Event};
 use crate::packet_size::PacketSize;
 use crate::stage::{self, Stage};
-use crate::{Identity, StartError, StartFault};
+use crate::{Identity, Retiring, StartError, StartFault};
 use medium::{Kept, SimMedium};
 use std::alloc::Global;
 use std::marker::Model;
@@ -24,6 +24,7 @@ use std::marker::Model;
 pub struct Lives {
     identity: Identity,
     size: PacketSize,
+    retiring: Retiring,
     // There is one, but within a call.
     stage: Option<Stage>,
 }
@@ -34,10 +35,13 @@ impl Model for Lives {
 
     ghost Value = { LivesValue };
 
-    ghost use Rattle.bot_machine.specs.Device.{device_of};
+    ghost use Rattle.bot_machine.specs.Device.{device_by};
     ghost use Rattle.bot_machine.specs.LivesView.{stage_in};
 
-    ghost view = { λ l. record { device = device_of l.identity l.size; stage = stage_in l.stage } };
+    ghost view = { λ l. record {
+      device = device_by l.identity l.size l.retiring;
+      stage = stage_in l.stage;
+    } };
 
     ghost use Rattle.bot_machine.specs.PacketBytes.{bytes_of};
     ghost use Rattle.bot_machine.specs.LivesValue.{HasPackets};
@@ -74,10 +78,7 @@ impl Lives {
         Lives::new_with(medium, identity, PacketSize::High512)
     }
 
-    /// No life has been yet. Packets are of this size.
-    ///
-    /// Where the power of the medium is on, nothing is unflushed and no fuse is armed, the first life
-    /// opens with the blocks for which the contents stand, and has their limit.
+    /// No life has been yet. Packets are of this size, and the disks retire late: see `new_by`.
     pub fn new_with(medium: SimMedium, identity: Identity, size: PacketSize) -> Lives
         ensures value { result ≡ record {
           device = device_of identity size;
@@ -88,9 +89,29 @@ impl Lives {
             → HasLimit (state_of medium).size limit (state_of medium).content
             → FitsLives result (first_standing limit book) }
     {
+        Lives::new_by(medium, identity, size, Retiring::Late)
+    }
+
+    /// No life has been yet. Packets are of this size, and the disks retire as is asked here.
+    ///
+    /// Where the power of the medium is on, nothing is unflushed and no fuse is armed, the first life
+    /// opens with the blocks for which the contents stand, and has their limit.
+    pub fn new_by(
+        medium: SimMedium,
+        identity: Identity,
+        size: PacketSize,
+        retiring: Retiring,
+    ) -> Lives
+        ensures value { result ≡ record {
+          device = device_by identity size retiring;
+          stage = Rests medium;
+        } }
+        ensures first { StandsFirst medium result }
+    {
         Lives {
             identity,
             size,
+            retiring,
             stage: Some(Stage::Rests(medium)),
         }
     }
@@ -147,7 +168,8 @@ impl Lives {
         ensures err { IfErr result (λ fault. LivesRefuseStart self.old fault self.new) }
         ensures follows { ComesAfter (medium_in self.old.stage) (medium_in self.new.stage) }
     {
-        match stage::start(alloc, self.stage.take().unwrap(), self.identity, self.size) {
+        let stage = self.stage.take().unwrap();
+        match stage::start(alloc, stage, self.identity, self.size, self.retiring) {
             Ok(stage) => {
                 self.stage = Some(stage);
                 Ok(())

@@ -2,7 +2,7 @@
 ghost use Rattle.std.specs.Prelude.{◌≡◌, ◌<◌, ◌↔◌, [], ◌∷◌, true, IfOk, IfErr, MatchResult};
 ghost use Rattle.medium.specs.Sim.{IsCut, IsFused, IsFailing, ComesAfter};
 ghost use Rattle.medium.specs.Writes.{keeps};
-ghost use Rattle.bot_machine.specs.Device.{Device, device_of};
+ghost use Rattle.bot_machine.specs.Device.{Device, device_by};
 ghost use Rattle.bot_machine.specs.Fitting.{IsWithin};
 ghost use Rattle.bot_machine.specs.Lives.{starts, plays, cuts, arms, fails};
 ghost use Rattle.bot_machine.specs.LivesValue.{
@@ -19,7 +19,7 @@ use crate::disk::Disk;
 use crate::event::{Answer, Event};
 use crate::packet_size::PacketSize;
 use crate::run::answer_to;
-use crate::{Identity, StartError};
+use crate::{Identity, Retiring, StartError};
 use medium::{Kept, SimMedium, Switch};
 use std::alloc::Global;
 
@@ -85,14 +85,15 @@ pub(crate) fn start(
     stage: Stage,
     identity: Identity,
     size: PacketSize,
+    retiring: Retiring,
 ) -> Result<Stage, StartError<SimMedium>>
     ensures ok { IfOk result (λ new. LivesGoOn
-        (record { device = device_of identity size; stage = stage }) (starts ∷ []) []
-        (record { device = device_of identity size; stage = new })) }
+        (record { device = device_by identity size retiring; stage = stage }) (starts ∷ []) []
+        (record { device = device_by identity size retiring; stage = new })) }
     ensures begun { IfOk result (HasBegun stage) }
     ensures err { IfErr result (λ error. LivesRefuseStart
-        (record { device = device_of identity size; stage = stage }) error.fault
-        (record { device = device_of identity size; stage = Rests error.medium })) }
+        (record { device = device_by identity size retiring; stage = stage }) error.fault
+        (record { device = device_by identity size retiring; stage = Rests error.medium })) }
     ensures follows { MatchResult result (λ new. ComesAfter (medium_in stage) (medium_in new))
         (λ error. ComesAfter (medium_in stage) error.medium) }
 {
@@ -103,7 +104,7 @@ pub(crate) fn start(
     if medium.is_off() {
         return Ok(Stage::Rests(medium));
     }
-    match Disk::start_with(alloc, medium, identity, size) {
+    match Disk::start_by(alloc, medium, identity, size, retiring) {
         Ok(disk) => Ok(Stage::Runs(disk)),
         Err(error) => {
             if error.medium.is_off() {

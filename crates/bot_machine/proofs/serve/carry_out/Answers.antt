@@ -50,6 +50,7 @@ returns-in-Ok-clause-passes g c =
         calls = c.in-Ok.ensures.calls.few;
         sent = c.in-Ok.ensures.calls.sent;
         layout_stays = serves.layout_stays;
+        policy_stays = serves.policy_stays;
         faulted = faulted_rests g.M.Medium.state _ _ _ _ _ c.in-Ok.ensures.sparing;
       };
       looks = rw c.as_slice.ensures.value at c.in-Ok.ensures.calls.looks;
@@ -92,6 +93,7 @@ returns-in-Err-clause-passes g c =
         calls = c.in-Err.ensures.calls.few;
         sent = c.in-Err.ensures.calls.sent;
         layout_stays = serves.layout_stays;
+        policy_stays = serves.policy_stays;
         faulted = faulted_rests g.M.Medium.state _ _ _ _ _ c.in-Err.ensures.sparing;
       };
       looks = rw c.as_slice.ensures.value at c.in-Err.ensures.calls.looks;

@@ -1,5 +1,5 @@
 use Rattle.std.proofs.Common.{[], ◌∷◌}
-use Rattle.bot_machine.specs.Device.{Device, device_of}
+use Rattle.bot_machine.specs.Device.{Device, device_by}
 use Rattle.bot_machine.specs.Lives.{fails}
 use Rattle.bot_machine.specs.PacketBytes.{bytes_of}
 use Rattle.bot_machine.specs.LivesValue.{HasPackets}
@@ -10,7 +10,7 @@ use Rattle.bot_machine.proofs.lives.Lives.fail.Goals.{in-Some, in_default}
 pub invariant_of-self : goal.invariant_of-self
 invariant_of-self c =
     let d = c.self.inside in
-    let device : Device = device_of d.identity d.size in
+    let device : Device = device_by d.identity d.size d.retiring in
     elim c.match-self.branch [
       | in-Some w ↦
           let has : HasPackets (bytes_of d.size) w.in-Some.stage = rw w.in-Some.is at c.self.invariant.1 in

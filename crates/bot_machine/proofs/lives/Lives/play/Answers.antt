@@ -1,5 +1,5 @@
 use Rattle.std.proofs.Common.{[], ◌∷◌}
-use Rattle.bot_machine.specs.Device.{Device, device_of}
+use Rattle.bot_machine.specs.Device.{Device, device_by}
 use Rattle.bot_machine.specs.Lives.{plays}
 use Rattle.bot_machine.specs.PacketBytes.{bytes_of}
 use Rattle.bot_machine.specs.LivesValue.{HasPackets}
@@ -9,7 +9,7 @@ use Rattle.bot_machine.proofs.lives.Lives.play.Goals as goal
 pub invariant_of-self : goal.invariant_of-self
 invariant_of-self c =
     let d = c.self.inside in
-    let device : Device = device_of d.identity d.size in
+    let device : Device = device_by d.identity d.size d.retiring in
     let has : HasPackets (bytes_of d.size) c.in-Some.stage = rw c.in-Some.is at c.self.invariant.1 in
     let goes = c.play.ensures.goes_on device in (
       λ e. cc,

@@ -1,14 +1,14 @@
 use Rattle.std.proofs.Common.{take}
 use Rattle.bot_machine.specs.declared.stage.Stage.TheVariants.{Rests}
-use Rattle.bot_machine.specs.Device.{device_of}
+use Rattle.bot_machine.specs.Device.{device_by}
 use Rattle.bot_machine.specs.LivesValue.{LivesValue, RestsAlone}
 use Rattle.bot_machine.specs.Lifetimes.{actions_of_all, events_in, AppendsFor}
-use Rattle.bot_machine.proofs.lifetimes.run_lives_with.Given as goal
+use Rattle.bot_machine.proofs.lifetimes.run_lives_by.Given as goal
 
 abbrev pub invariant-loop-life : goal.invariant-loop-life
 invariant-loop-life l =
     let lived = take l.life-index l.lives in
-    let first : LivesValue = record { device = device_of l.fn.identity l.fn.size; stage = Rests l.fn.medium } in
+    let first : LivesValue = record { device = device_by l.fn.identity l.fn.size l.fn.retiring; stage = Rests l.fn.medium } in
     record {
       run : AppendsFor first l.run l.fn.answers l.answers (actions_of_all lived) (events_in lived);
       ended : RestsAlone l.run;

@@ -3,7 +3,7 @@ use Rattle.std.proofs.lemmas.List.{take_all}
 use Rattle.bot_machine.specs.declared.stage.Stage.TheVariants.{Rests}
 use Rattle.bot_machine.specs.Answers.{Room}
 use Rattle.bot_machine.specs.Lives.{Action}
-use Rattle.bot_machine.specs.Device.{Device, device_of}
+use Rattle.bot_machine.specs.Device.{Device, device_by}
 use Rattle.bot_machine.specs.declared.life.Life.{Life}
 use Rattle.bot_machine.specs.PacketBytes.{bytes_of}
 use Rattle.bot_machine.specs.Fitting.{AreWithin}
@@ -11,15 +11,15 @@ use Rattle.bot_machine.specs.LivesValue.{LivesValue}
 use Rattle.bot_machine.specs.Lifetimes.{actions_of, actions_of_all, events_in, AppendsFor}
 use Rattle.bot_machine.proofs.Playing.{appends_on}
 use Rattle.bot_machine.proofs.Lasting.{none_yet, actions_more, events_more, room_left, apart, all_lived, lived_up_to}
-use Rattle.bot_machine.proofs.lifetimes.run_lives_with.Goals as goal
+use Rattle.bot_machine.proofs.lifetimes.run_lives_by.Goals as goal
 
 pub loop-life-init : goal.loop-life-init
 loop-life-init c =
-    let first : LivesValue = record { device = device_of c.args.identity c.args.size; stage = Rests c.args.medium } in
+    let first : LivesValue = record { device = device_by c.args.identity c.args.size c.args.retiring; stage = Rests c.args.medium } in
     let answers = c.args.answers.now in
     record {
-      run = subst (λ (x : LivesValue). AppendsFor first x answers answers [] 0) (sym c.new_with-run.ensures.value) (none_yet first answers);
-      ended = rw c.new_with-run.ensures.value (record { rests = c.requires.rests; unfused = c.requires.unfused; alone = refl });
+      run = subst (λ (x : LivesValue). AppendsFor first x answers answers [] 0) (sym c.new_by-run.ensures.value) (none_yet first answers);
+      ended = rw c.new_by-run.ensures.value (record { rests = c.requires.rests; unfused = c.requires.unfused; alone = refl });
     }
 
 pub live-requires-clause-within : goal.live-requires-clause-within
@@ -43,7 +43,7 @@ live-requires-clause-room c =
 
 pub returns-in-Err-clause-err : goal.returns-in-Err-clause-err
 returns-in-Err-clause-err c =
-    let first : LivesValue = record { device = device_of c.args.identity c.args.size; stage = Rests c.args.medium } in
+    let first : LivesValue = record { device = device_by c.args.identity c.args.size c.args.retiring; stage = Rests c.args.medium } in
     let lives = c.args.lives.now in
     let i = c.loop-life.life-index in
     let life = c.life-item.result in
@@ -52,15 +52,15 @@ returns-in-Err-clause-err c =
       lived.told,
       c.in-Err.ensures.unanswered ∙ lived.appends,
       rw c.into_medium.ensures
-          (lived_up_to c.args.medium (device_of c.args.identity c.args.size) c.requires.rests c.requires.unfused c.loop-life.run
-          c.live.new.run lived.told lives (take i lives) (drop (suc i) lives) life c.in-Err.fault
+          (lived_up_to c.args.medium (device_by c.args.identity c.args.size c.args.retiring) c.requires.rests c.requires.unfused
+          c.loop-life.run c.live.new.run lived.told lives (take i lives) (drop (suc i) lives) life c.in-Err.fault
           (apart lives i life c.loop-life-test.true c.life-item.is) lived.goes_on lived.one_each ended.rests ended.unfused
           ended.alone c.in-Err.ensures.cause c.in-Err.ensures.err),
     )
 
 pub loop-life-preserved : goal.loop-life-preserved
 loop-life-preserved c =
-    let first : LivesValue = record { device = device_of c.args.identity c.args.size; stage = Rests c.args.medium } in
+    let first : LivesValue = record { device = device_by c.args.identity c.args.size c.args.retiring; stage = Rests c.args.medium } in
     let lives = c.args.lives.now in
     let i = c.loop-life.life-index in
     let life = c.life-item.result in
@@ -80,7 +80,7 @@ loop-life-preserved c =
 
 pub returns-clause-ok : goal.returns-clause-ok
 returns-clause-ok c =
-    let first : LivesValue = record { device = device_of c.args.identity c.args.size; stage = Rests c.args.medium } in
+    let first : LivesValue = record { device = device_by c.args.identity c.args.size c.args.retiring; stage = Rests c.args.medium } in
     let lives = c.args.lives.now in
     let i = c.loop-life.life-index in
     let all : take i lives ≡ lives = take_all i lives c.loop-life-test.false in
@@ -89,6 +89,6 @@ returns-clause-ok c =
       run.told,
       run.appends,
       rw c.into_medium-2.ensures
-          (all_lived c.args.medium (device_of c.args.identity c.args.size) c.requires.rests c.requires.unfused c.loop-life.run run.told
-          lives run.goes_on run.one_each ended.rests ended.unfused ended.alone),
+          (all_lived c.args.medium (device_by c.args.identity c.args.size c.args.retiring) c.requires.rests c.requires.unfused
+          c.loop-life.run run.told lives run.goes_on run.one_each ended.rests ended.unfused ended.alone),
     )

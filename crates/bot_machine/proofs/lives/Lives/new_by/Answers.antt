@@ -1,5 +1,5 @@
 use Rattle.bot_machine.proofs.Beginning.{first_found, first_limited}
-use Rattle.bot_machine.proofs.lives.Lives.new_with.Goals as goal
+use Rattle.bot_machine.proofs.lives.Lives.new_by.Goals as goal
 
 pub returns-clause-first : goal.returns-clause-first
 returns-clause-first c = λ limit book rest unfused opens has. record {

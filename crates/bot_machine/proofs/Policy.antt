@@ -1,0 +1,115 @@
+-- A disk retires as was asked over all its lives, and the rules of lives do not depend on that.
+use Rattle.std.proofs.Common.{ℕ, Bool, true, false, List, [], ◌∷◌, sym, subst, ap, ◌∙◌}
+use Rattle.medium.specs.Sim.{Sim}
+use Rattle.scsi_unit.specs.Retiring.{RetiresBy, goes_ahead_by}
+use Rattle.scsi_unit.specs.Starting.{Shape}
+use Rattle.bot_machine.specs.declared.event.Event.{Event}
+use Rattle.bot_machine.specs.declared.event.Answer.{Answer}
+use Rattle.bot_machine.specs.declared.stage.Stage.{Stage}
+use Rattle.bot_machine.specs.declared.stage.Stage.TheVariants.{Rests, Runs}
+use Rattle.bot_machine.specs.Device.{Device, Retiring}
+use Rattle.bot_machine.specs.Disk.{DiskValue}
+use Rattle.bot_machine.specs.Lives.{Action, arms, fails, starts, plays, cuts, Place, before_first, between, runs, off, Standing}
+use Rattle.bot_machine.specs.Lives.{LifeBegins, StartsAt, LivesStep}
+use Rattle.bot_machine.specs.Moving.{FuseMoves, FailureMoves, StartsIn, StartMoves, EventMovesIn, EventMoves, CutMoves, Does}
+use Rattle.bot_machine.specs.Policy.{StageRetires, KeepsPolicy, PolicyIsUnseen}
+
+-- ---- a disk keeps to it
+
+fuse_keeps : (retiring : Retiring) (writes : ℕ) (old new : Stage) → FuseMoves writes old new → StageRetires retiring old
+    → StageRetires retiring new
+fuse_keeps retiring writes (Rests old) (Rests new) moves has = tt
+fuse_keeps retiring writes (Runs old) (Runs new) moves has =
+    subst (λ (d : DiskValue Sim). RetiresBy retiring d.unit) (sym moves.1) has
+fuse_keeps retiring writes (Rests old) (Runs new) moves has = absurd moves
+fuse_keeps retiring writes (Runs old) (Rests new) moves has = absurd moves
+
+failure_keeps : (retiring : Retiring) (call : ℕ) (old new : Stage) → FailureMoves call old new → StageRetires retiring old
+    → StageRetires retiring new
+failure_keeps retiring call (Rests old) (Rests new) moves has = tt
+failure_keeps retiring call (Runs old) (Runs new) moves has =
+    subst (λ (d : DiskValue Sim). RetiresBy retiring d.unit) (sym moves.1) has
+failure_keeps retiring call (Rests old) (Runs new) moves has = absurd moves
+failure_keeps retiring call (Runs old) (Rests new) moves has = absurd moves
+
+start_in : (device : Device) (gone : Bool) (old : Sim) (new : Stage) → StartsIn gone device old new
+    → StageRetires device.retiring new
+start_in device true old new moves = subst (StageRetires device.retiring) (sym moves) tt
+start_in device false old (Runs disk) moves = moves.0.retires
+start_in device false old (Rests new) moves = tt
+
+start_keeps : (device : Device) (old new : Stage) → StartMoves device old new → StageRetires device.retiring old
+    → StageRetires device.retiring new
+start_keeps device (Rests old) new moves has = start_in device old.power.off old new moves
+start_keeps device (Runs old) new moves has = subst (StageRetires device.retiring) (sym moves) has
+
+event_in : (retiring : Retiring) (gone : Bool) (old : DiskValue Sim) (happens : Event) (answer : Answer) (new : Stage)
+    → EventMovesIn gone old happens answer new → StageRetires retiring (Runs old) → StageRetires retiring new
+event_in retiring true old happens answer new moves has = subst (StageRetires retiring) (sym moves.1) has
+event_in retiring false old happens answer new moves has =
+    let few = moves.2.step.few in
+    subst (StageRetires retiring) (sym moves.1)
+    (few.policy_stays ∙ has ∙ ap (λ (shape : Shape). goes_ahead_by retiring shape) (sym few.layout_stays))
+
+event_keeps : (retiring : Retiring) (old : Stage) (happens : Event) (answer : Answer) (new : Stage) → EventMoves old happens answer new
+    → StageRetires retiring old → StageRetires retiring new
+event_keeps retiring (Rests old) happens answer new moves has = subst (StageRetires retiring) (sym moves.1) tt
+event_keeps retiring (Runs old) happens answer new moves has =
+    event_in retiring old.unit.store.medium.power.off old happens answer new moves has
+
+cut_keeps : (retiring : Retiring) (keeps : ℕ → Bool) (old new : Stage) → CutMoves keeps old new → StageRetires retiring new
+cut_keeps retiring keeps old (Rests new) moves = tt
+cut_keeps retiring keeps old (Runs new) moves = absurd moves
+
+does_keep : (device : Device) (old : Stage) (action : Action) (answers : List Answer) (new : Stage) → Does device old action answers new
+    → StageRetires device.retiring old → StageRetires device.retiring new
+does_keep device old (arms writes) answers new does has = fuse_keeps device.retiring writes old new does.1 has
+does_keep device old (fails call) answers new does has = failure_keeps device.retiring call old new does.1 has
+does_keep device old starts answers new does has = start_keeps device old new does.1 has
+does_keep device old (plays happens) answers new does has = event_keeps device.retiring old happens does.0 new does.2 has
+does_keep device old (cuts keeps) answers new does has = cut_keeps device.retiring keeps old new does.1
+
+pub keeps_policy : KeepsPolicy
+keeps_policy device old new [] answers [] moves has = subst (StageRetires device.retiring) (sym moves.1) has
+keeps_policy device old new (action ∷ actions) answers (refused ∷ refusals) moves has =
+    keeps_policy device moves.0 new actions moves.2 refusals moves.5 (does_keep device old action moves.1 moves.0 moves.4.does has)
+keeps_policy device old new [] answers (refused ∷ refusals) moves has = absurd moves
+keeps_policy device old new (action ∷ actions) answers [] moves has = absurd moves
+
+-- ---- a host sees nothing of it
+
+module _ (device : Device) (retiring : Retiring) where
+  abbrev other : Device
+  other = record device { retiring = retiring }
+
+  begins_alike : (refused : Bool) (old new : Standing) → LifeBegins device refused old new → LifeBegins other refused old new
+  begins_alike refused old new h =
+      record { book = h.book; opens = h.opens; limit = h.limit; keeps_limit = h.keeps_limit; begins = h.begins }
+
+  starts_alike : (place : Place) (refused : Bool) (old new : Standing) → StartsAt place device refused old new
+      → StartsAt place other refused old new
+  starts_alike (before_first book) refused old new h = begins_alike refused old new h
+  starts_alike (between remains) refused old new h = begins_alike refused old new h
+  starts_alike (runs conversation) refused old new h = h
+  starts_alike (off remains) refused old new h = h
+
+  step_alike : (refused : Bool) (old : Standing) (action : Action) (answers : List Answer) (new : Standing)
+      → LivesStep device refused old action answers new → LivesStep other refused old action answers new
+  step_alike refused old (arms writes) answers new h = h
+  step_alike refused old (fails call) answers new h = h
+  step_alike refused old starts answers new h = (h.0, starts_alike old.place refused old new h.1)
+  step_alike refused old (plays happens) answers new h = h
+  step_alike refused old (cuts keeps) answers new h = h
+
+pub policy_is_unseen : PolicyIsUnseen
+policy_is_unseen device retiring old new [] answers [] run = run
+policy_is_unseen device retiring old new (action ∷ actions) answers (refused ∷ refusals) run = (
+  run.0,
+  run.1,
+  run.2,
+  run.3,
+  step_alike device retiring refused old action run.1 run.0 run.4,
+  policy_is_unseen device retiring run.0 new actions run.2 refusals run.5,
+)
+policy_is_unseen device retiring old new [] answers (refused ∷ refusals) run = absurd run
+policy_is_unseen device retiring old new (action ∷ actions) answers [] run = absurd run

@@ -1,0 +1,27 @@
+-- When records go home, over lives: a disk keeps to what was asked, and a host sees nothing of it.
+use Rattle.std.specs.Prelude.{⊤, Bool, List}
+use Rattle.scsi_unit.specs.Retiring.{RetiresBy}
+use Rattle.bot_machine.specs.declared.event.Answer.{Answer}
+use Rattle.bot_machine.specs.declared.stage.Stage.{Stage}
+use Rattle.bot_machine.specs.declared.stage.Stage.TheVariants.{Rests, Runs}
+use Rattle.bot_machine.specs.Device.{Device, Retiring}
+use Rattle.bot_machine.specs.Lives.{Action, Standing, LivesRun}
+use Rattle.bot_machine.specs.Moving.{MovesBy}
+
+-- a disk that runs retires so
+abbrev pub StageRetires : Retiring → Stage → Type 0
+StageRetires retiring (Rests medium) = ⊤
+StageRetires retiring (Runs disk) = RetiresBy retiring disk.unit
+
+-- Whatever is done, a disk that runs retires as is known of it: in each life, throughout.
+abbrev pub KeepsPolicy : Type 0
+KeepsPolicy = (device : Device) (old new : Stage) (actions : List Action) (answers : List Answer)
+    (refusals : List Bool) → MovesBy device old actions answers refusals new
+    → StageRetires device.retiring old → StageRetires device.retiring new
+
+-- Lives by the rules are the same whenever records go home: the answers, and what a cut may leave.
+abbrev pub PolicyIsUnseen : Type 0
+PolicyIsUnseen = (device : Device) (retiring : Retiring) (old new : Standing)
+    (actions : List Action) (answers : List Answer) (refusals : List Bool)
+    → LivesRun device old actions answers refusals new
+    → LivesRun (record device { retiring = retiring }) old actions answers refusals new
