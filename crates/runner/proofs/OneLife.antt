@@ -5,6 +5,7 @@ use Rattle.bot_machine.specs.Identification.{Identification}
 use Rattle.bot_machine.specs.Books.{opened}
 use Rattle.bot_machine.specs.Starting.{blocks_of, layout_of}
 use Rattle.bot_machine.proofs.UnitLaws.{between_calls}
+use Rattle.bot_machine.specs.Device.{Late}
 use Rattle.bot_machine.specs.Rules.{UnitState}
 use Rattle.bot_machine.specs.UnitValue.{unit_limit}
 use Rattle.bot_machine.specs.declared.event.Event.{Event}
@@ -46,7 +47,8 @@ life most before mid after old new events answers refusals opening leaves so = r
 
 module _ {M : Type 0} (state : M → State) (most : ℕ) (remaining was now : Option (List ℕ)) (medium : M) (script : List ℕ)
     (read : IsRead remaining script) (identity : Identification) (same : identity ≡ identification) (disk : DiskValue M)
-    (opening : IsOpened (state medium) (state disk.unit.store.medium) (record { identity = identity; packet_size = most }) disk)
+    (opening : IsOpened (state medium) (state disk.unit.store.medium)
+    (record { identity = identity; packet_size = most; retiring = Late }) disk)
     (leaves : StartLeaves (state medium) (state disk.unit.store.medium)) where
   -- the disk played events
   abbrev lived : (events : List Event) (answers : List Answer) (refusals : List Bool) (new : DiskValue M) (after : M)

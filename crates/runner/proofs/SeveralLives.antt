@@ -3,7 +3,7 @@ use Rattle.std.proofs.Common.{◌≡◌, ℕ, ◌+◌, ◌≤◌, Bool, false, L
 use Rattle.medium.specs.Sim.{Sim, state_of}
 use Rattle.bot_machine.specs.StartFaults.{StartFault}
 use Rattle.bot_machine.specs.StartFaults as start
-use Rattle.bot_machine.specs.Device.{Device}
+use Rattle.bot_machine.specs.Device.{Device, Late}
 use Rattle.bot_machine.specs.Identification.{Identification}
 use Rattle.bot_machine.specs.Books.{Book}
 use Rattle.bot_machine.specs.declared.event.Answer.{Answer}
@@ -172,7 +172,7 @@ module _ (most : ℕ) (medium : Sim) (rest : IsAtRest medium) (unfused : medium.
 
 module _ (most : ℕ) (medium : Sim) (rest : IsAtRest medium) (unfused : medium.power.fuse ≡ None) (identity : Identification)
     (is : identity ≡ identification) (lives : LivesValue)
-    (value : lives ≡ record { device = record { identity = identity; packet_size = most }; stage = Rests medium })
+    (value : lives ≡ record { device = record { identity = identity; packet_size = most; retiring = Late }; stage = Rests medium })
     (opens : (limit : ℕ) (book : Book) → IsAtRest medium → medium.power.fuse ≡ None → OpensOn (state_of medium) book
     → HasLimit (state_of medium).size limit (state_of medium).content → FitsLives lives (first_standing limit book))
     (left was now : Option (List ℕ)) (script : List ℕ) (read : IsRead left script) where

@@ -7,7 +7,7 @@ use Rattle.log_layout.specs.Places.{limit_of}
 use Rattle.bot_machine.specs.Starting.{Shape}
 use Rattle.bot_machine.specs.Starting.{StandsFor}
 use Rattle.bot_machine.specs.Starting.{IsOursForSome}
-use Rattle.bot_machine.specs.Device.{Device}
+use Rattle.bot_machine.specs.Device.{Device, Late}
 use Rattle.bot_machine.specs.Identification.{Identification}
 use Rattle.bot_machine.specs.Books.{Book, opened}
 use Rattle.bot_machine.specs.Books.{MayFind}
@@ -79,7 +79,7 @@ identification = record {
 
 -- the disk of a script, with packets of at most so many bytes
 abbrev pub device : ℕ → Device
-device most = record { identity = identification; packet_size = most }
+device most = record { identity = identification; packet_size = most; retiring = Late }
 
 -- a disk that has just started on this book, with packets of at most so many bytes, and moves so
 -- many blocks at most
