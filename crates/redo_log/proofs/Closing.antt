@@ -6,6 +6,7 @@ use Rattle.std.specs.Prelude.{All, replicate, Bool, true, false, Option, Some, N
 use Rattle.medium.specs.Medium.{State, Passes, IsSound}
 use Rattle.medium.specs.Moments.{EachCut, LeavesOnly, IsQuiet}
 use Rattle.medium.specs.declared.fault.MediumFault.{MediumFault}
+use Rattle.medium.specs.declared.fault.MediumFault.TheVariants as fault
 use Rattle.medium.proofs.Moments.{one_call, at_exit, shrunk, weaker, quiet_leaves}
 use Rattle.log_layout.specs.Places.{Shape, first_home}
 use Rattle.log_layout.specs.Values.{shape_of}
@@ -23,12 +24,14 @@ use Rattle.redo_log.specs.Logged.{Logged}
 use Rattle.redo_log.specs.Stages.{value_at, begun_at, needed_at, AreInside, IsRecord, IsUnderWay, IsRing, IsAheadOf, IsSized}
 use Rattle.redo_log.specs.Turns.{kept_by, MayTurn, IsTurned, IsNextTurn}
 use Rattle.redo_log.specs.Calls.{Call, fault_of, MayAdd, IsDone, IsNextCall}
+use Rattle.redo_log.specs.Flushes.{next_step_flushes}
 use Rattle.redo_log.specs.Held.{View, with_record, view_retired, needed_of, with_head, HasDurable, MayLeave, HoldsView}
 use Rattle.redo_log.proofs.Covering.{needed_one}
 use Rattle.redo_log.proofs.Heads.{head_within, older_one, heads_quiet, each_head}
 use Rattle.redo_log.proofs.Keeping.{Logged-records}
 use Rattle.redo_log.proofs.Stepping.{step_leaves, step_held, step_last}
 use Rattle.redo_log.proofs.Finding.{copy_is}
+use Rattle.redo_log.proofs.Flushing.{call_flushes, next_flushes}
 use Rattle.redo_log.proofs.Homing.{turn_leaves, turn_held, sent_held, turn_last}
 
 -- what a good call did
@@ -150,6 +153,18 @@ module _ (ahead : Ahead) (shape : Shape) (sized : IsSized shape) (head : ℕ) (w
 
     room : length waiting < shape.slots
     room = omega (arith, ring.fits, ap (λ (s : Option ℕ). begun_at s) at)
+
+    -- the next call makes the flushes of the step
+    pub step_flushed : (old new : State) (call : Call) (result : Result (Unit {0}) MediumFault) → Passes (fault_of call) result old new
+        → IsNextCall (layout_of shape.format) shape stamp (entries_of numbers bytes) made call
+        → new.made fault.Flush ≡ old.made fault.Flush + next_step_flushes log
+    step_flushed old new call result passes next =
+        let left : ℕ = steps_for shape.format (length numbers) - made in
+        let one = call_flushes call old new passes in
+        let same = next_flushes shape stamp numbers bytes made left call size (omega (arith, recorded.1)) (omega (arith, recorded.1))
+        next in
+        let step = ap (λ (v : LogValue). next_step_flushes v) writing_is in
+        omega (arith, one, same, step)
 
     module _ (old new : State) (sound : IsSound old) (call : Call) (result : Result (Unit {0}) MediumFault)
         (passes : Passes (fault_of call) result old new)

@@ -6,6 +6,7 @@ pub mod Counting
 pub mod Covering
 pub mod Entering
 pub mod Finding
+pub mod Flushing
 pub mod Guarding
 pub mod Handing
 pub mod Heads

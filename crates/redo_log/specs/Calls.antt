@@ -14,6 +14,7 @@ use Rattle.log_image.specs.Record.{Entry}
 use Rattle.log_image.specs.Layout.{Layout, part_at}
 use Rattle.log_image.specs.Formats.{layout_of}
 use Rattle.redo_log.specs.Stages.{written_at}
+use Rattle.redo_log.specs.Flushes.{FlushesUpTo}
 
 -- a call that writes a record
 pub data Call : Type 0 where
@@ -95,11 +96,12 @@ pub record WritesOnly (place : ℕ) (bytes : List ℕ) (old new : State) : Type 
   pub sets : Gains place bytes old.may_leave new.may_leave
 
 -- Calls of a medium, so many where they are good and else no more, and so many writes and flushes
--- among them at most: none is refused but the last one, which they answer.
-pub record CallsUpTo {X E : Type 0} (count sends : ℕ) (result : Result X E) (old new : State)
-    : Type 0 where
+-- among them at most, and so many flushes: none is refused but the last one, which they answer.
+pub record CallsUpTo {X E : Type 0} (count sends flushes : ℕ) (result : Result X E)
+    (old new : State) : Type 0 where
   pub calls : new.calls ≤ old.calls + count
   pub sent : SendsUpTo sends old new
+  pub flushed : FlushesUpTo flushes result old new
   pub exact : OnOk result (new.calls ≡ old.calls + count)
   pub failures : new.failures ≡ (if is_ok result then old.failures else old.failures + 1)
   pub size : new.size ≡ old.size

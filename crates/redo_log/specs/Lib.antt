@@ -4,6 +4,7 @@ pub mod Logged
 pub mod Held
 pub mod Index
 pub mod Stages
+pub mod Flushes
 pub mod Calls
 pub mod Turns
 pub mod Shown

@@ -4,11 +4,13 @@ use Rattle.std.specs.Prelude.{IfOk, IfErr, OnOk, OnErr}
 use Rattle.medium.specs.Medium.{State, LooksOnly}
 use Rattle.medium.specs.Moments.{LeavesOnly, SparesFrom, IsQuiet}
 use Rattle.medium.specs.Sent.{SendsUpTo}
+use Rattle.medium.specs.declared.fault.MediumFault.TheVariants.{Flush}
 use Rattle.log_layout.specs.Places.{first_home, sectors_of}
 use Rattle.redo_log.specs.declared.fault.LogFault.{LogFault}
 use Rattle.redo_log.specs.declared.fault.LogFault.TheVariants.{Medium}
 use Rattle.redo_log.specs.Value.{LogValue, died}
 use Rattle.redo_log.specs.Held.{View, HoldsView, MayLeave}
+use Rattle.redo_log.specs.Flushes.{FlushesUpTo}
 
 -- a step that answers Ok did this, and else the medium refused a call, and the log is dead
 pub record AnswersStep {X : Type 0} (Done : X → Type 0) (result : Result X LogFault)
@@ -27,19 +29,21 @@ pub record PassesStep {M X : Type 0} (state : M → State) (Follows : M → M �
   pub size : (state new).size ≡ (state old).size
   pub follows : Follows old new
 
--- a step makes one call, which is a write or a flush
-pub record CountsOne (old new : State) : Type 0 where
+-- A step makes one call, which is a write or a flush. It makes so many flushes.
+pub record CountsOne (flushes : ℕ) (old new : State) : Type 0 where
   pub one : new.calls ≡ old.calls + 1
   pub sent : SendsUpTo 1 old new
+  pub flushed : new.made Flush ≡ old.made Flush + flushes
 
 -- A retire step makes so many calls where it is good, and no more where it is refused. They are
--- never more than two. So many of them are writes and flushes at most.
-pub record CountsStep {X E : Type 0} (count sends : ℕ) (result : Result X E) (old new : State)
-    : Type 0 where
+-- never more than two. So many of them are writes and flushes at most, and so many flushes.
+pub record CountsStep {X E : Type 0} (count sends flushes : ℕ) (result : Result X E)
+    (old new : State) : Type 0 where
   pub two : new.calls ≤ old.calls + 2
   pub most : new.calls ≤ old.calls + count
   pub exact : OnOk result (new.calls ≡ old.calls + count)
   pub sent : SendsUpTo sends old new
+  pub flushed : FlushesUpTo flushes result old new
 
 -- a step of this log leaves at each moment what a cut may leave of it
 pub record LeavesLog (log : LogValue) (old new : State) : Type 0 where

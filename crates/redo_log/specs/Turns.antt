@@ -76,6 +76,13 @@ sends_of (Copy from to first) = 1
 sends_of Flush = 1
 sends_of (Head head) = 2
 
+-- how many of them are flushes
+abbrev pub flushes_of : Turn → ℕ
+flushes_of (Load from) = 0
+flushes_of (Copy from to first) = 0
+flushes_of Flush = 1
+flushes_of (Head head) = 1
+
 -- which bytes are kept after it
 abbrev pub kept_by : Turn → State → List ℕ → List ℕ
 kept_by (Load from) old kept = old.content from

@@ -1,6 +1,6 @@
 -- What a caller sees of a redo log, and how its calls change that.
 use Rattle.std.specs.Prelude.{◌≡◌, ℕ, zero, suc, ◌+◌, ◌-◌, ◌%◌, ◌<◌, List, [], ◌∷◌, ◌++◌, length}
-use Rattle.std.specs.Prelude.{get_or, slice_index, drop, replicate, sum_by, Contains, Bool}
+use Rattle.std.specs.Prelude.{get_or, slice_index, drop, replicate, sum_by, Contains, Bool, All}
 use Rattle.std.specs.Prelude.{true, false, if◌then◌else◌, ◌==◌, nat_lt}
 use Rattle.log_layout.specs.declared.log_format.LogFormat.{LogFormat}
 use Rattle.log_layout.specs.declared.log_format.LogFormat.TheVariants.{One, Two}
@@ -176,12 +176,13 @@ sends_of_oldest log = turns_sends log.shape.format (home_of_oldest log) (of_olde
 abbrev pub most_retire_sends : LogFormat → ℕ
 most_retire_sends format = limit_of format + 3
 
--- retire steps are owed for each record that waits, and for the one under way alone where none
--- waits
+-- Retire steps are owed for each record that waits, and for the one under way alone where none
+-- waits. Each record that waits has blocks.
 pub record Owes (log : LogValue) : Type 0 where
   pub none_waits : log.waiting ≡ []
       → log.retire_steps_left ≡ retire_steps_of log.shape.format log.under_way
   pub some_wait : 0 < length log.waiting → 0 < log.retire_steps_left
+  pub blocks : All (λ numbers. 0 < length numbers) log.waiting
 
 -- A retire step was made: it was the oldest record's last, which is retired then, or there are
 -- more. In format 2 it may have read another descriptor of that record.

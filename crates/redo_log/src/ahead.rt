@@ -40,7 +40,7 @@ impl Log {
         ensures answers { AnswersStep (λ _. IsAway self.old → IsSentHome self.old self.new) result
             self.old self.new }
         ensures passes { PassesStep M.state M.follows (CountsStep (ahead_calls self.old)
-            (next_sends self.old) result
+            (next_sends self.old) 0 result
             (M.state m.old) (M.state m.new)) result m.old m.new }
         ensures holds { (view : View) → HoldsView self.old (M.state m.old) view
             → HoldsView self.new (M.state m.new) view }
@@ -126,7 +126,7 @@ impl Log {
         ensures answers { AnswersStep (λ _. CanPass self.old → IsRetireStepped self.old self.new)
             result self.old self.new }
         ensures passes { PassesStep M.state M.follows (CountsStep (pass_calls self.old)
-            (pass_calls self.old) result (M.state m.old) (M.state m.new)) result m.old m.new }
+            (pass_calls self.old) 0 result (M.state m.old) (M.state m.new)) result m.old m.new }
         ensures holds { (view : View) → HoldsView self.old (M.state m.old) view
             → MatchResult result
             (λ _. HoldsView self.new (M.state m.new)

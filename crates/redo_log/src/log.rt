@@ -72,6 +72,7 @@ impl Log {
     ghost use Rattle.redo_log.specs.Held.{with_record, view_stepped, view_retired};
     ghost use Rattle.redo_log.specs.Steps.{AnswersStep, PassesStep, CountsOne, CountsStep};
     ghost use Rattle.redo_log.specs.Steps.{LeavesLog, KeepsLog};
+    ghost use Rattle.redo_log.specs.Flushes.{next_step_flushes, next_turn_flushes};
     ghost use Rattle.redo_log.specs.declared.progress.Progress.TheVariants.{Durable};
 
     /// A log without records on a medium with this super. Its first record takes the stamp `next`.
@@ -186,7 +187,8 @@ impl Log {
         ensures answers { AnswersStep (λ progress. IsStepped progress self.old self.new) result
             self.old self.new }
         ensures passes { PassesStep M.state M.follows
-            (CountsOne (M.state m.old) (M.state m.new)) result m.old m.new }
+            (CountsOne (next_step_flushes self.old) (M.state m.old) (M.state m.new))
+            result m.old m.new }
         ensures holds { (view : View) → HoldsView self.old (M.state m.old) view
             → view.under_way ≡ entries_of numbers.now bytes.now
             → MatchResult result
@@ -234,7 +236,8 @@ impl Log {
             → IsRetireStepped self.old self.new) result self.old self.new }
         // One call reads a descriptor or flushes, two copy a block or write the head and flush it.
         ensures passes { PassesStep M.state M.follows (CountsStep (next_calls self.old)
-            (next_sends self.old) result (M.state m.old) (M.state m.new)) result m.old m.new }
+            (next_sends self.old) (next_turn_flushes self.old) result
+            (M.state m.old) (M.state m.new)) result m.old m.new }
         ensures holds { (view : View) → HoldsView self.old (M.state m.old) view
             → MatchResult result
             (λ _. HoldsView self.new (M.state m.new)

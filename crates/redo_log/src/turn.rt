@@ -10,8 +10,8 @@ ghost use Rattle.log_image.specs.Formats.{layout_of};
 ghost use Rattle.redo_log.specs.Value.{turns_home};
 ghost use Rattle.redo_log.specs.Stages.{IsRecord};
 ghost use Rattle.redo_log.specs.Calls.{CallsUpTo, WritesOnly};
-ghost use Rattle.redo_log.specs.Turns.{begun_with, kept_by, calls_of, sends_of, IsInside, MakesTurn};
-ghost use Rattle.redo_log.specs.Turns.{ReadsBefore};
+ghost use Rattle.redo_log.specs.Turns.{begun_with, kept_by, calls_of, sends_of, flushes_of};
+ghost use Rattle.redo_log.specs.Turns.{IsInside, MakesTurn, ReadsBefore};
 ghost use Rattle.redo_log.specs.Turns.{IsCopyOf, IsHomeTurn, IsNextTurn};
 
 use crate::stage::turns_home;
@@ -37,8 +37,8 @@ impl Turn {
         ensures makes { MakesTurn self.now result (M.state m.old) (M.state m.new) }
         ensures keeps { kept.new
             ≡ (if is_ok result then kept_by self.now (M.state m.old) kept.old else kept.old) }
-        ensures counts { CallsUpTo (calls_of self.now) (sends_of self.now) result
-            (M.state m.old) (M.state m.new) }
+        ensures counts { CallsUpTo (calls_of self.now) (sends_of self.now) (flushes_of self.now)
+            result (M.state m.old) (M.state m.new) }
         ensures follows { M.follows m.old m.new × ((end : ℕ) → ReadsBefore end self.now
             → LooksOnly (λ s. s < end) (M.state m.old) (M.state m.new)) }
     {
@@ -69,7 +69,7 @@ fn copy_sector<M: Medium>(
         (M.state m.old).content (M.state m.new).content) }
     ensures adds { WritesOnly to (begun_with first.now ((M.state m.old).content from))
         (M.state m.old) (M.state m.new) }
-    ensures counts { CallsUpTo 2 1 result (M.state m.old) (M.state m.new) }
+    ensures counts { CallsUpTo 2 1 0 result (M.state m.old) (M.state m.new) }
     ensures spares { (first : ℕ) → to < first
         → SparesFrom first (M.state m.old) (M.state m.new) }
     ensures follows { M.follows m.old m.new
@@ -97,7 +97,7 @@ fn write_through<M: Medium>(m: &mut M, place: u64, sector: &[u8; 512]) -> Result
         (Holds place sector.now (M.state m.old).content (M.state m.new).content
         × Only (M.state m.new).content (M.state m.new).may_leave) }
     ensures adds { WritesOnly place sector.now (M.state m.old) (M.state m.new) }
-    ensures counts { CallsUpTo 2 2 result (M.state m.old) (M.state m.new) }
+    ensures counts { CallsUpTo 2 2 1 result (M.state m.old) (M.state m.new) }
     ensures spares { (first : ℕ) → place < first
         → SparesFrom first (M.state m.old) (M.state m.new) }
     ensures follows { M.follows m.old m.new

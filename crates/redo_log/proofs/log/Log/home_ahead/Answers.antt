@@ -15,6 +15,7 @@ use Rattle.redo_log.proofs.Ringing.{front_is}
 use Rattle.redo_log.proofs.Closing.{on_ok_here, ok_here, err_here, sizes_sized, turn_moments, turn_cuts, turn_dead, turn_sent_more}
 use Rattle.redo_log.proofs.Closing.{turn_sent_last}
 use Rattle.redo_log.proofs.Calling.{turn_costs, step_costs, turn_refused, left_is, away_calls}
+use Rattle.redo_log.proofs.Flushing.{home_flushes}
 use Rattle.redo_log.proofs.Sending.{turn_sent, step_sends}
 use Rattle.redo_log.proofs.Sighting.{turn_looks}
 use Rattle.redo_log.proofs.Sparing.{turn_spares}
@@ -290,8 +291,17 @@ returns-then-refused-clause-passes g c =
     c.next_turn-turn.ensures.next oldest
     ∙ step_sends c.args.self.now (ahead_in i) (shape_of i.sizes) i.head (lists_of i.waiting.items) i.turned i.kept i.under_way.items i.made
     i.dead c.as_slice-numbers.result.now (lists_of (drop 1 i.waiting.items)) c.self.view_is waits in
+    let none = home_flushes i.sizes.format (shape_of i.sizes) i.head c.as_slice-numbers.result.now i.kept i.turned c.next_turn-turn.result
+    (c.next_turn-turn.ensures.next.home (omega (arith, turns, c.if-turns-self.false))) in
+    let counted = c.make.ensures.counts.flushed in
     record {
-      calls = record { two = few.0; most = few.1; exact = search rules; sent = omega (arith, c.make.ensures.counts.sent, sends) };
+      calls = record {
+        two = few.0;
+        most = few.1;
+        exact = search rules;
+        sent = omega (arith, c.make.ensures.counts.sent, sends);
+        flushed = record { later = counted.later; most = omega (arith, counted.most, none); exact = search rules };
+      };
       failures = search rules;
       size = search rules;
       follows = search rules;
@@ -323,12 +333,20 @@ returns-then-self-turns-clause-passes g c =
     ∙ step_sends c.args.self.now (ahead_in i) (shape_of i.sizes) i.head (lists_of i.waiting.items) i.turned i.kept i.under_way.items i.made
     i.dead c.as_slice-numbers.result.now (lists_of (drop 1 i.waiting.items)) c.self.view_is waits in
     let made = on_ok_here c.make.result (sym c.is_err-refused.ensures.value ∙ c.if-refused.false) c.make.ensures.counts.exact in
+    let none = home_flushes i.sizes.format (shape_of i.sizes) i.head c.as_slice-numbers.result.now i.kept i.turned c.next_turn-turn.result
+    (c.next_turn-turn.ensures.next.home (omega (arith, turns, c.if-turns-self.false))) in
+    let counted = c.make.ensures.counts.flushed in
     record {
       calls = record {
         two = few.0;
         most = few.1;
         exact = omega (arith, made, costs);
         sent = omega (arith, c.make.ensures.counts.sent, sends);
+        flushed = record {
+          later = counted.later;
+          most = omega (arith, counted.most, none);
+          exact = omega (arith, counted.later, counted.most, none);
+        };
       };
       failures = search rules;
       size = search rules;
@@ -361,12 +379,20 @@ returns-clause-passes g c =
     ∙ step_sends c.args.self.now (ahead_in i) (shape_of i.sizes) i.head (lists_of i.waiting.items) i.turned i.kept i.under_way.items i.made
     i.dead c.as_slice-numbers.result.now (lists_of (drop 1 i.waiting.items)) c.self.view_is waits in
     let made = on_ok_here c.make.result (sym c.is_err-refused.ensures.value ∙ c.if-refused.false) c.make.ensures.counts.exact in
+    let none = home_flushes i.sizes.format (shape_of i.sizes) i.head c.as_slice-numbers.result.now i.kept i.turned c.next_turn-turn.result
+    (c.next_turn-turn.ensures.next.home (omega (arith, turns, c.if-turns-self.false))) in
+    let counted = c.make.ensures.counts.flushed in
     record {
       calls = record {
         two = few.0;
         most = few.1;
         exact = omega (arith, made, costs);
         sent = omega (arith, c.make.ensures.counts.sent, sends);
+        flushed = record {
+          later = counted.later;
+          most = omega (arith, counted.most, none);
+          exact = omega (arith, counted.later, counted.most, none);
+        };
       };
       failures = search rules;
       size = search rules;

@@ -9,6 +9,7 @@ use Rattle.log_layout.specs.Values.{shape_of}
 use Rattle.redo_log.specs.Value.{LogValue, turns_home, died, IsRetireStepped}
 use Rattle.redo_log.specs.Stages.{value_at, IsRing, AreInside}
 use Rattle.redo_log.specs.Turns.{kept_by}
+use Rattle.redo_log.specs.Flushes.{turn_flushes}
 use Rattle.redo_log.specs.Held.{MayLeave, HoldsView}
 use Rattle.redo_log.specs.Shown.{lists_of, ahead_in}
 use Rattle.redo_log.specs.Index.{look, outside, IsIndex}
@@ -16,7 +17,8 @@ use Rattle.redo_log.proofs.Entering.{index_fewer}
 use Rattle.redo_log.proofs.Covering.{ahead_retired}
 use Rattle.redo_log.proofs.Ringing.{front_is, ring_retired, retired_last}
 use Rattle.redo_log.proofs.Closing.{on_ok_here, ok_here, err_here, sizes_sized, turn_moments, turn_cuts, turn_dead, turn_more, turn_retires}
-use Rattle.redo_log.proofs.Calling.{turn_costs, step_costs, turn_refused}
+use Rattle.redo_log.proofs.Calling.{turn_costs, step_costs, turn_refused, left_is}
+use Rattle.redo_log.proofs.Flushing.{turn_flushed}
 use Rattle.redo_log.proofs.Sending.{turn_sent, step_sends}
 use Rattle.redo_log.proofs.Sighting.{turn_looks}
 use Rattle.redo_log.proofs.Sparing.{turn_spares}
@@ -279,8 +281,21 @@ returns-then-is_err-clause-passes g c =
     c.next_turn-turn.ensures.next oldest
     ∙ step_sends c.args.self.now (ahead_in i) (shape_of i.sizes) i.head (lists_of i.waiting.items) i.turned i.kept i.under_way.items
     i.made i.dead c.as_slice-numbers.result.now (lists_of (drop 1 i.waiting.items)) c.self.view_is waits in
+    let flushes = turn_flushed (shape_of i.sizes) i.head c.as_slice-numbers.result.now i.kept i.turned
+    (turns_home i.sizes.format (length c.as_slice-numbers.result.now) + 2 - i.turned) c.next_turn-turn.result
+    c.next_turn-turn.ensures.next (omega (arith, oldest)) (omega (arith, oldest))
+    ∙ ap (λ (n : ℕ). turn_flushes n)
+    (sym (left_is c.args.self.now (ahead_in i) (shape_of i.sizes) i.head (lists_of i.waiting.items) i.turned i.kept i.under_way.items
+    i.made i.dead c.as_slice-numbers.result.now (lists_of (drop 1 i.waiting.items)) c.self.view_is waits)) in
+    let counted = c.make.ensures.counts.flushed in
     record {
-      calls = record { two = few.0; most = few.1; exact = search rules; sent = omega (arith, c.make.ensures.counts.sent, sends) };
+      calls = record {
+        two = few.0;
+        most = few.1;
+        exact = search rules;
+        sent = omega (arith, c.make.ensures.counts.sent, sends);
+        flushed = record { later = counted.later; most = omega (arith, counted.most, flushes); exact = search rules };
+      };
       failures = search rules;
       size = search rules;
       follows = search rules;
@@ -305,12 +320,25 @@ returns-then-self-home-clause-passes g c =
     ∙ step_sends c.args.self.now (ahead_in i) (shape_of i.sizes) i.head (lists_of i.waiting.items) i.turned i.kept i.under_way.items
     i.made i.dead c.as_slice-numbers.result.now (lists_of (drop 1 i.waiting.items)) c.self.view_is waits in
     let made = on_ok_here c.make.result (sym c.is_err.ensures.value ∙ c.if-is_err.false) c.make.ensures.counts.exact in
+    let flushes = turn_flushed (shape_of i.sizes) i.head c.as_slice-numbers.result.now i.kept i.turned
+    (turns_home i.sizes.format (length c.as_slice-numbers.result.now) + 2 - i.turned) c.next_turn-turn.result
+    c.next_turn-turn.ensures.next (omega (arith, oldest)) (omega (arith, oldest))
+    ∙ ap (λ (n : ℕ). turn_flushes n)
+    (sym (left_is c.args.self.now (ahead_in i) (shape_of i.sizes) i.head (lists_of i.waiting.items) i.turned i.kept i.under_way.items
+    i.made i.dead c.as_slice-numbers.result.now (lists_of (drop 1 i.waiting.items)) c.self.view_is waits)) in
+    let counted = c.make.ensures.counts.flushed in
+    let flushed = on_ok_here c.make.result (sym c.is_err.ensures.value ∙ c.if-is_err.false) counted.exact in
     record {
       calls = record {
         two = few.0;
         most = few.1;
         exact = omega (arith, made, costs);
         sent = omega (arith, c.make.ensures.counts.sent, sends);
+        flushed = record {
+          later = counted.later;
+          most = omega (arith, counted.most, flushes);
+          exact = omega (arith, flushed, flushes);
+        };
       };
       failures = search rules;
       size = search rules;
@@ -336,12 +364,25 @@ returns-clause-passes g c =
     ∙ step_sends c.args.self.now (ahead_in i) (shape_of i.sizes) i.head (lists_of i.waiting.items) i.turned i.kept i.under_way.items
     i.made i.dead c.as_slice-numbers.result.now (lists_of (drop 1 i.waiting.items)) c.self.view_is waits in
     let made = on_ok_here c.make.result (sym c.is_err.ensures.value ∙ c.if-is_err.false) c.make.ensures.counts.exact in
+    let flushes = turn_flushed (shape_of i.sizes) i.head c.as_slice-numbers.result.now i.kept i.turned
+    (turns_home i.sizes.format (length c.as_slice-numbers.result.now) + 2 - i.turned) c.next_turn-turn.result
+    c.next_turn-turn.ensures.next (omega (arith, oldest)) (omega (arith, oldest))
+    ∙ ap (λ (n : ℕ). turn_flushes n)
+    (sym (left_is c.args.self.now (ahead_in i) (shape_of i.sizes) i.head (lists_of i.waiting.items) i.turned i.kept i.under_way.items
+    i.made i.dead c.as_slice-numbers.result.now (lists_of (drop 1 i.waiting.items)) c.self.view_is waits)) in
+    let counted = c.make.ensures.counts.flushed in
+    let flushed = on_ok_here c.make.result (sym c.is_err.ensures.value ∙ c.if-is_err.false) counted.exact in
     record {
       calls = record {
         two = few.0;
         most = few.1;
         exact = omega (arith, made, costs);
         sent = omega (arith, c.make.ensures.counts.sent, sends);
+        flushed = record {
+          later = counted.later;
+          most = omega (arith, counted.most, flushes);
+          exact = omega (arith, flushed, flushes);
+        };
       };
       failures = search rules;
       size = search rules;

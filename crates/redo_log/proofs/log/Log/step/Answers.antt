@@ -1,4 +1,4 @@
-use Rattle.std.proofs.Common.{◌≡◌, ℕ, ◌+◌, ◌%◌, vec_capacity, List, length, ◌++◌, [], ◌∷◌, subst, sym, ◌∙◌, ap, arith, length-append}
+use Rattle.std.proofs.Common.{◌≡◌, ℕ, ◌+◌, ◌%◌, vec_capacity, List, length, ◌++◌, [], ◌∷◌, subst, sym, ◌∙◌, ap, arith, rules, length-append}
 use Rattle.std.specs.Prelude.{Option, Some, None}
 use Rattle.std.proofs.lemmas.List.{length-map}
 use Rattle.arrayvec.specs.ArrayVec.{ArrayVec}
@@ -14,6 +14,7 @@ use Rattle.redo_log.proofs.Covering.{ahead_durable}
 use Rattle.redo_log.proofs.Ringing.{lists_more, ring_durable}
 use Rattle.redo_log.proofs.Entering.{record_room, index_more}
 use Rattle.redo_log.proofs.Closing.{on_ok_here, sizes_sized, step_cuts, step_dead, step_goes_on, step_durable, step_whole}
+use Rattle.redo_log.proofs.Closing.{step_flushed}
 use Rattle.redo_log.proofs.Sighting.{call_looks}
 use Rattle.redo_log.proofs.Sparing.{call_spares}
 use Rattle.redo_log.proofs.log.Log.step.Goals as goal
@@ -226,3 +227,54 @@ enter_record-requires-clause-fits g c =
     record_room i.sizes.slots i.head (limit_of i.sizes.format) (lists_of i.waiting.items) i.index.items c.self.invariant.index_is
     (omega (arith, c.self.invariant.ring.fits, one)) (λ age below. (c.self.invariant.ring.each age [] below).few) (vec_capacity i.index)
     (length c.args.numbers.now) inside.few c.self.invariant.index_room
+
+pub returns-then-is_err-clause-passes : goal.returns-then-is_err-clause-passes
+returns-then-is_err-clause-passes g c =
+    let i = c.self.inside in
+    let flushed = step_flushed (ahead_in i) (shape_of i.sizes) (sizes_sized i.sizes) i.head (lists_of i.waiting.items) i.turned i.kept
+    i.under_way.items i.made i.dead c.args.self.now c.self.view_is c.requires.live c.self.invariant.ring c.self.invariant.ahead_is
+    c.self.invariant.least
+    (omega (arith, c.self.invariant.most, many i.waiting.items)) c.args.numbers.now c.args.bytes.now c.in-Some.made c.in-Some.is
+    c.requires.numbers c.requires.bytes (i.head + c.len.result) (omega (arith, c.len.ensures, many i.waiting.items))
+    (g.M.Medium.state c.args.m.now) (g.M.Medium.state c.make_next.new.m) c.make_next.ensures.makes.call c.make_next.result
+    c.make_next.ensures.makes.makes.passes c.make_next.ensures.makes.next in
+    record {
+      calls = record { one = search rules; sent = search rules; flushed = flushed };
+      failures = search rules;
+      size = search rules;
+      follows = search rules;
+    }
+
+pub returns-then-made-steps_for-clause-passes : goal.returns-then-made-steps_for-clause-passes
+returns-then-made-steps_for-clause-passes g c =
+    let i = c.self.inside in
+    let flushed = step_flushed (ahead_in i) (shape_of i.sizes) (sizes_sized i.sizes) i.head (lists_of i.waiting.items) i.turned i.kept
+    i.under_way.items i.made i.dead c.args.self.now c.self.view_is c.requires.live c.self.invariant.ring c.self.invariant.ahead_is
+    c.self.invariant.least
+    (omega (arith, c.self.invariant.most, many i.waiting.items)) c.args.numbers.now c.args.bytes.now c.in-Some.made c.in-Some.is
+    c.requires.numbers c.requires.bytes (i.head + c.len.result) (omega (arith, c.len.ensures, many i.waiting.items))
+    (g.M.Medium.state c.args.m.now) (g.M.Medium.state c.make_next.new.m) c.make_next.ensures.makes.call c.make_next.result
+    c.make_next.ensures.makes.makes.passes c.make_next.ensures.makes.next in
+    record {
+      calls = record { one = search rules; sent = search rules; flushed = flushed };
+      failures = search rules;
+      size = search rules;
+      follows = search rules;
+    }
+
+pub returns-clause-passes : goal.returns-clause-passes
+returns-clause-passes g c =
+    let i = c.self.inside in
+    let flushed = step_flushed (ahead_in i) (shape_of i.sizes) (sizes_sized i.sizes) i.head (lists_of i.waiting.items) i.turned i.kept
+    i.under_way.items i.made i.dead c.args.self.now c.self.view_is c.requires.live c.self.invariant.ring c.self.invariant.ahead_is
+    c.self.invariant.least
+    (omega (arith, c.self.invariant.most, many i.waiting.items)) c.args.numbers.now c.args.bytes.now c.in-Some.made c.in-Some.is
+    c.requires.numbers c.requires.bytes (i.head + c.len.result) (omega (arith, c.len.ensures, many i.waiting.items))
+    (g.M.Medium.state c.args.m.now) (g.M.Medium.state c.make_next.new.m) c.make_next.ensures.makes.call c.make_next.result
+    c.make_next.ensures.makes.makes.passes c.make_next.ensures.makes.next in
+    record {
+      calls = record { one = search rules; sent = search rules; flushed = flushed };
+      failures = search rules;
+      size = search rules;
+      follows = search rules;
+    }
