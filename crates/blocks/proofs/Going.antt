@@ -6,6 +6,7 @@ use Rattle.std.proofs.lemmas.Bool.{false≢true, cases_eq, cases_lt, eq-eqb, eqb
 use Rattle.medium.specs.Medium.{State, IsSound}
 use Rattle.medium.specs.Moments.{LeavesOnly, SparesFrom}
 use Rattle.medium.specs.Sent.{SendsUpTo}
+use Rattle.medium.specs.declared.fault.MediumFault.TheVariants.{Flush}
 use Rattle.medium.proofs.Moments.{started}
 use Rattle.log_layout.specs.Places.{sectors_of}
 use Rattle.redo_log.specs.Value.{LogValue, Owes, IsCovered, CanPass, IsAway, IsSentHome, IsRetireStepped, settled, pass_calls, of_oldest}
@@ -257,10 +258,11 @@ died_idle s log' is idle = record {
 
 pub passes_head : (before after : State) (s : Cached) (log' : LogValue) → Owes s.log → ((CanPass s.log → ⊥) → log' ≡ s.log)
     → (CanPass s.log → IsRetireStepped s.log log') → s.log.steps_left ≡ 0 → after.calls ≡ before.calls + pass_calls s.log
-    → PassesHead before after s (record s { log = log' })
-passes_head before after s log' owes none some idle calls = record {
+    → after.made Flush ≡ before.made Flush → PassesHead before after s (record s { log = log' })
+passes_head before after s log' owes none some idle calls flushed = record {
   log = λ alive. is_past s.log log' none some;
   calls = λ alive. calls;
+  flushed = flushed;
   fewer = λ alive. let fewer = past_fewer s log' none some in omega (arith, fewer);
   stays = record {
     active = refl;
@@ -271,22 +273,24 @@ passes_head before after s log' owes none some idle calls = record {
 }
 
 pub passes_none : (before after : State) (s : Cached) (log' : LogValue) → log' ≡ died s.log → s.log.steps_left ≡ 0
-    → PassesHead before after s (record s { log = log' })
-passes_none before after s log' is idle =
+    → after.made Flush ≡ before.made Flush → PassesHead before after s (record s { log = log' })
+passes_none before after s log' is idle flushed =
     let dead = ap (λ (l : LogValue). l.dead) is in record {
       log = λ alive. absurd (false≢true (sym alive ∙ dead));
       calls = λ alive. absurd (false≢true (sym alive ∙ dead));
+      flushed = flushed;
       fewer = λ alive. absurd (false≢true (sym alive ∙ dead));
       stays = died_idle s log' is idle;
     }
 
 pub brings_home : (before after : State) (s : Cached) (log' : LogValue) → IsAway s.log → IsSentHome s.log log' → s.log.steps_left ≡ 0
-    → after.calls ≡ before.calls + next_calls s.log → SendsUpTo (next_sends s.log) before after
+    → after.calls ≡ before.calls + next_calls s.log → SendsUpTo (next_sends s.log) before after → after.made Flush ≡ before.made Flush
     → BringsHome before after s (record s { log = log' })
-brings_home before after s log' away sent idle calls sends =
+brings_home before after s log' away sent idle calls sends flushed =
     let head = home_head s.log log' away sent in record {
       log = λ alive. sent;
       calls = λ alive. calls;
+      flushed = flushed;
       sent = sends;
       fewer = λ alive. home_fewer s log' away sent;
       head = head;
@@ -299,11 +303,12 @@ brings_home before after s log' away sent idle calls sends =
     }
 
 pub brings_none : (before after : State) (s : Cached) (log' : LogValue) → log' ≡ died s.log → s.log.steps_left ≡ 0
-    → SendsUpTo (next_sends s.log) before after → BringsHome before after s (record s { log = log' })
-brings_none before after s log' is idle sends =
+    → SendsUpTo (next_sends s.log) before after → after.made Flush ≡ before.made Flush → BringsHome before after s (record s { log = log' })
+brings_none before after s log' is idle sends flushed =
     let dead = ap (λ (l : LogValue). l.dead) is in record {
       log = λ alive. absurd (false≢true (sym alive ∙ dead));
       calls = λ alive. absurd (false≢true (sym alive ∙ dead));
+      flushed = flushed;
       sent = sends;
       fewer = λ alive. absurd (false≢true (sym alive ∙ dead));
       head = ap (λ (l : LogValue). l.head) is;

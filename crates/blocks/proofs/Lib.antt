@@ -1,7 +1,9 @@
 pub mod Batches
 pub mod Costing
 pub mod Counting
+pub mod Filling
 pub mod Fitting
+pub mod Flushing
 pub mod Going
 pub mod Homing
 pub mod ImageLimit

@@ -4,9 +4,11 @@ use Rattle.std.proofs.lemmas.Bool.{false≢true, cases_lt}
 use Rattle.medium.specs.Medium.{State}
 use Rattle.medium.specs.Moments.{IsUnchanged}
 use Rattle.medium.specs.Sent.{SendsUpTo}
+use Rattle.medium.specs.declared.fault.MediumFault.TheVariants.{Flush}
 use Rattle.log_layout.specs.Places.{Shape, sectors_of}
 use Rattle.log_layout.specs.declared.super_sector.Super.{Super}
 use Rattle.redo_log.specs.Value.{LogValue, IsRetireStepped, behind_oldest, died, most_steps, most_retire_steps, next_calls, next_sends}
+use Rattle.redo_log.specs.Flushes.{next_turn_flushes}
 use Rattle.blocks.specs.Background.{IsRetiring}
 use Rattle.blocks.specs.Kept.{IsBatchOf, IsKept}
 use Rattle.blocks.specs.StoreValue.{Cached}
@@ -104,16 +106,18 @@ died_kept before after sizes s log' writing same is k =
 -- a step that was made is one of retiring
 pub is_retiring : (before after : State) (s : Cached) (log' : LogValue) → (s.log.waiting ≡ [] → (log' ≡ s.log) × IsUnchanged before after)
     → after.calls ≤ before.calls + 2 → after.calls ≡ before.calls + next_calls s.log → SendsUpTo (next_sends s.log) before after
-    → s.log.dead ≡ false
+    → after.made Flush ≡ before.made Flush + next_turn_flushes s.log → s.log.dead ≡ false
     → after.failures ≡ before.failures
     → (0 < length s.log.waiting → IsRetireStepped s.log log') → IsRetiring before after s (record s { log = log' })
-is_retiring before after s log' none two counted sends live failures some =
+is_retiring before after s log' none two counted sends flushed live failures some =
     let kept = retained s.log log' (λ e. (none e).0) some in
     record {
       none_waits = λ e. (ap (λ (l : LogValue). record s { log = l }) (none e).0, (none e).1);
       two_calls = two;
       counted = λ alive. counted;
       sent = sends;
+      few_flushes = omega (arith, flushed);
+      flushed = λ alive. flushed;
       active = refl;
       frozen = refl;
       live = λ waits alive. (failures, some waits);
@@ -122,13 +126,16 @@ is_retiring before after s log' none two counted sends live failures some =
 
 -- a refused one is too, and the log is dead then
 pub is_dying : (before after : State) (s : Cached) (log' : LogValue) → (s.log.waiting ≡ [] → (log' ≡ s.log) × IsUnchanged before after)
-    → after.calls ≤ before.calls + 2 → SendsUpTo (next_sends s.log) before after → after.failures ≡ before.failures + 1
+    → after.calls ≤ before.calls + 2 → SendsUpTo (next_sends s.log) before after
+    → after.made Flush ≤ before.made Flush + next_turn_flushes s.log → after.failures ≡ before.failures + 1
     → log' ≡ died s.log → IsRetiring before after s (record s { log = log' })
-is_dying before after s log' none two sends failures is = record {
+is_dying before after s log' none two sends flushed failures is = record {
   none_waits = λ e. (ap (λ (l : LogValue). record s { log = l }) (none e).0, (none e).1);
   two_calls = two;
   counted = λ alive. absurd (false≢true (sym alive ∙ ap (λ (l : LogValue). l.dead) is));
   sent = sends;
+  few_flushes = flushed;
+  flushed = λ alive. absurd (false≢true (sym alive ∙ ap (λ (l : LogValue). l.dead) is));
   active = refl;
   frozen = refl;
   live = λ waits alive. absurd (false≢true (sym alive ∙ ap (λ (l : LogValue). l.dead) is));

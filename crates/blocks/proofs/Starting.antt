@@ -130,5 +130,6 @@ module _ (before after : State) (answer : Recovered) (from : IsRecoveredFrom bef
     live = refl;
     empty = refl;
     rests = refl;
+    log = refl;
     recovered = (answer, from);
   }

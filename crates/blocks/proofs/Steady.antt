@@ -5,7 +5,7 @@ use Rattle.std.proofs.lemmas.Bool.{eq-eqb, lt-ltb}
 use Rattle.std.proofs.lemmas.List.Sums.{sum_by-cons}
 use Rattle.log_layout.specs.declared.log_format.LogFormat.{LogFormat}
 use Rattle.log_layout.specs.declared.log_format.LogFormat.TheVariants.{One, Two}
-use Rattle.redo_log.specs.Value.{LogValue, IsCovered, settled, of_oldest, home_of_oldest, turns_home, turns_calls}
+use Rattle.redo_log.specs.Value.{LogValue, HasRoom, IsCovered, settled, of_oldest, home_of_oldest, turns_home, turns_calls}
 use Rattle.redo_log.specs.Value.{retire_steps_of, pass_calls}
 use Rattle.blocks.specs.Ahead.{oldest_retired, is_covered, counted, past, passed, going_calls, sent_calls, ahead_room_calls, retiring_calls}
 use Rattle.blocks.specs.Retiring.{HasSlots, finish_calls, both_calls}
@@ -46,34 +46,55 @@ counted_is log c =
     ∙ ap (λ (b : Bool). true && true && b) since in
     ap (λ (b : Bool). if b then settled log else log) all
 
+-- the oldest record is passed
+pub steady_passed : (log : LogValue) → IsSteady log → passed log ≡ oldest_retired (settled log)
+steady_passed log s =
+    let free : log.next - log.head < log.shape.slots = omega (arith, s.one_free) in
+    let few : HasSlots 3 log → ⊥ = λ slots. omega (arith, slots, s.one_free) in
+    let one : of_oldest (settled log) ≡ 1 = omega (arith, s.covered.flushes) in
+    let passes = one_pass (settled log) (record { flushed = one; besides = free }) in
+    sym (passes_short log few)
+    ∙ ap (λ (l : LogValue). past l) (counted_is log s.covered)
+    ∙ ap (λ (n : ℕ). if n == 1 then oldest_retired (settled log) else settled log) passes
+
+-- how many steps the next one still needs
+steady_left : (log : LogValue) → IsSteady log
+    → of_oldest (oldest_retired (settled log)) ≡ turns_home log.shape.format (length (second_of log)) + 2
+steady_left log s = let owed = second_owed log.shape.format log.waiting s.some in omega (arith, owed)
+
+-- fewer slots are free than three still, and the next one is away
+pub steady_still : (log : LogValue) → IsSteady log
+    → (HasSlots 3 (oldest_retired (settled log)) → ⊥) × (2 < of_oldest (oldest_retired (settled log)))
+steady_still log s =
+    let left = steady_left log s in
+    let turns = some_turns log.shape.format (length (second_of log)) in
+    (λ slots. omega (arith, slots, s.one_free), omega (arith, left, turns, s.some))
+
 -- room for the next record: the head, and one record's way home
 pub steady_room : (log : LogValue) → IsSteady log
     → ahead_room_calls log ≡ 1 + home_calls_of log.shape.format (length (second_of log))
 steady_room log s =
     let free : log.next - log.head < log.shape.slots = omega (arith, s.one_free) in
     let few : HasSlots 3 log → ⊥ = λ slots. omega (arith, slots, s.one_free) in
-    let counts = counted_is log s.covered in
     let one : of_oldest (settled log) ≡ 1 = omega (arith, s.covered.flushes) in
     let passes = one_pass (settled log) (record { flushed = one; besides = free }) in
-    let first = calls_short log few ∙ ap (λ (l : LogValue). pass_calls l) counts ∙ passes in
-    let passed_is : passed log ≡ oldest_retired (settled log) =
-    sym (passes_short log few)
-    ∙ ap (λ (l : LogValue). past l) counts
-    ∙ ap (λ (n : ℕ). if n == 1 then oldest_retired (settled log) else settled log) passes in
+    let first = calls_short log few ∙ ap (λ (l : LogValue). pass_calls l) (counted_is log s.covered) ∙ passes in
     let next : LogValue = oldest_retired (settled log) in
-    let still : HasSlots 3 next → ⊥ = λ slots. omega (arith, slots, s.one_free) in
+    let still = steady_still log s in
     let home = turns_home log.shape.format (length (second_of log)) in
-    let owed = second_owed log.shape.format log.waiting s.some in
-    let turns = some_turns log.shape.format (length (second_of log)) in
-    let left : of_oldest next ≡ home + 2 = omega (arith, owed) in
+    let left = steady_left log s in
     let goes : going_calls next ≡ retiring_calls next - 3 =
-    ap (λ (b : Bool). if b then retiring_calls next - 3 else 0) (lt-ltb 2 (of_oldest next) (omega (arith, left, turns, s.some))) in
+    ap (λ (b : Bool). if b then retiring_calls next - 3 else 0) (lt-ltb 2 (of_oldest next) still.1) in
     let calls : retiring_calls next ≡ turns_calls log.shape.format home (home + 2) =
     ap (λ (n : ℕ). turns_calls log.shape.format (home_of_oldest next) n) left
     ∙ ap (λ (r : List ℕ). turns_calls log.shape.format (turns_home log.shape.format (length r)) (home + 2)) (second_is log.waiting) in
-    let last = ap (λ (l : LogValue). sent_calls l) passed_is ∙ going_short next still in
+    let last = ap (λ (l : LogValue). sent_calls l) (steady_passed log s) ∙ going_short next still.0 in
     let all = ahead_free_calls log free in
     omega (arith, all, first, last, goes, calls)
+
+-- a slot is free
+pub steady_roomy : (log : LogValue) → IsSteady log → HasRoom log
+steady_roomy log s = record { none_under_way = s.none_under_way; no_steps = s.idle; free = omega (arith, s.one_free) }
 
 -- a sync of one batch
 pub steady_sync : (numbers active : List ℕ) (log : LogValue) → IsSteady log → numbers ≡ [] → 0 < length active

@@ -4,9 +4,11 @@ use Rattle.std.specs.Prelude.{Result, Ok}
 use Rattle.medium.specs.Medium.{State}
 use Rattle.medium.specs.Moments.{IsUnchanged}
 use Rattle.medium.specs.Sent.{SendsUpTo}
+use Rattle.medium.specs.declared.fault.MediumFault.TheVariants.{Flush}
 use Rattle.cache.specs.Entries.{Entries}
 use Rattle.redo_log.specs.Value.{HasRoom, begun, died, IsStepped, IsRetireStepped}
 use Rattle.redo_log.specs.Value.{next_calls, next_sends}
+use Rattle.redo_log.specs.Flushes.{next_step_flushes, next_turn_flushes}
 use Rattle.redo_log.specs.declared.progress.Progress.{Progress}
 use Rattle.redo_log.specs.declared.progress.Progress.TheVariants.{More, Durable}
 use Rattle.blocks.specs.declared.fault.StoreFault.{StoreFault}
@@ -28,9 +30,10 @@ pub record HasGoneOn (progress : Progress) (old new : Cached) : Type 0 where
   pub active : new.active ≡ old.active
   pub frozen : LeavesFrozen progress old.frozen new.frozen
 
--- one step of the record under way, which is one call of the medium
+-- one step of the record under way, which is one call of the medium, and a flush where its step is
 pub record IsRecordStep (before after : State) (old new : Cached) : Type 0 where
   pub one_call : after.calls ≡ before.calls + 1
+  pub flushed : after.made Flush ≡ before.made Flush + next_step_flushes old.log
   pub live : is_dead new ≡ false
       → (after.failures ≡ before.failures) × (progress : Progress) × HasGoneOn progress old new
   pub dies : is_dead new ≡ true → HasDied before after old new
@@ -76,13 +79,16 @@ pub record IsBeginning (before after : State) (old new : Cached) : Type 0 where
   pub dies : is_dead new ≡ true → (old.log.next ≡ 2 ^ 63 - 1) × (new.log ≡ died old.log)
 
 -- The oldest record is retired by exactly one step, which makes that step's calls and never more
--- than two, no more writes and flushes than that step's, and both batches stay. Where no record
--- waits nothing happens.
+-- than two, no more writes and flushes than that step's, and that step's flushes, and both batches
+-- stay. Where no record waits nothing happens.
 pub record IsRetiring (before after : State) (old new : Cached) : Type 0 where
   pub none_waits : old.log.waiting ≡ [] → (new ≡ old) × IsUnchanged before after
   pub two_calls : after.calls ≤ before.calls + 2
   pub counted : is_dead new ≡ false → after.calls ≡ before.calls + next_calls old.log
   pub sent : SendsUpTo (next_sends old.log) before after
+  pub few_flushes : after.made Flush ≤ before.made Flush + next_turn_flushes old.log
+  pub flushed : is_dead new ≡ false
+      → after.made Flush ≡ before.made Flush + next_turn_flushes old.log
   pub active : new.active ≡ old.active
   pub frozen : new.frozen ≡ old.frozen
   pub live : 0 < length old.log.waiting → is_dead new ≡ false

@@ -3,10 +3,13 @@ use Rattle.std.specs.Prelude.{◌≡◌, ℕ, ◌+◌, ◌*◌, zero, suc, Bool,
 use Rattle.std.specs.Prelude.{◌≤◌, if◌then◌else◌, Result, OnOk}
 use Rattle.medium.specs.Medium.{State}
 use Rattle.medium.specs.Sent.{SendsUpTo}
+use Rattle.medium.specs.declared.fault.MediumFault.TheVariants.{Flush}
 use Rattle.cache.specs.Blocks.{is_listed}
 pub use Rattle.log_image.specs.Copies.{copy_reads_of}
 use Rattle.redo_log.specs.Value.{LogValue}
 use Rattle.blocks.specs.Retiring.{finished, finish_calls, IsLog}
+use Rattle.blocks.specs.Flushing.{finish_flushes}
+use Rattle.blocks.specs.Steady.{IsSteady}
 use Rattle.blocks.specs.StoreValue.{Cached, layout_of, FitsBeside, TakesRange, transfer_limit}
 use Rattle.blocks.specs.StoreValue.{active_of, batch_steps, steps_left}
 
@@ -56,13 +59,16 @@ pub record TurnsBatches (ahead : Bool) (old new : Cached) (address count : ℕ) 
 
 -- What a good write of so many blocks from this address on costs. One batch more is to become a
 -- record. Where the range does not fit beside the active batch, it makes the calls that make the
--- frozen one durable, and no other.
+-- frozen one durable, and no other, and the flushes for that.
 pub record CostsWrite {A E : Type 0} (ahead : Bool) (result : Result A E) (address count : ℕ)
     (before after : State) (old new : Cached) : Type 0 where
   pub paid : OnOk result (after.calls + 2 * steps_left new
       ≤ before.calls + 2 * steps_left old + 2 * batch_steps old)
   pub alone : ¬ FitsBeside (transfer_limit old) (active_of old) address count
       → OnOk result (after.calls ≡ before.calls + finish_calls ahead old.frozen.numbers old.log)
+  pub flushes : ¬ FitsBeside (transfer_limit old) (active_of old) address count
+      → OnOk result (after.made Flush
+      ≡ before.made Flush + finish_flushes old.frozen.numbers old.log)
 
 -- where a write of so many blocks from this address on is good: the batch that takes it, and the
 -- batches before that
@@ -71,6 +77,8 @@ pub record WritesRange {A E : Type 0} (ahead : Bool) (result : Result A E) (addr
   pub active : OnOk result
       (TakesRange (transfer_limit old) (active_of old) address count (active_of new))
   pub batches : OnOk result (TurnsBatches ahead old new address count)
+  -- where the store goes ahead, a ring that is steady stays so
+  pub stays : ahead ≡ true → IsSteady old.log → OnOk result (IsSteady new.log)
 
 -- The active batch takes the range, for which one more is to become a record at most. The log and
 -- the frozen batch stay.

@@ -1,7 +1,9 @@
 -- What is durable after a call of a store that writes its batches out, and which records it retires
 -- for that.
-use Rattle.std.specs.Prelude.{◌≡◌, ◌+◌, ◌≤◌, ◌<◌, true, [], length, Bool, Result, OnOk}
+use Rattle.std.specs.Prelude.{◌≡◌, ◌+◌, ◌≤◌, ◌<◌, true, [], length, Bool, Result, OnOk, All}
 use Rattle.medium.specs.Medium.{State}
+use Rattle.medium.specs.declared.fault.MediumFault.TheVariants.{Flush}
+use Rattle.log_layout.specs.declared.log_format.LogFormat.TheVariants.{Two}
 use Rattle.redo_log.specs.Value.{HasRoom, most_retire_sends}
 use Rattle.blocks.specs.declared.fault.StoreFault.{StoreFault}
 use Rattle.blocks.specs.StoreValue.{Cached, StoreValue, layout_of, active_of, unwritten, wants}
@@ -10,7 +12,8 @@ use Rattle.blocks.specs.Passing.{MayEmpty, PassesPaid, TellsLife}
 use Rattle.blocks.specs.Retiring.{RetiresForRoom, finished, made_ready, written_out, IsLog, IsRoomy}
 use Rattle.blocks.specs.Retiring.{HasSlots, with_spare, to_begin, record_calls, calls_from}
 use Rattle.blocks.specs.Retiring.{both_calls, ready_calls}
-use Rattle.blocks.specs.Steady.{IsSteady, steady_calls}
+use Rattle.blocks.specs.Steady.{IsSteady, IsFilling, IsFuller, steady_calls}
+use Rattle.blocks.specs.Flushing.{room_flushes, both_flushes}
 
 -- what a call of a store answers that gives nothing
 abbrev pub Answer : Type 0
@@ -36,8 +39,8 @@ pub record MakesRoom {M : Type 0} (ahead : Bool) (result : Answer) (old new : St
   pub active : new.cached.active ≡ old.cached.active
   pub frozen : new.cached.frozen ≡ old.cached.frozen
 
--- The same as the store's policy says, by exactly the calls for that, with all that a turn
--- promises.
+-- The same as the store's policy says, by exactly the calls and the flushes for that, with all that
+-- a turn promises.
 pub record MakesReady {M : Type 0} (state : M → State) (Follows : M → M → Type 0)
     (result : Answer) (old new : StoreValue M) : Type 0 where
   pub passes : PassesPaid state Follows (most_retire_sends (layout_of old.cached).format) old new
@@ -45,6 +48,10 @@ pub record MakesReady {M : Type 0} (state : M → State) (Follows : M → M → 
   pub room : MakesRoom old.goes_ahead result old new
   pub cost : OnOk result ((state new.medium).calls
       ≡ (state old.medium).calls + ready_calls old.goes_ahead old.cached.log)
+  pub flushed : OnOk result ((state new.medium).made Flush
+      ≡ (state old.medium).made Flush + room_flushes old.cached.log)
+  -- each record that waits has blocks
+  pub blocks : old.goes_ahead ≡ true → All (λ numbers. 0 < length numbers) old.cached.log.waiting
 
 -- Where Ok the frozen batch is durable and empty. Where it was empty nothing happens, and else the
 -- record that was written waits. The active batch stays.
@@ -57,6 +64,11 @@ pub record FinishesFrozen {M : Type 0} (result : Answer) (old new : StoreValue M
       (finished old.goes_ahead old.cached.frozen.numbers old.cached.log) new.cached.log)
   pub retires : RetiresForRoom old.goes_ahead old.cached.log new.cached.log
   pub active : new.cached.active ≡ old.cached.active
+  pub fills : old.goes_ahead ≡ true → IsFilling old.cached.log
+      → 0 < length old.cached.frozen.numbers
+      → OnOk result (IsFuller old.cached.log new.cached.log)
+  pub stays : old.goes_ahead ≡ true → IsSteady old.cached.log
+      → OnOk result (IsSteady new.cached.log)
 
 -- How many calls a good sync makes: those that make one batch durable, and then the other, and no
 -- other. Where a slot is free for each record that is to be begun, and two besides where the store
@@ -74,6 +86,15 @@ pub record CostsSync (ahead : Bool) (result : Answer) (before after : State) (ol
   pub steady : ahead ≡ true → IsSteady old.log → old.frozen.numbers ≡ []
       → 0 < length old.active.numbers
       → OnOk result (after.calls ≡ before.calls + steady_calls old.active.numbers old.log)
+  -- So many of its calls are flushes.
+  pub flushes : OnOk result (after.made Flush ≡ before.made Flush
+      + both_flushes ahead old.frozen.numbers old.active.numbers old.log)
+  -- In format 2 a sync of one batch flushes once where a slot is free, and no more often.
+  pub once : old.log.shape.format ≡ Two → HasRoom old.log → old.frozen.numbers ≡ []
+      → 0 < length old.active.numbers → OnOk result (after.made Flush ≡ before.made Flush + 1)
+  -- So it does in such a ring.
+  pub steady_once : old.log.shape.format ≡ Two → IsSteady old.log → old.frozen.numbers ≡ []
+      → 0 < length old.active.numbers → OnOk result (after.made Flush ≡ before.made Flush + 1)
 
 -- what both batches and the log become where each accepted write is made durable
 pub record FinishesBoth {M : Type 0} (result : Answer) (old new : StoreValue M) : Type 0 where
@@ -86,5 +107,12 @@ pub record FinishesBoth {M : Type 0} (result : Answer) (old new : StoreValue M) 
   pub finishes : OnOk result (IsLog old.goes_ahead (finished old.goes_ahead
       old.cached.active.numbers
       (finished old.goes_ahead old.cached.frozen.numbers old.cached.log)) new.cached.log)
+  -- Where the store goes ahead, records alone fill the ring, by one for each sync of one batch.
+  -- Then it is steady, and stays so, whatever a sync writes.
+  pub fills : old.goes_ahead ≡ true → IsFilling old.cached.log → old.cached.frozen.numbers ≡ []
+      → 0 < length old.cached.active.numbers
+      → OnOk result (IsFuller old.cached.log new.cached.log)
+  pub stays : old.goes_ahead ≡ true → IsSteady old.cached.log
+      → OnOk result (IsSteady new.cached.log)
   -- no record is retired but one for each batch, where the ring is full
   pub retires : new.cached.log.head ≤ old.cached.log.head + 2

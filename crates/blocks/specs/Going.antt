@@ -2,6 +2,7 @@
 use Rattle.std.specs.Prelude.{◌≡◌, ◌≤◌, ◌<◌, ◌+◌, ℕ, false, Result}
 use Rattle.medium.specs.Medium.{State}
 use Rattle.medium.specs.Sent.{SendsUpTo}
+use Rattle.medium.specs.declared.fault.MediumFault.TheVariants.{Flush}
 use Rattle.redo_log.specs.Value.{LogValue, IsSentHome, next_calls, next_sends, pass_calls}
 use Rattle.blocks.specs.declared.fault.StoreFault.{StoreFault}
 use Rattle.blocks.specs.Ahead.{counted, past, IsBut}
@@ -26,6 +27,7 @@ pub record CountsFlush (old new : Cached) : Type 0 where
 pub record PassesHead (before after : State) (old new : Cached) : Type 0 where
   pub log : is_dead new ≡ false → new.log ≡ past old.log
   pub calls : is_dead new ≡ false → after.calls ≡ before.calls + pass_calls old.log
+  pub flushed : after.made Flush ≡ before.made Flush
   pub fewer : is_dead new ≡ false → steps_left new ≤ steps_left old
   pub stays : StaysIdle old new
 
@@ -33,17 +35,20 @@ pub record PassesHead (before after : State) (old new : Cached) : Type 0 where
 pub record BringsHome (before after : State) (old new : Cached) : Type 0 where
   pub log : is_dead new ≡ false → IsSentHome old.log new.log
   pub calls : is_dead new ≡ false → after.calls ≡ before.calls + next_calls old.log
+  pub flushed : after.made Flush ≡ before.made Flush
   pub sent : SendsUpTo (next_sends old.log) before after
   pub fewer : is_dead new ≡ false → steps_left new < steps_left old
   pub head : new.log.head ≡ old.log.head
   pub stays : StaysIdle old new
 
 -- Where it is good, the log is this one but for the descriptor that is kept, by exactly so many
--- calls. No more records are passed than so many, and whether the store is live it tells.
+-- calls. None of its calls is a flush, good or refused. No more records are passed than so many,
+-- and whether the store is live it tells.
 pub record GoesAhead (result : Result (Unit {0}) StoreFault) (is : LogValue) (count most : ℕ)
     (before after : State) (old new : Cached) : Type 0 where
   pub log : is_dead new ≡ false → IsBut is new.log
   pub calls : is_dead new ≡ false → after.calls ≡ before.calls + count
+  pub flushed : after.made Flush ≡ before.made Flush
   pub stays : StaysIdle old new
   pub head : new.log.head ≤ old.log.head + most
   pub answer : TellsLife result new

@@ -4,6 +4,7 @@ pub mod Book
 pub mod Calls
 pub mod Finding
 pub mod Finishing
+pub mod Flushing
 pub mod Going
 pub mod Kept
 pub mod Limit

@@ -14,7 +14,9 @@ use Rattle.recovery.specs.Recovered.{RecoverySends, SparesTheRest}
 use Rattle.recovery.specs.declared.recovered.Recovered.{Recovered}
 use Rattle.recovery.specs.declared.start_fault.StartFault.{StartFault}
 use Rattle.recovery.specs.declared.start_fault.StartFault.TheVariants.{NoMemory}
+use Rattle.redo_log.specs.Value.{idle_from}
 use Rattle.blocks.specs.Ahead.{may_go_ahead}
+use Rattle.blocks.specs.Steady.{IsFilling, ReachesSteady}
 use Rattle.blocks.specs.Book.{Book, opened}
 use Rattle.blocks.specs.Finding.{MayFind}
 use Rattle.blocks.specs.Opening.{OpensOn}
@@ -37,6 +39,8 @@ pub record IsStarted (before after : State) (new : Cached) : Type 0 where
   pub live : is_dead new ≡ false
   pub empty : active_of new ≡ []
   pub rests : steps_left new ≡ 0
+  -- no record waits, and the first one takes that stamp
+  pub log : new.log ≡ idle_from (layout_of new) next
   -- the medium was recovered, and nothing was done to it afterwards
   pub recovered : (answer : Recovered) × IsRecoveredFrom before after answer
 
@@ -95,11 +99,14 @@ pub record LeavesMedium {M : Type 0} (state : M → State) (Follows : M → M �
   -- each read names a sector of the log
   pub looks : recovery.LooksAtLog (state old) (state new)
 
--- A store that was started as any, and that goes ahead where its log allows it.
+-- A store that was started as any, and that goes ahead where its log allows it. The ring that
+-- records alone fill then is steady after as many syncs of one batch as it has slots but one.
 pub record StartsAhead {M : Type 0} (state : M → State) (Follows : M → M → Type 0) (medium : M)
     (store : StoreValue M) : Type 0 where
   pub started : IsStarted (state medium) (state store.medium) store.cached
   pub policy : store.goes_ahead ≡ may_go_ahead (layout_of store.cached)
+  pub filling : store.goes_ahead ≡ true → IsFilling store.cached.log
+  pub reaches : store.goes_ahead ≡ true → ReachesSteady store.cached.log
   pub leaves : LeavesMedium state Follows medium store.medium
 
 -- Its start was refused, as any: contents that stand for something with a stamp left are refused by

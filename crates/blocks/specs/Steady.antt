@@ -1,7 +1,10 @@
--- What a sync costs a store that goes ahead, once records alone have filled the ring.
-use Rattle.std.specs.Prelude.{◌≡◌, ◌+◌, ◌-◌, ◌<◌, ℕ, List, [], length, get_or}
+-- How records alone fill the ring of a store that goes ahead, and what a sync costs it then.
+use Rattle.std.specs.Prelude.{◌≡◌, ◌+◌, ◌-◌, ◌<◌, ◌≤◌, ℕ, List, [], ◌∷◌, length, get_or, sum_by}
+use Rattle.std.specs.Prelude.{true, All}
 use Rattle.log_layout.specs.declared.log_format.LogFormat.{LogFormat}
 use Rattle.redo_log.specs.Value.{LogValue, IsCovered, turns_home, turns_calls, steps_of}
+use Rattle.redo_log.specs.Value.{retire_steps_of}
+use Rattle.blocks.specs.Retiring.{finished}
 
 -- so many calls bring a record of so many blocks home: each block is read and written, and in
 -- format 2 each descriptor is read
@@ -27,3 +30,33 @@ pub record IsSteady (log : LogValue) : Type 0 where
 abbrev pub steady_calls : List ℕ → LogValue → ℕ
 steady_calls numbers log = steps_of log.shape.format numbers + 1
     + home_calls_of log.shape.format (length (second_of log))
+
+-- Records alone have come so far. Two slots are free at least, nothing is under way, and no block
+-- of a record went home.
+pub record IsFilling (log : LogValue) : Type 0 where
+  pub idle : log.steps_left ≡ 0
+  pub none_under_way : log.under_way ≡ []
+  pub three : 3 ≤ log.shape.slots
+  pub used : log.next ≡ log.head + length log.waiting
+  pub two_free : length log.waiting + 2 ≤ log.shape.slots
+  pub none_home : log.retire_steps_left
+      ≡ sum_by (retire_steps_of log.shape.format) log.waiting
+  pub none_ahead : log.ahead.home < log.head
+
+-- One record more has come: two slots are free still, or the ring is steady.
+pub record IsFuller (old new : LogValue) : Type 0 where
+  pub one_more : length new.waiting ≡ length old.waiting + 1
+  pub on : length old.waiting + 3 ≤ old.shape.slots → IsFilling new
+  pub full : length old.waiting + 2 ≡ old.shape.slots → IsSteady new
+
+-- what the records of these batches make of a log, the first batch first, where the store goes
+-- ahead
+abbrev pub finished_each : List (List ℕ) → LogValue → LogValue
+finished_each [] log = log
+finished_each (numbers ∷ batches) log = finished_each batches (finished true numbers log)
+
+-- Where as many batches have become records as there are slots but one, or more, the ring is
+-- steady.
+abbrev pub ReachesSteady : LogValue → Type 0
+ReachesSteady log = (batches : List (List ℕ)) → All (λ numbers. 0 < length numbers) batches
+    → log.shape.slots ≤ length batches + 1 → IsSteady (finished_each batches log)

@@ -1,5 +1,6 @@
 //! How accepted writes are made durable.
 ghost use Rattle.std.specs.Prelude.{◌≡◌, ◌<◌, ◌+◌, ◌*◌, false, OnOk};
+ghost use Rattle.medium.specs.declared.fault.MediumFault.TheVariants.{Flush};
 ghost use Rattle.redo_log.specs.Value.{most_retire_sends};
 ghost use Rattle.blocks.specs.Book.{Book, promised};
 ghost use Rattle.blocks.specs.StoreValue.{layout_of, is_dead, FitsBook};
@@ -8,6 +9,7 @@ ghost use Rattle.blocks.specs.Passing.{PassesPaid, TellsLife, Answers};
 ghost use Rattle.blocks.specs.Finishing.{WritesOut, MakesRoom, MakesReady, FinishesFrozen};
 ghost use Rattle.blocks.specs.Finishing.{FinishesBoth, CostsSync};
 ghost use Rattle.blocks.specs.Retiring.{room_calls, finish_calls};
+ghost use Rattle.blocks.specs.Flushing.{left_flushes, room_flushes, finish_flushes};
 
 use crate::{Store, StoreFault};
 use medium::Medium;
@@ -27,7 +29,8 @@ impl<M: Medium> Store<M> {
             → OnOk result (FitsBook (M.state self.new.medium) self.new.cached (promised book)) }
         ensures answers { Answers result self.old self.new }
         ensures batches { FinishesBoth result self.old self.new }
-        // It makes the calls that write the records and that retire for their room, and no other.
+        // It makes the calls that write the records and that retire for their room, and no other,
+        // and so many flushes.
         ensures cost { CostsSync self.old.goes_ahead result (M.state self.old.medium)
             (M.state self.new.medium) self.old.cached }
     {
@@ -46,6 +49,9 @@ impl<M: Medium> Store<M> {
             ≡ (M.state self.old.medium).calls
             + finish_calls self.old.goes_ahead self.old.cached.frozen.numbers
             self.old.cached.log) }
+        ensures flushes { OnOk result ((M.state self.new.medium).made Flush
+            ≡ (M.state self.old.medium).made Flush
+            + finish_flushes self.old.cached.frozen.numbers self.old.cached.log) }
     {
         if self.is_dead() {
             return Err(StoreFault::Dead);
@@ -71,6 +77,8 @@ impl<M: Medium> Store<M> {
         ensures batch { WritesOut result self.old.cached self.new.cached }
         ensures exactly { OnOk result ((M.state self.new.medium).calls
             ≡ (M.state self.old.medium).calls + self.old.cached.log.steps_left) }
+        ensures flushes { OnOk result ((M.state self.new.medium).made Flush
+            ≡ (M.state self.old.medium).made Flush + left_flushes self.old.cached.log) }
     {
         while let Progress::More = self.step()? {}
         Ok(())
@@ -101,6 +109,8 @@ impl<M: Medium> Store<M> {
         ensures room { MakesRoom false result self.old self.new }
         ensures cost { OnOk result ((M.state self.new.medium).calls
             ≡ (M.state self.old.medium).calls + room_calls self.old.cached.log) }
+        ensures flushes { OnOk result ((M.state self.new.medium).made Flush
+            ≡ (M.state self.old.medium).made Flush + room_flushes self.old.cached.log) }
     {
         // The log says here how many writes and flushes retire its oldest record at most.
         let _few = self.log.has_room();

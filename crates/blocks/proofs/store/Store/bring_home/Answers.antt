@@ -82,7 +82,9 @@ returns-clause-brings g c =
     let after = g.M.Medium.state c.home_ahead.new.m in
     elim c.match-home_ahead.branch [
       | in-Ok w ↦ rw (← c.self.view_is) (brings_home before after old c.home_ahead.new.self away (w.in-Ok.ensures.answers.ok away) idle
-          (omega (arith, w.in-Ok.ensures.passes.calls.exact, costs)) w.in-Ok.ensures.passes.calls.sent)
+          (omega (arith, w.in-Ok.ensures.passes.calls.exact, costs)) w.in-Ok.ensures.passes.calls.sent
+          (omega (arith, w.in-Ok.ensures.passes.calls.flushed.exact)))
       | in-Err w ↦ rw (← c.self.view_is) (brings_none before after old c.home_ahead.new.self w.in-Err.ensures.answers.err idle
-          w.in-Err.ensures.passes.calls.sent)
+          w.in-Err.ensures.passes.calls.sent
+          (omega (arith, w.in-Err.ensures.passes.calls.flushed.later, w.in-Err.ensures.passes.calls.flushed.most)))
     ]

@@ -1,4 +1,5 @@
-use Rattle.std.proofs.Common.{◌≡◌, ◌<◌, ◌≤◌, ◌∙◌, ℕ, [], List, length, ap, sym, subst, arith, false, rules}
+use Rattle.std.proofs.Common.{◌≡◌, ◌<◌, ◌≤◌, ◌∙◌, ℕ, [], List, length, ap, sym, subst, arith, Bool, true, false, rules}
+use Rattle.std.specs.Prelude.{OnOk}
 use Rattle.std.proofs.lemmas.Bool.{false≢true}
 use Rattle.std.proofs.lemmas.Result.{on_ok_weaker}
 use Rattle.cache.specs.Entries.{Entries}
@@ -6,7 +7,12 @@ use Rattle.medium.specs.Sent.{sent}
 use Rattle.redo_log.specs.Value.{LogValue, begun, steps_of, most_steps}
 use Rattle.redo_log.proofs.Counting.{few_steps_for}
 use Rattle.log_layout.specs.Places.{Shape, limit_of}
-use Rattle.blocks.specs.Retiring.{written_out, finished}
+use Rattle.blocks.specs.Retiring.{written_out, finished, IsLog}
+use Rattle.blocks.specs.Flushing.{left_flushes}
+use Rattle.medium.specs.declared.fault.MediumFault.TheVariants.{Flush}
+use Rattle.redo_log.specs.Flushes.{steps_flushes}
+use Rattle.blocks.proofs.Filling.{fills, stays_on, fuller_but, steady_but}
+use Rattle.blocks.proofs.Flushing.{flushes_under_way, flushes_none, flushes_begun}
 use Rattle.blocks.proofs.Room.{some_listed, finishes_under_way, finishes_none}
 use Rattle.blocks.proofs.Ready.{is_log, made_finished}
 use Rattle.blocks.specs.StoreValue.{is_dead}
@@ -46,6 +52,18 @@ returns-then-self-clause-batch g c = record {
       c.write_out.new.self.cached.log (written ∙ finishing)) c.write_out.ensures.batch.written;
   retires = search rules;
   active = search rules;
+  fills = λ on filling listed.
+      let live : is_dead c.args.self.now.cached ≡ false = sym c.is_dead.ensures ∙ c.if-is_dead.false in
+      let some = c.self.invariant.writes (rw (← c.self.view_is) at live) c.if-self.true in
+      let log_is : c.self.inside.log ≡ c.args.self.now.cached.log = ap (λ v. v.cached.log) c.self.view_is in
+      let steps = ap (λ (log : LogValue). log.steps_left) log_is in
+      absurd (omega (arith, some, steps, filling.idle));
+  stays = λ on steady.
+      let live : is_dead c.args.self.now.cached ≡ false = sym c.is_dead.ensures ∙ c.if-is_dead.false in
+      let some = c.self.invariant.writes (rw (← c.self.view_is) at live) c.if-self.true in
+      let log_is : c.self.inside.log ≡ c.args.self.now.cached.log = ap (λ v. v.cached.log) c.self.view_is in
+      let steps = ap (λ (log : LogValue). log.steps_left) log_is in
+      absurd (omega (arith, some, steps, steady.idle));
 }
 
 pub returns-then-is_empty-clause-passes : goal.returns-then-is_empty-clause-passes
@@ -113,32 +131,54 @@ returns-then-is_empty-clause-batch g c = record {
       is_log ahead (finished ahead old.frozen.numbers old.log) old.log (finishes_none ahead old.frozen.numbers old.log idle empty);
   retires = search rules;
   active = search rules;
+  fills = λ on filling listed.
+      let old = c.args.self.now.cached in
+      let frozen_is : c.self.inside.frozen ≡ old.frozen = ap (λ v. v.cached.frozen) c.self.view_is in
+      let empty : old.frozen.numbers ≡ [] = subst (λ (batch : Entries). batch.numbers ≡ []) frozen_is
+      (c.is_empty.ensures.0 c.if-is_empty.true) in
+      let none = ap (λ (numbers : List ℕ). length numbers) empty in
+      absurd (omega (arith, none, listed));
+  stays = λ on steady. steady;
 }
 
 pub returns-clause-batch : goal.returns-clause-batch
-returns-clause-batch g c = record {
-  done = search rules;
-  rests = search rules;
-  waits = search rules;
-  finishes =
-      let old = c.args.self.now.cached in
-      let mid = c.make_ready.new.self.cached in
-      let live : is_dead old ≡ false = sym c.is_dead.ensures ∙ c.if-is_dead.false in
-      let log_is : c.self.inside.log ≡ old.log = ap (λ v. v.cached.log) c.self.view_is in
-      let frozen_is : c.self.inside.frozen ≡ old.frozen = ap (λ v. v.cached.frozen) c.self.view_is in
-      let idle : old.log.steps_left ≡ 0 = subst (λ (log : LogValue). log.steps_left ≡ 0) log_is
-      (c.self.invariant.rests (rw (← c.self.view_is) at live) c.if-self.false) in
-      let some : 0 < length old.frozen.numbers = subst (λ (batch : Entries). 0 < length batch.numbers) frozen_is
-      (some_listed c.self.inside.frozen.numbers (λ none. false≢true (sym c.if-is_empty.false ∙ c.is_empty.ensures.1 none))) in
-      let begun_is = (c.begin.ensures.begins.live c.in_ok-begin.ensures.answer).1
-      ∙ ap (λ (batch : Entries). begun batch.numbers mid.log) c.make_ready.ensures.ready.room.frozen in
-      on_ok_weaker c.write_out-2.result
-      (λ written. made_finished c.args.self.now.goes_ahead old.frozen.numbers old.log mid.log c.write_out-2.new.self.cached.log idle some
-      c.in_ok-make_ready.ensures.ready.room.made (written ∙ ap (λ (log : LogValue). written_out log) begun_is))
-      c.write_out-2.ensures.batch.written;
-  retires = search rules;
-  active = search rules;
-}
+returns-clause-batch g c =
+    let old = c.args.self.now.cached in
+    let ahead = c.args.self.now.goes_ahead in
+    let mid = c.make_ready.new.self.cached in
+    let new = c.write_out-2.new.self.cached in
+    let live : is_dead old ≡ false = sym c.is_dead.ensures ∙ c.if-is_dead.false in
+    let log_is : c.self.inside.log ≡ old.log = ap (λ v. v.cached.log) c.self.view_is in
+    let frozen_is : c.self.inside.frozen ≡ old.frozen = ap (λ v. v.cached.frozen) c.self.view_is in
+    let idle : old.log.steps_left ≡ 0 = subst (λ (log : LogValue). log.steps_left ≡ 0) log_is
+    (c.self.invariant.rests (rw (← c.self.view_is) at live) c.if-self.false) in
+    let some : 0 < length old.frozen.numbers = subst (λ (batch : Entries). 0 < length batch.numbers) frozen_is
+    (some_listed c.self.inside.frozen.numbers (λ none. false≢true (sym c.if-is_empty.false ∙ c.is_empty.ensures.1 none))) in
+    let begun_is = (c.begin.ensures.begins.live c.in_ok-begin.ensures.answer).1
+    ∙ ap (λ (batch : Entries). begun batch.numbers mid.log) c.make_ready.ensures.ready.room.frozen in
+    let finishes : OnOk c.write_out-2.result (IsLog ahead (finished ahead old.frozen.numbers old.log) new.log) =
+    on_ok_weaker c.write_out-2.result
+    (λ written. made_finished ahead old.frozen.numbers old.log mid.log new.log idle some
+    c.in_ok-make_ready.ensures.ready.room.made (written ∙ ap (λ (log : LogValue). written_out log) begun_is))
+    c.write_out-2.ensures.batch.written in
+    record {
+      done = search rules;
+      rests = search rules;
+      waits = search rules;
+      finishes = finishes;
+      retires = search rules;
+      active = search rules;
+      fills = λ on filling listed.
+          let fuller = (fills old.frozen.numbers old.log filling (c.in_ok-make_ready.ensures.ready.blocks on) listed).fuller in
+          on_ok_weaker c.write_out-2.result
+          (λ is. fuller_but old.log (finished true old.frozen.numbers old.log) new.log
+          (subst (λ (b : Bool). IsLog b (finished b old.frozen.numbers old.log) new.log) on is) fuller) finishes;
+      stays = λ on steady.
+          let stays = stays_on old.frozen.numbers old.log steady (c.in_ok-make_ready.ensures.ready.blocks on) in
+          on_ok_weaker c.write_out-2.result
+          (λ is. steady_but (finished true old.frozen.numbers old.log) new.log
+          (subst (λ (b : Bool). IsLog b (finished b old.frozen.numbers old.log) new.log) on is) stays) finishes;
+    }
 
 pub returns-in_err-begin-clause-passes : goal.returns-in_err-begin-clause-passes
 returns-in_err-begin-clause-passes g c = record {
@@ -212,6 +252,8 @@ returns-in_err-begin-clause-batch g c = record {
       let before = c.make_ready.ensures.ready.room.retires in
       record { one = omega (arith, head, before.one); roomy = λ room. head ∙ before.roomy room };
   active = search rules;
+  fills = λ on filling listed. search rules;
+  stays = λ on steady. search rules;
 }
 
 pub returns-then-self-clause-passes : goal.returns-then-self-clause-passes
@@ -238,3 +280,47 @@ returns-in_err-make_ready-clause-passes g c = record {
   follows = c.make_ready.ensures.ready.passes.follows;
   looks = c.make_ready.ensures.ready.passes.looks;
 }
+
+pub returns-then-self-clause-flushes : goal.returns-then-self-clause-flushes
+returns-then-self-clause-flushes g c =
+    let old = c.args.self.now.cached in
+    let live : is_dead old ≡ false = sym c.is_dead.ensures ∙ c.if-is_dead.false in
+    let log_is : c.self.inside.log ≡ old.log = ap (λ v. v.cached.log) c.self.view_is in
+    let some =
+    subst (λ (log : LogValue). 0 < log.steps_left) log_is (c.self.invariant.writes (rw (← c.self.view_is) at live) c.if-self.true) in
+    let flushes = flushes_under_way old.frozen.numbers old.log some in
+    on_ok_weaker c.write_out.result (λ all. omega (arith, all, flushes)) c.write_out.ensures.flushes
+
+pub returns-then-is_empty-clause-flushes : goal.returns-then-is_empty-clause-flushes
+returns-then-is_empty-clause-flushes g c =
+    let old = c.args.self.now.cached in
+    let live : is_dead old ≡ false = sym c.is_dead.ensures ∙ c.if-is_dead.false in
+    let log_is : c.self.inside.log ≡ old.log = ap (λ v. v.cached.log) c.self.view_is in
+    let frozen_is : c.self.inside.frozen ≡ old.frozen = ap (λ v. v.cached.frozen) c.self.view_is in
+    let idle : old.log.steps_left ≡ 0 =
+    subst (λ (log : LogValue). log.steps_left ≡ 0) log_is (c.self.invariant.rests (rw (← c.self.view_is) at live) c.if-self.false) in
+    let empty : old.frozen.numbers ≡ [] =
+    subst (λ (batch : Entries). batch.numbers ≡ []) frozen_is (c.is_empty.ensures.0 c.if-is_empty.true) in
+    let none = flushes_none old.frozen.numbers old.log idle empty in
+    omega (arith, none)
+
+pub returns-clause-flushes : goal.returns-clause-flushes
+returns-clause-flushes g c =
+    let old = c.args.self.now.cached in
+    let mid = c.make_ready.new.self.cached in
+    let live : is_dead old ≡ false = sym c.is_dead.ensures ∙ c.if-is_dead.false in
+    let log_is : c.self.inside.log ≡ old.log = ap (λ v. v.cached.log) c.self.view_is in
+    let frozen_is : c.self.inside.frozen ≡ old.frozen = ap (λ v. v.cached.frozen) c.self.view_is in
+    let idle : old.log.steps_left ≡ 0 =
+    subst (λ (log : LogValue). log.steps_left ≡ 0) log_is (c.self.invariant.rests (rw (← c.self.view_is) at live) c.if-self.false) in
+    let some : 0 < length old.frozen.numbers = subst (λ (batch : Entries). 0 < length batch.numbers) frozen_is
+    (some_listed c.self.inside.frozen.numbers (λ none. false≢true (sym c.if-is_empty.false ∙ c.is_empty.ensures.1 none))) in
+    let begun_is = (c.begin.ensures.begins.live c.in_ok-begin.ensures.answer).1
+    ∙ ap (λ (batch : Entries). begun batch.numbers mid.log) c.make_ready.ensures.ready.room.frozen in
+    let steps = ap (λ (log : LogValue). left_flushes log) begun_is
+    ∙ ap (λ (shape : Shape). steps_flushes shape.format (steps_of shape.format old.frozen.numbers))
+    c.make_ready.ensures.ready.passes.turn.goes_on.layout_stays in
+    let flushes = flushes_begun old.frozen.numbers old.log idle some in
+    let quiet = ap (λ m. (g.M.Medium.state m).made Flush) c.begin.ensures.keeps.medium in
+    let room = c.in_ok-make_ready.ensures.ready.flushed in
+    on_ok_weaker c.write_out-2.result (λ all. omega (arith, all, steps, flushes, quiet, room)) c.write_out-2.ensures.flushes

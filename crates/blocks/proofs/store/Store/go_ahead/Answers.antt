@@ -3,6 +3,7 @@ use Rattle.std.proofs.lemmas.Bool.{false≢true}
 use Rattle.log_layout.specs.Places.{Shape, limit_of}
 use Rattle.medium.specs.Medium.{State}
 use Rattle.medium.specs.Sent.{sent}
+use Rattle.medium.specs.declared.fault.MediumFault.TheVariants.{Flush}
 use Rattle.redo_log.specs.Value.{LogValue, pass_calls}
 use Rattle.blocks.specs.Ahead.{past, passed, sent_home, sent_calls, IsBut}
 use Rattle.blocks.specs.Going.{StaysIdle, CountsFlush}
@@ -41,6 +42,7 @@ returns-then-has_slots-clause-going g c =
     record {
       log = λ alive. subst (λ (l : LogValue). IsBut (sent_home l) log) same (rests_home log slots);
       calls = λ alive. omega (arith, no, more, still);
+      flushed = refl;
       stays = record { active = refl; frozen = refl; idle = c.requires.idle; head = omega arith };
       head = omega arith;
       answer = c.requires.live;
@@ -105,6 +107,7 @@ returns-in_err-pass_head-clause-going g c =
     record {
       log = λ alive. absurd (false≢true (sym alive ∙ dead));
       calls = λ alive. absurd (false≢true (sym alive ∙ dead));
+      flushed = passing.flushed ∙ ap (λ m. (g.M.Medium.state m).made Flush) c.count_flush.ensures.keeps.medium;
       stays = idles c.args.self.now.cached c.count_flush.new.self.cached c.pass_head.new.self.cached counts passing.stays;
       head = omega (arith, passing.stays.head, counts.head);
       answer = search rules;
@@ -139,6 +142,7 @@ returns-then-has_slots-2-clause-going g c =
     record {
       log = λ alive. subst (λ (l : LogValue). IsBut (sent_home l) mid) is (rests_home mid slots);
       calls = λ alive. omega (arith, made, same, all, quiet, no, more);
+      flushed = passing.flushed ∙ ap (λ m. (g.M.Medium.state m).made Flush) c.count_flush.ensures.keeps.medium;
       stays = idles c.args.self.now.cached c.count_flush.new.self.cached c.pass_head.new.self.cached counts passing.stays;
       head = omega (arith, passing.stays.head, counts.head);
       answer = live;
@@ -191,6 +195,9 @@ returns-clause-going g c =
     record {
       log = λ alive. subst (λ (l : LogValue). IsBut (sent_home l) new) is (goes_short mid new fewer (going.log alive));
       calls = λ alive. let last = going.calls alive in omega (arith, made, same, all, quiet, home, more, last);
+      flushed =
+          let none = ap (λ m. (g.M.Medium.state m).made Flush) c.count_flush.ensures.keeps.medium in
+          going.flushed ∙ passing.flushed ∙ none;
       stays = record {
         active = going.stays.active ∙ stays.active;
         frozen = going.stays.frozen ∙ stays.frozen;

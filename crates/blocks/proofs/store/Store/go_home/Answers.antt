@@ -18,6 +18,7 @@ loop-self-init g c = record {
   home = begins_home c.args.self.now.cached.log;
   costs = refl;
   sends = omega arith;
+  flushed = refl;
   none_refused = refl;
   idle = c.requires.idle;
   active = refl;
@@ -48,6 +49,7 @@ loop-self-preserved g c =
       sends = sends_home old mid new (sent (g.M.Medium.state c.args.self.now.medium)) (sent (g.M.Medium.state c.loop-self.self.medium))
           (sent (g.M.Medium.state c.bring_home.new.self.medium)) away sent_home c.loop-self.invariant.home brings.sent
           c.loop-self.invariant.sends;
+      flushed = brings.flushed ∙ c.loop-self.invariant.flushed;
       none_refused =
           let none = c.bring_home.ensures.passes.none_refused c.in_ok-bring_home.ensures.answer in
           omega (arith, none, c.loop-self.invariant.none_refused);
@@ -105,6 +107,7 @@ returns-in_err-bring_home-clause-going g c =
     record {
       log = λ alive. absurd (false≢true (sym alive ∙ dead));
       calls = λ alive. absurd (false≢true (sym alive ∙ dead));
+      flushed = brings.flushed ∙ c.loop-self.invariant.flushed;
       stays = record {
         active = brings.stays.active ∙ c.loop-self.invariant.active;
         frozen = brings.stays.frozen ∙ c.loop-self.invariant.frozen;
@@ -126,6 +129,7 @@ returns-clause-going g c =
       log = λ alive. all_home old new home c.loop-self.invariant.home;
       calls = λ alive. all_costs old new (g.M.Medium.state c.args.self.now.medium).calls (g.M.Medium.state c.loop-self.self.medium).calls
           home c.loop-self.invariant.home c.loop-self.invariant.costs;
+      flushed = c.loop-self.invariant.flushed;
       stays = record {
         active = c.loop-self.invariant.active;
         frozen = c.loop-self.invariant.frozen;

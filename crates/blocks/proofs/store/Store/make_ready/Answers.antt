@@ -1,10 +1,14 @@
 use Rattle.std.proofs.Common.{◌≡◌, ◌<◌, ◌+◌, ◌-◌, ◌∙◌, true, false, [], ap, sym, subst, arith}
 use Rattle.std.proofs.lemmas.Bool.{false≢true}
 use Rattle.std.proofs.lemmas.Result.{on_ok_weaker}
+use Rattle.std.specs.Prelude.{All, length}
+use Rattle.medium.specs.declared.fault.MediumFault.TheVariants.{Flush}
 use Rattle.redo_log.specs.Value.{LogValue, HasRoom}
 use Rattle.blocks.specs.Ahead.{IsBut, ahead_room}
 use Rattle.blocks.specs.Finishing.{MakesRoom}
 use Rattle.blocks.specs.Retiring.{ready_calls}
+use Rattle.blocks.specs.Flushing.{room_flushes}
+use Rattle.blocks.proofs.Flushing.{room_free}
 use Rattle.blocks.proofs.Ready.{is_but, still_room, ahead_free, ahead_free_calls, ahead_full, ahead_full_calls, on_live}
 use Rattle.blocks.proofs.store.Store.make_ready.Goals as goal
 
@@ -14,6 +18,8 @@ returns-then-has_room g c =
     let new = c.go_ahead.new.self in
     let before = (g.M.Medium.state old.medium).calls in
     let after = (g.M.Medium.state new.medium).calls in
+    let made_before = (g.M.Medium.state old.medium).made Flush in
+    let made_after = (g.M.Medium.state new.medium).made Flush in
     let ahead : old.goes_ahead ≡ true = sym (ap (λ v. v.goes_ahead) c.self.view_is) ∙ c.if-not-self.false in
     let log_is = ap (λ v. v.cached.log) c.self.view_is in
     let room : HasRoom old.cached.log = subst (λ (l : LogValue). HasRoom l) log_is (c.has_room.ensures.room.0 c.if-has_room.true) in
@@ -45,6 +51,9 @@ returns-then-has_room g c =
         room = subst (λ b. MakesRoom b c.go_ahead.result old new) (sym ahead) made;
         cost = on_live c.go_ahead.result new.cached (after ≡ before + ready_calls old.goes_ahead old.cached.log) going.answer
             (λ live. let made = going.calls live in omega (arith, made, all));
+        flushed = on_live c.go_ahead.result new.cached (made_after ≡ made_before + room_flushes old.cached.log) going.answer
+            (λ live. let none = room_free old.cached.log room.free in omega (arith, going.flushed, none));
+        blocks = λ on. subst (λ (l : LogValue). All (λ numbers. 0 < length numbers) l.waiting) log_is c.has_room.ensures.owes.blocks;
       };
     }
 
@@ -60,6 +69,8 @@ returns-then-not-self g c =
         answer = c.make_room.ensures.answer;
         room = subst (λ b. MakesRoom b c.make_room.result old new) (sym ahead) c.make_room.ensures.room;
         cost = on_ok_weaker c.make_room.result (λ made. omega (arith, made, all)) c.make_room.ensures.cost;
+        flushed = c.make_room.ensures.flushes;
+        blocks = λ on. absurd (false≢true (sym ahead ∙ on));
       };
     }
 
@@ -94,5 +105,7 @@ returns g c =
         answer = c.make_room-2.ensures.answer;
         room = subst (λ b. MakesRoom b c.make_room-2.result old new) (sym ahead) room;
         cost = on_ok_weaker c.make_room-2.result (λ cost. omega (arith, cost, all, same)) c.make_room-2.ensures.cost;
+        flushed = c.make_room-2.ensures.flushes;
+        blocks = λ on. subst (λ (l : LogValue). All (λ numbers. 0 < length numbers) l.waiting) log_is c.has_room.ensures.owes.blocks;
       };
     }

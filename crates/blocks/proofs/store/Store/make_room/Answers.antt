@@ -2,10 +2,13 @@ use Rattle.std.proofs.Common.{◌≡◌, ◌≤◌, refl, ◌∙◌, ap, sym, su
 use Rattle.std.proofs.lemmas.Bool.{false≢true}
 use Rattle.log_layout.specs.Places.{Shape}
 use Rattle.medium.specs.Sent.{sent}
+use Rattle.medium.specs.declared.fault.MediumFault.TheVariants.{Flush}
+use Rattle.redo_log.specs.Flushes.{next_turn_flushes}
 use Rattle.redo_log.specs.Value.{LogValue, HasRoom, next_calls, next_sends, sends_of_oldest, most_retire_sends}
 use Rattle.blocks.specs.StoreValue.{Cached}
 use Rattle.blocks.proofs.Room.{one_at_most, most_one, retires_more, room_is_made}
 use Rattle.blocks.proofs.Costing.{CostsOldest, costs_more, costs_room}
+use Rattle.blocks.proofs.Flushing.{FlushesOldest, flushes_more, flushes_room}
 use Rattle.blocks.proofs.Sending.{SendsOldest, sends_more, sends_refused, sends_room}
 use Rattle.blocks.proofs.Turning.{turns, stays}
 use Rattle.blocks.proofs.Paying.{pays, pays_both, pays_step, must_retire}
@@ -24,6 +27,7 @@ loop-self-init g c = record {
   retires = inl refl;
   costs = inl (refl, refl);
   sends = inl (refl, omega arith);
+  flushes = inl (refl, refl);
   none_refused = refl;
   idle = c.requires.idle;
   active = refl;
@@ -82,6 +86,15 @@ loop-self-preserved g c =
           (rw (← c.self-in-loop-self.view_is) at c.loop-self.invariant.one) (omega (arith, c.retire.ensures.retiring.sent, next))
           (subst (λ (l : LogValue). SendsOldest c.args.self.now.cached.log l (sent (g.M.Medium.state c.args.self.now.medium))
           (sent (g.M.Medium.state c.loop-self.self.medium))) (sym log_is) c.loop-self.invariant.sends);
+      flushes =
+          let counted = c.retire.ensures.retiring.flushed c.in_ok-retire.ensures.answer in
+          let next = ap (λ (l : LogValue). next_turn_flushes l) log_is in
+          flushes_more c.args.self.now.cached.log c.self-in-loop-self.inside.log c.retire.new.self.cached.log
+          ((g.M.Medium.state c.args.self.now.medium).made Flush) ((g.M.Medium.state c.loop-self.self.medium).made Flush)
+          ((g.M.Medium.state c.retire.new.self.medium).made Flush) full under_way idle (rw (← c.self-in-loop-self.view_is) at stepped)
+          (rw (← c.self-in-loop-self.view_is) at c.loop-self.invariant.one) (omega (arith, counted, next))
+          (subst (λ (l : LogValue). FlushesOldest c.args.self.now.cached.log l ((g.M.Medium.state c.args.self.now.medium).made Flush)
+          ((g.M.Medium.state c.loop-self.self.medium).made Flush)) (sym log_is) c.loop-self.invariant.flushes);
       none_refused =
           let none = c.retire.ensures.passes.none_refused c.in_ok-retire.ensures.answer in
           omega (arith, none, c.loop-self.invariant.none_refused);
@@ -199,3 +212,12 @@ returns-clause-cost g c =
     costs_room c.args.self.now.cached.log c.loop-self.self.cached.log (g.M.Medium.state c.args.self.now.medium).calls
     (g.M.Medium.state c.loop-self.self.medium).calls c.loop-self.invariant.stays
     (λ had. ap (λ m. (g.M.Medium.state m).calls) (c.loop-self.invariant.quiet had)) room c.loop-self.invariant.costs
+
+pub returns-clause-flushes : goal.returns-clause-flushes
+returns-clause-flushes g c =
+    let log_is = ap (λ v. v.cached.log) c.self-in-loop-self.view_is in
+    let room : HasRoom c.loop-self.self.cached.log =
+    subst (λ (log : LogValue). HasRoom log) log_is (c.has_room.ensures.room.0 c.loop-self-test.false) in
+    flushes_room c.args.self.now.cached.log c.loop-self.self.cached.log ((g.M.Medium.state c.args.self.now.medium).made Flush)
+    ((g.M.Medium.state c.loop-self.self.medium).made Flush) c.loop-self.invariant.stays
+    (λ had. ap (λ m. (g.M.Medium.state m).made Flush) (c.loop-self.invariant.quiet had)) room c.loop-self.invariant.flushes

@@ -1,11 +1,13 @@
 use Rattle.std.proofs.Common.{◌≡◌, false}
 use Rattle.medium.specs.Sent.{sent}
+use Rattle.medium.specs.declared.fault.MediumFault.TheVariants.{Flush}
 use Rattle.blocks.specs.Looks.{LooksAtLog}
 use Rattle.blocks.specs.StoreValue.{is_dead, steps_left}
 use Rattle.blocks.specs.Turns.{IsTurn, IsPaid}
 use Rattle.redo_log.specs.Value.{HasRoom}
 use Rattle.blocks.proofs.Room.{OneAtMost, RetiresOldest}
 use Rattle.blocks.proofs.Costing.{CostsOldest}
+use Rattle.blocks.proofs.Flushing.{FlushesOldest}
 use Rattle.blocks.proofs.Sending.{SendsOldest}
 use Rattle.blocks.proofs.store.Store.make_room.Given as goal
 
@@ -23,6 +25,8 @@ invariant-loop-self g l = record {
       (g.M.Medium.state l.self.medium).calls;
   sends : SendsOldest l.fn.self.cached.log l.self.cached.log (sent (g.M.Medium.state l.fn.self.medium))
       (sent (g.M.Medium.state l.self.medium));
+  flushes : FlushesOldest l.fn.self.cached.log l.self.cached.log ((g.M.Medium.state l.fn.self.medium).made Flush)
+      ((g.M.Medium.state l.self.medium).made Flush);
   none_refused : (g.M.Medium.state l.self.medium).failures ≡ (g.M.Medium.state l.fn.self.medium).failures;
   idle : l.self.cached.log.steps_left ≡ 0;
   active : l.self.cached.active ≡ l.fn.self.cached.active;

@@ -79,6 +79,8 @@ returns-clause-passing g c =
     let after = g.M.Medium.state c.head_ahead.new.m in
     elim c.match-head_ahead.branch [
       | in-Ok w ↦ rw (← c.self.view_is) (passes_head before after old c.head_ahead.new.self c.is_retired.ensures.owes
-          (λ none. (w.in-Ok.ensures.none none).1) w.in-Ok.ensures.answers.ok idle w.in-Ok.ensures.passes.calls.exact)
-      | in-Err w ↦ rw (← c.self.view_is) (passes_none before after old c.head_ahead.new.self w.in-Err.ensures.answers.err idle)
+          (λ none. (w.in-Ok.ensures.none none).1) w.in-Ok.ensures.answers.ok idle w.in-Ok.ensures.passes.calls.exact
+          (omega (arith, w.in-Ok.ensures.passes.calls.flushed.exact)))
+      | in-Err w ↦ rw (← c.self.view_is) (passes_none before after old c.head_ahead.new.self w.in-Err.ensures.answers.err idle
+          (omega (arith, w.in-Err.ensures.passes.calls.flushed.later, w.in-Err.ensures.passes.calls.flushed.most)))
     ]

@@ -37,11 +37,13 @@ returns-clause-retiring g c =
             subst (λ m. IsUnchanged (g.M.Medium.state c.self.inside.medium) (g.M.Medium.state m))
                 (sym (w.in-Ok.ensures.none none).2) (unchanged before),
           ))
-          w.in-Ok.ensures.passes.calls.two w.in-Ok.ensures.passes.calls.exact w.in-Ok.ensures.passes.calls.sent live
+          w.in-Ok.ensures.passes.calls.two w.in-Ok.ensures.passes.calls.exact w.in-Ok.ensures.passes.calls.sent
+          w.in-Ok.ensures.passes.calls.flushed.exact live
           w.in-Ok.ensures.passes.failures w.in-Ok.ensures.answers.ok)
       | in-Err w ↦ rw (← c.self.view_is)
           (is_dying before after _ c.retire_step.new.self (λ none. absurd (false≢true (w.in-Err.ensures.none none).0))
-          w.in-Err.ensures.passes.calls.two w.in-Err.ensures.passes.calls.sent w.in-Err.ensures.passes.failures
+          w.in-Err.ensures.passes.calls.two w.in-Err.ensures.passes.calls.sent w.in-Err.ensures.passes.calls.flushed.most
+          w.in-Err.ensures.passes.failures
           w.in-Err.ensures.answers.err)
     ]
 

@@ -1,17 +1,28 @@
-use Rattle.std.proofs.Common.{◌∙◌, ap, sym, subst}
+use Rattle.std.proofs.Common.{◌≡◌, ◌∙◌, ap, sym, subst}
 use Rattle.log_layout.specs.Places.{Shape}
 use Rattle.blocks.specs.Ahead.{may_go_ahead}
 use Rattle.blocks.specs.Started.{IsStarted, LeavesMedium}
+use Rattle.blocks.specs.StoreValue.{Cached, layout_of}
+use Rattle.blocks.proofs.Filling.{starts_filling, starts_reaching}
 use Rattle.blocks.proofs.store.Store.start_ahead.Goals as goal
 
 pub returns : goal.returns
-returns g c = record {
-  starts = record {
-    started =
-        subst (λ v. IsStarted (g.M.Medium.state c.args.medium) (g.M.Medium.state v.medium) v.cached) (sym c.store.view_is)
-        c.in-Ok.ensures.ok;
-    policy = c.may_go_ahead.ensures ∙ ap (λ (shape : Shape). may_go_ahead shape) (sym c.store.invariant.shape);
-    leaves = subst (λ v. LeavesMedium g.M.Medium.state g.M.Medium.follows c.args.medium v.medium) (sym c.store.view_is)
-        c.in-Ok.ensures.leaves;
-  };
-}
+returns g c =
+    let i = c.store.inside in
+    let cached : Cached = record { log = i.log; active = i.active; frozen = i.frozen } in
+    let before = g.M.Medium.state c.args.medium in
+    let after = g.M.Medium.state i.medium in
+    let started : IsStarted before after cached =
+    subst (λ v. IsStarted before (g.M.Medium.state v.medium) v.cached) (sym c.store.view_is) c.in-Ok.ensures.ok in
+    let policy : c.may_go_ahead.result ≡ may_go_ahead (layout_of cached) =
+    c.may_go_ahead.ensures ∙ ap (λ (shape : Shape). may_go_ahead shape) (sym c.store.invariant.shape) in
+    record {
+      starts = record {
+        started = started;
+        policy = policy;
+        filling = λ on. starts_filling before after cached started (sym policy ∙ on);
+        reaches = λ on. starts_reaching before after cached started (sym policy ∙ on);
+        leaves = subst (λ v. LeavesMedium g.M.Medium.state g.M.Medium.follows c.args.medium v.medium) (sym c.store.view_is)
+            c.in-Ok.ensures.leaves;
+      };
+    }

@@ -1,16 +1,20 @@
-use Rattle.std.proofs.Common.{◌≡◌, ◌∙◌, Bool, ap, subst, arith, [], rules}
+use Rattle.std.proofs.Common.{◌≡◌, ◌∙◌, Bool, ap, sym, subst, arith, [], length, rules}
 use Rattle.std.proofs.lemmas.Result.{on_ok_weaker}
 use Rattle.cache.specs.Entries.{Entries}
 use Rattle.redo_log.specs.Value.{LogValue}
 use Rattle.log_layout.specs.Places.{Shape}
 use Rattle.blocks.specs.Retiring.{finished, finish_calls, both_calls, IsLog}
 use Rattle.medium.specs.Sent.{sent}
+use Rattle.medium.specs.declared.fault.MediumFault.TheVariants.{Flush}
+use Rattle.blocks.specs.Flushing.{finish_flushes}
 use Rattle.blocks.specs.Sent.{most_sent}
+use Rattle.blocks.specs.Steady.{IsSteady, IsFilling, IsFuller}
 use Rattle.blocks.specs.StoreValue.{Cached}
 use Rattle.blocks.proofs.Ready.{twice, calls_of, roomy_both}
 use Rattle.blocks.proofs.Fitting.{settles}
 use Rattle.blocks.proofs.Settling.{none_of}
-use Rattle.blocks.proofs.Steady.{steady_sync}
+use Rattle.blocks.proofs.Flushing.{flushes_of, once}
+use Rattle.blocks.proofs.Steady.{steady_sync, steady_roomy}
 use Rattle.blocks.proofs.Turning.{turns}
 use Rattle.blocks.proofs.Looking.{none, looks_on}
 use Rattle.blocks.proofs.store.Store.sync.Goals as goal
@@ -78,6 +82,22 @@ returns-clause-batches g c = record {
       (subst (λ (b : Bool). IsLog b (finished b c.freeze.new.self.cached.frozen.numbers c.freeze.new.self.cached.log) last) policy done)))
       c.finish-2.ensures.batch.finishes;
   retires = search rules;
+  fills = λ on filling none listed.
+      let old = c.args.self.now.cached in
+      let policy = c.freeze.ensures.keeps.policy ∙ c.finish.ensures.passes.policy in
+      let log_is : c.freeze.new.self.cached.log ≡ old.log =
+      ap (λ (cached : Cached). cached.log) c.freeze.ensures.swapped ∙ ap (λ v. v.cached.log) (c.finish.ensures.batch.rests none) in
+      let batch_is = ap (λ (cached : Cached). length cached.frozen.numbers) c.freeze.ensures.swapped
+      ∙ ap (λ (batch : Entries). length batch.numbers) c.finish.ensures.batch.active in
+      let half : IsFilling c.freeze.new.self.cached.log = subst (λ (l : LogValue). IsFilling l) (sym log_is) filling in
+      on_ok_weaker c.finish-2.result (λ fuller. subst (λ (l : LogValue). IsFuller l c.finish-2.new.self.cached.log) log_is fuller)
+      (c.finish-2.ensures.batch.fills (policy ∙ on) half (omega (arith, batch_is, listed)));
+  stays = λ on steady.
+      let policy = c.freeze.ensures.keeps.policy ∙ c.finish.ensures.passes.policy in
+      let log_is : c.freeze.new.self.cached.log ≡ c.finish.new.self.cached.log =
+      ap (λ (cached : Cached). cached.log) c.freeze.ensures.swapped in
+      let first : IsSteady c.finish.new.self.cached.log = c.in_ok-finish.ensures.batch.stays on steady in
+      c.finish-2.ensures.batch.stays (policy ∙ on) (subst (λ (l : LogValue). IsSteady l) (sym log_is) first);
 }
 
 pub returns-in_err-finish-clause-cost : goal.returns-in_err-finish-clause-cost
@@ -85,6 +105,9 @@ returns-in_err-finish-clause-cost g c = record {
   exactly = search rules;
   roomy = λ slots. search rules;
   steady = λ on still none some. search rules;
+  flushes = search rules;
+  once = λ two room none some. search rules;
+  steady_once = λ two still none some. search rules;
 }
 
 pub returns-clause-cost : goal.returns-clause-cost
@@ -99,6 +122,11 @@ returns-clause-cost g c =
     ∙ calls_of ahead old.active.numbers (finished ahead old.frozen.numbers old.log) half.log c.in_ok-finish.ensures.batch.finishes in
     let quiet = ap (λ m. (g.M.Medium.state m).calls) c.freeze.ensures.keeps.medium in
     let before = c.in_ok-finish.ensures.cost in
+    let flushes = ap (λ (cached : Cached). finish_flushes cached.frozen.numbers cached.log) c.freeze.ensures.swapped
+    ∙ ap (λ (batch : Entries). finish_flushes batch.numbers half.log) c.finish.ensures.batch.active
+    ∙ flushes_of ahead old.active.numbers (finished ahead old.frozen.numbers old.log) half.log c.in_ok-finish.ensures.batch.finishes in
+    let silent = ap (λ m. (g.M.Medium.state m).made Flush) c.freeze.ensures.keeps.medium in
+    let flushed = c.in_ok-finish.ensures.flushes in
     record {
       exactly = on_ok_weaker c.finish-2.result (λ all. omega (arith, all, calls, quiet, before)) c.finish-2.ensures.cost;
       roomy = λ slots.
@@ -108,6 +136,13 @@ returns-clause-cost g c =
           let records = ap (λ (b : Bool). both_calls b old.frozen.numbers old.active.numbers old.log) on
           ∙ steady_sync old.frozen.numbers old.active.numbers old.log still none some in
           on_ok_weaker c.finish-2.result (λ all. omega (arith, all, calls, quiet, before, records)) c.finish-2.ensures.cost;
+      flushes = on_ok_weaker c.finish-2.result (λ all. omega (arith, all, flushes, silent, flushed)) c.finish-2.ensures.flushes;
+      once = λ two room none some.
+          let one = once ahead old.frozen.numbers old.active.numbers old.log two room none some in
+          on_ok_weaker c.finish-2.result (λ all. omega (arith, all, flushes, silent, flushed, one)) c.finish-2.ensures.flushes;
+      steady_once = λ two still none some.
+          let one = once ahead old.frozen.numbers old.active.numbers old.log two (steady_roomy old.log still) none some in
+          on_ok_weaker c.finish-2.result (λ all. omega (arith, all, flushes, silent, flushed, one)) c.finish-2.ensures.flushes;
     }
 
 pub returns-in_err-finish-clause-passes : goal.returns-in_err-finish-clause-passes

@@ -1,9 +1,11 @@
-use Rattle.std.proofs.Common.{◌≡◌, ◌∙◌, ◌/◌, ap, [], length, arith, rules}
+use Rattle.std.proofs.Common.{◌≡◌, ◌∙◌, ◌/◌, ap, sym, subst, [], length, arith, rules}
 use Rattle.std.proofs.lemmas.Result.{err_from_is_err_and}
 use Rattle.log_layout.specs.Places.{Shape, limit_of}
 use Rattle.medium.specs.Sent.{sent}
 use Rattle.cache.proofs.Arrays.{unlisted_empty}
-use Rattle.blocks.specs.StoreValue.{transfer_limit}
+use Rattle.redo_log.specs.Value.{LogValue}
+use Rattle.blocks.specs.Steady.{IsSteady}
+use Rattle.blocks.specs.StoreValue.{Cached, transfer_limit}
 use Rattle.blocks.proofs.Turning.{turns, stays, not_written, then_written}
 use Rattle.blocks.proofs.Looking.{none, looks_on}
 use Rattle.blocks.proofs.store.Store.write.Goals as goal
@@ -73,4 +75,13 @@ returns-then-fits-clause-passes g c = record {
   follows = search rules;
   looks = none (g.M.Medium.state c.args.self.now.medium) (g.M.Medium.state c.append.new.self.medium) c.args.self.now.cached
       (ap (λ m. (g.M.Medium.state m).looked) c.append.ensures.keeps.medium);
+}
+
+pub returns-clause-batches : goal.returns-clause-batches
+returns-clause-batches g c = record {
+  active = search rules;
+  batches = search rules;
+  stays = λ on steady.
+      let log_is = c.append-2.ensures.batch.log ∙ ap (λ (s : Cached). s.log) c.freeze.ensures.swapped in
+      subst (λ (l : LogValue). IsSteady l) (sym log_is) (c.in_ok-finish.ensures.batch.stays on steady);
 }

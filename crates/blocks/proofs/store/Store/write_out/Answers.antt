@@ -1,6 +1,7 @@
 use Rattle.std.proofs.Common.{refl, ◌∙◌, arith, ap, rules}
 use Rattle.std.specs.Prelude.{Ok}
 use Rattle.blocks.proofs.Room.{writes_more, writes_last}
+use Rattle.blocks.proofs.Flushing.{flushes_step, flushes_done}
 use Rattle.blocks.proofs.Writing.{one_less}
 use Rattle.blocks.proofs.Turning.{turns, stays}
 use Rattle.blocks.proofs.Paying.{pays, pays_both, pays_step}
@@ -17,6 +18,7 @@ loop-init g c = record {
   so_far = refl;
   exactly = refl;
   sends = omega arith;
+  flushes = refl;
   none_refused = refl;
   head = refl;
   active = refl;
@@ -59,6 +61,10 @@ loop-preserved g c = record {
       let gone = c.step.ensures.record_step.live c.in_ok-step.ensures.answer in
       let less = one_less gone.1 c.loop.self.cached.log c.step.new.self.cached.log gone.2.log in
       omega (arith, less, c.step.ensures.passes.sent, c.loop.invariant.sends);
+  flushes =
+      let gone = c.step.ensures.record_step.live c.in_ok-step.ensures.answer in
+      let less = flushes_step gone.1 c.loop.self.cached.log c.step.new.self.cached.log c.loop.invariant.under_way gone.2.log in
+      omega (arith, less, c.step.ensures.record_step.flushed, c.loop.invariant.flushes);
   none_refused =
       let none = c.step.ensures.passes.none_refused c.in_ok-step.ensures.answer in
       omega (arith, none, c.loop.invariant.none_refused);
@@ -101,3 +107,10 @@ returns-clause-exactly g c =
     let less = one_less gone.1 c.loop.self.cached.log c.step.new.self.cached.log gone.2.log in
     let none = (c.step.ensures.tells.durable (c.in_ok-step.was ∙ ap Ok c.in_default.is)).0 in
     omega (arith, less, none, c.step.ensures.record_step.one_call, c.loop.invariant.exactly)
+
+pub returns-clause-flushes : goal.returns-clause-flushes
+returns-clause-flushes g c =
+    let gone = c.step.ensures.record_step.live c.in_ok-step.ensures.answer in
+    let less = flushes_step gone.1 c.loop.self.cached.log c.step.new.self.cached.log c.loop.invariant.under_way gone.2.log in
+    let none = flushes_done c.step.new.self.cached.log (c.step.ensures.tells.durable (c.in_ok-step.was ∙ ap Ok c.in_default.is)).0 in
+    omega (arith, less, none, c.step.ensures.record_step.flushed, c.loop.invariant.flushes)

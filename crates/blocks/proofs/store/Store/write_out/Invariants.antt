@@ -1,5 +1,7 @@
 use Rattle.std.proofs.Common.{◌≡◌, ◌<◌, ◌≤◌, ◌+◌, false}
 use Rattle.medium.specs.Sent.{sent}
+use Rattle.medium.specs.declared.fault.MediumFault.TheVariants.{Flush}
+use Rattle.blocks.specs.Flushing.{left_flushes}
 use Rattle.blocks.specs.Looks.{LooksAtLog}
 use Rattle.blocks.specs.StoreValue.{is_dead, steps_left}
 use Rattle.blocks.specs.Turns.{IsTurn, IsPaid}
@@ -17,6 +19,8 @@ invariant-loop g l = record {
       ≡ (g.M.Medium.state l.fn.self.medium).calls + l.fn.self.cached.log.steps_left;
   sends : sent (g.M.Medium.state l.self.medium) + l.self.cached.log.steps_left
       ≤ sent (g.M.Medium.state l.fn.self.medium) + l.fn.self.cached.log.steps_left;
+  flushes : (g.M.Medium.state l.self.medium).made Flush + left_flushes l.self.cached.log
+      ≡ (g.M.Medium.state l.fn.self.medium).made Flush + left_flushes l.fn.self.cached.log;
   none_refused : (g.M.Medium.state l.self.medium).failures ≡ (g.M.Medium.state l.fn.self.medium).failures;
   head : l.self.cached.log.head ≡ l.fn.self.cached.log.head;
   active : l.self.cached.active ≡ l.fn.self.cached.active;

@@ -1,0 +1,181 @@
+-- How many flushes room for one more record takes, and a batch that becomes durable.
+use Rattle.std.proofs.Common.{◌≡◌, ◌⊎◌, ◌<◌, ◌+◌, ◌-◌, ◌∙◌, inl, inr, ⊎_elim, ap, sym, subst, arith, refl, []}
+use Rattle.std.specs.Prelude.{ℕ, suc, zero, List, ◌∷◌, length, nat_lt, Bool, true, false, if◌then◌else◌}
+use Rattle.std.proofs.lemmas.Bool.{cases_Bool, cases_lt, ltb-true, lt-ltb, ne_eqb}
+use Rattle.log_layout.specs.declared.log_format.LogFormat.{LogFormat}
+use Rattle.log_layout.specs.declared.log_format.LogFormat.TheVariants.{Two}
+use Rattle.redo_log.specs.Value.{LogValue, HasRoom, IsStepped, IsRetireStepped, behind_oldest, of_oldest, steps_of}
+use Rattle.redo_log.specs.Flushes.{step_flushes, steps_flushes, turn_flushes, turns_flushes, next_step_flushes, next_turn_flushes}
+use Rattle.redo_log.specs.declared.progress.Progress.{Progress}
+use Rattle.redo_log.specs.declared.progress.Progress.TheVariants.{More, Durable}
+use Rattle.blocks.specs.Ahead.{oldest_retired}
+use Rattle.blocks.specs.Flushing.{left_flushes, room_flushes, finish_flushes_from, finish_flushes, both_flushes}
+use Rattle.blocks.specs.Retiring.{IsLog}
+use Rattle.blocks.proofs.Room.{OneAtMost, finishes_none}
+
+-- ---- the record under way
+
+-- those of the steps that are left are that of the next one and those of the others
+steps_more : (format : LogFormat) (left : ℕ) → 0 < left
+    → steps_flushes format left ≡ step_flushes format left + steps_flushes format (left - 1)
+steps_more format zero some = absurd (omega (arith, some))
+steps_more format (suc left) some =
+    let less : left ≡ suc left - 1 = omega arith in
+    ap (λ (n : ℕ). step_flushes format (suc left) + steps_flushes format n) less
+
+-- one step more
+pub flushes_step : (progress : Progress) (old new : LogValue) → 0 < old.steps_left → IsStepped progress old new
+    → left_flushes old ≡ next_step_flushes old + left_flushes new
+flushes_step More old new some stepped =
+    let all = steps_more old.shape.format old.steps_left some in
+    let rest = ap (λ (l : LogValue). left_flushes l) stepped.1 in
+    omega (arith, all, rest)
+flushes_step Durable old new some stepped =
+    let all = steps_more old.shape.format old.steps_left some in
+    let none : old.steps_left - 1 ≡ 0 = omega (arith, stepped.0) in
+    let left = ap (λ (n : ℕ). steps_flushes old.shape.format n) none in
+    let rest = ap (λ (l : LogValue). left_flushes l) stepped.1 in
+    omega (arith, all, left, rest)
+
+-- where none is left no flush is
+pub flushes_done : (log : LogValue) → log.steps_left ≡ 0 → left_flushes log ≡ 0
+flushes_done log none = ap (λ (n : ℕ). steps_flushes log.shape.format n) none
+
+-- in format 2 the last step alone is one
+steps_once : (left : ℕ) → 0 < left → steps_flushes Two left ≡ 1
+steps_once zero some = absurd (omega (arith, some))
+steps_once (suc zero) some = refl
+steps_once (suc (suc left)) some =
+    let rest = steps_once (suc left) (omega arith) in
+    let not = ne_eqb (suc (suc left)) 1 (λ e. omega (arith, e)) in
+    let none : step_flushes Two (suc (suc left)) ≡ 0 = ap (λ (b : Bool). if b then 1 else 0) not in
+    omega (arith, rest, none)
+
+-- ---- room
+
+turns_more : (left : ℕ) → 0 < left → turns_flushes left ≡ turn_flushes left + turns_flushes (left - 1)
+turns_more zero some = absurd (omega (arith, some))
+turns_more (suc left) some =
+    let less : left ≡ suc left - 1 = omega arith in ap (λ (n : ℕ). turn_flushes (suc left) + turns_flushes n) less
+
+-- so far nothing but retire steps of the oldest record were made, with their flushes, or that is retired, with all of them
+abbrev pub FlushesOldest : LogValue → LogValue → ℕ → ℕ → Type 0
+FlushesOldest old new before after =
+    ((new ≡ record old { retire_steps_left = new.retire_steps_left; kept = new.kept })
+    × (after + turns_flushes (of_oldest new) ≡ before + turns_flushes (of_oldest old)))
+    ⊎ ((new ≡ oldest_retired old) × (after ≡ before + turns_flushes (of_oldest old)))
+
+-- one retire step more, of a log without room
+pub flushes_more : (old mid new : LogValue) (before between after : ℕ) → (HasRoom mid → ⊥) → mid.under_way ≡ [] → mid.steps_left ≡ 0
+    → IsRetireStepped mid new → OneAtMost old mid → after ≡ between + next_turn_flushes mid → FlushesOldest old mid before between
+    → FlushesOldest old new before after
+flushes_more old mid new before between after full under_way idle stepped one made so_far =
+    ⊎_elim
+    (λ (first : (mid ≡ record old { retire_steps_left = mid.retire_steps_left; kept = mid.kept })
+    × (between + turns_flushes (of_oldest mid) ≡ before + turns_flushes (of_oldest old))).
+    let same = first.0 in
+    let some : 0 < of_oldest mid = omega (arith, stepped.some) in
+    let sum = turns_more (of_oldest mid) some in
+    ⊎_elim
+    (λ more.
+    let is = stepped.more more in
+    let all = is ∙ ap (λ (l : LogValue). record l { retire_steps_left = mid.retire_steps_left - 1; kept = new.kept }) same in
+    let left_is = ap (λ (l : LogValue). of_oldest l) is in
+    let left : of_oldest new ≡ of_oldest mid - 1 = omega (arith, left_is, stepped.some) in
+    let rest = ap (λ (n : ℕ). turns_flushes n) left in
+    inl (
+      all ∙ ap (λ (n : ℕ). record old { retire_steps_left = n; kept = new.kept }) (sym (ap (λ (l : LogValue). l.retire_steps_left) all)),
+      omega (arith, made, sum, rest, first.1),
+    ))
+    (λ few.
+    let is = stepped.last (omega (arith, few, stepped.some)) in
+    let none : of_oldest mid - 1 ≡ 0 = omega (arith, few, stepped.some) in
+    let rest = ap (λ (n : ℕ). turns_flushes n) none in
+    inr (is ∙ ap (λ (l : LogValue). oldest_retired l) same, omega (arith, made, sum, rest, first.1)))
+    (cases_lt (behind_oldest mid + 1) mid.retire_steps_left))
+    (λ (retired : (mid ≡ oldest_retired old) × (between ≡ before + turns_flushes (of_oldest old))).
+    absurd (⊎_elim
+    (λ (stays : mid.head ≡ old.head). let h = ap (λ (l : LogValue). l.head) retired.0 in let e : ⊥ = omega (arith, h, stays) in e)
+    (λ (freed : (mid.head ≡ old.head + 1) × (mid.next - mid.head < mid.shape.slots)). full (record {
+      none_under_way = under_way;
+      no_steps = idle;
+      free = freed.1;
+    })) one)) so_far
+
+room_is : (log : LogValue) (b : Bool) → nat_lt (log.next - log.head) log.shape.slots ≡ b
+    → room_flushes log ≡ (if b then 0 else turns_flushes (of_oldest log))
+room_is log b e = ap (λ (x : Bool). if x then 0 else turns_flushes (of_oldest log)) e
+
+-- where a slot is free there are none
+pub room_free : (log : LogValue) → log.next - log.head < log.shape.slots → room_flushes log ≡ 0
+room_free log free = room_is log true (lt-ltb (log.next - log.head) log.shape.slots free)
+
+-- then there is room for one record
+pub flushes_room : (old new : LogValue) (before after : ℕ) → (HasRoom old → new ≡ old) → (HasRoom old → after ≡ before) → HasRoom new
+    → FlushesOldest old new before after → after ≡ before + room_flushes old
+flushes_room old new before after stays quiet room so_far = ⊎_elim
+    (λ (first : (new ≡ record old { retire_steps_left = new.retire_steps_left; kept = new.kept })
+    × (after + turns_flushes (of_oldest new) ≡ before + turns_flushes (of_oldest old))).
+    let same = first.0 in
+    let had : HasRoom old = record {
+      none_under_way = sym (ap (λ (l : LogValue). l.under_way) same) ∙ room.none_under_way;
+      no_steps = sym (ap (λ (l : LogValue). l.steps_left) same) ∙ room.no_steps;
+      free = subst (λ (l : LogValue). l.next - l.head < l.shape.slots) same room.free;
+    } in
+    let none = room_free old had.free in
+    omega (arith, quiet had, none))
+    (λ (last : (new ≡ oldest_retired old) × (after ≡ before + turns_flushes (of_oldest old))). ⊎_elim
+    (λ free.
+    let had : HasRoom old = record {
+      none_under_way = sym (ap (λ (l : LogValue). l.under_way) last.0) ∙ room.none_under_way;
+      no_steps = sym (ap (λ (l : LogValue). l.steps_left) last.0) ∙ room.no_steps;
+      free = ltb-true (old.next - old.head) old.shape.slots free;
+    } in
+    let h = ap (λ (l : LogValue). l.head) (sym last.0 ∙ stays had) in absurd (omega (arith, h)))
+    (λ none. let all = room_is old false none in omega (arith, last.1, all))
+    (cases_Bool (nat_lt (old.next - old.head) old.shape.slots)))
+    so_far
+
+-- ---- one batch
+
+pub flushes_under_way : (numbers : List ℕ) (log : LogValue) → 0 < log.steps_left → finish_flushes numbers log ≡ left_flushes log
+flushes_under_way numbers log = from log.steps_left
+  where
+    from : (steps : ℕ) → 0 < steps → finish_flushes_from steps numbers log ≡ steps_flushes log.shape.format steps
+    from zero some = absurd (omega (arith, some))
+    from (suc steps) some = refl
+
+pub flushes_none : (numbers : List ℕ) (log : LogValue) → log.steps_left ≡ 0 → numbers ≡ [] → finish_flushes numbers log ≡ 0
+flushes_none numbers log idle none =
+    ap (λ (n : ℕ). finish_flushes_from n numbers log) idle ∙ ap (λ (ns : List ℕ). finish_flushes_from 0 ns log) none
+
+pub flushes_begun : (numbers : List ℕ) (log : LogValue) → log.steps_left ≡ 0 → 0 < length numbers
+    → finish_flushes numbers log ≡ room_flushes log + steps_flushes log.shape.format (steps_of log.shape.format numbers)
+flushes_begun [] log idle some = absurd (omega (arith, some))
+flushes_begun (n ∷ numbers) log idle some = ap (λ (s : ℕ). finish_flushes_from s (n ∷ numbers) log) idle
+
+-- they are the same for a log with another descriptor
+kept_flushes : (numbers : List ℕ) (log : LogValue) (k : List ℕ)
+    → finish_flushes numbers (record log { kept = k }) ≡ finish_flushes numbers log
+kept_flushes numbers log k = from log.steps_left numbers
+  where
+    from : (steps : ℕ) (ns : List ℕ) → finish_flushes_from steps ns (record log { kept = k }) ≡ finish_flushes_from steps ns log
+    from (suc steps) ns = refl
+    from zero [] = refl
+    from zero (n ∷ ns) = refl
+
+pub flushes_of : (ahead : Bool) (numbers : List ℕ) (is log : LogValue) → IsLog ahead is log
+    → finish_flushes numbers log ≡ finish_flushes numbers is
+flushes_of false numbers is log e = ap (λ (l : LogValue). finish_flushes numbers l) e
+flushes_of true numbers is log e = ap (λ (l : LogValue). finish_flushes numbers l) e ∙ kept_flushes numbers is log.kept
+
+-- where a slot is free a sync of one batch flushes once
+pub once : (ahead : Bool) (frozen active : List ℕ) (log : LogValue) → log.shape.format ≡ Two → HasRoom log → frozen ≡ []
+    → 0 < length active → both_flushes ahead frozen active log ≡ 1
+once ahead frozen active log two room none some =
+    let first = flushes_none frozen log room.no_steps none in
+    let same = finishes_none ahead frozen log room.no_steps none in
+    let last = ap (λ (l : LogValue). finish_flushes active l) (sym same) ∙ flushes_begun active log room.no_steps some in
+    let free = room_free log room.free in
+    let one = ap (λ (f : LogFormat). steps_flushes f (steps_of f active)) two ∙ steps_once (steps_of Two active) (omega (arith, some)) in
+    omega (arith, first, last, free, one)
