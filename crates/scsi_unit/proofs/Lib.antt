@@ -2,6 +2,7 @@ pub mod Checking
 pub mod Turning
 pub mod Performing
 pub mod Writing
+pub mod Sparing
 pub mod Serving
 pub mod Calling
 pub mod Looking

@@ -339,24 +339,6 @@ takes_at bytes taken false zero exact = omega (arith, exact bytes refl)
 pub takes_enough : (bytes : ℕ) (taken : List ℕ) → ((n : ℕ) → takes bytes ≡ intent.Out n → length taken ≡ n) → bytes ≤ length taken
 takes_enough bytes taken exact = takes_at bytes taken (bytes == 0) (λ zero. eqb-true bytes 0 zero) exact
 
-pub spares_reading_16 : {M : Type 0} (transfer : Transfer) (taken : List ℕ) (old : UnitValue M) (answer : Result (List ℕ) Sense)
-    (new : UnitValue M) → Spares (Ok (command.Read10 transfer)) taken old answer new
-    → Spares (Ok (command.Read16 transfer)) taken old answer new
-spares_reading_16 transfer taken old answer new spares =
-    record { untouched = spares.untouched; plain = spares.plain; active = spares.active; log = spares.log; policy = spares.policy }
-
-pub spares_writing_16 : {M : Type 0} (transfer : Transfer) (taken : List ℕ) (old : UnitValue M) (answer : Result (List ℕ) Sense)
-    (new : UnitValue M) → Spares (Ok (command.Write10 transfer)) taken old answer new
-    → Spares (Ok (command.Write16 transfer)) taken old answer new
-spares_writing_16 transfer taken old answer new spares =
-    record { untouched = spares.untouched; plain = spares.plain; active = spares.active; log = spares.log; policy = spares.policy }
-
-pub spares_synchronizing_16 : {M : Type 0} (range : BlockRange) (taken : List ℕ) (old : UnitValue M) (answer : Result (List ℕ) Sense)
-    (new : UnitValue M) → Spares (Ok (command.SynchronizeCache10 range)) taken old answer new
-    → Spares (Ok (command.SynchronizeCache16 range)) taken old answer new
-spares_synchronizing_16 range taken old answer new spares =
-    record { untouched = spares.untouched; plain = spares.plain; active = spares.active; log = spares.log; policy = spares.policy }
-
 -- what was told, where it is known
 pub answer_at : (result : Result ℕ Sense) (size : ℕ) (out bytes : List ℕ) → result ≡ Ok size → IfOk result (λ sent. take sent out ≡ bytes)
     → answer_of result out ≡ Ok bytes
@@ -377,10 +359,11 @@ module _ {M : Type 0} {told command : Command} {taken : List ℕ} {old new : Uni
       subst (λ (cmd : Command). Performs before after (Ok cmd) taken old (answer_of result out) new) (sym is)
       (subst (λ (a : Result (List ℕ) Sense). Performs before after (Ok command) taken old a new) (sym answer) performed)
 
-  pub spares_silently : Spares (Ok command) taken old (silent done) new → Spares (Ok told) taken old (answer_of result out) new
-  spares_silently spared =
-      subst (λ (cmd : Command). Spares (Ok cmd) taken old (answer_of result out) new) (sym is)
-      (subst (λ (a : Result (List ℕ) Sense). Spares (Ok command) taken old a new) (sym answer) spared)
+  pub spares_silently : {before after : State} → Spares before after (Ok command) taken old (silent done) new
+      → Spares before after (Ok told) taken old (answer_of result out) new
+  spares_silently {before = before} {after = after} spared =
+      subst (λ (cmd : Command). Spares before after (Ok cmd) taken old (answer_of result out) new) (sym is)
+      (subst (λ (a : Result (List ℕ) Sense). Spares before after (Ok command) taken old a new) (sym answer) spared)
 
 -- a command that is refused
 pub refuses : {M : Type 0} (m : State) → IsSound m → (old : UnitValue M) (told : Result Command Sense) (taken : List ℕ) (sense : Sense)

@@ -9,6 +9,7 @@ pub mod Retiring
 pub mod Faulting
 pub mod Starting
 pub mod Laws
+pub mod Costs
 pub mod Serving
 pub mod Calls
 pub mod Performing

@@ -11,6 +11,7 @@ use Rattle.sense.specs.Waiting.{Waiting, after_failure}
 use Rattle.cdb.specs.declared.command.Command.{Command}
 use Rattle.cdb.specs.declared.command.Transfer.{Transfer}
 use Rattle.scsi_unit.specs.Rules.{UnitState, write_after, IsOutcome}
+use Rattle.scsi_unit.specs.Costs.{CostsAfter}
 use Rattle.scsi_unit.specs.UnitValue.{UnitValue, unit_limit, state_of, FitsUnit}
 use Rattle.scsi_unit.specs.Serving.{has_refused, wants_medium, plain_write, ActiveAfter, LogAfter}
 
@@ -42,8 +43,9 @@ pub record Performs {M : Type 0} (before after : State) (told : Result Command S
   pub identity_stays : new.identity ≡ old.identity
 
 -- which calls of the medium it made, by the policy of the store, which stays
-pub record Spares {M : Type 0} (told : Result Command Sense) (taken : List ℕ) (old : UnitValue M)
-    (answer : Result (List ℕ) Sense) (new : UnitValue M) : Type 0 where
+pub record Spares {M : Type 0} (before after : State) (told : Result Command Sense)
+    (taken : List ℕ) (old : UnitValue M) (answer : Result (List ℕ) Sense) (new : UnitValue M)
+    : Type 0 where
   pub untouched : wants_medium told taken old.write_cache ≡ false → new.store ≡ old.store
   pub plain : (transfer : Transfer) → plain_write told old.write_cache ≡ Some transfer
       → FitsBeside (unit_limit old) (active_of old.store.cached) transfer.address transfer.count
@@ -54,6 +56,8 @@ pub record Spares {M : Type 0} (told : Result Command Sense) (taken : List ℕ) 
   pub log : is_ok answer ≡ true
       → LogAfter old.store.goes_ahead told taken old.write_cache
       old.store.cached new.store.cached
+  pub cost : is_ok answer ≡ true
+      → CostsAfter old.store.goes_ahead told taken old.write_cache before after old.store.cached
   pub policy : new.store.goes_ahead ≡ old.store.goes_ahead
 
 -- the answer of a command that sends no data

@@ -22,6 +22,7 @@ use Rattle.scsi_unit.specs.declared.intent.Intent.TheVariants as intent
 use Rattle.scsi_unit.specs.Rules.{command_by, moves_blocks, reads_blocks}
 use Rattle.scsi_unit.specs.Rules.{wants_writing, write_in_progress}
 use Rattle.scsi_unit.specs.Rules.{CarriesOut, Ticks}
+use Rattle.scsi_unit.specs.Costs.{CostsAfter}
 use Rattle.scsi_unit.specs.UnitValue.{UnitValue, unit_limit, state_of, intention_of, FitsUnit}
 
 -- ---- a command
@@ -135,7 +136,7 @@ LogAfter ahead (Ok command) taken write_cache old new =
 LogAfter ahead (Err sense) taken write_cache old new = new ≡ old
 
 -- Which calls of the medium a command makes: none that it does not need.
-pub record IsSparing {M : Type 0} (block taken : List ℕ) (old : UnitValue M)
+pub record IsSparing {M : Type 0} (before after : State) (block taken : List ℕ) (old : UnitValue M)
     (answer : Result (List ℕ) Sense) (new : UnitValue M) : Type 0 where
   -- a command that reads no blocks, writes none and makes none durable leaves the store as it is
   pub untouched : wants_medium (command_for old block) taken old.write_cache ≡ false
@@ -152,6 +153,10 @@ pub record IsSparing {M : Type 0} (block taken : List ℕ) (old : UnitValue M)
   pub log : is_ok answer ≡ true
       → LogAfter old.store.goes_ahead (command_for old block) taken old.write_cache
       old.store.cached new.store.cached
+  -- one that makes writes durable makes exactly the calls for that
+  pub cost : is_ok answer ≡ true
+      → CostsAfter old.store.goes_ahead (command_for old block) taken old.write_cache before after
+      old.store.cached
 
 -- ---- a step in the background
 

@@ -17,6 +17,7 @@ use Rattle.sense.specs.Codes.{unrecovered_read_error, write_error}
 use Rattle.cdb.specs.declared.command.Transfer.{Transfer}
 use Rattle.scsi_unit.specs.Serving.{IsEmptied, IsFinished}
 use Rattle.scsi_unit.specs.Calls.{calls_of_sync}
+use Rattle.scsi_unit.specs.Costs.{CostsFinishing}
 
 -- the medium comes after what it was, by calls alone, and the policy stays
 pub record ComesAfter {M : Type 0} (Follows : M → M → Type 0) (old new : StoreValue M)
@@ -38,6 +39,7 @@ pub record MakesDurable (ahead wanted : Bool) (before after : State) (old new : 
   pub answer : TellsDeath result new
   pub active : IsEmptied wanted (active_of old) (active_of new)
   pub log : OnOk result (IsFinished ahead wanted old new)
+  pub cost : OnOk result (CostsFinishing ahead wanted before after old)
   pub calls : after.calls ≤ before.calls + (if wanted then calls_of_sync old else 0)
   pub sent : SendsUpTo (2 * batch_sends old) before after
   pub looks : LooksAtLog before after old

@@ -84,7 +84,8 @@ impl<M: Medium> Unit<M> {
         ensures performs { Performs (M.state self.old.store.medium)
             (M.state self.new.store.medium) (command_for self.old block.now) taken.now self.old
             (answer_of result out.new) self.new }
-        ensures spares { Spares (command_for self.old block.now) taken.now self.old
+        ensures spares { Spares (M.state self.old.store.medium)
+            (M.state self.new.store.medium) (command_for self.old block.now) taken.now self.old
             (answer_of result out.new) self.new }
         ensures calls { MakesFew (M.state self.old.store.medium)
             (M.state self.new.store.medium) block.now taken.now self.old }
@@ -107,7 +108,8 @@ impl<M: Medium> Unit<M> {
         ensures performs { Performs (M.state self.old.store.medium)
             (M.state self.new.store.medium) (Ok command) taken.now self.old
             (answer_of result out.new) self.new }
-        ensures spares { Spares (Ok command) taken.now self.old
+        ensures spares { Spares (M.state self.old.store.medium)
+            (M.state self.new.store.medium) (Ok command) taken.now self.old
             (answer_of result out.new) self.new }
         ensures bounded { MakesAtMost
             (calls_of command taken.now self.old.write_cache self.old.store.cached)

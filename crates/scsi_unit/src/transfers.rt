@@ -28,7 +28,8 @@ impl<M: Medium> Unit<M> {
         ensures performs { (taken : List ℕ) → Performs (M.state self.old.store.medium)
             (M.state self.new.store.medium) (Ok (command.Read10 transfer)) taken self.old
             (answer_of result out.new) self.new }
-        ensures spares { (taken : List ℕ) → Spares (Ok (command.Read10 transfer)) taken self.old
+        ensures spares { (taken : List ℕ) → Spares (M.state self.old.store.medium)
+            (M.state self.new.store.medium) (Ok (command.Read10 transfer)) taken self.old
             (answer_of result out.new) self.new }
         ensures bounded { MakesAtMost (calls_of_read transfer self.old.store.cached)
             (some_read transfer) (M.state self.old.store.medium) (M.state self.new.store.medium)
@@ -53,7 +54,8 @@ impl<M: Medium> Unit<M> {
         ensures performs { Performs (M.state self.old.store.medium)
             (M.state self.new.store.medium) (Ok (command.Write10 transfer)) taken.now self.old
             (silent result) self.new }
-        ensures spares { Spares (Ok (command.Write10 transfer)) taken.now self.old
+        ensures spares { Spares (M.state self.old.store.medium)
+            (M.state self.new.store.medium) (Ok (command.Write10 transfer)) taken.now self.old
             (silent result) self.new }
         ensures bounded { MakesAtMost
             (calls_of_write transfer self.old.write_cache self.old.store.cached)
@@ -75,8 +77,8 @@ impl<M: Medium> Unit<M> {
             → Performs (M.state self.old.store.medium) (M.state self.new.store.medium)
             (Ok (command.SynchronizeCache10 range)) taken self.old (silent result) self.new }
         ensures spares { (range : BlockRange) (taken : List ℕ)
-            → Spares (Ok (command.SynchronizeCache10 range)) taken
-            self.old (silent result) self.new }
+            → Spares (M.state self.old.store.medium) (M.state self.new.store.medium)
+            (Ok (command.SynchronizeCache10 range)) taken self.old (silent result) self.new }
         ensures bounded { MakesAtMost (calls_of_sync self.old.store.cached)
             None (M.state self.old.store.medium) (M.state self.new.store.medium) self.old }
         ensures follows { M.follows self.old.store.medium self.new.store.medium }
@@ -92,7 +94,8 @@ impl<M: Medium> Unit<M> {
         ensures performs { Performs (M.state self.old.store.medium)
             (M.state self.new.store.medium) (Ok (command.ModeSelect list_len)) taken.now self.old
             (silent result) self.new }
-        ensures spares { Spares (Ok (command.ModeSelect list_len)) taken.now self.old
+        ensures spares { Spares (M.state self.old.store.medium)
+            (M.state self.new.store.medium) (Ok (command.ModeSelect list_len)) taken.now self.old
             (silent result) self.new }
         ensures bounded { MakesAtMost (calls_of (command.ModeSelect list_len) taken.now
             self.old.write_cache self.old.store.cached)

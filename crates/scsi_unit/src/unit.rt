@@ -108,7 +108,8 @@ impl<M: Medium> Unit<M> {
         requires room { length out.old ≡ 512 * unit_limit self.old }
         ensures serves { Serves (M.state self.old.store.medium) (M.state self.new.store.medium)
             block.now taken.now self.old (answer_of result out.new) self.new }
-        ensures sparing { IsSparing block.now taken.now self.old
+        ensures sparing { IsSparing (M.state self.old.store.medium)
+            (M.state self.new.store.medium) block.now taken.now self.old
             (answer_of result out.new) self.new }
         ensures calls { MakesFew (M.state self.old.store.medium)
             (M.state self.new.store.medium) block.now taken.now self.old }

@@ -18,6 +18,7 @@ not_wanted ahead m s turn live = record {
   answer = live;
   active = refl;
   log = refl;
+  cost = refl;
   calls = no_more m.calls;
   sent = omega arith;
   looks = none m m s refl;

@@ -8,9 +8,10 @@ use Rattle.scsi_unit.specs.Capacity.{capacity_10, capacity_16}
 use Rattle.pages.specs.Mode.{mode_data}
 use Rattle.blocks.specs.StoreValue.{blocks_of}
 use Rattle.scsi_unit.specs.Performing.{Performs, Spares, silent}
-use Rattle.scsi_unit.proofs.Performing.{takes_enough, sends_data, reports_sense, reads_16, writes_16, synchronizes_16, spares_reading_16}
-use Rattle.scsi_unit.proofs.Performing.{spares_writing_16, spares_synchronizing_16, answer_at, take-capacity_10, performs_silently}
+use Rattle.scsi_unit.proofs.Performing.{takes_enough, sends_data, reports_sense, reads_16, writes_16, synchronizes_16}
+use Rattle.scsi_unit.proofs.Performing.{answer_at, take-capacity_10, performs_silently}
 use Rattle.scsi_unit.proofs.Performing.{spares_silently}
+use Rattle.scsi_unit.proofs.Sparing.{spares_reading_16, spares_writing_16, spares_synchronizing_16}
 use Rattle.scsi_unit.proofs.unit.Unit.perform.Goals as goal
 
 pub select-requires-clause-taken : goal.select-requires-clause-taken
@@ -119,7 +120,9 @@ returns-in-Read10-clause-spares g c =
     let unit = c.args.self.now in
     let after = c.read.new.self in
     let answer = answer_of c.read.result c.read.new.out in
-    subst (λ (cmd : Command). Spares (Ok cmd) c.args.taken.now unit answer after) (sym c.in-Read10.is)
+    let state = g.M.Medium.state in
+    subst (λ (cmd : Command). Spares (state unit.store.medium) (state after.store.medium) (Ok cmd) c.args.taken.now unit answer after)
+    (sym c.in-Read10.is)
     (c.read.ensures.spares c.args.taken.now)
 
 pub returns-in-Read16-clause-performs : goal.returns-in-Read16-clause-performs
@@ -138,8 +141,11 @@ returns-in-Read16-clause-spares g c =
     let unit = c.args.self.now in
     let after = c.read-in-Read16.new.self in
     let answer = answer_of c.read-in-Read16.result c.read-in-Read16.new.out in
-    subst (λ (cmd : Command). Spares (Ok cmd) c.args.taken.now unit answer after) (sym c.in-Read16.is)
-    (spares_reading_16 c.in-Read16.transfer c.args.taken.now unit answer after (c.read-in-Read16.ensures.spares c.args.taken.now))
+    let state = g.M.Medium.state in
+    subst (λ (cmd : Command). Spares (state unit.store.medium) (state after.store.medium) (Ok cmd) c.args.taken.now unit answer after)
+    (sym c.in-Read16.is)
+    (spares_reading_16 (state unit.store.medium) (state after.store.medium) c.in-Read16.transfer c.args.taken.now unit answer after
+    (c.read-in-Read16.ensures.spares c.args.taken.now))
 
 pub returns-in-ModeSelect-clause-performs : goal.returns-in-ModeSelect-clause-performs
 returns-in-ModeSelect-clause-performs g c =
@@ -180,7 +186,8 @@ returns-in-Write16-clause-spares g c =
     let after = c.write-in-Write16.new.self in
     spares_silently c.write-in-Write16.result c.silent-in-Write16.result c.args.out.now c.in-Write16.is
     (c.silent-in-Write16.ensures.answer c.args.out.now)
-    (spares_writing_16 c.in-Write16.transfer c.args.taken.now unit (silent c.write-in-Write16.result) after
+    (spares_writing_16 (g.M.Medium.state unit.store.medium) (g.M.Medium.state after.store.medium) c.in-Write16.transfer
+    c.args.taken.now unit (silent c.write-in-Write16.result) after
     c.write-in-Write16.ensures.spares)
 
 pub returns-in-SynchronizeCache10-clause-performs : goal.returns-in-SynchronizeCache10-clause-performs
@@ -214,5 +221,6 @@ returns-in-SynchronizeCache16-clause-spares g c =
     spares_silently c.synchronize-in-SynchronizeCache16.result c.silent-in-SynchronizeCache16.result c.args.out.now
     c.in-SynchronizeCache16.is
     (c.silent-in-SynchronizeCache16.ensures.answer c.args.out.now)
-    (spares_synchronizing_16 c.in-SynchronizeCache16.field-0 c.args.taken.now unit (silent c.synchronize-in-SynchronizeCache16.result) after
+    (spares_synchronizing_16 (g.M.Medium.state unit.store.medium) (g.M.Medium.state after.store.medium) c.in-SynchronizeCache16.field-0
+    c.args.taken.now unit (silent c.synchronize-in-SynchronizeCache16.result) after
     (c.synchronize-in-SynchronizeCache16.ensures.spares c.in-SynchronizeCache16.field-0 c.args.taken.now))

@@ -14,6 +14,8 @@ use Rattle.scsi_unit.proofs.Looking.{log_looked}
 use Rattle.scsi_unit.proofs.Calling.{write_stops, write_ends, OnOk-at}
 use Rattle.scsi_unit.proofs.Performing.{moves_some}
 use Rattle.scsi_unit.proofs.Writing.{writes_nothing, write_refused, writes_blocks, logged_write, silent_ok}
+use Rattle.scsi_unit.proofs.Sparing.{write_costs}
+use Rattle.scsi_unit.specs.Costs.{CostsFinishing, CostsAfter}
 use Rattle.scsi_unit.specs.Serving.{IsFinished, LogAfter}
 use Rattle.scsi_unit.proofs.unit.Unit.write.Goals as goal
 use Rattle.scsi_unit.proofs.unit.Unit.write.Goals.{then-transfer, else-transfer}
@@ -136,6 +138,32 @@ returns-clause-spares g c = record {
       (OnOk-at c.write_blocks.result c.in_ok-write_blocks.field-0 c.in_ok-write_blocks.was wrote.batches)
       (OnOk-at c.write_blocks.result c.in_ok-write_blocks.field-0 c.in_ok-write_blocks.was wrote.active)
       (silent_ok done (IsFinished i.store.goes_ahead durable half.cached last.cached) good finished));
+  cost =
+      let state = g.M.Medium.state in
+      let i = c.self.inside in
+      let half = c.write_blocks.new.store in
+      let last = c.make_durable.new.store in
+      let done = c.make_durable.result in
+      let durable = c.args.transfer.fua || not i.write_cache in
+      let wanted : c.if-transfer.through ≡ durable = elim c.if-transfer.branch [
+        | then-transfer w ↦ rw w.if-transfer.true (w.through-is ∙ w.if-transfer.true)
+        | else-transfer w ↦ rw w.if-transfer.false w.through-is
+      ] in
+      let wrote = c.write_blocks.ensures.writes in
+      let made = subst (λ (b : Bool). OnOk done (CostsFinishing half.goes_ahead b (state half.medium) (state last.medium) half.cached))
+      wanted c.make_durable.ensures.makes.cost in
+      let costs = subst (λ (b : Bool). OnOk done (CostsFinishing b durable (state half.medium) (state last.medium) half.cached))
+      c.write_blocks.ensures.follows.policy made in
+      let P = λ (u : UnitValue g.row.M.Denot). is_ok (silent done) ≡ true
+      → CostsAfter u.store.goes_ahead (Ok (command.Write10 c.args.transfer)) c.args.taken.now u.write_cache (state u.store.medium)
+      (state last.medium) u.store.cached in
+      subst P c.self.view_is
+      (λ good. write_costs i.store.goes_ahead durable c.args.transfer (state i.store.medium) (state half.medium) (state last.medium)
+      i.store.cached half.cached (moves_some c.args.transfer c.if-transfer-eq0.false)
+      (λ fits. ap state (c.write_blocks.ensures.quiet fits).0)
+      (OnOk-at c.write_blocks.result c.in_ok-write_blocks.field-0 c.in_ok-write_blocks.was wrote.batches)
+      (OnOk-at c.write_blocks.result c.in_ok-write_blocks.field-0 c.in_ok-write_blocks.was wrote.active)
+      (silent_ok done (CostsFinishing i.store.goes_ahead durable (state half.medium) (state last.medium) half.cached) good costs));
   policy =
       subst (λ (u : UnitValue g.row.M.Denot). c.make_durable.new.store.goes_ahead ≡ u.store.goes_ahead) c.self.view_is
       (c.make_durable.ensures.follows.policy ∙ c.write_blocks.ensures.follows.policy);
