@@ -12,7 +12,8 @@ use Rattle.bot_machine.specs.Faulting.{TurnsGoodAlone}
 
 -- a faulted unit carries out a command without a call of the medium
 pub faulted_rests : {M : Type 0} (state : M → State) (block taken : List ℕ) (old : UnitValue M) (answer : Result (List ℕ) Sense)
-    (new : UnitValue M) → IsSparing block taken old answer new → is_dead old.store.cached ≡ true
+    (new : UnitValue M) → IsSparing (state old.store.medium) (state new.store.medium) block taken old answer new
+    → is_dead old.store.cached ≡ true
     → ((state new.store.medium).calls ≡ (state old.store.medium).calls) × (is_dead new.store.cached ≡ true)
 faulted_rests state block taken old answer new sparing dead =
     let same = sparing.untouched (wants_none old block taken dead) in (

@@ -68,7 +68,7 @@ module _ {M : Type 0} (before after : State) (old new : DiskValue M) (packet : L
         → new.unit ≡ old.unit
     pub spares : (book : Book) → FitsDisk before old book → (block taken : List ℕ)
         → PacketCarriesOut old.line.packet_size halted left packet (state_of old.unit book) block taken
-        → (answer : Result (List ℕ) Sense) × IsSparing block taken old.unit answer new.unit
+        → (answer : Result (List ℕ) Sense) × IsSparing before after block taken old.unit answer new.unit
         × IsBounded before after block taken old.unit × Tells answer new.line
     pub few : TakesFew before after old.unit new.unit
     pub looks : LooksIn before after old (event.Out (record { items = packet }))

@@ -111,7 +111,8 @@ pub record IsStep {M : Type 0} (before after : State) (old : DiskValue M) (event
   -- store add up to, and the host is told its answer
   pub spares : (book : Book) → FitsDisk before old book → (block taken : List ℕ)
       → EventCarriesOut (over old book) event block taken
-      → (told : Result (List ℕ) Sense) × IsSparing block taken old.unit told new.unit
+      → (told : Result (List ℕ) Sense)
+      × IsSparing before after block taken old.unit told new.unit
       × IsBounded before after block taken old.unit × Tells told new.line
   -- whatever the book
   pub few : TakesFew before after old.unit new.unit

@@ -2,6 +2,7 @@
 pub use Rattle.scsi_unit.specs.Background
 pub use Rattle.scsi_unit.specs.Books
 pub use Rattle.scsi_unit.specs.Calls
+pub use Rattle.scsi_unit.specs.Costs
 pub use Rattle.scsi_unit.specs.Identification
 pub use Rattle.scsi_unit.specs.Retiring
 pub use Rattle.scsi_unit.specs.StartFaults

@@ -79,7 +79,7 @@ abbrev pub SparesOn : {M : Type 0} → ℕ → State → State → UnitValue M �
 SparesOn most before after old new to left packet = (book : Book) → FitsUnit before old book
     → (block taken : List ℕ)
     → PacketCarriesOut most false left packet (state_of old book) block taken
-    → (answer : Result (List ℕ) Sense) × IsSparing block taken old answer new
+    → (answer : Result (List ℕ) Sense) × IsSparing before after block taken old answer new
     × IsBounded before after block taken old × Tells answer to
 
 -- A packet takes data, of which the first bytes of this buffer came already: by the rules, and the

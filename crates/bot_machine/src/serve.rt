@@ -43,7 +43,8 @@ fn carry_out<M: Medium>(
         (M.state unit.old.store.medium) (M.state unit.new.store.medium) unit.old unit.new
         (line_with wire.old left) (line_of wire.new taken staging.new) exchange.now bytes.now }
     ensures spares { (answer : Result (List ℕ) Sense)
-        × IsSparing exchange.now.command.block.items bytes.now unit.old answer unit.new
+        × IsSparing (M.state unit.old.store.medium) (M.state unit.new.store.medium)
+        exchange.now.command.block.items bytes.now unit.old answer unit.new
         × IsBounded (M.state unit.old.store.medium) (M.state unit.new.store.medium)
         exchange.now.command.block.items bytes.now unit.old
         × ((taken : List ℕ) → Tells answer (line_of wire.new taken staging.new)) }
