@@ -13,8 +13,9 @@ use crate::sectors::{clear, write_through};
 use log_layout::{Head, LogFormat, Super};
 use medium::{Medium, MediumFault};
 
-/// These sizes, where they are in their limits and this many sectors are enough for them.
-pub(crate) fn sizes_of(format: LogFormat, sectors: u64, blocks: u64, slots: u64) -> Option<Super>
+/// The super of a new image of these sizes, where they are in their limits and this many sectors are
+/// enough for them.
+pub fn sizes_of(format: LogFormat, sectors: u64, blocks: u64, slots: u64) -> Option<Super>
     ensures { let shape = new_shape format blocks slots in
         MatchOption result (¬ AreSizes sectors shape)
         (λ sizes. (shape_of sizes ≡ shape) × AreSizes sectors shape) }

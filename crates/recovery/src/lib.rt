@@ -20,10 +20,11 @@ mod start_fault;
 mod survey;
 
 pub use format_fault::FormatFault;
-pub use formatting::{format, format2};
+pub use formatting::{format, format2, sizes_of};
 pub use inspection::{Inspection, inspect};
 pub use laying::lay_log;
 pub use migration::migrate;
 pub use recovered::Recovered;
 pub use recovery::recover;
+pub use sectors::{clear, write_through};
 pub use start_fault::StartFault;

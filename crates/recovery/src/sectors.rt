@@ -8,8 +8,12 @@ ghost use Rattle.recovery.specs.Copies.{WithOrWithout, IsBetween};
 
 use medium::{Medium, MediumFault};
 
-/// Writes zeros to each sector from this one up to that one.
-pub(crate) fn clear<M: Medium>(m: &mut M, from: u64, end: u64) -> Result<(), MediumFault>
+/// Writes zeros to each sector from this one up to that one, and flushes nothing.
+///
+/// # Errors
+///
+/// Where the medium refused a write: none is made behind it.
+pub fn clear<M: Medium>(m: &mut M, from: u64, end: u64) -> Result<(), MediumFault>
     requires inside { end ≤ (M.state m.old).size }
     requires some { from ≤ end }
     ensures zeros { OnOk result ((x : ℕ) → from ≤ x → x < end
@@ -25,7 +29,11 @@ pub(crate) fn clear<M: Medium>(m: &mut M, from: u64, end: u64) -> Result<(), Med
 }
 
 /// Writes a sector and flushes it.
-pub(crate) fn write_through<M: Medium>(
+///
+/// # Errors
+///
+/// Where the medium refused one of the two calls.
+pub fn write_through<M: Medium>(
     m: &mut M,
     place: u64,
     sector: &[u8; 512],
