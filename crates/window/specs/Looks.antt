@@ -1,14 +1,15 @@
 -- Where the sectors that reads name are in sight, no read misses, and no call is refused.
 use Rattle.std.specs.Prelude.{◌≡◌, ◌<◌, ◌≤◌, ℕ, ◌+◌, true, length}
-use Rattle.std.proofs.Common.{arith, sym, ◌∙◌, subst, List}
+use Rattle.std.proofs.Common.{arith, sym, ◌∙◌, subst, List, inl, inr}
 use Rattle.std.specs.Prelude.{All}
 use Rattle.std.proofs.lemmas.List.{append_cancel_left}
+use Rattle.std.proofs.lemmas.Bool.{cases_lt}
 use Rattle.std.proofs.lemmas.Bool.Decides.{nat_tests}
 use Rattle.std.proofs.lemmas.List.Elements.{All-weaker}
 use Rattle.std.proofs.lemmas.List.Sums.{list_all-from_AllPass}
 use Rattle.medium.specs.Medium.{LooksOnly}
 use Rattle.medium.specs.Sent.{sent}
-use Rattle.window.specs.Window.{Window, state_of, is_in_sight, ComesAfter, IsServed}
+use Rattle.window.specs.Window.{Window, state_of, is_in_sight, kept_out, ComesAfter, IsServed}
 
 -- the first sectors are in sight
 pub near_in_sight : (w : Window) (s : ℕ) → s < w.near → is_in_sight w s ≡ true
@@ -39,3 +40,14 @@ none_missed P old new follows sight named =
     follows.in_sight (list_all-from_AllPass (is_in_sight old) follows.looks
     (All-weaker P (λ s. is_in_sight old s ≡ true) sight follows.looks
     (subst (λ (l : List ℕ). All P l) same named.only)))
+
+-- Where what waits and all writes and flushes since have room together, none of these is refused,
+-- whatever is in sight.
+pub none_kept_out : (old new : Window) → ComesAfter old new
+    → length old.outbox + sent (state_of new) ≤ sent (state_of old) + old.room
+    → kept_out new.seen.told.refused ≡ kept_out old.seen.told.refused
+none_kept_out old new follows few =
+    elim (cases_lt (kept_out old.seen.told.refused) (kept_out new.seen.told.refused)) [
+      | inl more ↦ absurd (omega (arith, few, follows.refuses more, follows.room_stays))
+      | inr none ↦ omega (arith, none, follows.failures_stay)
+    ]
