@@ -4,6 +4,7 @@ ghost use Rattle.device_file.specs.Copied.{IsCopied, IsCopiedFrom, IsCopiedInPar
 
 use crate::fault::FileFault;
 use crate::file::DeviceFile;
+use crate::meter::Meter;
 use crate::putting::{put_rest, put_sectors};
 use crate::run::Run;
 
@@ -20,12 +21,13 @@ pub enum CopyFault {
 
 /// Copies so many sectors of a file, from one on, to another file that was just made or emptied, to
 /// its sectors from this one on. Blocks of zeros are not written, since they are there. As many
-/// sectors are read at once as the bytes have.
+/// sectors are read at once as the bytes have, and behind each such read the meter hears how many it
+/// were by then.
 ///
 /// # Errors
 ///
 /// The first call that a file refused. Nothing was asked of either after that.
-pub fn copy_sectors<S: DeviceFile, D: DeviceFile>(
+pub fn copy_sectors<S: DeviceFile, D: DeviceFile, M: Meter>(
     from: &S,
     first: u64,
     count: u64,
@@ -33,6 +35,7 @@ pub fn copy_sectors<S: DeviceFile, D: DeviceFile>(
     at: u64,
     run: &mut Run,
     bytes: &mut [u8],
+    meter: &mut M,
 ) -> Result<(), CopyFault>
     requires reads { first + count < 2 ^ 64 }
     requires writes { at + count < 2 ^ 64 }
@@ -43,7 +46,7 @@ pub fn copy_sectors<S: DeviceFile, D: DeviceFile>(
         (D.told to.new)) }
     ensures size { D.size to.new ≡ D.size to.old }
 {
-    match copy_runs(from, first, count, to, at, run, bytes) {
+    match copy_runs(from, first, count, to, at, run, bytes, meter) {
         Err(fault) => Err(fault),
         Ok(()) => match put_rest(to, run) {
             Ok(()) => Ok(()),
@@ -53,7 +56,7 @@ pub fn copy_sectors<S: DeviceFile, D: DeviceFile>(
 }
 
 // The same; writes may be left to be made.
-fn copy_runs<S: DeviceFile, D: DeviceFile>(
+fn copy_runs<S: DeviceFile, D: DeviceFile, M: Meter>(
     from: &S,
     first: u64,
     count: u64,
@@ -61,6 +64,7 @@ fn copy_runs<S: DeviceFile, D: DeviceFile>(
     at: u64,
     run: &mut Run,
     bytes: &mut [u8],
+    meter: &mut M,
 ) -> Result<(), CopyFault>
     requires reads { first + count < 2 ^ 64 }
     requires writes { at + count < 2 ^ 64 }
@@ -81,6 +85,7 @@ fn copy_runs<S: DeviceFile, D: DeviceFile>(
             Ok(()) => done += part,
             Err(fault) => return Err(fault),
         }
+        meter.tell(done, count);
     }
     Ok(())
 }
