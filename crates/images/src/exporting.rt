@@ -18,28 +18,30 @@ ghost use Rattle.images.specs.Program.{IsExport, IsExportRefused};
 
 use crate::copying::copy_room;
 use crate::ended::{LeftFiles, Refused, Stopped};
+use crate::gauge::Gauge;
 use crate::image::new_target;
 use crate::opening::{Access, open_image, window_over};
 use crate::output::write_out;
 use crate::refusal::Refusal;
 use device_file::{
-    CopyFault, DeviceFile, FirstSectors, Run, SystemFile, carry_moved, copy_sectors,
+    CopyFault, DeviceFile, FirstSectors, Meter, Run, SystemFile, carry_moved, copy_sectors,
 };
 use log_layout::{LogFormat, Super};
 use recovery::recover;
 use std::alloc::Global;
 use std::fs::{File, Files};
-use std::io::Write;
+use std::io::{IsTerminal, Write};
 use window::WindowMedium;
 
 /// Copies the blocks of an image file to a new plain file, and says how many there are.
 #[inline(never)]
-pub(crate) fn export<R: Files<File = File> + AllocGlobal, O: Write>(
+pub(crate) fn export<R: Files<File = File> + AllocGlobal, O: Write, E: Write + IsTerminal>(
     rt: &R,
     image: &str,
     raw: &str,
     replace: bool,
     out: &mut O,
+    err: &mut E,
 ) -> Result<LeftFiles, Refused>
     ensures done { IfOk result
         (λ left. IsExport (O.contents out.old) (O.contents out.new) left.file left.raw) }
@@ -47,7 +49,7 @@ pub(crate) fn export<R: Files<File = File> + AllocGlobal, O: Write>(
         (O.contents out.new) refused.files.file refused.files.raw refused.refusal) }
 {
     let (file, first) = open_image(rt, image, Access::Look)?;
-    match export_from(rt, &file, first, raw, replace, out) {
+    match export_from(rt, &file, first, raw, replace, out, err) {
         Ok(plain) => Ok(LeftFiles {
             file: Some(file),
             raw: Some(plain),
@@ -64,13 +66,14 @@ pub(crate) fn export<R: Files<File = File> + AllocGlobal, O: Write>(
 
 // Copies the blocks of an image with these first sectors, which is only read. The plain file is
 // made once the image is recovered: one with a fault makes none.
-fn export_from<R: Files<File = File> + AllocGlobal, S: DeviceFile, O: Write>(
+fn export_from<R: Files<File = File> + AllocGlobal, S: DeviceFile, O: Write, E: Write + IsTerminal>(
     rt: &R,
     image: &S,
     first: FirstSectors,
     raw: &str,
     replace: bool,
     out: &mut O,
+    err: &mut E,
 ) -> Result<SystemFile<File>, Stopped>
     ensures ok { IfOk result (λ plain. IsExported (S.holds image.now) first (O.contents out.old)
         (O.contents out.new) (Some plain)) }
@@ -78,7 +81,7 @@ fn export_from<R: Files<File = File> + AllocGlobal, S: DeviceFile, O: Write>(
         (O.contents out.old) (O.contents out.new) stopped.file stopped.refusal) }
 {
     match recover_in_window(rt.alloc(), first) {
-        Ok((window, sizes)) => copy_out(rt, image, &sizes, window, raw, replace, out),
+        Ok((window, sizes)) => copy_out(rt, image, &sizes, window, raw, replace, out, err),
         Err(refusal) => Err(Stopped {
             refusal,
             file: None,
@@ -87,7 +90,7 @@ fn export_from<R: Files<File = File> + AllocGlobal, S: DeviceFile, O: Write>(
 }
 
 // Copies the blocks of an image that was recovered in this window.
-fn copy_out<R: Files<File = File> + AllocGlobal, S: DeviceFile, O: Write>(
+fn copy_out<R: Files<File = File> + AllocGlobal, S: DeviceFile, O: Write, E: Write + IsTerminal>(
     rt: &R,
     image: &S,
     sizes: &Super,
@@ -95,6 +98,7 @@ fn copy_out<R: Files<File = File> + AllocGlobal, S: DeviceFile, O: Write>(
     raw: &str,
     replace: bool,
     out: &mut O,
+    err: &mut E,
 ) -> Result<SystemFile<File>, Stopped>
     ensures ok { IfOk result (λ plain. IsPlainCopy (S.holds image.now) sizes.now window.outbox
         (O.contents out.old) (O.contents out.new) (Some plain)) }
@@ -103,8 +107,18 @@ fn copy_out<R: Files<File = File> + AllocGlobal, S: DeviceFile, O: Write>(
 {
     let (mut run, mut bytes, line) = copy_room(rt.alloc(), b"exported ", sizes.blocks)?;
     let mut plain = new_target(rt, raw, sizes.blocks, replace)?;
-    let copied = export_blocks(image, sizes, &mut window, &mut plain, &mut run, &mut bytes);
-    if let Err(fault) = copied {
+    let mut bar = Gauge::new(err);
+    let done = export_blocks(
+        image,
+        sizes,
+        &mut window,
+        &mut plain,
+        &mut run,
+        &mut bytes,
+        &mut bar,
+    );
+    bar.end();
+    if let Err(fault) = done {
         return Err(Stopped {
             refusal: refusal_of(fault),
             file: Some(plain),
@@ -166,18 +180,19 @@ fn room_to_recover(sizes: &Option<Super>) -> usize
 
 /// Has a plain file that was just made or emptied hold the blocks of an image, as a start would serve
 /// them: those at home, and over them what waits in the window of its recovery. The image is only
-/// read, as many sectors at once as the bytes have.
+/// read, as many sectors at once as the bytes have; a meter hears how many blocks it were.
 ///
 /// # Errors
 ///
 /// The first call that a file refused. Nothing was asked of either after that.
-pub fn export_blocks<S: DeviceFile, D: DeviceFile>(
+pub fn export_blocks<S: DeviceFile, D: DeviceFile, M: Meter>(
     image: &S,
     sizes: &Super,
     window: &mut WindowMedium,
     plain: &mut D,
     run: &mut Run,
     bytes: &mut [u8],
+    meter: &mut M,
 ) -> Result<(), CopyFault>
     requires { 512 ≤ length bytes.old }
     ensures ok { OnOk result (HasBlocks (S.holds image.now) sizes.now window.old.outbox
@@ -186,7 +201,7 @@ pub fn export_blocks<S: DeviceFile, D: DeviceFile>(
         (D.told plain.old) (D.told plain.new)) }
     ensures size { D.size plain.new ≡ D.size plain.old }
 {
-    match copy_sectors(image, sizes.home, sizes.blocks, plain, 0, run, bytes) {
+    match copy_sectors(image, sizes.home, sizes.blocks, plain, 0, run, bytes, meter) {
         Ok(()) => {}
         Err(fault) => return Err(fault),
     }

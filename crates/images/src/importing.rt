@@ -7,19 +7,20 @@ ghost use Rattle.images.specs.Program.{IsImport, IsImportRefused};
 
 use crate::copying::copy_room;
 use crate::ended::{LeftFiles, Refused, Stopped};
+use crate::gauge::Gauge;
 use crate::image::{new_target, sizes_of};
 use crate::making::ask_to_be;
 use crate::opening::open_plain;
 use crate::output::write_out;
 use crate::refusal::Refusal;
-use device_file::{CopyFault, DeviceFile, Run, SystemFile, copy_sectors};
+use device_file::{CopyFault, DeviceFile, Meter, Run, SystemFile, copy_sectors};
 use log_layout::{LogFormat, Super};
 use std::fs::{File, Files};
-use std::io::Write;
+use std::io::{IsTerminal, Write};
 
 /// Makes an image file whose blocks are those of a plain file, and says how many there are.
 #[inline(never)]
-pub(crate) fn import<R: Files<File = File> + AllocGlobal, O: Write>(
+pub(crate) fn import<R: Files<File = File> + AllocGlobal, O: Write, E: Write + IsTerminal>(
     rt: &R,
     raw: &str,
     image: &str,
@@ -27,6 +28,7 @@ pub(crate) fn import<R: Files<File = File> + AllocGlobal, O: Write>(
     slots: u64,
     replace: bool,
     out: &mut O,
+    err: &mut E,
 ) -> Result<LeftFiles, Refused>
     ensures done { IfOk result (λ left. IsImport (O.contents out.old) (O.contents out.new)
         left.file left.raw format slots) }
@@ -34,7 +36,7 @@ pub(crate) fn import<R: Files<File = File> + AllocGlobal, O: Write>(
         (O.contents out.new) refused.files.file refused.files.raw format slots refused.refusal) }
 {
     let plain = open_plain(rt, raw)?;
-    match import_from(rt, &plain, image, format, slots, replace, out) {
+    match import_from(rt, &plain, image, format, slots, replace, out, err) {
         Ok(file) => Ok(LeftFiles {
             file: Some(file),
             raw: Some(plain),
@@ -51,7 +53,7 @@ pub(crate) fn import<R: Files<File = File> + AllocGlobal, O: Write>(
 
 // Makes an image of the blocks of a plain file, which is only read. The sizes are tested before a
 // file is made.
-fn import_from<R: Files<File = File> + AllocGlobal, S: DeviceFile, O: Write>(
+fn import_from<R: Files<File = File> + AllocGlobal, S: DeviceFile, O: Write, E: Write + IsTerminal>(
     rt: &R,
     plain: &S,
     image: &str,
@@ -59,6 +61,7 @@ fn import_from<R: Files<File = File> + AllocGlobal, S: DeviceFile, O: Write>(
     slots: u64,
     replace: bool,
     out: &mut O,
+    err: &mut E,
 ) -> Result<SystemFile<File>, Stopped>
     ensures ok { IfOk result (λ file. IsImage (S.holds plain.now) format (S.size plain.now) slots
         (O.contents out.old) (O.contents out.new) (Some file)) }
@@ -70,7 +73,10 @@ fn import_from<R: Files<File = File> + AllocGlobal, S: DeviceFile, O: Write>(
     };
     let (mut run, mut bytes, line) = copy_room(rt.alloc(), b"imported ", sizes.blocks)?;
     let mut file = new_target(rt, image, sizes.sectors(), replace)?;
-    if let Err(fault) = import_blocks(plain, &sizes, &mut file, &mut run, &mut bytes) {
+    let mut bar = Gauge::new(err);
+    let done = import_blocks(plain, &sizes, &mut file, &mut run, &mut bytes, &mut bar);
+    bar.end();
+    if let Err(fault) = done {
         return Err(Stopped {
             refusal: refusal_of(fault),
             file: Some(file),
@@ -97,17 +103,18 @@ fn refusal_of(fault: CopyFault) -> Refusal
 
 /// Has a file that was just made or emptied become a new image with these sizes, whose blocks are
 /// those of a plain file: they are written at home, and only then is it made an image. The plain file
-/// is only read, as many sectors at once as the bytes have.
+/// is only read, as many sectors at once as the bytes have; a meter hears how many it were.
 ///
 /// # Errors
 ///
 /// The first call that a file refused. Nothing was asked of either after that.
-pub fn import_blocks<S: DeviceFile, D: DeviceFile>(
+pub fn import_blocks<S: DeviceFile, D: DeviceFile, M: Meter>(
     plain: &S,
     sizes: &Super,
     image: &mut D,
     run: &mut Run,
     bytes: &mut [u8],
+    meter: &mut M,
 ) -> Result<(), CopyFault>
     requires { 512 ≤ length bytes.old }
     ensures ok { OnOk result (IsImported (S.holds plain.now) (shape_of sizes.now)
@@ -116,7 +123,7 @@ pub fn import_blocks<S: DeviceFile, D: DeviceFile>(
         (D.told image.old) (D.told image.new)) }
     ensures size { D.size image.new ≡ D.size image.old }
 {
-    match copy_sectors(plain, 0, sizes.blocks, image, sizes.home, run, bytes) {
+    match copy_sectors(plain, 0, sizes.blocks, image, sizes.home, run, bytes, meter) {
         Ok(()) => {}
         Err(fault) => return Err(fault),
     }

@@ -4,6 +4,7 @@
 mod copying;
 mod ended;
 mod exporting;
+mod gauge;
 mod image;
 mod importing;
 mod laws;

@@ -33,7 +33,7 @@ use device_file::{Run, SystemFile};
 use log_layout::{LogFormat, Super};
 use std::env::Env;
 use std::fs::{File, Files};
-use std::io::Write;
+use std::io::{IsTerminal, Write};
 
 const HELP: &[u8] = b"usbdisk_image make IMAGE --blocks N --slots K --format 1|2 [--replace]\n\
 usbdisk_image show IMAGE\nusbdisk_image migrate IMAGE\n\
@@ -49,9 +49,10 @@ const VERSION: &[u8] = b"usbdisk_image 0.10\n";
 /// `migrate IMAGE` brings it to format 2, and prints `migrated` or `already format 2`. `import RAW
 /// IMAGE --slots K --format F` makes an image of the blocks of a plain file, and `export IMAGE
 /// RAW` copies those of an image to one: they print `imported N blocks` and `exported N blocks`.
+/// Where `err` is a terminal, they tell on it how far they are, each 256 MiB.
 /// A new file is refused where one is there, but where `--replace` stands behind the words.
 /// `--help` and `--version` print a line each.
-pub fn command<R: Files<File = File> + AllocGlobal, O: Write, E: Write>(
+pub fn command<R: Files<File = File> + AllocGlobal, O: Write, E: Write + IsTerminal>(
     rt: &R,
     words: &[&str],
     out: &mut O,
@@ -65,7 +66,7 @@ pub fn command<R: Files<File = File> + AllocGlobal, O: Write, E: Write>(
         × IsRefusedFor (O.contents out.old) (O.contents out.new) result.file result.raw
         (map (λ word. word.now) words.now) refusal }
 {
-    match obey(rt, words, out) {
+    match obey(rt, words, out, err) {
         Ok(left) => Ended {
             status: 0,
             file: left.file,
@@ -80,10 +81,11 @@ pub fn command<R: Files<File = File> + AllocGlobal, O: Write, E: Write>(
 }
 
 // Does what the words ask for.
-fn obey<R: Files<File = File> + AllocGlobal, O: Write>(
+fn obey<R: Files<File = File> + AllocGlobal, O: Write, E: Write + IsTerminal>(
     rt: &R,
     words: &[&str],
     out: &mut O,
+    err: &mut E,
 ) -> Result<LeftFiles, Refused>
     ensures done { IfOk result (λ left. IsObeyed (O.contents out.old) (O.contents out.new) left.file
         left.raw (map (λ word. word.now) words.now)) }
@@ -92,16 +94,17 @@ fn obey<R: Files<File = File> + AllocGlobal, O: Write>(
         refused.refusal) }
 {
     match read_words(words) {
-        Some(task) => do_task(rt, task, out),
+        Some(task) => do_task(rt, task, out, err),
         None => Err(Refused::from(Refusal::Words)),
     }
 }
 
 // Does what a command line asks for.
-fn do_task<R: Files<File = File> + AllocGlobal, O: Write>(
+fn do_task<R: Files<File = File> + AllocGlobal, O: Write, E: Write + IsTerminal>(
     rt: &R,
     task: Task,
     out: &mut O,
+    err: &mut E,
 ) -> Result<LeftFiles, Refused>
     ensures done { IfOk result (λ left. HasDone (O.contents out.old) (O.contents out.new) left.file
         left.raw (wanted_of task.entry)) }
@@ -126,12 +129,12 @@ fn do_task<R: Files<File = File> + AllocGlobal, O: Write>(
             format,
             slots,
             replace,
-        } => import(rt, raw, image, format, slots, replace, out),
+        } => import(rt, raw, image, format, slots, replace, out, err),
         Task::Export {
             image,
             raw,
             replace,
-        } => export(rt, image, raw, replace, out),
+        } => export(rt, image, raw, replace, out, err),
     }
 }
 
@@ -228,7 +231,7 @@ fn tell<E: Write>(refusal: Refusal, words: &[&str], err: &mut E) -> u8
 }
 
 /// Does what the program's arguments ask for, and gives the exit status.
-pub fn run_program<R: Env + Files<File = File> + AllocGlobal, O: Write, E: Write>(
+pub fn run_program<R: Env + Files<File = File> + AllocGlobal, O: Write, E: Write + IsTerminal>(
     rt: &R,
     out: &mut O,
     err: &mut E,

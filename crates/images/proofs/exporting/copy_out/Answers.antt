@@ -7,13 +7,13 @@ use Rattle.images.proofs.exporting.copy_out.Goals as goal
 
 pub returns-in-Err-clause-err : goal.returns-in-Err-clause-err
 returns-in-Err-clause-err g c = inr (inl (record {
-  plain = c.export_blocks-copied.new.plain;
+  plain = c.export_blocks-done.new.plain;
   given = refl;
   size = c.in-Err.ensures.size ∙ ap (λ (f : FileValue). f.size) c.in_ok-plain.ensures.ok;
   why = c.in-Err.fault;
   asked = subst
       (λ (told : Told). HasSomeBlocks (g.S.DeviceFile.holds c.args.image.now) c.args.sizes.now c.args.window.outbox told
-      c.export_blocks-copied.new.plain.told c.in-Err.fault)
+      c.export_blocks-done.new.plain.told c.in-Err.fault)
       (ap (λ (f : FileValue). f.told) c.in_ok-plain.ensures.ok) c.in-Err.ensures.err;
   refused_is = c.refusal_of.ensures;
   kept = Keeps-same (g.O.Write.contents c.args.out.now);
