@@ -39,6 +39,20 @@ pub(crate) struct Refused {
     pub(crate) files: LeftFiles,
 }
 
+impl Stopped {
+    ghost use Rattle.std.specs.Prelude.{◌≡◌, Some};
+
+    /// With the file that was made.
+    pub(crate) fn with(refusal: Refusal, file: SystemFile<File>) -> Stopped
+        ensures { result ≡ record { refusal = refusal; file = Some file } }
+    {
+        Stopped {
+            refusal,
+            file: Some(file),
+        }
+    }
+}
+
 impl From<Refusal> for Stopped {
     ghost use Rattle.std.specs.Prelude.{◌≡◌, None};
 

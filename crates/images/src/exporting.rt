@@ -119,10 +119,7 @@ fn copy_out<R: Files<File = File> + AllocGlobal, S: DeviceFile, O: Write, E: Wri
     );
     bar.end();
     if let Err(fault) = done {
-        return Err(Stopped {
-            refusal: refusal_of(fault),
-            file: Some(plain),
-        });
+        return Err(Stopped::with(refusal_of(fault), plain));
     }
     match write_out(out, &line) {
         Ok(()) => Ok(plain),

@@ -6,7 +6,7 @@ use Rattle.images.proofs.Known.{Keeps-same}
 use Rattle.images.proofs.exporting.copy_out.Goals as goal
 
 pub returns-in-Err-clause-err : goal.returns-in-Err-clause-err
-returns-in-Err-clause-err g c = inr (inl (record {
+returns-in-Err-clause-err g c = rw c.with.ensures (inr (inl (record {
   plain = c.export_blocks-done.new.plain;
   given = refl;
   size = c.in-Err.ensures.size ∙ ap (λ (f : FileValue). f.size) c.in_ok-plain.ensures.ok;
@@ -17,4 +17,4 @@ returns-in-Err-clause-err g c = inr (inl (record {
       (ap (λ (f : FileValue). f.told) c.in_ok-plain.ensures.ok) c.in-Err.ensures.err;
   refused_is = c.refusal_of.ensures;
   kept = Keeps-same (g.O.Write.contents c.args.out.now);
-}))
+})))
