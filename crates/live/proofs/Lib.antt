@@ -1,1 +1,4 @@
 pub mod Refusals
+pub mod Rooms
+pub mod Opened
+pub mod Ready

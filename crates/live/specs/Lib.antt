@@ -1,4 +1,5 @@
 pub mod Missing
+pub mod Ready
 pub mod Playing
 pub mod FileLaws
 pub mod Status

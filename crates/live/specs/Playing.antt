@@ -1,7 +1,8 @@
 -- How a disk over a file goes through events.
 use Rattle.std.specs.Prelude.{◌≡◌, ◌⊎◌, ℕ, ◌*◌, ◌/◌, Bool, true, false, List, [], ◌∷◌, length}
+use Rattle.std.specs.Prelude.{None}
 use Rattle.inlet.specs.Inlet.{AreHeld}
-use Rattle.window.specs.Window.{Window, mirror_of, ComesAfter, CoversDevice}
+use Rattle.window.specs.Window.{Window, mirror_of, ComesAfter, CoversDevice, IsServed}
 use Rattle.mirror.specs.Parts as mirror
 use Rattle.scsi_unit.specs.Books.{Book}
 use Rattle.bot_machine.specs.Disk.{FitsDisk, IsStep, IsRearmed}
@@ -12,6 +13,7 @@ use Rattle.device_file.specs.Asked.{Told}
 use Rattle.device_file.specs.Reads.{AreRead}
 use Rattle.file_window.specs.FileWindows.{state_of, is_well, GoesOn, Shows, Carries}
 use Rattle.live.specs.Missing.{DiskOn, medium_of, window_of, Wants, WantsNone}
+use Rattle.live.specs.Ready.{IsReady, SeesHome, RefusesNone, KeepsAll}
 
 -- a device that was handed what was sent until the first moment, and any first part of what was
 -- sent since, and has carried out any part of the writes behind its last flush
@@ -22,6 +24,7 @@ CoversParts old new = mirror.CoversParts (mirror_of old) (mirror_of new)
 pub record Foresees (w : Window) : Type 0 where
   pub covers : (new : Window) → ComesAfter w new → CoversDevice w new
   pub parts : (new : Window) → ComesAfter w new → CoversParts w new
+  pub served : (new : Window) → ComesAfter w new → IsServed w new
 
 -- What a file was asked, what its reads gave, and which of them it refused.
 module _ {D : Type 0} (told : D → Told) (holds : D → ℕ → List ℕ → Type 0)
@@ -68,8 +71,28 @@ module _ {D : Type 0} (told : D → Told) (holds : D → ℕ → List ℕ → Ty
     pub covers : CoversDevice (window_of old) (window_of played)
     -- whichever of the writes behind its last synchronising it has carried out
     pub parts : CoversParts (window_of old) (window_of played)
+    -- of a disk that is ready no write and no flush is refused,
+    pub kept : IsReady old → KeepsAll (window_of old) (window_of played)
+    -- and no call at all where the blocks that the event reads are in sight
+    pub served : IsReady old → SeesHome old event → RefusesNone (window_of old) (window_of played)
     pub carried : Carries told (medium_of played) (medium_of new)
     pub others : IsRearmed played new
+    -- it is ready again once all is carried out
+    pub again : IsReady old → (medium_of new).fault ≡ None → IsReady new
+
+  -- the file refused to read the blocks that the event reads
+  abbrev pub IsUnread : DiskOn D → Event → DiskOn D → Type 0
+  IsUnread old (event.Out packet) new = (first : ℕ) × (count : ℕ)
+      × Wants old packet.items first count × MissesRead old first count new
+  IsUnread old event.In new = ⊥
+  IsUnread old (event.Setup packet) new = ⊥
+  IsUnread old event.Tick new = ⊥
+
+  -- No event misses: no write and no flush of it is refused, and no read where the file gave the
+  -- blocks that it reads.
+  pub record MissesNothing (old : DiskOn D) (event : Event) (ready played : DiskOn D) : Type 0 where
+    pub kept : KeepsAll (window_of ready) (window_of played)
+    pub seen : RefusesNone (window_of ready) (window_of played) ⊎ IsUnread old event ready
 
   -- one event, and whether the file carried out all that waited behind it
   pub record Plays (old : DiskOn D) (event : Event) (answer : Answer) (good : Bool)
@@ -78,6 +101,9 @@ module _ {D : Type 0} (told : D → Told) (holds : D → ℕ → List ℕ → Ty
     pub prepares : Prepares old event ready
     pub plays : PlaysReady ready event answer new
     pub is_good : is_well (medium_of new).fault ≡ good
+    -- a disk that was ready misses nothing, and is ready again
+    pub misses : IsReady old → MissesNothing old event ready plays.played
+    pub again : IsReady old → good ≡ true → IsReady new
 
   -- Each event is played, and all that it sent was carried out before its answer was given.
   abbrev pub AnswersThrough : DiskOn D → List Event → List Answer → DiskOn D → Type 0

@@ -1,9 +1,8 @@
 -- How a disk starts on an open file.
-use Rattle.std.specs.Prelude.{◌≡◌, ◌⊎◌, ℕ, List, max, Option, Some, None}
+use Rattle.std.specs.Prelude.{◌≡◌, ◌⊎◌, ℕ, ◌+◌, List, Option, Some, None, if◌then◌else◌, nat_le}
 use Rattle.medium.specs.Writes.{sector_of}
-use Rattle.log_layout.specs.declared.log_format.LogFormat.{LogFormat}
 use Rattle.log_layout.specs.declared.super_sector.Super.{Super}
-use Rattle.recovery.specs.Copies.{most_start_sends}
+use Rattle.recovery.specs.Causes.{IsDeviceFault}
 use Rattle.window.specs.Window.{Window, CoversDevice, fresh}
 use Rattle.device_file.specs.Asked.{Told}
 use Rattle.device_file.specs.First.{IsUnopened, SpellsSuper}
@@ -13,26 +12,28 @@ use Rattle.device_file.specs.declared.opening.FirstSectors.{FirstSectors}
 use Rattle.device_file.specs.declared.opening.OpenFault.{OpenFault}
 use Rattle.file_window.specs.declared.file.FileWindow.{FileWindow}
 use Rattle.file_window.specs.FileWindows.{state_of, GoesOn, Carries, IsOver}
-use Rattle.scsi_unit.specs.Calls.{most_sends_of}
+use Rattle.bot_machine.specs.Device.{Device, Ahead}
 use Rattle.bot_machine.specs.Disk.{IsRearmed}
 use Rattle.bot_machine.specs.Opening.{IsOpened, IsNotOpened, StartLeaves}
 use Rattle.bot_machine.specs.StartFaults.{StartFault}
 use Rattle.runner.specs.Script.{device}
 use Rattle.live.specs.Missing.{DiskOn, medium_of, window_of}
 use Rattle.live.specs.Playing.{CoversParts}
+use Rattle.live.specs.Ready.{room_of, most_room, IsReady, RefusesNone}
 use Rattle.live.specs.Status.{refusal_of_open}
 use Rattle.live.specs.declared.refusal.Refusal.{Refusal}
 use Rattle.live.specs.declared.refusal.Refusal.TheVariants as refused
 
--- as many writes and flushes as an event makes at most, and as a start does that finds so many
--- slots
-abbrev pub room_of : LogFormat → ℕ → ℕ
-room_of format slots = max (most_sends_of format) (most_start_sends format slots)
+-- The room over a file of so many sectors, by its super. What no disk starts on has that of any
+-- image.
+abbrev pub room_for : ℕ → Option Super → ℕ
+room_for size (Some sizes) =
+    if nat_le (sizes.home + sizes.blocks) size then room_of sizes.format sizes.slots else most_room
+room_for size None = most_room
 
--- those of an image; one flush comes before a super is sought
-abbrev pub room_for : Option Super → ℕ
-room_for (Some sizes) = room_of sizes.format sizes.slots
-room_for None = 1
+-- the disk of a script, which sends the records of its log home ahead of the next one
+abbrev pub ahead_device : ℕ → Device
+ahead_device most = record (device most) { retiring = Ahead }
 
 -- What reads of a file gave, and how many sectors it has.
 module _ {D : Type 0} (holds : D → ℕ → List ℕ → Type 0) (size : D → ℕ) where
@@ -44,7 +45,8 @@ module _ {D : Type 0} (holds : D → ℕ → List ℕ → Type 0) (size : D → 
     pub spells : SpellsSuper first.sizes (sector_of first.bytes.items 0)
     pub read : AreRead (holds file) 0 first.bytes.items
     pub device : List ℕ
-    pub is : w ≡ fresh first.sectors first.bytes.items device 240 (room_for first.sizes)
+    pub is : w ≡ fresh first.sectors first.bytes.items device 240
+        (room_for first.sectors first.sizes)
 
   -- it, and the file behind it
   pub record IsMediumOn (file : D) (m : FileWindow D) : Type 0 where
@@ -66,21 +68,27 @@ module _ {D : Type 0} (told : D → Told) (most : ℕ) (medium : FileWindow D) w
   -- nothing.
   pub record Starts (new : DiskOn D) : Type 0 where
     pub started : DiskOn D
-    pub opens : IsOpened (state_of medium) (state_of (medium_of started)) (device most) started
+    pub opens : IsOpened (state_of medium) (state_of (medium_of started)) (ahead_device most)
+        started
     pub leaves : StartLeaves (state_of medium) (state_of (medium_of started))
     pub follows : GoesOn medium (medium_of started)
     -- wherever among these calls the file is, a cut of it leaves what a cut at some moment could,
     pub covers : CoversDevice medium.window (window_of started)
     -- whichever of the writes behind its last synchronising it has carried out
     pub parts : CoversParts medium.window (window_of started)
+    -- no start misses: none of its calls was refused
+    pub misses : RefusesNone medium.window (window_of started)
     pub carried : Carries told (medium_of started) (medium_of new)
     pub others : IsRearmed started new
 
-  -- No disk started. The file comes back, which was asked for nothing.
+  -- No disk started, since the image has a fault or there was no memory: no call was refused. The
+  -- file comes back, which was asked for nothing.
   pub record IsNotStarted (back : D) (refusal : Refusal) : Type 0 where
     pub after : FileWindow D
     pub fault : StartFault
     pub cause : IsNotOpened (state_of medium) (state_of after) fault
+    pub by_image : ¬ IsDeviceFault fault
+    pub misses : RefusesNone medium.window after.window
     pub leaves : StartLeaves (state_of medium) (state_of after)
     pub follows : GoesOn medium after
     pub refused_is : refusal ≡ refused.Image fault
@@ -98,10 +106,11 @@ module _ {D : Type 0} (told : D → Told) (most : ℕ) (medium : FileWindow D) w
   abbrev pub IsRefusedStart : D → Refusal → Type 0
   IsRefusedStart back refusal = IsNotStarted back refusal ⊎ IsStartedInPart back refusal
 
-  -- a disk started, and the file carried out all that it sent
+  -- a disk started, and the file carried out all that it sent: it is ready for events
   pub record IsStarted (new : DiskOn D) : Type 0 where
     pub starts : Starts new
     pub well : (medium_of new).fault ≡ None
+    pub ready : IsReady new
 
 -- What reads of a file gave, how many sectors it has, and what it was asked.
 module _ {D : Type 0} (told : D → Told) (holds : D → ℕ → List ℕ → Type 0) (size : D → ℕ)

@@ -3,12 +3,13 @@ ghost use Rattle.std.specs.Prelude.{◌≡◌, IfOk, IfErr, length};
 ghost use Rattle.bot_machine.specs.PacketBytes.{bytes_of};
 ghost use Rattle.live.specs.Starting.{HasNoWindow, IsNotStartedOn, IsRefusedStart, IsStarted};
 ghost use Rattle.live.specs.Starting.{IsStartedOn, IsWindowOf, room_for};
+ghost use Rattle.live.specs.Ready.{IsReadyToStart};
 ghost use Rattle.live.specs.Status.{refusal_of_open};
 
 use crate::ended::Stopped;
 use crate::player::{FileDisk, TRANSFER, foresee_window};
 use crate::refusal::Refusal;
-use bot_machine::{Disk, PacketSize};
+use bot_machine::{Disk, PacketSize, Retiring};
 use device_file::{DeviceFile, FirstSectors, OpenFault, Run};
 use file_window::FileWindow;
 use log_layout::{LogFormat, Super};
@@ -19,6 +20,9 @@ use window::{DeviceHolds, WindowMedium};
 
 /// The most sectors that are in sight at once behind the first ones: those of the longest transfer.
 const SPAN: u32 = 240;
+
+/// As many writes and flushes as a start makes at most, whatever the image.
+const MOST_ROOM: usize = 15_364;
 
 /// A disk that has started on an open file, once the file has carried out what the start sent.
 pub(crate) fn start_on<D: DeviceFile>(
@@ -58,7 +62,7 @@ fn window_over<D: DeviceFile>(alloc: Global, file: &D) -> Result<WindowMedium, R
         Ok(first) => first,
         Err(fault) => return Err(refusal_of(fault)),
     };
-    let room = room_to_serve(&first.sizes);
+    let room = room_to_serve(&first.sizes, first.sectors);
     let device = DeviceHolds::any();
     match first.into_window(alloc, &device, SPAN, room) {
         Ok(window) => Ok(window),
@@ -76,13 +80,16 @@ fn refusal_of(fault: OpenFault) -> Refusal
     }
 }
 
-// How many calls an outbox has to have room for, over an image with such a super.
-fn room_to_serve(sizes: &Option<Super>) -> usize
-    ensures { result ≡ room_for sizes.now }
+// How many calls an outbox has to have room for, over a file of so many sectors with such a super.
+fn room_to_serve(sizes: &Option<Super>, sectors: u64) -> usize
+    ensures { result ≡ room_for sectors sizes.now }
 {
     let Some(sizes) = sizes else {
-        return 1;
+        return MOST_ROOM;
     };
+    if sizes.sectors() > sectors {
+        return MOST_ROOM;
+    }
     let room = match sizes.format {
         LogFormat::One => (48 * sizes.slots + 4).max(309),
         LogFormat::Two => (240 * sizes.slots + 4).max(1_479),
@@ -99,19 +106,20 @@ fn memory(alloc: Global) -> Result<(Vec<u8>, Run), AllocError>
     Ok((bytes, run))
 }
 
-// A disk that has started on a window over a file, which then carries out what waits there. Where
-// the start is refused the file is asked for nothing.
+// A disk that has started on a window over a file, which then carries out what waits there, and that
+// retires ahead. No call of the start is refused. Where the image is, the file is asked for nothing.
 fn start_disk<D: DeviceFile>(
     alloc: Global,
     medium: FileWindow<D>,
     size: PacketSize,
 ) -> Result<Disk<FileWindow<D>>, Stopped<D>>
+    requires { IsReadyToStart medium.window }
     ensures started { IfOk result (IsStarted D.told (bytes_of size) medium) }
     ensures refused { IfErr result (λ stopped. IsRefusedStart D.told (bytes_of size) medium
         stopped.file stopped.refusal) }
 {
     foresee_window(&medium);
-    let mut disk = match Disk::start_with(alloc, medium, disk_identity(), size) {
+    let mut disk = match Disk::start_by(alloc, medium, disk_identity(), size, Retiring::Ahead) {
         Ok(disk) => disk,
         Err(error) => {
             return Err(Stopped {

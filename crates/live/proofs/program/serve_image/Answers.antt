@@ -1,5 +1,4 @@
-use Rattle.std.proofs.Common.{refl, inl, inr, ap}
-use Rattle.std.proofs.KnownBytes.{Keeps-refl}
+use Rattle.std.proofs.Common.{refl}
 use Rattle.live.proofs.program.serve_image.Goals as goal
 
 pub returns-in-Ok-serve_file-clause-done : goal.returns-in-Ok-serve_file-clause-done

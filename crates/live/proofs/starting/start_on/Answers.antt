@@ -1,8 +1,14 @@
-use Rattle.std.proofs.Common.{inl, inr, sym, subst}
+use Rattle.std.proofs.Common.{inr, sym, subst}
 use Rattle.bot_machine.specs.PacketBytes.{bytes_of}
+use Rattle.live.proofs.Opened.{opened_ready}
+use Rattle.live.specs.Ready.{IsReadyToStart}
 use Rattle.live.specs.Missing.{DiskOn}
 use Rattle.live.specs.Starting.{IsStarted}
 use Rattle.live.proofs.starting.start_on.Goals as goal
+
+pub start_disk-requires : goal.start_disk-requires
+start_disk-requires g c = subst IsReadyToStart (sym c.new.ensures.window_is)
+    (opened_ready g.D.DeviceFile.holds g.D.DeviceFile.size c.args.file c.in-Ok.window c.in-Ok.ensures.ok)
 
 pub returns-in-Ok-start_disk-clause-started : goal.returns-in-Ok-start_disk-clause-started
 returns-in-Ok-start_disk-clause-started g c = record {

@@ -1,4 +1,4 @@
-use Rattle.std.proofs.Common.{◌∙◌, ◌≡◌, ℕ, inl, inr, refl, sym, ap, subst}
+use Rattle.std.proofs.Common.{◌∙◌, ℕ, inl, ap}
 use Rattle.window.specs.Window.{fresh}
 use Rattle.live.proofs.starting.window_over.Goals as goal
 

@@ -1,0 +1,90 @@
+-- A window over the first sectors of a file is ready for a start.
+use Rattle.std.proofs.Common.{◌≡◌, ◌<◌, ◌≤◌, ◌+◌, ◌*◌, ℕ, true, List, length, min, inl, inr, arith, refl, sym, ap}
+use Rattle.std.proofs.Common.{subst}
+use Rattle.std.specs.Prelude.{Option, Some, None, nat_le}
+use Rattle.std.proofs.lemmas.Bool.{cases_Bool, leb-true}
+use Rattle.medium.specs.Writes.{sector_of}
+use Rattle.log_layout.specs.Places.{Shape}
+use Rattle.log_layout.specs.Sectors.{IsSuper}
+use Rattle.log_layout.specs.Values.{shape_of}
+use Rattle.log_layout.specs.declared.super_sector.Super.{Super}
+use Rattle.log_layout.proofs.Decoding.{IsSuper-one}
+use Rattle.window.specs.Window.{Window, state_of, fresh}
+use Rattle.window.proofs.Kept.{opened_length, opened_front}
+use Rattle.device_file.specs.First.{SpellsSuper, near_of}
+use Rattle.live.specs.Ready.{most_room, IsReadyToStart, HasRoomToStart}
+use Rattle.live.specs.Starting.{IsWindowOf, room_for}
+
+-- what is opened over a file that is not empty lies in memory in part
+some_near : (sizes : Option Super) (bytes : List ℕ) → SpellsSuper sizes (sector_of bytes 0) → 0 < near_of sizes
+some_near (Some sizes) bytes spells = omega (arith, spells.home_is.0)
+some_near None bytes spells = omega arith
+
+module _ (sectors : ℕ) (bytes device : List ℕ) (some : 0 < sectors) where
+  abbrev over : ℕ → Window
+  over room = fresh sectors bytes device 240 room
+
+  size_is : (room near : ℕ) → length bytes ≡ 512 * min near sectors → (state_of (over room)).size ≡ sectors
+  size_is room near count = omega (arith, opened_length sectors bytes device (omega (arith, count)))
+
+  at_0 : (room near : ℕ) → 0 < near → length bytes ≡ 512 * min near sectors → (state_of (over room)).content 0 ≡ sector_of bytes 0
+  at_0 room near first count = sym (opened_front sectors bytes device 0 (omega (arith, some, first, count)))
+
+  within : (home blocks room : ℕ) → length bytes ≡ 512 * min home sectors → nat_le (home + blocks) sectors ≡ true
+      → home + blocks ≤ (state_of (over room)).size
+  within home blocks room count fits =
+      let few : home + blocks ≤ sectors = leb-true (home + blocks) sectors fits in omega (arith, few, size_is room home count)
+
+  -- with a super, whose image may be longer than the file
+  room_of_image : (sizes : Super) → IsSuper (shape_of sizes) (sector_of bytes 0) → length bytes ≡ 512 * min sizes.home sectors
+      → HasRoomToStart (state_of (over (room_for sectors (Some sizes)))).size (state_of (over (room_for sectors (Some sizes)))).content
+      (room_for sectors (Some sizes))
+  room_of_image sizes is count =
+      let room = room_for sectors (Some sizes) in
+      elim (cases_Bool (nat_le (sizes.home + sizes.blocks) sectors)) [
+        | inl fits ↦ inl (
+          shape_of sizes,
+          subst (IsSuper (shape_of sizes)) (sym (at_0 room sizes.home (omega (arith, is.home_is.0)) count)) is,
+          within sizes.home sizes.blocks room count fits,
+          rw fits (omega arith),
+        )
+        | inr not ↦ inr (rw not (omega arith))
+      ]
+
+  ready : (sizes : Option Super) → SpellsSuper sizes (sector_of bytes 0) → length bytes ≡ 512 * min (near_of sizes) sectors
+      → IsReadyToStart (over (room_for sectors sizes))
+  ready (Some sizes) spells count =
+      let room = room_for sectors (Some sizes) in
+      let zero = at_0 room sizes.home (omega (arith, spells.home_is.0)) count in record {
+        empty = refl;
+        log = record {
+          some = omega (arith, some, spells.home_is.0, count);
+          log = λ shape has.
+              let same = IsSuper-one shape (shape_of sizes) (sector_of bytes 0) (subst (IsSuper shape) zero has.super) spells in
+              omega (
+                arith,
+                count,
+                has.fits,
+                size_is room sizes.home count,
+                ap (λ (s : Shape). s.home) same,
+                ap (λ (s : Shape). s.blocks) same,
+              );
+        };
+        room = room_of_image sizes spells count;
+        span = omega arith;
+      }
+  ready None spells count =
+      let zero = at_0 most_room 2 (omega arith) count in record {
+        empty = refl;
+        log = record {
+          some = omega (arith, some, count);
+          log = λ shape has. absurd (spells shape (subst (IsSuper shape) zero has.super));
+        };
+        room = inr (omega arith);
+        span = omega arith;
+      }
+
+pub opened_ready : {D : Type 0} (holds : D → ℕ → List ℕ → Type 0) (size : D → ℕ) (file : D) (w : Window) → IsWindowOf holds size file w
+    → IsReadyToStart w
+opened_ready holds size file w of = subst IsReadyToStart (sym of.is)
+    (ready of.first.sectors of.first.bytes.items of.device of.first.some of.first.sizes of.spells of.first.count)

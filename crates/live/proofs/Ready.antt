@@ -1,0 +1,245 @@
+-- A disk over a file that was ready is ready again, and what an event reads is in sight.
+use Rattle.std.proofs.Common.{◌≡◌, ◌⊎◌, ◌<◌, ◌≤◌, ◌+◌, ◌/◌, ℕ, true, List, length, inl, inr, arith, sym, ◌∙◌, ap, subst}
+use Rattle.std.specs.Prelude.{Option, Some, None}
+use Rattle.std.proofs.lemmas.Bool.{cases_Bool, cases_lt}
+use Rattle.medium.specs.Sent.{sent}
+use Rattle.log_layout.specs.Places.{Shape}
+use Rattle.log_layout.specs.Sectors.{IsSuper}
+use Rattle.log_layout.proofs.Decoding.{IsSuper-one}
+use Rattle.mirror.specs.Story as story
+use Rattle.wrappers.specs.declared.case.Case.{Case}
+use Rattle.wrappers.specs.declared.case.Case.TheVariants.{C5, C6}
+use Rattle.wrappers.specs.declared.command.Cbw.{Cbw}
+use Rattle.wrappers.proofs.CommandWrappers.{one_wrapper}
+use Rattle.window.specs.Window.{Window, state_of, is_in_sight, ComesAfter, IsServed}
+use Rattle.window.specs.Looks.{near_in_sight, shown_in_sight, none_refused, none_kept_out}
+use Rattle.scsi_unit.specs.Reading.{first_home_of}
+use Rattle.scsi_unit.specs.declared.reading.HomeSectors.{HomeSectors}
+use Rattle.bot_machine.specs.Device.{Device}
+use Rattle.bot_machine.specs.Disk.{IsStep, IsRearmed}
+use Rattle.bot_machine.specs.Opening.{IsOpened}
+use Rattle.bot_machine.specs.Reading.{ReadsHome, ReadsAt, sectors_in, sectors_for}
+use Rattle.bot_machine.specs.declared.event.Event.{Event}
+use Rattle.bot_machine.specs.declared.event.Event.TheVariants as event
+use Rattle.bot_machine.specs.declared.event.Answer.{Answer}
+use Rattle.device_file.specs.Asked.{Told}
+use Rattle.file_window.specs.FileWindows.{Carries}
+use Rattle.live.specs.Missing.{DiskOn, medium_of, window_of, AreMissing, Wants, WantsNone}
+use Rattle.live.specs.Playing.{SeesRead, Prepares, PlaysReady, MissesNothing}
+use Rattle.live.specs.Ready.{room_of, RefusesNone, KeepsAll, IsReadyToStart, HasRoomToStart, layout_on, IsReady, SeesHome}
+use Rattle.live.proofs.Rooms.{enough, less_than_any}
+
+-- what a disk keeps of being ready while calls wait
+record IsFit {D : Type 0} (disk : DiskOn D) : Type 0 where
+  log : (layout_on disk).home ≤ (window_of disk).near
+  room : room_of (layout_on disk).format (layout_on disk).slots ≤ (window_of disk).room
+  span : 240 ≤ (window_of disk).span
+
+-- the room of a start is that of the image
+room_by : (size room : ℕ) (content : ℕ → List ℕ) (layout : Shape) → HasRoomToStart size content room → IsSuper layout (content 0)
+    → room_of layout.format layout.slots ≤ room
+room_by size room content layout (inl (shape, super, within, enough_room)) is =
+    subst (λ (s : Shape). room_of s.format s.slots ≤ room) (IsSuper-one shape layout (content 0) super is) enough_room
+room_by size room content layout (inr enough_room) is =
+    omega (arith, enough_room, less_than_any layout.format layout.slots is.most_slots)
+
+-- a sector that is read in one case alone
+in_case : (case : Case) (wanted : Option HomeSectors) (home : HomeSectors) → sectors_in case wanted ≡ Some home → wanted ≡ Some home
+in_case C5 wanted home is = is
+in_case C6 wanted home is = is
+in_case _ wanted home is = absurd (cc is)
+
+-- a window with the bytes of the device has so many sectors at most
+size_most : (w : Window) → (state_of w).size ≤ length w.seen.told.opening / 512
+size_most w = elim (cases_Bool (story.are_whole (story.given w.seen.told.asked))) [
+  | inl whole ↦ rw whole (omega arith)
+  | inr not ↦ rw not (omega arith)
+]
+
+module _ {D : Type 0} where
+  fit_started : (first : Window) (started : DiskOn D) (device : Device) → IsReadyToStart first
+      → IsOpened (state_of first) (state_of (window_of started)) device started → ComesAfter first (window_of started) → IsFit started
+  fit_started first started device ready opened follows =
+      let stood = opened.store.stood in record {
+        log = omega (
+          arith,
+          follows.near_stays,
+          ready.log.log (layout_on started) (record { super = stood.keeps.super; fits = stood.fits }),
+        );
+        room = omega (
+          arith,
+          follows.room_stays,
+          room_by (state_of first).size first.room (state_of first).content (layout_on started)
+              ready.room stood.keeps.super,
+        );
+        span = omega (arith, ready.span, follows.span_stays);
+      }
+
+  fit_played : (old played : DiskOn D) → IsReady old → ComesAfter (window_of old) (window_of played)
+      → layout_on played ≡ layout_on old → IsFit played
+  fit_played old played ready follows layout = record {
+    log = omega (arith, ready.log, follows.near_stays, ap (λ (s : Shape). s.home) layout);
+    room = omega (arith, ready.room, follows.room_stays, ap (λ (s : Shape). room_of s.format s.slots) layout);
+    span = omega (arith, ready.span, follows.span_stays);
+  }
+
+  ready_carried : (told : D → Told) (played new : DiskOn D) → IsFit played → Carries told (medium_of played) (medium_of new)
+      → IsRearmed played new → (medium_of new).fault ≡ None → IsReady new
+  ready_carried told played new fit carries others well =
+      let is = carries.carried.lets_go.is in
+      let layout = ap (λ (d : DiskOn D). layout_on d) others in record {
+        empty = carries.all well;
+        log = omega (arith, fit.log, ap (λ (w : Window). w.near) is, ap (λ (s : Shape). s.home) layout);
+        room = omega (arith, fit.room, ap (λ (w : Window). w.room) is, ap (λ (s : Shape). room_of s.format s.slots) layout);
+        span = omega (arith, fit.span, ap (λ (w : Window). w.span) is);
+      }
+
+  -- a disk that started, and whose file carried out all
+  pub ready_started : (told : D → Told) (first : Window) (started new : DiskOn D) (device : Device) → IsReadyToStart first
+      → IsOpened (state_of first) (state_of (window_of started)) device started → ComesAfter first (window_of started)
+      → Carries told (medium_of started) (medium_of new) → IsRearmed started new → (medium_of new).fault ≡ None → IsReady new
+  ready_started told first started new device ready opened follows carries others well =
+      ready_carried told started new (fit_started first started device ready opened follows) carries others well
+
+  -- so behind an event
+  pub ready_again : (told : D → Told) (old played new : DiskOn D) → ComesAfter (window_of old) (window_of played)
+      → layout_on played ≡ layout_on old → Carries told (medium_of played) (medium_of new) → IsRearmed played new
+      → IsReady old → (medium_of new).fault ≡ None → IsReady new
+  ready_again told old played new follows layout carries others ready well =
+      ready_carried told played new (fit_played old played ready follows layout) carries others well
+
+  -- ---- an event
+
+  few : (old played : DiskOn D) → IsReady old
+      → sent (state_of (window_of played)) ≤ sent (state_of (window_of old)) + (room_of (layout_on old).format (layout_on old).slots)
+      → length (window_of old).outbox + sent (state_of (window_of played)) ≤ sent (state_of (window_of old)) + (window_of old).room
+  few old played ready sends = omega (arith, sends, ready.room, ap (λ l. length l) ready.empty)
+
+  named_in_sight : (old : DiskOn D) (event : Event) → IsReady old → SeesHome old event → (s : ℕ)
+      → (s < first_home_of old.unit) ⊎ ReadsAt old event s → is_in_sight (window_of old) s ≡ true
+  named_in_sight old event ready home s (inl low) = near_in_sight (window_of old) s (omega (arith, low, ready.log))
+  named_in_sight old (event.Out packet) ready home s (inr at) = home at.0 at.1 s at.2.0 at.2.1
+  named_in_sight old event.In ready home s (inr at) = absurd at
+  named_in_sight old (event.Setup packet) ready home s (inr at) = absurd at
+  named_in_sight old event.Tick ready home s (inr at) = absurd at
+
+  pub event_kept : (old played : DiskOn D) (event : Event) (answer : Answer)
+      → IsStep (state_of (window_of old)) (state_of (window_of played)) old event answer played
+      → ComesAfter (window_of old) (window_of played) → IsReady old → KeepsAll (window_of old) (window_of played)
+  event_kept old played event answer step follows ready = none_kept_out (window_of old) (window_of played) follows
+      (few old played ready (omega (arith, step.few.sent, enough (layout_on old).format (layout_on old).slots)))
+
+  pub event_served : (old played : DiskOn D) (event : Event) (answer : Answer)
+      → IsStep (state_of (window_of old)) (state_of (window_of played)) old event answer played
+      → IsServed (window_of old) (window_of played) → IsReady old → SeesHome old event
+      → RefusesNone (window_of old) (window_of played)
+  event_served old played event answer step served ready home =
+      none_refused (λ s. (s < first_home_of old.unit) ⊎ ReadsAt old event s) (window_of old) (window_of played) served
+      (named_in_sight old event ready home) step.looks
+      (few old played ready (omega (arith, step.few.sent, enough (layout_on old).format (layout_on old).slots)))
+
+  -- ---- sectors are shown before a packet
+
+  -- a packet has the same blocks read, whatever lies in memory
+  same_home : (old new : DiskOn D) → IsRearmed old new → (packet : List ℕ) (home : HomeSectors) → ReadsHome new packet home
+      → ReadsHome old packet home
+  same_home old new others packet home reads =
+      let there : DiskOn D = record old {
+        unit = record old.unit {
+          store = record old.unit.store { medium = medium_of new };
+        };
+      } in
+      let back = subst (λ (d : DiskOn D). ReadsHome d packet home) others reads in record {
+        unhalted = back.unhalted;
+        expected = back.expected;
+        wrapper = record {
+          command = back.wrapper.command;
+          spelled = back.wrapper.spelled;
+          case = back.wrapper.case;
+          is_case = back.wrapper.is_case;
+          reads = back.wrapper.reads;
+        };
+      }
+
+  -- and no others
+  one_home : (disk : DiskOn D) (packet : List ℕ) (a b : HomeSectors) → ReadsHome disk packet a → ReadsHome disk packet b → a ≡ b
+  one_home disk packet a b first second =
+      let f = first.wrapper in
+      let s = second.wrapper in
+      let same = one_wrapper packet f.command s.command f.spelled s.spelled in
+      let one : Some a ≡ Some b = sym (in_case f.case (sectors_for disk.unit f.command.block.items) a f.reads)
+      ∙ ap (λ (c : Cbw). sectors_for disk.unit c.block.items) same
+      ∙ in_case s.case (sectors_for disk.unit s.command.block.items) b s.reads in
+      cc
+
+  module _ (told : D → Told) (holds : D → ℕ → List ℕ → Type 0) (refuses : D → ℕ → ℕ → Type 0) where
+    taken_if : (old new : DiskOn D) (home : HomeSectors) (first count : ℕ) → IsReady old → AreMissing (window_of old) home first count
+        → (sees : SeesRead told holds refuses old first count new) → sees.taken ≡ true
+    taken_if old new home first count ready missing sees = sees.shown.shown.fits.1 (
+      ap (λ l. length l) ready.empty,
+      omega (arith, sees.whole),
+      omega (arith, sees.whole, missing.few, ready.span),
+      omega (arith, missing.begin),
+      omega (arith, sees.whole, missing.on_file, size_most (window_of old)),
+    )
+
+    ready_shown : (old new : DiskOn D) (first count : ℕ) → SeesRead told holds refuses old first count new → IsReady old → IsReady new
+    ready_shown old new first count sees ready =
+        let is = sees.shown.shown.others in
+        let layout = ap (λ (d : DiskOn D). layout_on d) sees.others in record {
+          empty = ap (λ (w : Window). w.outbox) is ∙ ready.empty;
+          log = omega (arith, ready.log, ap (λ (w : Window). w.near) is, ap (λ (s : Shape). s.home) layout);
+          room = omega (arith, ready.room, ap (λ (w : Window). w.room) is, ap (λ (s : Shape). room_of s.format s.slots) layout);
+          span = omega (arith, ready.span, ap (λ (w : Window). w.span) is);
+        }
+
+    -- all that the packet has read is in sight then
+    shown_sees : (old new : DiskOn D) (packet : List ℕ) (first count : ℕ) → IsReady old → Wants old packet first count
+        → SeesRead told holds refuses old first count new → WantsNone new packet
+    shown_sees old new packet first count ready (home, reads, missing) sees = λ other others s low high.
+        let same = one_home old packet home other reads (same_home old new sees.others packet other others) in
+        let there = sees.shown.shown.there (taken_if old new home first count ready missing sees) in
+        let near = ap (λ (w : Window). w.near) sees.shown.shown.others in
+        let begins = ap (λ (h : HomeSectors). h.first) same in
+        let many = ap (λ (h : HomeSectors). h.count) same in
+        elim (cases_lt s (window_of new).near) [
+          | inl below ↦ near_in_sight (window_of new) s below
+          | inr behind ↦ shown_in_sight (window_of new) s
+              (omega (arith, there.0, missing.begin, near, behind, low, begins))
+              (omega (arith, there.0, there.1, sees.whole, missing.end, high, begins, many))
+        ]
+
+    pub ready_prepared : (old : DiskOn D) (event : Event) (new : DiskOn D) → Prepares told holds refuses old event new
+        → IsReady old → IsReady new
+    ready_prepared old (event.Out packet) new (inl (none, same)) ready = subst (λ (d : DiskOn D). IsReady d) (sym same) ready
+    ready_prepared old (event.Out packet) new (inr (first, count, wants, inl sees)) ready = ready_shown old new first count sees ready
+    ready_prepared old (event.Out packet) new (inr (first, count, wants, inr misses)) ready =
+        subst (λ (d : DiskOn D). IsReady d) (sym misses.1) ready
+    ready_prepared old event.In new same ready = subst (λ (d : DiskOn D). IsReady d) (sym same) ready
+    ready_prepared old (event.Setup packet) new same ready = subst (λ (d : DiskOn D). IsReady d) (sym same) ready
+    ready_prepared old event.Tick new same ready = subst (λ (d : DiskOn D). IsReady d) (sym same) ready
+
+    module _ (old : DiskOn D) (event : Event) (answer : Answer) (ready new : DiskOn D) (plays : PlaysReady told holds refuses ready event answer new)
+        (was : IsReady ready) where
+      sees_all : SeesHome ready event → MissesNothing told holds refuses old event ready plays.played
+      sees_all home = record { kept = plays.kept was; seen = inl (plays.served was home) }
+
+    pub misses_nothing : (old : DiskOn D) (event : Event) (answer : Answer) (ready new : DiskOn D)
+        → Prepares told holds refuses old event ready → (plays : PlaysReady told holds refuses ready event answer new) → IsReady old
+        → MissesNothing told holds refuses old event ready plays.played
+    misses_nothing old (event.Out packet) answer ready new (inl (none, same)) plays was =
+        sees_all old (event.Out packet) answer ready new plays (subst (λ (d : DiskOn D). IsReady d) (sym same) was)
+        (subst (λ (d : DiskOn D). WantsNone d packet.items) (sym same) none)
+    misses_nothing old (event.Out packet) answer ready new (inr (first, count, wants, inl sees)) plays was =
+        sees_all old (event.Out packet) answer ready new plays (ready_shown old ready first count sees was)
+        (shown_sees old ready packet.items first count was wants sees)
+    misses_nothing old (event.Out packet) answer ready new (inr (first, count, wants, inr misses)) plays was = record {
+      kept = plays.kept (subst (λ (d : DiskOn D). IsReady d) (sym misses.1) was);
+      seen = inr (first, count, wants, misses);
+    }
+    misses_nothing old event.In answer ready new same plays was =
+        sees_all old event.In answer ready new plays (subst (λ (d : DiskOn D). IsReady d) (sym same) was) tt
+    misses_nothing old (event.Setup packet) answer ready new same plays was =
+        sees_all old (event.Setup packet) answer ready new plays (subst (λ (d : DiskOn D). IsReady d) (sym same) was) tt
+    misses_nothing old event.Tick answer ready new same plays was =
+        sees_all old event.Tick answer ready new plays (subst (λ (d : DiskOn D). IsReady d) (sym same) was) tt

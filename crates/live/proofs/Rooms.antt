@@ -1,0 +1,75 @@
+-- No start and no event misses.
+use Rattle.std.proofs.Common.{◌≡◌, ◌<◌, ◌≤◌, ◌+◌, ℕ, length, inl, inr, arith}
+use Rattle.std.proofs.Common.{ap, subst}
+use Rattle.std.proofs.Math.Nat.{le-max_left, le-max_right}
+use Rattle.medium.specs.Medium.{State}
+use Rattle.medium.specs.Sent.{sent}
+use Rattle.medium.specs.declared.fault.MediumFault.{MediumFault}
+use Rattle.medium.specs.declared.fault.MediumFault.TheVariants as kind
+use Rattle.log_layout.specs.declared.log_format.LogFormat.{LogFormat}
+use Rattle.log_layout.specs.declared.log_format.LogFormat.TheVariants.{One, Two}
+use Rattle.recovery.specs.Causes.{IsDeviceFault, start_fault_of}
+use Rattle.recovery.specs.Copies.{most_start_sends}
+use Rattle.recovery.specs.Looks.{LooksAtLog}
+use Rattle.window.specs.Window.{Window, state_of, ComesAfter, IsServed}
+use Rattle.window.specs.Looks.{near_in_sight, none_refused}
+use Rattle.scsi_unit.specs.Calls.{most_sends_of}
+use Rattle.scsi_unit.specs.StartFaults.{StartFault}
+use Rattle.bot_machine.specs.Opening.{IsNotOpened, StartLeaves}
+use Rattle.live.specs.Ready.{room_of, most_room, RefusesNone, IsReadyToStart, HasRoomToStart}
+
+-- the room is enough for each event, and for a start
+pub enough : (format : LogFormat) (slots : ℕ) → most_sends_of format ≤ room_of format slots
+enough One slots = le-max_left 309 (most_start_sends One slots)
+enough Two slots = le-max_left 1479 (most_start_sends Two slots)
+
+enough_start : (format : LogFormat) (slots : ℕ) → most_start_sends format slots ≤ room_of format slots
+enough_start One slots = le-max_right 309 (most_start_sends One slots)
+enough_start Two slots = le-max_right 1479 (most_start_sends Two slots)
+
+-- that of any image is enough for each
+pub less_than_any : (format : LogFormat) (slots : ℕ) → slots ≤ 64 → room_of format slots ≤ most_room
+less_than_any One slots few = omega (arith, few)
+less_than_any Two slots few = omega (arith, few)
+
+-- ---- a start
+
+module _ (first after : Window) (ready : IsReadyToStart first) (leaves : StartLeaves (state_of first) (state_of after)) where
+  none_waits : length first.outbox ≡ 0
+  none_waits = ap (λ l. length l) ready.empty
+
+  fits_by : HasRoomToStart (state_of first).size (state_of first).content first.room
+      → length first.outbox + sent (state_of after) ≤ sent (state_of first) + first.room
+  fits_by (inl (shape, super, within, room)) = omega (
+    arith,
+    none_waits,
+    room,
+    leaves.bounded.sends.most shape (record { super = super; fits = within }),
+    enough_start shape.format shape.slots,
+  )
+  fits_by (inr room) = omega (arith, none_waits, room, leaves.bounded.sends.any, enough_start Two 64)
+
+  pub start_misses : ComesAfter first after → LooksAtLog (state_of first) (state_of after) → IsServed first after
+      → RefusesNone first after
+  start_misses follows looks served = none_refused (λ s. s < first.near) first after served (near_in_sight first)
+      (looks first.near ready.log) (fits_by ready.room)
+
+-- a call of this kind was refused
+grew : (before after : State) (why : MediumFault) → IsNotOpened before after (start_fault_of why) → before.failures < after.failures
+grew before after kind.Read not = elim not.cause [
+  | inl cause ↦ elim cause [ inl refused ↦ refused.grew | inr none ↦ cc ]
+  | inr none ↦ cc
+]
+grew before after kind.Write not = elim not.cause [
+  | inl cause ↦ elim cause [ inl refused ↦ refused.grew | inr none ↦ cc ]
+  | inr none ↦ cc
+]
+grew before after kind.Flush not = elim not.cause [
+  | inl cause ↦ elim cause [ inl refused ↦ refused.grew | inr none ↦ cc ]
+  | inr none ↦ cc
+]
+
+pub by_image : (first after : Window) (fault : StartFault) → RefusesNone first after
+    → IsNotOpened (state_of first) (state_of after) fault → ¬ IsDeviceFault fault
+by_image first after fault misses not (why, is) =
+    absurd (omega (arith, misses, grew (state_of first) (state_of after) why (subst (IsNotOpened (state_of first) (state_of after)) is not)))

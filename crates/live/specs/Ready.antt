@@ -1,0 +1,73 @@
+-- Nothing that a disk asks of its window is refused: no write and no flush for want of room, and no
+-- read of a sector that is not in sight.
+use Rattle.std.specs.Prelude.{⊤, ◌≡◌, ◌⊎◌, ℕ, ◌≤◌, [], max}
+use Rattle.log_layout.specs.Places.{Shape, first_home, sectors_of}
+use Rattle.log_layout.specs.Sectors.{IsSuper}
+use Rattle.log_layout.specs.declared.log_format.LogFormat.{LogFormat}
+use Rattle.log_layout.specs.declared.log_format.LogFormat.TheVariants.{Two}
+use Rattle.medium.specs.Medium.{Image}
+use Rattle.recovery.specs.Copies.{most_start_sends}
+use Rattle.recovery.specs.Looks.{HoldsLog}
+use Rattle.scsi_unit.specs.Calls.{most_sends_of}
+use Rattle.scsi_unit.specs.Starting.{layout_of}
+use Rattle.window.specs.Window.{Window, state_of, kept_out}
+use Rattle.bot_machine.specs.declared.event.Event.{Event}
+use Rattle.bot_machine.specs.declared.event.Event.TheVariants as event
+use Rattle.live.specs.Missing.{DiskOn, window_of, WantsNone}
+
+-- as many writes and flushes as an event makes at most, and as a start does that finds so many
+-- slots
+abbrev pub room_of : LogFormat → ℕ → ℕ
+room_of format slots = max (most_sends_of format) (most_start_sends format slots)
+
+-- the most that any image wants
+abbrev pub most_room : ℕ
+most_room = room_of Two 64
+
+-- No call of a medium was refused from one moment to another.
+abbrev pub RefusesNone : Window → Window → Type 0
+RefusesNone old new = (state_of new).failures ≡ (state_of old).failures
+
+-- no write and no flush was
+abbrev pub KeepsAll : Window → Window → Type 0
+KeepsAll old new = kept_out new.seen.told.refused ≡ kept_out old.seen.told.refused
+
+-- ---- a start
+
+-- The room is that of the image, where a good super tells its format and its slots, and else what
+-- any image wants.
+abbrev pub HasRoomToStart : ℕ → Image → ℕ → Type 0
+HasRoomToStart size content room =
+    ((shape : Shape) × IsSuper shape (content 0) × (sectors_of shape ≤ size)
+    × (room_of shape.format shape.slots ≤ room))
+    ⊎ (most_room ≤ room)
+
+-- A window over which a start misses nothing: nothing waits, all sectors before the first home
+-- sector lie in memory, and there is the room. What the longest transfer reads can be in sight.
+pub record IsReadyToStart (w : Window) : Type 0 where
+  pub empty : w.outbox ≡ []
+  pub log : HoldsLog w.near (state_of w).size (state_of w).content
+  pub room : HasRoomToStart (state_of w).size (state_of w).content w.room
+  pub span : 240 ≤ w.span
+
+-- ---- an event
+
+module _ {D : Type 0} where
+  -- the layout of the image
+  abbrev pub layout_on : DiskOn D → Shape
+  layout_on disk = layout_of disk.unit.store.cached
+
+  -- so a disk before an event
+  pub record IsReady (disk : DiskOn D) : Type 0 where
+    pub empty : (window_of disk).outbox ≡ []
+    pub log : first_home (layout_on disk) ≤ (window_of disk).near
+    pub room : room_of (layout_on disk).format (layout_on disk).slots ≤ (window_of disk).room
+    pub span : 240 ≤ (window_of disk).span
+
+  -- whatever blocks an event has read, their home sectors are in sight: a packet to Bulk-Out alone
+  -- has any read
+  abbrev pub SeesHome : DiskOn D → Event → Type 0
+  SeesHome disk (event.Out packet) = WantsNone disk packet.items
+  SeesHome disk event.In = ⊤
+  SeesHome disk (event.Setup packet) = ⊤
+  SeesHome disk event.Tick = ⊤
