@@ -219,8 +219,8 @@ module _ {D : Type 0} where
     ready_prepared old (event.Setup packet) new same ready = subst (λ (d : DiskOn D). IsReady d) (sym same) ready
     ready_prepared old event.Tick new same ready = subst (λ (d : DiskOn D). IsReady d) (sym same) ready
 
-    module _ (old : DiskOn D) (event : Event) (answer : Answer) (ready new : DiskOn D) (plays : PlaysReady told holds refuses ready event answer new)
-        (was : IsReady ready) where
+    module _ (old : DiskOn D) (event : Event) (answer : Answer) (ready new : DiskOn D)
+        (plays : PlaysReady told holds refuses ready event answer new) (was : IsReady ready) where
       sees_all : SeesHome ready event → MissesNothing told holds refuses old event ready plays.played
       sees_all home = record { kept = plays.kept was; seen = inl (plays.served was home) }
 

@@ -72,4 +72,5 @@ grew before after kind.Flush not = elim not.cause [
 pub by_image : (first after : Window) (fault : StartFault) → RefusesNone first after
     → IsNotOpened (state_of first) (state_of after) fault → ¬ IsDeviceFault fault
 by_image first after fault misses not (why, is) =
-    absurd (omega (arith, misses, grew (state_of first) (state_of after) why (subst (IsNotOpened (state_of first) (state_of after)) is not)))
+    let named = subst (IsNotOpened (state_of first) (state_of after)) is not in
+    absurd (omega (arith, misses, grew (state_of first) (state_of after) why named))
