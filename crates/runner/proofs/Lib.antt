@@ -24,5 +24,6 @@ pub mod Readiness
 pub mod Within
 pub mod Refusals
 pub mod LineEnds
+pub mod Chunks
 pub mod Serving
 pub mod NoScript

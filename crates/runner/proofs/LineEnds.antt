@@ -19,11 +19,9 @@ use Rattle.runner.specs.Script.{LinePlays}
 use Rattle.runner.specs.Served.{StandsFor, IsUnended}
 use Rattle.runner.proofs.Packets.{length-digits}
 
--- one more byte that is no line feed
-pub unended-more : (line : List ℕ) (byte : ℕ) → IsUnended line → (byte == 10) ≡ false → IsUnended (line ++ byte ∷ [])
-unended-more line byte is other =
-    let P : ℕ → Type 0 = λ b. (b == 10) ≡ false in
-    All-append P line (byte ∷ []) is (All-cons P byte [] other (All-nil P))
+-- more bytes of which none is a line feed
+pub unended-through : (line part : List ℕ) → IsUnended line → IsUnended part → IsUnended (line ++ part)
+unended-through line part is more = All-append (λ b. (b == 10) ≡ false) line part is more
 
 -- a line feed ends a line
 pub ended_line : (line after : List ℕ) → IsUnended line → lines_of (line ++ 10 ∷ after) ≡ line ∷ lines_of after
@@ -92,22 +90,17 @@ pub holds_line : (most : ℕ) (held line : List ℕ) → StandsFor held line →
 holds_line most held line (inl same) is = subst (λ (l : List ℕ). IsScriptLine OneLife most l) (sym same) is
 holds_line most held line (inr (kept, comment, is_held, is_line)) is = (Skipped, inr (kept, is_held), tt)
 
--- one more byte came: it is held, or what is held is a comment
-pub stands-more : (held new line : List ℕ) (byte : ℕ) → StandsFor held line
-    → (new ≡ held ++ byte ∷ []) ⊎ ((new ≡ held) × ((comment : List ℕ) × (held ≡ codes "#" ++ comment)))
-    → StandsFor new (line ++ byte ∷ [])
-stands-more held new line byte (inl same) (inl is) = inl (is ∙ ap (λ (l : List ℕ). l ++ byte ∷ []) same)
-stands-more held new line byte (inr (kept, comment, is_held, is_line)) (inl is) =
-    inr (
-      kept ++ byte ∷ [],
-      comment ++ byte ∷ [],
-      is ∙ ap (λ (l : List ℕ). l ++ byte ∷ []) is_held,
-      ap (λ (l : List ℕ). l ++ byte ∷ []) is_line,
-    )
-stands-more held new line byte (inl same) (inr (is, so)) =
-    inr (so.0, so.0 ++ byte ∷ [], is ∙ so.1, ap (λ (l : List ℕ). l ++ byte ∷ []) (sym same ∙ so.1))
-stands-more held new line byte (inr (kept, comment, is_held, is_line)) (inr (is, so)) =
-    inr (kept, comment ++ byte ∷ [], is ∙ is_held, ap (λ (l : List ℕ). l ++ byte ∷ []) is_line)
+-- more bytes came: they are held, or what is held is a comment
+pub stands-through : (held new line part : List ℕ) → StandsFor held line → StandsFor new (held ++ part) → StandsFor new (line ++ part)
+stands-through held new line part (inl same) holds = subst (λ (l : List ℕ). StandsFor new (l ++ part)) same holds
+stands-through held new line part (inr (kept, comment, is_held, is_line)) (inl is) = inr (
+  kept ++ part,
+  comment ++ part,
+  is ∙ ap (λ (l : List ℕ). l ++ part) is_held,
+  ap (λ (l : List ℕ). l ++ part) is_line,
+)
+stands-through held new line part (inr (kept, comment, is_held, is_line)) (inr (begins, other, is, all)) =
+    inr (begins, comment ++ part, is, ap (λ (l : List ℕ). l ++ part) is_line)
 
 -- what begins a comment, and is not empty, is one
 pub first_is : (line rest comment : List ℕ) → 0 < length line → line ++ rest ≡ codes "#" ++ comment

@@ -13,10 +13,10 @@ use Rattle.runner.specs.Lines.{lines_of}
 use Rattle.runner.specs.Script.{LinePlays}
 use Rattle.runner.specs.Streams.{IsAll}
 use Rattle.runner.specs.Served.{line_number, AreAnswered, IsAnswered, IsLineStopped, StopsIn, StopsAtBadLine, StopsUnread, IsServedBy}
-use Rattle.runner.specs.Served.{IsStoppedBy, HasServed}
+use Rattle.runner.specs.Served.{IsStoppedBy, HasServed, IsTooLong, IsUnended, StandsFor}
 use Rattle.runner.proofs.InTurn.{InTurn-append}
 use Rattle.runner.proofs.Known.{Appends-none, Appends-more, Appends-kept}
-use Rattle.runner.proofs.LineEnds.{unended-more, ended_line, last_line, begins, plays_line, holds_line, stands-more, first_is, too_long}
+use Rattle.runner.proofs.LineEnds.{unended-through, ended_line, last_line, begins, plays_line, holds_line, stands-through, first_is, too_long}
 use Rattle.runner.proofs.Telling.{tells-none, tells-more, breaks-more, gives-more, most_stays}
 
 -- the whole script, of which these bytes were taken
@@ -69,18 +69,16 @@ module _ {D : Type 0} (Goes : D → List Event → List Answer → D → Type 0)
     pub served-packets : packet between ≡ packet old
     served-packets = most_stays Goes packet laws old between so.answered.events so.answered.text so.answered.tells
 
-    -- one byte more of the line
-    pub served-byte : (new : List ℕ) (next byte : ℕ) (all : List ℕ) → (byte == 10) ≡ false
-        → (new ≡ held ++ byte ∷ []) ⊎ ((new ≡ held) × ((comment : List ℕ) × (held ≡ codes "#" ++ comment)))
-        → next ≡ number → all ≡ read ++ byte ∷ [] → HasServed Goes Stops most was mid old between new next all
-    served-byte new next byte all other holds same is = record {
+    -- more bytes of the line
+    pub served-part : (new : List ℕ) (next : ℕ) (part all : List ℕ) → IsUnended part → StandsFor new (held ++ part)
+        → next ≡ number → all ≡ read ++ part → HasServed Goes Stops most was mid old between new next all
+    served-part new next part all unended holds same is = record {
       before = so.before;
-      line = so.line ++ byte ∷ [];
-      parts =
-          λ more. ap (λ (l : List ℕ). lines_of (l ++ more)) is ∙ ap lines_of (append_assoc read (byte ∷ []) more) ∙ so.parts (byte ∷ more)
-          ∙ ap (λ (l : List ℕ). so.before ++ lines_of l) (sym (append_assoc so.line (byte ∷ []) more));
-      unended = unended-more so.line byte so.unended other;
-      stands = stands-more held new so.line byte so.stands holds;
+      line = so.line ++ part;
+      parts = λ more. ap (λ (l : List ℕ). lines_of (l ++ more)) is ∙ ap lines_of (append_assoc read part more) ∙ so.parts (part ++ more)
+          ∙ ap (λ (l : List ℕ). so.before ++ lines_of l) (sym (append_assoc so.line part more));
+      unended = unended-through so.line part so.unended unended;
+      stands = stands-through held new so.line part so.stands holds;
       counted = same ∙ so.counted;
       answered = so.answered;
     }
@@ -185,32 +183,33 @@ module _ {D : Type 0} (Goes : D → List Event → List Answer → D → Type 0)
       stops-last fault stopped = stops-at read [] parts-last fault stopped
 
     -- a line is too long
-    pub stops-long : (byte : ℕ) (more : List ℕ) → most ≤ 512 → (byte == 10) ≡ false → length held ≡ 1100
-        → ((comment : List ℕ) → held ≡ codes "#" ++ comment → ⊥)
-        → StopsAtBadLine Goes Stops most was mid old between (read ++ byte ∷ more) number
-    stops-long byte more small other full none =
-        let is = held_is so.stands in
-        let line = so.line ++ byte ∷ [] in
-        let next = begins line more (unended-more so.line byte so.unended other) in
-        let long : 1100 < length (line ++ next.0) =
-        omega (arith, full, ap length is, length-append so.line (byte ∷ []), length-append line next.0) in
+    pub stops-long : (part more : List ℕ) → most ≤ 512 → IsUnended part → IsTooLong (held ++ part)
+        → StopsAtBadLine Goes Stops most was mid old between (read ++ part ++ more) number
+    stops-long part more small unended is_long =
+        let is = ap (λ (l : List ℕ). l ++ part) (held_is so.stands) in
+        let line = so.line ++ part in
+        let next = begins line more (unended-through so.line part so.unended unended) in
+        let whole : 1100 < length line = omega (arith, is_long.long, ap length is) in
+        let long : 1100 < length (line ++ next.0) = omega (arith, whole, length-append line next.0) in
         record {
           before = so.before;
           line = line ++ next.0;
           after = next.1;
-          parts = so.parts (byte ∷ more) ∙ ap (λ (l : List ℕ). so.before ++ lines_of l) (sym (append_assoc so.line (byte ∷ []) more))
+          parts = ap lines_of (append_assoc read part more) ∙ so.parts (part ++ more)
+              ∙ ap (λ (l : List ℕ). so.before ++ lines_of l) (sym (append_assoc so.line part more))
               ∙ ap (λ (l : List (List ℕ)). so.before ++ l) next.2;
           answered = so.answered;
           bad = λ asked. too_long most (line ++ next.0) small long
-              (λ comment same. let tail = first_is so.line (byte ∷ next.0) comment (omega (arith, full, ap length is))
-              (sym (append_assoc so.line (byte ∷ []) next.0) ∙ same) in none tail.0 (is ∙ tail.1)) asked.0 asked.1 asked.2;
+              (λ comment same. let tail = first_is line next.0 comment (omega (arith, whole)) same in
+              is_long.no_comment tail.0 (is ∙ tail.1)) asked.0 asked.1 asked.2;
           counted = so.counted;
         }
       where
         held_is : (held ≡ so.line) ⊎ ((kept : List ℕ) × (comment : List ℕ) × (held ≡ codes "#" ++ kept) × (so.line ≡ codes "#" ++ comment))
             → held ≡ so.line
         held_is (inl same) = same
-        held_is (inr (kept, comment, is_held, is_line)) = absurd (none kept is_held)
+        held_is (inr (kept, comment, is_held, is_line)) =
+            absurd (is_long.no_comment (kept ++ part) (ap (λ (l : List ℕ). l ++ part) is_held))
 
     -- more is read: all whole lines were answered
     pub served-unread : StopsUnread Goes Stops most was mid old between read

@@ -1,6 +1,6 @@
 -- What serving lines leaves: the player of their events, and what was written.
 use Rattle.std.specs.Prelude.{◌≡◌, ◌⊎◌, ◌==◌, ℕ, ◌+◌, min, false, List, [], ◌∷◌, ◌++◌, All}
-use Rattle.std.specs.Prelude.{codes, length, Option}
+use Rattle.std.specs.Prelude.{codes, length, take, slice_index, ◌<◌, Option}
 use Rattle.std.specs.Io.KnownBytes.{Appends, Keeps, Consumes, IsAtEnd}
 use Rattle.medium.specs.Medium.{State}
 use Rattle.bot_machine.specs.Disk.{DiskValue}
@@ -31,6 +31,17 @@ StandsFor held line = (held ≡ line)
 -- no byte of it is a line feed
 abbrev pub IsUnended : List ℕ → Type 0
 IsUnended line = All (λ byte. (byte == 10) ≡ false) line
+
+-- the first line feed of these bytes stands there
+pub record IsLineEnd (bytes : List ℕ) (end : ℕ) : Type 0 where
+  pub within : end < length bytes
+  pub before : IsUnended (take end bytes)
+  pub here : slice_index bytes end ≡ 10
+
+-- a line that begins so has more bytes than any line of a script, and is no comment
+pub record IsTooLong (begins : List ℕ) : Type 0 where
+  pub long : 1100 < length begins
+  pub no_comment : (comment : List ℕ) → begins ≡ codes "#" ++ comment → ⊥
 
 -- How a player goes through events, and how it has no answer to one; packets have at most so many
 -- bytes; the player and what was written then, and now.

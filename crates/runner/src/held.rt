@@ -1,5 +1,6 @@
 //! The line that is being read.
-ghost use Rattle.std.specs.Prelude.{◌≡◌, ◌++◌, ◌∷◌, [], ◌≤◌, ◌+◌, ◌⊎◌, ℕ, List, OnOk, IfErr, codes, min, length};
+ghost use Rattle.std.specs.Prelude.{◌≡◌, ◌<◌, ◌↔◌, ◌++◌, [], ◌+◌, ℕ, List, OnOk, IfErr, IsTrue, codes, min, length};
+ghost use Rattle.runner.specs.Served.{IsTooLong, StandsFor};
 
 use crate::player::ServeFault;
 use arrayvec::ArrayVec;
@@ -42,28 +43,28 @@ impl HeldLine {
         self.number
     }
 
-    /// Takes one more byte of the line.
+    /// Takes more bytes of the line.
     ///
     /// # Errors
     ///
     /// The number of a line that has more bytes than any line of a script.
-    pub(crate) fn hold(&mut self, byte: u8) -> Result<(), ServeFault>
+    pub(crate) fn hold(&mut self, part: &[u8]) -> Result<(), ServeFault>
         ensures number { self.new.number ≡ self.old.number }
-        ensures held { OnOk result ((self.new.bytes.items ≡ self.old.bytes.items ++ byte ∷ [])
-            ⊎ ((self.new.bytes.items ≡ self.old.bytes.items)
-            × ((comment : List ℕ) × (self.old.bytes.items ≡ codes "#" ++ comment)))) }
+        ensures held { OnOk result
+            (StandsFor self.new.bytes.items (self.old.bytes.items ++ part.now)) }
         ensures too_long { IfErr result (λ fault. (fault ≡ ServeFault.Line self.old.number)
-            × (length self.old.bytes.items ≡ 1100)
-            × ((comment : List ℕ) → self.old.bytes.items ≡ codes "#" ++ comment → ⊥)) }
+            × IsTooLong (self.old.bytes.items ++ part.now)) }
     {
-        if !self.bytes.is_full() {
-            self.bytes.push(byte);
+        let room = self.bytes.remaining_capacity();
+        if part.len() <= room {
+            let _ = self.bytes.try_extend_from_slice(part);
             return Ok(());
         }
-        match self.bytes.as_slice() {
-            [b'#', ..] => Ok(()),
-            _ => Err(ServeFault::Line(self.number)),
+        let _ = self.bytes.try_extend_from_slice(&part[..room]);
+        if is_comment(self.bytes.as_slice()) {
+            return Ok(());
         }
+        Err(ServeFault::Line(self.number))
     }
 
     /// Goes on to the next line, of which nothing is there.
@@ -74,4 +75,12 @@ impl HeldLine {
         self.bytes.clear();
         self.number = self.number.saturating_add(1);
     }
+}
+
+// Whether a line that begins so is a comment.
+fn is_comment(line: &[u8]) -> bool
+    requires { 0 < length line.now }
+    ensures { IsTrue result ↔ ((comment : List ℕ) × (line.now ≡ codes "#" ++ comment)) }
+{
+    line[0] == b'#'
 }

@@ -62,8 +62,8 @@ fn first_part(bytes: &[u8], separator: u8) -> (&[u8], Option<&[u8]>)
     }
 }
 
-// Where the first separator stands.
-fn separator_at(bytes: &[u8], separator: u8) -> Option<usize>
+/// Where the first separator stands.
+pub(crate) fn separator_at(bytes: &[u8], separator: u8) -> Option<usize>
     ensures { result ≡ position (λ byte. byte == separator) bytes.now }
 {
     bytes.iter().position(|byte| *byte == separator)

@@ -1,14 +1,16 @@
 //! A disk served line by line: each line is answered as soon as it is there.
-ghost use Rattle.std.specs.Prelude.{◌≡◌, ◌⊎◌, ◌++◌, ◌<◌, ℕ, List, Option, OnOk, OnErr, IfOk, IfErr, ⊤};
+ghost use Rattle.std.specs.Prelude.{◌≡◌, ◌⊎◌, ◌++◌, ◌<◌, ℕ, List, Option, OnOk, OnErr, IfOk, IfErr, MatchOption, ⊤};
 ghost use Rattle.std.specs.Io.{ReadsAtMost};
 ghost use Rattle.std.specs.Io.KnownBytes.{ReadConsumes};
 ghost use Rattle.bot_machine.specs.PacketBytes.{bytes_of};
 ghost use Rattle.runner.specs.Served.{HasServed, IsAnswered, IsLineStopped, IsServed, IsServedBy};
+ghost use Rattle.runner.specs.Served.{IsLineEnd, IsUnended};
 ghost use Rattle.runner.specs.Served.{IsStopped, IsStoppedBy, MayAsk, MayAskInTurn, StopsIn};
 ghost use Rattle.runner.specs.Line.{IsScriptLine};
 
 use crate::held::HeldLine;
 use crate::line::{ScriptKind, read_line};
+use crate::parts::separator_at;
 use crate::play::play_asked;
 use crate::player::{Player, ServeFault};
 use bot_machine::{Disk, PacketSize};
@@ -161,15 +163,21 @@ fn serve_bytes<P: Player, W: Write>(
         → StopsIn P.goes P.stops (bytes_of size) was (W.contents out.new) first player.new
         (read ++ bytes.now ++ more) fault) }
 {
-    for byte in bytes {
-        if *byte == b'\n' {
-            answer_line(player, size, line, out)?;
-            line.begin_next();
-        } else {
-            line.hold(*byte)?;
-        }
+    let mut at = 0;
+    'lines: while let Some(end) = line_end(&bytes[at..]) {
+        line.hold(&bytes[at..at + end])?;
+        answer_line(player, size, line, out)?;
+        line.begin_next();
+        at += end + 1;
     }
-    Ok(())
+    line.hold(&bytes[at..])
+}
+
+// Where the first line feed stands.
+fn line_end(bytes: &[u8]) -> Option<usize>
+    ensures { MatchOption result (IsUnended bytes.now) (λ end. IsLineEnd bytes.now end) }
+{
+    separator_at(bytes, b'\n')
 }
 
 // Plays the line that is held, and writes the line of each answer.
