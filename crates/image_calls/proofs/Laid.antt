@@ -1,12 +1,11 @@
 -- What was made of an image on a device.
-use Rattle.std.proofs.Common.{◌≡◌, ◌⊎◌, inl, inr, ◌+◌, ◌<◌, ◌≤◌, ℕ, List, Option, length, ap, sym, subst, arith, length-append}
+use Rattle.std.proofs.Common.{◌≡◌, inl, inr, ◌+◌, ◌*◌, ◌<◌, Some, ◌≤◌, length, ap, sym, subst, arith}
 use Rattle.std.proofs.lemmas.Bool.{cases_lt}
 use Rattle.medium.specs.Sent.{sent}
 use Rattle.std.specs.Prelude.{Bool}
-use Rattle.mirror.specs.declared.call.DeviceCall.{DeviceCall}
 use Rattle.window.specs.Window.{Window, state_of, kept_out, ComesAfter, CoversDevice}
 use Rattle.window.specs.Looks.{near_in_sight, none_missed}
-use Rattle.log_layout.specs.Places.{Shape, first_home}
+use Rattle.log_layout.specs.Places.{Shape, first_home, slot_sectors_of}
 use Rattle.recovery.specs.Unread.{MakesNoRead}
 use Rattle.recovery.specs.Formatted.{IsLaid, LayingLeaves, AreSizes, IsFormatCause}
 use Rattle.recovery.specs.Migrated.{IsMigrationBy, IsMigrationRefusal, MigrationLeaves}
@@ -14,6 +13,11 @@ use Rattle.recovery.specs.declared.format_fault.FormatFault.{FormatFault}
 use Rattle.recovery.specs.declared.format_fault.FormatFault.TheVariants.{BadSize, Medium}
 use Rattle.recovery.specs.declared.recovered.Recovered.{Recovered}
 use Rattle.recovery.specs.declared.start_fault.StartFault.{StartFault}
+use Rattle.log_layout.specs.Values.{shape_of}
+use Rattle.image_calls.specs.Parts.{IsBegun}
+use Rattle.image_calls.specs.Formats.{BeginsFormat, HasRoom}
+use Rattle.image_calls.specs.Works.{Work}
+use Rattle.image_calls.specs.declared.plan.Plan.{Plan}
 use Rattle.image_calls.specs.Images.{IsLaidOn, IsMigratedOn, IsMigratedNot, MissesNone}
 
 -- a medium of the device that the first one tells
@@ -75,3 +79,26 @@ migrated_not first m after why on empty refusal leaves follows =
       kept = λ shape has room. let most = leaves.sends shape has in kept_same m after follows (omega (arith, empty, room, most));
       seen = misses_none m after follows leaves;
     })
+
+-- ---- a format that has begun
+
+-- there is room for each of its parts
+has_room : (shape : Shape) (plan : Plan) (first new : Window) → slot_sectors_of shape.format * shape.slots + 7 ≤ first.room
+    → ComesAfter first new → shape ≡ shape_of plan.sizes → HasRoom (Some plan) new
+has_room shape plan first new room follows same =
+    subst (λ (s : Shape). slot_sectors_of s.format * s.slots + 7 ≤ new.room) same (omega (arith, room, follows.room_stays))
+
+-- two calls wait
+pub begins : (shape : Shape) (first m new : Window) (plan : Plan) (held : Work) → m ≡ first → held ≡ record { medium = new; left = Some plan }
+    → first.room ≡ slot_sectors_of shape.format * shape.slots + 7 → IsBegun shape plan (state_of m) (state_of new) → ComesAfter m new
+    → CoversDevice m new → BeginsFormat shape first held
+begins shape first m new plan held on same room begun follows covers =
+    subst (λ (w : Work). BeginsFormat shape first w) (sym same)
+    (subst (λ (w : Window). BeginsFormat shape w (record { medium = new; left = Some plan })) on (record {
+      formatting = record {
+        on_way = begun.1;
+        room = has_room shape plan m new (omega (arith, room, ap (λ (w : Window). w.room) on)) follows begun.1.0;
+      };
+      calls = omega (arith, begun.1.1.calls, begun.0);
+      waits = record { follows = follows; covers = covers };
+    }))

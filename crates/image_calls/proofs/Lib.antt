@@ -1,2 +1,4 @@
 pub mod Values
 pub mod Laid
+pub mod OnWay
+pub mod Handing

@@ -30,12 +30,12 @@ use Rattle.std.proofs.alloc.Global.TheLaws as heap_laws
 use Rattle.std.specs.contracts.impls.GlobalAllocator.TheImpl.{ghosts}
 use Rattle.image_calls.specs.Held.{chunk, held}
 use Rattle.image_calls.specs.contracts.handle.UsbDiskImage as handle
-use Rattle.image_calls.specs.MediumRow.{medium_row}
+use Rattle.image_calls.specs.WorkRow.{work_row}
 use Rattle.image_calls.specs.contracts.parts.Parts as parts
 
 -- the medium, the allocator, the handle and the parts as rows
 abbrev pub R : RattleType
-R = medium_row
+R = work_row
 
 abbrev pub Z : RattleType
 Z = heap.the_row
@@ -72,14 +72,14 @@ module _ {M : Type 1} {𝓤 : Ura M} {𝓛 : Logic 𝓤} {K : Type 0} {Γ : List
   heap_tells = handle_tells al
 
 module _ {M : Type 1} {𝓤 : Ura M} {𝓛 : Logic 𝓤} {K : Type 0} {Γ : List (Item 𝓤)} {G : Goal 𝓤 𝓛.H} where
-  pub hand_out : K → (d : Hand.Denot) (vs : List Val) → (vs ≡ single d.at ∷ [] → Seq K 𝓛 (‵ (held R d.at d.medium) ∷ Γ) G)
+  pub hand_out : K → (d : Hand.Denot) (vs : List Val) → (vs ≡ single d.at ∷ [] → Seq K 𝓛 (‵ (held R d.at d.work) ∷ Γ) G)
       → Seq K 𝓛 (‵ (Hand.own_val d vs) ∷ Γ) G
   hand_out t d vs k =
       fsplit t $ fpick t (λ vss. fsplit t $ feq_l t (λ ev. fsplit t $ feq_l t (λ ep. drop t $ k
       (subst (λ (ps : List Val). vs ≡ vstruct (of_list (ps ++ [])) ∷ []) ep ev))))
 
   pub hand_in : K → (p : Ptr) (o : Option R.Denot)
-      → Step K 𝓛 (‵ (Hand.own_val (record { at = p; medium = o }) (single p ∷ [])) ∷ Γ) G (‵ (held R p o) ∷ Γ) G
+      → Step K 𝓛 (‵ (Hand.own_val (record { at = p; work = o }) (single p ∷ [])) ∷ Γ) G (‵ (held R p o) ∷ Γ) G
   hand_in t p o = step (λ s.
       nothing t $ feq_i t (List Val) (ptr_val p ∷ []) (ptr_val p ∷ []) refl $ fjoin t $
       feq_i t (List Val) (single p ∷ []) (single p ∷ []) refl $ fjoin t $

@@ -1,12 +1,9 @@
 -- What is made of an image on a device, and what waits for the device then.
 use Rattle.std.specs.Prelude.{◌≡◌, ◌≢◌, ◌⊎◌, ℕ, ◌+◌, ◌*◌, ◌%◌, ◌<◌, ◌≤◌, List, length, Bool}
 use Rattle.std.specs.Prelude.{Option, Some, None, Result, MatchResult}
-use Rattle.medium.specs.Medium.{State}
 use Rattle.mirror.specs.declared.call.DeviceCall.{DeviceCall}
 use Rattle.mirror.specs.declared.call.DeviceCall.TheVariants.{Write, Flush}
-use Rattle.mirror.specs.Mirror.{first_of}
-use Rattle.window.specs.Window.{Window, state_of, without_first, kept_out, ComesAfter}
-use Rattle.window.specs.Window.{CoversDevice}
+use Rattle.window.specs.Window.{Window, state_of, kept_out, ComesAfter, CoversDevice}
 use Rattle.log_layout.specs.Places.{Shape, first_home}
 use Rattle.recovery.specs.Looks.{HoldsLog}
 use Rattle.recovery.specs.Formatted.{IsLaid, LayingLeaves, AreSizes}
@@ -16,6 +13,7 @@ use Rattle.recovery.specs.Migrated.{most_migration_sends}
 use Rattle.recovery.specs.declared.recovered.Recovered.{Recovered}
 use Rattle.recovery.specs.declared.start_fault.StartFault.{StartFault}
 use Rattle.recovery.specs.declared.start_fault.StartFault.TheVariants.{NoMemory}
+use Rattle.image_calls.specs.Works.{Work}
 use Rattle.image_calls.specs.declared.image_fault.ImageFault.{ImageFault}
 use Rattle.image_calls.specs.declared.image_fault.ImageFault.TheVariants as fault
 
@@ -75,9 +73,13 @@ IsMigrateFault near sectors first fault.Sizes = ⊥
 IsMigrateFault near sectors first (fault.Start why) = (why ≡ NoMemory)
     ⊎ ((after : Window) × IsMigratedNot first after why)
 
+-- that was done on the medium, and nothing is left to do
+abbrev pub IsWhole : (Window → Type 0) → Work → Type 0
+IsWhole Is work = Is work.medium × (work.left ≡ None)
+
 -- What is in a handle after a call: what was there stays, where there was something. Else there is
--- a medium that was made so, or none, for such a reason.
-abbrev pub Makes : (Window → Type 0) → (ImageFault → Type 0) → Option Window → Option Window
+-- work that was made so, or none, for such a reason.
+abbrev pub Makes : (Work → Type 0) → (ImageFault → Type 0) → Option Work → Option Work
     → Result (Unit {0}) ImageFault → Type 0
 Makes Is Why (Some old) new result =
     MatchResult result (λ done. ⊥) (λ why. (why ≡ fault.Held) × (new ≡ Some old))
@@ -92,12 +94,3 @@ Shows (Some (Write w)) sector bytes sector' bytes' kind =
     (kind ≡ 1) × (sector' ≡ w.sector) × (bytes' ≡ w.block)
 Shows (Some Flush) sector bytes sector' bytes' kind =
     (kind ≡ 2) × (sector' ≡ sector) × (bytes' ≡ bytes)
-
--- The first call leaves what waits. Where there is nothing, nothing is told.
-abbrev pub HandsOn : Option Window → ℕ → List ℕ → Option Window → ℕ → List ℕ → Option ℕ → Type 0
-HandsOn (Some old) sector room new sector' filled (Some kind) =
-    Shows (first_of old.outbox) sector room sector' filled kind × (new ≡ Some (without_first old))
-HandsOn (Some old) sector room new sector' filled None = ⊥
-HandsOn None sector room new sector' filled (Some kind) = ⊥
-HandsOn None sector room new sector' filled None =
-    (new ≡ None) × (sector' ≡ sector) × (filled ≡ room)

@@ -1,3 +1,6 @@
 pub mod Held
 pub mod Images
-pub mod MediumRow
+pub mod WorkRow
+pub mod Works
+pub mod Formats
+pub mod Parts

@@ -1,11 +1,11 @@
-//! A medium behind a pointer that C holds.
+//! The work on an image behind a pointer that C holds.
 ghost use Rattle.std.specs.Prelude.{Option};
 ghost use Rattle.std.specs.Coded.{coded_option};
-ghost use Rattle.image_calls.specs.MediumRow.{medium_row};
+ghost use Rattle.image_calls.specs.WorkRow.{work_row};
 
 use std::marker::Model;
 
-/// What C sees of a medium: an address.
+/// What C sees of it: an address.
 #[repr(C)]
 pub struct Opaque {
     byte: u8,
@@ -16,12 +16,12 @@ pub struct Opaque {
 #[repr(C)]
 pub struct UsbDiskImage {
     pub(crate) at: *mut Opaque,
-    pub ghost medium: { Option medium_row.Denot } by { coded_option medium_row.coded },
+    pub ghost work: { Option work_row.Denot } by { coded_option work_row.coded },
 }
 
 impl Model for UsbDiskImage {
-    ghost use Rattle.image_calls.specs.MediumRow.{medium_row};
+    ghost use Rattle.image_calls.specs.WorkRow.{work_row};
     ghost use Rattle.image_calls.specs.Held.{held};
 
-    ghost also_owns = { λ h. held medium_row h.at h.medium };
+    ghost also_owns = { λ h. held work_row h.at h.work };
 }

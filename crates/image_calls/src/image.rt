@@ -1,12 +1,16 @@
-//! A log is laid on a device, or its image is migrated.
+//! A log is laid on a device, an image is made on it, or its image is migrated.
 ghost use Rattle.std.specs.Prelude.{◌≡◌, ◌⊎◌, ◌≤◌, ◌+◌, ◌*◌, IfOk, IfErr};
 ghost use Rattle.log_layout.specs.Places.{new_shape, slot_sectors_of};
 ghost use Rattle.window.specs.Window.{fresh};
 ghost use Rattle.image_calls.specs.Images.{IsNoLength, IsLaidOn, IsLayFault};
-ghost use Rattle.image_calls.specs.Images.{IsMigratedOn, IsMigrateFault};
+ghost use Rattle.image_calls.specs.Images.{IsMigratedOn, IsMigrateFault, IsWhole};
+ghost use Rattle.image_calls.specs.Formats.{BeginsFormat};
 ghost use Rattle.recovery.specs.declared.start_fault.StartFault.TheVariants.{NoMemory};
 
 use crate::ImageFault;
+use crate::part::begin_format;
+use crate::plan::Plan;
+use crate::work::Work;
 use log_layout::LogFormat;
 use recovery::{StartFault, lay_log, migrate};
 use std::alloc::Global;
@@ -37,12 +41,12 @@ fn window_of(
     }
 }
 
-// A medium in memory of its own.
-fn hold(alloc: Global, medium: WindowMedium) -> Result<Box<WindowMedium>, ImageFault>
-    ensures ok { IfOk result (λ held. held.value ≡ medium) }
+// A medium in memory of its own, and what is left to do.
+fn hold(alloc: Global, medium: WindowMedium, left: Option<Plan>) -> Result<Box<Work>, ImageFault>
+    ensures ok { IfOk result (λ held. held.value ≡ record { medium = medium; left = left }) }
     ensures err { IfErr result (λ fault. fault ≡ ImageFault.Start NoMemory) }
 {
-    match Box::new(alloc, medium) {
+    match Box::new(alloc, Work { medium, left }) {
         Ok(held) => Ok(held),
         Err(_) => Err(ImageFault::Start(StartFault::NoMemory)),
     }
@@ -65,10 +69,10 @@ pub(crate) fn lay(
     format: LogFormat,
     blocks: u64,
     slots: u64,
-) -> Result<Box<WindowMedium>, ImageFault>
+) -> Result<Box<Work>, ImageFault>
     ensures ok { let room = slot_sectors_of format * slots + 7 in
-        IfOk result (λ m. IsLaidOn (new_shape format blocks slots)
-        (fresh sectors near.now device.now.bytes 0 room) m.value) }
+        IfOk result (λ held. IsWhole (IsLaidOn (new_shape format blocks slots)
+        (fresh sectors near.now device.now.bytes 0 room)) held.value) }
     ensures err { let room = slot_sectors_of format * slots + 7 in
         IfErr result (IsLayFault near.now sectors (new_shape format blocks slots)
         (fresh sectors near.now device.now.bytes 0 room)) }
@@ -81,7 +85,38 @@ pub(crate) fn lay(
     // The law of the outbox, from the first call on.
     let _waiting = medium.waiting();
     match lay_log(&mut medium, format, blocks, slots) {
-        Ok(()) => hold(alloc, medium),
+        Ok(()) => hold(alloc, medium, None),
+        // There is room for all of its calls, so that none is refused.
+        Err(_) => Err(ImageFault::Sizes),
+    }
+}
+
+/// Begins to make an image of zeros on a device.
+pub(crate) fn begin(
+    alloc: Global,
+    near: &[u8],
+    sectors: u64,
+    device: &DeviceHolds,
+    format: LogFormat,
+    blocks: u64,
+    slots: u64,
+) -> Result<Box<Work>, ImageFault>
+    ensures ok { let room = slot_sectors_of format * slots + 7 in
+        IfOk result (λ held. BeginsFormat (new_shape format blocks slots)
+        (fresh sectors near.now device.now.bytes 0 room) held.value) }
+    ensures err { let room = slot_sectors_of format * slots + 7 in
+        IfErr result (IsLayFault near.now sectors (new_shape format blocks slots)
+        (fresh sectors near.now device.now.bytes 0 room)) }
+{
+    if slots > MOST_SLOTS {
+        return Err(ImageFault::Sizes);
+    }
+    let calls = calls_to_lay(format, slots) as usize;
+    let mut medium = window_of(alloc, near, sectors, device, calls)?;
+    // The law of the outbox, from the first call on.
+    let _waiting = medium.waiting();
+    match begin_format(&mut medium, format, blocks, slots) {
+        Ok(plan) => hold(alloc, medium, Some(plan)),
         // There is room for all of its calls, so that none is refused.
         Err(_) => Err(ImageFault::Sizes),
     }
@@ -94,9 +129,9 @@ pub(crate) fn migrate_image(
     sectors: u64,
     device: &DeviceHolds,
     room: usize,
-) -> Result<Box<WindowMedium>, ImageFault>
-    ensures ok { IfOk result (λ m.
-        IsMigratedOn (fresh sectors near.now device.now.bytes 0 room) m.value) }
+) -> Result<Box<Work>, ImageFault>
+    ensures ok { IfOk result (λ held.
+        IsWhole (IsMigratedOn (fresh sectors near.now device.now.bytes 0 room)) held.value) }
     ensures err { IfErr result (IsMigrateFault near.now sectors
         (fresh sectors near.now device.now.bytes 0 room)) }
 {
@@ -104,7 +139,7 @@ pub(crate) fn migrate_image(
     // The law of the outbox, from the first call on.
     let _waiting = medium.waiting();
     match migrate(&mut medium) {
-        Ok(_) => hold(alloc, medium),
+        Ok(_) => hold(alloc, medium, None),
         Err(fault) => Err(ImageFault::Start(fault)),
     }
 }

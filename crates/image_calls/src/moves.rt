@@ -4,14 +4,14 @@ ghost use Rattle.std.specs.Prelude.{◌≡◌, Some, None, MatchOption};
 use crate::handle::UsbDiskImage;
 use crate::parts::Parts;
 use crate::turns::{empty, handle_of, parts_of};
+use crate::work::Work;
 use std::alloc::Global;
 use std::mem;
-use window::WindowMedium;
 
-/// The handle's medium, which leaves the handle empty.
-pub(crate) fn reclaim(h: &mut UsbDiskImage, alloc: Global) -> Option<Box<WindowMedium>>
-    ensures value { MatchOption result (h.old.medium ≡ None) (λ b. h.old.medium ≡ Some b.value) }
-    ensures empty { h.new.medium ≡ None }
+/// The handle's work, which leaves the handle empty.
+pub(crate) fn reclaim(h: &mut UsbDiskImage, alloc: Global) -> Option<Box<Work>>
+    ensures value { MatchOption result (h.old.work ≡ None) (λ b. h.old.work ≡ Some b.value) }
+    ensures empty { h.new.work ≡ None }
 {
     match parts_of(mem::replace(h, empty()), alloc) {
         Some(parts) => Some(parts.into_box()),
@@ -19,11 +19,11 @@ pub(crate) fn reclaim(h: &mut UsbDiskImage, alloc: Global) -> Option<Box<WindowM
     }
 }
 
-/// The medium goes into the handle. One that was there is dropped.
-pub(crate) fn adopt(h: &mut UsbDiskImage, alloc: Global, medium: Box<WindowMedium>)
-    ensures { h.new.medium ≡ Some medium.value }
+/// The work goes into the handle. One that was there is dropped.
+pub(crate) fn adopt(h: &mut UsbDiskImage, alloc: Global, work: Box<Work>)
+    ensures { h.new.work ≡ Some work.value }
 {
-    let old = mem::replace(h, handle_of(Parts::of(medium)));
+    let old = mem::replace(h, handle_of(Parts::of(work)));
     if let Some(parts) = parts_of(old, alloc) {
         let _dropped = parts.into_box();
     }

@@ -3,22 +3,22 @@ ghost use Rattle.std.specs.Prelude.{◌≡◌, Some, None, MatchOption};
 
 use crate::handle::{Opaque, UsbDiskImage};
 use crate::parts::Parts;
+use crate::work::Work;
 use std::alloc::Global;
 use std::ptr;
-use window::WindowMedium;
 
-/// The handle of no medium.
+/// The handle of no work.
 pub(crate) fn empty() -> UsbDiskImage
-    ensures { result.medium ≡ None }
+    ensures { result.work ≡ None }
 {
     UsbDiskImage {
         at: ptr::null_mut(),
     }
 }
 
-/// The handle of the parts' medium.
-pub(crate) fn handle_of(parts: Parts<WindowMedium, Global>) -> UsbDiskImage
-    ensures { result.medium ≡ Some parts.value }
+/// The handle of the parts' work.
+pub(crate) fn handle_of(parts: Parts<Work, Global>) -> UsbDiskImage
+    ensures { result.work ≡ Some parts.value }
 {
     let Parts { ptr: at, alloc: _ } = parts;
     UsbDiskImage {
@@ -26,16 +26,16 @@ pub(crate) fn handle_of(parts: Parts<WindowMedium, Global>) -> UsbDiskImage
     }
 }
 
-/// The parts of the handle's medium.
-pub(crate) fn parts_of(h: UsbDiskImage, alloc: Global) -> Option<Parts<WindowMedium, Global>>
-    ensures { MatchOption result (h.medium ≡ None) (λ p. h.medium ≡ Some p.value) }
+/// The parts of the handle's work.
+pub(crate) fn parts_of(h: UsbDiskImage, alloc: Global) -> Option<Parts<Work, Global>>
+    ensures { MatchOption result (h.work ≡ None) (λ p. h.work ≡ Some p.value) }
 {
     let UsbDiskImage { at } = h;
     if ptr::eq(at, ptr::null_mut()) {
         None
     } else {
         Some(Parts {
-            ptr: at as *mut WindowMedium,
+            ptr: at as *mut Work,
             alloc,
         })
     }

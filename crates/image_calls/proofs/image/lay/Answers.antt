@@ -2,6 +2,7 @@ use Rattle.std.proofs.Common.{◌∙◌, ◌+◌, ◌*◌, ℕ, ap}
 use Rattle.std.proofs.lemmas.Result.{IfOk-weaker}
 use Rattle.log_layout.specs.Places.{new_shape, slot_sectors_of}
 use Rattle.window.specs.Window.{Window, fresh}
+use Rattle.image_calls.specs.Works.{Work}
 use Rattle.image_calls.proofs.Laid.{laid_on}
 use Rattle.image_calls.proofs.image.lay.Goals as goal
 
@@ -9,8 +10,12 @@ pub returns-in-Ok-clause-ok : goal.returns-in-Ok-clause-ok
 returns-in-Ok-clause-ok c =
     let at : ℕ → Window = λ room. fresh c.args.sectors c.args.near.now c.args.device.now.bytes 0 room in
     IfOk-weaker c.hold.result _ _
-    (λ held same. laid_on (new_shape c.args.format c.args.blocks c.args.slots) (at (slot_sectors_of c.args.format * c.args.slots + 7))
-    c.in_ok-medium.medium c.lay_log.new.m held.value (c.in_ok-medium.ensures.ok ∙ ap at c.calls_to_lay-room.ensures) same c.in-Ok.ensures.ok
-    c.lay_log.ensures.leaves c.in-Ok.ensures.calls.exact c.lay_log.ensures.follows
-    (c.waiting-waiting.ensures.device c.lay_log.new.m c.lay_log.ensures.follows))
+    (λ held same. (
+      laid_on (new_shape c.args.format c.args.blocks c.args.slots) (at (slot_sectors_of c.args.format * c.args.slots + 7))
+          c.in_ok-medium.medium c.lay_log.new.m held.value.medium (c.in_ok-medium.ensures.ok ∙ ap at c.calls_to_lay-room.ensures) (ap (λ (w : Work). w.medium) same)
+          c.in-Ok.ensures.ok
+          c.lay_log.ensures.leaves c.in-Ok.ensures.calls.exact c.lay_log.ensures.follows
+          (c.waiting-waiting.ensures.device c.lay_log.new.m c.lay_log.ensures.follows),
+      ap (λ (w : Work). w.left) same,
+    ))
     c.hold.ensures.ok

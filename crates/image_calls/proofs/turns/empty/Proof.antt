@@ -32,4 +32,4 @@ empty_spec 𝓤 𝓛 𝓜 𝓡 wired =
     feq_i ! Ptr null_ptr null_ptr refl $ hand_in ! null_ptr None $
     use0 𝓛 (raw (fact 𝓤 (None ≡ None))) (fact_i 𝓤 (None ≡ None) (emp 𝓤) refl) $ nothing ! $
     returns ! (look_at ! 0 refl) $ free_all ! refl $ keep ! (3 ∷ 0 ∷ 2 ∷ 1 ∷ []) $
-    by ! (leaves 𝓛 En tt c y (single null_ptr) (record { at = null_ptr; medium = None }) tt tt)))
+    by ! (leaves 𝓛 En tt c y (single null_ptr) (record { at = null_ptr; work = None }) tt tt)))

@@ -44,4 +44,4 @@ handle_of_spec 𝓤 𝓛 𝓜 𝓡 wired =
     -- [the handle; the allocator; true; the tokens; what it requires]
     use0 𝓛 (raw (fact 𝓤 (x ≡ x))) (fact_i 𝓤 (x ≡ x) (emp 𝓤) refl) $ nothing ! $ nothing ! $ fjoin ! $
     returns ! (look_at ! 0 refl) $ free_all ! refl $ keep ! (5 ∷ 0 ∷ 2 ∷ 1 ∷ []) $
-    by ! (leaves 𝓛 En hs c z (single (block_ptr b o)) (record { at = block_ptr b o; medium = x }) (_, tt) (tt, tt)))))
+    by ! (leaves 𝓛 En hs c z (single (block_ptr b o)) (record { at = block_ptr b o; work = x }) (_, tt) (tt, tt)))))

@@ -45,7 +45,7 @@ parts_of_spec 𝓤 𝓛 𝓜 𝓡 wired =
     qed 𝓛 ((raw (alive 𝓛 En.signature κs qs) ⊛ ‵ (owns (types_at En.signature.params κs) z.0.3 z.0.4)) ∷ raw ((c κs z.0.3).requires z.1) ∷
     []) ∵ split ! $ move ! (1 ∷ []) $ fsplit3 ! $
     move ! (1 ∷ []) $ heap_tells ! a z.0.4.1.0 (λ h eh fits. move ! (1 ∷ []) $ hand_out ! d z.0.4.0 (λ ew.
-    either_held ! a d.at d.medium
+    either_held ! a d.at d.work
     (λ is no_medium. let w : Val = single null_ptr in let us : List Val = w ∷ h ∷ [] in
     let ws : z.0.4.0 ≡ w ∷ [] = ew ∙ ap (λ (p : Ptr). single p ∷ []) is in
     suffices ! (Run us) (subst (λ (vs : List Val). ent 𝓤 (Run us) (Run vs)) (sym (λ i. ws i ++ (eh i ++ []))) (id⊢ 𝓤 (Run us))) $
@@ -54,7 +54,7 @@ parts_of_spec 𝓤 𝓛 𝓜 𝓡 wired =
     sets ! (bin ! (get ! refl) (lit ! tt) tt) refl (tt, tt) $ first ! $ branches ! (get ! refl)
     (λ _. sets_last ! (agg ! (and_then ! (lit ! tt) (no_more !))) refl (tt, (record { fits = lit< tt }, tt)) $
     exec ! 𝓣.C 𝓣.Λ Ev t-4 (at_ret Ev Post) $ sets ! (of_opd ! (get ! refl)) refl (tt, (record { fits = lit< tt }, tt)) $
-    use0 𝓛 (raw (fact 𝓤 (d.medium ≡ None))) (fact_i 𝓤 (d.medium ≡ None) (emp 𝓤) no_medium) $
+    use0 𝓛 (raw (fact 𝓤 (d.work ≡ None))) (fact_i 𝓤 (d.work ≡ None) (emp 𝓤) no_medium) $
     use0 𝓛 (‵ (Out.own_val None (live 0 vnil ∷ []))) (none_of 𝓛 Parts) $ nothing ! $ nothing ! $ fjoin ! $ nothing ! $ fjoin ! $
     -- [what is left; the result; the fact; the allocator; true; the tokens]
     returns ! (look_at ! 0 refl) $ free_all ! refl $ keep ! (5 ∷ 0 ∷ 1 ∷ 2 ∷ []) $
@@ -74,7 +74,7 @@ parts_of_spec 𝓤 𝓛 𝓜 𝓡 wired =
     sets_last ! (agg ! (and_then ! (lit ! tt) (and_then ! (get ! refl) (no_more !)))) refl good $
     exec ! 𝓣.C 𝓣.Λ Ev t-4 (at_ret Ev Post) $ sets ! (of_opd ! (get ! refl)) refl good $ parts_in ! b o h a x $
     use1 𝓛 (‵ (Out.own_val (Some r) (v₁ ∷ []))) (Some-of 𝓛 Parts r made) $
-    use0 𝓛 (raw (fact 𝓤 (d.medium ≡ Some x))) (fact_i 𝓤 (d.medium ≡ Some x) (emp 𝓤) its_medium) $ nothing ! $ nothing ! $ fjoin ! $
+    use0 𝓛 (raw (fact 𝓤 (d.work ≡ Some x))) (fact_i 𝓤 (d.work ≡ Some x) (emp 𝓤) its_medium) $ nothing ! $ nothing ! $ fjoin ! $
     nothing ! $ fjoin ! $
     -- [what is left; the fact; the result; true; the tokens]
     returns ! (look_at ! 0 refl) $ free_all ! refl $ keep ! (4 ∷ 0 ∷ 2 ∷ 1 ∷ []) $

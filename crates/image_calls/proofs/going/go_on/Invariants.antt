@@ -1,0 +1,16 @@
+use Rattle.std.proofs.Common.{◌≡◌, ◌⊎◌, ◌<◌, None, length}
+use Rattle.log_layout.specs.Places.{Shape}
+use Rattle.window.specs.Window.{Window, ComesAfter}
+use Rattle.image_calls.specs.Formats.{IsFormatting}
+use Rattle.image_calls.specs.Parts.{parts_left}
+use Rattle.image_calls.proofs.going.go_on.Given as goal
+
+abbrev pub invariant-loop-plan : goal.invariant-loop-plan
+invariant-loop-plan l = record {
+  follows : ComesAfter l.fn.work.medium l.work.medium;
+  keeps : (shape : Shape) (first : Window) → IsFormatting shape first l.fn.work → IsFormatting shape first l.work;
+  stays : (0 < length l.fn.work.medium.outbox) ⊎ (l.fn.work.left ≡ None) → l.work ≡ l.fn.work;
+}
+
+abbrev pub decreases-loop-plan : goal.decreases-loop-plan
+decreases-loop-plan l = parts_left l.work.left

@@ -1,0 +1,6 @@
+use Rattle.std.proofs.Common.{refl}
+use Rattle.image_calls.proofs.Handing.{let_go}
+use Rattle.image_calls.proofs.going.let_go.Goals as goal
+
+pub returns-clause-rest : goal.returns-clause-rest
+returns-clause-rest c = let_go c.args.work.now _ c.give.ensures.given refl c.give.ensures.unchanged

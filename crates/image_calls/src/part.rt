@@ -1,0 +1,68 @@
+//! The parts of a format: each by so few calls that they have room in an outbox.
+ghost use Rattle.std.specs.Prelude.{◌+◌, ◌*◌, ◌<◌, OnErr, IfOk, IfErr};
+ghost use Rattle.log_layout.specs.Places.{new_shape, slot_sectors_of};
+ghost use Rattle.recovery.specs.Formatted.{IsFormatCause};
+ghost use Rattle.image_calls.specs.Parts.{IsBegun, KeepsOnWay, FailsOnWay, SendsPart};
+ghost use Rattle.image_calls.specs.Parts.{parts_left};
+
+use crate::plan::Plan;
+use log_layout::LogFormat;
+use medium::Medium;
+use recovery::{FormatFault, clear, lay_log, sizes_of, write_through};
+
+// How many sectors one part clears.
+const PART: u64 = 48;
+
+/// Takes the super away, of which no cut leaves anything then.
+///
+/// # Errors
+///
+/// `BadSize` before any call, or `Medium`.
+pub(crate) fn begin_format<M: Medium>(
+    m: &mut M,
+    format: LogFormat,
+    blocks: u64,
+    slots: u64,
+) -> Result<Plan, FormatFault>
+    ensures ok { let shape = new_shape format blocks slots in
+        IfOk result (λ plan. IsBegun shape plan (M.state m.old) (M.state m.new)) }
+    ensures err { let shape = new_shape format blocks slots in
+        IfErr result (λ fault. IsFormatCause shape (M.state m.old) (M.state m.new) fault) }
+    ensures sends { SendsPart 2 (M.state m.old) (M.state m.new) }
+    ensures follows { M.follows m.old m.new }
+{
+    let sizes = sizes_of(format, m.sectors(), blocks, slots).ok_or(FormatFault::BadSize)?;
+    write_through(m, 0, &[0; 512])?;
+    Ok(Plan {
+        sizes,
+        at: sizes.home,
+    })
+}
+
+/// Makes the next part, and tells what is left then.
+///
+/// # Errors
+///
+/// `BadSize` where the medium is too short for the plan, which none is for which it was made, or
+/// `Medium`.
+pub(crate) fn next_part<M: Medium>(m: &mut M, plan: Plan) -> Result<Option<Plan>, FormatFault>
+    ensures ok { IfOk result (λ left. KeepsOnWay M.state plan left m.old m.new) }
+    ensures err { OnErr result (FailsOnWay M.state plan m.old m.new) }
+    ensures nearer { IfOk result (λ left. parts_left left < parts_left (Some plan)) }
+    ensures sends { SendsPart (slot_sectors_of plan.sizes.format * plan.sizes.slots + 7)
+        (M.state m.old) (M.state m.new) }
+    ensures follows { M.follows m.old m.new }
+{
+    let end = plan.sizes.sectors();
+    if m.sectors() < end {
+        return Err(FormatFault::BadSize);
+    }
+    if plan.at < end {
+        let to = end.min(plan.at + PART);
+        clear(m, plan.at, to)?;
+        let sizes = plan.sizes;
+        return Ok(Some(Plan { sizes, at: to }));
+    }
+    lay_log(m, plan.sizes.format, plan.sizes.blocks, plan.sizes.slots)?;
+    Ok(None)
+}
