@@ -1,3 +1,4 @@
+pub mod Roomy
 pub mod Served
 pub mod Starting
 pub mod Values

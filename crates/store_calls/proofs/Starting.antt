@@ -9,11 +9,12 @@ use Rattle.window.specs.Looks.{near_in_sight, none_missed}
 use Rattle.recovery.specs.Causes.{start_fault_of}
 use Rattle.recovery.specs.declared.start_fault.StartFault.{StartFault}
 use Rattle.recovery.specs.declared.start_fault.StartFault.TheVariants as fault
+use Rattle.blocks.specs.Ahead.{may_go_ahead}
 use Rattle.blocks.specs.Started.{IsStarted, IsStartCause, StartLeaves, LeavesMedium}
 use Rattle.blocks.specs.StoreValue.{layout_of}
 use Rattle.blocks.proofs.Opening.{finds, is_cause_for}
 use Rattle.store_calls.specs.Stores.{Store}
-use Rattle.store_calls.specs.Rooms.{CoversParts, HoldsImageLog, HoldsLog}
+use Rattle.store_calls.specs.Rooms.{CoversParts, HoldsImageLog, HoldsLog, IsRoomy}
 use Rattle.store_calls.specs.Starts.{Begins, EndsIn}
 use Rattle.store_calls.proofs.Served.{start_refuses}
 
@@ -37,8 +38,9 @@ holds_log first new started follows holds =
 
 pub began : (first m : Window) (new held : Store) → m ≡ first → held ≡ new → length m.outbox ≡ 0
     → IsStarted (state_of m) (state_of new.medium) new.cached → LeavesMedium state_of ComesAfter m new.medium
-    → CoversDevice m new.medium → CoversParts m new.medium → IsServed m new.medium → Begins first held
-began first m new held on same empty started medium covers parts served =
+    → CoversDevice m new.medium → CoversParts m new.medium → IsServed m new.medium → IsRoomy new
+    → new.goes_ahead ≡ may_go_ahead (layout_of new.cached) → Begins first held
+began first m new held on same empty started medium covers parts served roomy policy =
     subst (λ (s : Store). Begins first s) (sym same)
     (subst (λ (w : Window). Begins w new) on (record {
       started = started;
@@ -49,6 +51,8 @@ began first m new held on same empty started medium covers parts served =
       served = served;
       refuses = start_refuses m new.medium empty medium served;
       holds = holds_log m new started medium.follows;
+      roomy = roomy;
+      policy = policy;
     }))
 
 -- ---- a start that was refused: its own calls say why

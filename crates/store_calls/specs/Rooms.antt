@@ -1,11 +1,12 @@
 -- Nothing that a store asks of its medium is refused: no write and no flush for want of room, and
 -- no read of a sector that is not in sight.
-use Rattle.std.specs.Prelude.{◌≡◌, ◌⊎◌, ℕ, ◌+◌, ◌*◌, ◌<◌, ◌≤◌, true, length, max}
+use Rattle.std.specs.Prelude.{◌≡◌, ◌⊎◌, ℕ, ◌+◌, ◌*◌, ◌<◌, ◌≤◌, true, List, length, max}
 use Rattle.log_layout.specs.Places.{Shape, first_home, sectors_of}
 use Rattle.log_layout.specs.Sectors.{IsSuper}
 use Rattle.log_layout.specs.declared.log_format.LogFormat.{LogFormat}
 use Rattle.log_layout.specs.declared.log_format.LogFormat.TheVariants.{Two}
 use Rattle.medium.specs.Medium.{State}
+use Rattle.medium.specs.Writes.{sector_of}
 use Rattle.mirror.specs.Parts as mirror
 use Rattle.recovery.specs.Copies.{most_start_sends}
 use Rattle.recovery.specs.Looks as recovery
@@ -48,6 +49,11 @@ pub record Foresees (m : Window) : Type 0 where
 abbrev pub HasRoom : Store → Type 0
 HasRoom s = length s.medium.outbox + room_for (layout_of s.cached) ≤ s.medium.room
 
+-- The outbox has that room where nothing waits. So has that of each store that was started, and
+-- each call keeps it, since the room and the layout stay.
+abbrev pub IsRoomy : Store → Type 0
+IsRoomy s = room_for (layout_of s.cached) ≤ s.medium.room
+
 -- all sectors before the first home sector lie in memory
 abbrev pub HoldsLog : Store → Type 0
 HoldsLog s = first_home (layout_of s.cached) ≤ s.medium.near
@@ -78,6 +84,11 @@ pub record AreMissing (m : Window) (home count first missing : ℕ) : Type 0 whe
   pub unseen : m.from ≤ first → m.from + m.held < first + missing
 
 -- ---- a start
+
+-- The first sectors begin with the super of an image for which `usbdisk_room` tells more than this.
+abbrev pub WantsMore : List ℕ → ℕ → Type 0
+WantsMore near room = (512 ≤ length near)
+    × ((shape : Shape) × IsSuper shape (sector_of near 0) × (room < room_for shape))
 
 -- the room that `usbdisk_room` tells for the format and the slots of the super, or whatever the
 -- bytes that it tells for format 2 and 64 slots

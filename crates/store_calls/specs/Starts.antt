@@ -6,9 +6,12 @@ use Rattle.recovery.specs.declared.start_fault.StartFault.{StartFault}
 use Rattle.recovery.specs.declared.start_fault.StartFault.TheVariants as start
 use Rattle.blocks.specs.Book.{Book}
 use Rattle.blocks.specs.Opening.{OpensOn, IsCauseFor}
+use Rattle.blocks.specs.Ahead.{may_go_ahead}
 use Rattle.blocks.specs.Started.{IsStarted, IsStartCause, StartLeaves, LeavesMedium}
+use Rattle.blocks.specs.StoreValue.{layout_of}
 use Rattle.store_calls.specs.Stores.{Store}
 use Rattle.store_calls.specs.Rooms.{CoversParts, StartRefusesNothing, HoldsImageLog, HoldsLog}
+use Rattle.store_calls.specs.Rooms.{WantsMore, IsRoomy}
 use Rattle.store_calls.specs.declared.call_fault.CallFault.{CallFault}
 use Rattle.store_calls.specs.declared.call_fault.CallFault.TheVariants as fault
 
@@ -23,6 +26,9 @@ pub record Begins (first : Window) (new : Store) : Type 0 where
   pub refuses : StartRefusesNothing first new.medium
   -- where the first sectors were all before the first home sector, they are for each call
   pub holds : HoldsImageLog first → HoldsLog new
+  pub roomy : IsRoomy new
+  -- it retires ahead where its log allows it
+  pub policy : new.goes_ahead ≡ may_go_ahead (layout_of new.cached)
 
 -- A start on this medium was refused, and left that one. Where a write or a flush was refused, the
 -- writes and flushes of this very start had no room together; no read was where the first sectors
@@ -43,9 +49,16 @@ abbrev pub IsNoLength : List ℕ → ℕ → Type 0
 IsNoLength near sectors = (length near ≡ 0) ⊎ (length near % 512 ≢ 0)
     ⊎ (512 * sectors < length near)
 
--- why no store was started: for want of memory, by the lengths, or as the recovery was refused
-abbrev pub IsNoStart : List ℕ → ℕ → Window → CallFault → Type 0
-IsNoStart near sectors first why = (why ≡ fault.Start start.NoMemory)
+-- why no store was started where the room is enough: for want of memory, by the lengths, or as the
+-- recovery was refused
+abbrev pub IsFault : List ℕ → ℕ → Window → CallFault → Type 0
+IsFault near sectors first why = (why ≡ fault.Start start.NoMemory)
     ⊎ ((why ≡ fault.Length) × IsNoLength near sectors)
     ⊎ ((cause : StartFault) × (why ≡ fault.Start cause) × (after : Window)
     × EndsIn first after cause)
+
+-- Why no store was started. The room comes first: with less of it than the image wants this is
+-- the answer, and with as much it never is.
+abbrev pub IsNoStart : List ℕ → ℕ → Window → CallFault → Type 0
+IsNoStart near sectors first why = ((why ≡ fault.LittleRoom) × WantsMore near first.room)
+    ⊎ ((¬ WantsMore near first.room) × IsFault near sectors first why)

@@ -10,6 +10,9 @@ pub enum CallFault {
     /// The handle has a store already.
     #[error("the handle is in use")]
     Held,
+    /// The outbox has less room than the image on the device wants.
+    #[error("too little room")]
+    LittleRoom,
     /// The bytes are no whole sectors, none, or more than there may be.
     #[error("bad length")]
     Length,

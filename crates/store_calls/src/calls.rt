@@ -30,7 +30,8 @@ pub struct Sizes {
 ///
 /// # Errors
 ///
-/// `Held` where the handle is in use, `Length` where the first sectors are none, no whole ones or
+/// `Held` where the handle is in use; then `LittleRoom` exactly where the first sectors begin with
+/// the super of an image that wants more room; then `Length` where they are none, no whole ones or
 /// more than the device has, or `Start` with the fault of the recovery, or `NoMemory`. The handle
 /// stays as it was.
 pub fn start_in(

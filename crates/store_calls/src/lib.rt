@@ -11,6 +11,7 @@ mod outbox;
 mod parts;
 mod reading;
 mod refused;
+mod room;
 mod run;
 mod start;
 mod turns;
@@ -25,4 +26,5 @@ pub use calls::{
 pub use handle::{Opaque, UsbDiskStore};
 pub use outbox::show_call;
 pub use reading::Missing;
+pub use room::{has_little_room, room_for};
 pub use run::block_for;

@@ -1,10 +1,11 @@
 //! How a store starts on the first sectors of a device.
-ghost use Rattle.std.specs.Prelude.{◌≡◌, ◌⊎◌, IfOk, IfErr};
+ghost use Rattle.std.specs.Prelude.{◌≡◌, ◌⊎◌, ◌≤◌, IfOk, IfErr, OnOk, length};
 ghost use Rattle.window.specs.Window.{fresh};
 ghost use Rattle.store_calls.specs.Starts.{Begins, IsNoStart, IsNoLength};
 ghost use Rattle.recovery.specs.declared.start_fault.StartFault.TheVariants.{NoMemory};
 
 use crate::CallFault;
+use crate::room::has_little_room;
 use blocks::{StartFault, Store};
 use mirror::device_laws;
 use std::alloc::Global;
@@ -20,6 +21,7 @@ fn window_of(
     room: usize,
 ) -> Result<WindowMedium, CallFault>
     ensures ok { IfOk result (λ m. m ≡ fresh sectors near.now device.now.bytes span room) }
+    ensures some { OnOk result (512 ≤ length near.now) }
     ensures err { IfErr result (λ why. (why ≡ CallFault.Start NoMemory)
         ⊎ ((why ≡ CallFault.Length) × IsNoLength near.now sectors)) }
 {
@@ -33,7 +35,8 @@ fn window_of(
     }
 }
 
-/// A store on a device of so many sectors, of which these are the first.
+/// A store on a device of so many sectors, of which these are the first. It retires ahead where its
+/// log allows it. Too little room is refused before anything is done.
 pub(crate) fn begin(
     alloc: Global,
     near: &[u8],
@@ -47,11 +50,14 @@ pub(crate) fn begin(
     ensures err { IfErr result (IsNoStart near.now sectors
         (fresh sectors near.now device.now.bytes span room)) }
 {
+    if has_little_room(near, room) {
+        return Err(CallFault::LittleRoom);
+    }
     let medium = window_of(alloc, near, sectors, device, span, room)?;
     // The law of the medium, from the first call on.
     let _waiting = medium.waiting();
     device_laws();
-    let store = match Store::start(alloc, medium) {
+    let store = match Store::start_ahead(alloc, medium) {
         Ok(store) => store,
         Err(error) => return Err(CallFault::Start(error.fault)),
     };

@@ -1,0 +1,35 @@
+//! How much room an outbox must have, and whether an image wants more than it was given.
+ghost use Rattle.std.specs.Prelude.{◌≡◌, ◌≤◌, ◌↔◌, IsTrue};
+ghost use Rattle.store_calls.specs.Rooms.{room_of, WantsMore};
+
+use log_layout::{LogFormat, Super};
+
+const SECTOR: usize = 512;
+
+/// How many writes and flushes an outbox must have room for, for an image of this format with so
+/// many slots.
+pub fn room_for(format: LogFormat, slots: u64) -> u64
+    requires { slots ≤ 64 }
+    ensures { result ≡ room_of format slots }
+{
+    match format {
+        LogFormat::One => (48 * slots + 4).max(309),
+        LogFormat::Two => (240 * slots + 4).max(1_479),
+    }
+}
+
+/// Whether these first sectors begin with the super of an image for which an outbox has too little
+/// room.
+pub fn has_little_room(near: &[u8], room: usize) -> bool
+    ensures { IsTrue result ↔ WantsMore near.now room }
+{
+    if near.len() < SECTOR {
+        return false;
+    }
+    let mut sector = [0; SECTOR];
+    sector.copy_from_slice(&near[..SECTOR]);
+    match Super::decode(&sector) {
+        Ok(sizes) => (room as u64) < room_for(sizes.format, sizes.slots),
+        Err(_) => false,
+    }
+}
