@@ -5,7 +5,7 @@
  * There are two ways in. The calls usbdisk_start to usbdisk_refused are the whole disk, for a controller
  * that hands packets over. The calls usbdisk_store_* are the store without the transport, for a stack that
  * speaks SCSI itself, as TinyUSB does. They come last here. If you use these, first read this page, the
- * numbers, usbdisk_room, usbdisk_memory, usbdisk_look and usbdisk_lay_log.
+ * numbers, usbdisk_room, usbdisk_memory, usbdisk_look, usbdisk_format and usbdisk_lay_log.
  *
  * The disk has the device's first sectors in memory: the super (sector 0, which tells the sizes of the
  * image), the head (sector 1) and the log. The blocks lie in home sectors behind these, and stay on the
@@ -85,8 +85,8 @@ enum {
 enum {
     USBDISK_NO_MEMORY = 1,
     USBDISK_READ_REFUSED = 2,    /* it read a sector that is not in memory: pass all of usbdisk_near */
-    USBDISK_WRITE_REFUSED = 3,   /* the outbox has too little room for the recovery */
-    USBDISK_FLUSH_REFUSED = 4,   /* the same */
+    USBDISK_WRITE_REFUSED = 3,   /* of usbdisk_migrate: the room is too small */
+    USBDISK_FLUSH_REFUSED = 4,   /* the same; of a start where sector 0 is no super, and the room is 0 */
     USBDISK_BAD_SUPER = 5,       /* sector 0 is no super: no image, or a format was cut off */
     USBDISK_BAD_VERSION = 6,
     USBDISK_BAD_SIZE = 7,        /* bad sizes, or the device is too short for them */
@@ -109,7 +109,8 @@ enum {
     USBDISK_BAD_LENGTH = 21,      /* bytes of no sectors or a part of one, or more than the device has */
     USBDISK_BAD_SIZES = 22,       /* sizes out of their limits, or too few bytes for them */
     USBDISK_NOT_TAKEN = 23,       /* sectors that cannot be shown */
-    USBDISK_BAD_RANGE = 24        /* a block behind the last one */
+    USBDISK_BAD_RANGE = 24,       /* a block behind the last one */
+    USBDISK_LITTLE_ROOM = 25      /* the outbox has less room than usbdisk_room tells for the image */
 };
 
 /* What a call took out of the outbox. */
@@ -119,9 +120,10 @@ enum {
     USBDISK_FLUSH = 2
 };
 
-/* How many writes and flushes the outbox must have room for, so that no start and no later call is refused
- * for want of it: for an image of this format (1 or 2) with so many log slots, as usbdisk_look tells them.
- * 0 where there is no such format or number of slots. Where you do not know them, ask for format 2 and 64. */
+/* How many writes and flushes the outbox must have room for: for an image of this format (1 or 2) with so
+ * many log slots, as usbdisk_look tells them. A start with less room is refused, and with as much no call
+ * of the disk or the store is refused for want of it, as long as the outbox was carried out before. 0 where
+ * there is no such format or number of slots. Where you do not know them, ask for format 2 and 64. */
 uint64_t usbdisk_room(uint32_t format, uint64_t slots);
 
 /* How many bytes of memory a start takes where it is given so many bytes of the first sectors: for an
@@ -129,13 +131,6 @@ uint64_t usbdisk_room(uint32_t format, uint64_t slots);
  * It is the same for every size of the device. 0 where there is no such format or no such number of
  * slots; near_size is not judged. A store without the transport takes less. */
 uint64_t usbdisk_memory(uint64_t near_size, uint32_t format, uint64_t slots, uint32_t span, uint64_t room);
-
-/* Makes an image in memory, for a new device that fits there: so many blocks of zeros, 1 to 2^31, and
- * so many log slots, 1 to 64. Format 1 takes 2 + 50 * slots + blocks sectors, format 2 takes
- * 2 + 249 * slots + blocks. Takes memory of about twice the size, and gives it back.
- *
- * Answers 0, NO_MEMORY, BAD_LENGTH or BAD_SIZES. At an error the image stays as it was. */
-uint32_t usbdisk_format(uint8_t *image, size_t size, uint32_t format, uint64_t blocks, uint64_t slots);
 
 /* How many of the device's first sectors go into memory, from the bytes of sector 0: all before the
  * first home sector. Where sector 0 is no super it tells 2, and a start on these tells what is wrong. */
@@ -162,10 +157,13 @@ uint32_t usbdisk_look(const uint8_t sector[512], struct usbdisk_layout *layout);
  * near: the device's first sectors, as many as usbdisk_near tells, or as the device has where these
  * are fewer. span: how many sectors are shown at a time at most: 48 in format 1, 240 in format 2, as
  * one READ may have. With less a longer READ is never served, since usbdisk_show takes no more.
- * packet: 64 at full speed, 512 at high speed. room: how many calls the outbox has room for.
+ * packet: 64 at full speed, 512 at high speed. room: how many calls the outbox has room for, at least as
+ * many as usbdisk_room tells for the image.
  *
- * Answers 0, a number from 1 to 10, or STARTED, BAD_IDENTITY, BAD_PACKET_SIZE or BAD_LENGTH. At all
- * but 0 the handle stays as it was, and no memory is kept. */
+ * Answers 0, a number from 1 to 10, or STARTED, BAD_PACKET_SIZE, BAD_IDENTITY, LITTLE_ROOM or BAD_LENGTH:
+ * the first that applies, in this order, before those from 1 to 10. LITTLE_ROOM comes exactly where sector 0
+ * is a super and the room is less than usbdisk_room tells for it. At all but 0 the handle stays as it was,
+ * and no memory is kept; at the first four none is taken. */
 uint32_t usbdisk_start(struct usbdisk *disk, const uint8_t *near, size_t near_size, uint64_t sectors,
                        const struct usbdisk_device *device, const struct usbdisk_identity *identity,
                        uint32_t packet, uint32_t span, size_t room);
@@ -242,12 +240,29 @@ uint32_t usbdisk_take_run(struct usbdisk *disk, uint64_t *sector, uint8_t *bytes
 uint32_t usbdisk_refused(struct usbdisk *disk);
 
 /* A handle with the calls that make an image on a device, or change its format. Set it to USBDISK_IMAGE_NONE
- * before usbdisk_lay_log or usbdisk_migrate; never write or copy it after. */
+ * before usbdisk_format, usbdisk_lay_log or usbdisk_migrate; never write or copy it after. */
 struct usbdisk_image {
     void *at;
 };
 
 #define USBDISK_IMAGE_NONE { 0 }
+
+/* Makes an image on a device of so many sectors: so many blocks of zeros, 1 to 2^31, and so many log slots,
+ * 1 to 64. Format 1 takes 2 + 50 * slots + blocks sectors, format 2 takes 2 + 249 * slots + blocks; what lies
+ * behind them is spared. No sector of the device is read.
+ *
+ * Nothing is written here: what the device has to carry out comes out of usbdisk_next, as many calls as the
+ * image has sectors, and seven more. Carry each out before you take the next one, until it answers NOTHING;
+ * then end the handle. Only a part of them waits at a time, so the memory is the same for every number of
+ * blocks. Power may go at any point: a cut leaves what was there before, until the second call is carried
+ * out, no image, or the new one, whole.
+ *
+ * near: the device's first sectors; one is enough. Takes memory for a copy of them, 528 bytes for each of H + 5
+ * calls, where H is the first home sector, and 200 more.
+ *
+ * Answers 0, NO_MEMORY, STARTED, BAD_LENGTH or BAD_SIZES. At all but 0 the handle stays as it was. */
+uint32_t usbdisk_format(struct usbdisk_image *image, const uint8_t *near, size_t near_size, uint64_t sectors,
+                        const struct usbdisk_device *device, uint32_t format, uint64_t blocks, uint64_t slots);
 
 /* Makes an image on a device of so many sectors, around so many blocks, 1 to 2^31, that are at home
  * already, with so many log slots, 1 to 64: super, head and log alone. Home begins at sector
@@ -280,8 +295,9 @@ uint32_t usbdisk_lay_log(struct usbdisk_image *image, const uint8_t *near, size_
 uint32_t usbdisk_migrate(struct usbdisk_image *image, const uint8_t *near, size_t near_size, uint64_t sectors,
                          const struct usbdisk_device *device, size_t room);
 
-/* Takes the first call out of the handle, as usbdisk_take does of a disk. Answers NOTHING, WRITE, FLUSH
- * or EMPTY. */
+/* Takes the first call out of the handle, as usbdisk_take does of a disk. In a format it first makes the next
+ * part wait where nothing does: what was taken out before has to be carried out by then. Answers NOTHING,
+ * where nothing waits and nothing is left to do, WRITE, FLUSH or EMPTY. */
 uint32_t usbdisk_next(struct usbdisk_image *image, uint64_t *sector, uint8_t bytes[512]);
 
 /* Ends the handle, and frees all memory. What still waits is let go: carry it out before, or the device
@@ -306,10 +322,11 @@ struct usbdisk_store {
 #define USBDISK_STORE_NONE { 0 }
 
 /* Starts a store on a device, as usbdisk_start starts a disk: near, sectors, device and room are as there.
- * span: as many sectors as the longest read has blocks.
+ * span: as many sectors as the longest read has blocks. In format 2 with 3 slots or more it brings blocks home
+ * ahead of the flush of its next record, so that a sync flushes once for each record in the long run.
  *
- * Answers 0, a number from 1 to 10, STARTED or BAD_LENGTH. At all but 0 the handle stays as it was, and
- * no memory is kept. */
+ * Answers 0, a number from 1 to 10, STARTED, LITTLE_ROOM or BAD_LENGTH, in the order of usbdisk_start. At all
+ * but 0 the handle stays as it was, and no memory is kept. */
 uint32_t usbdisk_store_start(struct usbdisk_store *store, const uint8_t *near, size_t near_size,
                              uint64_t sectors, const struct usbdisk_device *device, uint32_t span,
                              size_t room);

@@ -1,4 +1,5 @@
 #include "host.h"
+#include "image.h"
 #include <stdio.h>
 #include <stdlib.h>
 #include <string.h>
@@ -84,11 +85,12 @@ void start_disk(struct host *host)
 {
     uint64_t sectors = 2 + (host->format == 1 ? 50 : 249) * host->slots + BLOCKS;
     host->device = malloc(512 * sectors);
-    if (!host->device || usbdisk_format(host->device, 512 * sectors, host->format, BLOCKS, host->slots))
+    if (!host->device || format_memory(host->device, 512 * sectors, host->format, BLOCKS, host->slots))
         fail("no image");
     host->limit = host->format == 1 ? 48 : 240;
-    if (usbdisk_start(&host->disk, host->device, 512 * usbdisk_near(host->device), sectors, &name, &who, 512,
-                      host->limit, usbdisk_room(host->format, host->slots)))
+    uint64_t near = host->is_whole ? sectors : usbdisk_near(host->device);
+    if (usbdisk_start(&host->disk, host->device, 512 * near, sectors, &name, &who, 512, host->limit,
+                      usbdisk_room(host->format, host->slots)))
         fail("no disk");
     host->persist(host);
     const uint8_t request_sense[10] = { 0x03, 0, 0, 0, 18 };

@@ -10,6 +10,7 @@ struct host {
     struct usbdisk disk;
     uint8_t *device;    /* the device's bytes */
     uint32_t format, limit;
+    bool is_whole;      /* all sectors lie in memory, and not only those before the first home sector */
     uint64_t slots;
     /* Carries out the outbox behind an event, perhaps with a model of a device. */
     void (*persist)(struct host *host);

@@ -1,7 +1,8 @@
 /* Plays something so many times on a disk over the library for C, for valgrind to count: what a maker links costs a packet.
  *
- * packets FORMAT SLOTS read|write|forced COUNT: a transfer of the longest READ from home, of a WRITE into the empty batch with
- * an empty outbox, or of a WRITE with FUA whose record and retiring are taken out, each time. */
+ * packets FORMAT SLOTS read|write|forced COUNT window|whole: a transfer of the longest READ from home, of a WRITE into the
+ * empty batch with an empty outbox, or of a WRITE with FUA whose record and retiring are taken out, each time. The disk has
+ * the sectors before the first home sector in memory, or all of the device's. */
 #include "host.h"
 #include <stdlib.h>
 #include <string.h>
@@ -17,9 +18,10 @@ static void take_all(struct host *host)
 
 int main(int count, char **words)
 {
-    if (count != 5)
-        fail("packets FORMAT SLOTS read|write|forced COUNT");
-    struct host host = { .format = (uint32_t)atoi(words[1]), .slots = (uint64_t)atoi(words[2]), .persist = take_all };
+    if (count != 6)
+        fail("packets FORMAT SLOTS read|write|forced COUNT window|whole");
+    struct host host = { .format = (uint32_t)atoi(words[1]), .slots = (uint64_t)atoi(words[2]), .persist = take_all,
+                         .is_whole = !strcmp(words[5], "whole") };
     start_disk(&host);
     for (int i = 0; i < atoi(words[4]); i++) {
         uint32_t address = (uint32_t)i % 8 * host.limit;

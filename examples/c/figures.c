@@ -1,6 +1,7 @@
 /* How much memory a start takes, by format and slots, against what usbdisk_memory tells; that a start
  * for want of any block of memory keeps none; and how much stack a start and the events take. */
 #include "gadget.h"
+#include "image.h"
 #include "usbdisk.h"
 #include <stdio.h>
 #include <stdlib.h>
@@ -19,7 +20,7 @@ static bool make_device(uint32_t format, uint64_t slots)
 {
     sectors = 2 + (format == 1 ? 50 : 249) * slots + BLOCKS;
     medium = malloc(512 * sectors);
-    return medium && !usbdisk_format(medium, 512 * sectors, format, BLOCKS, slots);
+    return medium && !format_memory(medium, 512 * sectors, format, BLOCKS, slots);
 }
 
 static size_t near_size(void)

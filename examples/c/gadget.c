@@ -1,6 +1,7 @@
 /* A gadget over an image file: what a program behind a USB controller does, event by event. Here
  * host.c plays the bus: REQUEST SENSE, a WRITE with FUA, a READ, a class reset and a bus reset. */
 #include "gadget.h"
+#include "image.h"
 #include "usbdisk.h"
 #include <stdbool.h>
 #include <stdio.h>
@@ -137,7 +138,7 @@ int main(int count, char **words)
     FILE *device = count == 2 ? fopen(words[1], "w+b") : NULL;
     if (!device || usbdisk_version() != USBDISK_VERSION)
         return EXIT_FAILURE;
-    printf("format %u\n", usbdisk_format(image, sizeof image, FORMAT, BLOCKS, SLOTS));
+    printf("format %u\n", format_memory(image, sizeof image, FORMAT, BLOCKS, SLOTS));
     if (fwrite(image, sizeof image, 1, device) != 1)
         return EXIT_FAILURE;
     printf("start %u\n", start(&disk, device));

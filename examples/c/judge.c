@@ -6,6 +6,7 @@
  * judge [LIVES [FIRST SEED]] */
 #include "device.h"
 #include "gadget.h"
+#include "image.h"
 #include "usbdisk.h"
 #include <limits.h>
 #include <stdio.h>
@@ -295,7 +296,7 @@ static bool make_image(uint32_t format)
     uint64_t size = sectors_of(format);
     memset(&book, 0, sizeof book);
     memset(image, BEHIND, sizeof image);
-    if (!device_open(SECTORS) || usbdisk_format(image, sizeof image, format, BLOCKS, SLOTS))
+    if (!device_open(SECTORS) || format_memory(image, sizeof image, format, BLOCKS, SLOTS))
         return fails("no image is made");
     if (!are_spared(image + size * 512, SECTORS - size))
         return false;

@@ -1,6 +1,7 @@
-/* That an event and a start send as many writes and flushes as usbdisk_room tells, and that with room
- * for one less they are refused by name. */
+/* That an event and a start send as many writes and flushes as usbdisk_room tells, and that a start with
+ * room for one less is refused by name, before anything happens, and no other is. */
 #include "gadget.h"
+#include "image.h"
 #include "usbdisk.h"
 #include <stdbool.h>
 #include <stdio.h>
@@ -22,7 +23,7 @@ static void make_device(uint32_t format, uint64_t slots)
     free(medium);
     medium = malloc(size);
     limit = format == 1 ? 48 : 240;
-    if (!medium || usbdisk_format(medium, size, format, BLOCKS, slots))
+    if (!medium || format_memory(medium, size, format, BLOCKS, slots))
         exit(EXIT_FAILURE);
 }
 
@@ -118,18 +119,51 @@ static uint64_t most_of_start(uint32_t format, uint64_t room, uint32_t *answer)
     return calls;
 }
 
+/* A start with room for so many calls, for an image that wants so many: whether it is refused by name
+ * where that is too little, with nothing changed and no memory taken, and is good where it is not. */
+static bool is_judged(uint64_t room, uint64_t wants)
+{
+    struct usbdisk disk = USBDISK_NONE;
+    struct usbdisk_store store = USBDISK_STORE_NONE;
+    uint64_t near = usbdisk_near(medium);
+    size_t blocks = heap_blocks;
+    uint32_t wanted = room < wants ? USBDISK_LITTLE_ROOM : 0;
+    heap_most = heap_now;
+    bool good = start(&disk, room) == wanted && !disk.at == !!wanted && (!wanted || heap_most == heap_now);
+    usbdisk_stop(&disk);
+    heap_most = heap_now;
+    good &= usbdisk_store_start(&store, medium, near * 512, near + BLOCKS, &name, limit, room) == wanted &&
+            !store.at == !!wanted && (!wanted || heap_most == heap_now);
+    usbdisk_store_stop(&store);
+    return good && heap_blocks == blocks;
+}
+
+/* Room is asked for where the first sector is a super, and behind what is wrong with the arguments. */
+static bool is_in_order(uint64_t wants)
+{
+    static const struct usbdisk_identity nobody;
+    struct usbdisk disk = USBDISK_NONE;
+    uint64_t near = usbdisk_near(medium);
+    uint8_t none[1024] = { 0 };
+    return usbdisk_start(&disk, medium, near * 512, near + BLOCKS, &name, &nobody, 512, limit, 0) == USBDISK_BAD_IDENTITY &&
+           usbdisk_start(&disk, medium, near * 512, near + BLOCKS, &name, &who, 99, limit, 0) == USBDISK_BAD_PACKET_SIZE &&
+           usbdisk_start(&disk, medium, 513, near + BLOCKS, &name, &who, 512, limit, wants - 1) == USBDISK_LITTLE_ROOM &&
+           usbdisk_start(&disk, medium, 513, near + BLOCKS, &name, &who, 512, limit, wants) == USBDISK_BAD_LENGTH &&
+           usbdisk_start(&disk, none, 1024, 2, &name, &who, 512, limit, 1) == USBDISK_BAD_SUPER && !disk.at;
+}
+
 int main(void)
 {
     bool wrong = false;
     for (uint32_t format = 1; format <= 2; format++) {
         uint64_t one = usbdisk_room(format, 1), many = usbdisk_room(format, SLOTS);
-        uint8_t good, less;
-        uint32_t started, refused;
-        uint64_t event = most_of_event(format, one, &good);
+        uint8_t status;
+        uint32_t started;
+        uint64_t event = most_of_event(format, one, &status);
+        wrong |= !is_judged(one, one) || !is_judged(one - 1, one) || !is_judged(0, one) || !is_in_order(one);
         uint64_t begun = most_of_start(format, many, &started);
-        most_of_event(format, one - 1, &less);
-        most_of_start(format, many - 1, &refused);
-        wrong |= event != one || good != GOOD || begun != many || started || less == GOOD || !refused;
+        wrong |= !is_judged(many, many) || !is_judged(many - 1, many) || !is_judged(many + 1, many);
+        wrong |= event != one || status != GOOD || begun != many || started;
         printf("format %u: a WRITE sends %llu calls, told %llu; a start with %d records %llu, told %llu\n",
                format, (unsigned long long)event, (unsigned long long)one, SLOTS,
                (unsigned long long)begun, (unsigned long long)many);

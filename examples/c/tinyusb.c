@@ -2,6 +2,7 @@
  * place, which cuts the power: what was synchronised is there after. Last a device that refuses a call. */
 #include "device.h"
 #include "gadget.h"
+#include "image.h"
 #include "tinyusb.h"
 #include "usbdisk.h"
 #include <stdio.h>
@@ -221,7 +222,7 @@ int main(void)
     static uint8_t image[SECTORS * 512];
     uint32_t blocks;
     uint16_t size;
-    must(!usbdisk_format(image, sizeof image, 2, BLOCKS, SLOTS) && device_open(SECTORS), "no format");
+    must(!format_memory(image, sizeof image, 2, BLOCKS, SLOTS) && device_open(SECTORS), "no format");
     for (uint64_t i = 0; i < SECTORS; i++)
         must(device_write(i, image + 512 * i) && device_flush(), "no room");
     start();

@@ -7,12 +7,14 @@ use Rattle.std.proofs.Math.Nat.{le-max_left, le-max_right}
 use Rattle.std.proofs.lemmas.Bool.{cases_lt}
 use Rattle.log_layout.specs.declared.log_format.LogFormat.{LogFormat}
 use Rattle.log_layout.specs.declared.log_format.LogFormat.TheVariants.{One, Two}
+use Rattle.log_layout.specs.Places.{Shape}
+use Rattle.log_layout.specs.Sectors.{IsSuper}
 use Rattle.medium.specs.Medium.{LooksOnly}
 use Rattle.medium.specs.Sent.{sent}
 use Rattle.mirror.specs.Story.{given}
 use Rattle.mirror.specs.declared.call.DeviceCall.{DeviceCall}
 use Rattle.recovery.specs.Copies.{most_start_sends}
-use Rattle.window.specs.Window.{Window, state_of, kept_out, is_in_sight, ComesAfter, IsServed}
+use Rattle.window.specs.Window.{Window, fresh, state_of, kept_out, is_in_sight, ComesAfter, IsServed}
 use Rattle.window.specs.Looks.{near_in_sight, none_refused, none_missed}
 use Rattle.scsi_unit.specs.Calls.{most_sends_of}
 use Rattle.scsi_unit.specs.Reading.{first_home_of}
@@ -24,7 +26,10 @@ use Rattle.bot_machine.specs.declared.event.Event.{Event}
 use Rattle.bot_machine.specs.declared.event.Event.TheVariants as event
 use Rattle.bot_machine.specs.declared.event.Answer.{Answer}
 use Rattle.usbdisk_c.specs.Plays.{Disk, medium_of, layout_on, Foresees, Plays, PlaysPacket}
-use Rattle.usbdisk_c.specs.Refusals.{RefusesNothing, HasRoom, HoldsLog, SeesHome, HasRoomToStart, HoldsImageLog, StartRefusesNothing}
+use Rattle.usbdisk_c.specs.Refusals.{RefusesNothing, HasRoom, IsRoomy, HoldsLog, SeesHome, HasRoomToStart, HoldsImageLog, StartRefusesNothing}
+use Rattle.store_calls.specs.Rooms as store
+use Rattle.store_calls.specs.Rooms.{WantsMore}
+use Rattle.store_calls.proofs.Roomy.{enough as enough_for}
 use Rattle.usbdisk_c.specs.Wanted.{WantsNone}
 use Rattle.usbdisk_c.specs.Room.{room_of, room_for}
 
@@ -80,6 +85,11 @@ asks_nothing old new follows same =
     (ap (λ (l : List (Option DeviceCall)). length l) (sym follows.asked) ∙ same) in
     follows.outbox ∙ ap (λ (l : List (Option DeviceCall)). old.outbox ++ given l) none ∙ append-nil old.outbox
 
+-- the room and the layout stay
+stays_roomy : (old new : Disk) → layout_on new ≡ layout_on old → (medium_of new).room ≡ (medium_of old).room → IsRoomy old
+    → IsRoomy new
+stays_roomy old new layout room enough_room = omega (arith, ap (λ (s : Shape). room_for s) layout, room, enough_room)
+
 -- an event, with what the medium says of all that may come
 pub played : (old : Disk) (event : Event) (answer : Answer) (new : Disk)
     → Foresees (medium_of old)
@@ -98,6 +108,7 @@ played old event answer new sees step follows = record {
       step.few.sent (enough (layout_on old).format (layout_on old).slots) enough_room)
       step.looks (λ sight. named_in_sight old event sight.0 sight.1);
   faulted = λ dead. (asks_nothing (medium_of old) (medium_of new) follows (step.few.faulted dead).0, (step.few.faulted dead).1);
+  roomy = stays_roomy old new step.few.layout_stays follows.room_stays;
 }
 
 -- a packet for which nothing is missing
@@ -138,3 +149,25 @@ holds_log first new device opened follows holds =
     let stood = opened.store.stood in
     let below = holds.log (layout_on new) (record { super = stood.keeps.super; fits = stood.fits }) in
     omega (arith, below, follows.near_stays)
+
+-- ---- the room that an image wants
+
+-- the room of a store is that of a disk
+as_store : (shape : Shape) → store.room_for shape ≡ room_for shape
+as_store shape = told shape.format shape.slots
+  where
+    told : (format : LogFormat) (slots : ℕ) → store.room_of format slots ≡ room_of format slots
+    told One slots = refl
+    told Two slots = refl
+
+-- a disk that was started where the image does not want more has the room
+pub roomy : (near holds : List ℕ) (sectors span room : ℕ) (m : Window) (new : Disk) (device : Device)
+    → m ≡ fresh sectors near holds span room → 512 ≤ length near → ¬ WantsMore near room
+    → IsOpened (state_of m) (state_of (medium_of new)) device new → ComesAfter m (medium_of new) → IsRoomy new
+roomy near holds sectors span room m new device on some none opened follows =
+    let first : Window = fresh sectors near holds span room in
+    let stood = opened.store.stood in
+    let super : IsSuper (layout_on new) ((state_of first).content 0) =
+    subst (λ (w : Window). IsSuper (layout_on new) ((state_of w).content 0)) on stood.keeps.super in
+    let stays : (medium_of new).room ≡ room = follows.room_stays ∙ ap (λ (w : Window). w.room) on in
+    omega (arith, stays, as_store (layout_on new), enough_for near holds sectors span room (layout_on new) some none super)

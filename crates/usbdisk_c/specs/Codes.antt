@@ -70,6 +70,10 @@ NEEDS = 3
 abbrev pub NOT_TAKEN : ℕ
 NOT_TAKEN = 23
 
+-- an image wants more room in the outbox than it was given
+abbrev pub LITTLE_ROOM : ℕ
+LITTLE_ROOM = 25
+
 -- the version of the library, by two bytes for the first number and one for each other
 abbrev pub VERSION : ℕ
 VERSION = 0x000a00

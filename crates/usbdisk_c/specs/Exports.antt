@@ -1,23 +1,19 @@
 -- What each export answers, and what it leaves in the handle.
-use Rattle.std.specs.Prelude.{◌≡◌, ◌≢◌, ◌⊎◌, ◌↔◌, ℕ, ◌*◌, ◌/◌, ◌%◌, ◌<◌, ◌≤◌, Bool, true, false}
+use Rattle.std.specs.Prelude.{◌≡◌, ◌≢◌, ◌⊎◌, ℕ, ◌*◌, ◌%◌, ◌<◌, Bool, true, false}
 use Rattle.std.specs.Prelude.{List, length, Option, Some, None}
-use Rattle.medium.specs.Medium.{State, Image}
-use Rattle.medium.specs.Writes.{sector_of}
-use Rattle.mirror.specs.Mirror.{Mirror, state_of, first_of}
+use Rattle.medium.specs.Medium.{Image}
+use Rattle.mirror.specs.Mirror.{first_of}
 use Rattle.window.specs.Window.{Window}
-use Rattle.log_layout.specs.Places.{Shape, first_home, new_shape, sectors_of}
+use Rattle.log_layout.specs.Places.{Shape, first_home}
 use Rattle.log_layout.specs.Sectors.{IsSuper}
-use Rattle.log_layout.specs.declared.log_format.LogFormat.{LogFormat}
-use Rattle.log_layout.specs.declared.log_format.LogFormat.TheVariants.{One, Two}
-use Rattle.recovery.specs.Formatted.{IsFormatted, AreSizes}
 use Rattle.recovery.specs.Looks.{HoldsLog}
 use Rattle.scsi_unit.specs.Identification.{Identification, IsLegible}
-use Rattle.scsi_unit.specs.StartFaults.{NoMemory}
 use Rattle.bot_machine.specs.Device.{device_of}
 use Rattle.bot_machine.specs.PacketBytes.{bytes_of}
 use Rattle.bot_machine.specs.declared.packet_size.PacketSize.{PacketSize}
+use Rattle.store_calls.specs.Rooms.{WantsMore}
 use Rattle.usbdisk_c.specs.Codes.{number_of, EMPTY, STARTED, BAD_IDENTITY, BAD_PACKET_SIZE}
-use Rattle.usbdisk_c.specs.Codes.{BAD_LENGTH, BAD_SIZES, NOT_TAKEN}
+use Rattle.usbdisk_c.specs.Codes.{BAD_LENGTH, NOT_TAKEN, LITTLE_ROOM}
 use Rattle.usbdisk_c.specs.Plays.{Disk, medium_of, Begins, BeginsNot, TakesPacket, SendsPacket}
 use Rattle.usbdisk_c.specs.Plays.{AnswersRequest, MakesStep, Shows, LetsGo, Sees, TakesUnread}
 use Rattle.usbdisk_c.specs.declared.start.UsbDiskIdentity.{UsbDiskIdentity}
@@ -46,16 +42,27 @@ IsNoSize size = (size ≡ 0) ⊎ (size % 512 ≢ 0)
 abbrev pub IsNoLength : List ℕ → ℕ → Type 0
 IsNoLength near sectors = IsNoSize (length near) ⊎ (512 * sectors < length near)
 
--- why none was
+-- a disk may be made for packets of so many bytes, with these texts
+abbrev pub IsNamed : Identification → ℕ → Type 0
+IsNamed who packet = ((packet ≡ 64) ⊎ (packet ≡ 512)) × IsLegible who
+
+-- Why none was, in the order in which it is found: by the size of the packets, the texts, and the
+-- room. With less room than the image wants the answer is that, and with as much it never is.
 abbrev pub IsRefusal : List ℕ → ℕ → Window → Identification → ℕ → Refusal → Type 0
-IsRefusal near sectors first who packet refusal.Identity = ¬ IsLegible who
 IsRefusal near sectors first who packet refusal.PacketSize = (packet ≢ 64) × (packet ≢ 512)
-IsRefusal near sectors first who packet refusal.Length = IsNoLength near sectors
-IsRefusal near sectors first who packet (refusal.Fault fault) = BeginsNot first fault
+IsRefusal near sectors first who packet refusal.Identity =
+    ((packet ≡ 64) ⊎ (packet ≡ 512)) × ¬ IsLegible who
+IsRefusal near sectors first who packet refusal.LittleRoom =
+    IsNamed who packet × WantsMore near first.room
+IsRefusal near sectors first who packet refusal.Length =
+    IsNamed who packet × (¬ WantsMore near first.room) × IsNoLength near sectors
+IsRefusal near sectors first who packet (refusal.Fault fault) =
+    IsNamed who packet × (¬ WantsMore near first.room) × BeginsNot first fault
 
 abbrev pub code_of_refusal : Refusal → ℕ
 code_of_refusal refusal.Identity = BAD_IDENTITY
 code_of_refusal refusal.PacketSize = BAD_PACKET_SIZE
+code_of_refusal refusal.LittleRoom = LITTLE_ROOM
 code_of_refusal refusal.Length = BAD_LENGTH
 code_of_refusal (refusal.Fault fault) = number_of fault
 
@@ -130,41 +137,3 @@ pub record TellsNear (sector : List ℕ) (told : ℕ) : Type 0 where
   pub none : ((shape : Shape) → ¬ IsSuper shape sector) → told ≡ 2
   -- so that they are all that a start reads of a device that begins with it
   pub holds : (size : ℕ) (image : Image) → image 0 ≡ sector → HoldsLog told size image
-
--- the bytes of the medium, as reads give them, where there is just the room for them
-pub record GivesBytes (m : Mirror) (old new : List ℕ) (gives : Bool) : Type 0 where
-  pub fits : (gives ≡ true) ↔ (length m.story.opening ≡ length old)
-  pub given : gives ≡ true → (s : ℕ) → sector_of new s ≡ (state_of m).content s
-  pub kept : gives ≡ false → new ≡ old
-
--- the new bytes are a new image of this format, and the sectors behind it hold what they held
-pub record AreFormatted (format : LogFormat) (blocks slots : ℕ) (old new : List ℕ) : Type 0 where
-  pub medium : Mirror
-  pub formatted : IsFormatted (new_shape format blocks slots) (state_of medium)
-  pub held : (s : ℕ) → sector_of new s ≡ (state_of medium).content s
-  pub behind : (s : ℕ) → sectors_of (new_shape format blocks slots) ≤ s
-      → sector_of new s ≡ sector_of old s
-
--- a format on a medium made this image, and spared the sectors behind it
-pub record MakesImage (shape : Shape) (before after : State) : Type 0 where
-  pub formatted : IsFormatted shape after
-  pub behind : (s : ℕ) → sectors_of shape ≤ s → after.content s ≡ before.content s
-
--- no image of a format of this number has these sizes in so many sectors
-abbrev pub AreNoSizes : ℕ → ℕ → ℕ → ℕ → Type 0
-AreNoSizes format blocks slots sectors = ((format ≢ 1) × (format ≢ 2))
-    ⊎ ((format ≡ 1) × ¬ AreSizes sectors (new_shape One blocks slots))
-    ⊎ ((format ≡ 2) × ¬ AreSizes sectors (new_shape Two blocks slots))
-
--- why no image was made, by its number
-abbrev pub IsNotFormatted : ℕ → ℕ → ℕ → ℕ → ℕ → Type 0
-IsNotFormatted format blocks slots size code = (code ≡ number_of NoMemory)
-    ⊎ ((code ≡ BAD_LENGTH) × IsNoSize size)
-    ⊎ ((code ≡ BAD_SIZES) × AreNoSizes format blocks slots (size / 512))
-
--- a new image, or nothing has changed, for one of these reasons
-abbrev pub Formats : ℕ → ℕ → ℕ → List ℕ → List ℕ → ℕ → Type 0
-Formats format blocks slots old new code =
-    (IsNotFormatted format blocks slots (length old) code × (new ≡ old))
-    ⊎ ((code ≡ 0) × (format ≡ 1) × AreFormatted One blocks slots old new)
-    ⊎ ((code ≡ 0) × (format ≡ 2) × AreFormatted Two blocks slots old new)

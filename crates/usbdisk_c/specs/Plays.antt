@@ -25,7 +25,7 @@ pub use Rattle.usbdisk_c.specs.Seen.{Disk, medium_of, layout_on}
 use Rattle.usbdisk_c.specs.Wanted.{Wants, WantsNone}
 use Rattle.usbdisk_c.specs.Parts.{CoversParts}
 use Rattle.usbdisk_c.specs.Refusals.{RefusesNothing, HasRoom, HoldsLog, EventRefusesNothing}
-use Rattle.usbdisk_c.specs.Refusals.{HoldsImageLog, StartRefusesNothing}
+use Rattle.usbdisk_c.specs.Refusals.{HoldsImageLog, StartRefusesNothing, IsRoomy}
 
 -- what a medium says of all calls of it that may come
 pub record Foresees (m : Window) : Type 0 where
@@ -51,6 +51,7 @@ pub record Plays (old : Disk) (event : Event) (answer : Answer) (new : Disk) : T
   pub faulted : is_dead old.unit.store.cached ≡ true
       → ((medium_of new).outbox ≡ (medium_of old).outbox)
       × (is_dead new.unit.store.cached ≡ true)
+  pub roomy : IsRoomy old → IsRoomy new
 
 -- a packet to Bulk-Out is played, and this is the number of its answer
 abbrev pub PlaysPacket : Disk → List ℕ → Disk → ℕ → Type 0
@@ -129,6 +130,7 @@ pub record Begins (first : Window) (device : Device) (new : Disk) : Type 0 where
   pub refuses : StartRefusesNothing first (medium_of new)
   -- where the first sectors were all before the first home sector, they are for each event
   pub holds : HoldsImageLog first → HoldsLog new
+  pub roomy : IsRoomy new
 
 -- A start on this medium was refused, and left that one. Where a write or a flush was refused, the
 -- writes and flushes of this very start had no room together; where a read was, one of its reads

@@ -26,6 +26,12 @@ pub record RefusesNothing (Room Sight : Type 0) (old new : Window) : Type 0 wher
 abbrev pub HasRoom : Disk → Type 0
 HasRoom disk = length (medium_of disk).outbox + room_for (layout_on disk) ≤ (medium_of disk).room
 
+-- The outbox has that room where nothing waits. So has that of each disk that was started
+-- (`Begins.roomy`), and each call keeps it: no event is refused for want of room where the outbox
+-- was carried out before.
+abbrev pub IsRoomy : Disk → Type 0
+IsRoomy disk = room_for (layout_on disk) ≤ (medium_of disk).room
+
 -- all sectors before the first home sector lie in memory
 abbrev pub HoldsLog : Disk → Type 0
 HoldsLog disk = first_home (layout_on disk) ≤ (medium_of disk).near

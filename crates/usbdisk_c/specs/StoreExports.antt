@@ -10,12 +10,14 @@ use Rattle.store_calls.specs.declared.call_fault.CallFault.{CallFault}
 use Rattle.store_calls.specs.declared.call_fault.CallFault.TheVariants as fault
 use Rattle.store_calls.specs.declared.calls.Sizes.{Sizes}
 use Rattle.store_calls.specs.declared.reading.Missing.{Missing}
-use Rattle.usbdisk_c.specs.Codes.{number_of, EMPTY, STARTED, BAD_LENGTH, NEEDS, NOT_TAKEN}
+use Rattle.usbdisk_c.specs.Codes.{number_of, EMPTY, STARTED, BAD_LENGTH, LITTLE_ROOM, NEEDS}
+use Rattle.usbdisk_c.specs.Codes.{NOT_TAKEN}
 
 -- the number of a refusal: 11 is told of a dead store, and 24 of blocks behind the last one
 abbrev pub code_of_fault : CallFault → ℕ
 code_of_fault fault.Empty = EMPTY
 code_of_fault fault.Held = STARTED
+code_of_fault fault.LittleRoom = LITTLE_ROOM
 code_of_fault fault.Length = BAD_LENGTH
 code_of_fault fault.Range = 24
 code_of_fault fault.Unread = 2

@@ -34,6 +34,8 @@ pub(crate) const NOT_TAKEN: u32 = 23;
 
 pub(crate) const BAD_RANGE: u32 = 24;
 
+pub(crate) const LITTLE_ROOM: u32 = 25;
+
 /// The version: two bytes for the first number, and one for each other.
 pub(crate) const VERSION: u32 = 0x000A00;
 

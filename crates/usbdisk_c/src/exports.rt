@@ -1,6 +1,6 @@
 //! One export for each call of include/usbdisk.h, which tells what each does.
 ghost use Rattle.usbdisk_c.specs.Exports.{identity_of, Starts, Stops, TakesOut, SendsIn};
-ghost use Rattle.usbdisk_c.specs.Exports.{AnswersSetup, Ticks, HandsOut, IsShownTo, Formats};
+ghost use Rattle.usbdisk_c.specs.Exports.{AnswersSetup, Ticks, HandsOut, IsShownTo};
 ghost use Rattle.usbdisk_c.specs.Exports.{TellsNear, TakesOutUnread};
 ghost use Rattle.usbdisk_c.specs.Codes.{TellsVersion};
 ghost use Rattle.usbdisk_c.specs.Room.{TellsRoom, TellsMemory};
@@ -9,7 +9,6 @@ ghost use Rattle.usbdisk_c.specs.Runs.{HandsOutRun};
 ghost use Rattle.window.specs.Window.{fresh};
 
 use crate::codes::{ACK, EMPTY, NOT_TAKEN, STARTED, VERSION};
-use crate::format::{make_image, memory_for, room_for};
 use crate::handle::UsbDisk;
 use crate::moves::{adopt, reclaim};
 use crate::play::{
@@ -17,6 +16,7 @@ use crate::play::{
 };
 use crate::refused::refuse;
 use crate::run::next_run;
+use crate::sizes::{memory_for, room_for};
 use crate::start::{UsbDiskIdentity, begin, near_for};
 use std::alloc::Global;
 use window::DeviceHolds;
@@ -46,19 +46,6 @@ pub extern "C" fn usbdisk_memory(
     ensures { TellsMemory near_size format slots span room result }
 {
     memory_for(near_size, format, slots, span, room)
-}
-
-#[unsafe(no_mangle)]
-pub extern "C" fn usbdisk_format(
-    alloc: Global,
-    image: &mut [u8],
-    format: u32,
-    blocks: u64,
-    slots: u64,
-) -> u32
-    ensures { Formats format blocks slots image.old image.new result }
-{
-    make_image(alloc, image, format, blocks, slots)
 }
 
 #[unsafe(no_mangle)]

@@ -3,7 +3,6 @@
 
 mod codes;
 mod exports;
-mod format;
 mod handle;
 mod image_exports;
 mod look;
@@ -12,18 +11,21 @@ mod parts;
 mod play;
 mod refused;
 mod run;
+mod sizes;
 mod start;
 mod store_exports;
 mod turns;
 mod wanted;
 
 pub use exports::{
-    usbdisk_bulk_in, usbdisk_bulk_out, usbdisk_format, usbdisk_memory, usbdisk_near,
+    usbdisk_bulk_in, usbdisk_bulk_out, usbdisk_memory, usbdisk_near,
     usbdisk_refused, usbdisk_room, usbdisk_setup, usbdisk_show, usbdisk_start, usbdisk_stop,
     usbdisk_take, usbdisk_take_run, usbdisk_tick, usbdisk_version,
 };
 pub use handle::{Opaque, UsbDisk};
-pub use image_exports::{usbdisk_end, usbdisk_lay_log, usbdisk_migrate, usbdisk_next};
+pub use image_exports::{
+    usbdisk_end, usbdisk_format, usbdisk_lay_log, usbdisk_migrate, usbdisk_next,
+};
 pub use look::{UsbDiskLayout, usbdisk_look};
 pub use start::UsbDiskIdentity;
 pub use store_exports::{

@@ -1,16 +1,17 @@
 //! How a disk starts on the first sectors of a device.
-ghost use Rattle.std.specs.Prelude.{◌≡◌, ◌≢◌, ◌⊎◌, IfOk, IfErr, MatchOption};
+ghost use Rattle.std.specs.Prelude.{◌≡◌, ◌≢◌, ◌⊎◌, ◌≤◌, IfOk, IfErr, OnOk, MatchOption, length};
 ghost use Rattle.bot_machine.specs.PacketBytes.{bytes_of};
 ghost use Rattle.usbdisk_c.specs.Exports.{BeginsOn, IsRefusal, code_of_refusal, identity_of};
 ghost use Rattle.usbdisk_c.specs.Exports.{IsNoLength, TellsNear};
 ghost use Rattle.window.specs.Window.{fresh};
 ghost use Rattle.scsi_unit.specs.Identification.{IsLegible};
 
-use crate::codes::{BAD_IDENTITY, BAD_LENGTH, BAD_PACKET_SIZE, number_of};
+use crate::codes::{BAD_IDENTITY, BAD_LENGTH, BAD_PACKET_SIZE, LITTLE_ROOM, number_of};
 use bot_machine::{Disk, Identity, PacketSize, StartFault};
 use log_layout::Super;
 use mirror::device_laws;
 use std::alloc::Global;
+use store_calls::has_little_room;
 use window::{DeviceHolds, WindowError, WindowMedium};
 
 /// C's `struct usbdisk_identity`: four texts of printable ASCII, padded with spaces.
@@ -28,6 +29,7 @@ pub struct UsbDiskIdentity {
 pub(crate) enum Refusal {
     Identity,
     PacketSize,
+    LittleRoom,
     Length,
     Fault(StartFault),
 }
@@ -39,6 +41,7 @@ impl Refusal {
         match self {
             Refusal::Identity => BAD_IDENTITY,
             Refusal::PacketSize => BAD_PACKET_SIZE,
+            Refusal::LittleRoom => LITTLE_ROOM,
             Refusal::Length => BAD_LENGTH,
             Refusal::Fault(fault) => number_of(fault),
         }
@@ -90,6 +93,7 @@ pub(crate) fn window_of(
     room: usize,
 ) -> Result<WindowMedium, Refusal>
     ensures ok { IfOk result (λ m. m ≡ fresh sectors near.now device.now.bytes span room) }
+    ensures some { OnOk result (512 ≤ length near.now) }
     ensures err { IfErr result (λ refusal. (refusal ≡ Refusal.Fault StartFault.NoMemory)
         ⊎ ((refusal ≡ Refusal.Length) × IsNoLength near.now sectors)) }
 {
@@ -103,7 +107,8 @@ pub(crate) fn window_of(
     }
 }
 
-/// A disk on a device of so many sectors, of which these are the first.
+/// A disk on a device of so many sectors, of which these are the first. What is wrong with the
+/// arguments, and too little room, is refused before anything is done.
 pub(crate) fn begin(
     alloc: Global,
     near: &[u8],
@@ -126,6 +131,9 @@ pub(crate) fn begin(
     let Some(who) = read_identity(identity) else {
         return Err(Refusal::Identity);
     };
+    if has_little_room(near, room) {
+        return Err(Refusal::LittleRoom);
+    }
     let medium = window_of(alloc, near, sectors, device, span, room)?;
     // The law of the medium, from the first call on.
     let _waiting = medium.waiting();

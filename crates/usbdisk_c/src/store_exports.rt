@@ -8,7 +8,8 @@ ghost use Rattle.usbdisk_c.specs.StoreExports.{StoreHandsOut, StoreHandsOutRun, 
 ghost use Rattle.usbdisk_c.specs.StoreExports.{StoreIsTold};
 
 use crate::codes::{
-    ACK, BAD_LENGTH, BAD_RANGE, DEAD, EMPTY, NEEDS, NOT_TAKEN, STARTED, UNREAD, number_of,
+    ACK, BAD_LENGTH, BAD_RANGE, DEAD, EMPTY, LITTLE_ROOM, NEEDS, NOT_TAKEN, STARTED, UNREAD,
+    number_of,
 };
 use std::alloc::Global;
 use store_calls::{
@@ -24,6 +25,7 @@ fn code_of(why: CallFault) -> u32
     match why {
         CallFault::Empty => EMPTY,
         CallFault::Held => STARTED,
+        CallFault::LittleRoom => LITTLE_ROOM,
         CallFault::Length => BAD_LENGTH,
         CallFault::Range => BAD_RANGE,
         CallFault::Unread => UNREAD,

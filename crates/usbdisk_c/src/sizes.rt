@@ -1,0 +1,35 @@
+//! How much room in the outbox, and how much memory, a disk on an image takes.
+ghost use Rattle.usbdisk_c.specs.Room.{TellsRoom, TellsMemory};
+
+/// How many writes and flushes an outbox must have room for, for an image of this format with so many
+/// slots.
+pub(crate) fn room_for(version: u32, slots: u64) -> u64
+    ensures { TellsRoom version slots result }
+{
+    if slots < 1 || slots > 64 {
+        return 0;
+    }
+    match version {
+        1 => (48 * slots + 4).max(309),
+        2 => (240 * slots + 4).max(1_479),
+        _ => 0,
+    }
+}
+
+/// How many bytes of memory a start takes, for so many bytes of the first sectors, a window of this
+/// span and an outbox of this room.
+pub(crate) fn memory_for(size: u64, version: u32, slots: u64, span: u32, room: u64) -> u64
+    ensures { TellsMemory size version slots span room result }
+{
+    if slots < 1 || slots > 64 {
+        return 0;
+    }
+    let kept = match version {
+        1 => 100_608 + 2_312 * slots + 3_144,
+        2 => 503_040 + 3_848 * slots + 3_144,
+        _ => return 0,
+    };
+    size.saturating_add(room.saturating_mul(528))
+        .saturating_add(512 * u64::from(span))
+        .saturating_add(kept)
+}
