@@ -8,7 +8,7 @@ use Rattle.log_layout.specs.Places.{Shape, first_home}
 use Rattle.log_layout.specs.Sectors.{IsSuper}
 use Rattle.recovery.specs.Looks.{HoldsLog}
 use Rattle.scsi_unit.specs.Identification.{Identification, IsLegible}
-use Rattle.bot_machine.specs.Device.{device_of}
+use Rattle.bot_machine.specs.Device.{device_by, Ahead}
 use Rattle.bot_machine.specs.PacketBytes.{bytes_of}
 use Rattle.bot_machine.specs.declared.packet_size.PacketSize.{PacketSize}
 use Rattle.store_calls.specs.Rooms.{WantsMore}
@@ -29,10 +29,11 @@ identity_of who = record {
   serial = who.serial;
 }
 
--- a disk for packets of so many bytes, with these texts, was started on these bytes
+-- a disk for packets of so many bytes, with these texts, was started on these bytes, and retires
+-- ahead where its log allows it
 abbrev pub BeginsOn : Window → Identification → ℕ → Disk → Type 0
 BeginsOn first who packet new = (size : PacketSize) × (packet ≡ bytes_of size)
-    × IsLegible who × Begins first (device_of who size) new
+    × IsLegible who × Begins first (device_by who size Ahead) new
 
 -- so many bytes are no whole sectors, or none
 abbrev pub IsNoSize : ℕ → Type 0

@@ -7,7 +7,7 @@ ghost use Rattle.window.specs.Window.{fresh};
 ghost use Rattle.scsi_unit.specs.Identification.{IsLegible};
 
 use crate::codes::{BAD_IDENTITY, BAD_LENGTH, BAD_PACKET_SIZE, LITTLE_ROOM, number_of};
-use bot_machine::{Disk, Identity, PacketSize, StartFault};
+use bot_machine::{Disk, Identity, PacketSize, Retiring, StartFault};
 use log_layout::Super;
 use mirror::device_laws;
 use std::alloc::Global;
@@ -108,7 +108,8 @@ pub(crate) fn window_of(
 }
 
 /// A disk on a device of so many sectors, of which these are the first. What is wrong with the
-/// arguments, and too little room, is refused before anything is done.
+/// arguments, and too little room, is refused before anything is done. The disk retires ahead
+/// where its log allows it.
 pub(crate) fn begin(
     alloc: Global,
     near: &[u8],
@@ -138,7 +139,7 @@ pub(crate) fn begin(
     // The law of the medium, from the first call on.
     let _waiting = medium.waiting();
     device_laws();
-    let disk = match Disk::start_with(alloc, medium, who, size) {
+    let disk = match Disk::start_by(alloc, medium, who, size, Retiring::Ahead) {
         Ok(disk) => disk,
         Err(error) => return Err(Refusal::Fault(error.fault)),
     };
