@@ -46,9 +46,9 @@
 extern "C" {
 #endif
 
-/* The version, 0.10.0: two bytes hold the first number, and one byte each of the others. The library
+/* The version, 0.11.0: two bytes hold the first number, and one byte each of the others. The library
  * tells its own. Where the two differ, header and library are not of one version. */
-#define USBDISK_VERSION 0x000A00u
+#define USBDISK_VERSION 0x000B00u
 
 uint32_t usbdisk_version(void);
 
@@ -258,7 +258,7 @@ struct usbdisk_image {
  * out, no image, or the new one, whole.
  *
  * near: the device's first sectors; one is enough. Takes memory for a copy of them, 528 bytes for each of H + 5
- * calls, where H is the first home sector, and 200 more.
+ * calls, where H is the first home sector, and 168 more.
  *
  * Answers 0, NO_MEMORY, STARTED, BAD_LENGTH or BAD_SIZES. At all but 0 the handle stays as it was. */
 uint32_t usbdisk_format(struct usbdisk_image *image, const uint8_t *near, size_t near_size, uint64_t sectors,
@@ -275,7 +275,7 @@ uint32_t usbdisk_format(struct usbdisk_image *image, const uint8_t *near, size_t
  * or the new one, whole.
  *
  * near: the device's first sectors; one is enough. Takes memory for a copy of them, 528 bytes for each
- * call, and 120 more.
+ * call, and 168 more.
  *
  * Answers 0, NO_MEMORY, STARTED, BAD_LENGTH or BAD_SIZES. At all but 0 the handle stays as it was. */
 uint32_t usbdisk_lay_log(struct usbdisk_image *image, const uint8_t *near, size_t near_size, uint64_t sectors,

@@ -12,13 +12,19 @@ enum { BLOCKS = 150, SLOTS = 2, SECTORS = 2 + 249 * SLOTS + BLOCKS + 9, BEHIND =
 static const struct usbdisk_device name;
 static uint8_t device[SECTORS][512], kept[SECTORS][512], durable[SECTORS][512];
 
-static bool are(uint64_t first, uint64_t end, uint8_t byte)
+static bool are_zeros(uint64_t first, uint64_t end)
 {
     for (uint64_t s = first; s < end; s++)
         for (int i = 0; i < 512; i++)
-            if (device[s][i] != byte)
+            if (device[s][i])
                 return false;
     return true;
+}
+
+/* From this sector on nothing has changed. */
+static bool are_spared(uint64_t first)
+{
+    return !memcmp(device[first], kept[first], 512 * (SECTORS - first));
 }
 
 /* Makes an image of this format, up to a cut behind so many calls. How many there were. */
@@ -46,20 +52,19 @@ static bool is_new(uint32_t format)
     struct usbdisk_layout layout;
     if (usbdisk_look(device[0], &layout) || layout.format != format || layout.slots != SLOTS || layout.blocks != BLOCKS)
         return false;
-    return are(2, layout.sectors, 0) && are(layout.sectors, SECTORS, BEHIND) && device[1][0];
+    return are_zeros(2, layout.sectors) && are_spared(layout.sectors) && device[1][0];
 }
 
 /* Whether a cut leaves what it may: of the writes since the last flush all, or none. */
 static bool is_allowed(uint32_t format, bool flushed)
 {
-    static const uint8_t none[512];
+    uint64_t sectors = 2 + (uint64_t)(format == 1 ? 50 : 249) * SLOTS + BLOCKS;
     bool good = true;
     for (int all = 0; all <= 1; all++) {
         if (!all)
             memcpy(device, durable, sizeof device);
         bool is_old = !flushed && !memcmp(device[0], kept[0], 512);
-        good &= is_old || !memcmp(device[0], none, 512) || is_new(format);
-        good &= are(SECTORS - 9, SECTORS, BEHIND);
+        good &= (is_old || are_zeros(0, 1) || is_new(format)) && are_spared(sectors);
     }
     return good;
 }

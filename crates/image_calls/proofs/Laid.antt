@@ -89,7 +89,8 @@ has_room shape plan first new room follows same =
     subst (λ (s : Shape). slot_sectors_of s.format * s.slots + 7 ≤ new.room) same (omega (arith, room, follows.room_stays))
 
 -- two calls wait
-pub begins : (shape : Shape) (first m new : Window) (plan : Plan) (held : Work) → m ≡ first → held ≡ record { medium = new; left = Some plan }
+pub begins : (shape : Shape) (first m new : Window) (plan : Plan) (held : Work) → m ≡ first
+    → held ≡ record { medium = new; left = Some plan }
     → first.room ≡ slot_sectors_of shape.format * shape.slots + 7 → IsBegun shape plan (state_of m) (state_of new) → ComesAfter m new
     → CoversDevice m new → BeginsFormat shape first held
 begins shape first m new plan held on same room begun follows covers =

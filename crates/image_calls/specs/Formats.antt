@@ -1,4 +1,4 @@
--- A format on a device, a part at a time: the next part waits where the one before it is handed out.
+-- A format on a device, a part at a time: the next waits where the one before it is handed out.
 use Rattle.std.specs.Prelude.{◌≡◌, ◌⊎◌, ℕ, ◌+◌, ◌*◌, ◌<◌, ◌≤◌, List, length, Option, Some, None}
 use Rattle.mirror.specs.Mirror.{first_of}
 use Rattle.window.specs.Window.{Window, state_of, without_first}
@@ -13,8 +13,8 @@ abbrev pub HasRoom : Option Plan → Window → Type 0
 HasRoom (Some plan) m = slot_sectors_of plan.sizes.format * plan.sizes.slots + 7 ≤ m.room
 HasRoom None m = Unit {0}
 
--- A format of this shape, which began on the first medium: it is under way, or made where nothing is
--- left of it.
+-- A format of this shape, which began on the first medium: it is under way, or made where nothing
+-- is left of it.
 pub record IsFormatting (shape : Shape) (first : Window) (work : Work) : Type 0 where
   pub on_way : IsOnWay shape work.left (state_of first) (state_of work.medium)
   pub room : HasRoom work.left work.medium

@@ -28,3 +28,4 @@ pub use outbox::show_call;
 pub use reading::Missing;
 pub use room::{has_little_room, room_for};
 pub use run::block_for;
+pub use start::window_of;

@@ -11,8 +11,13 @@ use mirror::device_laws;
 use std::alloc::Global;
 use window::{DeviceHolds, WindowError, WindowMedium};
 
-// A medium of a device of so many sectors, of which these are the first.
-fn window_of(
+/// A medium of a device of so many sectors, of which these are the first.
+///
+/// # Errors
+///
+/// `Length` where the first sectors are none, no whole ones or more than the device has; or `Start`
+/// with `NoMemory`.
+pub fn window_of(
     alloc: Global,
     near: &[u8],
     sectors: u64,

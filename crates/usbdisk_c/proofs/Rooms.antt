@@ -26,7 +26,8 @@ use Rattle.bot_machine.specs.declared.event.Event.{Event}
 use Rattle.bot_machine.specs.declared.event.Event.TheVariants as event
 use Rattle.bot_machine.specs.declared.event.Answer.{Answer}
 use Rattle.usbdisk_c.specs.Plays.{Disk, medium_of, layout_on, Foresees, Plays, PlaysPacket}
-use Rattle.usbdisk_c.specs.Refusals.{RefusesNothing, HasRoom, IsRoomy, HoldsLog, SeesHome, HasRoomToStart, HoldsImageLog, StartRefusesNothing}
+use Rattle.usbdisk_c.specs.Refusals.{RefusesNothing, HasRoom, IsRoomy, HoldsLog, SeesHome, HasRoomToStart, HoldsImageLog}
+use Rattle.usbdisk_c.specs.Refusals.{StartRefusesNothing}
 use Rattle.store_calls.specs.Rooms as store
 use Rattle.store_calls.specs.Rooms.{WantsMore}
 use Rattle.store_calls.proofs.Roomy.{enough as enough_for}

@@ -1,6 +1,6 @@
 -- What each export answers, and what it leaves in the handle.
-use Rattle.std.specs.Prelude.{◌≡◌, ◌≢◌, ◌⊎◌, ℕ, ◌*◌, ◌%◌, ◌<◌, Bool, true, false}
-use Rattle.std.specs.Prelude.{List, length, Option, Some, None}
+use Rattle.std.specs.Prelude.{◌≡◌, ◌≢◌, ◌⊎◌, ℕ, Bool, true, false}
+use Rattle.std.specs.Prelude.{List, Option, Some, None}
 use Rattle.medium.specs.Medium.{Image}
 use Rattle.mirror.specs.Mirror.{first_of}
 use Rattle.window.specs.Window.{Window}
@@ -12,6 +12,7 @@ use Rattle.bot_machine.specs.Device.{device_by, Ahead}
 use Rattle.bot_machine.specs.PacketBytes.{bytes_of}
 use Rattle.bot_machine.specs.declared.packet_size.PacketSize.{PacketSize}
 use Rattle.store_calls.specs.Rooms.{WantsMore}
+use Rattle.store_calls.specs.Starts.{IsNoLength}
 use Rattle.usbdisk_c.specs.Codes.{number_of, EMPTY, STARTED, BAD_IDENTITY, BAD_PACKET_SIZE}
 use Rattle.usbdisk_c.specs.Codes.{BAD_LENGTH, NOT_TAKEN, LITTLE_ROOM}
 use Rattle.usbdisk_c.specs.Plays.{Disk, medium_of, Begins, BeginsNot, TakesPacket, SendsPacket}
@@ -34,14 +35,6 @@ identity_of who = record {
 abbrev pub BeginsOn : Window → Identification → ℕ → Disk → Type 0
 BeginsOn first who packet new = (size : PacketSize) × (packet ≡ bytes_of size)
     × IsLegible who × Begins first (device_by who size Ahead) new
-
--- so many bytes are no whole sectors, or none
-abbrev pub IsNoSize : ℕ → Type 0
-IsNoSize size = (size ≡ 0) ⊎ (size % 512 ≢ 0)
-
--- these bytes are no first sectors of a device of so many
-abbrev pub IsNoLength : List ℕ → ℕ → Type 0
-IsNoLength near sectors = IsNoSize (length near) ⊎ (512 * sectors < length near)
 
 -- a disk may be made for packets of so many bytes, with these texts
 abbrev pub IsNamed : Identification → ℕ → Type 0

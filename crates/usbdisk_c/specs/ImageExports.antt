@@ -35,7 +35,7 @@ MakesImage Is near sectors holds format blocks slots old new code =
 -- A log was laid: all that the device has to carry out waits.
 abbrev pub LaysLog : List ℕ → ℕ → List ℕ → ℕ → ℕ → ℕ → Option Work → Option Work → ℕ → Type 0
 LaysLog near sectors holds format blocks slots old new code =
-    MakesImage (λ (shape : Shape) (first : Window) (work : Work). IsWhole (IsLaidOn shape first) work)
+    MakesImage (λ (shape : Shape) (first : Window). IsWhole (IsLaidOn shape first))
     near sectors holds format blocks slots old new code
 
 -- A format has begun: what follows is made to wait, a part at a time, by `usbdisk_next`.

@@ -18,9 +18,9 @@ mod turns;
 mod wanted;
 
 pub use exports::{
-    usbdisk_bulk_in, usbdisk_bulk_out, usbdisk_memory, usbdisk_near,
-    usbdisk_refused, usbdisk_room, usbdisk_setup, usbdisk_show, usbdisk_start, usbdisk_stop,
-    usbdisk_take, usbdisk_take_run, usbdisk_tick, usbdisk_version,
+    usbdisk_bulk_in, usbdisk_bulk_out, usbdisk_memory, usbdisk_near, usbdisk_refused, usbdisk_room,
+    usbdisk_setup, usbdisk_show, usbdisk_start, usbdisk_stop, usbdisk_take, usbdisk_take_run,
+    usbdisk_tick, usbdisk_version,
 };
 pub use handle::{Opaque, UsbDisk};
 pub use image_exports::{

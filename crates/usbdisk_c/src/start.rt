@@ -1,8 +1,8 @@
 //! How a disk starts on the first sectors of a device.
-ghost use Rattle.std.specs.Prelude.{◌≡◌, ◌≢◌, ◌⊎◌, ◌≤◌, IfOk, IfErr, OnOk, MatchOption, length};
+ghost use Rattle.std.specs.Prelude.{◌≡◌, ◌≢◌, IfOk, IfErr, MatchOption};
 ghost use Rattle.bot_machine.specs.PacketBytes.{bytes_of};
 ghost use Rattle.usbdisk_c.specs.Exports.{BeginsOn, IsRefusal, code_of_refusal, identity_of};
-ghost use Rattle.usbdisk_c.specs.Exports.{IsNoLength, TellsNear};
+ghost use Rattle.usbdisk_c.specs.Exports.{TellsNear};
 ghost use Rattle.window.specs.Window.{fresh};
 ghost use Rattle.scsi_unit.specs.Identification.{IsLegible};
 
@@ -11,8 +11,8 @@ use bot_machine::{Disk, Identity, PacketSize, Retiring, StartFault};
 use log_layout::Super;
 use mirror::device_laws;
 use std::alloc::Global;
-use store_calls::has_little_room;
-use window::{DeviceHolds, WindowError, WindowMedium};
+use store_calls::{CallFault, has_little_room, window_of};
+use window::{DeviceHolds, WindowMedium};
 
 /// C's `struct usbdisk_identity`: four texts of printable ASCII, padded with spaces.
 #[repr(C)]
@@ -83,30 +83,6 @@ pub(crate) fn near_for(sector: &[u8; 512]) -> u64
     }
 }
 
-/// A medium of a device of so many sectors, of which these are the first.
-pub(crate) fn window_of(
-    alloc: Global,
-    near: &[u8],
-    sectors: u64,
-    device: &DeviceHolds,
-    span: u32,
-    room: usize,
-) -> Result<WindowMedium, Refusal>
-    ensures ok { IfOk result (λ m. m ≡ fresh sectors near.now device.now.bytes span room) }
-    ensures some { OnOk result (512 ≤ length near.now) }
-    ensures err { IfErr result (λ refusal. (refusal ≡ Refusal.Fault StartFault.NoMemory)
-        ⊎ ((refusal ≡ Refusal.Length) × IsNoLength near.now sectors)) }
-{
-    let Ok(copy) = Vec::from_slice(alloc, near) else {
-        return Err(Refusal::Fault(StartFault::NoMemory));
-    };
-    match WindowMedium::new(alloc, copy, sectors, device, span, room) {
-        Ok(medium) => Ok(medium),
-        Err(WindowError::BadLength) => Err(Refusal::Length),
-        Err(WindowError::NoMemory) => Err(Refusal::Fault(StartFault::NoMemory)),
-    }
-}
-
 /// A disk on a device of so many sectors, of which these are the first. What is wrong with the
 /// arguments, and too little room, is refused before anything is done. The disk retires ahead
 /// where its log allows it.
@@ -135,7 +111,11 @@ pub(crate) fn begin(
     if has_little_room(near, room) {
         return Err(Refusal::LittleRoom);
     }
-    let medium = window_of(alloc, near, sectors, device, span, room)?;
+    let medium = match window_of(alloc, near, sectors, device, span, room) {
+        Ok(medium) => medium,
+        Err(CallFault::Length) => return Err(Refusal::Length),
+        Err(_) => return Err(Refusal::Fault(StartFault::NoMemory)),
+    };
     // The law of the medium, from the first call on.
     let _waiting = medium.waiting();
     device_laws();

@@ -12,7 +12,8 @@ returns-in-Ok-clause-ok c =
     IfOk-weaker c.hold.result _ _
     (λ held same. (
       laid_on (new_shape c.args.format c.args.blocks c.args.slots) (at (slot_sectors_of c.args.format * c.args.slots + 7))
-          c.in_ok-medium.medium c.lay_log.new.m held.value.medium (c.in_ok-medium.ensures.ok ∙ ap at c.calls_to_lay-room.ensures) (ap (λ (w : Work). w.medium) same)
+          c.in_ok-medium.medium c.lay_log.new.m held.value.medium (c.in_ok-medium.ensures.ok ∙ ap at c.calls_to_lay-room.ensures)
+          (ap (λ (w : Work). w.medium) same)
           c.in-Ok.ensures.ok
           c.lay_log.ensures.leaves c.in-Ok.ensures.calls.exact c.lay_log.ensures.follows
           (c.waiting-waiting.ensures.device c.lay_log.new.m c.lay_log.ensures.follows),

@@ -10,7 +10,8 @@ returns-in-Ok-clause-ok c =
     IfOk-weaker c.hold.result _ _
     (λ held same. (
       migrated_on (fresh c.args.sectors c.args.near.now c.args.device.now.bytes 0 c.args.room) c.in_ok-medium.medium
-          c.migrate.new.m held.value.medium c.in-Ok.field-0.0 c.in-Ok.field-0.1 c.in_ok-medium.ensures.ok (ap (λ (w : Work). w.medium) same) c.in-Ok.ensures.ok
+          c.migrate.new.m held.value.medium c.in-Ok.field-0.0 c.in-Ok.field-0.1 c.in_ok-medium.ensures.ok
+          (ap (λ (w : Work). w.medium) same) c.in-Ok.ensures.ok
           c.migrate.ensures.leaves c.migrate.ensures.follows (c.waiting-waiting.ensures.device c.migrate.new.m c.migrate.ensures.follows),
       ap (λ (w : Work). w.left) same,
     ))

@@ -20,5 +20,6 @@ returns-in-Ok c =
           ),
       λ (some, (shape, super, more)).
           let same = c.in-Ok.ensures.all shape (subst (λ (b : List ℕ). IsSuper shape b) (sym after) super) in
-          let told = ap (λ (s : Shape). room_for s) same in lt-ltb c.args.room c.room_for.result (omega (arith, more, told, c.room_for.ensures)),
+          let told = ap (λ (s : Shape). room_for s) same in
+          lt-ltb c.args.room c.room_for.result (omega (arith, more, told, c.room_for.ensures)),
     )
