@@ -68,10 +68,26 @@ pub struct UsbDisk {
     run: Vec<u8>,
 }
 
-/// Makes an image of format 1 or 2 with so many blocks and log slots.
-pub fn format(image: &mut [u8], format: u32, blocks: u64, slots: u64) -> Result<(), Error> {
-    // SAFETY: pointer and length are of one slice, lent for the call.
-    check(unsafe { raw::usbdisk_format(image.as_mut_ptr(), image.len(), format, blocks, slots) })
+/// Makes an image of format 1 or 2 with so many blocks and log slots in memory that stands for a device.
+pub fn format(bytes: &mut [u8], format: u32, blocks: u64, slots: u64) -> Result<(), Error> {
+    let device = raw::Device { mark: 0 };
+    let mut image = raw::UsbDiskImage::none();
+    let (near, sectors) = (bytes.as_ptr(), bytes.len() as u64 / 512);
+    // SAFETY: the first 512 bytes of the slice are lent for the call, or all where it has fewer.
+    check(unsafe {
+        raw::usbdisk_format(&mut image, near, bytes.len().min(512), sectors, &device, format, blocks, slots)
+    })?;
+    let (mut sector, mut block) = (0, [0; 512]);
+    loop {
+        // SAFETY: the handle holds an image, and `block` has the bytes of a sector.
+        match unsafe { raw::usbdisk_next(&mut image, &mut sector, block.as_mut_ptr()) } {
+            0 => break,
+            1 => bytes[512 * sector as usize..][..512].copy_from_slice(&block),
+            _ => {}
+        }
+    }
+    // SAFETY: the handle holds an image.
+    check(unsafe { raw::usbdisk_end(&mut image) })
 }
 
 /// How much room an outbox needs for an image of this format with so many slots.

@@ -16,6 +16,19 @@ impl UsbDisk {
     }
 }
 
+#[repr(C)]
+pub struct UsbDiskImage {
+    at: *mut c_void,
+}
+
+impl UsbDiskImage {
+    pub fn none() -> UsbDiskImage {
+        UsbDiskImage {
+            at: ptr::null_mut(),
+        }
+    }
+}
+
 /// A name for what the contracts speak of, which nobody reads.
 #[repr(C)]
 pub struct Device {
@@ -26,8 +39,18 @@ extern "C" {
     pub fn usbdisk_version() -> u32;
     pub fn usbdisk_near(sector: *const u8) -> u64;
     pub fn usbdisk_room(format: u32, slots: u64) -> u64;
-    pub fn usbdisk_format(image: *mut u8, size: usize, format: u32, blocks: u64, slots: u64)
-        -> u32;
+    pub fn usbdisk_format(
+        image: *mut UsbDiskImage,
+        near: *const u8,
+        near_size: usize,
+        sectors: u64,
+        device: *const Device,
+        format: u32,
+        blocks: u64,
+        slots: u64,
+    ) -> u32;
+    pub fn usbdisk_next(image: *mut UsbDiskImage, sector: *mut u64, bytes: *mut u8) -> u32;
+    pub fn usbdisk_end(image: *mut UsbDiskImage) -> u32;
     pub fn usbdisk_start(
         disk: *mut UsbDisk,
         near: *const u8,
