@@ -16,7 +16,8 @@ use Rattle.runner.specs.Served.{line_number, AreAnswered, IsAnswered, IsLineStop
 use Rattle.runner.specs.Served.{IsStoppedBy, HasServed, IsTooLong, IsUnended, StandsFor}
 use Rattle.runner.proofs.InTurn.{InTurn-append}
 use Rattle.runner.proofs.Known.{Appends-none, Appends-more, Appends-kept}
-use Rattle.runner.proofs.LineEnds.{unended-through, ended_line, last_line, begins, plays_line, holds_line, stands-through, first_is, too_long}
+use Rattle.runner.proofs.LineEnds.{unended-through, ended_line, last_line, begins}
+use Rattle.runner.proofs.LineEnds.{plays_line, holds_line, stands-through, first_is, too_long}
 use Rattle.runner.proofs.Telling.{tells-none, tells-more, breaks-more, gives-more, most_stays}
 
 -- the whole script, of which these bytes were taken

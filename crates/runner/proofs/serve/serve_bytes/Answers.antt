@@ -1,4 +1,5 @@
-use Rattle.std.proofs.Common.{◌≡◌, ◌==◌, ◌++◌, ◌∷◌, ◌∙◌, ◌≤◌, ◌+◌, ◌-◌, ℕ, suc, List, take, drop, length, append-nil, sym, ap, subst, refl, arith}
+use Rattle.std.proofs.Common.{◌≡◌, ◌==◌, ◌++◌, ◌∷◌, ◌∙◌, ◌≤◌, ◌+◌, ◌-◌, ℕ, suc, List, take, drop}
+use Rattle.std.proofs.Common.{length, append-nil, sym, ap, subst, refl, arith}
 use Rattle.std.proofs.Common.{length-drop}
 use Rattle.std.proofs.lemmas.List.{take_rest}
 use Rattle.bot_machine.specs.PacketBytes.{bytes_of}

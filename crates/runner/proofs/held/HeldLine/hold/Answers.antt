@@ -39,7 +39,8 @@ returns-then-is_comment-clause-held c =
     let part = c.args.part.now in
     let tried = c.try_extend_from_slice-2.ensures in
     let few : length (take room part) ≤ room = omega (arith, length-take {A = ℕ}) in
-    let took = ok_where c.try_extend_from_slice-2.result (tried.variant.1 (omega (arith, few, c.remaining_capacity-room.ensures))) tried.ok in
+    let took = ok_where c.try_extend_from_slice-2.result (tried.variant.1 (omega (arith, few, c.remaining_capacity-room.ensures)))
+    tried.ok in
     let comment = c.is_comment.ensures.0 c.if-is_comment.true in
     stands_part c.args.self.now.bytes.items part c.try_extend_from_slice-2.new.self.items room took comment.0
     (sym c.as_slice.ensures.value ∙ comment.1)
@@ -52,7 +53,8 @@ returns-clause-too_long c =
     let new = c.try_extend_from_slice-2.new.self.items in
     let tried = c.try_extend_from_slice-2.ensures in
     let cut : length (take room part) ≡ room = omega (arith, length-take {A = ℕ}, c.if-part-room.false) in
-    let took = ok_where c.try_extend_from_slice-2.result (tried.variant.1 (omega (arith, cut, c.remaining_capacity-room.ensures))) tried.ok in
+    let took = ok_where c.try_extend_from_slice-2.result (tried.variant.1 (omega (arith, cut, c.remaining_capacity-room.ensures)))
+    tried.ok in
     let full : length new ≡ length old + room = ap length took ∙ length-append old (take room part) ∙ omega (arith, cut) in (
       refl,
       too_long_part old part new room took (omega (arith, full, c.remaining_capacity-room.ensures))
