@@ -9,10 +9,12 @@
 #include <stdio.h>
 #include <stdlib.h>
 #include <string.h>
+#include <sys/resource.h>
 #include <unistd.h>
 
-/* IDLE: after so many milliseconds without an event a step in the background is made. */
-enum { IDLE = 20, EVENTS = 4 };
+/* IDLE: after so many milliseconds without an event steps in the background are made, STEPS between two looks at the host.
+ * PRIORITY: as of `nice`. */
+enum { IDLE = 20, STEPS = 8, EVENTS = 4, PRIORITY = -3 };
 
 struct gadget {
     const char *image, *functionfs, *folder, *controller;
@@ -101,7 +103,7 @@ static void play_events(struct gadget *gadget)
         play_event(gadget, &events[i]);
 }
 
-/* Waits for the host. Where it is idle, a step in the background is made. That a transfer to the host is done nobody tells, so a
+/* Waits for the host. Where it is idle, steps in the background are made. That a transfer to the host is done nobody tells, so a
  * look at the queues comes first. */
 static void wait_or_step(struct gadget *gadget, int most)
 {
@@ -113,7 +115,8 @@ static void wait_or_step(struct gadget *gadget, int most)
     if (files[0].revents)
         play_events(gadget);
     while (may_step && ready == 0 && wait == IDLE && gadget->has_steps && !is_asked_to_end()) {
-        gadget->has_steps = disk_tick(&gadget->disk) == 1;
+        for (int steps = 0; steps < STEPS && gadget->has_steps; steps++)
+            gadget->has_steps = disk_tick(&gadget->disk) == 1;
         if (wait_for(files, 2, 0) > 0)
             break;
     }
@@ -132,6 +135,15 @@ static int serve(struct gadget *gadget)
     if (gadget->disk.packet == 0 || !disk_settle(&gadget->disk))
         return gadget->disk.status;
     return is_asked_to_end() ? 0 : STATUS_FILE;
+}
+
+/* The kernel's workers, which tell what is done, else take the processor before the next data of a READ is handed over. Where
+ * somebody has set another priority, or the system refuses, it stays. */
+static void go_first(void)
+{
+    errno = 0;
+    if (getpriority(PRIO_PROCESS, 0) == 0 && errno == 0)
+        setpriority(PRIO_PROCESS, 0, PRIORITY);
 }
 
 /* Sets up the function, and binds it. False: said why. */
@@ -190,6 +202,7 @@ int main(int count, char **words)
     }
     if (!disk_open(&gadget.disk, gadget.image))
         return gadget.disk.status;
+    go_first();
     int status = STATUS_FILE;
     if (!disk_start(&gadget.disk, 512))
         status = gadget.disk.status;
