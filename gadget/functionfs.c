@@ -57,11 +57,11 @@ static void answer(struct gadget *gadget, const uint8_t setup[8])
 {
     uint8_t data[2] = { 0, 0 };
     uint32_t size;
-    bool sends = setup[0] & 0x80;
-    if (setup[0] == 0x21 && setup[1] == 0xFF)
-        bulk_reset(&gadget->bulk);
-    uint32_t code = disk_setup(&gadget->disk, setup, data, &size);
     ssize_t moved;
+    bool sends = setup[0] & 0x80;
+    uint32_t code = disk_setup(&gadget->disk, setup, data, &size);
+    if (code == USBDISK_ACK && setup[0] == 0x21 && setup[1] == 0xFF)
+        bulk_reset(&gadget->bulk);
     if (sends == (code == USBDISK_ACK))
         moved = write(gadget->control, data, size);
     else
