@@ -144,24 +144,18 @@ static bool measure(struct disk *disk)
     return true;
 }
 
-static uint64_t number_at(const uint8_t *bytes, int place)
-{
-    uint64_t number = 0;
-    for (int i = 7; i >= 0; i--)
-        number = number << 8 | bytes[8 * place + i];
-    return number;
-}
-
-/* What sector 0 tells. What is wrong with it the start says. */
+/* What sector 0 tells; nothing, where it is no super: what is wrong with it the start says. */
 static bool read_super(struct disk *disk)
 {
+    struct usbdisk_layout layout = { 0 };
     uint8_t *sector = disk->window[0];
     if (!read_sectors(disk, sector, 0, 1))
         return refuse_call(disk, "sector 0 is not read");
+    usbdisk_look(sector, &layout);
     disk->near = usbdisk_near(sector);
-    disk->format = number_at(sector, 1) == 1 ? 1 : 2;
-    disk->blocks = number_at(sector, 2);
-    disk->slots = number_at(sector, 3);
+    disk->format = layout.format;
+    disk->blocks = layout.blocks;
+    disk->slots = layout.slots;
     if (disk->near > disk->sectors)
         disk->near = disk->sectors;
     return true;
