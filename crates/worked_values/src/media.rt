@@ -27,7 +27,7 @@ impl Player for Media {
             "keep" | "again" | "swap" | "same" => self.copied(call.word(0), answer),
             "fuse" | "fail" => self.arm(call),
             "cut" => self.cut(call),
-            "start" => self.start(answer),
+            "start" => self.start(call, answer),
             "stop" => self.stop(),
             "unflushed" | "flushes" | "off" | "bytes" | "run" => {
                 images::look(self.seen()?, call, answer)
@@ -119,11 +119,15 @@ impl Media {
         Ok(())
     }
 
-    // Starts a store on the medium, and tells how many blocks it has. Where the start is refused, the
-    // medium comes back.
-    fn start(&mut self, answer: &mut String) -> Result<(), Stop> {
+    // `start` or `start ahead`: starts a store on the medium, and tells how many blocks it has. Where
+    // the start is refused, the medium comes back.
+    fn start(&mut self, call: Call, answer: &mut String) -> Result<(), Stop> {
         let medium = self.sim.take().ok_or(Stop::Missing)?;
-        let started = match Store::start(self.alloc, medium) {
+        let store = match call.word(1) {
+            "ahead" => Store::start_ahead(self.alloc, medium),
+            _ => Store::start(self.alloc, medium),
+        };
+        let started = match store {
             Ok(store) => {
                 let blocks = store.blocks();
                 self.store = Some(store);
