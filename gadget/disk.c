@@ -187,6 +187,7 @@ static bool refuse_start(struct disk *disk, uint32_t fault)
         [USBDISK_BAD_SIZE] = "refused: the sizes in sector 0 do not fit; it was cut off, or changed",
         [USBDISK_BAD_HEAD] = "refused: sector 1 is no head; the device breaks its promise",
         [USBDISK_STAMPS_USED_UP] = "refused: its stamps are used up",
+        [USBDISK_LITTLE_ROOM] = "refused: no room in the outbox",
     };
     const char *cause = fault < sizeof causes / sizeof *causes ? causes[fault] : NULL;
     char number[64];
