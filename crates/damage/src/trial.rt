@@ -8,7 +8,7 @@ use crate::record::whole_record;
 use crate::shape::{LAST_STAMP, head_of};
 use crate::standing::{Standing, Verdict, examine};
 use abstract_disk::{Array, Hearing, Write};
-use bot_machine::{Disk, Life, PacketSize, StartError, StartFault};
+use bot_machine::{Disk, Life, PacketSize, Retiring, StartError, StartFault};
 use judging::{Host, blocks_of, cut, disk_identity, play};
 use medium::{Kept, SimMedium};
 use recovery::recover;
@@ -133,7 +133,7 @@ pub(crate) fn live(
         kept: Kept::None,
     };
     let mut hearing = Hearing::new(alloc, opening, limit, PacketSize::High512)?;
-    Ok(play(alloc, medium, &life, &mut hearing)?.medium)
+    Ok(play(alloc, medium, Retiring::Late, &life, &mut hearing)?.medium)
 }
 
 fn is_fault(found: StartFault, wanted: StartFault) -> Result<(), Finding> {

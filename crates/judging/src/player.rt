@@ -4,10 +4,13 @@ ghost use Rattle.medium.specs.Sim.{IsFused, IsFailing};
 ghost use Rattle.bot_machine.specs.Lives.{arms, fails, starts};
 ghost use Rattle.bot_machine.specs.LivesValue.{medium_in, LivesGoOn, LivesRefuseStart};
 ghost use Rattle.bot_machine.specs.declared.stage.Stage.TheVariants.{Rests};
+ghost use Rattle.bot_machine.specs.declared.packet_size.PacketSize.TheVariants.{High512};
+ghost use Rattle.bot_machine.specs.Device.{device_by};
+ghost use Rattle.judging.specs.Judged.{judged_identity};
 
 use crate::finding::Finding;
 use crate::playing::disk_identity;
-use bot_machine::{Answer, Event, Lives, StartFault};
+use bot_machine::{Answer, Event, Lives, PacketSize, Retiring, StartFault};
 use medium::SimMedium;
 use std::alloc::{AllocError, Global};
 use std::marker::Model;
@@ -31,16 +34,19 @@ impl Model for Player {
 }
 
 impl Player {
-    /// No life has been yet.
+    /// No life has been yet. The disks retire records so.
     ///
     /// # Errors
     ///
     /// `Identity`, which never comes: the identity is a constant one.
-    pub fn new(medium: SimMedium) -> Result<Player, Finding>
-        ensures { IfOk result (λ player. player.stage ≡ Rests medium) }
+    pub fn new(medium: SimMedium, retiring: Retiring) -> Result<Player, Finding>
+        ensures { IfOk result (λ player. player ≡ record {
+          device = device_by judged_identity High512 retiring;
+          stage = Rests medium;
+        }) }
     {
         Ok(Player {
-            lives: Lives::new(medium, disk_identity()?),
+            lives: Lives::new_by(medium, disk_identity()?, PacketSize::High512, retiring),
         })
     }
 

@@ -5,7 +5,7 @@ ghost use Rattle.bot_machine.specs.LivesValue.{IsAtRest};
 
 use crate::finding::Finding;
 use abstract_disk::Hearing;
-use bot_machine::{Answer, Answers, Event, Identity, Life, run_lives};
+use bot_machine::{Answer, Answers, Event, Identity, Life, PacketSize, Retiring, run_lives_by};
 use medium::SimMedium;
 use std::alloc::{AllocError, Global};
 use std::slice;
@@ -20,8 +20,8 @@ pub struct Played {
     pub cut_in: Option<usize>,
 }
 
-/// Plays a life at high speed on a medium with its power on, nothing unflushed and no fuse armed. The
-/// hearing hears each answer up to the event in which the power went.
+/// Plays a life at high speed on a medium with its power on, nothing unflushed and no fuse armed. Its
+/// disk retires records so. The hearing hears each answer up to the event in which the power went.
 ///
 /// # Errors
 ///
@@ -30,6 +30,7 @@ pub struct Played {
 pub fn play(
     alloc: Global,
     medium: SimMedium,
+    retiring: Retiring,
     life: &Life,
     hearing: &mut Hearing,
 ) -> Result<Played, Finding>
@@ -39,7 +40,7 @@ pub fn play(
     ensures unfused { IfOk result (λ played. played.medium.power.fuse ≡ None) }
     ensures cut { IfOk result (λ played. OnSome played.cut_in (IsSome life.now.fuse)) }
 {
-    let (medium, answers) = live(alloc, medium, life)?;
+    let (medium, answers) = live(alloc, medium, retiring, life)?;
     let cut_in = hear(&life.events, answers.list(), hearing)?;
     match cut_in {
         Some(place) if life.fuse.is_none() => Err(Finding::Off(place)),
@@ -68,6 +69,7 @@ pub fn disk_identity() -> Result<Identity, Finding>
 pub(crate) fn live(
     alloc: Global,
     medium: SimMedium,
+    retiring: Retiring,
     life: &Life,
 ) -> Result<(SimMedium, Answers), Finding>
     requires rests { IsAtRest medium }
@@ -78,7 +80,16 @@ pub(crate) fn live(
     let room = life.events.len();
     let mut answers = Answers::with_room(alloc, room).ok_or(AllocError)?;
     let lives = slice::from_ref(life);
-    match run_lives(alloc, medium, disk_identity()?, lives, &mut answers) {
+    let size = PacketSize::High512;
+    match run_lives_by(
+        alloc,
+        medium,
+        disk_identity()?,
+        size,
+        retiring,
+        lives,
+        &mut answers,
+    ) {
         Ok(medium) => Ok((medium, answers)),
         Err(error) => Err(Finding::Start(error.fault)),
     }

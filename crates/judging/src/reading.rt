@@ -8,7 +8,7 @@ use crate::packet::{passed, power_on_sense, to_host};
 use crate::player::Player;
 use crate::playing::live;
 use abstract_disk::{Array, Block};
-use bot_machine::{Answer, Life};
+use bot_machine::{Answer, Life, Retiring};
 use medium::{Kept, SimMedium};
 use std::alloc::{AllocError, Global};
 
@@ -32,7 +32,7 @@ pub fn blocks_of(
     ensures count { IfOk result (λ served. length served.1.blocks.items ≡ blocks) }
 {
     let life = reading_life(alloc, blocks, limit)?;
-    let (medium, answers) = live(alloc, medium, &life)?;
+    let (medium, answers) = live(alloc, medium, Retiring::Late, &life)?;
     let array = blocks_in(alloc, answers.list(), blocks, limit)?;
     Ok((medium, array))
 }

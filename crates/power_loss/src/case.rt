@@ -1,5 +1,5 @@
 //! The lives that are cut, and in which a call of the medium is refused.
-use bot_machine::{Event, Life};
+use bot_machine::{Event, Life, Retiring};
 use judging::{Command, Direction, Finding, Format, Host, STROKES, Shape, Stroke};
 use medium::Kept;
 use std::alloc::Global;
@@ -13,6 +13,8 @@ pub(crate) enum Manner {
     /// The worked life, and behind each of its commands a READ of all blocks, TEST UNIT READY and
     /// REQUEST SENSE; at its end a READ with FUA.
     Watching,
+    /// Five writes of one or two blocks, each with FUA, on a disk that retires ahead.
+    Forcing,
 }
 
 /// The format of the image, the manner of the host, and how many steps in the background come between
@@ -28,18 +30,22 @@ pub(crate) struct Case {
 const CLEAR_IN: [u8; 8] = [0x02, 0x01, 0, 0, 0x81, 0, 0, 0];
 
 impl Case {
-    /// Each format with a plain host, without steps in the background and with two.
-    pub(crate) fn plain() -> [Case; 4] {
+    /// Each format with a plain host, and format 2 with one that forces each write, without steps in
+    /// the background and with two.
+    pub(crate) fn plain() -> [Case; 6] {
         [
             Case::new(Format::One, Manner::Plain, 0),
             Case::new(Format::Two, Manner::Plain, 0),
+            Case::new(Format::Two, Manner::Forcing, 0),
             Case::new(Format::One, Manner::Plain, 2),
             Case::new(Format::Two, Manner::Plain, 2),
+            Case::new(Format::Two, Manner::Forcing, 2),
         ]
     }
 
-    /// Each format, with each manner, without steps in the background and with two.
-    pub(crate) fn all() -> [Case; 8] {
+    /// Each format, with each manner, without steps in the background and with two. A disk of format 1
+    /// never retires ahead.
+    pub(crate) fn all() -> [Case; 10] {
         [
             Case::new(Format::One, Manner::Plain, 0),
             Case::new(Format::One, Manner::Plain, 2),
@@ -49,6 +55,8 @@ impl Case {
             Case::new(Format::Two, Manner::Plain, 2),
             Case::new(Format::Two, Manner::Watching, 0),
             Case::new(Format::Two, Manner::Watching, 2),
+            Case::new(Format::Two, Manner::Forcing, 0),
+            Case::new(Format::Two, Manner::Forcing, 2),
         ]
     }
 
@@ -60,12 +68,24 @@ impl Case {
         }
     }
 
-    /// A few blocks, and two log slots, so that the third record finds none free.
+    /// A few blocks, and two log slots, so that the third record finds none free. A disk that retires
+    /// ahead wants three.
     pub(crate) fn shape(self) -> Shape {
         Shape {
             format: self.format,
             blocks: 16,
-            slots: 2,
+            slots: match self.retiring() {
+                Retiring::Late => 2,
+                Retiring::Ahead => 3,
+            },
+        }
+    }
+
+    /// When the disk retires its records.
+    pub(crate) fn retiring(self) -> Retiring {
+        match self.manner {
+            Manner::Plain | Manner::Watching => Retiring::Late,
+            Manner::Forcing => Retiring::Ahead,
         }
     }
 
@@ -85,6 +105,7 @@ impl Case {
         match self.manner {
             Manner::Plain => host.worked_life(alloc),
             Manner::Watching => watch_life(alloc, host),
+            Manner::Forcing => force_life(alloc, host),
         }
     }
 }
@@ -99,6 +120,7 @@ impl fmt::Display for Case {
         let host = match manner {
             Manner::Plain => "a plain host",
             Manner::Watching => "a watching host",
+            Manner::Forcing => "a forcing host and a disk that retires ahead",
         };
         write!(f, "{format}, {host}, {ticks} ticks between events")
     }
@@ -116,6 +138,32 @@ fn watch_life(alloc: Global, host: &mut Host) -> Result<(), Finding> {
     host.synchronize()?;
     watch(host)?;
     read_all(host, true)
+}
+
+// REQUEST SENSE, and the writes of a host that forces each.
+fn force_life(alloc: Global, host: &mut Host) -> Result<(), Finding> {
+    host.request_sense()?;
+    let mut byte = 0u8;
+    for stroke in [
+        forced(0, 2),
+        forced(1, 1),
+        forced(1, 2),
+        forced(4, 1),
+        forced(0, 1),
+    ] {
+        byte = byte.wrapping_add(1);
+        write(alloc, host, stroke, byte)?;
+    }
+    Ok(())
+}
+
+// A write of so many blocks to this address, with FUA.
+fn forced(address: u32, count: u32) -> Stroke {
+    Stroke {
+        address,
+        count,
+        forced: true,
+    }
 }
 
 // A write whose blocks are full of this byte.

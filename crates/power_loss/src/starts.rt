@@ -8,7 +8,7 @@
 use crate::fault::Fault;
 use crate::image::{hearing_over, tell};
 use abstract_disk::{Array, Hearing};
-use bot_machine::{Answer, Event, StartFault};
+use bot_machine::{Answer, Event, Retiring, StartFault};
 use judging::{Finding, Format, Host, Player, Shape, Stroke, copied, hear, served};
 use medium::{SimError, SimMedium};
 use std::alloc::{AllocError, Global};
@@ -79,7 +79,7 @@ fn start_disks(alloc: Global, format: Format) -> Result<AtOnce, Fault> {
         blocks: BLOCKS,
         slots: 8,
     };
-    let mut player = Player::new(shape.fresh(alloc)?)?;
+    let mut player = Player::new(shape.fresh(alloc)?, Retiring::Late)?;
     start_and_write(alloc, format, &mut player)
 }
 
@@ -165,7 +165,7 @@ fn hear_all(events: &[Event], answers: &[Answer], hearing: &mut Hearing) -> Resu
 // Starts a disk on a medium whose log has records that wait: it serves what was written. Whether the
 // first start had memory.
 fn start_on_records(alloc: Global, format: Format, medium: &SimMedium) -> Result<bool, Fault> {
-    let mut player = Player::new(copied(alloc, medium)?)?;
+    let mut player = Player::new(copied(alloc, medium)?, Retiring::Late)?;
     start_and_read(alloc, format, &mut player)
 }
 

@@ -49,7 +49,7 @@ impl Judge {
         Ok(Judge {
             alloc,
             shape,
-            player: Player::new(medium, shape.size)?,
+            player: Player::new(medium, shape)?,
             opening: Array::zeros(alloc, shape.image.blocks as usize)?,
             stage: Stage::Waits,
             fused: false,

@@ -3,6 +3,7 @@ ghost use Rattle.std.specs.Prelude.{◌≡◌, ◌<◌};
 ghost use Rattle.bot_machine.specs.PacketBytes.{bytes_of};
 
 use crate::finding::Finding;
+use crate::shape::Shape;
 use bot_machine::{Answer, Event, Lives, PacketSize, StartFault};
 use judging::disk_identity;
 use medium::{Kept, SimMedium};
@@ -18,10 +19,11 @@ pub(crate) struct Player {
 
 impl Player {
     /// No life has been yet.
-    pub(crate) fn new(medium: SimMedium, size: PacketSize) -> Result<Player, Finding> {
+    pub(crate) fn new(medium: SimMedium, shape: Shape) -> Result<Player, Finding> {
+        let Shape { size, retiring, .. } = shape;
         Ok(Player {
             size,
-            lives: Lives::new_with(medium, disk_identity()?, size),
+            lives: Lives::new_by(medium, disk_identity()?, size, retiring),
         })
     }
 

@@ -1,21 +1,23 @@
-//! The shape of an image and of the packets.
+//! The shape of an image, the packets, and when records are retired.
 use crate::random::Random;
-use bot_machine::PacketSize;
+use bot_machine::{PacketSize, Retiring};
 use judging::Format;
 use std::fmt;
 
-/// The shape of an image, and the packets of its disk.
+/// The shape of an image, the packets of its disk, and when that retires its records.
 #[derive(Clone, Copy, Debug)]
 pub(crate) struct Shape {
     pub(crate) image: judging::Shape,
     pub(crate) size: PacketSize,
+    pub(crate) retiring: Retiring,
 }
 
 impl Shape {
-    /// Small images come more often than large ones.
+    /// Small images come more often than large ones. A disk retires ahead in format 2 with three slots
+    /// or more alone.
     pub(crate) fn random(random: &mut Random) -> Shape {
         let blocks = random.one_of(&[1, 15, 15, 16, 16, 16, 16, 48, 48, 1000]);
-        let slots = random.one_of(&[1, 1, 1, 2, 2, 2, 7, 7, 64]);
+        let slots = random.one_of(&[1, 1, 1, 2, 2, 3, 3, 7, 64]);
         let format = if random.one_in(2) {
             Format::Two
         } else {
@@ -31,6 +33,11 @@ impl Shape {
                 PacketSize::Full64
             } else {
                 PacketSize::High512
+            },
+            retiring: if random.one_in(2) {
+                Retiring::Ahead
+            } else {
+                Retiring::Late
             },
         }
     }
@@ -54,6 +61,9 @@ impl fmt::Display for Shape {
             f,
             "# usbdisk format IMAGE --blocks {blocks} --slots {slots} --format {format}"
         )?;
+        if self.retiring == Retiring::Ahead {
+            writeln!(f, "# by a disk that retires ahead, which sim's does not")?;
+        }
         write!(f, "# usbdisk sim IMAGE SCRIPT --packet {packet}")
     }
 }

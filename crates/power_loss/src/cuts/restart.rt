@@ -6,7 +6,7 @@ use crate::counts::{Cuts, count};
 use crate::fault::Fault;
 use crate::image::{hearing_over, served_by};
 use abstract_disk::{Array, Hearing};
-use bot_machine::{Event, Life};
+use bot_machine::{Event, Life, Retiring};
 use judging::{Shape, copied, play};
 use medium::{Kept, SimMedium};
 use std::alloc::Global;
@@ -58,7 +58,13 @@ impl<'a> Restart<'a> {
         hearing: &mut Hearing,
         counts: &mut Cuts,
     ) -> Result<bool, Fault> {
-        let played = play(alloc, copied(alloc, self.image)?, life, hearing)?;
+        let played = play(
+            alloc,
+            copied(alloc, self.image)?,
+            Retiring::Late,
+            life,
+            hearing,
+        )?;
         count(&mut counts.restarts);
         let cut = played.cut_in.is_some();
         self.third(alloc, played.medium, counts)?;

@@ -54,7 +54,7 @@ impl Trial {
 
     // Cuts the life with this fuse. Gives where the power went.
     fn cut_at(&mut self, alloc: Global, fuse: u64, counts: &mut Cuts) -> Result<Place, Fault> {
-        let mut player = Player::new(copied(alloc, &self.fresh)?)?;
+        let mut player = Player::new(copied(alloc, &self.fresh)?, self.case.retiring())?;
         player.fuse(fuse);
         self.life.fuse = Some(fuse);
         self.cut_player(alloc, fuse, &mut player, counts)
@@ -135,7 +135,8 @@ impl Trial {
         mask: u64,
         hearing: &mut Hearing,
     ) -> Result<SimMedium, Fault> {
-        let played = play(alloc, copied(alloc, &self.fresh)?, &self.life, hearing)?;
+        let fresh = copied(alloc, &self.fresh)?;
+        let played = play(alloc, fresh, self.case.retiring(), &self.life, hearing)?;
         burnt.is_left(alloc, mask, &played)?;
         Ok(played.medium)
     }
@@ -174,7 +175,7 @@ impl Trial {
             .event()
             .and_then(|event| self.life.events.get(event));
         if self.case.ticks == 0 {
-            let (wanted, writes) = place_at(self.case.format, burnt.fuse);
+            let (wanted, writes) = place_at(self.case, burnt.fuse);
             if burnt.place != wanted {
                 return Err(Fault::Place);
             }

@@ -63,13 +63,14 @@ impl Trial {
     }
 
     fn heard(&self, alloc: Global, hearing: &mut Hearing) -> Result<SimMedium, Fault> {
-        let played = play(alloc, copied(alloc, &self.image)?, &self.life, hearing)?;
+        let image = copied(alloc, &self.image)?;
+        let played = play(alloc, image, self.case.retiring(), &self.life, hearing)?;
         Ok(played.medium)
     }
 
     // Lives the life with this call refused. Whether there was such a call.
     fn fail_at(&self, alloc: Global, call: u64, counts: &mut Failures) -> Result<bool, Fault> {
-        let mut player = Player::new(copied(alloc, &self.image)?)?;
+        let mut player = Player::new(copied(alloc, &self.image)?, self.case.retiring())?;
         player.fail(call.max(1));
         self.live(alloc, &mut player, counts)
     }

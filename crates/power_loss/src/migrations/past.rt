@@ -4,7 +4,7 @@ use crate::fault::Fault;
 use crate::image::{hearing_over, served_by};
 use crate::migrations::image::Size;
 use abstract_disk::{Array, Hearing};
-use bot_machine::{Event, Life};
+use bot_machine::{Event, Life, Retiring};
 use judging::{Finding, Format, copied, play};
 use medium::{Kept, SimMedium};
 use std::alloc::Global;
@@ -61,7 +61,14 @@ impl Past {
         counts: &mut Migrations,
     ) -> Result<(), Fault> {
         count(&mut counts.lives);
-        self.medium = play(alloc, copied(alloc, &self.medium)?, life, hearing)?.medium;
+        self.medium = play(
+            alloc,
+            copied(alloc, &self.medium)?,
+            Retiring::Late,
+            life,
+            hearing,
+        )?
+        .medium;
         count(&mut counts.lives);
         self.array = served_by(alloc, self.size.shape(), copied(alloc, &self.medium)?)?;
         self.judge(hearing)
