@@ -7,7 +7,7 @@
 #include <stdlib.h>
 #include <string.h>
 
-enum { BLOCKS = 500, SPAN = 48, ROOM = 16, PAINT = 0x5A, STACK = 1 << 20 };
+enum { BLOCKS = 500, SPAN = 48, PAINT = 0x5A, STACK = 1 << 20 };
 
 static const struct usbdisk_identity who = { "EXAMPLE ", "MEMORY          ", "0001",
                                              "000000000001" };
@@ -131,9 +131,10 @@ int main(int count, char **words)
     for (uint32_t format = 1; format <= 2; format++) {
         for (uint64_t slots = 1; slots <= 64; slots++) {
             struct usbdisk disk = USBDISK_NONE;
-            if (!make_device(format, slots) || start(&disk, ROOM))
+            uint64_t room = usbdisk_room(format, slots);
+            if (!make_device(format, slots) || start(&disk, room))
                 return EXIT_FAILURE;
-            uint64_t told = usbdisk_memory(near_size(), format, slots, SPAN, ROOM);
+            uint64_t told = usbdisk_memory(near_size(), format, slots, SPAN, room);
             if (told != heap_now || (!quiet && slots % 21 == 1))
                 printf("format %u, %llu slots: %zu bytes, told %llu\n", format,
                        (unsigned long long)slots, heap_now, (unsigned long long)told);
@@ -152,14 +153,14 @@ int main(int count, char **words)
     }
     if (!quiet)
         printf("stack: %zu bytes in a start, %zu in an event\n", starts, events);
-    wrong |= starts > 32768 || events > 16384;
+    wrong |= starts > 40960 || events > 16384;
     if (!make_device(1, 2))
         return EXIT_FAILURE;
     int taken = 0;
     for (uint32_t code = USBDISK_NO_MEMORY; code; taken++) {
         struct usbdisk disk = USBDISK_NONE;
         heap_fails = taken + 1;
-        code = start(&disk, 64);
+        code = start(&disk, usbdisk_room(1, 2));
         heap_fails = 0;
         if (code)
             wrong |= code != USBDISK_NO_MEMORY || heap_blocks != 0;
