@@ -15,8 +15,8 @@ use medium::SimMedium;
 use std::alloc::{AllocError, Global};
 use std::marker::Model;
 
-/// Plays lives at high speed on a medium in memory, event by event, so that the medium is seen while
-/// its power is off, and a refusal can be armed.
+/// Plays lives at high speed on a medium in memory, event by event, so that the medium is seen
+/// while its power is off, and a refusal can be armed.
 #[derive(Drop)]
 pub struct Player {
     lives: Lives,
@@ -66,8 +66,8 @@ impl Player {
         self.lives.fuse(writes);
     }
 
-    /// Arms a failure: the call of the medium with this number from now on, counted from 1, is refused
-    /// once.
+    /// Arms a failure: the call of the medium with this number from now on, counted from 1, is
+    /// refused once.
     pub fn fail(&mut self, call: u64)
         requires { 0 < call }
         ensures goes_on { LivesGoOn self.old (fails call ∷ []) [] self.new }

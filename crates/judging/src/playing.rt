@@ -20,13 +20,14 @@ pub struct Played {
     pub cut_in: Option<usize>,
 }
 
-/// Plays a life at high speed on a medium with its power on, nothing unflushed and no fuse armed. Its
-/// disk retires records so. The hearing hears each answer up to the event in which the power went.
+/// Plays a life at high speed on a medium with its power on, nothing unflushed and no fuse armed.
+/// Its disk retires records so. The hearing hears each answer up to the event in which the power
+/// went.
 ///
 /// # Errors
 ///
-/// `Answer` where no abstract disk gives that answer, or where the power is on again before the cut;
-/// `Off` where the power went without a fuse; `Start` where the start was refused.
+/// `Answer` where no abstract disk gives that answer, or where the power is on again before the
+/// cut; `Off` where the power went without a fuse; `Start` where the start was refused.
 pub fn play(
     alloc: Global,
     medium: SimMedium,
@@ -100,8 +101,8 @@ pub(crate) fn live(
 ///
 /// # Errors
 ///
-/// `Answer` where no abstract disk gives that answer, or where the power is on again before the cut;
-/// `Count` where there are not as many answers as events.
+/// `Answer` where no abstract disk gives that answer, or where the power is on again before the
+/// cut; `Count` where there are not as many answers as events.
 pub fn hear(
     events: &[Event],
     told: &[Answer],

@@ -17,8 +17,8 @@ pub(crate) enum Manner {
     Forcing,
 }
 
-/// The format of the image, the manner of the host, and how many steps in the background come between
-/// any two events. On the image are 16 blocks.
+/// The format of the image, the manner of the host, and how many steps in the background come
+/// between any two events. On the image are 16 blocks.
 #[derive(Clone, Copy, Debug)]
 pub(crate) struct Case {
     pub(crate) format: Format,
@@ -30,8 +30,8 @@ pub(crate) struct Case {
 const CLEAR_IN: [u8; 8] = [0x02, 0x01, 0, 0, 0x81, 0, 0, 0];
 
 impl Case {
-    /// Each format with a plain host, and format 2 with one that forces each write, without steps in
-    /// the background and with two.
+    /// Each format with a plain host, and format 2 with one that forces each write, without steps
+    /// in the background and with two.
     pub(crate) fn plain() -> [Case; 6] {
         [
             Case::new(Format::One, Manner::Plain, 0),
@@ -43,8 +43,8 @@ impl Case {
         ]
     }
 
-    /// Each format, with each manner, without steps in the background and with two. A disk of format 1
-    /// never retires ahead.
+    /// Each format, with each manner, without steps in the background and with two. A disk of
+    /// format 1 never retires ahead.
     pub(crate) fn all() -> [Case; 10] {
         [
             Case::new(Format::One, Manner::Plain, 0),
@@ -68,8 +68,8 @@ impl Case {
         }
     }
 
-    /// A few blocks, and two log slots, so that the third record finds none free. A disk that retires
-    /// ahead wants three.
+    /// A few blocks, and two log slots, so that the third record finds none free. A disk that
+    /// retires ahead wants three.
     pub(crate) fn shape(self) -> Shape {
         Shape {
             format: self.format,

@@ -13,8 +13,8 @@ pub(crate) struct Shape {
 }
 
 impl Shape {
-    /// Small images come more often than large ones. A disk retires ahead in format 2 with three slots
-    /// or more alone.
+    /// Small images come more often than large ones. A disk retires ahead in format 2 with three
+    /// slots or more alone.
     pub(crate) fn random(random: &mut Random) -> Shape {
         let blocks = random.one_of(&[1, 15, 15, 16, 16, 16, 16, 48, 48, 1000]);
         let slots = random.one_of(&[1, 1, 1, 2, 2, 3, 3, 7, 64]);

@@ -31,8 +31,8 @@ impl Place {
     }
 }
 
-// An event that makes writes and flushes: its number, the first fuse with which the power stays on in
-// it, and the least and the greatest number of the writes after which the blocks may be found.
+// An event that makes writes and flushes: its number, the first fuse with which the power stays on
+// in it, and the least and the greatest number of the writes after which the blocks may be found.
 #[derive(Clone, Copy, Debug)]
 struct Span {
     event: usize,
@@ -50,14 +50,14 @@ fn calls_in(event: usize, end: u64, least: usize, most: usize) -> Span {
     }
 }
 
-// REQUEST SENSE is events 0 to 2. The writes of the worked life begin with events 3, 7, 12, 15 and 18.
-// Those with calls are in the last packet of the second and of the fourth write, and in the wrapper of
-// SYNCHRONIZE CACHE.
+// REQUEST SENSE is events 0 to 2. The writes of the worked life begin with events 3, 7, 12, 15 and
+// 18. Those with calls are in the last packet of the second and of the fourth write, and in the
+// wrapper of SYNCHRONIZE CACHE.
 //
 // The second write makes the calls of a record of four blocks, the fourth those of one of two.
-// SYNCHRONIZE CACHE finds no slot free: it first retires the oldest record by four blocks, flush, head,
-// flush, and then makes a record of two blocks. A record makes descriptor, blocks, flush, commit, flush
-// in format 1, and descriptor, blocks, commit, flush in format 2.
+// SYNCHRONIZE CACHE finds no slot free: it first retires the oldest record by four blocks, flush,
+// head, flush, and then makes a record of two blocks. A record makes descriptor, blocks, flush,
+// commit, flush in format 1, and descriptor, blocks, commit, flush in format 2.
 fn worked(format: Format) -> [Span; 3] {
     match format {
         Format::One => [
@@ -73,10 +73,10 @@ fn worked(format: Format) -> [Span; 3] {
     }
 }
 
-// The writes of a host that forces each begin with events 3, 7, 10, 14 and 17, and each makes its calls
-// in its last packet, of which one is a flush: the last one of its record. The second one first sends
-// the first record home. Each later one first writes the head past the record that went home before,
-// and sends the next one home.
+// The writes of a host that forces each begin with events 3, 7, 10, 14 and 17, and each makes its
+// calls in its last packet, of which one is a flush: the last one of its record. The second one
+// first sends the first record home. Each later one first writes the head past the record that went
+// home before, and sends the next one home.
 fn forced_ahead() -> [Span; 5] {
     [
         calls_in(5, 9, 0, 1),
