@@ -1,8 +1,9 @@
 /* usbdisk-usbip: an image file or a block device as a USB disk for hosts that attach it over USB/IP. */
 #include "program.h"
 #include "usbip.h"
+#include <arpa/inet.h>
 #include <errno.h>
-#include <netdb.h>
+#include <net/if.h>
 #include <netinet/in.h>
 #include <netinet/tcp.h>
 #include <stdio.h>
@@ -78,20 +79,55 @@ static bool read_options(struct options *options, char **words)
     return options->image != NULL;
 }
 
-static bool is_loopback(const struct addrinfo *found)
+/* An address of this machine, with its port. */
+union address {
+    struct sockaddr any;
+    struct sockaddr_in four;
+    struct sockaddr_in6 six;
+};
+
+/* The interface behind the % of an address, by name or number, or 0. */
+static uint32_t read_scope(const char *text)
 {
-    if (found->ai_family == AF_INET)
-        return ntohl(((const struct sockaddr_in *)found->ai_addr)->sin_addr.s_addr) >> 24 == 127;
-    return IN6_IS_ADDR_LOOPBACK(&((const struct sockaddr_in6 *)found->ai_addr)->sin6_addr);
+    uint64_t number;
+    return read_number(text, 1, UINT32_MAX, &number) ? (uint32_t)number : if_nametoindex(text);
 }
 
-static int listen_at(const struct addrinfo *found)
+/* Of IPv4 or IPv6, in digits. (No name is looked up: what that needs is no part of a program that is linked as a whole.) */
+static bool read_address(union address *address, const char *text, uint64_t port)
 {
-    int one = 1, listener = socket(found->ai_family, SOCK_STREAM | SOCK_CLOEXEC | SOCK_NONBLOCK, 0);
+    char digits[INET6_ADDRSTRLEN];
+    size_t length = strcspn(text, "%");
+    memset(address, 0, sizeof *address);
+    address->four.sin_family = AF_INET;
+    address->four.sin_port = htons((uint16_t)port);
+    if (inet_pton(AF_INET, text, &address->four.sin_addr) == 1)
+        return true;
+    if (length >= sizeof digits)
+        return false;
+    memcpy(digits, text, length);
+    digits[length] = 0;
+    memset(address, 0, sizeof *address);
+    address->six.sin6_family = AF_INET6;
+    address->six.sin6_port = htons((uint16_t)port);
+    address->six.sin6_scope_id = text[length] ? read_scope(text + length + 1) : 0;
+    return inet_pton(AF_INET6, digits, &address->six.sin6_addr) == 1 && (!text[length] || address->six.sin6_scope_id);
+}
+
+static bool is_loopback(const union address *address)
+{
+    if (address->any.sa_family == AF_INET)
+        return ntohl(address->four.sin_addr.s_addr) >> 24 == 127;
+    return IN6_IS_ADDR_LOOPBACK(&address->six.sin6_addr);
+}
+
+static int listen_at(const union address *address)
+{
+    int one = 1, listener = socket(address->any.sa_family, SOCK_STREAM | SOCK_CLOEXEC | SOCK_NONBLOCK, 0);
     if (listener < 0)
         return -1;
     setsockopt(listener, SOL_SOCKET, SO_REUSEADDR, &one, sizeof one);
-    if (bind(listener, found->ai_addr, found->ai_addrlen) == 0 && listen(listener, CLIENTS) == 0)
+    if (bind(listener, &address->any, sizeof *address) == 0 && listen(listener, CLIENTS) == 0)
         return listener;
     close(listener);
     return -1;
@@ -100,31 +136,27 @@ static int listen_at(const struct addrinfo *found)
 /* The port that the system took. */
 static unsigned port_of(int listener)
 {
-    struct sockaddr_storage name;
+    union address name;
     socklen_t size = sizeof name;
-    char port[8] = "0";
-    getsockname(listener, (struct sockaddr *)&name, &size);
-    getnameinfo((struct sockaddr *)&name, size, NULL, 0, port, sizeof port, NI_NUMERICSERV);
-    return (unsigned)atoi(port);
+    if (getsockname(listener, &name.any, &size))
+        return 0;
+    return ntohs(name.any.sa_family == AF_INET ? name.four.sin_port : name.six.sin6_port);
 }
 
 static bool open_listener(struct server *server, const struct options *options)
 {
-    struct addrinfo hints = { .ai_flags = AI_NUMERICHOST | AI_NUMERICSERV, .ai_socktype = SOCK_STREAM }, *found;
-    char port[8];
-    snprintf(port, sizeof port, "%u", (unsigned)options->port);
-    if (getaddrinfo(options->address, port, &hints, &found)) {
+    union address address;
+    if (!read_address(&address, options->address, options->port)) {
         say("%s: no address in digits", options->address);
         return false;
     }
-    if (!is_loopback(found))
+    if (!is_loopback(&address))
         say("warning: USB/IP knows no access control: who reaches %s has the disk", options->address);
-    server->listener = listen_at(found);
-    if (server->listener < 0)
-        say("%s port %s: not to be listened on: %s", options->address, port, strerror(errno));
-    freeaddrinfo(found);
-    if (server->listener < 0)
+    server->listener = listen_at(&address);
+    if (server->listener < 0) {
+        say("%s port %u: not to be listened on: %s", options->address, (unsigned)options->port, strerror(errno));
         return false;
+    }
     say("%s: format %u, %llu blocks, at %s speed on %s port %u, bus id 1-1", options->image, server->disk.format,
         (unsigned long long)server->disk.blocks, options->packet == 512 ? "high" : "full", options->address,
         port_of(server->listener));

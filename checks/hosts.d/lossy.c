@@ -1,12 +1,11 @@
-/* A library for LD_PRELOAD: keeps in the file $LOSSY, beside each write to the image that is not flushed yet, what stood there
- * before, sector by sector. A flush empties the file; with $LOSSY_LIES it does not, as if the device's flush did nothing. The
- * file outlives SIGKILL: `poke lose` then takes writes back, as a loss of power does. */
-#define _GNU_SOURCE
-#include <dlfcn.h>
+/* Linked into a program, it stands before two calls of the C library. It keeps in the file $LOSSY, beside each write to the image
+ * that is not flushed yet, what stood there before, sector by sector. A flush empties the file; with $LOSSY_LIES it does not, as
+ * if the device's flush did nothing. The file outlives SIGKILL: `poke lose` then takes writes back, as a loss of power does. */
 #include <fcntl.h>
 #include <stdint.h>
 #include <stdlib.h>
 #include <string.h>
+#include <sys/syscall.h>
 #include <unistd.h>
 
 /* FLUSH: how many microseconds a flush takes, as of a card, so that a kill comes before one as often as behind it. */
@@ -27,7 +26,6 @@ __attribute__((constructor)) static void begin(void)
     const char *path = getenv("LOSSY");
     if (path)
         journal.file = open(path, O_WRONLY | O_CREAT | O_APPEND | O_CLOEXEC, 0600);
-    unsetenv("LD_PRELOAD");
 }
 
 static void note(int image, size_t size, off_t place)
@@ -47,18 +45,16 @@ static void note(int image, size_t size, off_t place)
 
 ssize_t pwrite(int file, const void *bytes, size_t size, off_t place)
 {
-    ssize_t (*next)(int, const void *, size_t, off_t) = (ssize_t(*)(int, const void *, size_t, off_t))dlsym(RTLD_NEXT, "pwrite");
     if (journal.file >= 0)
         note(file, size, place);
-    return next(file, bytes, size, place);
+    return syscall(SYS_pwrite64, file, bytes, size, place);
 }
 
 int fdatasync(int file)
 {
-    int (*next)(int) = (int (*)(int))dlsym(RTLD_NEXT, "fdatasync");
     if (journal.file >= 0)
         usleep(FLUSH);
     if (journal.file >= 0 && !getenv("LOSSY_LIES") && ftruncate(journal.file, 0))
         return -1;
-    return next(file);
+    return (int)syscall(SYS_fdatasync, file);
 }

@@ -1,6 +1,5 @@
-/* A library to be loaded before a program (LD_PRELOAD): the flush whose number FLUSHES tells, counted from 1, is refused, and
- * all behind it. */
-#define _GNU_SOURCE
+/* Linked into a program, it stands before the C library's fdatasync: the flush whose number FLUSHES tells, counted from 1, is
+ * refused, and all behind it. */
 #include <errno.h>
 #include <stdlib.h>
 #include <sys/syscall.h>

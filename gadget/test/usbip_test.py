@@ -1,12 +1,13 @@
 #!/usr/bin/env python3
 """Tests of usbdisk-usbip by a host of its own: usbip_test.py PROGRAM FOLDER [MESSAGES]. Each test is a function `it_..`. In the
-folder lie `hostile` and `refuse_flush.so`, made of the sources beside this file."""
+folder lies `hostile`, made of the source beside this file, and beside the program PROGRAM.refusing, with refuse_flush.c in it."""
 
 import fcntl
 import os
 import random
 import resource
 import signal
+import socket
 import struct
 import subprocess
 import sys
@@ -151,6 +152,29 @@ def it_serves_a_terabyte_in_little_memory():
     host = attached(server.port).set_up()
     for number, address in enumerate(places):
         assert host.read_blocks(address, 240) == pattern(number, 240)
+    ends_well(server)
+    os.remove("disk.img")
+
+
+def it_serves_8_gib_in_less_than_4_mib():
+    """As far as the program brings its C library with it: else it depends on how much of that the system keeps in memory."""
+    make_image("disk.img", 2, 16775720, SLOTS)
+    server = again()
+    host = attached(server.port).set_up()
+    with open(f"/proc/{server.process.pid}/maps", encoding="ascii") as file:
+        is_whole = ".so" not in file.read()
+    draw = random.Random(8)
+    for number in range(1100):
+        count = draw.choice([8, 240, 240, 240])
+        address = draw.randrange(16775720 - count)
+        assert host.write(address, pattern(number, count), forced=number % 4 == 0) == 0
+        host.read_blocks(draw.choice([address, draw.randrange(16775720 - count)]), count)
+    assert host.synchronize() == 0
+    with open(f"/proc/{server.process.pid}/status", encoding="ascii") as file:
+        most = int(file.read().split("VmHWM:")[1].split()[0])
+    if is_whole:
+        print(f"8 GiB are served in {most} KiB of memory")
+        assert most <= 4096
     ends_well(server)
     os.remove("disk.img")
 
@@ -345,8 +369,7 @@ def it_goes_on_where_the_device_refuses_a_flush():
     make_image("disk.img", 2, BLOCKS, SLOTS)
     promised, told = bytes(5120), set()
     for number in range(1, 8):
-        refusing = {"LD_PRELOAD": f"{FOLDER}/refuse_flush.so", "FLUSHES": str(number), "ASAN_OPTIONS": "verify_asan_link_order=0"}
-        server = Server(PROGRAM, "disk.img", env=os.environ | refusing)
+        server = Server(f"{PROGRAM}.refusing", "disk.img", env=os.environ | {"FLUSHES": str(number)})
         data = pattern(number, 10)
         if server.port:
             host = attached(server.port).set_up()
@@ -439,9 +462,24 @@ def it_listens_where_it_is_told():
         refused(4, "locked")
         ends_well(server)
     make_image("disk.img", 2, BLOCKS, SLOTS)
-    for words, text in ((["--listen", "localhost"], "no address in digits"), (["--listen", "192.0.2.1"], "not to be listened on")):
-        run = subprocess.run([PROGRAM, "disk.img", *words], stderr=subprocess.PIPE, timeout=120, check=False)
+    for address, text in (("localhost", "no address in digits"), ("127.0.0.1.1", "no address in digits"), ("", "no address in digits"),
+                          ("::1%", "no address in digits"), ("::1%nowhere", "no address in digits"), ("1" * 100, "no address in digits"),
+                          ("192.0.2.1", "not to be listened on"), ("2001:db8::1", "not to be listened on")):
+        run = subprocess.run([PROGRAM, "disk.img", "--listen", address], stderr=subprocess.PIPE, timeout=120, check=False)
         assert run.returncode == 4 and text in run.stderr.decode(), run
+
+
+def it_listens_by_the_sixth_version_too():
+    try:
+        socket.create_server(("::1", 0), family=socket.AF_INET6).close()
+    except OSError:
+        print("no ::1 here: left out")
+        return
+    for address, warns in (("::1", False), ("::", True), ("::1%lo", False), ("::1%1", False)):
+        server = served(2, "--listen", address)
+        assert ("warning: USB/IP knows no access control" in server.text()) == warns, server.text()
+        socket.create_connection(("::1", server.port), timeout=60).close()
+        ends_well(server)
 
 
 def it_outlives_hostile_clients():
