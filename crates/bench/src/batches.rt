@@ -18,32 +18,27 @@ fn put_each(batch: &mut Batch, addresses: &[u8]) -> bool {
     true
 }
 
-// Whether the blocks stand in the order of their numbers, each with its own in front.
-fn are_in_order(frozen: &Frozen, count: u8) -> bool {
-    let mut place = 0;
-    for block in frozen.bytes().chunks_exact(BLOCK) {
-        if block[0] != place {
+// Puts a block at each address and freezes the batch, so many times. The last one has to have all.
+fn fill_each(batch: &mut Batch, frozen: &mut Frozen, addresses: &[u8], count: u32) -> bool {
+    for _ in 0..count {
+        frozen.clear();
+        if !put_each(batch, addresses) {
             return false;
         }
-        place = place.wrapping_add(1);
+        batch.freeze(frozen);
     }
-    place == count
+    frozen.numbers().len() == addresses.len()
 }
 
 // Fills a batch in this order and freezes it, so many times. The answer is the number of blocks.
 pub(crate) fn fill_batches(alloc: Global, blocks: u8, order: Order, count: u32) -> Option<u64> {
+    let order = addresses(order, blocks);
+    let addresses = order.get(..blocks as usize)?;
     let mut batch = Batch::new(alloc, blocks as usize).ok()?;
     let mut frozen = Frozen::new(alloc, blocks as usize).ok()?;
-    let order = addresses(order, blocks);
-    for _ in 0..count {
-        frozen.clear();
-        if !put_each(&mut batch, order.get(..blocks as usize)?) {
-            return None;
-        }
-        batch.freeze(&mut frozen);
+    if fill_each(&mut batch, &mut frozen, addresses, count) {
+        Some(u64::from(blocks))
+    } else {
+        None
     }
-    if !are_in_order(&frozen, blocks) {
-        return None;
-    }
-    Some(u64::from(blocks))
 }

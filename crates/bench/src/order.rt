@@ -1,7 +1,7 @@
 // The orders in which blocks are written one by one.
 
 // The most blocks of a transfer, in either format.
-const MOST: usize = 240;
+pub(crate) const MOST: usize = 240;
 
 // An order of the addresses from 0 on.
 #[derive(Clone, Copy)]
@@ -28,8 +28,10 @@ fn shuffled(count: u8) -> [u8; MOST] {
 // The addresses from 0 on.
 fn ascending() -> [u8; MOST] {
     let mut addresses = [0; MOST];
-    for (address, place) in addresses.iter_mut().zip(0..=u8::MAX) {
+    let mut place: u8 = 0;
+    for address in &mut addresses {
         *address = place;
+        place = place.wrapping_add(1);
     }
     addresses
 }

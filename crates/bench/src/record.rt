@@ -8,25 +8,32 @@ use std::alloc::Global;
 
 // A WRITE with FUA of so many blocks.
 fn write_through(disk: &mut Disk<SimMedium>, blocks: u8) -> bool {
-    write(disk, FUA, 0, blocks, &[0xa5; BLOCK])
+    let block = [0xa5; BLOCK];
+    write(disk, FUA, 0, blocks, &block)
 }
 
 // The flushes in it.
 pub(crate) fn flushes(alloc: Global, setting: Setting, blocks: u8) -> Option<u64> {
     let mut disk = fresh(alloc, setting)?;
     let before = disk.medium().flushes();
-    if !write_through(&mut disk, blocks) {
-        return None;
+    if write_through(&mut disk, blocks) {
+        disk.medium().flushes().checked_sub(before)
+    } else {
+        None
     }
-    disk.medium().flushes().checked_sub(before)
+}
+
+// Whether a fuse of so many writes and flushes lets it pass.
+fn is_let_pass(alloc: Global, setting: Setting, blocks: u8, fuse: u64) -> Option<bool> {
+    let mut disk = fresh(alloc, setting)?;
+    disk.fuse(fuse);
+    Some(write_through(&mut disk, blocks))
 }
 
 // The writes and flushes in it. A fuse of so many lets it pass, and one of fewer does not.
 pub(crate) fn writes_and_flushes(alloc: Global, setting: Setting, blocks: u8) -> Option<u64> {
     for fuse in 0..1000 {
-        let mut disk = fresh(alloc, setting)?;
-        disk.fuse(fuse);
-        if write_through(&mut disk, blocks) {
+        if is_let_pass(alloc, setting, blocks, fuse)? {
             return Some(fuse);
         }
     }

@@ -9,8 +9,8 @@ use std::alloc::Global;
 
 const BLOCKS: u64 = 1000;
 
-// The format of a medium, 1 or 2, how many log slots it has, 1 to 64, and how many bytes a packet to
-// its disk has.
+// The format of a medium, 1 or 2, how many log slots it has, 1 to 64, and how many bytes a packet
+// to its disk has.
 #[derive(Clone, Copy)]
 pub(crate) struct Setting {
     format: u8,
@@ -19,19 +19,17 @@ pub(crate) struct Setting {
 }
 
 impl Setting {
-    // These words, where they tell one.
-    pub(crate) fn read(format: &str, slots: &str, packet: &str) -> Option<Setting> {
-        let format = format.parse::<u8>().ok()?;
-        let slots = slots.parse::<u8>().ok()?;
+    // That of these numbers, where they tell one.
+    pub(crate) fn of(format: u32, slots: u32, packet: u32) -> Option<Setting> {
         let packet = match packet {
-            "64" => PacketSize::Full64,
-            "512" => PacketSize::High512,
+            64 => PacketSize::Full64,
+            512 => PacketSize::High512,
             _ => return None,
         };
         if (format == 1 || format == 2) && slots <= 64 {
             Some(Setting {
-                format,
-                slots,
+                format: format as u8,
+                slots: slots as u8,
                 packet,
             })
         } else {
@@ -47,6 +45,17 @@ impl Setting {
         2 + slot_sectors * self.slots as usize + 1000
     }
 
+    // Formats a medium so, and tells whether that went well.
+    fn is_made_on(self, medium: &mut SimMedium) -> bool {
+        let slots = self.slots as u64;
+        let made = if self.format == 1 {
+            format(medium, BLOCKS, slots)
+        } else {
+            format2(medium, BLOCKS, slots)
+        };
+        made.is_ok()
+    }
+
     // How many bytes a packet has at most.
     pub(crate) fn packet(self) -> PacketSize {
         self.packet
@@ -60,17 +69,14 @@ impl Setting {
 
 // A medium of 1000 blocks of zeros with these log slots, formatted.
 pub(crate) fn formatted(alloc: Global, setting: Setting) -> Option<SimMedium> {
-    let slots = setting.slots as u64;
     let sectors = setting.sectors();
     let image = vec![in alloc; 0u8; sectors * 512].ok()?;
     let mut medium = SimMedium::new(alloc, image, sectors).ok()?;
-    let made = if setting.format == 1 {
-        format(&mut medium, BLOCKS, slots)
+    if setting.is_made_on(&mut medium) {
+        Some(medium)
     } else {
-        format2(&mut medium, BLOCKS, slots)
-    };
-    made.ok()?;
-    Some(medium)
+        None
+    }
 }
 
 // A disk whose unit attention of the power on has ended.

@@ -53,9 +53,7 @@ fn is_taken(disk: &mut Disk<SimMedium>, packet: &[u8]) -> bool
 }
 
 // A command wrapper to Bulk-Out, which fits in a packet of each size.
-fn is_opened(disk: &mut Disk<SimMedium>, wrapper: &[u8; 31]) -> bool
-    ensures { disk.new.line.packet_size ≡ disk.old.line.packet_size }
-{
+fn is_opened(disk: &mut Disk<SimMedium>, wrapper: &[u8; 31]) -> bool {
     prove!(disk.packet_size() >= 64);
     is_taken(disk, wrapper)
 }
@@ -91,7 +89,8 @@ pub(crate) fn request_sense(disk: &mut Disk<SimMedium>) -> bool {
     is_opened(disk, &wrapper(IN, 18, &command)) && last_byte(disk, 18).is_some() && has_passed(disk)
 }
 
-// A WRITE (10) of so many blocks, all alike. So are their bytes: each packet is the start of a block.
+// A WRITE (10) of so many blocks, all alike. So are their bytes: each packet is the start of a
+// block.
 pub(crate) fn write(
     disk: &mut Disk<SimMedium>,
     flags: u8,
@@ -99,11 +98,11 @@ pub(crate) fn write(
     count: u8,
     block: &[u8; BLOCK],
 ) -> bool {
-    let size = disk.packet_size() as usize;
-    let packet = &block[..size];
     if !is_opened(disk, &transfer_wrapper(WRITE, flags, address, count)) {
         return false;
     }
+    let size = disk.packet_size() as usize;
+    let packet = &block[..size];
     for _ in 0..BLOCK / size * usize::from(count) {
         if !is_taken(disk, packet) {
             return false;

@@ -7,7 +7,9 @@ pub(crate) enum Kind {
     // Nothing.
     Start,
     // A WRITE into the empty batch.
-    Ascending,
+    Whole,
+    // WRITEs of one block, one at each address, and a step in the background.
+    Each,
     // A WRITE, and one of as many blocks elsewhere.
     TwoRanges,
     // TEST UNIT READY.
