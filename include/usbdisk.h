@@ -46,9 +46,9 @@
 extern "C" {
 #endif
 
-/* The version, 0.11.0: two bytes hold the first number, and one byte each of the others. The library
+/* The version, 0.12.0: two bytes hold the first number, and one byte each of the others. The library
  * tells its own. Where the two differ, header and library are not of one version. */
-#define USBDISK_VERSION 0x000B00u
+#define USBDISK_VERSION 0x000C00u
 
 uint32_t usbdisk_version(void);
 

@@ -6,7 +6,7 @@ use crate::exchange::{Laid, Left, Sending, Wrapper, lay_out};
 use crate::luck::{Luck, Stop};
 use crate::unit::Unit;
 use arrayvec::ArrayVec;
-use bot_machine::{Answer, Event};
+use spec::{Answer, Event};
 use std::alloc::{AllocError, Global};
 use std::mem;
 

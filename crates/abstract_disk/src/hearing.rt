@@ -1,13 +1,14 @@
 //! Each answer that is heard leaves fewer disks that can be meant.
 ghost use Rattle.std.specs.Prelude.{◌≡◌, ◌↔◌, ◌<◌, ◌≤◌, length, map, IfOk, IfSome, IsTrue};
-ghost use Rattle.abstract_disk.specs.Followed.{disks_of, opening_of, case_in, failing, least_promised};
+ghost use Rattle.abstract_disk.specs.Followed.{disks_of, opening_of, case_in, failing};
+ghost use Rattle.abstract_disk.specs.Followed.{least_promised};
 
 use crate::array::{Array, Write};
 use crate::book::{Book, Found};
 use crate::command::Shape;
 use crate::disk::{Disk, Outcome};
 use crate::luck::{Luck, Stop};
-use bot_machine::{Answer, Event, PacketSize};
+use spec::{Answer, Event, PacketSize};
 use std::alloc::{AllocError, Global};
 use std::mem;
 

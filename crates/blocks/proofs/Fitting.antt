@@ -5,7 +5,7 @@ use Rattle.std.specs.Prelude.{if◌then◌else◌, ◌==◌, nat_le, get_or, sli
 use Rattle.std.proofs.lemmas.List.{take-append-le, length-map, drop-drop}
 use Rattle.std.proofs.Math.Seq.{take-length}
 use Rattle.medium.specs.Medium.{State, Image}
-use Rattle.medium.specs.Blocks.{Array, Write, apply, after}
+use Rattle.spec.specs.Blocks.{Array, Write, apply, after, chunks}
 use Rattle.log_layout.specs.Places.{Shape}
 use Rattle.log_image.specs.Record.{Entry, numbers_of, with_blocks}
 use Rattle.log_image.specs.Standing.{IsOurs}
@@ -13,10 +13,11 @@ use Rattle.redo_log.specs.Value.{LogValue, HasRoom, begun}
 use Rattle.redo_log.specs.Batch.{IsBatch, entries_from, entries_of}
 use Rattle.redo_log.specs.Held.{View, HoldsView, MayLeave, with_record, with_begun}
 use Rattle.redo_log.proofs.Handing.{begun_holds, may_leave_ours}
-use Rattle.cache.specs.Blocks.{Blocks, blocks_of, over, chunks, with_range}
+use Rattle.cache.specs.Blocks.{Blocks, blocks_of, over, with_range}
 use Rattle.cache.specs.Entries.{Entries, map_of}
 use Rattle.cache.proofs.Arrays.{over_put}
-use Rattle.blocks.specs.Book.{Same, Book, after_first, array_of, with_write, promised}
+use Rattle.blocks.specs.Book.{Same}
+use Rattle.spec.specs.Book.{Book, after_first, array_of, with_write, promised}
 use Rattle.blocks.specs.Finding.{StandsAs, MayFind}
 use Rattle.blocks.specs.StoreValue.{Cached, FitsBook, wants, steps_for}
 

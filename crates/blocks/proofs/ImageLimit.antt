@@ -7,7 +7,7 @@ use Rattle.log_image.specs.Standing.{Stands}
 use Rattle.log_image.proofs.StandingLaws.{StandsFor-one}
 use Rattle.redo_log.proofs.Handing.{may_leave_ours}
 use Rattle.recovery.specs.Recovered.{IsOursForSome, StandsForOneOf}
-use Rattle.blocks.specs.Book.{Book}
+use Rattle.spec.specs.Book.{Book}
 use Rattle.blocks.specs.StoreValue.{Cached, transfer_limit, FitsBook}
 use Rattle.blocks.specs.Started.{StartLeaves}
 use Rattle.blocks.specs.Limit.{Shape, limit_of, HasLimit}

@@ -4,7 +4,7 @@ use Rattle.std.proofs.Common.{List, [], ◌∷◌, take}
 use Rattle.std.proofs.lemmas.Bool.{false≢true}
 use Rattle.medium.specs.Medium.{State, Image, IsSound}
 use Rattle.medium.specs.Moments.{EachCut, IsFlushed, LeavesOnly}
-use Rattle.medium.specs.Blocks.{Array, Write, apply, after}
+use Rattle.spec.specs.Blocks.{Array, Write, apply, after}
 use Rattle.medium.proofs.Moments.{at_exit, only_image}
 use Rattle.log_layout.specs.Places.{Shape}
 use Rattle.log_image.specs.Standing.{StandsFor, Stands, IsOurs}
@@ -16,7 +16,8 @@ use Rattle.recovery.specs.Recovered.{IsOursForSome, StandsForOneOf}
 use Rattle.recovery.specs.declared.start_fault.StartFault.{StartFault}
 use Rattle.recovery.specs.declared.start_fault.StartFault.TheVariants.{NoMemory, Read, Write as WriteFault, Flush, BadSuper, BadVersion}
 use Rattle.recovery.specs.declared.start_fault.StartFault.TheVariants.{BadSize, BadHead, StampsUsedUp, LogTooSmall}
-use Rattle.blocks.specs.Book.{Book, Same, after_first, opened, with_write}
+use Rattle.spec.specs.Book.{Book, after_first, opened, with_write}
+use Rattle.blocks.specs.Book.{Same}
 use Rattle.blocks.specs.Finding.{StandsAs, MayFind, FoundWith}
 use Rattle.blocks.specs.StoreValue.{Cached, layout_of, blocks_of, FitsBook}
 use Rattle.blocks.specs.Opening.{StandsForOpening, OpensOn, IsCauseFor}

@@ -6,10 +6,10 @@ use Rattle.std.proofs.lemmas.Slice.{take-put_mid}
 use borrow.Rule.Slice.PartMut.{put_mid}
 use Rattle.std.specs.Prelude.{unwrap_or}
 use Rattle.medium.specs.Medium.{State}
-use Rattle.medium.specs.Blocks.{Array}
+use Rattle.spec.specs.Blocks.{Array}
 use Rattle.cache.specs.Blocks.{over}
 use Rattle.cache.specs.Entries.{map_of}
-use Rattle.blocks.specs.Book.{Book, array_of, blocks_at}
+use Rattle.spec.specs.Book.{Book, array_of, blocks_at}
 use Rattle.blocks.specs.StoreValue.{Cached, blocks_of, FitsBook}
 
 -- a block that no batch holds is the durable one

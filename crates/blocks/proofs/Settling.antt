@@ -4,7 +4,7 @@ use Rattle.std.proofs.lemmas.Bool.{cases_lt}
 use Rattle.std.proofs.lemmas.List.{length-map}
 use Rattle.medium.specs.Medium.{State, Image}
 use Rattle.medium.specs.Moments.{EachCut}
-use Rattle.medium.specs.Blocks.{Array}
+use Rattle.spec.specs.Blocks.{Array}
 use Rattle.log_image.specs.Record.{Entry, numbers_of, with_records, home_of}
 use Rattle.redo_log.specs.Value.{LogValue, Owes, retire_steps_of}
 use Rattle.log_image.specs.Standing.{Keeps}
@@ -12,7 +12,7 @@ use Rattle.redo_log.proofs.Handing.{home_is, blocks_guarded}
 use Rattle.redo_log.proofs.Heads.{put_head}
 use Rattle.cache.specs.Blocks.{over}
 use Rattle.cache.specs.Entries.{map_of}
-use Rattle.blocks.specs.Book.{Book, array_of}
+use Rattle.spec.specs.Book.{Book, array_of}
 use Rattle.blocks.specs.StoreValue.{Cached, layout_of, is_dead, steps_for, batch_steps, steps_left, FitsBook}
 use Rattle.blocks.specs.Settled.{IsAtHome, IsSettled}
 use Rattle.blocks.proofs.Fitting.{over_none, steps_for_none}

@@ -3,7 +3,7 @@ use Rattle.std.proofs.Common.{◌≡◌, ◌≤◌, ℕ, [], false, refl, sym, s
 use Rattle.std.specs.Prelude.{Bool, true}
 use Rattle.medium.specs.Medium.{State, Image, IsSound}
 use Rattle.medium.specs.Moments.{EachCut}
-use Rattle.medium.specs.Blocks.{Array}
+use Rattle.spec.specs.Blocks.{Array}
 use Rattle.std.proofs.lemmas.Bool.{false≢true}
 use Rattle.log_layout.specs.Places.{Shape, limit_of, sectors_of}
 use Rattle.log_layout.specs.declared.super_sector.Super.{Super}
@@ -20,7 +20,7 @@ use Rattle.redo_log.specs.Held.{resting_view, HoldsView}
 use Rattle.redo_log.specs.Value.{idle_from}
 use Rattle.redo_log.proofs.Handing.{idle_holds}
 use Rattle.cache.specs.Entries.{Entries}
-use Rattle.blocks.specs.Book.{opened}
+use Rattle.spec.specs.Book.{opened}
 use Rattle.blocks.specs.Kept.{IsBatchOf, IsKept}
 use Rattle.blocks.specs.StoreValue.{Cached, FitsBook}
 use Rattle.blocks.specs.Started.{IsStarted}

@@ -14,10 +14,10 @@ use Rattle.redo_log.specs.Batch.{IsBatch}
 use Rattle.redo_log.specs.Held.{View, HoldsView, MayLeave, with_record, view_retired, stamps_of}
 use Rattle.redo_log.specs.declared.progress.Progress.TheVariants.{More, Durable}
 use Rattle.redo_log.proofs.Handing.{died_holds}
-use Rattle.cache.specs.Blocks.{chunks, with_range}
+use Rattle.spec.specs.Blocks.{chunks, Write}
+use Rattle.cache.specs.Blocks.{with_range}
 use Rattle.cache.specs.Entries.{Entries, map_of}
-use Rattle.medium.specs.Blocks.{Write}
-use Rattle.blocks.specs.Book.{Book, promised}
+use Rattle.spec.specs.Book.{Book, promised}
 use Rattle.blocks.specs.Finding.{MayFind, Found}
 use Rattle.blocks.specs.StoreValue.{Cached, layout_of, steps_for, batch_steps, waiting, steps_left, FitsBook}
 use Rattle.blocks.specs.Turns.{GoesOn, IsTurn, IsWriteTurn}

@@ -3,7 +3,7 @@ use Rattle.std.proofs.Common.{refl, arith}
 use Rattle.medium.specs.Medium.{State}
 use Rattle.redo_log.specs.Value.{died}
 use Rattle.redo_log.proofs.Handing.{died_holds}
-use Rattle.blocks.specs.Book.{Book}
+use Rattle.spec.specs.Book.{Book}
 use Rattle.blocks.specs.StoreValue.{Cached, FitsBook}
 use Rattle.blocks.specs.Stopping.{stopped}
 use Rattle.blocks.proofs.Fitting.{moves}

@@ -3,12 +3,12 @@ use Rattle.std.proofs.Common.{◌≡◌, ◌⊎◌, ℕ, inl, inr, ⊎_elim, ari
 use Rattle.std.proofs.lemmas.Bool.{false≢true}
 use Rattle.medium.specs.Medium.{State, IsSound}
 use Rattle.medium.specs.Moments.{EachCut, LeavesOnly, IsQuiet, SparesFrom}
-use Rattle.medium.specs.Blocks.{Write}
+use Rattle.spec.specs.Blocks.{Write}
 use Rattle.medium.proofs.Moments.{joined_same, weaker, quiet_leaves, quiet_start}
 use Rattle.medium.proofs.Sparing.{spared_joined, spared_quiet}
 use Rattle.log_layout.specs.Places.{Shape, sectors_of}
 use Rattle.redo_log.proofs.Handing.{quiet_held}
-use Rattle.blocks.specs.Book.{Book}
+use Rattle.spec.specs.Book.{Book}
 use Rattle.blocks.specs.Finding.{MayFind, Found}
 use Rattle.blocks.specs.StoreValue.{Cached, layout_of, is_dead, FitsBook}
 use Rattle.blocks.specs.Turns.{GoesOn, IsTurn, IsWriteTurn}

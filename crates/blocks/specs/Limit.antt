@@ -1,7 +1,7 @@
 -- The most blocks of a transfer, as the image of a medium tells it.
 use Rattle.std.specs.Prelude.{◌≡◌, ℕ}
 use Rattle.medium.specs.Medium.{Image}
-use Rattle.medium.specs.Blocks.{Array}
+use Rattle.spec.specs.Blocks.{Array}
 pub use Rattle.log_layout.specs.Places.{Shape, limit_of}
 use Rattle.log_image.specs.Standing.{StandsFor}
 

@@ -10,19 +10,24 @@ pub use Rattle.recovery.specs.Causes.{IsRefusedCall}
 pub use Rattle.recovery.specs.Recovered.{IsOursForSome, IsOursWithNext, StandsForOneOf}
 pub use Rattle.recovery.specs.declared.start_fault.StartFault.{StartFault}
 pub use Rattle.recovery.specs.declared.start_fault.StartFault.TheVariants.{NoMemory, Read, Write}
-pub use Rattle.recovery.specs.declared.start_fault.StartFault.TheVariants.{Flush}
-pub use Rattle.recovery.specs.declared.start_fault.StartFault.TheVariants.{BadSuper, BadVersion}
-pub use Rattle.recovery.specs.declared.start_fault.StartFault.TheVariants.{BadSize, BadHead}
-pub use Rattle.recovery.specs.declared.start_fault.StartFault.TheVariants.{StampsUsedUp}
+pub use Rattle.recovery.specs.declared.start_fault.StartFault.TheVariants.{Flush, BadSuper}
+pub use Rattle.recovery.specs.declared.start_fault.StartFault.TheVariants.{BadVersion, BadSize}
+pub use Rattle.recovery.specs.declared.start_fault.StartFault.TheVariants.{BadHead, StampsUsedUp}
 pub use Rattle.recovery.specs.declared.start_fault.StartFault.TheVariants.{LogTooSmall}
-use Rattle.blocks.specs.Book.{Book, opened}
+use Rattle.spec.specs.Blocks.{Array}
+use Rattle.spec.specs.Book.{Book, opened}
 
--- the image has as many blocks as the book, in some shape, and stands for them and the next stamp
--- with which the book opens
+-- the image of a medium of so many sectors has so many logical blocks in some shape, and stands for
+-- this array with this next stamp
+abbrev pub StandsForSome : ℕ → ℕ → Image → Array → ℕ → Type 0
+StandsForSome size blocks image array next =
+    (shape : Shape) × (shape.blocks ≡ blocks) × StandsFor size shape image array next
+
+-- the image has as many blocks as the book, and stands for them and the next stamp with which the
+-- book opens
 abbrev pub StandsForOpening : ℕ → Book → Image → Type 0
 StandsForOpening size book image =
-    (shape : Shape) × (shape.blocks ≡ book.blocks)
-    × StandsFor size shape image book.opening book.stamp
+    StandsForSome size book.blocks image book.opening book.stamp
 
 -- A first life over a medium opens with this book: the contents stand for its blocks and its next
 -- stamp. Where the book says so, every image that a cut may leave is ours.

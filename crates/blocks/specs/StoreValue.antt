@@ -8,7 +8,8 @@ use Rattle.log_layout.specs.Places.{Shape, limit_of}
 use Rattle.redo_log.specs.Value.{LogValue, most_steps, most_retire_steps}
 use Rattle.redo_log.specs.Batch.{entries_of}
 use Rattle.redo_log.specs.Held.{View, HoldsView}
-use Rattle.blocks.specs.Book.{Book, Same, after_first, array_of}
+use Rattle.spec.specs.Book.{Book, after_first, array_of}
+use Rattle.blocks.specs.Book.{Same}
 
 -- what a store keeps in memory
 pub record Cached : Type 0 where

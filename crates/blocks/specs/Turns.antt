@@ -2,12 +2,12 @@
 use Rattle.std.specs.Prelude.{◌≡◌, ◌⊎◌, ◌+◌, ◌*◌, ◌≤◌, ◌<◌, Bool, true, false, if◌then◌else◌}
 use Rattle.medium.specs.Medium.{State}
 use Rattle.medium.specs.Moments.{LeavesOnly, SparesFrom}
-use Rattle.medium.specs.Blocks.{Write}
+use Rattle.spec.specs.Blocks.{Write}
 use Rattle.log_layout.specs.Places.{sectors_of}
 use Rattle.medium.specs.declared.fault.MediumFault.TheVariants.{Read}
 use Rattle.blocks.specs.declared.fault.StoreFault.{StoreFault}
 use Rattle.blocks.specs.declared.fault.StoreFault.TheVariants.{ReadFault, Dead}
-use Rattle.blocks.specs.Book.{Book, with_write, StampsOut}
+use Rattle.spec.specs.Book.{Book, with_write, StampsOut}
 use Rattle.blocks.specs.Finding.{MayFind, Found}
 use Rattle.blocks.specs.StoreValue.{Cached, layout_of, blocks_of, is_dead, steps_left, FitsBook}
 

@@ -1,11 +1,12 @@
 //! How blocks are read.
-ghost use Rattle.std.specs.Prelude.{◌≡◌, ◌<◌, ◌+◌, ◌*◌, ◌/◌, ◌^◌, ◌≤◌};
-ghost use Rattle.std.specs.Prelude.{false, None, [], IsTrue, length, OnOk, IfErr, OnErr};
+ghost use Rattle.std.specs.Prelude.{◌≡◌, ◌<◌, ◌+◌, ◌*◌, ◌/◌, ◌^◌, ◌≤◌, false, None, [], IsTrue};
+ghost use Rattle.std.specs.Prelude.{length, OnOk, IfErr, OnErr};
 ghost use Rattle.cache.specs.Blocks.{unlisted};
 ghost use Rattle.cache.specs.Entries.{map_of};
 ghost use Rattle.cache.specs.Places.{HasPlace};
 ghost use Rattle.medium.specs.declared.fault.MediumFault.TheVariants as medium_fault;
-ghost use Rattle.blocks.specs.Book.{Book, IsTransfer, array_of, blocks_at};
+ghost use Rattle.spec.specs.Book.{Book, array_of, blocks_at};
+ghost use Rattle.blocks.specs.Book.{IsTransfer};
 ghost use Rattle.blocks.specs.StoreValue.{blocks_of, transfer_limit, is_dead, FitsBook};
 ghost use Rattle.blocks.specs.Turns.{IsTurn, IsReadCause};
 ghost use Rattle.blocks.specs.Passing.{KeepsStore, RefusesRead};

@@ -1,15 +1,15 @@
 //! How a store starts.
-ghost use Rattle.std.specs.Prelude.{◌≡◌, ◌⊎◌, ◌<◌, ◌≤◌, ◌^◌, ℕ, [], false};
-ghost use Rattle.std.specs.Prelude.{IfOk, IfErr, MatchResult};
-ghost use Rattle.medium.specs.Blocks.{Array};
+ghost use Rattle.std.specs.Prelude.{◌≡◌, ◌⊎◌, ◌<◌, ◌≤◌, ◌^◌, ℕ, [], false, IfOk, IfErr};
+ghost use Rattle.std.specs.Prelude.{MatchResult};
+ghost use Rattle.spec.specs.Blocks.{Array};
 ghost use Rattle.log_layout.specs.Places.{Shape, limit_of};
 ghost use Rattle.log_image.specs.Standing.{StandsFor};
 ghost use Rattle.log_layout.specs.Values.{shape_of};
 ghost use Rattle.redo_log.specs.Value.{idle_from};
 ghost use Rattle.recovery.specs.Causes.{IsDeviceFault};
 ghost use Rattle.blocks.specs.Ahead.{may_go_ahead};
-ghost use Rattle.blocks.specs.Started.{IsStarted, IsStartCause, LeavesMedium};
-ghost use Rattle.blocks.specs.Started.{StartsAhead, RefusesStart};
+ghost use Rattle.blocks.specs.Started.{IsStarted, IsStartCause, LeavesMedium, StartsAhead};
+ghost use Rattle.blocks.specs.Started.{RefusesStart};
 
 use crate::{StartError, Store};
 use cache::{Batch, Frozen};

@@ -3,10 +3,10 @@ ghost use Rattle.std.specs.Prelude.{◌≡◌, ◌↔◌, ◌<◌, ◌≤◌, �
 ghost use Rattle.inlet.specs.Inlet.{AreHeld};
 ghost use Rattle.medium.specs.Moments.{EachCut};
 ghost use Rattle.log_layout.specs.Places.{first_home, sectors_of};
-ghost use Rattle.blocks.specs.Book.{Book};
+ghost use Rattle.spec.specs.Book.{Book};
 ghost use Rattle.blocks.specs.Finding.{MayFind};
-ghost use Rattle.blocks.specs.StoreValue.{blocks_of, layout_of, transfer_limit, is_dead, steps_left};
-ghost use Rattle.blocks.specs.StoreValue.{HasLimits, FitsBook};
+ghost use Rattle.blocks.specs.StoreValue.{blocks_of, layout_of, transfer_limit, is_dead};
+ghost use Rattle.blocks.specs.StoreValue.{steps_left, HasLimits, FitsBook};
 ghost use Rattle.blocks.specs.Settled.{IsSettled};
 ghost use Rattle.blocks.specs.Passing.{IsUntouched};
 

@@ -2,7 +2,7 @@
 ghost use Rattle.std.specs.Prelude.{◌≡◌, ◌<◌, ◌+◌, ◌*◌, false, OnOk};
 ghost use Rattle.medium.specs.declared.fault.MediumFault.TheVariants.{Flush};
 ghost use Rattle.redo_log.specs.Value.{most_retire_sends};
-ghost use Rattle.blocks.specs.Book.{Book, promised};
+ghost use Rattle.spec.specs.Book.{Book, promised};
 ghost use Rattle.blocks.specs.StoreValue.{layout_of, is_dead, FitsBook};
 ghost use Rattle.blocks.specs.Sent.{batch_sends};
 ghost use Rattle.blocks.specs.Passing.{PassesPaid, TellsLife, Answers};

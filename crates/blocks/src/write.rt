@@ -1,7 +1,8 @@
 //! How writes are accepted.
-ghost use Rattle.std.specs.Prelude.{◌≡◌, ◌≤◌, ◌+◌, ◌*◌, ◌/◌, true, false, length};
-ghost use Rattle.std.specs.Prelude.{OnOk, IsOk, is_ok};
-ghost use Rattle.blocks.specs.Book.{IsTransfer, write_of};
+ghost use Rattle.std.specs.Prelude.{◌≡◌, ◌≤◌, ◌+◌, ◌*◌, ◌/◌, true, false, length, OnOk, IsOk};
+ghost use Rattle.std.specs.Prelude.{is_ok};
+ghost use Rattle.blocks.specs.Book.{IsTransfer};
+ghost use Rattle.spec.specs.Book.{write_of};
 ghost use Rattle.blocks.specs.StoreValue.{blocks_of, transfer_limit, is_dead, active_of};
 ghost use Rattle.blocks.specs.StoreValue.{steps_left, FitsBeside};
 ghost use Rattle.blocks.specs.Turns.{IsWriteTurn};

@@ -1,23 +1,22 @@
 -- Each command wrapper is followed by one status wrapper with its tag.
 use Rattle.std.proofs.Common.{◌≡◌, inl, inr, ℕ, Bool, true, false, List, [], ◌∷◌, ◌++◌, Option, Some, None, Result, Ok, Err, refl, sym, ap}
 use Rattle.std.proofs.Common.{subst, ◌∙◌, if◌then◌else◌}
-use Rattle.wrappers.specs.declared.command.Cbw.{Cbw}
-use Rattle.wrappers.specs.declared.way.Way.{Way}
-use Rattle.wrappers.specs.declared.case.Case.{Case}
-use Rattle.wrappers.specs.declared.case.Endpoint.{Endpoint}
-use Rattle.wrappers.specs.declared.case.Endpoint.TheVariants as endpoint
-use Rattle.wrappers.specs.declared.status.Status.{Status}
-use Rattle.wrappers.specs.declared.status.Status.TheVariants.{Passed, Failed, PhaseError}
-use Rattle.wrappers.specs.Status.{status_wrapper}
-use Rattle.bot_machine.specs.declared.event.Event.{Event}
-use Rattle.bot_machine.specs.declared.event.Event.TheVariants as event
-use Rattle.bot_machine.specs.declared.event.Answer.{Answer}
-use Rattle.wrappers.specs.Command.{number_at}
-use Rattle.bot_machine.specs.Requests.{Request, mass_storage_reset, get_max_lun, clear_halt, get_status}
-use Rattle.bot_machine.specs.Exchange.{Script, finished, taking, sending, Line, laid_out, Moment, at_once, after_data, never, moment_of}
-use Rattle.bot_machine.specs.Exchange.{told, told_at_once, case_if_failed, sent_in, outcome_for, status_for, after_packet, set_halt}
-use Rattle.bot_machine.specs.Exchange.{after_request}
-use Rattle.bot_machine.specs.Conversation.{Conversation, Begins, OutStep, SetupStep, Step, Run}
+use Rattle.spec.specs.declared.wrapper.Cbw.{Cbw}
+use Rattle.spec.specs.declared.way.Way.{Way}
+use Rattle.spec.specs.declared.case.Case.{Case}
+use Rattle.spec.specs.declared.case.Endpoint.{Endpoint}
+use Rattle.spec.specs.declared.case.Endpoint.TheVariants as endpoint
+use Rattle.spec.specs.declared.status.Status.{Status}
+use Rattle.spec.specs.declared.status.Status.TheVariants.{Passed, Failed, PhaseError}
+use Rattle.spec.specs.StatusWrapper.{status_wrapper}
+use Rattle.spec.specs.declared.event.Event.{Event}
+use Rattle.spec.specs.declared.event.Event.TheVariants as event
+use Rattle.spec.specs.declared.event.Answer.{Answer}
+use Rattle.spec.specs.CommandWrapper.{number_at}
+use Rattle.spec.specs.Requests.{Request, mass_storage_reset, get_max_lun, clear_halt, get_status}
+use Rattle.spec.specs.Exchange.{Script, finished, taking, sending, Line, laid_out, Moment, at_once, after_data, never, moment_of, told}
+use Rattle.spec.specs.Exchange.{told_at_once, case_if_failed, sent_in, outcome_for, status_for, after_packet, set_halt, after_request}
+use Rattle.spec.specs.Conversation.{Conversation, Begins, OutStep, SetupStep, Step, Run}
 use Rattle.bot_machine.specs.Turns.{Mark, marks_of_out, marks_of_in, marks_of_setup, marks_of, IsStatusOf, ByTurns, marks_in}
 
 -- what is left of an exchange tells the status of the command with this tag, or nothing is left to

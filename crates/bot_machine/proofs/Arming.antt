@@ -8,7 +8,7 @@ use Rattle.bot_machine.specs.Device.{Device}
 use Rattle.bot_machine.specs.declared.stage.Stage.{Stage}
 use Rattle.bot_machine.specs.declared.stage.Stage.TheVariants.{Rests, Runs}
 use Rattle.bot_machine.specs.Disk.{DiskValue}
-use Rattle.bot_machine.specs.Lives.{arms, fails, Place, before_first, between, runs, off}
+use Rattle.spec.specs.Lives.{arms, fails, Place, before_first, between, runs, off}
 use Rattle.bot_machine.specs.Moving.{FuseMoves, FailureMoves}
 use Rattle.bot_machine.proofs.Moved.{one_move, none_refused}
 use Rattle.bot_machine.specs.LivesValue.{medium_in, state_in, HasLimit, IsAt, LimitAt, FoundAt, LivesGoOn}

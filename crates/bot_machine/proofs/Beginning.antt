@@ -1,19 +1,20 @@
 -- How a life begins: what the medium was left with is what the life opens with.
 use Rattle.std.proofs.Common.{◌≡◌, ℕ, true, false, [], Some, None, Option, refl, sym, subst, ◌∙◌, ap, inl, inr}
 use Rattle.std.proofs.lemmas.Bool.{false≢true, cases_Bool}
-use Rattle.medium.specs.Blocks.{Write, Array}
+use Rattle.spec.specs.Blocks.{Write, Array}
 use Rattle.medium.specs.Medium.{State, Image}
 use Rattle.medium.specs.Moments.{EachCut}
 use Rattle.medium.specs.Sim.{Sim, state_of}
 use Rattle.medium.specs.SimLaws.{is_sound}
 use Rattle.medium.proofs.Moments.{only_image, content_has}
 use Rattle.medium.proofs.Keeping.{none_flushed}
-use Rattle.scsi_unit.specs.Books.{Book, StandsAs, FoundWith, after_first, opened, with_write}
+use Rattle.spec.specs.Book.{Book, after_first, opened, with_write}
+use Rattle.scsi_unit.specs.Books.{StandsAs, FoundWith}
 use Rattle.bot_machine.specs.Device.{Device}
 use Rattle.scsi_unit.specs.Starting.{IsOursForSome, StandsForOpening, OpensOn, blocks_of}
 use Rattle.bot_machine.specs.Disk.{DiskValue, FitsDisk}
 use Rattle.bot_machine.specs.Opening.{IsOpened}
-use Rattle.bot_machine.specs.Lives.{Remains, Place, before_first, between, IsLeft, Opens}
+use Rattle.spec.specs.Lives.{Remains, Place, before_first, between, IsLeft, Opens}
 use Rattle.bot_machine.specs.LivesValue.{HasLimit, book_at, LeavesLimit, FoundAt}
 use Rattle.bot_machine.specs.declared.stage.Stage.TheVariants.{Rests}
 use Rattle.bot_machine.proofs.UnitLaws.{knows_images}

@@ -8,18 +8,19 @@ use Rattle.medium.proofs.Moments.{at_exit}
 use Rattle.medium.proofs.Keeping.{none_flushed}
 use Rattle.scsi_unit.specs.StartFaults.{StartFault, NoMemory, Read, Write, Flush, BadSuper, BadVersion, BadSize, BadHead, StampsUsedUp}
 use Rattle.scsi_unit.specs.StartFaults.{LogTooSmall}
-use Rattle.bot_machine.specs.Device.{Device}
-use Rattle.scsi_unit.specs.Books.{Book, MayFind, opened}
+use Rattle.bot_machine.specs.Device.{presented, Device}
+use Rattle.spec.specs.Book.{Book, opened}
+use Rattle.scsi_unit.specs.Books.{MayFind}
 use Rattle.scsi_unit.specs.Starting.{Stands, IsCauseFor, blocks_of}
-use Rattle.scsi_unit.specs.Rules.{UnitState}
+use Rattle.spec.specs.Rules.{UnitState}
 use Rattle.scsi_unit.specs.UnitValue.{unit_limit, state_of as unit_state}
 use Rattle.bot_machine.specs.declared.stage.Stage.{Stage}
 use Rattle.bot_machine.specs.declared.stage.Stage.TheVariants.{Rests, Runs}
-use Rattle.bot_machine.specs.Exchange.{Line, at_rest}
-use Rattle.bot_machine.specs.Disk.{DiskValue, on_line, over}
+use Rattle.spec.specs.Exchange.{Line, at_rest}
+use Rattle.bot_machine.specs.Disk.{DiskValue, over}
+use Rattle.spec.specs.UnitConversation.{on_line}
 use Rattle.bot_machine.specs.Opening.{IsOpened, IsNotOpened, StartLeaves}
-use Rattle.bot_machine.specs.Lives.{starts, Remains, Place, before_first, between, runs, off, Standing, KeepsLimit, started, LifeBegins}
-use Rattle.bot_machine.specs.Lives.{LivesStep}
+use Rattle.spec.specs.Lives.{starts, Remains, Place, before_first, between, runs, off, Standing, KeepsLimit, started, LifeBegins, LivesStep}
 use Rattle.bot_machine.specs.LivesValue.{HasBegun, HasLimit, book_at, LeavesLimit, FitsLives, LivesGoTo, LivesGoOn, MayRefuse, LivesStopAt}
 use Rattle.bot_machine.specs.LivesValue.{LivesStop}
 use Rattle.scsi_unit.specs.Serving.{has_refused}
@@ -66,7 +67,7 @@ counted before after book LogTooSmall h = h
 -- a life has begun
 record LifeBegun (device : Device) (refused : Bool) (here : Standing) (new : Stage) : Type 0 where
   there : Standing
-  life : LifeBegins device refused here there
+  life : LifeBegins (presented device) refused here there
   fits : FitsLives (lives_at device new) there
   ours : (book_at there.place).ours ≡ (book_at here.place).ours
   limit_stays : (book_at here.place).ours ≡ true → there.limit ≡ here.limit
@@ -121,13 +122,17 @@ module _ (device : Device) (m : Sim) (on : m.power.off ≡ false) where
       abbrev here : Standing
       here = record { place = place; armed = armed; limit = limit }
 
-      says : started (unit_limit disk.unit) device h.book ≡ over disk h.book
+      says : started (unit_limit disk.unit) (presented device) h.book ≡ over disk h.book
       says = sym (ap (λ (l : Line). on_line l (unit_state disk.unit h.book)) is_opened.line
           ∙ ap (λ (u : UnitState). on_line (at_rest device.packet_size) u) (is_opened.unit h.book))
 
       begun_on : new.power.off ≡ false → LifeBegun device grew here (Runs disk)
       begun_on still = record {
-        there = record { place = runs (started (unit_limit disk.unit) device h.book); armed = armed; limit = unit_limit disk.unit };
+        there = record {
+          place = runs (started (unit_limit disk.unit) (presented device) h.book);
+          armed = armed;
+          limit = unit_limit disk.unit;
+        };
         life = record { book = h.book; opens = h.opens; limit = unit_limit disk.unit; keeps_limit = keeps; begins = inl refl };
         fits = record {
           is_at = record { on = still; says = says; fits = h.fits };
@@ -291,7 +296,7 @@ module _ (device : Device) (m : Sim) (on : m.power.off ≡ false) where
 module _ (device : Device) where
   running : (disk : DiskValue Sim) (place : Place) (armed : Bool) (limit : ℕ)
       → FitsLives (lives_at device (Runs disk)) (record { place = place; armed = armed; limit = limit })
-      → LivesStep device false (record { place = place; armed = armed; limit = limit }) starts []
+      → LivesStep (presented device) false (record { place = place; armed = armed; limit = limit }) starts []
       (record { place = place; armed = armed; limit = limit })
   running disk (before_first book) armed limit f = absurd f.is_at
   running disk (between remains) armed limit f = absurd f.is_at
@@ -304,7 +309,7 @@ module _ (device : Device) where
 
   without_power : (m : Sim) → m.power.off ≡ true → (place : Place) (armed : Bool) (limit : ℕ)
       → FitsLives (lives_at device (Rests m)) (record { place = place; armed = armed; limit = limit })
-      → LivesStep device false (record { place = place; armed = armed; limit = limit }) starts []
+      → LivesStep (presented device) false (record { place = place; armed = armed; limit = limit }) starts []
       (record { place = place; armed = armed; limit = limit })
   without_power m is_off (before_first book) armed limit f = on_or_off m.power.off f.is_at.0.on is_off
   without_power m is_off (between remains) armed limit f = on_or_off m.power.off f.is_at.on is_off

@@ -1,11 +1,11 @@
 -- What the cases of an exchange say of the direction that the unit intends.
 use Rattle.std.proofs.Common.{◌≡◌, ◌≢◌, ◌⊎◌, inl, inr, ⊎_elim, ℕ, refl, sym, ap, ◌∙◌, subst}
-use Rattle.wrappers.specs.declared.way.Way.{Way}
-use Rattle.wrappers.specs.declared.way.Way.TheVariants.{Nothing, In, Out}
-use Rattle.wrappers.specs.declared.case.Case.{Case}
-use Rattle.wrappers.specs.declared.case.Case.TheVariants.{C1, C2, C3, C4, C5, C6, C7, C8, C9, C10, C11, C12, C13}
-use Rattle.wrappers.specs.Cases.{IsCase}
-use Rattle.bot_machine.specs.Exchange.{at_once, after_data, never, moment_of}
+use Rattle.spec.specs.declared.way.Way.{Way}
+use Rattle.spec.specs.declared.way.Way.TheVariants.{Nothing, In, Out}
+use Rattle.spec.specs.declared.case.Case.{Case}
+use Rattle.spec.specs.declared.case.Case.TheVariants.{C1, C2, C3, C4, C5, C6, C7, C8, C9, C10, C11, C12, C13}
+use Rattle.spec.specs.Cases.{IsCase}
+use Rattle.spec.specs.Exchange.{at_once, after_data, never, moment_of}
 
 no_data : (case : Case) (host : Way) (n : ℕ) → IsCase case host (Out n) → moment_of case ≢ at_once
 no_data C1 Nothing n is = absurd is

@@ -1,10 +1,10 @@
 -- A disk that is told of a refusal of the device, and a faulted one.
 use Rattle.std.proofs.Common.{◌≡◌, ℕ, true, List, ap, ◌∙◌, refl}
 use Rattle.std.specs.Prelude.{Result}
-use Rattle.wrappers.specs.Status.{status_wrapper}
+use Rattle.spec.specs.StatusWrapper.{status_wrapper}
 use Rattle.medium.specs.Medium.{State}
 use Rattle.scsi_unit.specs.Background.{is_dead}
-use Rattle.scsi_unit.specs.Rules.{Sense}
+use Rattle.spec.specs.Sense.{Sense}
 use Rattle.scsi_unit.specs.Serving.{IsSparing}
 use Rattle.scsi_unit.specs.UnitValue.{UnitValue}
 use Rattle.scsi_unit.proofs.Faulting.{wants_none}

@@ -1,7 +1,7 @@
 -- What happens in a life: an event comes, the power is cut.
 use Rattle.std.specs.Prelude.{if◌then◌else◌}
-use Rattle.std.proofs.Common.{◌≡◌, ◌<◌, ◌≤◌, ℕ, ◌+◌, Bool, true, false, nat_lt, ltb-true, List, [], ◌∷◌, None, refl, sym, subst, ◌∙◌}
-use Rattle.std.proofs.Common.{ap, arith, inl, inr}
+use Rattle.std.proofs.Common.{◌≡◌, ◌<◌, ◌≤◌, ℕ, ◌+◌, Bool, true, false, nat_lt, ltb-true, List, [], ◌∷◌, None, refl, sym, subst, ◌∙◌, ap}
+use Rattle.std.proofs.Common.{arith, inl, inr}
 use Rattle.std.proofs.lemmas.Bool.{cases_Bool, false≢true}
 use Rattle.std.proofs.lemmas.List.{append-nil}
 use Rattle.medium.specs.Medium.{State, Image, CutLeaves}
@@ -12,23 +12,23 @@ use Rattle.medium.specs.SimLaws.{is_sound}
 use Rattle.medium.specs.declared.power.Power.{Power}
 use Rattle.medium.proofs.Moments.{at_exit, only_image}
 use Rattle.medium.proofs.Keeping.{none_flushed}
-use Rattle.bot_machine.specs.Device.{Device}
+use Rattle.bot_machine.specs.Device.{presented, Device}
 use Rattle.scsi_unit.specs.Starting.{IsOursForSome, StandsForOpening}
-use Rattle.scsi_unit.specs.Books.{Book}
+use Rattle.spec.specs.Book.{Book}
 use Rattle.scsi_unit.specs.Books.{MayFind, FoundWith}
-use Rattle.bot_machine.specs.declared.event.Event.{Event}
-use Rattle.bot_machine.specs.declared.event.Answer.{Answer}
-use Rattle.bot_machine.specs.declared.event.Answer.TheVariants.{Off}
+use Rattle.spec.specs.declared.event.Event.{Event}
+use Rattle.spec.specs.declared.event.Answer.{Answer}
+use Rattle.spec.specs.declared.event.Answer.TheVariants.{Off}
 use Rattle.bot_machine.specs.declared.stage.Stage.{Stage}
 use Rattle.bot_machine.specs.declared.stage.Stage.TheVariants.{Rests, Runs}
-use Rattle.bot_machine.specs.Conversation.{Conversation, refused_events}
-use Rattle.bot_machine.specs.Acts.{write_of_event}
-use Rattle.bot_machine.specs.Disk.{DiskValue, over, FitsDisk, UnitStep, IsStep}
-use Rattle.scsi_unit.specs.Rules.{UnitState}
+use Rattle.spec.specs.Conversation.{Conversation, refused_events}
+use Rattle.spec.specs.UnitConversation.{write_of_event, UnitStep}
+use Rattle.bot_machine.specs.Disk.{DiskValue, over, FitsDisk, IsStep}
+use Rattle.spec.specs.Rules.{UnitState}
 use Rattle.scsi_unit.specs.UnitValue.{unit_limit}
 use Rattle.bot_machine.proofs.UnitLaws.{limit_between_calls}
-use Rattle.bot_machine.specs.Lives.{Action, plays, cuts, Remains, Place, before_first, between, runs, off, Standing, after_cut}
-use Rattle.bot_machine.specs.Lives.{LivesStep, LivesRun}
+use Rattle.spec.specs.Lives.{Action, plays, cuts, Remains, Place, before_first, between, runs, off, Standing, after_cut, LivesStep}
+use Rattle.spec.specs.Lives.{LivesRun}
 use Rattle.bot_machine.specs.Moving.{Does, EventMovesIn, EventMoves}
 use Rattle.bot_machine.proofs.Moved.{one_move, none_refused, some_refused}
 use Rattle.bot_machine.specs.LivesValue.{LivesValue, medium_in, state_in, IsAtRest, OpensOn, HasLimit, IsAt, LimitAt, LeavesLimit, book_at}
@@ -36,7 +36,7 @@ use Rattle.bot_machine.specs.LivesValue.{FoundAt, FitsLives, LivesGoTo, LivesGoO
 
 -- one action is a run
 pub one_run : (device : Device) (refused : Bool) (old new : Standing) (action : Action) (answers : List Answer)
-    → LivesStep device refused old action answers new → LivesRun device old (action ∷ []) answers (refused ∷ []) new
+    → LivesStep (presented device) refused old action answers new → LivesRun (presented device) old (action ∷ []) answers (refused ∷ []) new
 one_run device refused old new action answers step = (new, answers, [], sym (append-nil answers), step, (refl, refl))
 
 -- one action with a refused call is counted
@@ -73,7 +73,7 @@ module _ (device : Device) where
 
   -- nothing happens to a disk, or to a medium without one
   pub stays : (stage : Stage) (action : Action) (answers : List Answer) → Does device stage action answers stage
-      → ((here : Standing) → FitsLives (lives_at stage) here → LivesStep device false here action answers here)
+      → ((here : Standing) → FitsLives (lives_at stage) here → LivesStep (presented device) false here action answers here)
       → LivesGoOn (lives_at stage) (action ∷ []) answers (lives_at stage)
   stays stage action answers does step = record {
     refusals = false ∷ [];
@@ -321,7 +321,7 @@ module _ (device : Device) where
   -- power is off already
   off_at_rest : (m : Sim) (event : Event) → m.power.off ≡ true → (place : Place) (armed : Bool) (limit : ℕ)
       → FitsLives (lives_at (Rests m)) (record { place = place; armed = armed; limit = limit })
-      → LivesStep device false (record { place = place; armed = armed; limit = limit }) (plays event) (Off ∷ [])
+      → LivesStep (presented device) false (record { place = place; armed = armed; limit = limit }) (plays event) (Off ∷ [])
       (record { place = place; armed = armed; limit = limit })
   off_at_rest m event is_off (before_first book) armed limit fits = on_or_off m.power.off fits.is_at.0.on is_off
   off_at_rest m event is_off (between remains) armed limit fits = on_or_off m.power.off fits.is_at.on is_off
@@ -331,7 +331,7 @@ module _ (device : Device) where
   off_running : (disk : DiskValue Sim) (event : Event) → disk.unit.store.medium.power.off ≡ true
       → (place : Place) (armed : Bool) (limit : ℕ)
       → FitsLives (lives_at (Runs disk)) (record { place = place; armed = armed; limit = limit })
-      → LivesStep device false (record { place = place; armed = armed; limit = limit }) (plays event) (Off ∷ [])
+      → LivesStep (presented device) false (record { place = place; armed = armed; limit = limit }) (plays event) (Off ∷ [])
       (record { place = place; armed = armed; limit = limit })
   off_running disk event is_off (before_first book) armed limit fits = absurd fits.is_at
   off_running disk event is_off (between remains) armed limit fits = absurd fits.is_at

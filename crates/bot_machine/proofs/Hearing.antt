@@ -1,28 +1,28 @@
 -- What a host hears of an exchange that ends: packets of data, and the status wrapper.
-use Rattle.std.proofs.Common.{◌≡◌, ◌<◌, ◌≤◌, inl, inr, ℕ, zero, suc, Bool, true, false, List, [], ◌∷◌, ◌++◌, length, take}
-use Rattle.std.proofs.Common.{drop, map, refl, sym, ap, subst, ◌∙◌, arith, length-drop}
+use Rattle.std.proofs.Common.{◌≡◌, ◌<◌, ◌≤◌, inl, inr, ℕ, zero, suc, Bool, true, false, List, [], ◌∷◌, ◌++◌, length, take, drop, map, refl}
+use Rattle.std.proofs.Common.{sym, ap, subst, ◌∙◌, arith, length-drop}
 use Rattle.std.specs.Prelude.{Option, Some, None, Result, Ok, Err, All}
 use Rattle.std.proofs.lemmas.List.{take-append-drop}
 use Rattle.std.proofs.lemmas.List.Elements.{All-head, All-tail}
-use Rattle.wrappers.specs.declared.command.Cbw.{Cbw}
-use Rattle.wrappers.specs.declared.way.Way.{Way}
-use Rattle.wrappers.specs.declared.case.Case.{Case}
-use Rattle.wrappers.specs.declared.case.Case.TheVariants.{C1, C2, C3, C4, C5, C6, C7, C8, C9, C10, C11, C12, C13}
-use Rattle.wrappers.specs.declared.case.Endpoint.{Endpoint}
-use Rattle.wrappers.specs.declared.case.Endpoint.TheVariants as endpoint
-use Rattle.wrappers.specs.declared.status.Status.TheVariants.{Passed, Failed}
-use Rattle.scsi_unit.specs.Rules.{Sense, UnitState}
-use Rattle.bot_machine.specs.declared.event.Event.{Event}
-use Rattle.bot_machine.specs.declared.event.Event.TheVariants as event
-use Rattle.bot_machine.specs.declared.event.Answer.{Answer}
-use Rattle.bot_machine.specs.declared.event.Answer.TheVariants.{Ack}
-use Rattle.bot_machine.specs.Packets.{packets_of}
-use Rattle.bot_machine.specs.Requests.{setup_packet, clear_halt}
-use Rattle.bot_machine.specs.Exchange.{Script, finished, taking, sending, Line, laid_out, request_answer, after_request}
-use Rattle.bot_machine.specs.Exchange.{sent_in, outcome_for, status_for, told}
-use Rattle.bot_machine.specs.Exchange.{case_if_failed}
-use Rattle.bot_machine.specs.Conversation.{Conversation, SetupStep}
-use Rattle.bot_machine.specs.Disk.{on_line}
+use Rattle.spec.specs.declared.wrapper.Cbw.{Cbw}
+use Rattle.spec.specs.declared.way.Way.{Way}
+use Rattle.spec.specs.declared.case.Case.{Case}
+use Rattle.spec.specs.declared.case.Case.TheVariants.{C1, C2, C3, C4, C5, C6, C7, C8, C9, C10, C11, C12, C13}
+use Rattle.spec.specs.declared.case.Endpoint.{Endpoint}
+use Rattle.spec.specs.declared.case.Endpoint.TheVariants as endpoint
+use Rattle.spec.specs.declared.status.Status.TheVariants.{Passed, Failed}
+use Rattle.spec.specs.Sense.{Sense}
+use Rattle.spec.specs.Rules.{UnitState}
+use Rattle.spec.specs.declared.event.Event.{Event}
+use Rattle.spec.specs.declared.event.Event.TheVariants as event
+use Rattle.spec.specs.declared.event.Answer.{Answer}
+use Rattle.spec.specs.declared.event.Answer.TheVariants.{Ack}
+use Rattle.spec.specs.Packets.{packets_of}
+use Rattle.spec.specs.Requests.{setup_packet, clear_halt}
+use Rattle.spec.specs.Exchange.{Script, finished, taking, sending, Line, laid_out, request_answer, after_request, sent_in, outcome_for}
+use Rattle.spec.specs.Exchange.{status_for, told, case_if_failed}
+use Rattle.spec.specs.Conversation.{Conversation, SetupStep}
+use Rattle.spec.specs.UnitConversation.{on_line}
 use Rattle.bot_machine.specs.Transfers.{packet_out, Asks, packets_in, status_in, data_in, heard_in}
 use Rattle.bot_machine.proofs.Packets.{packets_of-more, packets_of-none}
 use Rattle.bot_machine.proofs.OneStep.{same_conversation, one_request}

@@ -7,21 +7,22 @@ use Rattle.std.specs.Prelude.{Option, Some, MatchOption}
 use Rattle.medium.specs.Medium.{State}
 use Rattle.medium.specs.Sim.{Sim, state_of, IsFused}
 use Rattle.scsi_unit.specs.StartFaults.{StartFault}
-use Rattle.bot_machine.specs.Device.{Device}
-use Rattle.scsi_unit.specs.Books.{Book}
-use Rattle.bot_machine.specs.declared.event.Answer.{Answer}
+use Rattle.bot_machine.specs.Device.{presented, Device}
+use Rattle.spec.specs.Book.{Book}
+use Rattle.spec.specs.declared.event.Answer.{Answer}
 use Rattle.bot_machine.specs.declared.life.Life.{Life}
 use Rattle.bot_machine.specs.declared.stage.Stage.{Stage}
 use Rattle.bot_machine.specs.declared.stage.Stage.TheVariants.{Rests}
 use Rattle.bot_machine.specs.Moving.{MovesBy}
 use Rattle.bot_machine.specs.Answers.{Room}
-use Rattle.bot_machine.specs.Conversation.{refused_events}
+use Rattle.spec.specs.Conversation.{refused_events}
 use Rattle.bot_machine.specs.Opening.{IsNotOpened}
-use Rattle.bot_machine.specs.Lives.{Action, Standing, LivesRun}
+use Rattle.spec.specs.Lives.{Action, Standing, LivesRun}
 use Rattle.bot_machine.specs.LivesValue.{LivesValue, medium_in, state_in, IsAtRest, OpensOn, HasLimit, LeavesLimit, FitsLives, LivesGoOn}
 use Rattle.bot_machine.specs.LivesValue.{LivesStopAt, LivesStop}
-use Rattle.bot_machine.specs.Lifetimes.{first_standing, actions_of, actions_of_all, armed_by, events_in, AppendsFor, EndsIn, AreLived}
-use Rattle.bot_machine.specs.Lifetimes.{StopsIn, AreLivedUpTo}
+use Rattle.spec.specs.Promise.{first_standing}
+use Rattle.bot_machine.specs.Lifetimes.{actions_of, actions_of_all, armed_by, events_in, AppendsFor, EndsIn, AreLived, StopsIn}
+use Rattle.bot_machine.specs.Lifetimes.{AreLivedUpTo}
 use Rattle.bot_machine.proofs.Playing.{rests, lives_stop, lives_stop-refusals}
 use Rattle.bot_machine.proofs.Beginning.{first_found, first_limited}
 
@@ -98,6 +99,7 @@ module _ (m : Sim) (device : Device) (rest : IsAtRest m) (unfused : m.power.fuse
     ends = ends;
     rests = rest_after;
     unfused = unfused_after;
+    size_stays = on.size_stays;
   }
     where
       ends : (limit : ℕ) (book : Book) → OpensOn (state_of m) book → HasLimit (state_of m).size limit (state_of m).content
@@ -107,7 +109,7 @@ module _ (m : Sim) (device : Device) (rest : IsAtRest m) (unfused : m.power.fuse
           let g = on.goes here (first_fits m device rest unfused limit book opens has) in
           record {
             last = g.there;
-            run = subst (λ (x : Device). LivesRun x here (actions_of_all lives) told on.refusals g.there) on.device_stays g.run;
+            run = subst (λ (x : Device). LivesRun (presented x) here (actions_of_all lives) told on.refusals g.there) on.device_stays g.run;
             limited = λ ours. subst (λ (n : ℕ). LeavesLimit n after.stage) (g.limit_stays ours) (g.fits.limited (g.ours ∙ ours));
             found = λ ours. g.fits.found (g.ours ∙ ours);
           }
@@ -191,6 +193,7 @@ module _ (m : Sim) (device : Device) (rest : IsAtRest m) (unfused : m.power.fuse
     refused = stop.refused;
     stops = stops;
     on = stop.on;
+    size_stays = stop.size_stays;
   }
     where
       stops : (limit : ℕ) (book : Book) → OpensOn (state_of m) book → HasLimit (state_of m).size limit (state_of m).content
@@ -201,7 +204,8 @@ module _ (m : Sim) (device : Device) (rest : IsAtRest m) (unfused : m.power.fuse
           let g = stop.goes here (first_fits m device rest unfused limit book opens has) in
           record {
             last = g.there;
-            run = subst (λ (x : Device). LivesRun x here (actions_of_all lived ++ armed_by life.fuse) told stop.refusals g.there)
+            run = subst
+                (λ (x : Device). LivesRun (presented x) here (actions_of_all lived ++ armed_by life.fuse) told stop.refusals g.there)
                 stop.device_stays g.run;
             limited = λ ours. g.limited (g.ours ∙ ours);
             next = g.book;

@@ -27,3 +27,4 @@ pub mod Arming
 pub mod Beginning
 pub mod Begun
 pub mod Lasting
+pub mod KeptPromise

@@ -5,9 +5,9 @@ use Rattle.std.proofs.lemmas.List.{append-nil}
 use Rattle.bot_machine.specs.Device.{Device}
 use Rattle.scsi_unit.specs.Serving.{has_refused}
 use Rattle.medium.specs.Medium.{State}
-use Rattle.bot_machine.specs.declared.event.Answer.{Answer}
+use Rattle.spec.specs.declared.event.Answer.{Answer}
 use Rattle.bot_machine.specs.declared.stage.Stage.{Stage}
-use Rattle.bot_machine.specs.Lives.{Action}
+use Rattle.spec.specs.Lives.{Action}
 use Rattle.bot_machine.specs.Moving.{state_in, Does, MovesBy}
 
 -- where no more calls were refused, none was

@@ -1,26 +1,24 @@
 -- Where the medium refuses nothing and stamps are left, an event has one answer and one state after it.
 use Rattle.std.proofs.Common.{◌≡◌, ◌++◌, inl, inr, ℕ, Bool, true, false, List, [], length, take, refl, sym, ap, subst, ◌∙◌, arith}
 use Rattle.std.specs.Prelude.{None}
-use Rattle.wrappers.specs.declared.command.Cbw.{Cbw}
-use Rattle.wrappers.specs.declared.way.Way.{Way}
-use Rattle.wrappers.specs.declared.case.Case.{Case}
-use Rattle.wrappers.specs.declared.case.Endpoint.TheVariants as endpoint
-use Rattle.wrappers.specs.Cases.{IsCase, size_of_way}
-use Rattle.wrappers.specs.Command.{SpellsCommand}
+use Rattle.spec.specs.declared.wrapper.Cbw.{Cbw}
+use Rattle.spec.specs.declared.way.Way.{Way}
+use Rattle.spec.specs.declared.case.Case.{Case}
+use Rattle.spec.specs.declared.case.Endpoint.TheVariants as endpoint
+use Rattle.spec.specs.Cases.{IsCase, size_of_way}
+use Rattle.spec.specs.CommandWrapper.{SpellsCommand}
 use Rattle.wrappers.proofs.CommandWrappers.{one_wrapper}
 use Rattle.wrappers.proofs.ThirteenCases.{one_case}
-use Rattle.scsi_unit.specs.Books.{StampsOut}
-use Rattle.scsi_unit.specs.Rules.{UnitState, intention, CarriesOut, Ticks, write_in_progress, with_progress}
-use Rattle.bot_machine.specs.declared.event.Event.{Event}
-use Rattle.bot_machine.specs.declared.event.Event.TheVariants as event
-use Rattle.bot_machine.specs.declared.event.Answer.{Answer}
-use Rattle.bot_machine.specs.Requests.{Request, setup_packet, mass_storage_reset, get_max_lun, clear_halt, get_status}
-use Rattle.bot_machine.specs.Exchange.{Line, Script, finished, taking, sending, Moment, at_once, after_data, never, moment_of, told}
-use Rattle.bot_machine.specs.Exchange.{request_answer, after_request}
-use Rattle.bot_machine.specs.Conversation.{Conversation, IsCarriedOut, Begins, Opens, Takes, OutStep, SetupStep}
-use Rattle.bot_machine.specs.Intentions.{Intends, way_of}
-use Rattle.bot_machine.specs.Acts.{write_of_packet}
-use Rattle.bot_machine.specs.Disk.{UnitStep}
+use Rattle.spec.specs.Book.{StampsOut}
+use Rattle.spec.specs.Rules.{UnitState, intention, CarriesOut, Ticks, write_in_progress, with_progress}
+use Rattle.spec.specs.declared.event.Event.{Event}
+use Rattle.spec.specs.declared.event.Event.TheVariants as event
+use Rattle.spec.specs.declared.event.Answer.{Answer}
+use Rattle.spec.specs.Requests.{Request, setup_packet, mass_storage_reset, get_max_lun, clear_halt, get_status}
+use Rattle.spec.specs.Exchange.{Line, Script, finished, taking, sending, Moment, at_once, after_data, never, moment_of, told}
+use Rattle.spec.specs.Exchange.{request_answer, after_request}
+use Rattle.spec.specs.Conversation.{Conversation, IsCarriedOut, Begins, Opens, Takes, OutStep, SetupStep}
+use Rattle.spec.specs.UnitConversation.{Intends, way_of, write_of_packet, UnitStep}
 use Rattle.bot_machine.specs.Striking.{HasStamps}
 use Rattle.bot_machine.proofs.Cases.{at_once-takes_none}
 use Rattle.bot_machine.proofs.Filling.{last_packet}

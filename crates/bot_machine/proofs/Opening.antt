@@ -2,16 +2,15 @@
 use Rattle.std.proofs.Common.{◌≡◌, ◌∙◌, ℕ, Bool, List, [], sym, ap, subst, refl}
 use Rattle.std.specs.Prelude.{None}
 use Rattle.medium.specs.Medium.{State}
-use Rattle.scsi_unit.specs.Books.{Book}
-use Rattle.wrappers.specs.Cases.{IsCase}
-use Rattle.scsi_unit.specs.Rules.{UnitState, CarriesOut, Ticks, intention, write_in_progress}
+use Rattle.spec.specs.Book.{Book}
+use Rattle.spec.specs.Cases.{IsCase}
+use Rattle.spec.specs.Rules.{UnitState, CarriesOut, Ticks, intention, write_in_progress}
 use Rattle.scsi_unit.specs.UnitValue.{UnitValue, state_of, FitsUnit}
-use Rattle.bot_machine.specs.Exchange.{Line, at_once, moment_of}
-use Rattle.bot_machine.specs.Conversation.{Conversation, Begins, Opens}
-use Rattle.bot_machine.specs.Intentions.{way_of, Intends}
+use Rattle.spec.specs.Exchange.{Line, at_once, moment_of}
+use Rattle.spec.specs.Conversation.{Conversation, Begins, Opens}
+use Rattle.spec.specs.UnitConversation.{way_of, Intends, on_line}
 use Rattle.bot_machine.specs.Acts.{CarriesOutAtOnce}
 use Rattle.bot_machine.specs.declared.exchange.Exchange.{Exchange}
-use Rattle.bot_machine.specs.Disk.{on_line}
 use Rattle.bot_machine.specs.Serving.{IsBegun}
 use Rattle.bot_machine.proofs.UnitLaws.{intends_by_book, writes_none}
 use Rattle.bot_machine.proofs.Cases.{at_once-takes_none}

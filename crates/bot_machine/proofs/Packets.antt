@@ -4,7 +4,7 @@ use Rattle.std.proofs.Common.{◌∙◌, arith, length-drop, length-take}
 use Rattle.std.proofs.Math.Nat.{add-div_right, div-eq_of_lt}
 use Rattle.std.proofs.lemmas.List.{take-take, drop-take, drop-drop, drop_all, take_all}
 use Rattle.std.proofs.lemmas.Bool.{cases_lt}
-use Rattle.bot_machine.specs.Packets.{packets_of, cut_into}
+use Rattle.spec.specs.Packets.{packets_of, cut_into}
 
 -- where something is left, there is one packet more than after it
 one_more : (n size : ℕ) → 0 < size → 0 < n → (n + (size - 1)) / size ≡ suc (((n - size) + (size - 1)) / size)

@@ -2,14 +2,14 @@
 use Rattle.std.proofs.Common.{◌≡◌, ℕ, ◌+◌, ◌≤◌, Bool, true, false, List, [], ◌∷◌, ◌++◌, length-append, refl, sym, subst, ◌∙◌, ap, arith}
 use Rattle.std.proofs.Common.{append_assoc}
 use Rattle.std.proofs.lemmas.List.{append-nil}
-use Rattle.bot_machine.specs.Device.{Device}
-use Rattle.scsi_unit.specs.StartFaults.{StartFault}
-use Rattle.scsi_unit.specs.StartFaults.{NoMemory, Read, Write, Flush, BadSuper, BadVersion, BadSize, BadHead, StampsUsedUp, LogTooSmall}
-use Rattle.scsi_unit.specs.Books.{Book}
-use Rattle.bot_machine.specs.declared.event.Answer.{Answer}
+use Rattle.bot_machine.specs.Device.{presented, Device}
+use Rattle.scsi_unit.specs.StartFaults.{StartFault, NoMemory, Read, Write, Flush, BadSuper, BadVersion, BadSize, BadHead, StampsUsedUp}
+use Rattle.scsi_unit.specs.StartFaults.{LogTooSmall}
+use Rattle.spec.specs.Book.{Book}
+use Rattle.spec.specs.declared.event.Answer.{Answer}
 use Rattle.bot_machine.specs.Answers.{Room}
-use Rattle.bot_machine.specs.Conversation.{refused_events}
-use Rattle.bot_machine.specs.Lives.{Action, starts, Standing, LivesRun}
+use Rattle.spec.specs.Conversation.{refused_events}
+use Rattle.spec.specs.Lives.{Action, starts, Standing, LivesRun}
 use Rattle.bot_machine.specs.declared.stage.Stage.{Stage}
 use Rattle.bot_machine.specs.declared.stage.Stage.TheVariants.{Rests}
 use Rattle.bot_machine.specs.Moving.{MovesBy}
@@ -26,12 +26,13 @@ refused_events-append (false ∷ xs) ys = refused_events-append xs ys
 
 -- one run after another
 pub LivesRun-append : (device : Device) (xs ys : List Action) (told more : List Answer)
-    (refusals others : List Bool) (a b c : Standing) → LivesRun device a xs told refusals b
-    → LivesRun device b ys more others c
-    → LivesRun device a (xs ++ ys) (told ++ more) (refusals ++ others) c
+    (refusals others : List Bool) (a b c : Standing) → LivesRun (presented device) a xs told refusals b
+    → LivesRun (presented device) b ys more others c
+    → LivesRun (presented device) a (xs ++ ys) (told ++ more) (refusals ++ others) c
 LivesRun-append device [] ys told more [] others a b c r s =
-    let moved : LivesRun device a ys more others c = subst (λ (x : Standing). LivesRun device x ys more others c) r.1 s in
-    subst (λ (l : List Answer). LivesRun device a ys (l ++ more) others c) (sym r.0) moved
+    let moved : LivesRun (presented device) a ys more others c =
+    subst (λ (x : Standing). LivesRun (presented device) x ys more others c) r.1 s in
+    subst (λ (l : List Answer). LivesRun (presented device) a ys (l ++ more) others c) (sym r.0) moved
 LivesRun-append device (x ∷ xs) ys told more (refused ∷ refusals) others a b c r s = (
   r.0,
   r.1,
@@ -61,9 +62,10 @@ rests lives = record {
 module _ (a b c : LivesValue) (xs ys : List Action) (told more : List Answer) (first : LivesGoOn a xs told b) where
   -- the first part, by the device at the end
   first_run : c.device ≡ b.device → (here : Standing) (fits : FitsLives a here)
-      → LivesRun c.device here xs told first.refusals (first.goes here fits).there
+      → LivesRun (presented c.device) here xs told first.refusals (first.goes here fits).there
   first_run same here fits =
-      subst (λ (i : Device). LivesRun i here xs told first.refusals (first.goes here fits).there) (sym same) (first.goes here fits).run
+      subst (λ (i : Device). LivesRun (presented i) here xs told first.refusals (first.goes here fits).there) (sym same)
+      (first.goes here fits).run
 
   -- the second part, by the device at the beginning
   next_moves : (others : List Bool) (stage : Stage) → MovesBy b.device b.stage ys more others stage

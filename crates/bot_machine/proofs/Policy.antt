@@ -3,14 +3,14 @@ use Rattle.std.proofs.Common.{ℕ, Bool, true, false, List, [], ◌∷◌, sym, 
 use Rattle.medium.specs.Sim.{Sim}
 use Rattle.scsi_unit.specs.Retiring.{RetiresBy, goes_ahead_by}
 use Rattle.scsi_unit.specs.Starting.{Shape}
-use Rattle.bot_machine.specs.declared.event.Event.{Event}
-use Rattle.bot_machine.specs.declared.event.Answer.{Answer}
+use Rattle.spec.specs.declared.event.Event.{Event}
+use Rattle.spec.specs.declared.event.Answer.{Answer}
 use Rattle.bot_machine.specs.declared.stage.Stage.{Stage}
 use Rattle.bot_machine.specs.declared.stage.Stage.TheVariants.{Rests, Runs}
-use Rattle.bot_machine.specs.Device.{Device, Retiring}
+use Rattle.bot_machine.specs.Device.{presented, Device, Retiring}
 use Rattle.bot_machine.specs.Disk.{DiskValue}
-use Rattle.bot_machine.specs.Lives.{Action, arms, fails, starts, plays, cuts, Place, before_first, between, runs, off, Standing}
-use Rattle.bot_machine.specs.Lives.{LifeBegins, StartsAt, LivesStep}
+use Rattle.spec.specs.Lives.{Action, arms, fails, starts, plays, cuts, Place, before_first, between, runs, off, Standing, LifeBegins}
+use Rattle.spec.specs.Lives.{StartsAt, LivesStep}
 use Rattle.bot_machine.specs.Moving.{FuseMoves, FailureMoves, StartsIn, StartMoves, EventMovesIn, EventMoves, CutMoves, Does}
 use Rattle.bot_machine.specs.Policy.{StageRetires, KeepsPolicy, PolicyIsUnseen}
 
@@ -78,38 +78,5 @@ keeps_policy device old new (action ∷ actions) answers [] moves has = absurd m
 
 -- ---- a host sees nothing of it
 
-module _ (device : Device) (retiring : Retiring) where
-  abbrev other : Device
-  other = record device { retiring = retiring }
-
-  begins_alike : (refused : Bool) (old new : Standing) → LifeBegins device refused old new → LifeBegins other refused old new
-  begins_alike refused old new h =
-      record { book = h.book; opens = h.opens; limit = h.limit; keeps_limit = h.keeps_limit; begins = h.begins }
-
-  starts_alike : (place : Place) (refused : Bool) (old new : Standing) → StartsAt place device refused old new
-      → StartsAt place other refused old new
-  starts_alike (before_first book) refused old new h = begins_alike refused old new h
-  starts_alike (between remains) refused old new h = begins_alike refused old new h
-  starts_alike (runs conversation) refused old new h = h
-  starts_alike (off remains) refused old new h = h
-
-  step_alike : (refused : Bool) (old : Standing) (action : Action) (answers : List Answer) (new : Standing)
-      → LivesStep device refused old action answers new → LivesStep other refused old action answers new
-  step_alike refused old (arms writes) answers new h = h
-  step_alike refused old (fails call) answers new h = h
-  step_alike refused old starts answers new h = (h.0, starts_alike old.place refused old new h.1)
-  step_alike refused old (plays happens) answers new h = h
-  step_alike refused old (cuts keeps) answers new h = h
-
 pub policy_is_unseen : PolicyIsUnseen
-policy_is_unseen device retiring old new [] answers [] run = run
-policy_is_unseen device retiring old new (action ∷ actions) answers (refused ∷ refusals) run = (
-  run.0,
-  run.1,
-  run.2,
-  run.3,
-  step_alike device retiring refused old action run.1 run.0 run.4,
-  policy_is_unseen device retiring run.0 new actions run.2 refusals run.5,
-)
-policy_is_unseen device retiring old new [] answers (refused ∷ refusals) run = absurd run
-policy_is_unseen device retiring old new (action ∷ actions) answers [] run = absurd run
+policy_is_unseen device retiring old new actions answers refusals run = run

@@ -1,13 +1,13 @@
 -- How a unit proceeds from one moment to another.
 use Rattle.std.proofs.Common.{◌≡◌, ◌∙◌, true, refl, subst}
 use Rattle.std.specs.Prelude.{Option, None}
-use Rattle.medium.specs.Blocks.{Write}
+use Rattle.spec.specs.Blocks.{Write}
 use Rattle.medium.specs.Medium.{State, IsSound}
 use Rattle.medium.specs.Moments.{LeavesOnly}
 use Rattle.medium.proofs.Moments.{started}
-use Rattle.scsi_unit.specs.Books.{Book}
+use Rattle.spec.specs.Book.{Book}
 use Rattle.scsi_unit.specs.Books.{MayFind, FoundWith}
-use Rattle.scsi_unit.specs.Rules.{UnitState}
+use Rattle.spec.specs.Rules.{UnitState}
 use Rattle.scsi_unit.specs.UnitValue.{UnitValue, state_of, FitsUnit}
 use Rattle.bot_machine.specs.Disk.{Proceeds}
 use Rattle.bot_machine.proofs.UnitLaws.{between_calls}

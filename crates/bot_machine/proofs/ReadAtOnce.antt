@@ -1,26 +1,26 @@
 -- What the exchange of a packet reads is what its wrapper reads, and which sectors its reads name.
 use Rattle.std.proofs.Common.{◌≡◌, ◌≢◌, ◌⊎◌, ◌<◌, ⊎_elim, inl, inr, ℕ, List, Option, Some, None, MatchOption, false, refl, sym, ap, ◌∙◌}
 use Rattle.std.proofs.Common.{subst, arith}
-use Rattle.wrappers.specs.declared.command.Cbw.{Cbw}
+use Rattle.spec.specs.declared.wrapper.Cbw.{Cbw}
 use Rattle.medium.specs.Medium.{State}
 use Rattle.medium.proofs.Looking.{looks_wider}
-use Rattle.wrappers.specs.declared.way.Way.{Way}
-use Rattle.wrappers.specs.declared.case.Case.{Case}
-use Rattle.wrappers.specs.declared.case.Case.TheVariants.{C5, C6}
-use Rattle.wrappers.specs.Cases.{IsCase}
-use Rattle.wrappers.specs.Command.{SpellsNone}
+use Rattle.spec.specs.declared.way.Way.{Way}
+use Rattle.spec.specs.declared.case.Case.{Case}
+use Rattle.spec.specs.declared.case.Case.TheVariants.{C5, C6}
+use Rattle.spec.specs.Cases.{IsCase}
+use Rattle.spec.specs.CommandWrapper.{SpellsNone}
 use Rattle.scsi_unit.proofs.Looking.{sends_none-reads_none}
-use Rattle.scsi_unit.specs.declared.intent.Intent.{Intent}
-use Rattle.scsi_unit.specs.declared.intent.Intent.TheVariants as intent
+use Rattle.spec.specs.Rules.{Intention}
+use Rattle.spec.specs.declared.intent.Intent.TheVariants as intent
 use Rattle.scsi_unit.specs.Reading.{first_home_of, home_sectors_of, IsOneOf}
 use Rattle.scsi_unit.specs.UnitValue.{UnitValue, intention_of}
 use Rattle.scsi_unit.specs.declared.reading.HomeSectors.{HomeSectors}
 use Rattle.bot_machine.specs.declared.exchange.Exchange.{Exchange}
-use Rattle.bot_machine.specs.Intentions.{way_of}
+use Rattle.spec.specs.UnitConversation.{way_of}
 use Rattle.bot_machine.specs.Disk.{DiskValue}
-use Rattle.bot_machine.specs.Exchange.{finished, at_once, after_data, never, moment_of}
-use Rattle.bot_machine.specs.Reading.{sectors_in, sectors_for, WrapperReads, WrapperReadsNone, ReadsHome, ReadsNoHome}
-use Rattle.bot_machine.specs.Reading.{LooksBesides, WrapperReadsAt}
+use Rattle.spec.specs.Exchange.{finished, at_once, after_data, never, moment_of}
+use Rattle.bot_machine.specs.Reading.{sectors_in, sectors_for, WrapperReads, WrapperReadsNone, ReadsHome, ReadsNoHome, LooksBesides}
+use Rattle.bot_machine.specs.Reading.{WrapperReadsAt}
 use Rattle.bot_machine.specs.Serving.{IsBegun}
 use Rattle.bot_machine.proofs.Cases.{sends_in, after_data-sends_none}
 
@@ -38,7 +38,7 @@ these : (case : Case) (wanted : Option HomeSectors) (sector : ℕ) → sectors_i
 these case None sector same at = absurd at
 these case (Some home) sector same at = (home, same, at)
 
-named_at_once : (case : Case) (host : Way) (intention : Intent) → IsCase case host (way_of intention) → moment_of case ≡ at_once
+named_at_once : (case : Case) (host : Way) (intention : Intention) → IsCase case host (way_of intention) → moment_of case ≡ at_once
     → (wanted : Option HomeSectors) → (((n : ℕ) → intention ≢ intent.In n) → wanted ≡ None) → (sector : ℕ) → IsOneOf wanted sector
     → (home : HomeSectors) × (sectors_in case wanted ≡ Some home) × IsOneOf (Some home) sector
 named_at_once case host (intent.In n) is moment wanted none sector at =

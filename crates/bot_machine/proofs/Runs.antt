@@ -2,20 +2,19 @@
 use Rattle.std.proofs.Common.{◌≡◌, ℕ, ◌+◌, ◌<◌, ◌≤◌, Bool, true, false, nat_lt, List, [], ◌∷◌, ◌++◌, refl, sym, subst, ◌∙◌, arith, ltb-true}
 use Rattle.std.proofs.Common.{inl, inr, ◌⊎◌, ⊎_elim}
 use Rattle.std.specs.Prelude.{Result}
-use Rattle.wrappers.specs.declared.way.Way.{Way}
-use Rattle.bot_machine.specs.declared.event.Event.{Event}
-use Rattle.bot_machine.specs.declared.event.Answer.{Answer}
+use Rattle.spec.specs.declared.way.Way.{Way}
+use Rattle.spec.specs.declared.event.Event.{Event}
+use Rattle.spec.specs.declared.event.Answer.{Answer}
 use Rattle.medium.specs.Medium.{State, Image, IsSound}
 use Rattle.medium.proofs.Moments.{started, joined, weaker}
-use Rattle.scsi_unit.specs.Books.{Book}
+use Rattle.spec.specs.Book.{Book}
 use Rattle.scsi_unit.specs.Books.{FoundWith}
-use Rattle.scsi_unit.specs.Rules.{UnitState, CarriesOut, Ticks}
+use Rattle.spec.specs.Rules.{UnitState, CarriesOut, Ticks}
 use Rattle.scsi_unit.specs.Serving.{has_refused}
-use Rattle.bot_machine.specs.Intentions.{Intends}
-use Rattle.bot_machine.specs.Acts.{write_of_event}
-use Rattle.bot_machine.specs.Conversation.{Conversation, refused_events, Step, Run}
+use Rattle.spec.specs.UnitConversation.{Intends, write_of_event, UnitStep, UnitRun}
+use Rattle.spec.specs.Conversation.{Conversation, refused_events, Step, Run}
 use Rattle.bot_machine.proofs.Alternation.{by_turns}
-use Rattle.bot_machine.specs.Disk.{DiskValue, over, UnitStep, UnitRun, FoundIn, RunsOn, IsStep, StepsThrough, IsRun}
+use Rattle.bot_machine.specs.Disk.{DiskValue, over, FoundIn, RunsOn, IsStep, StepsThrough, IsRun}
 use Rattle.bot_machine.proofs.UnitLaws.{between_calls}
 
 refused_events-more : (refusals : List Bool) (refused : Bool)

@@ -2,13 +2,13 @@
 use Rattle.std.proofs.Common.{◌≡◌, ℕ, ◌+◌, ◌-◌, ◌<◌, ◌≤◌, min, Bool, true, false, List, [], ◌∷◌, length, take, slice_range, refl, sym, ap}
 use Rattle.std.proofs.Common.{◌∙◌, arith}
 use Rattle.std.specs.Prelude.{None, Option}
-use Rattle.wrappers.specs.declared.case.Case.{Case}
-use Rattle.wrappers.specs.declared.case.Case.TheVariants.{C1, C2, C3, C4, C5, C6, C7, C8, C9, C10, C11, C12, C13}
-use Rattle.wrappers.specs.declared.case.Endpoint.{Endpoint}
-use Rattle.bot_machine.specs.declared.event.Answer.TheVariants.{Data}
-use Rattle.bot_machine.specs.Packets.{packets_of}
+use Rattle.spec.specs.declared.case.Case.{Case}
+use Rattle.spec.specs.declared.case.Case.TheVariants.{C1, C2, C3, C4, C5, C6, C7, C8, C9, C10, C11, C12, C13}
+use Rattle.spec.specs.declared.case.Endpoint.{Endpoint}
+use Rattle.spec.specs.declared.event.Answer.TheVariants.{Data}
+use Rattle.spec.specs.Packets.{packets_of}
 use Rattle.bot_machine.specs.Refinement.{halt_of, sent_size}
-use Rattle.bot_machine.specs.Exchange.{Line, Script, sending, in_answer, after_in, laid_out, sent_in}
+use Rattle.spec.specs.Exchange.{Line, Script, sending, in_answer, after_in, laid_out, sent_in}
 use Rattle.bot_machine.proofs.Packets.{packets_of-range, packets_of-some, packets_of-end, packets_of-none}
 
 module _ (size : ℕ) (some : 0 < size) where

@@ -1,8 +1,8 @@
 -- The two sizes of a packet.
 use Rattle.std.proofs.Common.{◌<◌, ◌≤◌, arith}
-use Rattle.bot_machine.specs.declared.packet_size.PacketSize.{PacketSize}
-use Rattle.bot_machine.specs.declared.packet_size.PacketSize.TheVariants.{Full64, High512}
-use Rattle.bot_machine.specs.PacketBytes.{bytes_of}
+use Rattle.spec.specs.declared.packet_size.PacketSize.{PacketSize}
+use Rattle.spec.specs.declared.packet_size.PacketSize.TheVariants.{Full64, High512}
+use Rattle.spec.specs.Packets.{bytes_of}
 
 pub some_bytes : (size : PacketSize) → 0 < bytes_of size
 some_bytes Full64 = omega arith

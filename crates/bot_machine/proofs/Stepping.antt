@@ -1,38 +1,36 @@
 -- What a packet to Bulk-Out does, by whether it is halted and by what is left of the exchange.
-use Rattle.std.proofs.Common.{◌≡◌, ◌⊎◌, ◌<◌, ℕ, Bool, true, false, if◌then◌else◌, inl, inr, List, [], ◌∷◌}
-use Rattle.std.proofs.Common.{slice_range, refl, sym, subst, ap, ◌∙◌}
-use Rattle.std.proofs.Common.{arith}
+use Rattle.std.proofs.Common.{◌≡◌, ◌⊎◌, ◌<◌, ℕ, Bool, true, false, if◌then◌else◌, inl, inr, List, [], ◌∷◌, slice_range, refl, sym, subst}
+use Rattle.std.proofs.Common.{ap, ◌∙◌, arith}
 use Rattle.std.specs.Prelude.{None, Some, Option, Result}
-use Rattle.wrappers.specs.declared.case.Endpoint.{Endpoint}
-use Rattle.wrappers.specs.declared.case.Endpoint.TheVariants as endpoint
+use Rattle.spec.specs.declared.case.Endpoint.{Endpoint}
+use Rattle.spec.specs.declared.case.Endpoint.TheVariants as endpoint
 use Rattle.medium.specs.Medium.{State, IsSound}
 use Rattle.medium.proofs.Looking.{no_looks, looks_wider}
 use Rattle.scsi_unit.specs.Background.{is_dead}
 use Rattle.scsi_unit.specs.Reading.{first_home_of}
-use Rattle.scsi_unit.specs.Rules.{Sense}
-use Rattle.scsi_unit.specs.Books.{Book}
-use Rattle.scsi_unit.specs.Rules.{CarriesOut, Ticks}
+use Rattle.spec.specs.Sense.{Sense}
+use Rattle.spec.specs.Book.{Book}
+use Rattle.spec.specs.Rules.{CarriesOut, Ticks, Intention}
 use Rattle.scsi_unit.specs.Calls.{IsBounded}
 use Rattle.scsi_unit.specs.Serving.{has_refused, IsSparing, TicksOver}
 use Rattle.scsi_unit.specs.UnitValue.{UnitValue, unit_limit, state_of}
-use Rattle.bot_machine.specs.declared.event.Event.{Event}
-use Rattle.bot_machine.specs.declared.event.Event.TheVariants as event
-use Rattle.bot_machine.specs.declared.event.Answer.{Answer}
-use Rattle.bot_machine.specs.declared.event.Answer.TheVariants as answer
+use Rattle.spec.specs.declared.event.Event.{Event}
+use Rattle.spec.specs.declared.event.Event.TheVariants as event
+use Rattle.spec.specs.declared.event.Answer.{Answer}
+use Rattle.spec.specs.declared.event.Answer.TheVariants as answer
 use Rattle.bot_machine.specs.declared.wire.Taking.{Taking}
 use Rattle.bot_machine.specs.declared.wire.Phase.{Phase}
 use Rattle.bot_machine.specs.declared.wire.Phase.TheVariants.{Command, DataOut, DataIn, Status}
-use Rattle.bot_machine.specs.Requests.{Request, mass_storage_reset, get_max_lun, clear_halt, get_status}
-use Rattle.bot_machine.specs.Exchange.{Script, finished, taking, sending, Line, laid_out, set_halt, in_answer, after_packet, after_in}
-use Rattle.bot_machine.specs.Exchange.{after_request}
-use Rattle.bot_machine.specs.Conversation.{OutStep, SetupStep}
-use Rattle.bot_machine.specs.Intentions.{Intends}
-use Rattle.bot_machine.specs.Acts.{PacketCarriesOut, write_of_packet}
-use Rattle.bot_machine.specs.Disk.{DiskValue, on_line, FitsDisk, Proceeds, Tells, IsStep, Elapses, TakesFew}
-use Rattle.scsi_unit.specs.declared.intent.Intent.{Intent}
-use Rattle.scsi_unit.specs.declared.intent.Intent.TheVariants as intent
+use Rattle.spec.specs.Requests.{Request, mass_storage_reset, get_max_lun, clear_halt, get_status}
+use Rattle.spec.specs.Exchange.{Script, finished, taking, sending, Line, laid_out, set_halt, in_answer, after_packet, after_in}
+use Rattle.spec.specs.Exchange.{after_request}
+use Rattle.spec.specs.Conversation.{OutStep, SetupStep}
+use Rattle.spec.specs.UnitConversation.{Intends, write_of_packet, on_line}
+use Rattle.bot_machine.specs.Acts.{PacketCarriesOut}
+use Rattle.bot_machine.specs.Disk.{DiskValue, FitsDisk, Proceeds, Tells, IsStep, Elapses, TakesFew}
+use Rattle.spec.specs.declared.intent.Intent.TheVariants as intent
 use Rattle.bot_machine.specs.Refinement.{taking_of, left_of, halt_of, IsInPhase, IsKept}
-use Rattle.bot_machine.specs.Packets.{packets_of}
+use Rattle.spec.specs.Packets.{packets_of}
 use Rattle.bot_machine.specs.Reading.{LooksBesides, LooksIn, ReadsAt, WrapperReadsAt}
 use Rattle.bot_machine.specs.Serving.{BeginsOn, TakesOn, RestsOn, SparesOn}
 use Rattle.bot_machine.proofs.UnitLaws.{few_ticks}
@@ -275,7 +273,7 @@ sends (DataIn from to halt) command out size taken staging status =
 sends Status command out size taken staging status = ([], None, refl)
 
 -- a unit that comes to take no other data, nor to send any, goes on with the phase
-pub still_in_phase : (limit : ℕ) (old new : List ℕ → Intent)
+pub still_in_phase : (limit : ℕ) (old new : List ℕ → Intention)
     → ((block : List ℕ) (n : ℕ) → new block ≡ intent.Out n → old block ≡ intent.Out n)
     → ((block : List ℕ) (n : ℕ) → new block ≡ intent.In n → old block ≡ intent.In n) → (phase : Phase) → IsInPhase limit old phase
     → IsInPhase limit new phase
@@ -295,7 +293,7 @@ still_in_phase limit old new steady steady_in (DataIn from to halt) h = h
 still_in_phase limit old new steady steady_in Status h = tt
 
 -- what is kept with one limit is kept with another that is the same
-pub kept_as : (old new : ℕ) (intention : List ℕ → Intent) (phase : Phase) (taken staging : List ℕ) → new ≡ old
+pub kept_as : (old new : ℕ) (intention : List ℕ → Intention) (phase : Phase) (taken staging : List ℕ) → new ≡ old
     → IsKept old intention phase taken staging → IsKept new intention phase taken staging
 kept_as old new intention phase taken staging same kept =
     subst (λ (n : ℕ). IsKept n intention phase taken staging) (sym same) kept

@@ -1,11 +1,11 @@
 -- Steps in the background may be struck from a run.
 use Rattle.std.proofs.Common.{◌≡◌, Bool, false, List, [], ◌∷◌, refl, sym, ap, subst, ◌∙◌}
-use Rattle.bot_machine.specs.declared.event.Event.{Event}
-use Rattle.bot_machine.specs.declared.event.Event.TheVariants as event
-use Rattle.bot_machine.specs.declared.event.Answer.{Answer}
-use Rattle.scsi_unit.specs.Rules.{UnitState}
-use Rattle.bot_machine.specs.Conversation.{Conversation}
-use Rattle.bot_machine.specs.Disk.{UnitStep, UnitRun}
+use Rattle.spec.specs.declared.event.Event.{Event}
+use Rattle.spec.specs.declared.event.Event.TheVariants as event
+use Rattle.spec.specs.declared.event.Answer.{Answer}
+use Rattle.spec.specs.Rules.{UnitState}
+use Rattle.spec.specs.Conversation.{Conversation}
+use Rattle.spec.specs.UnitConversation.{UnitStep, UnitRun}
 use Rattle.bot_machine.specs.Striking.{without_ticks, answers_without_ticks, HasStamps, IsUntroubled}
 use Rattle.bot_machine.proofs.OneStep.{still, one_step}
 

@@ -1,11 +1,11 @@
 -- The line tells the answer to a command.
 use Rattle.std.proofs.Common.{◌≡◌, ℕ, List, [], ◌∷◌, refl, subst, sym}
 use Rattle.std.specs.Prelude.{Option, Some, None, Result}
-use Rattle.wrappers.specs.declared.case.Endpoint.{Endpoint}
-use Rattle.wrappers.specs.declared.case.Endpoint.TheVariants as endpoint
-use Rattle.wrappers.specs.Status.{status_wrapper}
-use Rattle.scsi_unit.specs.Rules.{Sense}
-use Rattle.bot_machine.specs.Exchange.{Line, sending, laid_out}
+use Rattle.spec.specs.declared.case.Endpoint.{Endpoint}
+use Rattle.spec.specs.declared.case.Endpoint.TheVariants as endpoint
+use Rattle.spec.specs.StatusWrapper.{status_wrapper}
+use Rattle.spec.specs.Sense.{Sense}
+use Rattle.spec.specs.Exchange.{Line, sending, laid_out}
 use Rattle.bot_machine.specs.Disk.{status_of_answer, Tells}
 
 -- what is laid out ends in its status wrapper

@@ -1,36 +1,35 @@
 -- Transfers do not depend on the size of a packet.
-use Rattle.std.proofs.Common.{◌≡◌, ◌<◌, ◌≤◌, ◌-◌, ◌⊎◌, inl, inr, ⊎_elim, ℕ, zero, suc, false, List, [], ◌∷◌, ◌++◌, length, take}
-use Rattle.std.proofs.Common.{drop, map, refl, sym, ap, subst, ◌∙◌, arith, append_assoc, length-take, length-drop}
+use Rattle.std.proofs.Common.{◌≡◌, ◌<◌, ◌≤◌, ◌-◌, ◌⊎◌, inl, inr, ⊎_elim, ℕ, zero, suc, false, List, [], ◌∷◌, ◌++◌, length, take, drop, map}
+use Rattle.std.proofs.Common.{refl, sym, ap, subst, ◌∙◌, arith, append_assoc, length-take, length-drop}
 use Rattle.std.specs.Prelude.{None, Result, All}
 use Rattle.std.proofs.lemmas.List.{take_all, drop_all, take-append-drop}
-use Rattle.wrappers.specs.declared.command.Cbw.{Cbw}
-use Rattle.wrappers.specs.declared.way.Way.{Way}
-use Rattle.wrappers.specs.declared.case.Case.{Case}
-use Rattle.wrappers.specs.declared.status.Status.TheVariants.{PhaseError}
-use Rattle.wrappers.specs.Cases.{IsCase, size_of_way}
-use Rattle.wrappers.specs.Command.{SpellsCommand}
+use Rattle.spec.specs.declared.wrapper.Cbw.{Cbw}
+use Rattle.spec.specs.declared.way.Way.{Way}
+use Rattle.spec.specs.declared.case.Case.{Case}
+use Rattle.spec.specs.declared.status.Status.TheVariants.{PhaseError}
+use Rattle.spec.specs.Cases.{IsCase, size_of_way}
+use Rattle.spec.specs.CommandWrapper.{SpellsCommand}
 use Rattle.wrappers.proofs.CommandWrappers.{one_wrapper}
-use Rattle.scsi_unit.specs.Books.{StampsOut}
-use Rattle.scsi_unit.specs.Rules.{Sense, UnitState, CarriesOut, Ticks, write_in_progress, with_progress}
-use Rattle.bot_machine.specs.declared.event.Event.{Event}
-use Rattle.bot_machine.specs.declared.event.Answer.{Answer}
-use Rattle.bot_machine.specs.Packets.{packets_of}
-use Rattle.bot_machine.specs.Exchange.{Script, finished, taking, Line, at_rest, Moment}
-use Rattle.bot_machine.specs.Exchange.{at_once, after_data, never, moment_of, outcome_for, status_for, told, told_at_once}
-use Rattle.bot_machine.specs.Conversation.{Conversation, Begins, Opens, Takes}
-use Rattle.bot_machine.specs.Intentions.{Intends, way_of}
-use Rattle.bot_machine.specs.Acts.{write_of_packet}
-use Rattle.bot_machine.specs.Disk.{on_line}
-use Rattle.bot_machine.specs.Transfers.{Transfer, packet_out, Asks, events_of, packets_in, Heard, heard_in}
-use Rattle.bot_machine.specs.Transfers.{IsTransferred, AreTransferred, SizesAreAlike}
+use Rattle.spec.specs.Book.{StampsOut}
+use Rattle.spec.specs.Sense.{Sense}
+use Rattle.spec.specs.Rules.{UnitState, CarriesOut, Ticks, write_in_progress, with_progress}
+use Rattle.spec.specs.declared.event.Event.{Event}
+use Rattle.spec.specs.declared.event.Answer.{Answer}
+use Rattle.spec.specs.Packets.{packets_of}
+use Rattle.spec.specs.Exchange.{Script, finished, taking, Line, at_rest, Moment, at_once, after_data, never, moment_of, outcome_for}
+use Rattle.spec.specs.Exchange.{status_for, told, told_at_once}
+use Rattle.spec.specs.Conversation.{Conversation, Begins, Opens, Takes}
+use Rattle.spec.specs.UnitConversation.{Intends, way_of, write_of_packet, on_line}
+use Rattle.bot_machine.specs.Transfers.{Transfer, packet_out, Asks, events_of, packets_in, Heard, heard_in, IsTransferred, AreTransferred}
+use Rattle.bot_machine.specs.Transfers.{SizesAreAlike}
 use Rattle.bot_machine.proofs.Packets.{packets_of-more, packets_of-none}
 use Rattle.bot_machine.proofs.Cases.{at_once-takes_none}
 use Rattle.bot_machine.proofs.Filling.{last_packet}
 use Rattle.bot_machine.proofs.UnitLaws.{writes_none, one_answer}
 use Rattle.bot_machine.proofs.OneStep.{same_conversation, opens_as}
 use Rattle.bot_machine.proofs.StruckTicks.{Untroubled, untroubled}
-use Rattle.bot_machine.proofs.Hearing.{heard_so, front_first, line_at, asks_end, laid, sends_all, packets_told, status_told}
-use Rattle.bot_machine.proofs.Hearing.{bytes_told, told_sends, told_bytes}
+use Rattle.bot_machine.proofs.Hearing.{heard_so, front_first, line_at, asks_end, laid, sends_all, packets_told, status_told, bytes_told}
+use Rattle.bot_machine.proofs.Hearing.{told_sends, told_bytes}
 
 -- ---- the data is taken
 

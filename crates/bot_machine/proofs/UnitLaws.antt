@@ -1,9 +1,10 @@
 -- What the laws of the unit say of the commands and steps that a disk has it do.
 use Rattle.std.proofs.Common.{◌≡◌, ◌≢◌, ℕ, false, Bool, List, None}
 use Rattle.std.specs.Prelude.{Result}
-use Rattle.scsi_unit.specs.Books.{StampsOut}
-use Rattle.scsi_unit.specs.declared.intent.Intent.TheVariants as intent
-use Rattle.scsi_unit.specs.Rules.{Sense, UnitState, intention, CarriesOut, Ticks, write_in_progress, with_progress}
+use Rattle.spec.specs.Book.{StampsOut}
+use Rattle.spec.specs.declared.intent.Intent.TheVariants as intent
+use Rattle.spec.specs.Sense.{Sense}
+use Rattle.spec.specs.Rules.{UnitState, intention, CarriesOut, Ticks, write_in_progress, with_progress}
 use Rattle.scsi_unit.proofs.UnitLaws.{is_function, keeps_writes, keeps_intentions, ticks_only}
 pub use Rattle.scsi_unit.proofs.UnitLaws.{between_calls, limit_between_calls, start_keeps_limit, intends_by_book, knows_images, few_ticks}
 

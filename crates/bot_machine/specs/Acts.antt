@@ -1,19 +1,16 @@
 -- What an event has the unit do: carry out a command, or make a step in the background.
-use Rattle.std.specs.Prelude.{◌≡◌, ⊤, ◌≤◌, ℕ, ◌==◌, ◌&&◌, nat_le, Bool, true, false, if◌then◌else◌}
-use Rattle.std.specs.Prelude.{List}
-use Rattle.std.specs.Prelude.{[], ◌++◌, length, take, Option, None}
-use Rattle.medium.specs.Blocks.{Write}
-use Rattle.wrappers.specs.declared.command.Cbw.{Cbw}
-use Rattle.wrappers.specs.declared.way.Way.{Way}
-use Rattle.wrappers.specs.declared.case.Case.{Case}
-use Rattle.wrappers.specs.Command.{SpellsCommand}
-use Rattle.wrappers.specs.Cases.{IsCase, size_of_way}
-use Rattle.scsi_unit.specs.Rules.{UnitState, write_in_progress}
-use Rattle.bot_machine.specs.declared.event.Event.{Event}
-use Rattle.bot_machine.specs.declared.event.Event.TheVariants as event
-use Rattle.bot_machine.specs.Exchange.{Script, finished, taking, sending, at_once, moment_of}
-use Rattle.bot_machine.specs.Conversation.{Conversation}
-use Rattle.bot_machine.specs.Intentions.{Intends}
+use Rattle.spec.specs.declared.event.Event.TheVariants as event
+use Rattle.std.specs.Prelude.{◌≡◌, ⊤, ◌≤◌, ℕ, Bool, true, false, List, [], ◌++◌, length, take}
+use Rattle.spec.specs.declared.wrapper.Cbw.{Cbw}
+use Rattle.spec.specs.declared.way.Way.{Way}
+use Rattle.spec.specs.declared.case.Case.{Case}
+use Rattle.spec.specs.CommandWrapper.{SpellsCommand}
+use Rattle.spec.specs.Cases.{IsCase, size_of_way}
+use Rattle.spec.specs.Rules.{UnitState}
+use Rattle.spec.specs.declared.event.Event.{Event}
+use Rattle.spec.specs.Exchange.{Script, finished, taking, sending, at_once, moment_of}
+use Rattle.spec.specs.Conversation.{Conversation}
+use Rattle.spec.specs.UnitConversation.{Intends}
 
 -- the packet spells the wrapper of a command that is carried out at once, over no bytes
 pub record CarriesOutAtOnce (packet : List ℕ) (unit : UnitState) (block taken : List ℕ)
@@ -63,23 +60,3 @@ Acts s (event.Out packet) =
 Acts s event.In = ⊥
 Acts s (event.Setup packet) = ⊥
 Acts s event.Tick = ⊤
-
--- The write that is in progress in a packet to Bulk-Out, of at most so many bytes: that of the
--- command whose last bytes it has. A command that is carried out in the event of its wrapper takes
--- no bytes, and writes none.
-abbrev pub write_of_packet : ℕ → Bool → Script → List ℕ → UnitState → Option Write
-write_of_packet most true left packet unit = None
-write_of_packet most false finished packet unit = None
-write_of_packet most false (taking case command intended bytes due) packet unit =
-    if (length packet == due) && nat_le due most
-    then write_in_progress unit command.block.items (take (size_of_way intended) (bytes ++ packet))
-    else None
-write_of_packet most false (sending packets halt status) packet unit = None
-
--- the write that is in progress in an event, if there is one
-abbrev pub write_of_event : Conversation UnitState → Event → Option Write
-write_of_event s (event.Out packet) =
-    write_of_packet s.line.packet_size s.line.out_halted s.line.left packet.items s.unit
-write_of_event s event.In = None
-write_of_event s (event.Setup packet) = None
-write_of_event s event.Tick = None

@@ -1,7 +1,7 @@
 -- What each call answers, as the answer to an event.
 use Rattle.std.specs.Prelude.{ℕ, ◌≤◌, List, length}
-use Rattle.bot_machine.specs.declared.event.Answer.{Answer}
-use Rattle.bot_machine.specs.declared.event.Answer.TheVariants as answer
+use Rattle.spec.specs.declared.event.Answer.{Answer}
+use Rattle.spec.specs.declared.event.Answer.TheVariants as answer
 use Rattle.bot_machine.specs.declared.event.OutAnswer.{OutAnswer}
 use Rattle.bot_machine.specs.declared.event.OutAnswer.TheVariants as out
 use Rattle.bot_machine.specs.declared.event.InAnswer.{InAnswer}

@@ -1,16 +1,21 @@
 -- What is known of a disk before it starts.
 use Rattle.std.specs.Prelude.{ℕ}
-use Rattle.scsi_unit.specs.Identification.{Identification}
+use Rattle.spec.specs.Lives.{Presentation}
+use Rattle.spec.specs.Identification.{Identification}
 pub use Rattle.scsi_unit.specs.declared.retiring.Retiring.{Retiring}
 pub use Rattle.scsi_unit.specs.declared.retiring.Retiring.TheVariants.{Late, Ahead}
-use Rattle.bot_machine.specs.declared.packet_size.PacketSize.{PacketSize}
-use Rattle.bot_machine.specs.PacketBytes.{bytes_of}
+use Rattle.spec.specs.declared.packet_size.PacketSize.{PacketSize}
+use Rattle.spec.specs.Packets.{bytes_of}
 
 -- who the disk is, how many bytes a bulk packet has at most, and when a record of the log goes home
 pub record Device : Type 0 where
   pub identity : Identification
   pub packet_size : ℕ
   pub retiring : Retiring
+
+-- how it presents itself
+abbrev pub presented : Device → Presentation
+presented device = record { identity = device.identity; packet_size = device.packet_size }
 
 abbrev pub device_by : Identification → PacketSize → Retiring → Device
 device_by identity size retiring = record {

@@ -1,37 +1,33 @@
 -- A disk over a medium: its conversation over each book that it fits, and what a cut may leave.
+use Rattle.spec.specs.declared.event.Event.TheVariants as happens
 use Rattle.std.specs.Prelude.{⊤, ◌≡◌, ◌≤◌, ◌⊎◌, ℕ, ◌+◌, Bool, true, List, [], ◌∷◌, Option, None}
 use Rattle.std.specs.Prelude.{Result, Ok, Err}
-use Rattle.wrappers.specs.declared.case.Endpoint.{Endpoint}
-use Rattle.wrappers.specs.declared.status.Status.{Status}
-use Rattle.wrappers.specs.declared.status.Status.TheVariants.{Passed, Failed}
-use Rattle.wrappers.specs.Status.{status_wrapper}
-use Rattle.medium.specs.Blocks.{Write}
+use Rattle.spec.specs.declared.case.Endpoint.{Endpoint}
+use Rattle.spec.specs.declared.status.Status.{Status}
+use Rattle.spec.specs.declared.status.Status.TheVariants.{Passed, Failed}
+use Rattle.spec.specs.StatusWrapper.{status_wrapper}
+use Rattle.spec.specs.Blocks.{Write}
 use Rattle.medium.specs.Medium.{State, Image}
 use Rattle.medium.specs.Moments.{LeavesOnly, EachCut}
 use Rattle.medium.specs.Sent.{SendsUpTo}
-use Rattle.scsi_unit.specs.Rules.{Sense}
+use Rattle.spec.specs.Sense.{Sense}
 use Rattle.scsi_unit.specs.Background.{is_dead}
-use Rattle.scsi_unit.specs.Books.{Book}
+use Rattle.spec.specs.Book.{Book}
 use Rattle.scsi_unit.specs.Books.{MayFind, FoundWith}
-use Rattle.scsi_unit.specs.Rules.{UnitState, CarriesOut, Ticks}
+use Rattle.spec.specs.Rules.{UnitState, CarriesOut, Ticks}
 use Rattle.scsi_unit.specs.Calls.{IsBounded, most_calls, most_sends}
 use Rattle.scsi_unit.specs.Serving.{has_refused, IsSparing, TicksOver}
 use Rattle.scsi_unit.specs.Starting.{layout_of}
 use Rattle.scsi_unit.specs.UnitValue.{UnitValue, unit_limit, state_of, FitsUnit}
-use Rattle.bot_machine.specs.declared.event.Event.{Event}
-use Rattle.bot_machine.specs.declared.event.Event.TheVariants as happens
-use Rattle.bot_machine.specs.declared.event.Answer.{Answer}
+use Rattle.spec.specs.declared.event.Event.{Event}
+use Rattle.spec.specs.declared.event.Answer.{Answer}
 pub use Rattle.bot_machine.specs.DiskValue.{DiskValue}
-use Rattle.bot_machine.specs.Exchange.{Line, finished, sending}
-use Rattle.bot_machine.specs.Conversation.{Conversation, Step, Run, refused_events}
+use Rattle.spec.specs.Exchange.{Line, finished, sending}
+use Rattle.spec.specs.Conversation.{Conversation, refused_events}
 use Rattle.bot_machine.specs.Turns.{ByTurns, marks_in}
-use Rattle.bot_machine.specs.Intentions.{Intends}
-use Rattle.bot_machine.specs.Acts.{EventCarriesOut, Acts, write_of_event}
+use Rattle.spec.specs.UnitConversation.{Intends, write_of_event, UnitRun, UnitStep, on_line}
+use Rattle.bot_machine.specs.Acts.{EventCarriesOut, Acts}
 use Rattle.bot_machine.specs.Reading.{LooksIn}
-
--- a unit behind a line
-abbrev pub on_line : Line → UnitState → Conversation UnitState
-on_line line unit = record { line = line; unit = unit }
 
 -- the conversation of a disk, with a book of its life
 abbrev pub over : {M : Type 0} → DiskValue M → Book → Conversation UnitState
@@ -40,17 +36,6 @@ over disk book = on_line disk.line (state_of disk.unit book)
 -- the disk over a medium in this state fits a book of its life
 abbrev pub FitsDisk : {M : Type 0} → State → DiskValue M → Book → Type 0
 FitsDisk m disk book = FitsUnit m disk.unit book
-
--- one event by the rules of the unit, where the medium refused a call in it or refused none
-abbrev pub UnitStep : Bool → Conversation UnitState → Event → Answer → Conversation UnitState
-    → Type 0
-UnitStep refused old event answer new = Step Intends CarriesOut Ticks refused old event answer new
-
--- events by the rules of the unit
-abbrev pub UnitRun : Conversation UnitState → List Event → List Answer → List Bool
-    → Conversation UnitState → Type 0
-UnitRun old events answers refusals new =
-    Run Intends CarriesOut Ticks old events answers refusals new
 
 -- the count of refused calls does not fall, and the size stays
 pub record Elapses (before after : State) : Type 0 where

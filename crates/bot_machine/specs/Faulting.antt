@@ -1,14 +1,14 @@
 -- The device behind the medium refused a call that it had taken, and the disk is told so: what
 -- becomes of the unit, and of a status that is not yet sent (Bulk-Only Transport 1.0, 5.2).
-use Rattle.std.specs.Prelude.{◌≡◌, ℕ, ◌==◌, Bool, false, List, if◌then◌else◌}
-use Rattle.std.specs.Prelude.{slice_index, slice_set}
-use Rattle.wrappers.specs.declared.status.Status.TheVariants.{Passed, Failed, PhaseError}
-use Rattle.wrappers.specs.Status.{status_wrapper}
-use Rattle.scsi_unit.specs.Rules.{UnitState}
+use Rattle.std.specs.Prelude.{◌≡◌, ℕ, ◌==◌, Bool, false, List, if◌then◌else◌, slice_index}
+use Rattle.std.specs.Prelude.{slice_set}
+use Rattle.spec.specs.declared.status.Status.TheVariants.{Passed, Failed, PhaseError}
+use Rattle.spec.specs.StatusWrapper.{status_wrapper}
+use Rattle.spec.specs.Rules.{UnitState}
 use Rattle.scsi_unit.specs.Faulting.{faulted_state, faulted_unit}
-use Rattle.bot_machine.specs.Conversation.{Conversation}
+use Rattle.spec.specs.Conversation.{Conversation}
 use Rattle.bot_machine.specs.DiskValue.{DiskValue}
-use Rattle.bot_machine.specs.Exchange.{Script, Line, finished, taking, sending}
+use Rattle.spec.specs.Exchange.{Script, Line, finished, taking, sending}
 
 -- byte 12 of a status wrapper is its status, which tells that the command passed
 abbrev pub is_good : List ℕ → Bool

@@ -5,21 +5,24 @@ use Rattle.medium.specs.Moments.{EachCut}
 use Rattle.medium.specs.Sim.{Sim, state_of}
 use Rattle.medium.specs.Writes.{keeps}
 use Rattle.scsi_unit.specs.StartFaults.{StartFault}
-use Rattle.scsi_unit.specs.Books.{Book}
-use Rattle.scsi_unit.specs.Books.{MayFind}
-use Rattle.bot_machine.specs.declared.event.Answer.{Answer}
+use Rattle.spec.specs.Book.{Book}
+use Rattle.scsi_unit.specs.Books.{MayFind, StandsAs}
+use Rattle.spec.specs.declared.event.Answer.{Answer}
 use Rattle.bot_machine.specs.declared.life.Life.{Life}
 use Rattle.bot_machine.specs.Answers.{Room}
-use Rattle.bot_machine.specs.Device.{Device}
-use Rattle.bot_machine.specs.Conversation.{refused_events}
+use Rattle.bot_machine.specs.Device.{presented, Device}
+use Rattle.spec.specs.Conversation.{refused_events}
 use Rattle.bot_machine.specs.Opening.{IsNotOpened}
-use Rattle.bot_machine.specs.Lives.{Action, arms, starts, plays, cuts, before_first, Standing}
-use Rattle.bot_machine.specs.Lives.{Opens, LivesRun}
+use Rattle.spec.specs.Lives.{Action, arms, starts, plays, cuts, before_first, Standing, Opens}
+use Rattle.spec.specs.Lives.{LivesRun}
 use Rattle.bot_machine.specs.declared.stage.Stage.TheVariants.{Rests}
 use Rattle.bot_machine.specs.Moving.{MovesBy, IsRefusedStart}
 use Rattle.bot_machine.specs.LivesValue.{LivesValue, LivesGoOn, IsAtRest, OpensOn, HasLimit}
-use Rattle.bot_machine.specs.LivesValue.{FitsLives}
-use Rattle.bot_machine.specs.LivesValue.{LeavesLimit, FoundAt, MayRefuse}
+use Rattle.bot_machine.specs.LivesValue.{FitsLives, LeavesLimit, FoundAt, MayRefuse}
+use Rattle.medium.specs.Medium.{CutLeaves}
+use Rattle.scsi_unit.specs.Starting.{StandsForSome}
+use Rattle.spec.specs.Promise.{first_standing}
+use Rattle.spec.specs.Promise as promise
 
 -- what is done before the start of a life
 abbrev pub armed_by : Option ℕ → List Action
@@ -44,10 +47,6 @@ events_in lives = sum_by (λ (life : Life). length life.events.items) lives
 abbrev pub Appends : List Answer → Room → Room → Type 0
 Appends told old new = new ≡ record old { list = old.list ++ told }
 
--- before the first life, which opens with this book and has this limit
-abbrev pub first_standing : ℕ → Book → Standing
-first_standing limit book = record { place = before_first book; armed = false; limit = limit }
-
 -- Where the power of a medium is on, nothing is unflushed and no fuse is armed, these lives stand
 -- before the first, on each book with which it may open.
 abbrev pub StandsFirst : Sim → LivesValue → Type 0
@@ -61,7 +60,7 @@ StandsFirst medium lives = (limit : ℕ) (book : Book) → IsAtRest medium → m
 pub record EndsIn (device : Device) (limit : ℕ) (book : Book) (actions : List Action)
     (told : List Answer) (refusals : List Bool) (after : Sim) : Type 0 where
   pub last : Standing
-  pub run : LivesRun device (first_standing limit book) actions told refusals last
+  pub run : LivesRun (presented device) (first_standing limit book) actions told refusals last
   pub limited : book.ours ≡ true → LeavesLimit limit (Rests after)
   pub found : book.ours ≡ true → EachCut (FoundAt (state_of after).size last.place) (state_of after)
 
@@ -91,6 +90,27 @@ pub record AreLived (before : Sim) (device : Device) (lives : List Life)
       → EndsIn device limit book (actions_of_all lives) told refusals after
   pub rests : IsAtRest after
   pub unfused : after.power.fuse ≡ None
+  pub size_stays : (state_of after).size ≡ (state_of before).size
+
+-- The promise of lives over a medium in memory, by what its images stand for.
+abbrev pub KeepPromise : Sim → Device → List Life → List Answer → Sim → Type 0
+KeepPromise before device lives told after =
+    let size : ℕ = (state_of before).size in
+    promise.IsKept (StandsForSome size) (StandsAs size) (HasLimit size) (presented device)
+    (state_of before).content (CutLeaves (state_of before).may_leave) (actions_of_all lives) told
+    (CutLeaves (state_of after).may_leave)
+
+-- The same of the first of these lives, where the start of the one after them was refused.
+pub record KeepPromiseUpTo (before : Sim) (device : Device) (lives : List Life)
+    (told : List Answer) (after : Sim) : Type 0 where
+  pub lived : List Life
+  pub life : Life
+  pub rest : List Life
+  pub lives_are : lives ≡ lived ++ life ∷ rest
+  pub kept : let size : ℕ = (state_of before).size in
+      promise.IsKeptUpTo (StandsForSome size) (StandsAs size) (HasLimit size) (presented device)
+      (state_of before).content (CutLeaves (state_of before).may_leave)
+      (actions_of_all lived ++ armed_by life.fuse) told (CutLeaves (state_of after).may_leave)
 
 -- Lives whose first opens with this book and has this limit, and the book with which the next would
 -- have opened, whose start was refused.
@@ -98,7 +118,7 @@ pub record StopsIn (device : Device) (limit : ℕ) (book : Book) (actions : List
     (told : List Answer) (refusals : List Bool) (counted : ℕ) (fault : StartFault) (after : Sim)
     : Type 0 where
   pub last : Standing
-  pub run : LivesRun device (first_standing limit book) actions told refusals last
+  pub run : LivesRun (presented device) (first_standing limit book) actions told refusals last
   pub limited : book.ours ≡ true → LeavesLimit limit (Rests after)
   pub next : Book
   pub opens : Opens last.place next
@@ -131,3 +151,4 @@ pub record AreLivedUpTo (before : Sim) (device : Device) (lives : List Life)
       (actions_of_all lived ++ armed_by life.fuse) told refusals
       (refused_events refusals + (state_of before).failures) fault after
   pub on : after.power.off ≡ false
+  pub size_stays : (state_of after).size ≡ (state_of before).size

@@ -3,9 +3,8 @@ use Rattle.std.specs.Prelude.{◌≡◌, ℕ, ◌+◌, ◌^◌, ◌≤◌, ◌<�
 use Rattle.medium.specs.Medium.{Image}
 use Rattle.medium.specs.Moments.{EachCut}
 use Rattle.medium.specs.Sim.{Sim, state_of}
-use Rattle.scsi_unit.specs.StartFaults.{StartFault, NoMemory, Read, Write, Flush}
-use Rattle.scsi_unit.specs.StartFaults.{BadSuper, BadVersion, BadSize, BadHead, StampsUsedUp}
-use Rattle.scsi_unit.specs.StartFaults.{LogTooSmall}
+use Rattle.scsi_unit.specs.StartFaults.{StartFault, NoMemory, Read, Write, Flush, BadSuper}
+use Rattle.scsi_unit.specs.StartFaults.{BadVersion, BadSize, BadHead, StampsUsedUp, LogTooSmall}
 use Rattle.scsi_unit.specs.Starting.{Stands}
 -- the limit of a disk is that of the image that it starts on
 pub use Rattle.scsi_unit.specs.Starting.{HasLimit}
@@ -13,20 +12,21 @@ pub use Rattle.bot_machine.specs.Moving.{medium_in, state_in}
 use Rattle.bot_machine.specs.Moving.{MovesBy, IsRefusedStart}
 -- a first life over a medium opens with a book as its unit does
 pub use Rattle.scsi_unit.specs.Starting.{OpensOn}
-use Rattle.scsi_unit.specs.Books.{Book, StandsAs, MayFind, FoundWith}
-use Rattle.scsi_unit.specs.Rules.{UnitState}
-use Rattle.bot_machine.specs.declared.event.Event.{Event}
-use Rattle.bot_machine.specs.declared.event.Answer.{Answer}
+use Rattle.spec.specs.Book.{Book}
+use Rattle.scsi_unit.specs.Books.{StandsAs, MayFind, FoundWith}
+use Rattle.spec.specs.Rules.{UnitState}
+use Rattle.spec.specs.declared.event.Event.{Event}
+use Rattle.spec.specs.declared.event.Answer.{Answer}
 use Rattle.bot_machine.specs.declared.stage.Stage.{Stage}
 use Rattle.bot_machine.specs.declared.stage.Stage.TheVariants.{Rests, Runs}
-use Rattle.bot_machine.specs.Conversation.{Conversation, refused_events}
-use Rattle.bot_machine.specs.Device.{Device}
+use Rattle.spec.specs.Conversation.{Conversation, refused_events}
+use Rattle.bot_machine.specs.Device.{presented, Device}
 use Rattle.bot_machine.specs.Fitting.{IsWithin}
 use Rattle.bot_machine.specs.Disk.{DiskValue, over, FitsDisk}
 use Rattle.bot_machine.specs.Opening.{IsNotOpened}
-use Rattle.bot_machine.specs.Lives.{Action, Place, before_first, between, runs, off, Standing}
-use Rattle.bot_machine.specs.Lives.{Opens}
-use Rattle.bot_machine.specs.Lives.{LivesRun}
+use Rattle.spec.specs.Lives.{Action, Place, before_first, between, runs, off, Standing, Opens}
+use Rattle.spec.specs.Lives.{LivesRun}
+use Rattle.spec.specs.Promise as promise
 
 -- what is seen of lives: what disk it is, and its medium, with the disk where one runs
 pub record LivesValue : Type 0 where
@@ -91,11 +91,7 @@ book_at (off remains) = remains.book
 
 -- an image that a cut may leave of lives that stand here
 abbrev pub FoundAt : ℕ → Place → Image → Type 0
-FoundAt size (before_first book) image =
-    StandsAs size book.blocks image book.opening book.stamp
-FoundAt size (between remains) image = FoundWith size remains.book remains.in_progress image
-FoundAt size (runs conversation) image = MayFind size conversation.unit.book image
-FoundAt size (off remains) image = FoundWith size remains.book remains.in_progress image
+FoundAt size place image = promise.FoundAt (StandsAs size) place image
 
 -- the limit of lives that stand here: the contents have it when the first begins, and a disk that
 -- runs
@@ -123,7 +119,7 @@ pub record FitsLives (lives : LivesValue) (here : Standing) : Type 0 where
 pub record LivesGoTo (after : LivesValue) (here : Standing) (actions : List Action)
     (answers : List Answer) (refusals : List Bool) : Type 0 where
   pub there : Standing
-  pub run : LivesRun after.device here actions answers refusals there
+  pub run : LivesRun (presented after.device) here actions answers refusals there
   pub fits : FitsLives after there
   pub ours : (book_at there.place).ours ≡ (book_at here.place).ours
   -- the format of an image never changes
@@ -162,7 +158,7 @@ pub record LivesStopAt (after : LivesValue) (here : Standing) (actions : List Ac
     (answers : List Answer) (refusals : List Bool) (counted : ℕ) (fault : StartFault)
     : Type 0 where
   pub there : Standing
-  pub run : LivesRun after.device here actions answers refusals there
+  pub run : LivesRun (presented after.device) here actions answers refusals there
   -- the book with which the life would have opened
   pub book : Book
   pub opens : Opens there.place book

@@ -4,14 +4,14 @@ use Rattle.medium.specs.Medium.{State}
 use Rattle.medium.specs.Sim.{Sim, state_of, IsCut, IsFused, IsFailing, ComesAfter}
 use Rattle.scsi_unit.specs.StartFaults.{StartFault}
 use Rattle.scsi_unit.specs.Serving.{has_refused}
-use Rattle.bot_machine.specs.declared.event.Event.{Event}
-use Rattle.bot_machine.specs.declared.event.Answer.{Answer}
-use Rattle.bot_machine.specs.declared.event.Answer.TheVariants.{Off}
+use Rattle.spec.specs.declared.event.Event.{Event}
+use Rattle.spec.specs.declared.event.Answer.{Answer}
+use Rattle.spec.specs.declared.event.Answer.TheVariants.{Off}
 use Rattle.bot_machine.specs.declared.stage.Stage.{Stage}
 use Rattle.bot_machine.specs.declared.stage.Stage.TheVariants.{Rests, Runs}
 use Rattle.bot_machine.specs.Device.{Device}
 use Rattle.bot_machine.specs.Disk.{DiskValue, IsStep, IsRearmed}
-use Rattle.bot_machine.specs.Lives.{Action, arms, fails, starts, plays, cuts}
+use Rattle.spec.specs.Lives.{Action, arms, fails, starts, plays, cuts}
 use Rattle.bot_machine.specs.Opening.{IsOpened, IsNotOpened, StartLeaves}
 
 -- the medium of a disk, or the medium alone

@@ -1,15 +1,15 @@
 -- How a disk starts.
 use Rattle.std.specs.Prelude.{◌≡◌, ◌⊎◌}
 use Rattle.medium.specs.Medium.{State}
-use Rattle.scsi_unit.specs.Books.{Book}
+use Rattle.spec.specs.Book.{Book}
 use Rattle.scsi_unit.specs.Retiring.{RetiresBy}
 use Rattle.scsi_unit.specs.StartFaults.{StartFault, NoMemory}
-use Rattle.scsi_unit.specs.Starting.{IsStarted, IsStartCause, HasStore, HasLimit}
-use Rattle.scsi_unit.specs.Starting.{OpensOn, IsCauseFor}
-use Rattle.scsi_unit.specs.Rules.{opened_unit}
+use Rattle.scsi_unit.specs.Starting.{IsStarted, IsStartCause, HasStore, HasLimit, OpensOn}
+use Rattle.scsi_unit.specs.Starting.{IsCauseFor}
+use Rattle.spec.specs.Rules.{opened_unit}
 use Rattle.scsi_unit.specs.UnitValue.{unit_limit, state_of}
 use Rattle.bot_machine.specs.Device.{Device}
-use Rattle.bot_machine.specs.Exchange.{at_rest}
+use Rattle.spec.specs.Exchange.{at_rest}
 use Rattle.bot_machine.specs.Disk.{DiskValue}
 -- what a start leaves is what the start of its unit does
 pub use Rattle.scsi_unit.specs.Starting.{StartLeaves, LeavesMedium, LeavesStarted}

@@ -1,11 +1,11 @@
 -- When records go home, over lives: a disk keeps to what was asked, and a host sees nothing of it.
 use Rattle.std.specs.Prelude.{⊤, Bool, List}
 use Rattle.scsi_unit.specs.Retiring.{RetiresBy}
-use Rattle.bot_machine.specs.declared.event.Answer.{Answer}
+use Rattle.spec.specs.declared.event.Answer.{Answer}
 use Rattle.bot_machine.specs.declared.stage.Stage.{Stage}
 use Rattle.bot_machine.specs.declared.stage.Stage.TheVariants.{Rests, Runs}
-use Rattle.bot_machine.specs.Device.{Device, Retiring}
-use Rattle.bot_machine.specs.Lives.{Action, Standing, LivesRun}
+use Rattle.bot_machine.specs.Device.{presented, Device, Retiring}
+use Rattle.spec.specs.Lives.{Action, Standing, LivesRun}
 use Rattle.bot_machine.specs.Moving.{MovesBy}
 
 -- a disk that runs retires so
@@ -23,5 +23,5 @@ KeepsPolicy = (device : Device) (old new : Stage) (actions : List Action) (answe
 abbrev pub PolicyIsUnseen : Type 0
 PolicyIsUnseen = (device : Device) (retiring : Retiring) (old new : Standing)
     (actions : List Action) (answers : List Answer) (refusals : List Bool)
-    → LivesRun device old actions answers refusals new
-    → LivesRun (record device { retiring = retiring }) old actions answers refusals new
+    → LivesRun (presented device) old actions answers refusals new
+    → LivesRun (presented (record device { retiring = retiring })) old actions answers refusals new

@@ -1,29 +1,27 @@
 -- What the disk's fields stand for.
 use Rattle.std.specs.Prelude.{◌≡◌, ◌≢◌, ⊤, ◌≤◌, ◌<◌, ℕ, ◌-◌, ◌*◌, min, Bool, true, false, List, []}
 use Rattle.std.specs.Prelude.{take, length, slice_range, Option, Some, None}
-use Rattle.wrappers.specs.declared.case.Case.{Case}
-use Rattle.wrappers.specs.declared.case.Case.TheVariants.{C5, C6}
-use Rattle.wrappers.specs.declared.case.Endpoint.{Endpoint}
-use Rattle.wrappers.specs.declared.case.Endpoint.TheVariants as endpoint
-use Rattle.wrappers.specs.Cases.{IsCase, size_of_way}
-use Rattle.scsi_unit.specs.declared.intent.Intent.{Intent}
-use Rattle.scsi_unit.specs.declared.intent.Intent.TheVariants as intent
+use Rattle.spec.specs.declared.case.Case.{Case}
+use Rattle.spec.specs.declared.case.Case.TheVariants.{C5, C6}
+use Rattle.spec.specs.declared.case.Endpoint.{Endpoint}
+use Rattle.spec.specs.declared.case.Endpoint.TheVariants as endpoint
+use Rattle.spec.specs.Cases.{IsCase, size_of_way}
+use Rattle.spec.specs.Rules.{Intention}
+use Rattle.spec.specs.declared.intent.Intent.TheVariants as intent
 use Rattle.bot_machine.specs.declared.exchange.When.{When}
 use Rattle.bot_machine.specs.declared.exchange.When.TheVariants.{AtOnce, AfterData, Never}
 use Rattle.bot_machine.specs.declared.request.ControlRequest.{ControlRequest}
 use Rattle.bot_machine.specs.declared.request.ControlRequest.TheVariants.{MassStorageReset}
-use Rattle.bot_machine.specs.declared.request.ControlRequest.TheVariants.{GetMaxLun}
-use Rattle.bot_machine.specs.declared.request.ControlRequest.TheVariants.{ClearHalt, GetStatus}
+use Rattle.bot_machine.specs.declared.request.ControlRequest.TheVariants.{GetMaxLun, ClearHalt}
+use Rattle.bot_machine.specs.declared.request.ControlRequest.TheVariants.{GetStatus}
 use Rattle.bot_machine.specs.declared.wire.Taking.{Taking}
 use Rattle.bot_machine.specs.declared.wire.Phase.{Phase}
 use Rattle.bot_machine.specs.declared.wire.Phase.TheVariants.{Command, DataOut, DataIn, Status}
 use Rattle.bot_machine.specs.declared.wire.Wire.{Wire}
-use Rattle.bot_machine.specs.PacketBytes.{bytes_of}
-use Rattle.bot_machine.specs.Packets.{packets_of}
-use Rattle.bot_machine.specs.Requests.{Request, mass_storage_reset, get_max_lun, clear_halt}
-use Rattle.bot_machine.specs.Requests.{get_status}
-use Rattle.bot_machine.specs.Exchange.{Script, Line, finished, taking, sending, Moment, at_once}
-use Rattle.bot_machine.specs.Exchange.{after_data, never, moment_of}
+use Rattle.spec.specs.Packets.{bytes_of, packets_of}
+use Rattle.spec.specs.Requests.{Request, mass_storage_reset, get_max_lun, clear_halt, get_status}
+use Rattle.spec.specs.Exchange.{Script, Line, finished, taking, sending, Moment, at_once}
+use Rattle.spec.specs.Exchange.{after_data, never, moment_of}
 
 -- the halt that is still to come
 abbrev pub halt_of : Bool → Option Endpoint
@@ -61,7 +59,7 @@ line_of wire taken staging =
 -- Data is taken: the case takes data, and the bytes taken are the intended ones of those that came,
 -- of as many blocks as a transfer has at most. What the unit intends to take now, if it still does,
 -- is what it intended when the wrapper came; and it intends to send nothing.
-pub record IsTaking (limit : ℕ) (intention : List ℕ → Intent) (t : Taking) : Type 0 where
+pub record IsTaking (limit : ℕ) (intention : List ℕ → Intention) (t : Taking) : Type 0 where
   pub is_case : IsCase t.exchange.case t.exchange.command.host t.exchange.intended
   pub moment : moment_of t.exchange.case ≡ after_data
   pub some_block : 0 < length t.exchange.command.block.items
@@ -76,14 +74,14 @@ pub record IsTaking (limit : ℕ) (intention : List ℕ → Intent) (t : Taking)
 
 -- what holds of a phase, by the most blocks of a transfer and what the unit intends for a command
 -- block
-abbrev pub IsInPhase : ℕ → (List ℕ → Intent) → Phase → Type 0
+abbrev pub IsInPhase : ℕ → (List ℕ → Intention) → Phase → Type 0
 IsInPhase limit intention Command = ⊤
 IsInPhase limit intention (DataOut t) = IsTaking limit intention t
 IsInPhase limit intention (DataIn from to halt) = (from < to) × (to ≤ 512 * limit)
 IsInPhase limit intention Status = ⊤
 
 -- what holds of the fields of every disk
-pub record IsKept (limit : ℕ) (intention : List ℕ → Intent) (phase : Phase)
+pub record IsKept (limit : ℕ) (intention : List ℕ → Intention) (phase : Phase)
     (taken staging : List ℕ) : Type 0 where
   pub taken_room : length taken ≡ 512 * limit
   pub staging_room : length staging ≡ 512 * limit

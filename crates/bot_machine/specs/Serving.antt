@@ -1,14 +1,14 @@
 -- What the parts of an event do to the unit and to the line.
 use Rattle.std.specs.Prelude.{◌≡◌, ◌<◌, ◌≤◌, ◌*◌, ◌⊎◌, ℕ, false, List, length, take, None, Result}
-use Rattle.wrappers.specs.declared.command.Cbw.{Cbw}
-use Rattle.wrappers.specs.declared.case.Case.{Case}
-use Rattle.wrappers.specs.declared.way.Way.TheVariants as ways
-use Rattle.wrappers.specs.Command.{SpellsCommand}
-use Rattle.wrappers.specs.Cases.{IsCase}
+use Rattle.spec.specs.declared.wrapper.Cbw.{Cbw}
+use Rattle.spec.specs.declared.case.Case.{Case}
+use Rattle.spec.specs.declared.way.Way.TheVariants as ways
+use Rattle.spec.specs.CommandWrapper.{SpellsCommand}
+use Rattle.spec.specs.Cases.{IsCase}
 use Rattle.medium.specs.Medium.{State}
-use Rattle.scsi_unit.specs.Rules.{Sense}
-use Rattle.scsi_unit.specs.Books.{Book}
-use Rattle.scsi_unit.specs.Rules.{CarriesOut, Ticks, write_in_progress}
+use Rattle.spec.specs.Sense.{Sense}
+use Rattle.spec.specs.Book.{Book}
+use Rattle.spec.specs.Rules.{CarriesOut, Ticks, write_in_progress}
 use Rattle.scsi_unit.specs.Calls.{IsBounded}
 use Rattle.scsi_unit.specs.Serving.{has_refused, IsSparing}
 use Rattle.scsi_unit.specs.UnitValue.{UnitValue, unit_limit, state_of, FitsUnit, intention_of}
@@ -16,13 +16,13 @@ use Rattle.bot_machine.specs.declared.exchange.Exchange.{Exchange}
 use Rattle.bot_machine.specs.declared.wire.Taking.{Taking}
 use Rattle.bot_machine.specs.declared.wire.Phase.TheVariants.{DataOut}
 use Rattle.bot_machine.specs.declared.wire.Wire.{Wire}
-use Rattle.bot_machine.specs.PacketBytes.{bytes_of}
-use Rattle.bot_machine.specs.Exchange.{Line, Script}
-use Rattle.bot_machine.specs.Conversation.{IsCarriedOut, Opens, Locks, Takes}
-use Rattle.bot_machine.specs.Intentions.{way_of, Intends}
-use Rattle.bot_machine.specs.Acts.{PacketCarriesOut, write_of_packet}
+use Rattle.spec.specs.Packets.{bytes_of}
+use Rattle.spec.specs.Exchange.{Line, Script}
+use Rattle.spec.specs.Conversation.{IsCarriedOut, Opens, Locks, Takes}
+use Rattle.spec.specs.UnitConversation.{way_of, Intends, write_of_packet, on_line}
+use Rattle.bot_machine.specs.Acts.{PacketCarriesOut}
 use Rattle.bot_machine.specs.Refinement.{taking_of, line_with, IsInPhase}
-use Rattle.bot_machine.specs.Disk.{on_line, Proceeds, Elapses, TakesFew, Tells}
+use Rattle.bot_machine.specs.Disk.{Proceeds, Elapses, TakesFew, Tells}
 use Rattle.bot_machine.specs.Reading.{LooksBesides}
 
 -- A packet spells a command wrapper, and begins this exchange: the one of its command, of what the

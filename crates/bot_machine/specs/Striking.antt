@@ -1,13 +1,12 @@
 -- Steps in the background may be struck: a host sees nothing of them.
 use Rattle.std.specs.Prelude.{◌≡◌, ⊤, Bool, false, List, [], ◌∷◌}
-use Rattle.scsi_unit.specs.Books.{StampsOut}
-use Rattle.scsi_unit.specs.Rules.{UnitState, with_progress}
-use Rattle.bot_machine.specs.declared.event.Event.{Event}
-use Rattle.bot_machine.specs.declared.event.Event.TheVariants as event
-use Rattle.bot_machine.specs.declared.event.Answer.{Answer}
-use Rattle.bot_machine.specs.Conversation.{Conversation}
-use Rattle.bot_machine.specs.Acts.{write_of_event}
-use Rattle.bot_machine.specs.Disk.{UnitRun}
+use Rattle.spec.specs.Book.{StampsOut}
+use Rattle.spec.specs.Rules.{UnitState, with_progress}
+use Rattle.spec.specs.declared.event.Event.{Event}
+use Rattle.spec.specs.declared.event.Event.TheVariants as event
+use Rattle.spec.specs.declared.event.Answer.{Answer}
+use Rattle.spec.specs.Conversation.{Conversation}
+use Rattle.spec.specs.UnitConversation.{write_of_event, UnitRun}
 
 -- the events that are no steps in the background
 abbrev pub without_ticks : List Event → List Event

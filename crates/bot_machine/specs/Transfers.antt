@@ -1,18 +1,18 @@
 -- Transfers of a host: a command, its data in packets of some size, and what the host hears.
 use Rattle.std.specs.Prelude.{⊤, ◌≡◌, ◌<◌, ◌⊎◌, ℕ, Bool, List, [], ◌∷◌, ◌++◌, length, map, All}
-use Rattle.wrappers.specs.declared.command.Cbw.{Cbw}
-use Rattle.wrappers.specs.declared.case.Endpoint.{Endpoint}
-use Rattle.wrappers.specs.Command.{SpellsCommand}
-use Rattle.wrappers.specs.Cases.{size_of_way}
-use Rattle.scsi_unit.specs.Rules.{UnitState}
-use Rattle.bot_machine.specs.declared.event.Event.{Event}
-use Rattle.bot_machine.specs.declared.event.Event.TheVariants as event
-use Rattle.bot_machine.specs.declared.event.Answer.{Answer}
-use Rattle.bot_machine.specs.declared.event.Answer.TheVariants as answer
-use Rattle.bot_machine.specs.Packets.{packets_of}
-use Rattle.bot_machine.specs.Requests.{setup_packet, clear_halt}
-use Rattle.bot_machine.specs.Exchange.{at_rest}
-use Rattle.bot_machine.specs.Disk.{on_line, UnitRun}
+use Rattle.spec.specs.declared.wrapper.Cbw.{Cbw}
+use Rattle.spec.specs.declared.case.Endpoint.{Endpoint}
+use Rattle.spec.specs.CommandWrapper.{SpellsCommand}
+use Rattle.spec.specs.Cases.{size_of_way}
+use Rattle.spec.specs.Rules.{UnitState}
+use Rattle.spec.specs.declared.event.Event.{Event}
+use Rattle.spec.specs.declared.event.Event.TheVariants as event
+use Rattle.spec.specs.declared.event.Answer.{Answer}
+use Rattle.spec.specs.declared.event.Answer.TheVariants as answer
+use Rattle.spec.specs.Packets.{packets_of}
+use Rattle.spec.specs.Requests.{setup_packet, clear_halt}
+use Rattle.spec.specs.Exchange.{at_rest}
+use Rattle.spec.specs.UnitConversation.{on_line, UnitRun}
 use Rattle.bot_machine.specs.Striking.{IsUntroubled}
 
 -- a command wrapper, and the bytes that the host sends after it: as many as it announces, or none

@@ -1,15 +1,15 @@
 -- Wrappers by turns: the command wrappers that a run takes, and the status wrappers that it sends.
 use Rattle.std.specs.Prelude.{◌≡◌, ⊤, ℕ, Bool, false, List, [], ◌∷◌, ◌++◌, Option, Some, None}
 use Rattle.std.specs.Prelude.{Result}
-use Rattle.wrappers.specs.declared.way.Way.{Way}
-use Rattle.wrappers.specs.declared.status.Status.{Status}
-use Rattle.wrappers.specs.Command.{number_at}
-use Rattle.wrappers.specs.Status.{status_wrapper}
-use Rattle.bot_machine.specs.declared.event.Event.{Event}
-use Rattle.bot_machine.specs.declared.event.Event.TheVariants as event
-use Rattle.bot_machine.specs.declared.event.Answer.{Answer}
-use Rattle.bot_machine.specs.Exchange.{Script, finished, sending, Line}
-use Rattle.bot_machine.specs.Conversation.{Conversation, Run}
+use Rattle.spec.specs.declared.way.Way.{Way}
+use Rattle.spec.specs.declared.status.Status.{Status}
+use Rattle.spec.specs.CommandWrapper.{number_at}
+use Rattle.spec.specs.StatusWrapper.{status_wrapper}
+use Rattle.spec.specs.declared.event.Event.{Event}
+use Rattle.spec.specs.declared.event.Event.TheVariants as event
+use Rattle.spec.specs.declared.event.Answer.{Answer}
+use Rattle.spec.specs.Exchange.{Script, finished, sending, Line}
+use Rattle.spec.specs.Conversation.{Conversation, Run}
 
 -- what a step does of these
 pub data Mark : Type 0 where

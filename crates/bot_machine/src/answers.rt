@@ -1,7 +1,7 @@
 //! A list whose room is made before its first answer.
 ghost use Rattle.std.specs.Prelude.{◌≡◌, ◌<◌, [], ◌∷◌, ◌++◌, length, IfSome};
 
-use crate::event::Answer;
+use spec::Answer;
 use std::alloc::Global;
 use std::marker::Model;
 

@@ -1,22 +1,22 @@
 //! A disk: the transport over a logical unit.
 ghost use Rattle.std.specs.Prelude.{⊤, ◌↔◌, ◌≡◌, ◌⊎◌, ◌≤◌, ◌<◌, ◌/◌, ℕ, false, true, length};
-ghost use Rattle.inlet.specs.Inlet.{AreHeld};
 ghost use Rattle.std.specs.Prelude.{IsTrue};
+ghost use Rattle.inlet.specs.Inlet.{AreHeld};
 ghost use Rattle.std.specs.Borrow.{sem, follows_so};
 ghost use mathlib.Core.Option.{none};
 ghost use Rattle.medium.specs.Moments.{EachCut, IsUnchanged};
-ghost use Rattle.scsi_unit.specs.Books.{Book};
+ghost use Rattle.spec.specs.Book.{Book};
 ghost use Rattle.scsi_unit.specs.Books.{MayFind};
 ghost use Rattle.scsi_unit.specs.Background.{IsSettled, HasLimits, is_dead, steps_left};
 ghost use Rattle.scsi_unit.specs.Serving.{TicksOver};
 ghost use Rattle.scsi_unit.specs.Starting.{HasLimit};
 ghost use Rattle.scsi_unit.specs.UnitValue.{unit_limit};
-ghost use Rattle.bot_machine.specs.Exchange.{in_answer, after_in};
+ghost use Rattle.spec.specs.Exchange.{in_answer, after_in};
 ghost use Rattle.bot_machine.specs.Answers.{answer_to_out, answer_to_in, answer_to_setup, IsPacket};
-ghost use Rattle.bot_machine.specs.Conversation.{SetupStep};
+ghost use Rattle.spec.specs.Conversation.{SetupStep};
 ghost use Rattle.bot_machine.specs.Disk.{FitsDisk, IsStep, IsRearmed};
-ghost use Rattle.bot_machine.specs.declared.event.Event.TheVariants as event;
-ghost use Rattle.bot_machine.specs.declared.event.Answer.TheVariants as answer;
+ghost use Rattle.spec.specs.declared.event.Event.TheVariants as event;
+ghost use Rattle.spec.specs.declared.event.Answer.TheVariants as answer;
 ghost use Rattle.bot_machine.specs.contracts.disk.Disk.{the_row};
 
 use crate::event::{InAnswer, OutAnswer, SetupAnswer};

@@ -1,7 +1,7 @@
 //! The exchange of one command, as its wrapper began it.
 ghost use Rattle.std.specs.Prelude.{◌≡◌, ◌≤◌};
-ghost use Rattle.bot_machine.specs.Exchange.{moment_of, case_if_failed};
-ghost use Rattle.bot_machine.specs.Intentions.{way_of};
+ghost use Rattle.spec.specs.Exchange.{moment_of, case_if_failed};
+ghost use Rattle.spec.specs.UnitConversation.{way_of};
 ghost use Rattle.bot_machine.specs.Refinement.{moment_meant, sent_size};
 
 use scsi_unit::Intent;

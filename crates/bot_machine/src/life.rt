@@ -1,6 +1,6 @@
 //! A start, events, and a cut.
-use crate::event::Event;
 use medium::Kept;
+use spec::Event;
 
 /// A life of a disk: it is started, its events come, and its power is cut.
 #[derive(Debug, Drop)]

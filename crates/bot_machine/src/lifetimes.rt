@@ -1,41 +1,26 @@
 //! Whole lives of a disk, one after the other.
-ghost use Rattle.std.specs.Prelude.{◌≡◌, ◌≤◌, ◌+◌, [], ◌∷◌, ◌++◌, None, List, length, map};
-ghost use Rattle.std.specs.Prelude.{OnOk, OnErr, IfOk, IfErr, MatchOption};
+ghost use Rattle.std.specs.Prelude.{◌≡◌, ◌≤◌, ◌+◌, [], ◌∷◌, ◌++◌, None, List, length, map, OnOk};
+ghost use Rattle.std.specs.Prelude.{OnErr, IfOk, IfErr, MatchOption};
 ghost use Rattle.medium.specs.Sim.{IsFused};
 ghost use Rattle.medium.specs.Writes.{keeps};
-ghost use Rattle.bot_machine.specs.declared.event.Answer.{Answer};
-ghost use Rattle.bot_machine.specs.Lives.{plays};
+ghost use Rattle.spec.specs.declared.event.Answer.{Answer};
+ghost use Rattle.spec.specs.Lives.{plays};
 ghost use Rattle.bot_machine.specs.Device.{device_by, device_of};
 ghost use Rattle.bot_machine.specs.Fitting.{AreWithin, LivesAreWithin};
-ghost use Rattle.bot_machine.specs.PacketBytes.{bytes_of};
-ghost use Rattle.bot_machine.specs.declared.packet_size.PacketSize.TheVariants.{High512};
+ghost use Rattle.spec.specs.Packets.{bytes_of};
+ghost use Rattle.spec.specs.declared.packet_size.PacketSize.TheVariants.{High512};
 ghost use Rattle.bot_machine.specs.Opening.{IsNotOpened};
-ghost use Rattle.bot_machine.specs.LivesValue.{
-  medium_in,
-  state_in,
-  HasStarted,
-  IsAtRest,
-  LivesGoOn,
-  LivesStop,
-  RestsAlone,
-};
-ghost use Rattle.bot_machine.specs.Lifetimes.{
-  actions_of,
-  armed_by,
-  events_in,
-  Appends,
-  AppendsFor,
-  AreLived,
-  AreLivedUpTo,
-};
+ghost use Rattle.bot_machine.specs.LivesValue.{medium_in, state_in, HasStarted, IsAtRest};
+ghost use Rattle.bot_machine.specs.LivesValue.{LivesGoOn, LivesStop, RestsAlone};
+ghost use Rattle.bot_machine.specs.Lifetimes.{actions_of, armed_by, events_in, Appends, AppendsFor};
+ghost use Rattle.bot_machine.specs.Lifetimes.{KeepPromise, KeepPromiseUpTo, AreLived, AreLivedUpTo};
 
 use crate::answers::Answers;
-use crate::event::Event;
 use crate::life::Life;
 use crate::lives::Lives;
-use crate::packet_size::PacketSize;
 use crate::{Identity, Retiring, StartError, StartFault};
 use medium::SimMedium;
+use spec::{Event, PacketSize};
 use std::alloc::Global;
 
 /// Lives a disk's lives with packets of at most 512 bytes (high speed): see `run_lives_with`.
@@ -53,9 +38,15 @@ pub fn run_lives(
     requires rests { IsAtRest medium }
     requires unfused { medium.power.fuse ≡ None }
     requires room { length answers.old.list + events_in lives.now ≤ answers.old.room }
-    ensures ok { IfOk result (λ after. (told : List Answer) × Appends told answers.old answers.new
+    ensures promise { IfOk result (λ after. (told : List Answer)
+        × Appends told answers.old answers.new
+        × KeepPromise medium (device_of identity High512) lives.now told after) }
+    ensures moves { IfOk result (λ after. (told : List Answer) × Appends told answers.old answers.new
         × AreLived medium (device_of identity High512) lives.now told after) }
-    ensures err { IfErr result (λ error. (told : List Answer)
+    ensures promise_until { IfErr result (λ error. (told : List Answer)
+        × Appends told answers.old answers.new
+        × KeepPromiseUpTo medium (device_of identity High512) lives.now told error.medium) }
+    ensures moves_until { IfErr result (λ error. (told : List Answer)
         × Appends told answers.old answers.new
         × AreLivedUpTo medium (device_of identity High512) lives.now told error.fault error.medium) }
 {
@@ -80,9 +71,15 @@ pub fn run_lives_with(
     requires unfused { medium.power.fuse ≡ None }
     requires within { LivesAreWithin (bytes_of size) lives.now }
     requires room { length answers.old.list + events_in lives.now ≤ answers.old.room }
-    ensures ok { IfOk result (λ after. (told : List Answer) × Appends told answers.old answers.new
+    ensures promise { IfOk result (λ after. (told : List Answer)
+        × Appends told answers.old answers.new
+        × KeepPromise medium (device_of identity size) lives.now told after) }
+    ensures moves { IfOk result (λ after. (told : List Answer) × Appends told answers.old answers.new
         × AreLived medium (device_of identity size) lives.now told after) }
-    ensures err { IfErr result (λ error. (told : List Answer)
+    ensures promise_until { IfErr result (λ error. (told : List Answer)
+        × Appends told answers.old answers.new
+        × KeepPromiseUpTo medium (device_of identity size) lives.now told error.medium) }
+    ensures moves_until { IfErr result (λ error. (told : List Answer)
         × Appends told answers.old answers.new
         × AreLivedUpTo medium (device_of identity size) lives.now told error.fault error.medium) }
 {
@@ -120,9 +117,15 @@ pub fn run_lives_by(
     requires unfused { medium.power.fuse ≡ None }
     requires within { LivesAreWithin (bytes_of size) lives.now }
     requires room { length answers.old.list + events_in lives.now ≤ answers.old.room }
-    ensures ok { IfOk result (λ after. (told : List Answer) × Appends told answers.old answers.new
+    ensures promise { IfOk result (λ after. (told : List Answer)
+        × Appends told answers.old answers.new
+        × KeepPromise medium (device_by identity size retiring) lives.now told after) }
+    ensures moves { IfOk result (λ after. (told : List Answer) × Appends told answers.old answers.new
         × AreLived medium (device_by identity size retiring) lives.now told after) }
-    ensures err { IfErr result (λ error. (told : List Answer)
+    ensures promise_until { IfErr result (λ error. (told : List Answer)
+        × Appends told answers.old answers.new
+        × KeepPromiseUpTo medium (device_by identity size retiring) lives.now told error.medium) }
+    ensures moves_until { IfErr result (λ error. (told : List Answer)
         × Appends told answers.old answers.new
         × AreLivedUpTo medium (device_by identity size retiring) lives.now told error.fault
         error.medium) }

@@ -1,19 +1,20 @@
 //! One life after another on the same medium.
-ghost use Rattle.std.specs.Prelude.{◌≡◌, ◌<◌, ◌↔◌, ℕ, [], ◌∷◌, None, true, false, OnOk, IfOk, IfErr};
+ghost use Rattle.std.specs.Prelude.{◌≡◌, ◌<◌, ◌↔◌, ℕ, [], ◌∷◌, None, true, false, OnOk, IfOk};
+ghost use Rattle.std.specs.Prelude.{IfErr};
 ghost use Rattle.medium.specs.Sim.{state_of, IsCut, IsFused, IsFailing, ComesAfter};
 ghost use Rattle.medium.specs.Writes.{keeps};
-ghost use Rattle.scsi_unit.specs.Books.{Book};
-ghost use Rattle.bot_machine.specs.Lives.{starts, plays, cuts, arms, fails};
-ghost use Rattle.bot_machine.specs.Lifetimes.{first_standing, StandsFirst};
+ghost use Rattle.spec.specs.Book.{Book};
+ghost use Rattle.spec.specs.Lives.{starts, plays, cuts, arms, fails};
+ghost use Rattle.spec.specs.Promise.{first_standing};
+ghost use Rattle.bot_machine.specs.Lifetimes.{StandsFirst};
 ghost use Rattle.bot_machine.specs.Device.{device_by, device_of};
 ghost use Rattle.bot_machine.specs.Fitting.{IsWithin};
-ghost use Rattle.bot_machine.specs.declared.packet_size.PacketSize.TheVariants.{High512};
+ghost use Rattle.spec.specs.declared.packet_size.PacketSize.TheVariants.{High512};
 
-use crate::event::{Answer, Event};
-use crate::packet_size::PacketSize;
 use crate::stage::{self, Stage};
 use crate::{Identity, Retiring, StartError, StartFault};
 use medium::{Kept, SimMedium};
+use spec::{Answer, Event, PacketSize};
 use std::alloc::Global;
 use std::marker::Model;
 
@@ -43,7 +44,7 @@ impl Model for Lives {
       stage = stage_in l.stage;
     } };
 
-    ghost use Rattle.bot_machine.specs.PacketBytes.{bytes_of};
+    ghost use Rattle.spec.specs.Packets.{bytes_of};
     ghost use Rattle.bot_machine.specs.LivesValue.{HasPackets};
 
     ghost invariant = { λ l.
@@ -51,17 +52,9 @@ impl Model for Lives {
 }
 
 impl Lives {
-    ghost use Rattle.bot_machine.specs.LivesValue.{
-      medium_in,
-      HasStarted,
-      HasBegun,
-      IsAtRest,
-      OpensOn,
-      HasLimit,
-      FitsLives,
-      LivesGoOn,
-      LivesRefuseStart,
-    };
+    ghost use Rattle.bot_machine.specs.LivesValue.{medium_in, HasStarted, HasBegun, IsAtRest};
+    ghost use Rattle.bot_machine.specs.LivesValue.{OpensOn, HasLimit, FitsLives, LivesGoOn};
+    ghost use Rattle.bot_machine.specs.LivesValue.{LivesRefuseStart};
     ghost use Rattle.bot_machine.specs.declared.stage.Stage.TheVariants.{Rests};
 
     /// No life has been yet, and packets have at most 512 bytes (high speed): see `new_with`.

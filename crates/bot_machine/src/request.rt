@@ -1,7 +1,7 @@
 //! Control requests (Bulk-Only Transport 1.0, 3; USB 2.0, 9.4).
 ghost use Rattle.std.specs.Prelude.{◌≡◌, ◌≢◌, MatchOption};
 ghost use Rattle.bot_machine.specs.Refinement.{request_meant};
-ghost use Rattle.bot_machine.specs.Requests.{Request, setup_packet};
+ghost use Rattle.spec.specs.Requests.{Request, setup_packet};
 
 use wrappers::Endpoint;
 

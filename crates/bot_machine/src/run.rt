@@ -2,14 +2,15 @@
 ghost use Rattle.std.specs.Prelude.{◌≡◌, ◌≢◌, ◌≤◌, ◌+◌, ◌++◌, List, length};
 ghost use Rattle.bot_machine.specs.Disk.{IsStep, IsRun};
 ghost use Rattle.bot_machine.specs.Fitting.{IsWithin, AreWithin};
-ghost use Rattle.bot_machine.specs.declared.event.Answer.{Answer};
-ghost use Rattle.bot_machine.specs.declared.event.Answer.TheVariants as answer;
+ghost use Rattle.spec.specs.declared.event.Answer.{Answer};
+ghost use Rattle.spec.specs.declared.event.Answer.TheVariants as answer;
 
 use crate::answers::Answers;
 use crate::disk::Disk;
-use crate::event::{Answer, Event, InAnswer};
+use crate::event::InAnswer;
 use arrayvec::ArrayVec;
 use medium::Medium;
+use spec::{Answer, Event};
 
 /// Plays one event, and gives the answer. Its packet, if it is one, is no longer than those of the
 /// disk.

@@ -1,21 +1,22 @@
 //! What the disk does with a packet to Bulk-Out.
-ghost use Rattle.std.specs.Prelude.{◌≡◌, ◌≤◌, ◌<◌, ◌+◌, ◌-◌, ◌*◌, ◌++◌, ℕ, List, Result, MatchOption};
-ghost use Rattle.std.specs.Prelude.{length, min, take};
-ghost use Rattle.wrappers.specs.Cases.{IsCase, size_of_way};
-ghost use Rattle.wrappers.specs.Command.{SpellsNone};
-ghost use Rattle.wrappers.specs.declared.way.Way.TheVariants as ways;
-ghost use Rattle.scsi_unit.specs.Rules.{Sense};
+ghost use Rattle.std.specs.Prelude.{◌≡◌, ◌≤◌, ◌<◌, ◌+◌, ◌-◌, ◌*◌, ◌++◌, ℕ, List, Result};
+ghost use Rattle.std.specs.Prelude.{MatchOption, length, min, take};
+ghost use Rattle.spec.specs.Cases.{IsCase, size_of_way};
+ghost use Rattle.spec.specs.CommandWrapper.{SpellsNone};
+ghost use Rattle.spec.specs.declared.way.Way.TheVariants as ways;
+ghost use Rattle.spec.specs.Sense.{Sense};
 ghost use Rattle.scsi_unit.specs.Calls.{IsBounded};
 ghost use Rattle.scsi_unit.specs.Serving.{IsSparing};
 ghost use Rattle.scsi_unit.specs.UnitValue.{unit_limit, intention_of};
 ghost use Rattle.bot_machine.specs.Disk.{Tells};
-ghost use Rattle.bot_machine.specs.Exchange.{Script, finished};
+ghost use Rattle.spec.specs.Exchange.{Script, finished};
 ghost use Rattle.bot_machine.specs.Refinement.{IsTaking, line_of, line_with};
-ghost use Rattle.bot_machine.specs.PacketBytes.{bytes_of};
+ghost use Rattle.spec.specs.Packets.{bytes_of};
 ghost use Rattle.bot_machine.specs.Serving.{IsBegun, CarriesOutOn, BeginsOn, RestsOn, SparesOn};
 ghost use Rattle.bot_machine.specs.Serving.{TakesData, HandsOn};
 ghost use Rattle.scsi_unit.specs.Reading.{IsOneOf};
 ghost use Rattle.bot_machine.specs.Reading.{sectors_for, WrapperReadsAt};
+ghost use Rattle.spec.specs.declared.intent.Intent.TheVariants as intent;
 
 use crate::exchange::{Exchange, When, after_failure, size_sent, way_of_intent, when_carried_out};
 use crate::wire::{Phase, Taking, Wire};
@@ -35,9 +36,9 @@ fn carry_out<M: Medium>(
     requires is_case { IsCase exchange.now.case exchange.now.command.host exchange.now.intended }
     requires some_block { 0 < length exchange.now.command.block.items }
     requires sends { (n : ℕ) → exchange.now.intended ≡ ways.In n
-        → intention_of unit.old exchange.now.command.block.items ≡ Intent.In n }
+        → intention_of unit.old exchange.now.command.block.items ≡ intent.In n }
     requires takes { (n : ℕ) → intention_of unit.old exchange.now.command.block.items
-        ≡ Intent.Out n → length bytes.now ≡ n }
+        ≡ intent.Out n → length bytes.now ≡ n }
     requires room { length staging.old ≡ 512 * unit_limit unit.old }
     ensures carried_out { (taken : List ℕ) (left : Script) → CarriesOutOn
         (M.state unit.old.store.medium) (M.state unit.new.store.medium) unit.old unit.new

@@ -4,23 +4,16 @@ ghost use Rattle.medium.specs.Sim.{IsCut, IsFused, IsFailing, ComesAfter};
 ghost use Rattle.medium.specs.Writes.{keeps};
 ghost use Rattle.bot_machine.specs.Device.{Device, device_by};
 ghost use Rattle.bot_machine.specs.Fitting.{IsWithin};
-ghost use Rattle.bot_machine.specs.Lives.{starts, plays, cuts, arms, fails};
-ghost use Rattle.bot_machine.specs.LivesValue.{
-  medium_in,
-  HasStarted,
-  TakesEvent,
-  HasBegun,
-  LivesGoOn,
-  LivesRefuseStart,
-};
+ghost use Rattle.spec.specs.Lives.{starts, plays, cuts, arms, fails};
+ghost use Rattle.bot_machine.specs.LivesValue.{medium_in, HasStarted, TakesEvent, HasBegun};
+ghost use Rattle.bot_machine.specs.LivesValue.{LivesGoOn, LivesRefuseStart};
 ghost use Rattle.bot_machine.specs.declared.stage.Stage.TheVariants.{Rests, Runs};
 
 use crate::disk::Disk;
-use crate::event::{Answer, Event};
-use crate::packet_size::PacketSize;
 use crate::run::answer_to;
 use crate::{Identity, Retiring, StartError};
 use medium::{Kept, SimMedium, Switch};
+use spec::{Answer, Event, PacketSize};
 use std::alloc::Global;
 
 // What there is of a disk over a medium in memory.

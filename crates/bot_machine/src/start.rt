@@ -5,13 +5,13 @@ ghost use Rattle.scsi_unit.specs.Starting.{HasLimit, IsOursForSome};
 ghost use Rattle.bot_machine.specs.Device.{device_by, device_of};
 ghost use Rattle.bot_machine.specs.Opening.{IsOpened, IsNotOpened, StartLeaves, LeavesMedium};
 ghost use Rattle.bot_machine.specs.Opening.{StartsDisk, RefusesDisk};
-ghost use Rattle.bot_machine.specs.declared.packet_size.PacketSize.TheVariants.{High512};
+ghost use Rattle.spec.specs.declared.packet_size.PacketSize.TheVariants.{High512};
 
 use crate::disk::Disk;
-use crate::packet_size::PacketSize;
 use crate::wire::Wire;
 use medium::Medium;
 use scsi_unit::{Identity, Retiring, StartError, StartFault, Unit};
+use spec::PacketSize;
 use std::alloc::Global;
 
 impl<M: Medium> Disk<M> {

@@ -1,24 +1,15 @@
 //! The line to the host: halts, the lock, and what is left of the exchange.
 ghost use Rattle.std.specs.Prelude.{◌≡◌, ◌≢◌, ◌≤◌, ◌<◌, ◌*◌, ℕ, List, Some, true, take, length};
 ghost use Rattle.wrappers.specs.Cases.{IsPossible};
-ghost use Rattle.scsi_unit.specs.declared.intent.Intent.{Intent};
-ghost use Rattle.bot_machine.specs.Exchange.{
-  Script,
-  after_request,
-  at_rest,
-  laid_out,
-  set_halt,
-  halted,
-  outcome_for,
-  status_for,
-};
-ghost use Rattle.bot_machine.specs.PacketBytes.{bytes_of};
-ghost use Rattle.bot_machine.specs.Packets.{packets_of};
-ghost use Rattle.bot_machine.specs.Requests.{clear_halt};
+ghost use Rattle.spec.specs.Rules.{Intention};
+ghost use Rattle.spec.specs.Exchange.{Script, after_request, at_rest, laid_out, set_halt, halted};
+ghost use Rattle.spec.specs.Exchange.{outcome_for, status_for};
+ghost use Rattle.spec.specs.Packets.{bytes_of, packets_of};
+ghost use Rattle.spec.specs.Requests.{clear_halt};
 ghost use Rattle.bot_machine.specs.Refinement.{halt_of, line_of, line_with, IsInPhase};
 
 use crate::exchange::Exchange;
-use crate::packet_size::PacketSize;
+use spec::PacketSize;
 use wrappers::{Case, Endpoint, Status, outcome, write_csw};
 
 // The data of a command that is being taken: the intended bytes that came already are so many, and
@@ -67,7 +58,7 @@ impl Wire {
     pub(crate) fn at_rest(size: PacketSize) -> Wire
         ensures line { (taken staging : List ℕ)
             → line_of result taken staging ≡ at_rest (bytes_of size) }
-        ensures phase { (limit : ℕ) (intention : List ℕ → Intent)
+        ensures phase { (limit : ℕ) (intention : List ℕ → Intention)
             → IsInPhase limit intention result.phase }
     {
         Wire {
@@ -141,7 +132,7 @@ impl Wire {
             ≡ laid_out (packets_of (bytes_of self.old.size) (take size staging)) halt status
             (line_with self.old left) }
         ensures size { self.new.size ≡ self.old.size }
-        ensures phase { (limit : ℕ) (intention : List ℕ → Intent) → size ≤ 512 * limit
+        ensures phase { (limit : ℕ) (intention : List ℕ → Intention) → size ≤ 512 * limit
             → IsInPhase limit intention self.new.phase }
     {
         self.status = status;
@@ -173,7 +164,7 @@ impl Wire {
             (status_for case exchange.now.command exchange.now.intended status)
             (line_with self.old left) }
         ensures size { self.new.size ≡ self.old.size }
-        ensures phase { (limit : ℕ) (intention : List ℕ → Intent) → size ≤ 512 * limit
+        ensures phase { (limit : ℕ) (intention : List ℕ → Intention) → size ≤ 512 * limit
             → IsInPhase limit intention self.new.phase }
     {
         let told = outcome(case, exchange.command.host, exchange.intended);

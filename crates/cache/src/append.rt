@@ -10,7 +10,8 @@ pub(crate) fn write_blocks(row: &mut [[u8; BLOCK]], from: usize, bytes: &[u8])
     requires inside { from + length bytes.now / 512 ≤ length row.old }
     ensures written { (i : ℕ) → i < length bytes.now / 512
         → slice_index_or row.new (from + i) [] ≡ block_at bytes.now i }
-    ensures before { (k : ℕ) → k < from → slice_index_or row.new k [] ≡ slice_index_or row.old k [] }
+    ensures before { (k : ℕ) → k < from
+        → slice_index_or row.new k [] ≡ slice_index_or row.old k [] }
 {
     for i in 0..bytes.len() / BLOCK {
         let at = i * BLOCK;

@@ -1,5 +1,6 @@
 //! A bounded map from block numbers to blocks.
-ghost use Rattle.std.specs.Prelude.{◌≡◌, ◌⊎◌, ◌↔◌, ◌+◌, ◌*◌, ◌/◌, ◌%◌, ◌^◌, ◌<◌, ◌≤◌, ℕ, [], length, slice_index};
+ghost use Rattle.std.specs.Prelude.{◌≡◌, ◌⊎◌, ◌↔◌, ◌+◌, ◌*◌, ◌/◌, ◌%◌, ◌^◌, ◌<◌, ◌≤◌};
+ghost use Rattle.std.specs.Prelude.{ℕ, [], length, slice_index};
 ghost use Rattle.std.specs.Prelude.{Some, None, IsTrue, IfOk, IfErr, IsErrOf, IfSome, IsNone};
 ghost use Rattle.cache.specs.Blocks.{IsRising, with_range, InRange, Listed, absent, unlisted};
 ghost use Rattle.cache.specs.Digits.{GrowsWithinDigits};
@@ -38,8 +39,8 @@ impl Batch {
     /// An empty batch with room for so many blocks.
     ///
     /// # Errors
-    /// `TooLarge` where the room is for more than 65,536 blocks, and else `NoMemory` alone: a growth
-    /// was refused.
+    /// `TooLarge` where the room is for more than 65,536 blocks, and else `NoMemory` alone: a
+    /// growth was refused.
     pub fn new(alloc: Global, room: usize) -> Result<Batch, BatchError>
         ensures empty { IfOk result
             (λ batch. batch ≡ record { room = room; numbers = []; bytes = [] }) }
@@ -213,7 +214,8 @@ impl Batch {
         }
     }
 
-    // Puts one block where the place of its number is known, and gives the place of the next number.
+    // Puts one block where the place of its number is known, and gives the place of the next
+    // number.
     fn put_block(&mut self, place: usize, number: u64, block: &[u8]) -> usize
         requires small { number < 2 ^ 31 }
         requires place { HasPlace self.old.numbers number place }

@@ -36,8 +36,8 @@ impl Frozen {
     /// An empty batch with room for so many blocks.
     ///
     /// # Errors
-    /// `TooLarge` where the room is for more than 65,536 blocks, and else `NoMemory` alone: a growth
-    /// was refused.
+    /// `TooLarge` where the room is for more than 65,536 blocks, and else `NoMemory` alone: a
+    /// growth was refused.
     pub fn new(alloc: Global, room: usize) -> Result<Frozen, BatchError>
         ensures empty { IfOk result
             (λ batch. batch ≡ record { room = room; numbers = []; bytes = [] }) }

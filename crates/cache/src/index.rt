@@ -7,8 +7,8 @@ ghost use Rattle.cache.specs.Index.{entries_of, IsCentred};
 use crate::entry::Entry;
 use std::alloc::{AllocError, Global};
 
-// The entries are those from `start` up to `end`, and the other cells have no meaning. An entry that
-// is inserted moves those before it or those behind it, whichever are fewer.
+// The entries are those from `start` up to `end`, and the other cells have no meaning. An entry
+// that is inserted moves those before it or those behind it, whichever are fewer.
 #[derive(Drop)]
 pub(crate) struct Index {
     pub(crate) cells: Vec<Entry>,
@@ -82,7 +82,8 @@ fn insert_down(cells: &mut [Entry], start: usize, end: usize, at: usize, entry: 
     requires place { at ≤ end - start }
     requires before { 0 < start }
     requires inside { end ≤ length cells.old }
-    ensures { slice_range cells.new (start - 1) end ≡ insert (slice_range cells.old start end) at entry }
+    ensures { slice_range cells.new (start - 1) end
+        ≡ insert (slice_range cells.old start end) at entry }
 {
     let window = &mut cells[start - 1..end];
     window.copy_within(1..at + 1, 0);
@@ -94,7 +95,8 @@ fn insert_up(cells: &mut [Entry], start: usize, end: usize, at: usize, entry: En
     requires ordered { start ≤ end }
     requires place { at ≤ end - start }
     requires inside { end < length cells.old }
-    ensures { slice_range cells.new start (end + 1) ≡ insert (slice_range cells.old start end) at entry }
+    ensures { slice_range cells.new start (end + 1)
+        ≡ insert (slice_range cells.old start end) at entry }
 {
     let window = &mut cells[start..end + 1];
     window.copy_within(at..end - start, at + 1);

@@ -1,7 +1,7 @@
-use Rattle.std.proofs.Common.{◌≡◌, List, [], ◌∷◌, ◌++◌, Bool, true, false, Result, Ok, Err, refl}
+use Rattle.std.proofs.Common.{◌≡◌, List, [], ◌∷◌, ◌++◌, Bool, true, false, Result, Ok, Err, refl, sym, ◌∙◌}
 use Rattle.std.specs.Prelude.{if◌then◌else◌, IfOk, IfErr, ⊤}
-use Rattle.sense.specs.declared.codes.Sense.{Sense}
-use Rattle.cdb.specs.Judging.{Test, judged}
+use Rattle.spec.specs.Sense.{Sense}
+use Rattle.spec.specs.Judging.{Test, judged}
 
 one_passed : {A B : Type 0} (passed : Bool) (sense : Sense) (before : Result A Sense) (found : A)
     (with_more alone : Result B Sense) → (before ≡ Ok found → with_more ≡ alone)
@@ -63,6 +63,15 @@ judged_made make tests value found passed =
     let made : judged tests (make value) ≡ Ok (make value) =
     judged_passed tests value found (make value) passed in
     cc
+
+-- the first tests are passed, and one of the others is not: that one refuses the whole
+pub judged_behind : {A B C : Type 0} (tests more : List Test) (first : A) (found : A) (second : B)
+    (value : C) (sense : Sense) (answer : Result C Sense)
+    → judged tests first ≡ Ok found → judged more second ≡ Err sense → answer ≡ Err sense
+    → answer ≡ judged (tests ++ more) value
+judged_behind tests more first found second value sense answer passed refused is =
+    is ∙ sym (judged_after tests more first found value passed
+    ∙ judged_alike more second value sense refused)
 
 -- what the parts of a list of tests say of the whole
 pub ruleset judging = (judged_after, judged_refused, judged_passed, judged_alike, judged_value)

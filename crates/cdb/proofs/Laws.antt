@@ -1,23 +1,20 @@
-use Rattle.std.proofs.Common.{◌≡◌, ◌≤◌, ◌+◌, ◌/◌, ◌%◌, ◌==◌, ◌&&◌, ℕ, List, [], ◌∷◌, ◌++◌, Bool}
-use Rattle.std.proofs.Common.{true, false, Some, None, Result, refl, inl, inr}
+use Rattle.std.proofs.Common.{◌≡◌, ◌≤◌, ◌+◌, ◌/◌, ◌%◌, ◌==◌, ◌&&◌, ℕ, List, [], ◌∷◌, ◌++◌, Bool, true, false, Some, None, Result, refl, inl}
+use Rattle.std.proofs.Common.{inr}
 use Rattle.std.specs.Prelude.{IfOk, IfErr, if◌then◌else◌}
 use Rattle.std.proofs.lemmas.Bool.{leb-true, ltb-true, eqb-true}
-use Rattle.sense.specs.declared.codes.Sense.{Sense}
-use Rattle.sense.specs.Codes.{invalid_field_in_cdb, logical_block_address_out_of_range}
-use Rattle.sense.specs.Codes.{parameter_list_length_error, saving_parameters_not_supported}
-use Rattle.cdb.specs.declared.command.Command.{Command}
-use Rattle.cdb.specs.declared.command.Command.TheVariants.{Inquiry}
-use Rattle.cdb.specs.declared.command.Transfer.{Transfer}
-use Rattle.cdb.specs.declared.command.BlockRange.{BlockRange}
-use Rattle.cdb.specs.Table.{Row, byte_at, flag_at, is_one_of, vital_pages, form_tests, outcome_of}
-use Rattle.cdb.specs.Table.{command_of, table, number_at, test_unit_ready, request_sense, inquiry}
-use Rattle.cdb.specs.Table.{mode_select, mode_sense, read_capacity_10, read_capacity_16, read_10}
-use Rattle.cdb.specs.Table.{write_10, read_16, write_16, synchronize_cache_10, synchronize_cache_16}
-use Rattle.cdb.specs.Table.{transfer_10, transfer_16, range_10, range_16, transfer_tests}
-use Rattle.cdb.specs.Table.{range_tests, mode_sense_tests}
+use Rattle.spec.specs.Sense.{Sense}
+use Rattle.spec.specs.SenseCodes.{invalid_field_in_cdb, logical_block_address_out_of_range, parameter_list_length_error}
+use Rattle.spec.specs.SenseCodes.{saving_parameters_not_supported}
+use Rattle.spec.specs.declared.command.Command.{Command}
+use Rattle.spec.specs.declared.command.Command.TheVariants.{Inquiry}
+use Rattle.spec.specs.declared.command.Transfer.{Transfer}
+use Rattle.spec.specs.declared.command.BlockRange.{BlockRange}
+use Rattle.spec.specs.Commands.{Row, byte_at, flag_at, is_one_of, vital_pages, form_tests, outcome_of, command_of, table, number_at}
+use Rattle.spec.specs.Commands.{test_unit_ready, request_sense, inquiry, mode_select, mode_sense, read_capacity_10, read_capacity_16}
+use Rattle.spec.specs.Commands.{read_10, write_10, read_16, write_16, synchronize_cache_10, synchronize_cache_16, transfer_10, transfer_16}
+use Rattle.spec.specs.Commands.{range_10, range_16, transfer_tests, range_tests, mode_sense_tests}
 use Rattle.cdb.specs.Supported.{IsWithin, HasModePage, IsSupported, IsRefusal}
-use Rattle.cdb.proofs.Judging.{AllPassed, AllRefuse, AllPassed-last, AllRefuse-append, IfOk-judged}
-use Rattle.cdb.proofs.Judging.{IfErr-judged}
+use Rattle.cdb.proofs.Judging.{AllPassed, AllRefuse, AllPassed-last, AllRefuse-append, IfOk-judged, IfErr-judged}
 use Rattle.cdb.proofs.Rows.{by_rows}
 
 -- the command of a row is supported where the tests of its fields say so

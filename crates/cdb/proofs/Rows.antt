@@ -1,11 +1,10 @@
-use Rattle.std.proofs.Common.{◌≡◌, ◌==◌, ℕ, List, [], ◌∷◌, Bool, true, false, Option, Some, Result}
-use Rattle.std.proofs.Common.{Err, refl, cond, ap}
+use Rattle.std.proofs.Common.{◌≡◌, ◌==◌, ℕ, List, [], ◌∷◌, Bool, true, false, Option, Some, Result, Err, refl, cond, ap}
 use Rattle.std.specs.Prelude.{⊤, find}
 use Rattle.std.proofs.lemmas.Bool.{eqb-true}
-use Rattle.sense.specs.declared.codes.Sense.{Sense}
-use Rattle.sense.specs.Codes.{invalid_command_operation_code}
-use Rattle.cdb.specs.declared.command.Command.{Command}
-use Rattle.cdb.specs.Table.{Row, outcome_of, outcome_of_row}
+use Rattle.spec.specs.Sense.{Sense}
+use Rattle.spec.specs.SenseCodes.{invalid_command_operation_code}
+use Rattle.spec.specs.declared.command.Command.{Command}
+use Rattle.spec.specs.Commands.{Row, outcome_of, outcome_of_row}
 
 -- what each row of an operation code says of a block has a property
 abbrev pub EachRow : (Result Command Sense → Type 0) → List ℕ → ℕ → List Row → Type 0

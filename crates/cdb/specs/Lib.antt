@@ -1,4 +1,2 @@
-pub mod Judging
-pub mod Table
 pub mod Supported
 pub mod Written

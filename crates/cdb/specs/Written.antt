@@ -3,12 +3,12 @@
 use Rattle.std.specs.Prelude.{◌+◌, ◌*◌, ◌<◌, ◌^◌, ℕ, Bool, List, [], ◌∷◌, ◌++◌, Some, None, ⊤}
 use Rattle.std.specs.Prelude.{if◌then◌else◌}
 use Rattle.byteorder.specs.Endian.{big_bytes}
-use Rattle.cdb.specs.declared.command.Command.{Command}
-use Rattle.cdb.specs.declared.command.Command.TheVariants.{TestUnitReady, RequestSense, Inquiry}
-use Rattle.cdb.specs.declared.command.Command.TheVariants.{ModeSelect, ModeSense, ReadCapacity10}
-use Rattle.cdb.specs.declared.command.Command.TheVariants.{Read10, Write10, SynchronizeCache10}
-use Rattle.cdb.specs.declared.command.Command.TheVariants.{Read16, Write16, SynchronizeCache16}
-use Rattle.cdb.specs.declared.command.Command.TheVariants.{ReadCapacity16}
+use Rattle.spec.specs.declared.command.Command.{Command}
+use Rattle.spec.specs.declared.command.Command.TheVariants.{TestUnitReady, RequestSense, Inquiry}
+use Rattle.spec.specs.declared.command.Command.TheVariants.{ModeSelect, ModeSense, ReadCapacity10}
+use Rattle.spec.specs.declared.command.Command.TheVariants.{Read10, Write10, SynchronizeCache10}
+use Rattle.spec.specs.declared.command.Command.TheVariants.{Read16, Write16, SynchronizeCache16}
+use Rattle.spec.specs.declared.command.Command.TheVariants.{ReadCapacity16}
 
 -- each number fits its field
 abbrev pub FitsFields : Command → Type 0

@@ -3,15 +3,16 @@
 #![tactic(auto, using(crate::proofs::Judging::judging))]
 
 ghost use Rattle.std.specs.Prelude.{◌≡◌, ◌≤◌, ◌++◌, length};
-ghost use Rattle.cdb.specs.declared.command.Transfer.{Transfer};
-ghost use Rattle.cdb.specs.Judging.{judged};
-ghost use Rattle.cdb.specs.Table.{outcome_of, flag_at, form_tests, range_tests, range_10, range_16};
-ghost use Rattle.cdb.specs.Table.{transfer_tests, transfer_10, transfer_16, transfer_flags};
-ghost use Rattle.cdb.specs.Table.{synchronize_flags, read_capacity_10, read_capacity_16};
+ghost use Rattle.spec.specs.declared.command.Transfer.{Transfer};
+ghost use Rattle.spec.specs.Judging.{judged};
+ghost use Rattle.spec.specs.Commands.{outcome_of, flag_at, form_tests, range_tests, range_10};
+ghost use Rattle.spec.specs.Commands.{range_16, transfer_tests, transfer_10, transfer_16};
+ghost use Rattle.spec.specs.Commands.{transfer_flags, synchronize_flags, read_capacity_10};
+ghost use Rattle.spec.specs.Commands.{read_capacity_16};
 
-use crate::command::{BlockRange, Command, Transfer};
 use crate::form::{check_form, u16_at, u32_at, u64_at};
 use sense::Sense;
+use spec::{BlockRange, Command, Transfer};
 
 /// Disable page out, in byte 1 of READ and WRITE: advice to a cache, which is ignored.
 const DPO: u8 = 0x10;

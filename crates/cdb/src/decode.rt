@@ -1,16 +1,16 @@
 //! How a command descriptor block is decoded.
 ghost use Rattle.std.specs.Prelude.{◌≡◌, ◌<◌, ◌≤◌, ◌++◌, ℕ, List, IfErr, IfOk, length};
-ghost use Rattle.cdb.specs.declared.command.Command.{Command};
+ghost use Rattle.spec.specs.declared.command.Command.{Command};
 ghost use Rattle.cdb.specs.Supported.{IsRefusal, IsSupported, command_size};
-ghost use Rattle.cdb.specs.Table.{byte_at, command_of};
+ghost use Rattle.spec.specs.Commands.{byte_at, command_of};
 ghost use Rattle.cdb.specs.Written.{FitsFields, block_of};
 
 use crate::blocks::{
     read_capacity_10, read_capacity_16, synchronize_10, synchronize_16, transfer_10, transfer_16,
 };
-use crate::command::Command;
 use crate::device::{inquiry, mode_select, mode_sense, request_sense, test_unit_ready};
 use sense::Sense;
+use spec::Command;
 
 /// The command in a command descriptor block, or the sense with which it is refused: for a medium
 /// of `n` blocks, and transfers of at most `limit` blocks.
@@ -42,7 +42,7 @@ pub fn parse(block: &[u8], n: u64, limit: u32) -> Result<Command, Sense>
 }
 
 // The command by its operation code, which is the first byte of the block.
-#[tactic(auto, using(crate::proofs::Judging::judging), unfolding(crate::specs::Table::command_of))]
+#[tactic(auto, using(crate::proofs::Judging::judging), unfolding(spec::specs::Commands::command_of))]
 fn by_operation_code(code: u8, block: &[u8], n: u64, limit: u32) -> Result<Command, Sense>
     requires { code ≡ byte_at 0 block.now }
     ensures { result ≡ command_of n limit block.now }

@@ -3,14 +3,14 @@
 #![tactic(auto, using(crate::proofs::Judging::judging))]
 
 ghost use Rattle.std.specs.Prelude.{◌≡◌, ◌<◌, ◌≤◌, length};
-ghost use Rattle.cdb.specs.Judging.{judged};
-ghost use Rattle.cdb.specs.Table.{outcome_of, test_unit_ready, request_sense, inquiry};
-ghost use Rattle.cdb.specs.Table.{inquiry_page, inquiry_tests, mode_select, mode_sense};
-ghost use Rattle.cdb.specs.Table.{mode_sense_tests};
+ghost use Rattle.spec.specs.Judging.{judged};
+ghost use Rattle.spec.specs.Commands.{outcome_of, test_unit_ready, request_sense, inquiry};
+ghost use Rattle.spec.specs.Commands.{inquiry_page, inquiry_tests, mode_select, mode_sense};
+ghost use Rattle.spec.specs.Commands.{mode_sense_tests};
 
-use crate::command::Command;
 use crate::form::{check_form, u16_at};
 use sense::Sense;
+use spec::Command;
 
 /// Enable vital product data, in byte 1 of INQUIRY.
 const EVPD: u8 = 0x01;

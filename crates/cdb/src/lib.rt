@@ -3,10 +3,9 @@
 #![tactic(auto)]
 
 mod blocks;
-mod command;
 mod decode;
 mod device;
 mod form;
 
-pub use command::{BlockRange, Command, Transfer};
 pub use decode::parse;
+pub use spec::{BlockRange, Command, Transfer};

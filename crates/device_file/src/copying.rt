@@ -1,6 +1,7 @@
 //! Sectors of one file that are copied to another.
 ghost use Rattle.std.specs.Prelude.{◌≡◌, ◌+◌, ◌/◌, ◌<◌, ◌≤◌, ◌^◌, [], length, OnOk, IfErr};
-ghost use Rattle.device_file.specs.Copied.{IsCopied, IsCopiedFrom, IsCopiedInPart, IsCopying, waiting_in};
+ghost use Rattle.device_file.specs.Copied.{IsCopied, IsCopiedFrom, IsCopiedInPart};
+ghost use Rattle.device_file.specs.Copied.{IsCopying, waiting_in};
 
 use crate::fault::FileFault;
 use crate::file::DeviceFile;
@@ -21,8 +22,8 @@ pub enum CopyFault {
 
 /// Copies so many sectors of a file, from one on, to another file that was just made or emptied, to
 /// its sectors from this one on. Blocks of zeros are not written, since they are there. As many
-/// sectors are read at once as the bytes have, and behind each such read the meter hears how many it
-/// were by then.
+/// sectors are read at once as the bytes have, and behind each such read the meter hears how many
+/// it were by then.
 ///
 /// # Errors
 ///

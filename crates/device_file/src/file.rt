@@ -9,8 +9,8 @@ use crate::run::Run;
 
 /// Sectors of 512 bytes in a file that is open.
 ///
-/// What it is asked to carry out is told, call by call. A call that it refused may have been carried
-/// out in part.
+/// What it is asked to carry out is told, call by call. A call that it refused may have been
+/// carried out in part.
 pub trait DeviceFile {
     /// What it was asked to carry out since it was opened, and how many times it refused.
     ghost told: { Self → Told };
@@ -42,11 +42,11 @@ pub trait DeviceFile {
     ///
     /// # Errors
     ///
-    /// The file refused the call; the cause is the system's. It counts as asked, and any part of the
-    /// sectors may be written.
+    /// The file refused the call; the cause is the system's. It counts as asked, and any part of
+    /// the sectors may be written.
     fn write(&mut self, run: &Run) -> Result<(), FileFault>
-        ensures asked { told self.new
-            ≡ answered (is_ok result) (writes_of run.now.first run.now.blocks.items) (told self.old) }
+        ensures asked { told self.new ≡ answered (is_ok result)
+            (writes_of run.now.first run.now.blocks.items) (told self.old) }
         ensures size { size self.new ≡ size self.old }
         ensures named { IfErr result (λ fault. fault.call ≡ FileCall.Write) };
 
@@ -54,8 +54,8 @@ pub trait DeviceFile {
     ///
     /// # Errors
     ///
-    /// The file refused the call; the cause is the system's. It counts as asked, and what was written
-    /// may be durable or not.
+    /// The file refused the call; the cause is the system's. It counts as asked, and what was
+    /// written may be durable or not.
     fn sync(&mut self) -> Result<(), FileFault>
         ensures asked { told self.new ≡ answered (is_ok result) (Flush ∷ []) (told self.old) }
         ensures size { size self.new ≡ size self.old }

@@ -1,7 +1,8 @@
 //! Writes that wait in an outbox, carried out on another file than the window's.
 ghost use Rattle.std.specs.Prelude.{◌≡◌, ◌+◌, ◌<◌, ◌^◌, [], length, OnOk, OnErr, IfErr};
 ghost use Rattle.device_file.specs.Asked.{asked_for};
-ghost use Rattle.device_file.specs.Copied.{IsAskedInPart, Puts, PutsSome, moved_call, moved_calls, waiting_in};
+ghost use Rattle.device_file.specs.Copied.{IsAskedInPart, Puts, PutsSome};
+ghost use Rattle.device_file.specs.Copied.{moved_call, moved_calls, waiting_in};
 
 use crate::fault::{FileCall, FileFault};
 use crate::file::DeviceFile;
@@ -11,8 +12,8 @@ use mirror::{DeviceCall, SectorWrite};
 use window::WindowMedium;
 
 /// Takes all that waits out of the outbox of a window, and has a file carry out those writes of it
-/// that go to so many sectors from this one on: in order, to its own sectors from 0 on, neighbouring
-/// ones by one write.
+/// that go to so many sectors from this one on: in order, to its own sectors from 0 on,
+/// neighbouring ones by one write.
 ///
 /// # Errors
 ///

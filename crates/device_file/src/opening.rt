@@ -1,5 +1,6 @@
 //! From a file that is open to a window over it.
-ghost use Rattle.std.specs.Prelude.{◌≡◌, ◌*◌, ◌/◌, ◌<◌, ◌≤◌, ◌++◌, IfOk, IfErr, OnOk, length, drop, min};
+ghost use Rattle.std.specs.Prelude.{◌≡◌, ◌*◌, ◌/◌, ◌<◌, ◌≤◌, ◌++◌};
+ghost use Rattle.std.specs.Prelude.{IfOk, IfErr, OnOk, length, drop, min};
 ghost use Rattle.medium.specs.Moments.{IsFlushed, IsUnchanged};
 ghost use Rattle.medium.specs.Writes.{sector_of};
 ghost use Rattle.inlet.specs.Inlet.{AreHeld};
@@ -48,8 +49,8 @@ pub struct FirstSectors {
 }
 
 impl FirstSectors {
-    /// Reads the first sectors of a file: all before the first home sector that its super tells, and
-    /// two where it has none; those that it has, where it is shorter.
+    /// Reads the first sectors of a file: all before the first home sector that its super tells,
+    /// and two where it has none; those that it has, where it is shorter.
     ///
     /// # Errors
     /// `InvalidData` where the file has no sector, the read that was refused, and `NoMemory`.
@@ -79,8 +80,9 @@ impl FirstSectors {
         })
     }
 
-    /// A window over the file: its first sectors hold these bytes, the others what the device holds,
-    /// all durably. There is room to show so many sectors, and for so many writes and flushes.
+    /// A window over the file: its first sectors hold these bytes, the others what the device
+    /// holds, all durably. There is room to show so many sectors, and for so many writes and
+    /// flushes.
     ///
     /// # Errors
     /// Where the room could not be had.
@@ -127,7 +129,8 @@ fn near_for(sizes: &Option<Super>) -> u64
 fn fill<D: DeviceFile>(file: &D, sector: &[u8; SECTOR], bytes: &mut [u8]) -> Result<(), FileFault>
     requires { 512 ≤ length bytes.old }
     ensures front { OnOk result (sector_of bytes.new 0 ≡ sector.now) }
-    ensures read { D.holds file.now 0 sector.now → OnOk result (AreRead (D.holds file.now) 0 bytes.new) }
+    ensures read { D.holds file.now 0 sector.now
+        → OnOk result (AreRead (D.holds file.now) 0 bytes.new) }
     ensures err { IfErr result (λ fault. fault.call ≡ FileCall.Read) }
 {
     file.read(0, bytes)?;

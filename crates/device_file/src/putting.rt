@@ -1,5 +1,6 @@
 //! Blocks that a file is asked to write, neighbouring ones by one write.
-ghost use Rattle.std.specs.Prelude.{◌≡◌, ◌+◌, ◌*◌, ◌/◌, ◌<◌, ◌≤◌, ◌^◌, [], ◌∷◌, length, OnOk, IfErr, OnErr};
+ghost use Rattle.std.specs.Prelude.{◌≡◌, ◌+◌, ◌*◌, ◌/◌, ◌<◌, ◌≤◌, ◌^◌, ◌∷◌};
+ghost use Rattle.std.specs.Prelude.{[], length, OnOk, IfErr, OnErr};
 ghost use Rattle.medium.specs.Writes.{sector_of};
 ghost use Rattle.mirror.specs.declared.call.DeviceCall.TheVariants.{Write};
 ghost use Rattle.device_file.specs.Reads.{sectors_in};
@@ -12,8 +13,8 @@ use mirror::SectorWrite;
 
 const SECTOR: usize = 512;
 
-/// Has one write more wait in a run. What waits there is written first, where this one is not of the
-/// sector behind it.
+/// Has one write more wait in a run. What waits there is written first, where this one is not of
+/// the sector behind it.
 ///
 /// # Errors
 ///
@@ -69,7 +70,8 @@ pub(crate) fn put_sectors<D: DeviceFile>(
     bytes: &[u8],
 ) -> Result<(), FileFault>
     requires { first + length bytes.now / 512 < 2 ^ 64 }
-    ensures ok { OnOk result (Puts (some_writes first (sectors_in (length bytes.now / 512) bytes.now))
+    ensures ok { OnOk result
+        (Puts (some_writes first (sectors_in (length bytes.now / 512) bytes.now))
         (D.told file.old) (D.told file.new) (waiting_in run.old) (waiting_in run.new)) }
     ensures err { OnErr result
         (PutsSome (some_writes first (sectors_in (length bytes.now / 512) bytes.now))

@@ -1,5 +1,6 @@
 //! Neighbouring sectors that are written at once.
-ghost use Rattle.std.specs.Prelude.{◌≡◌, ◌≤◌, ◌<◌, ◌+◌, length, [], ◌∷◌, ◌++◌, true, IfSome, IsSome, IsTrue, ◌↔◌, vec_capacity};
+ghost use Rattle.std.specs.Prelude.{◌≡◌, ◌≤◌, ◌<◌, ◌+◌, ◌∷◌, ◌++◌, ◌↔◌};
+ghost use Rattle.std.specs.Prelude.{length, [], true, IfSome, IsSome, IsTrue, vec_capacity};
 ghost use Rattle.std.specs.Bool.{OnTrue, OnFalse};
 ghost use Rattle.device_file.specs.Asked.{writes_of, GoesOn};
 ghost use Rattle.mirror.specs.declared.call.DeviceCall.TheVariants.{Write};
@@ -45,8 +46,8 @@ impl Run {
         self.blocks.is_empty()
     }
 
-    /// Takes one write more, where it is of the sector behind the last one and there is room. False,
-    /// and nothing changes, where it is not.
+    /// Takes one write more, where it is of the sector behind the last one and there is room.
+    /// False, and nothing changes, where it is not.
     pub(crate) fn take(&mut self, write: &SectorWrite) -> bool
         ensures taken { OnTrue result (writes_of self.new.first self.new.blocks.items
             ≡ writes_of self.old.first self.old.blocks.items ++ Write write.now ∷ []) }

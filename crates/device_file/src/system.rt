@@ -78,11 +78,11 @@ impl<F: SectorFile + Drop> SystemFile<F> {
         Ok(SystemFile::over(file, length / SECTOR))
     }
 
-    /// A file of so many sectors at this path, which was made now, or emptied. Nothing was written to
-    /// it: what the system gives for a part of a file that nobody wrote is zeros.
+    /// A file of so many sectors at this path, which was made now, or emptied. Nothing was written
+    /// to it: what the system gives for a part of a file that nobody wrote is zeros.
     ///
-    /// A file that is there is refused as `AlreadyExists`, and stays as it is, where it is not to be
-    /// replaced. To be replaced it is locked, and only then emptied.
+    /// A file that is there is refused as `AlreadyExists`, and stays as it is, where it is not to
+    /// be replaced. To be replaced it is locked, and only then emptied.
     ///
     /// # Errors
     /// The call that was refused, and the cause: `WouldBlock` where another handle has it locked,
@@ -138,7 +138,8 @@ fn opened<F, R: Files<File = F>>(rt: &R, how: &OpenOptions, path: &str) -> Resul
 
 // Locks a plain file, and tells its length. What is no plain file is not touched.
 fn lock<F: SectorFile>(file: &F) -> Result<u64, FileFault>
-    ensures { IfErr result (λ fault. (fault.call ≡ FileCall.Length) ⊎ (fault.call ≡ FileCall.Lock)) }
+    ensures { IfErr result (λ fault. (fault.call ≡ FileCall.Length)
+        ⊎ (fault.call ≡ FileCall.Lock)) }
 {
     length_of_plain(file)?;
     if let Err(error) = file.try_lock() {

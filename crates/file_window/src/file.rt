@@ -21,7 +21,7 @@ pub struct FileWindow<D> {
 }
 
 impl<D: DeviceFile> FileWindow<D> {
-    ghost use Rattle.file_window.specs.FileWindows.{IsOver};
+    ghost use Rattle.file_window.specs.FileWindows.{IsOver, Carries};
 
     /// A window over this file, with the memory for the longest write.
     pub fn new(window: WindowMedium, file: D, run: Run) -> FileWindow<D>
@@ -67,6 +67,16 @@ impl<D: DeviceFile> FileWindow<D> {
     {
         self.file
     }
+
+    // Has the file carry out what waits.
+    fn carry(&mut self)
+        ensures { Carries D.told self.old self.new }
+    {
+        self.fault = match carry_out(&mut self.window, &mut self.file, &mut self.run) {
+            Ok(()) => None,
+            Err(fault) => Some(fault),
+        };
+    }
 }
 
 impl<D: DeviceFile> Medium for FileWindow<D> {
@@ -110,10 +120,7 @@ impl<D: DeviceFile> Outlet for FileWindow<D> {
     ghost given = { Carries D.told };
 
     fn give(&mut self) {
-        self.fault = match carry_out(&mut self.window, &mut self.file, &mut self.run) {
-            Ok(()) => None,
-            Err(fault) => Some(fault),
-        };
+        self.carry();
     }
 }
 

@@ -4,7 +4,7 @@ use Rattle.std.proofs.lemmas.Bool.{cases_lt}
 use Rattle.std.specs.Prelude.{replicate}
 use Rattle.medium.specs.Medium.{State, Image, CutLeaves, Holds, IsSound}
 use Rattle.medium.specs.Moments.{IsFlushed, LeavesOnly, StaysWithin, SparesFrom}
-use Rattle.medium.specs.Blocks.{Array}
+use Rattle.spec.specs.Blocks.{Array}
 use Rattle.medium.proofs.Moments.{weaker, joined_same}
 use Rattle.medium.proofs.Sparing.{HasSpared, spared_joined}
 use Rattle.log_layout.specs.Places.{Shape, first_home, sectors_of, new_shape}

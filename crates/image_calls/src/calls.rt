@@ -47,9 +47,9 @@ pub fn lay_in(
     Ok(())
 }
 
-/// Begins to make an image of zeros on a device of so many sectors, of which these are the first: one
-/// or more. What the device has to carry out waits in the handle, a part at a time: each call of
-/// `next_call` makes the next part wait where nothing does.
+/// Begins to make an image of zeros on a device of so many sectors, of which these are the first:
+/// one or more. What the device has to carry out waits in the handle, a part at a time: each call
+/// of `next_call` makes the next part wait where nothing does.
 ///
 /// # Errors
 ///
@@ -107,9 +107,9 @@ pub fn migrate_in(
     Ok(())
 }
 
-/// The next call for the device leaves the handle: its kind, and of a write its sector and bytes. In
-/// a format it makes the next part wait before, where nothing does. 0 is told where nothing waits
-/// and nothing is left to do.
+/// The next call for the device leaves the handle: its kind, and of a write its sector and bytes.
+/// In a format it makes the next part wait before, where nothing does. 0 is told where nothing
+/// waits and nothing is left to do.
 pub fn next_call(
     alloc: Global,
     image: &mut UsbDiskImage,

@@ -2,7 +2,7 @@
 use Rattle.std.proofs.Common.{◌+◌, ◌≡◌, ◌⊎◌, ℕ, ◌<◌, ◌≤◌, zero, suc, List, [], inl, inr, ⊎_elim, refl, sym, ◌∙◌, subst, arith, length}
 use Rattle.std.specs.Prelude.{replicate, take, All}
 use Rattle.medium.specs.Medium.{Image, CutLeaves}
-use Rattle.medium.specs.Blocks.{Array}
+use Rattle.spec.specs.Blocks.{Array}
 use Rattle.mirror.specs.Device.{Device, put, after}
 use Rattle.mirror.specs.declared.call.DeviceCall.{DeviceCall}
 use Rattle.mirror.proofs.Asked.{after-append}

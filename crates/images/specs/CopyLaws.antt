@@ -1,7 +1,7 @@
 -- What a device holds that held zeros, and then carried out what a copy asks of it.
 use Rattle.std.specs.Prelude.{◌≡◌, ◌≤◌, ◌<◌, ℕ, List, ◌++◌, length, take, get_or, replicate, All}
 use Rattle.medium.specs.Medium.{Image, CutLeaves, Only}
-use Rattle.medium.specs.Blocks.{Array}
+use Rattle.spec.specs.Blocks.{Array}
 use Rattle.mirror.specs.Device.{Device, after}
 use Rattle.mirror.specs.declared.call.DeviceCall.{DeviceCall}
 use Rattle.log_layout.specs.declared.super_sector.Super.{Super}

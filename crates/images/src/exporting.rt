@@ -140,8 +140,8 @@ fn refusal_of(fault: CopyFault) -> Refusal
     }
 }
 
-/// Recovers an image with these first sectors in a window over its file, which is asked for nothing.
-/// What the recovery would write waits in the window then.
+/// Recovers an image with these first sectors in a window over its file, which is asked for
+/// nothing. What the recovery would write waits in the window then.
 ///
 /// # Errors
 ///
@@ -175,9 +175,9 @@ fn room_to_recover(sizes: &Option<Super>) -> usize
     room as usize
 }
 
-/// Has a plain file that was just made or emptied hold the blocks of an image, as a start would serve
-/// them: those at home, and over them what waits in the window of its recovery. The image is only
-/// read, as many sectors at once as the bytes have; a meter hears how many blocks it were.
+/// Has a plain file that was just made or emptied hold the blocks of an image, as a start would
+/// serve them: those at home, and over them what waits in the window of its recovery. The image is
+/// only read, as many sectors at once as the bytes have; a meter hears how many blocks it were.
 ///
 /// # Errors
 ///

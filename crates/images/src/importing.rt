@@ -102,8 +102,8 @@ fn refusal_of(fault: CopyFault) -> Refusal
 }
 
 /// Has a file that was just made or emptied become a new image with these sizes, whose blocks are
-/// those of a plain file: they are written at home, and only then is it made an image. The plain file
-/// is only read, as many sectors at once as the bytes have; a meter hears how many it were.
+/// those of a plain file: they are written at home, and only then is it made an image. The plain
+/// file is only read, as many sectors at once as the bytes have; a meter hears how many it were.
 ///
 /// # Errors
 ///

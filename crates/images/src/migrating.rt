@@ -1,6 +1,7 @@
 //! An image in a file is brought to format 2.
 ghost use Rattle.std.specs.Prelude.{◌≡◌, IfOk, IfErr};
-ghost use Rattle.images.specs.Migrating.{IsMigratedOn, IsNotMigratedOn, migration_room, migration_text};
+ghost use Rattle.images.specs.Migrating.{IsMigratedOn, IsNotMigratedOn};
+ghost use Rattle.images.specs.Migrating.{migration_room, migration_text};
 ghost use Rattle.images.specs.Program.{IsMigration, IsMigrationRefused};
 
 use crate::ended::{LeftFile, Stopped};

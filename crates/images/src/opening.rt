@@ -108,8 +108,8 @@ fn refusal_of(fault: OpenFault) -> Refusal
     }
 }
 
-/// A window over a file with these first sectors, with room for so many calls. None of the others is
-/// ever shown.
+/// A window over a file with these first sectors, with room for so many calls. None of the others
+/// is ever shown.
 pub(crate) fn window_over(
     alloc: Global,
     first: FirstSectors,

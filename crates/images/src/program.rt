@@ -40,7 +40,7 @@ usbdisk_image show IMAGE\nusbdisk_image migrate IMAGE\n\
 usbdisk_image import RAW IMAGE --slots K --format 1|2 [--replace]\n\
 usbdisk_image export IMAGE RAW [--replace]\n";
 
-const VERSION: &[u8] = b"usbdisk_image 0.11\n";
+const VERSION: &[u8] = b"usbdisk_image 0.12\n";
 
 /// Does what the words after the program's name ask for, and gives the exit status.
 ///
@@ -152,7 +152,8 @@ fn alone(ended: Result<LeftFile, Stopped>) -> Result<LeftFiles, Refused>
 
 // Tells the commands.
 fn say_help<O: Write>(out: &mut O) -> Result<LeftFile, Stopped>
-    ensures done { IfOk result (λ back. IsTold (O.contents out.old) (O.contents out.new) back help_text) }
+    ensures done { IfOk result (λ back. IsTold (O.contents out.old) (O.contents out.new)
+        back help_text) }
     ensures refused { IfErr result (λ stopped. IsUntold (O.contents out.old) (O.contents out.new)
         stopped.file help_text stopped.refusal) }
 {
@@ -188,8 +189,8 @@ fn make<R: Files<File = File> + AllocGlobal, O: Write>(
 ) -> Result<LeftFile, Stopped>
     ensures done { IfOk result (λ back. IsMake (O.contents out.old) (O.contents out.new) back
         format blocks slots) }
-    ensures refused { IfErr result (λ stopped. IsMakeRefused (O.contents out.old) (O.contents out.new)
-        stopped.file format blocks slots stopped.refusal) }
+    ensures refused { IfErr result (λ stopped. IsMakeRefused (O.contents out.old)
+        (O.contents out.new) stopped.file format blocks slots stopped.refusal) }
 {
     let Some(sizes) = sizes_of(format, blocks, slots) else {
         return Err(Stopped::from(Refusal::Sizes));

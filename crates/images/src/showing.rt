@@ -22,8 +22,8 @@ pub(crate) fn show<R: Files<File = File> + AllocGlobal, O: Write>(
     out: &mut O,
 ) -> Result<LeftFile, Stopped>
     ensures done { IfOk result (IsShow (O.contents out.old) (O.contents out.new)) }
-    ensures refused { IfErr result (λ stopped. IsShowRefused (O.contents out.old) (O.contents out.new)
-        stopped.file stopped.refusal) }
+    ensures refused { IfErr result (λ stopped. IsShowRefused (O.contents out.old)
+        (O.contents out.new) stopped.file stopped.refusal) }
 {
     let (file, first) = open_image(rt, image, Access::Look)?;
     match show_first(rt.alloc(), first, out) {

@@ -1,9 +1,8 @@
 -- Commands, their wrappers, and the packets of a host.
-use Rattle.std.specs.Prelude.{ℕ, ◌*◌, Bool, List, [], ◌∷◌, ◌++◌, replicate, codes}
-use Rattle.std.specs.Prelude.{if◌then◌else◌}
+use Rattle.std.specs.Prelude.{ℕ, ◌*◌, Bool, List, [], ◌∷◌, ◌++◌, replicate, codes, if◌then◌else◌}
 use Rattle.std.specs.Int.{to_be_bytes, to_le_bytes, w16, w32}
-use Rattle.bot_machine.specs.declared.event.Event.{Event}
-use Rattle.bot_machine.specs.declared.event.Event.TheVariants.{Out}
+use Rattle.spec.specs.declared.event.Event.{Event}
+use Rattle.spec.specs.declared.event.Event.TheVariants.{Out}
 use Rattle.judging.specs.declared.command.Command.{Command}
 use Rattle.judging.specs.declared.command.Direction.{Direction}
 use Rattle.judging.specs.declared.command.Direction.TheVariants.{ToDevice, ToHost}

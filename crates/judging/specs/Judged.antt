@@ -1,6 +1,6 @@
 -- The disk that is judged.
 use Rattle.std.specs.Prelude.{codes}
-use Rattle.bot_machine.specs.Identification.{Identification}
+use Rattle.spec.specs.Identification.{Identification}
 
 -- the texts by which it is known
 abbrev pub judged_identity : Identification

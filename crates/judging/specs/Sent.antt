@@ -1,8 +1,8 @@
 -- What a host has sent.
 use Rattle.std.specs.Prelude.{ℕ, zero, suc, ◌+◌, ◌%◌, ◌^◌, Bool, List, [], ◌∷◌, ◌++◌, length}
 use Rattle.std.specs.Prelude.{replicate, fold}
-use Rattle.bot_machine.specs.declared.event.Event.{Event}
-use Rattle.bot_machine.specs.declared.event.Event.TheVariants.{In, Tick}
+use Rattle.spec.specs.declared.event.Event.{Event}
+use Rattle.spec.specs.declared.event.Event.TheVariants.{In, Tick}
 use Rattle.judging.specs.declared.command.Command.{Command}
 use Rattle.judging.specs.declared.worked.Stroke.{Stroke}
 use Rattle.judging.specs.Commands.{packet_out, wrapper_of, write_command}

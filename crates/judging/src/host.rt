@@ -1,8 +1,7 @@
 //! The events of a life as a host sends them.
 ghost use Rattle.std.specs.Prelude.{◌≡◌, ◌+◌, [], length, IfOk, OnOk};
-ghost use Rattle.bot_machine.specs.declared.event.Event.TheVariants.{In};
-ghost use Rattle.judging.specs.Commands.{read_command, sense_command};
-ghost use Rattle.judging.specs.Commands.{synchronize_command};
+ghost use Rattle.spec.specs.declared.event.Event.TheVariants.{In};
+ghost use Rattle.judging.specs.Commands.{read_command, sense_command, synchronize_command};
 ghost use Rattle.judging.specs.Sent.{with_event, with_tokens, with_ticks, with_packet};
 ghost use Rattle.judging.specs.Sent.{with_packets, with_command, with_write};
 

@@ -1,10 +1,10 @@
 //! Lives that are played event by event.
 ghost use Rattle.std.specs.Prelude.{◌≡◌, ◌<◌, [], ◌∷◌, length, IfOk, IfErr, OnOk};
 ghost use Rattle.medium.specs.Sim.{IsFused, IsFailing};
-ghost use Rattle.bot_machine.specs.Lives.{arms, fails, starts};
+ghost use Rattle.spec.specs.Lives.{arms, fails, starts};
 ghost use Rattle.bot_machine.specs.LivesValue.{medium_in, LivesGoOn, LivesRefuseStart};
 ghost use Rattle.bot_machine.specs.declared.stage.Stage.TheVariants.{Rests};
-ghost use Rattle.bot_machine.specs.declared.packet_size.PacketSize.TheVariants.{High512};
+ghost use Rattle.spec.specs.declared.packet_size.PacketSize.TheVariants.{High512};
 ghost use Rattle.bot_machine.specs.Device.{device_by};
 ghost use Rattle.judging.specs.Judged.{judged_identity};
 

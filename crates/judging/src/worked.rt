@@ -1,6 +1,6 @@
 //! The life that is cut, and in which a call of the medium is refused, at each place.
 ghost use Rattle.std.specs.Prelude.{◌≡◌, replicate, IfOk, OnOk};
-ghost use Rattle.bot_machine.specs.declared.event.Event.TheVariants.{In};
+ghost use Rattle.spec.specs.declared.event.Event.TheVariants.{In};
 ghost use Rattle.judging.specs.Commands.{sense_command, synchronize_command};
 ghost use Rattle.judging.specs.Sent.{with_event, with_tokens, with_command, with_strokes};
 

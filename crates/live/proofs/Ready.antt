@@ -7,9 +7,9 @@ use Rattle.log_layout.specs.Places.{Shape}
 use Rattle.log_layout.specs.Sectors.{IsSuper}
 use Rattle.log_layout.proofs.Decoding.{IsSuper-one}
 use Rattle.mirror.specs.Story as story
-use Rattle.wrappers.specs.declared.case.Case.{Case}
-use Rattle.wrappers.specs.declared.case.Case.TheVariants.{C5, C6}
-use Rattle.wrappers.specs.declared.command.Cbw.{Cbw}
+use Rattle.spec.specs.declared.case.Case.{Case}
+use Rattle.spec.specs.declared.case.Case.TheVariants.{C5, C6}
+use Rattle.spec.specs.declared.wrapper.Cbw.{Cbw}
 use Rattle.wrappers.proofs.CommandWrappers.{one_wrapper}
 use Rattle.window.specs.Window.{Window, state_of, is_in_sight, ComesAfter, IsServed}
 use Rattle.window.specs.Looks.{near_in_sight, shown_in_sight, none_refused, none_kept_out}
@@ -19,9 +19,9 @@ use Rattle.bot_machine.specs.Device.{Device}
 use Rattle.bot_machine.specs.Disk.{IsStep, IsRearmed}
 use Rattle.bot_machine.specs.Opening.{IsOpened}
 use Rattle.bot_machine.specs.Reading.{ReadsHome, ReadsAt, sectors_in, sectors_for}
-use Rattle.bot_machine.specs.declared.event.Event.{Event}
-use Rattle.bot_machine.specs.declared.event.Event.TheVariants as event
-use Rattle.bot_machine.specs.declared.event.Answer.{Answer}
+use Rattle.spec.specs.declared.event.Event.{Event}
+use Rattle.spec.specs.declared.event.Event.TheVariants as event
+use Rattle.spec.specs.declared.event.Answer.{Answer}
 use Rattle.device_file.specs.Asked.{Told}
 use Rattle.file_window.specs.FileWindows.{Carries}
 use Rattle.live.specs.Missing.{DiskOn, medium_of, window_of, AreMissing, Wants, WantsNone}

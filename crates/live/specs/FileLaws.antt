@@ -1,9 +1,9 @@
 -- A disk over a file plays events.
 use Rattle.std.specs.Prelude.{◌≡◌, ℕ, suc, true, Bool, List, [], ◌∷◌, ◌++◌, length}
 use Rattle.std.proofs.Common.{inl, inr, refl, ap, ◌∙◌, subst}
-use Rattle.bot_machine.specs.declared.event.Event.{Event}
-use Rattle.bot_machine.specs.declared.event.Event.TheVariants as event
-use Rattle.bot_machine.specs.declared.event.Answer.{Answer}
+use Rattle.spec.specs.declared.event.Event.{Event}
+use Rattle.spec.specs.declared.event.Event.TheVariants as event
+use Rattle.spec.specs.declared.event.Answer.{Answer}
 use Rattle.device_file.specs.Asked.{Told}
 use Rattle.runner.specs.Played.{packets_of}
 use Rattle.runner.specs.Players.{IsPlayer}

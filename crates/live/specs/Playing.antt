@@ -1,14 +1,13 @@
 -- How a disk over a file goes through events.
-use Rattle.std.specs.Prelude.{◌≡◌, ◌⊎◌, ℕ, ◌*◌, ◌/◌, Bool, true, false, List, [], ◌∷◌, length}
-use Rattle.std.specs.Prelude.{None}
+use Rattle.std.specs.Prelude.{◌≡◌, ◌⊎◌, ℕ, ◌*◌, ◌/◌, Bool, true, false, List, [], ◌∷◌, length, None}
 use Rattle.inlet.specs.Inlet.{AreHeld}
 use Rattle.window.specs.Window.{Window, mirror_of, ComesAfter, CoversDevice, IsServed}
 use Rattle.mirror.specs.Parts as mirror
-use Rattle.scsi_unit.specs.Books.{Book}
+use Rattle.spec.specs.Book.{Book}
 use Rattle.bot_machine.specs.Disk.{FitsDisk, IsStep, IsRearmed}
-use Rattle.bot_machine.specs.declared.event.Event.{Event}
-use Rattle.bot_machine.specs.declared.event.Event.TheVariants as event
-use Rattle.bot_machine.specs.declared.event.Answer.{Answer}
+use Rattle.spec.specs.declared.event.Event.{Event}
+use Rattle.spec.specs.declared.event.Event.TheVariants as event
+use Rattle.spec.specs.declared.event.Answer.{Answer}
 use Rattle.device_file.specs.Asked.{Told}
 use Rattle.device_file.specs.Reads.{AreRead}
 use Rattle.file_window.specs.FileWindows.{state_of, is_well, GoesOn, Shows, Carries}

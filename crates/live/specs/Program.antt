@@ -1,8 +1,8 @@
 -- What the program that serves an image file line by line does.
 use Rattle.std.specs.Prelude.{◌≡◌, ◌⊎◌, ℕ, List, Option, Some, None}
 use Rattle.std.specs.Io.KnownBytes.{Keeps}
-use Rattle.bot_machine.specs.PacketBytes.{bytes_of}
-use Rattle.bot_machine.specs.declared.packet_size.PacketSize.{PacketSize}
+use Rattle.spec.specs.Packets.{bytes_of}
+use Rattle.spec.specs.declared.packet_size.PacketSize.{PacketSize}
 use Rattle.device_file.specs.Asked.{Told}
 use Rattle.device_file.specs.FileValue.{FileValue, fresh}
 use Rattle.device_file.specs.declared.fault.FileFault.{FileFault}

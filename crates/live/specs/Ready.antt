@@ -11,8 +11,8 @@ use Rattle.recovery.specs.Looks.{HoldsLog}
 use Rattle.scsi_unit.specs.Calls.{most_sends_of}
 use Rattle.scsi_unit.specs.Starting.{layout_of}
 use Rattle.window.specs.Window.{Window, state_of, kept_out}
-use Rattle.bot_machine.specs.declared.event.Event.{Event}
-use Rattle.bot_machine.specs.declared.event.Event.TheVariants as event
+use Rattle.spec.specs.declared.event.Event.{Event}
+use Rattle.spec.specs.declared.event.Event.TheVariants as event
 use Rattle.live.specs.Missing.{DiskOn, window_of, WantsNone}
 
 -- as many writes and flushes as an event makes at most, and as a start does that finds so many

@@ -1,6 +1,6 @@
 //! The lines of an input are served on an open file.
 ghost use Rattle.std.specs.Prelude.{◌≡◌, Option, IfOk, IfErr};
-ghost use Rattle.bot_machine.specs.PacketBytes.{bytes_of};
+ghost use Rattle.spec.specs.Packets.{bytes_of};
 ghost use Rattle.live.specs.Serving.{IsServedOn, IsNotServedOn};
 ghost use Rattle.live.specs.Status.{refusal_of_serving};
 

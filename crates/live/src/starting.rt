@@ -1,6 +1,6 @@
 //! A disk starts on an open file.
 ghost use Rattle.std.specs.Prelude.{◌≡◌, IfOk, IfErr, length};
-ghost use Rattle.bot_machine.specs.PacketBytes.{bytes_of};
+ghost use Rattle.spec.specs.Packets.{bytes_of};
 ghost use Rattle.live.specs.Starting.{HasNoWindow, IsNotStartedOn, IsRefusedStart, IsStarted};
 ghost use Rattle.live.specs.Starting.{IsStartedOn, IsWindowOf, room_for};
 ghost use Rattle.live.specs.Ready.{IsReadyToStart};

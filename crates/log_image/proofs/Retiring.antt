@@ -7,7 +7,7 @@ use Rattle.std.proofs.lemmas.List.{length-drop, get_or-drop}
 use Rattle.medium.specs.Medium.{State, Image, Holds, Gains, IsSound}
 use Rattle.log_layout.specs.Places.{Shape}
 use Rattle.medium.specs.Moments.{EachCut}
-use Rattle.medium.specs.Blocks.{Array}
+use Rattle.spec.specs.Blocks.{Array}
 use Rattle.medium.proofs.Moments.{each_write}
 use Rattle.log_layout.specs.Sectors.{IsSuper, IsHead}
 use Rattle.log_image.specs.Record.{Entry, with_blocks, with_records, home_of, Hides}

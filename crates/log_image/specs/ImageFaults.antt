@@ -1,7 +1,7 @@
 -- What is wrong with an image that stands for nothing.
 use Rattle.std.specs.Prelude.{◌≡◌, ◌⊎◌, ◌≤◌, ◌<◌, ℕ, ◌^◌}
 use Rattle.medium.specs.Medium.{Image}
-use Rattle.medium.specs.Blocks.{Array}
+use Rattle.spec.specs.Blocks.{Array}
 use Rattle.log_layout.specs.declared.super_fault.SuperFault.TheVariants.{Magic, Version, Rest}
 use Rattle.log_layout.specs.declared.super_fault.SuperFault.TheVariants.{Sizes}
 use Rattle.log_layout.specs.Places.{Shape, sectors_of}

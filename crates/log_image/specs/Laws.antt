@@ -1,7 +1,7 @@
 -- What holds of every image.
 use Rattle.std.specs.Prelude.{◌≡◌, ◌⊎◌, ◌<◌, ℕ}
 use Rattle.medium.specs.Medium.{Image}
-use Rattle.medium.specs.Blocks.{Array}
+use Rattle.spec.specs.Blocks.{Array}
 use Rattle.log_layout.specs.Places.{Shape}
 use Rattle.log_image.specs.Standing.{StandsFor, Stands}
 use Rattle.log_image.specs.ImageFaults.{ImageFault, HasFault}

@@ -2,7 +2,7 @@
 use Rattle.std.specs.Prelude.{◌≡◌, ◌<◌, ◌≤◌, ℕ, ◌+◌, ◌*◌, ◌-◌, ◌%◌, ◌^◌, List, [], length, get_or}
 use Rattle.std.specs.Prelude.{All}
 use Rattle.medium.specs.Medium.{Image}
-use Rattle.medium.specs.Blocks.{Array}
+use Rattle.spec.specs.Blocks.{Array}
 use Rattle.log_layout.specs.Places.{Shape}
 use Rattle.log_layout.specs.Sectors.{IsSuper, IsHead, IsRising}
 use Rattle.log_image.specs.Record.{Entry, numbers_of, with_records, home_of}

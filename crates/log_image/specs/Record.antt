@@ -2,7 +2,7 @@
 use Rattle.std.specs.Prelude.{◌≡◌, ◌≤◌, ◌<◌, ℕ, ◌+◌, ◌*◌, List, [], ◌∷◌, get_or, slice_range}
 use Rattle.std.specs.Prelude.{if◌then◌else◌, ◌==◌}
 use Rattle.medium.specs.Medium.{Image}
-use Rattle.medium.specs.Blocks.{Array}
+use Rattle.spec.specs.Blocks.{Array}
 pub use Rattle.log_layout.specs.Entry.{Entry, numbers_of}
 use Rattle.log_layout.specs.Places.{Shape}
 

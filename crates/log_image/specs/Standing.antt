@@ -1,7 +1,7 @@
 -- The array and the next stamp for which an image stands.
 use Rattle.std.specs.Prelude.{◌≡◌, ◌≤◌, ◌<◌, ℕ, ◌+◌, List, length}
 use Rattle.medium.specs.Medium.{Image}
-use Rattle.medium.specs.Blocks.{Array}
+use Rattle.spec.specs.Blocks.{Array}
 use Rattle.log_layout.specs.Places.{Shape, sectors_of}
 use Rattle.log_image.specs.Record.{Entry}
 use Rattle.log_image.specs.Layout.{KeepsIn}

@@ -1,5 +1,6 @@
 //! The copies of blocks in the log.
-ghost use Rattle.std.specs.Prelude.{◌≡◌, ◌≤◌, ◌<◌, ◌+◌, ◌*◌, ◌/◌, ◌%◌, ◌++◌, ℕ, List, drop, length, slice_range, OnOk};
+ghost use Rattle.std.specs.Prelude.{◌≡◌, ◌≤◌, ◌<◌, ◌+◌, ◌*◌, ◌/◌, ◌%◌, ◌++◌};
+ghost use Rattle.std.specs.Prelude.{ℕ, List, drop, length, slice_range, OnOk};
 ghost use Rattle.medium.specs.declared.fault.MediumFault.TheVariants.{Read};
 ghost use Rattle.medium.specs.Medium.{Passes, LooksOnly};
 ghost use Rattle.medium.specs.Moments.{IsQuiet};

@@ -1,5 +1,5 @@
-//! What the sectors of a log say together: which records are whole, for what array and next stamp an
-//! image stands, or what is wrong with it.
+//! What the sectors of a log say together: which records are whole, for what array and next stamp
+//! an image stands, or what is wrong with it.
 #![tactic(auto)]
 
 mod copies;

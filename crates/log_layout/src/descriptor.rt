@@ -1,5 +1,6 @@
 //! The descriptor: the first sector of a record, which names its blocks.
-ghost use Rattle.std.specs.Prelude.{◌≡◌, ◌≤◌, ◌<◌, ◌-◌, ◌^◌, ◌+◌, ◌*◌, ℕ, List, ◌++◌, length, IfSome, IsSomeAnd, IsTrue, ◌↔◌};
+ghost use Rattle.std.specs.Prelude.{◌≡◌, ◌≤◌, ◌<◌, ◌-◌, ◌^◌, ◌+◌, ◌*◌, ◌++◌, ◌↔◌};
+ghost use Rattle.std.specs.Prelude.{ℕ, List, length, IfSome, IsSomeAnd, IsTrue};
 ghost use Rattle.log_layout.specs.Spelling.{spelling};
 ghost use Rattle.log_layout.specs.Sectors.{AreBlockNumbers, IsDescriptor, IsRising};
 

@@ -1,9 +1,12 @@
 //! The descriptors of format 2: the first sectors of a record, which name its blocks.
-ghost use Rattle.std.specs.Prelude.{◌≡◌, ◌≤◌, ◌<◌, ◌-◌, ◌^◌, ◌+◌, ◌*◌, ℕ, List, ◌++◌, length, take, drop, All, slice_index, get_or, slice_range, [], zip, min, IsTrue, ◌↔◌, IfSome, IsSomeAnd};
+ghost use Rattle.std.specs.Prelude.{◌≡◌, ◌≤◌, ◌<◌, ◌-◌, ◌^◌, ◌+◌, ◌*◌, ◌++◌, ◌↔◌};
+ghost use Rattle.std.specs.Prelude.{ℕ, List, length, take, drop, All, slice_index, get_or};
+ghost use Rattle.std.specs.Prelude.{slice_range, [], zip, min, IsTrue, IfSome, IsSomeAnd};
 ghost use Rattle.std.specs.List.{flat_map};
 ghost use Rattle.log_layout.specs.Sectors.{IsRising};
 ghost use Rattle.log_layout.specs.Spelling.{number_in};
-ghost use Rattle.log_layout.specs.SectorsTwo.{AreEntriesTwo, IsDescriptorTwo, entries_here, entry_bytes, padded};
+ghost use Rattle.log_layout.specs.SectorsTwo.{AreEntriesTwo, IsDescriptorTwo, entries_here};
+ghost use Rattle.log_layout.specs.SectorsTwo.{entry_bytes, padded};
 
 use crate::descriptor::are_rising;
 use crate::fields::{mark_number, number_at};

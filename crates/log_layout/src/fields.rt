@@ -1,5 +1,6 @@
 //! The numbers of a sector.
-ghost use Rattle.std.specs.Prelude.{◌≡◌, ◌≤◌, ◌<◌, ◌*◌, ◌^◌, ◌+◌, ◌++◌, [], ◌∷◌, List, ℕ, length, All, slice_index, IsTrue, ◌↔◌};
+ghost use Rattle.std.specs.Prelude.{◌≡◌, ◌≤◌, ◌<◌, ◌*◌, ◌^◌, ◌+◌, ◌++◌, ◌∷◌, ◌↔◌};
+ghost use Rattle.std.specs.Prelude.{[], List, ℕ, length, All, slice_index, IsTrue};
 ghost use Rattle.log_layout.specs.Spelling.{spelling, number_in, mark};
 ghost use Rattle.log_layout.specs.SuperFaults.{HasZeroRest};
 

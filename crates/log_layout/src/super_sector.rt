@@ -1,5 +1,6 @@
 //! The super: the format of a medium, and how many blocks and log slots it has.
-ghost use Rattle.std.specs.Prelude.{◌≡◌, ◌⊎◌, ◌≤◌, ◌<◌, ◌+◌, ◌*◌, ◌^◌, IsTrue, ◌↔◌, IfOk, IsOkAnd, IfErr, IfSome, IsSomeAnd};
+ghost use Rattle.std.specs.Prelude.{◌≡◌, ◌⊎◌, ◌≤◌, ◌<◌, ◌+◌, ◌*◌, ◌^◌, ◌↔◌};
+ghost use Rattle.std.specs.Prelude.{IsTrue, IfOk, IsOkAnd, IfErr, IfSome, IsSomeAnd};
 ghost use Rattle.log_layout.specs.Places.{IsFirstHome, slot_sectors_of};
 ghost use Rattle.log_layout.specs.Sectors.{version_of};
 

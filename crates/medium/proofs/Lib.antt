@@ -1,5 +1,4 @@
 pub mod Applied
-pub mod Blocks
 pub mod Flushed
 pub mod ImageFile
 pub mod Keeping

@@ -1,4 +1,3 @@
-pub mod Blocks
 pub mod History
 pub mod HistoryLaws
 pub mod FileStory

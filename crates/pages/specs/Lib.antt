@@ -1,3 +1,2 @@
-pub mod Identification
 pub mod Inquiry
 pub mod Mode

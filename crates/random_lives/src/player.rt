@@ -1,6 +1,6 @@
 //! The side that is judged: the disk of the product.
 ghost use Rattle.std.specs.Prelude.{◌≡◌, ◌<◌};
-ghost use Rattle.bot_machine.specs.PacketBytes.{bytes_of};
+ghost use Rattle.spec.specs.Packets.{bytes_of};
 
 use crate::finding::Finding;
 use crate::shape::Shape;

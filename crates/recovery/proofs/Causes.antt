@@ -2,7 +2,7 @@
 use Rattle.std.proofs.Common.{◌≡◌, ◌∙◌, ◌<◌, ◌^◌, ℕ, Result, refl, sym, subst, arith}
 use Rattle.medium.specs.Medium.{State, Image, Passes}
 use Rattle.medium.specs.Moments.{LeavesOnly, IsQuiet}
-use Rattle.medium.specs.Blocks.{Array}
+use Rattle.spec.specs.Blocks.{Array}
 use Rattle.medium.specs.declared.fault.MediumFault.{MediumFault}
 use Rattle.medium.specs.declared.fault.MediumFault.TheVariants as medium
 use Rattle.medium.proofs.Moments.{quiet_joined}
@@ -14,8 +14,8 @@ use Rattle.log_layout.specs.Values.{shape_of}
 use Rattle.log_image.specs.ImageFaults as image
 use Rattle.log_image.proofs.StandingLaws.{StandsFor-one}
 use Rattle.log_image.proofs.FaultLaws.{HasFault-stands}
-use Rattle.recovery.specs.Causes.{start_fault_of, IsRefusedCall, MakesReadsAlone, WritesNothing, IsCause}
-use Rattle.recovery.specs.Causes.{HasFewSlots, IsRefusalBy, IsDeviceFault}
+use Rattle.recovery.specs.Causes.{start_fault_of, IsRefusedCall, MakesReadsAlone, WritesNothing, IsCause, HasFewSlots, IsRefusalBy}
+use Rattle.recovery.specs.Causes.{IsDeviceFault}
 use Rattle.recovery.specs.Recovered.{IsRecoveredFrom}
 use Rattle.recovery.specs.declared.recovered.Recovered.{Recovered}
 use Rattle.recovery.specs.declared.start_fault.StartFault.{StartFault}

@@ -2,7 +2,7 @@
 use Rattle.std.proofs.Common.{◌≡◌, ℕ, ◌+◌, ◌*◌, ◌<◌, ◌≤◌, List, [], length, get_or, sym, subst, arith, Result}
 use Rattle.medium.specs.Medium.{State, Only, LooksOnly, IsSound}
 use Rattle.medium.specs.Moments.{EachCut, IsFlushed, LeavesOnly, IsQuiet, SparesFrom}
-use Rattle.medium.specs.Blocks.{Array}
+use Rattle.spec.specs.Blocks.{Array}
 use Rattle.medium.specs.declared.fault.MediumFault.{MediumFault}
 use Rattle.medium.proofs.Moments.{quiet_joined}
 use Rattle.log_layout.specs.Places.{Shape, first_home, sectors_of}

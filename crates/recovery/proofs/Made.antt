@@ -2,7 +2,7 @@
 use Rattle.std.proofs.Common.{◌≡◌, ℕ, sym, subst}
 use Rattle.std.specs.Prelude.{replicate}
 use Rattle.medium.specs.Medium.{State}
-use Rattle.medium.specs.Blocks.{Array}
+use Rattle.spec.specs.Blocks.{Array}
 use Rattle.log_layout.specs.Places.{Shape, first_home, sectors_of}
 use Rattle.log_image.specs.Record.{home_of}
 use Rattle.recovery.specs.Formatted.{IsArrayFrom, IsMade, IsFormatted, ImageLeaves, FormatLeaves, IsLaid, LayingLeaves}

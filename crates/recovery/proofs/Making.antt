@@ -7,7 +7,7 @@ use Rattle.medium.specs.declared.fault.MediumFault.{MediumFault}
 use Rattle.medium.proofs.Moments.{started, started_within, gains_within, goes_on, goes_on_within, weaker, joined_same, at_exit, each_write}
 use Rattle.medium.proofs.Moments.{shrunk}
 use Rattle.medium.proofs.Sparing.{HasSpared, spared_start, spared_joined}
-use Rattle.medium.specs.Blocks.{Array}
+use Rattle.spec.specs.Blocks.{Array}
 use Rattle.log_layout.specs.Places.{Shape, first_home, sectors_of}
 use Rattle.log_layout.specs.Sectors.{IsSuper, IsHead}
 use Rattle.log_image.specs.Record.{home_of}

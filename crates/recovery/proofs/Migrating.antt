@@ -4,7 +4,7 @@ use Rattle.std.specs.Prelude.{replicate, min}
 use Rattle.std.proofs.lemmas.Bool.{cases_lt}
 use Rattle.medium.specs.Medium.{State, Image, CutLeaves, Holds, IsSound}
 use Rattle.medium.specs.Moments.{EachCut, IsFlushed, LeavesOnly, StaysWithin, SparesFrom}
-use Rattle.medium.specs.Blocks.{Array}
+use Rattle.spec.specs.Blocks.{Array}
 use Rattle.medium.specs.Sent.{sent, SendsUpTo}
 use Rattle.medium.proofs.Moments.{weaker, joined_same, at_exit, only_image}
 use Rattle.medium.proofs.Sparing.{spared_behind, spared_joined}

@@ -3,7 +3,7 @@ use Rattle.std.proofs.Common.{◌≡◌, ◌⊎◌, inl, inr, ⊎_elim, ℕ, ◌
 use Rattle.std.specs.Prelude.{min}
 use Rattle.medium.specs.Medium.{State, Image, CutLeaves, Only, IsSound}
 use Rattle.medium.specs.Moments.{EachCut, IsFlushed, LeavesOnly, StaysWithin, IsQuiet}
-use Rattle.medium.specs.Blocks.{Array}
+use Rattle.spec.specs.Blocks.{Array}
 use Rattle.medium.proofs.Moments.{joined_same, weaker, at_exit, only_image, quiet_joined, quiet_leaves}
 use Rattle.log_layout.specs.Places.{Shape, first_home}
 use Rattle.log_layout.specs.Sectors.{IsSuper}

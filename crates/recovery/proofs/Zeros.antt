@@ -4,7 +4,7 @@ use Rattle.std.specs.Prelude.{replicate}
 use Rattle.std.proofs.lemmas.Bool.{cases_lt}
 use Rattle.medium.specs.Medium.{State, Image}
 use Rattle.medium.specs.Moments.{IsFlushed}
-use Rattle.medium.specs.Blocks.{Array}
+use Rattle.spec.specs.Blocks.{Array}
 use Rattle.log_layout.specs.Places.{Shape, first_home, sectors_of}
 use Rattle.log_layout.specs.Sectors.{IsSuper, IsHead}
 use Rattle.log_image.specs.Record.{home_of}

@@ -1,9 +1,9 @@
 -- What a migration to format 2 answers, and what it leaves.
-use Rattle.std.specs.Prelude.{◌≡◌, ◌⊎◌, ℕ, ◌+◌, ◌*◌, ◌^◌, ◌<◌, ◌≤◌, length, min, replicate}
-use Rattle.std.specs.Prelude.{Bool, true, false}
+use Rattle.std.specs.Prelude.{◌≡◌, ◌⊎◌, ℕ, ◌+◌, ◌*◌, ◌^◌, ◌<◌, ◌≤◌, length, min, replicate, Bool}
+use Rattle.std.specs.Prelude.{true, false}
 use Rattle.medium.specs.Medium.{State, Image, CutLeaves}
 use Rattle.medium.specs.Moments.{EachCut, IsFlushed, LeavesOnly, SparesFrom}
-use Rattle.medium.specs.Blocks.{Array}
+use Rattle.spec.specs.Blocks.{Array}
 use Rattle.medium.specs.Sent.{SendsUpTo}
 use Rattle.log_layout.specs.declared.log_format.LogFormat.{LogFormat}
 use Rattle.log_layout.specs.declared.log_format.LogFormat.TheVariants.{One, Two}
@@ -15,8 +15,8 @@ use Rattle.recovery.specs.Causes.{HasFewSlots, WritesNothing, IsRefusalBy, IsDev
 use Rattle.log_image.specs.ImageFaults.{HasShape}
 use Rattle.recovery.specs.Copies.{copy_calls, most_start_sends}
 use Rattle.recovery.specs.Looks.{LooksAtLog}
-use Rattle.recovery.specs.Recovered.{IsRecoveredFrom, IsFresh, SparesTheRest}
-use Rattle.recovery.specs.Recovered.{IsOursForSome, IsOursWithNext}
+use Rattle.recovery.specs.Recovered.{IsRecoveredFrom, IsFresh, SparesTheRest, IsOursForSome}
+use Rattle.recovery.specs.Recovered.{IsOursWithNext}
 use Rattle.recovery.specs.declared.recovered.Recovered.{Recovered}
 use Rattle.recovery.specs.declared.start_fault.StartFault.{StartFault}
 

@@ -2,7 +2,7 @@
 use Rattle.std.specs.Prelude.{◌≡◌, ◌≢◌, ◌⊎◌, ℕ, ◌+◌, ◌*◌, ◌^◌, ◌<◌, ◌≤◌, length, min}
 use Rattle.medium.specs.Medium.{State, Image, CutLeaves}
 use Rattle.medium.specs.Moments.{EachCut, IsFlushed, LeavesOnly, SparesFrom}
-use Rattle.medium.specs.Blocks.{Array}
+use Rattle.spec.specs.Blocks.{Array}
 use Rattle.medium.specs.Sent.{SendsUpTo}
 use Rattle.log_layout.specs.declared.log_format.LogFormat.TheVariants.{Two}
 use Rattle.log_layout.specs.Places.{Shape, first_home, sectors_of}

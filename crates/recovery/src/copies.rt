@@ -1,12 +1,14 @@
 //! The copying of the whole records home.
-ghost use Rattle.std.specs.Prelude.{◌≡◌, ◌<◌, ◌≤◌, ◌+◌, ◌*◌, ◌^◌, List, ℕ, OnOk, length, [], ◌++◌, get_or, drop};
+ghost use Rattle.std.specs.Prelude.{◌≡◌, ◌<◌, ◌≤◌, ◌+◌, ◌*◌, ◌^◌, ◌++◌};
+ghost use Rattle.std.specs.Prelude.{List, ℕ, OnOk, length, [], get_or, drop};
 ghost use Rattle.medium.specs.Medium.{LooksOnly};
 ghost use Rattle.log_layout.specs.Places.{first_home, sectors_of, limit_of};
 ghost use Rattle.log_layout.specs.Values.{shape_of};
 ghost use Rattle.log_image.specs.Record.{Entry};
 ghost use Rattle.log_image.specs.Formats.{IsWhole, HasWhole};
 ghost use Rattle.recovery.specs.Calls.{FollowsBy, CopiesPass, CopiesAllPass};
-ghost use Rattle.recovery.specs.Copies.{most_calls_of, IsHomeInRecord, IsHomeInRecords, IsCopied, AreCopied};
+ghost use Rattle.recovery.specs.Copies.{most_calls_of, IsHomeInRecord, IsHomeInRecords};
+ghost use Rattle.recovery.specs.Copies.{IsCopied, AreCopied};
 
 use crate::found::Found;
 use crate::{copies_one, copies_two};

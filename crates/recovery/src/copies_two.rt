@@ -1,5 +1,6 @@
 //! The copying of a whole record home, in format 2.
-ghost use Rattle.std.specs.Prelude.{◌≡◌, ◌<◌, ◌≤◌, ◌+◌, ◌*◌, List, ℕ, OnOk, [], ◌++◌, length, slice_index, get_or, drop, All};
+ghost use Rattle.std.specs.Prelude.{◌≡◌, ◌<◌, ◌≤◌, ◌+◌, ◌*◌, ◌++◌};
+ghost use Rattle.std.specs.Prelude.{List, ℕ, OnOk, [], length, slice_index, get_or, drop, All};
 ghost use Rattle.medium.specs.Medium.{LooksOnly};
 ghost use Rattle.log_layout.specs.declared.log_format.LogFormat.TheVariants.{Two};
 ghost use Rattle.log_layout.specs.Places.{first_home, sectors_of};

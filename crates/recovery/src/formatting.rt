@@ -4,7 +4,7 @@ ghost use Rattle.log_layout.specs.declared.log_format.LogFormat.TheVariants.{One
 ghost use Rattle.log_layout.specs.Places.{new_shape, sectors_of};
 ghost use Rattle.log_layout.specs.Values.{shape_of};
 ghost use Rattle.recovery.specs.Calls.{CallsUpTo};
-ghost use Rattle.medium.specs.Blocks.{Array};
+ghost use Rattle.spec.specs.Blocks.{Array};
 ghost use Rattle.recovery.specs.Formatted.{AreSizes, IsFormatted, FormatLeaves, IsFormatCause};
 ghost use Rattle.recovery.specs.Formatted.{IsArrayFrom, IsMade, ImageLeaves, CallsWithoutReads};
 
@@ -13,8 +13,8 @@ use crate::sectors::{clear, write_through};
 use log_layout::{Head, LogFormat, Super};
 use medium::{Medium, MediumFault};
 
-/// The super of a new image of these sizes, where they are in their limits and this many sectors are
-/// enough for them.
+/// The super of a new image of these sizes, where they are in their limits and this many sectors
+/// are enough for them.
 pub fn sizes_of(format: LogFormat, sectors: u64, blocks: u64, slots: u64) -> Option<Super>
     ensures { let shape = new_shape format blocks slots in
         MatchOption result (¬ AreSizes sectors shape)
@@ -79,8 +79,8 @@ fn make<M: Medium>(m: &mut M, format: LogFormat, blocks: u64, slots: u64) -> Res
 ///
 /// # Errors
 ///
-/// `BadSize` where a size is out of its limits or the medium is too short, before any call; `Medium`
-/// where the medium refused a call: there may be no image then.
+/// `BadSize` where a size is out of its limits or the medium is too short, before any call;
+/// `Medium` where the medium refused a call: there may be no image then.
 pub fn format<M: Medium>(m: &mut M, blocks: u64, slots: u64) -> Result<(), FormatFault>
     ensures ok { let shape = new_shape One blocks slots in
         OnOk result (IsFormatted shape (M.state m.new)) }
@@ -98,7 +98,8 @@ pub fn format<M: Medium>(m: &mut M, blocks: u64, slots: u64) -> Result<(), Forma
 
 /// Makes an image of format 2: `blocks` blocks of zeros, 1 to 2^31, and `slots` log slots, 1 to 64.
 ///
-/// It takes `2 + 249 * slots + blocks` sectors. A cut leaves what it leaves while an image of format 1 is made.
+/// It takes `2 + 249 * slots + blocks` sectors. A cut leaves what it leaves while an image of
+/// format 1 is made.
 ///
 /// # Errors
 ///

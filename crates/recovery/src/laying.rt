@@ -12,9 +12,9 @@ use medium::Medium;
 /// `slots` log slots, 1 to 64: it writes super, head and log alone, and the new image stands for
 /// what home holds.
 ///
-/// Home begins at sector `2 + 50 * slots`, or in format 2 at `2 + 249 * slots`. No sector from there
-/// on is written, and none is read. Until its first good flush a cut may leave what it could leave
-/// before, from then on no super, and in the end the new image.
+/// Home begins at sector `2 + 50 * slots`, or in format 2 at `2 + 249 * slots`. No sector from
+/// there on is written, and none is read. Until its first good flush a cut may leave what it could
+/// leave before, from then on no super, and in the end the new image.
 ///
 /// # Errors
 ///

@@ -1,14 +1,15 @@
 //! The migration of an image of format 1 to format 2.
 ghost use Rattle.std.specs.Prelude.{◌<◌, ◌≤◌, ◌+◌, ◌*◌, ◌^◌, ℕ, IfOk, IfErr};
 ghost use Rattle.medium.specs.Moments.{EachCut, IsFlushed};
-ghost use Rattle.medium.specs.Blocks.{Array};
+ghost use Rattle.spec.specs.Blocks.{Array};
 ghost use Rattle.log_layout.specs.Places.{Shape, sectors_of};
 ghost use Rattle.log_layout.specs.Values.{shape_of};
 ghost use Rattle.log_image.specs.Standing.{IsOurs};
 ghost use Rattle.recovery.specs.Calls.{CallsUpTo};
 ghost use Rattle.recovery.specs.Causes.{IsRefusedCall};
 ghost use Rattle.recovery.specs.Recovered.{IsFresh};
-ghost use Rattle.recovery.specs.Migrated.{CanMigrate, IsMadeOf, IsMigrationBy, IsMigrationRefusal, MakingLeaves, MigrationLeaves};
+ghost use Rattle.recovery.specs.Migrated.{CanMigrate, IsMadeOf, IsMigrationBy, IsMigrationRefusal};
+ghost use Rattle.recovery.specs.Migrated.{MakingLeaves, MigrationLeaves};
 
 use crate::new_head::move_head;
 use crate::recovery::recover_at_least;

@@ -1,5 +1,7 @@
 //! Whether the record of a stamp is whole, in format 2.
-ghost use Rattle.std.specs.Prelude.{◌≡◌, ◌≤◌, ◌<◌, ◌+◌, ◌*◌, ℕ, List, length, All, IfOk, IfSome, IsSomeAnd, IsTrue, MatchOption};
+ghost use Rattle.std.specs.Prelude.{◌≡◌, ◌≤◌, ◌<◌, ◌+◌, ◌*◌};
+ghost use Rattle.std.specs.Prelude.{ℕ, List, length, All, IfOk};
+ghost use Rattle.std.specs.Prelude.{IfSome, IsSomeAnd, IsTrue, MatchOption};
 ghost use Rattle.std.specs.Prelude.{OnOk, ◌↔◌};
 ghost use Rattle.medium.specs.Medium.{LooksOnly};
 ghost use Rattle.log_layout.specs.declared.log_format.LogFormat.TheVariants.{Two};
@@ -103,7 +105,8 @@ fn read_numbers<M: Medium>(
     requires inside { 2 + 249 * slot + 249 ≤ (M.state m.old).size }
     ensures passes { ReadsPass 8 (M.state m.old) (M.state m.new) result }
     ensures found { IfOk result (λ found. MatchOption found
-        ((reads : ℕ) × StopsAtBad (HasDescriptor (M.state m.old).content (2 + 249 * slot) stamp count)
+        ((reads : ℕ)
+        × StopsAtBad (HasDescriptor (M.state m.old).content (2 + 249 * slot) stamp count)
         (descriptors_of count) reads × ((M.state m.new).calls ≡ (M.state m.old).calls + reads))
         (λ read. (length read.items ≡ count)
         × HasDescriptors (M.state m.old).content (2 + 249 * slot) stamp read.items

@@ -2,11 +2,12 @@
 //! that is not whole.
 ghost use Rattle.std.specs.Prelude.{ℕ, OnOk, IfOk, IfErr};
 ghost use Rattle.medium.specs.Moments.{EachCut};
-ghost use Rattle.medium.specs.Blocks.{Array};
+ghost use Rattle.spec.specs.Blocks.{Array};
 ghost use Rattle.log_layout.specs.Places.{Shape};
 ghost use Rattle.log_image.specs.Standing.{IsOurs};
 ghost use Rattle.recovery.specs.Causes.{IsRefusalBy, WritesNothing};
-ghost use Rattle.recovery.specs.Recovered.{IsRecoveredFrom, IsRecoveredAtLeast, IsRecoveryRefusal, IsFresh, RecoveryLeaves, LeavesAtLeast};
+ghost use Rattle.recovery.specs.Recovered.{IsRecoveredFrom, IsRecoveredAtLeast, IsRecoveryRefusal};
+ghost use Rattle.recovery.specs.Recovered.{IsFresh, RecoveryLeaves, LeavesAtLeast};
 
 use crate::copies::copy_records;
 use crate::new_head::move_head;
@@ -14,8 +15,8 @@ use crate::survey::inspect;
 use crate::{Recovered, StartFault};
 use medium::Medium;
 
-/// Copies the blocks of the whole records from the head on home, in order of their stamps, and moves
-/// the head past the first record that is not whole. It takes no memory.
+/// Copies the blocks of the whole records from the head on home, in order of their stamps, and
+/// moves the head past the first record that is not whole. It takes no memory.
 ///
 /// # Errors
 ///

@@ -1,5 +1,6 @@
 //! What recovery reads before its first write.
-ghost use Rattle.std.specs.Prelude.{◌≡◌, ◌<◌, ◌≤◌, ◌+◌, ◌*◌, ◌^◌, ℕ, OnOk, IfOk, IfErr, min, IsTrue, ◌↔◌};
+ghost use Rattle.std.specs.Prelude.{◌≡◌, ◌<◌, ◌≤◌, ◌+◌, ◌*◌, ◌^◌, ◌↔◌};
+ghost use Rattle.std.specs.Prelude.{ℕ, OnOk, IfOk, IfErr, min, IsTrue};
 ghost use Rattle.medium.specs.Medium.{LooksOnly};
 ghost use Rattle.medium.specs.Moments.{IsQuiet};
 ghost use Rattle.log_layout.specs.declared.log_format.LogFormat.TheVariants.{One};

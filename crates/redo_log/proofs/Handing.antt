@@ -1,12 +1,11 @@
 -- What a store on top of a log cites.
 use Rattle.std.proofs.Common.{◌≡◌, ◌≢◌, ◌⊎◌, inl, inr, ⊎_elim, ℕ, ◌+◌, ◌<◌, ◌≤◌, List, [], ◌∷◌, ◌++◌, length, get_or, drop, refl, sym, ◌∙◌}
-use Rattle.std.proofs.Common.{ap, subst}
-use Rattle.std.proofs.Common.{arith, length-append}
+use Rattle.std.proofs.Common.{ap, subst, arith, length-append}
 use Rattle.std.specs.Prelude.{Bool, true, false}
 use Rattle.std.proofs.Math.ListN.{get_or-map}
 use Rattle.medium.specs.Medium.{State, Image, CutLeaves, IsSound}
 use Rattle.medium.specs.Moments.{EachCut}
-use Rattle.medium.specs.Blocks.{Array}
+use Rattle.spec.specs.Blocks.{Array}
 use Rattle.medium.proofs.Moments.{updated_elsewhere}
 use Rattle.log_layout.specs.Places.{Shape, first_home, sectors_of}
 use Rattle.log_image.specs.Record.{Entry, numbers_of, with_blocks, entries_of}
@@ -16,14 +15,13 @@ use Rattle.log_image.specs.Staged.{Guarded}
 use Rattle.log_image.proofs.Batching.{numbers_of_batch, length_of_batch, sized_batch}
 use Rattle.log_image.proofs.Engine.{rests_logged, rests_begun}
 use Rattle.log_image.proofs.Formats.{laws_of, most_is}
-use Rattle.redo_log.specs.Value.{LogValue, HasRoom, IsCovered, steps_of, turns_home, retire_steps_of, behind_oldest, of_oldest}
-use Rattle.redo_log.specs.Value.{idle_from, begun, died, settled}
+use Rattle.redo_log.specs.Value.{LogValue, HasRoom, IsCovered, steps_of, turns_home, retire_steps_of, behind_oldest, of_oldest, idle_from}
+use Rattle.redo_log.specs.Value.{begun, died, settled}
 use Rattle.redo_log.specs.Batch.{IsBatch}
 use Rattle.redo_log.specs.Logged.{HasNoRecord, AreHome}
 use Rattle.redo_log.specs.Stages.{homed_at, needed_at, IsRead}
 use Rattle.redo_log.specs.Held.{View, resting_view, with_begun, image_view, written_of, flushed_of, made_of, turned_of, oldest_of}
-use Rattle.redo_log.specs.Held.{needed_of, MayLeave, Safe, Shields}
-use Rattle.redo_log.specs.Held.{stamps_of, HoldsView}
+use Rattle.redo_log.specs.Held.{needed_of, MayLeave, Safe, Shields, stamps_of, HoldsView}
 use Rattle.redo_log.proofs.Counting.{none_written, steps_some, all_home}
 use Rattle.redo_log.proofs.Covering.{needed_covered}
 use Rattle.redo_log.proofs.Batching.{count_of}

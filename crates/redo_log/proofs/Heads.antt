@@ -1,11 +1,11 @@
 -- The two heads that a cut may leave after one was written ahead of its flush.
-use Rattle.std.proofs.Common.{◌≡◌, ◌≢◌, inl, inr, ⊎_elim, ℕ, suc, ◌+◌, ◌*◌, ◌%◌, ◌<◌, ◌≤◌, List, [], ◌∷◌, ◌++◌, length, get_or}
-use Rattle.std.proofs.Common.{refl, sym, ◌∙◌, ap, subst, arith, length-append}
+use Rattle.std.proofs.Common.{◌≡◌, ◌≢◌, inl, inr, ⊎_elim, ℕ, suc, ◌+◌, ◌*◌, ◌%◌, ◌<◌, ◌≤◌, List, [], ◌∷◌, ◌++◌, length, get_or, refl, sym}
+use Rattle.std.proofs.Common.{◌∙◌, ap, subst, arith, length-append}
 use Rattle.std.proofs.lemmas.Bool.{cases_eq}
 use Rattle.std.proofs.Math.Seq.{get_or-append_seam}
 use Rattle.medium.specs.Medium.{State, Image, CutLeaves, Holds, Within, Gains, Only, IsSound}
 use Rattle.medium.specs.Moments.{EachCut}
-use Rattle.medium.specs.Blocks.{Array}
+use Rattle.spec.specs.Blocks.{Array}
 use Rattle.medium.proofs.Moments.{each_write, updated, updated_here, updated_elsewhere}
 use Rattle.log_layout.specs.Places.{Shape, first_home, sectors_of}
 use Rattle.log_layout.specs.Sectors.{IsSuper, IsHead}

@@ -1,7 +1,7 @@
 -- What an image with a log in it stands for.
 use Rattle.std.proofs.Common.{ℕ, ◌≤◌, List, refl}
 use Rattle.medium.specs.Medium.{Image}
-use Rattle.medium.specs.Blocks.{Array}
+use Rattle.spec.specs.Blocks.{Array}
 use Rattle.log_layout.specs.Places.{Shape, sectors_of}
 use Rattle.log_image.specs.Record.{Entry}
 use Rattle.redo_log.specs.Logged.{HasRecords, Logged}

@@ -1,10 +1,9 @@
 -- What a log and its medium hold together.
 use Rattle.std.specs.Prelude.{◌≡◌, ◌≢◌, ◌⊎◌, ℕ, ◌+◌, ◌-◌, ◌≤◌, ◌<◌, List, [], ◌∷◌, ◌++◌, length}
-use Rattle.std.specs.Prelude.{get_or}
-use Rattle.std.specs.Prelude.{drop, map, All, Bool, true, false}
+use Rattle.std.specs.Prelude.{get_or, drop, map, All, Bool, true, false}
 use Rattle.medium.specs.Medium.{State, Image, Sets, CutLeaves}
 use Rattle.medium.specs.Moments.{EachCut}
-use Rattle.medium.specs.Blocks.{Array}
+use Rattle.spec.specs.Blocks.{Array}
 use Rattle.log_layout.specs.Places.{Shape, sectors_of}
 use Rattle.log_layout.specs.Sectors.{IsHead}
 use Rattle.log_image.specs.Record.{Entry, numbers_of, with_blocks}

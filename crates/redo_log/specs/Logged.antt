@@ -1,7 +1,7 @@
 -- Images with a log in them.
 use Rattle.std.specs.Prelude.{◌≡◌, ◌<◌, ℕ, ◌+◌, List, [], length, get_or}
 use Rattle.medium.specs.Medium.{Image}
-use Rattle.medium.specs.Blocks.{Array}
+use Rattle.spec.specs.Blocks.{Array}
 use Rattle.log_layout.specs.Places.{Shape, first_home}
 use Rattle.log_image.specs.Record.{Entry, with_records, home_of}
 use Rattle.log_image.specs.Layout.{LoggedIn, RestsIn}

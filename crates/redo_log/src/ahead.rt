@@ -1,5 +1,6 @@
 //! What a log does ahead of a flush, which that of a later record covers.
-ghost use Rattle.std.specs.Prelude.{◌≡◌, ◌+◌, ◌-◌, ◌*◌, ◌<◌, ◌≤◌, ◌↔◌, false, length, if◌then◌else◌};
+ghost use Rattle.std.specs.Prelude.{◌≡◌, ◌+◌, ◌-◌, ◌*◌, ◌<◌, ◌≤◌, ◌↔◌, if◌then◌else◌};
+ghost use Rattle.std.specs.Prelude.{false, length};
 ghost use Rattle.std.specs.Prelude.{IsTrue, IsOk, MatchResult};
 ghost use Rattle.log_layout.specs.Places.{sectors_of};
 ghost use Rattle.redo_log.specs.Value.{next_sends, IsAway, IsSentHome, ahead_calls};

@@ -5,10 +5,10 @@ use Rattle.std.proofs.lemmas.Bool.{cases_Bool, true≢false}
 use Rattle.std.specs.Io.KnownBytes.{Appends}
 use Rattle.medium.specs.Sim.{Sim, IsCut, IsFailing, ComesAfter}
 use Rattle.bot_machine.specs.StartFaults.{StartFault}
-use Rattle.bot_machine.specs.declared.event.Event.{Event}
-use Rattle.bot_machine.specs.declared.event.Answer.{Answer}
-use Rattle.bot_machine.specs.declared.event.Answer.TheVariants.{Off}
-use Rattle.bot_machine.specs.Lives.{Action, arms, fails, starts, plays, cuts}
+use Rattle.spec.specs.declared.event.Event.{Event}
+use Rattle.spec.specs.declared.event.Answer.{Answer}
+use Rattle.spec.specs.declared.event.Answer.TheVariants.{Off}
+use Rattle.spec.specs.Lives.{Action, arms, fails, starts, plays, cuts}
 use Rattle.bot_machine.specs.LivesValue.{LivesValue, LivesGoOn, LivesRefuseStart, medium_in}
 use Rattle.bot_machine.proofs.Playing.{rests, lives_go_on}
 use Rattle.runner.specs.declared.fault.ScriptFault.{ScriptFault}

@@ -2,7 +2,7 @@
 use Rattle.std.proofs.Common.{◌≡◌, ℕ, List, [], ◌∷◌, ◌++◌, Option, refl, subst}
 use Rattle.std.specs.Prelude.{All, flat_map}
 use Rattle.medium.specs.Sim.{Sim}
-use Rattle.bot_machine.specs.Lives.{Action}
+use Rattle.spec.specs.Lives.{Action}
 use Rattle.bot_machine.specs.LivesValue.{LivesValue, medium_in}
 use Rattle.runner.specs.declared.fault.ScriptFault.{ScriptFault}
 use Rattle.runner.specs.declared.kept.KeptWrites.{KeptWrites}

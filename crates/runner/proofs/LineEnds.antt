@@ -11,7 +11,7 @@ use Rattle.hex.proofs.HexLemmas.{decode_of-ok}
 use Rattle.runner.specs.declared.line.ScriptKind.TheVariants.{OneLife}
 use Rattle.runner.specs.declared.line.ScriptLine.{ScriptLine}
 use Rattle.runner.specs.declared.line.ScriptLine.TheVariants.{Skipped, Out, Fill, In, Setup, Tick, Fuse, Fail, Cut}
-use Rattle.bot_machine.specs.declared.event.Event.{Event}
+use Rattle.spec.specs.declared.event.Event.{Event}
 use Rattle.runner.specs.Events.{events_of}
 use Rattle.runner.specs.Line.{Spells, Allows, IsScriptLine}
 use Rattle.runner.specs.Lines.{lines_of}

@@ -1,19 +1,19 @@
 -- A life of a disk, from its start on.
-use Rattle.std.proofs.Common.{◌≡◌, ℕ, Bool, List, [], ◌∷◌, ap₂, ◌∙◌, sym, subst, arith}
+use Rattle.std.proofs.Common.{◌≡◌, ℕ, Bool, List, [], ◌∷◌, ap₂, ◌∙◌, sym, subst, arith, Option, ◌++◌}
 use Rattle.medium.specs.Medium.{State}
-use Rattle.bot_machine.specs.Identification.{Identification}
-use Rattle.bot_machine.specs.Books.{opened}
+use Rattle.spec.specs.Identification.{Identification}
+use Rattle.spec.specs.Book.{opened}
 use Rattle.bot_machine.specs.Starting.{blocks_of, layout_of}
 use Rattle.bot_machine.proofs.UnitLaws.{between_calls}
 use Rattle.bot_machine.specs.Device.{Late}
-use Rattle.bot_machine.specs.Rules.{UnitState}
+use Rattle.spec.specs.Rules.{UnitState}
 use Rattle.bot_machine.specs.UnitValue.{unit_limit}
-use Rattle.bot_machine.specs.declared.event.Event.{Event}
-use Rattle.bot_machine.specs.declared.event.Answer.{Answer}
-use Rattle.bot_machine.specs.Conversation.{Conversation}
-use Rattle.bot_machine.specs.Disk.{DiskValue, UnitRun, StepsThrough, on_line, over}
+use Rattle.spec.specs.declared.event.Event.{Event}
+use Rattle.spec.specs.declared.event.Answer.{Answer}
+use Rattle.spec.specs.Conversation.{Conversation}
+use Rattle.bot_machine.specs.Disk.{DiskValue, StepsThrough, over}
+use Rattle.spec.specs.UnitConversation.{UnitRun, on_line}
 use Rattle.bot_machine.specs.Opening.{IsOpened, StartLeaves}
-use Rattle.std.proofs.Common.{Option, ◌++◌}
 use Rattle.std.specs.Io.KnownBytes.{Appends}
 use Rattle.runner.specs.declared.fault.ScriptError.{ScriptError as ErrorOf}
 use Rattle.runner.specs.declared.fault.ScriptFault.TheVariants.{Writer}

@@ -5,7 +5,7 @@ use Rattle.std.specs.List.{list_all}
 use Rattle.std.proofs.lemmas.Bool.{and_parts}
 use Rattle.std.proofs.lemmas.Bool.Decides.{nat_tests}
 use Rattle.std.proofs.lemmas.List.Elements.{All-cons, All-nil}
-use Rattle.bot_machine.specs.Identification.{IsPrintable, IsLegible}
+use Rattle.spec.specs.Identification.{IsPrintable, IsLegible}
 use Rattle.runner.specs.Script.{identification}
 
 -- whether a byte is printable, as a test that computes

@@ -3,7 +3,7 @@ use Rattle.std.proofs.Common.{◌≡◌, ℕ, ◌+◌, ◌/◌, Bool, true, fals
 use Rattle.std.proofs.Common.{inr, arith, append_assoc}
 use Rattle.std.proofs.lemmas.Bool.{cases_Bool}
 use Rattle.std.specs.Prelude.{map, Result}
-use Rattle.medium.specs.Blocks.{Array}
+use Rattle.spec.specs.Blocks.{Array}
 use Rattle.medium.specs.Medium.{Image}
 use Rattle.medium.specs.Moments.{EachCut, IsFlushed}
 use Rattle.medium.specs.Sim.{Sim, state_of, size_of, content_of, IsCut}
@@ -12,22 +12,24 @@ use Rattle.medium.specs.Writes.{sector_of, are_whole, keeps}
 use Rattle.medium.proofs.Keeping.{kept_allowed, none_size, none_content, none_flushed}
 use Rattle.medium.proofs.Moments.{only_image, content_has}
 use Rattle.log_layout.specs.Places.{limit_of, migrated}
-use Rattle.bot_machine.specs.Books.{Book, opened, StandsAs}
-use Rattle.bot_machine.specs.Device.{Device}
-use Rattle.bot_machine.specs.Rules.{UnitState, CarriesOut, Ticks, Sense}
+use Rattle.spec.specs.Book.{Book, opened}
+use Rattle.bot_machine.specs.Books.{StandsAs}
+use Rattle.bot_machine.specs.Device.{presented, Device}
+use Rattle.spec.specs.Rules.{UnitState, CarriesOut, Ticks}
+use Rattle.spec.specs.Sense.{Sense}
 use Rattle.bot_machine.specs.Starting.{IsOursForSome}
-use Rattle.bot_machine.specs.declared.event.Event.{Event}
-use Rattle.bot_machine.specs.declared.event.Event.TheVariants as event
-use Rattle.bot_machine.specs.declared.event.Answer.{Answer}
+use Rattle.spec.specs.declared.event.Event.{Event}
+use Rattle.spec.specs.declared.event.Event.TheVariants as event
+use Rattle.spec.specs.declared.event.Answer.{Answer}
 use Rattle.bot_machine.specs.declared.life.Life.{Life}
-use Rattle.bot_machine.specs.Conversation.{Conversation, Begins, Opens as OpensExchange, OutStep}
-use Rattle.bot_machine.specs.Disk.{UnitStep}
-use Rattle.bot_machine.specs.Exchange.{Script, finished, taking, sending, Moment, at_once, after_data, never, moment_of}
-use Rattle.bot_machine.specs.Intentions.{Intends}
-use Rattle.bot_machine.specs.Lives.{Action, arms, fails, starts, plays, cuts, Remains, Place, before_first, between, runs, off, Standing}
-use Rattle.bot_machine.specs.Lives.{Opens, LifeBegins, PowerGoes, LivesStep, LivesRun, after_cut}
+use Rattle.spec.specs.Conversation.{Conversation, Begins, Opens as OpensExchange, OutStep}
+use Rattle.spec.specs.UnitConversation.{UnitStep, Intends}
+use Rattle.spec.specs.Exchange.{Script, finished, taking, sending, Moment, at_once, after_data, never, moment_of}
+use Rattle.spec.specs.Lives.{Action, arms, fails, starts, plays, cuts, Remains, Place, before_first, between, runs, off, Standing, Opens}
+use Rattle.spec.specs.Lives.{LifeBegins, PowerGoes, LivesStep, LivesRun, after_cut}
 use Rattle.bot_machine.specs.LivesValue.{OpensOn, HasLimit, book_at, FoundAt}
-use Rattle.bot_machine.specs.Lifetimes.{first_standing, actions_of_all, armed_by}
+use Rattle.spec.specs.Promise.{first_standing}
+use Rattle.bot_machine.specs.Lifetimes.{actions_of_all, armed_by}
 use Rattle.bot_machine.proofs.Beginning.{next_opens}
 use Rattle.bot_machine.proofs.UnitLaws.{knows_images, ours_stay}
 use Rattle.runner.specs.Laws.{IsReadyFor, FormatIsReady, MigrationIsReady, LivesAreReady}
@@ -174,14 +176,15 @@ module _ (device : Device) (book : Book) where
   from_off refused old new remains goes ours =
       subst (λ (s : Standing). IsFrom book s.place) (sym goes.after) (record { first = tt; ours = ours })
 
-  from_begun : (refused : Bool) (old new : Standing) (begins : LifeBegins device refused old new) → begins.book.ours ≡ book.ours
+  from_begun : (refused : Bool) (old new : Standing) (begins : LifeBegins (presented device) refused old new) → begins.book.ours ≡ book.ours
       → IsFrom book new.place
   from_begun refused old new begins ours = ⊎_elim
       (λ is. subst (λ (s : Standing). IsFrom book s.place) (sym is) (record { first = tt; ours = ours }))
       (λ goes. from_off refused old new _ goes ours) begins.begins
 
   from_start : (refused : Bool) (place : Place) (armed : Bool) (limit : ℕ) (new : Standing) (told : List Answer) → IsFrom book place
-      → LivesStep device refused (record { place = place; armed = armed; limit = limit }) starts told new → IsFrom book new.place
+      → LivesStep (presented device) refused (record { place = place; armed = armed; limit = limit }) starts told new
+      → IsFrom book new.place
   from_start refused (before_first other) armed limit new told from h =
       from_begun refused _ new h.1 (ap (λ (b : Book). b.ours) h.1.opens ∙ from.ours)
   from_start refused (between remains) armed limit new told from h =
@@ -190,7 +193,8 @@ module _ (device : Device) (book : Book) where
   from_start refused (off remains) armed limit new told from h = subst (λ (s : Standing). IsFrom book s.place) (sym h.1) from
 
   from_event : (refused : Bool) (place : Place) (armed : Bool) (limit : ℕ) (new : Standing) (happens : Event) (told : List Answer)
-      → IsFrom book place → LivesStep device refused (record { place = place; armed = armed; limit = limit }) (plays happens) told new
+      → IsFrom book place
+      → LivesStep (presented device) refused (record { place = place; armed = armed; limit = limit }) (plays happens) told new
       → IsFrom book new.place
   from_event refused (before_first other) armed limit new happens told from h = absurd h.2
   from_event refused (between remains) armed limit new happens told from h = absurd h.2
@@ -207,7 +211,7 @@ module _ (device : Device) (book : Book) where
   from_cut (off remains) from = record { first = tt; ours = from.ours }
 
   from_step : (refused : Bool) (old new : Standing) (action : Action) (told : List Answer) → IsFrom book old.place
-      → LivesStep device refused old action told new → IsFrom book new.place
+      → LivesStep (presented device) refused old action told new → IsFrom book new.place
   from_step refused old new (arms writes) told from h = subst (λ (s : Standing). IsFrom book s.place) (sym h.1) from
   from_step refused old new (fails call) told from h = subst (λ (s : Standing). IsFrom book s.place) (sym h.1) from
   from_step refused old new starts told from h = from_start refused old.place old.armed old.limit new told from h
@@ -215,7 +219,7 @@ module _ (device : Device) (book : Book) where
   from_step refused old new (cuts keep) told from h = subst (λ (s : Standing). IsFrom book s.place) (sym h.1) (from_cut old.place from)
 
   from_run : (actions : List Action) (old new : Standing) (told : List Answer) (refusals : List Bool) → IsFrom book old.place
-      → LivesRun device old actions told refusals new → IsFrom book new.place
+      → LivesRun (presented device) old actions told refusals new → IsFrom book new.place
   from_run [] old new told [] from run = subst (λ (s : Standing). IsFrom book s.place) (sym run.1) from
   from_run (action ∷ actions) old new told (refused ∷ refusals) from run =
       from_run actions run.0 new run.2 refusals (from_step refused old run.0 action run.1 from run.4) run.5
@@ -240,31 +244,33 @@ record RunsOn (device : Device) (actions : List Action) (new : Standing) : Type 
   mid : Standing
   told : List Answer
   refusals : List Bool
-  run : LivesRun device mid actions told refusals new
+  run : LivesRun (presented device) mid actions told refusals new
 
 runs_on : (device : Device) (first rest : List Action) (old new : Standing) (told : List Answer) (refusals : List Bool)
-    → LivesRun device old (first ++ rest) told refusals new → RunsOn device rest new
+    → LivesRun (presented device) old (first ++ rest) told refusals new → RunsOn device rest new
 runs_on device [] rest old new told refusals run = record { mid = old; told = told; refusals = refusals; run = run }
 runs_on device (action ∷ first) rest old new told (refused ∷ refusals) run = runs_on device first rest run.0 new run.2 refusals run.5
 runs_on device (action ∷ first) rest old new told [] run = absurd run
 
 -- behind a cut no disk runs
 behind_cut : (device : Device) (keep : ℕ → Bool) (rest : List Action) (old new : Standing) (told : List Answer) (refusals : List Bool)
-    → LivesRun device old (cuts keep ∷ rest) told refusals new
-    → (mid : Standing) × (more : List Answer) × (others : List Bool) × IsBetween mid.place × LivesRun device mid rest more others new
+    → LivesRun (presented device) old (cuts keep ∷ rest) told refusals new
+    → (mid : Standing) × (more : List Answer) × (others : List Bool) × IsBetween mid.place
+    × LivesRun (presented device) mid rest more others new
 behind_cut device keep rest old new told (refused ∷ refusals) run =
     (run.0, run.2, refusals, subst (λ (s : Standing). IsBetween s.place) (sym run.4.1) (cut_between old.place), run.5)
 behind_cut device keep rest old new told [] run = absurd run
 
 all_between : (device : Device) (lives : List Life) (old new : Standing) (told : List Answer) (refusals : List Bool) → IsBetween old.place
-    → LivesRun device old (actions_of_all lives) told refusals new → IsBetween new.place
+    → LivesRun (presented device) old (actions_of_all lives) told refusals new → IsBetween new.place
 all_between device [] old new told [] rests run = subst (λ (s : Standing). IsBetween s.place) (sym run.1) rests
 all_between device [] old new told (refused ∷ refusals) rests run = absurd run
 all_between device (life ∷ lives) old new told refusals rests run =
     let before : List Action = armed_by life.fuse ++ starts ∷ map plays life.events.items in
     let cut : Action = cuts (keeps life.kept) in
-    let whole : LivesRun device old (before ++ (cut ∷ actions_of_all lives)) told refusals new =
-    subst (λ (l : List Action). LivesRun device old l told refusals new) (append_assoc before (cut ∷ []) (actions_of_all lives)) run in
+    let whole : LivesRun (presented device) old (before ++ (cut ∷ actions_of_all lives)) told refusals new =
+    subst (λ (l : List Action). LivesRun (presented device) old l told refusals new)
+    (append_assoc before (cut ∷ []) (actions_of_all lives)) run in
     let last = runs_on device before (cut ∷ actions_of_all lives) old new told refusals whole in
     let b = behind_cut device (keeps life.kept) (actions_of_all lives) last.mid new last.told last.refusals last.run in
     all_between device lives b.0 new b.1 b.2 b.3 b.4

@@ -2,11 +2,12 @@
 use Rattle.std.proofs.Common.{◌≡◌, ℕ, Bool, List, [], ◌∷◌, ◌++◌, length, nat_lt, refl, sym, ap, ◌∙◌, subst, arith, append_assoc}
 use Rattle.std.proofs.Common.{length-append, ltb-true}
 use Rattle.medium.specs.Medium.{State}
-use Rattle.bot_machine.specs.Rules.{UnitState}
-use Rattle.bot_machine.specs.declared.event.Event.{Event}
-use Rattle.bot_machine.specs.declared.event.Answer.{Answer}
-use Rattle.bot_machine.specs.Conversation.{Conversation}
-use Rattle.bot_machine.specs.Disk.{DiskValue, UnitRun, IsStep, StepsThrough, over}
+use Rattle.spec.specs.Rules.{UnitState}
+use Rattle.spec.specs.declared.event.Event.{Event}
+use Rattle.spec.specs.declared.event.Answer.{Answer}
+use Rattle.spec.specs.Conversation.{Conversation}
+use Rattle.bot_machine.specs.Disk.{DiskValue, IsStep, StepsThrough, over}
+use Rattle.spec.specs.UnitConversation.{UnitRun}
 use Rattle.bot_machine.proofs.Happening.{one_counted}
 use Rattle.bot_machine.proofs.Playing.{refused_events-append}
 use Rattle.runner.specs.Text.{line_for, text_of}

@@ -4,8 +4,8 @@ use Rattle.std.proofs.Common.{inl, inr, refl, sym, ap, subst, ◌∙◌, arith, 
 use Rattle.std.proofs.lemmas.List.Elements.{All-nil}
 use Rattle.std.proofs.KnownBytes.{Consumes-trans}
 use Rattle.std.specs.Io.KnownBytes.{Consumes, IsAtEnd}
-use Rattle.bot_machine.specs.declared.event.Event.{Event}
-use Rattle.bot_machine.specs.declared.event.Answer.{Answer}
+use Rattle.spec.specs.declared.event.Event.{Event}
+use Rattle.spec.specs.declared.event.Answer.{Answer}
 use Rattle.runner.specs.declared.player.ServeFault.{ServeFault}
 use Rattle.runner.specs.declared.player.ServeFault.TheVariants.{Line, Reader, Writer, Player}
 use Rattle.runner.specs.Players.{IsPlayer}
@@ -16,8 +16,8 @@ use Rattle.runner.specs.Served.{line_number, AreAnswered, IsAnswered, IsLineStop
 use Rattle.runner.specs.Served.{IsStoppedBy, HasServed, IsTooLong, IsUnended, StandsFor}
 use Rattle.runner.proofs.InTurn.{InTurn-append}
 use Rattle.runner.proofs.Known.{Appends-none, Appends-more, Appends-kept}
-use Rattle.runner.proofs.LineEnds.{unended-through, ended_line, last_line, begins}
-use Rattle.runner.proofs.LineEnds.{plays_line, holds_line, stands-through, first_is, too_long}
+use Rattle.runner.proofs.LineEnds.{unended-through, ended_line, last_line, begins, plays_line, holds_line, stands-through, first_is}
+use Rattle.runner.proofs.LineEnds.{too_long}
 use Rattle.runner.proofs.Telling.{tells-none, tells-more, breaks-more, gives-more, most_stays}
 
 -- the whole script, of which these bytes were taken

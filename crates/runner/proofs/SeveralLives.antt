@@ -3,15 +3,16 @@ use Rattle.std.proofs.Common.{◌≡◌, ℕ, ◌+◌, ◌≤◌, Bool, false, L
 use Rattle.medium.specs.Sim.{Sim, state_of}
 use Rattle.bot_machine.specs.StartFaults.{StartFault}
 use Rattle.bot_machine.specs.StartFaults as start
-use Rattle.bot_machine.specs.Device.{Device, Late}
-use Rattle.bot_machine.specs.Identification.{Identification}
-use Rattle.bot_machine.specs.Books.{Book}
-use Rattle.bot_machine.specs.declared.event.Answer.{Answer}
+use Rattle.bot_machine.specs.Device.{presented, Device, Late}
+use Rattle.spec.specs.Identification.{Identification}
+use Rattle.spec.specs.Book.{Book}
+use Rattle.spec.specs.declared.event.Answer.{Answer}
 use Rattle.bot_machine.specs.declared.stage.Stage.{Stage}
 use Rattle.bot_machine.specs.declared.stage.Stage.TheVariants.{Rests}
-use Rattle.bot_machine.specs.Conversation.{refused_events}
-use Rattle.bot_machine.specs.Lifetimes.{first_standing, EndsIn, StopsIn}
-use Rattle.bot_machine.specs.Lives.{Action, plays, Standing, Opens, LivesRun}
+use Rattle.spec.specs.Conversation.{refused_events}
+use Rattle.spec.specs.Promise.{first_standing}
+use Rattle.bot_machine.specs.Lifetimes.{EndsIn, StopsIn}
+use Rattle.spec.specs.Lives.{Action, plays, Standing, Opens, LivesRun}
 use Rattle.bot_machine.specs.LivesValue.{LivesValue, MayRefuse, LivesRefuseStart, HasLimit, LeavesLimit, FitsLives, OpensOn, IsAtRest}
 use Rattle.bot_machine.specs.Moving.{medium_in, MovesBy, IsRefusedStart}
 use Rattle.runner.specs.declared.fault.ScriptError.{ScriptError as ErrorOf}
@@ -34,7 +35,7 @@ not_moved : (disk : Device) (refusals : List Bool) (old new : Stage) → MovesBy
 not_moved disk [] old new moves = moves.1
 not_moved disk (refused ∷ refusals) old new moves = absurd moves
 
-stays : (disk : Device) (refusals : List Bool) (old new : Standing) → LivesRun disk old [] [] refusals new → new ≡ old
+stays : (disk : Device) (refusals : List Bool) (old new : Standing) → LivesRun (presented disk) old [] [] refusals new → new ≡ old
 stays disk [] old new run = run.1
 stays disk (refused ∷ refusals) old new run = absurd run
 
@@ -73,7 +74,7 @@ module _ (most : ℕ) (medium : Sim) (rest : IsAtRest medium) (unfused : medium.
           let g = acted.goes_on.goes (first_standing limit book) (fits limit book opens has) in
           record {
             last = g.there;
-            run = subst (λ (i : Device). LivesRun i (first_standing limit book) actions answers acted.goes_on.refusals g.there)
+            run = subst (λ (i : Device). LivesRun (presented i) (first_standing limit book) actions answers acted.goes_on.refusals g.there)
                 acted.goes_on.device_stays g.run;
             limited = λ ours. subst (λ (n : ℕ). LeavesLimit n new.stage) (g.limit_stays ours) (g.fits.limited (g.ours ∙ ours));
             found = λ ours. g.fits.found (g.ours ∙ ours);
@@ -91,7 +92,8 @@ module _ (most : ℕ) (medium : Sim) (rest : IsAtRest medium) (unfused : medium.
       let fewer = on.refused in
       record {
         last = g.there;
-        run = subst (λ (i : Device). LivesRun i (first_standing limit book) actions answers on.refusals g.there) on.device_stays g.run;
+        run = subst (λ (i : Device). LivesRun (presented i) (first_standing limit book) actions answers on.refusals g.there)
+            on.device_stays g.run;
         limited = λ ours. subst (λ (n : ℕ). LeavesLimit n new.stage) (g.limit_stays ours) (l.limited (l.ours ∙ g.ours ∙ ours));
         next = l.book;
         opens = subst (λ (s : Standing). Opens s.place l.book) (stays new.device refused.stops.refusals g.there l.there l.run) l.opens;

@@ -20,8 +20,8 @@ use Rattle.runner.specs.declared.refusal.Refusal.TheVariants as refused
 use Rattle.runner.specs.Status.{refusal_of_kind}
 use Rattle.log_layout.specs.declared.log_format.LogFormat.{LogFormat}
 use Rattle.log_layout.specs.declared.log_format.LogFormat.TheVariants.{One, Two}
-use Rattle.bot_machine.specs.declared.packet_size.PacketSize.{PacketSize}
-use Rattle.bot_machine.specs.declared.packet_size.PacketSize.TheVariants.{Full64, High512}
+use Rattle.spec.specs.declared.packet_size.PacketSize.{PacketSize}
+use Rattle.spec.specs.declared.packet_size.PacketSize.TheVariants.{Full64, High512}
 use Rattle.runner.specs.Task.{IsFileWord, IsSizeWord, IsFormatEnding, IsPacketEnding, IsCommandLine, format_word, packet_word}
 use Rattle.runner.specs.Parser.{usbdisk_app, format_app, script_app}
 use Rattle.runner.proofs.Numerals.{decimal-no_hyphen}

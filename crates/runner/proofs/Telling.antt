@@ -1,8 +1,8 @@
 -- Events that are played and told, one after another.
 use Rattle.std.proofs.Common.{◌≡◌, ℕ, Option, List, [], ◌∷◌, ◌++◌, refl, sym, ap, ◌∙◌, subst, append_assoc, append-nil}
 use Rattle.std.specs.Io.KnownBytes.{Appends}
-use Rattle.bot_machine.specs.declared.event.Event.{Event}
-use Rattle.bot_machine.specs.declared.event.Answer.{Answer}
+use Rattle.spec.specs.declared.event.Event.{Event}
+use Rattle.spec.specs.declared.event.Answer.{Answer}
 use Rattle.runner.specs.Text.{line_for, text_of}
 use Rattle.runner.specs.Players.{IsPlayer}
 use Rattle.runner.specs.Played.{TellsBy, BreaksOffBy, GivesUpBy}

@@ -7,11 +7,11 @@ use Rattle.log_layout.specs.Places.{limit_of}
 use Rattle.recovery.specs.Formatted.{Shape, IsFormatted}
 use Rattle.recovery.specs.Migrated.{IsMigratedFrom}
 use Rattle.recovery.specs.declared.recovered.Recovered.{Recovered}
-use Rattle.bot_machine.specs.Books.{Book, opened}
+use Rattle.spec.specs.Book.{Book, opened}
 use Rattle.bot_machine.specs.Device.{Device}
-use Rattle.bot_machine.specs.declared.event.Answer.{Answer}
+use Rattle.spec.specs.declared.event.Answer.{Answer}
 use Rattle.bot_machine.specs.declared.life.Life.{Life}
-use Rattle.bot_machine.specs.Lives.{Opens}
+use Rattle.spec.specs.Lives.{Opens}
 use Rattle.bot_machine.specs.LivesValue.{OpensOn, HasLimit, IsAtRest}
 use Rattle.bot_machine.specs.Lifetimes.{AreLived}
 

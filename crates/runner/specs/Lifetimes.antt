@@ -4,13 +4,13 @@ use Rattle.std.specs.Prelude.{◌==◌}
 use Rattle.std.specs.List.{list_any}
 use Rattle.medium.specs.Sim.{Sim, state_of}
 use Rattle.bot_machine.specs.StartFaults.{StartFault}
-use Rattle.bot_machine.specs.Books.{Book}
-use Rattle.bot_machine.specs.declared.event.Event.{Event}
-use Rattle.bot_machine.specs.declared.event.Answer.{Answer}
-use Rattle.bot_machine.specs.declared.event.Answer.TheVariants.{Off}
-use Rattle.bot_machine.specs.Conversation.{refused_events}
+use Rattle.spec.specs.Book.{Book}
+use Rattle.spec.specs.declared.event.Event.{Event}
+use Rattle.spec.specs.declared.event.Answer.{Answer}
+use Rattle.spec.specs.declared.event.Answer.TheVariants.{Off}
+use Rattle.spec.specs.Conversation.{refused_events}
 use Rattle.bot_machine.specs.Lifetimes.{EndsIn, StopsIn}
-use Rattle.bot_machine.specs.Lives.{Action, arms, fails, starts, plays, cuts}
+use Rattle.spec.specs.Lives.{Action, arms, fails, starts, plays, cuts}
 use Rattle.bot_machine.specs.LivesValue.{OpensOn, HasLimit}
 use Rattle.bot_machine.specs.Moving.{medium_in, MovesBy, IsRefusedStart}
 use Rattle.bot_machine.specs.declared.stage.Stage.{Stage}

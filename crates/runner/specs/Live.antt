@@ -1,6 +1,6 @@
 -- The words of the program that serves an image file line by line.
 use Rattle.std.specs.Prelude.{◌≡◌, ℕ, List, ◌∷◌}
-use Rattle.bot_machine.specs.declared.packet_size.PacketSize.{PacketSize}
+use Rattle.spec.specs.declared.packet_size.PacketSize.{PacketSize}
 use Rattle.runner.specs.Task.{IsFileWord, IsPacketEnding}
 
 -- a word for the image, and the bytes of a packet behind their name, or nothing for 512

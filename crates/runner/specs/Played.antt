@@ -2,11 +2,12 @@
 use Rattle.std.specs.Prelude.{◌≡◌, ◌≤◌, ℕ, ◌+◌, Bool, List, [], ◌∷◌, ◌++◌, length, Option}
 use Rattle.std.specs.Io.KnownBytes.{Appends}
 use Rattle.medium.specs.Medium.{State}
-use Rattle.bot_machine.specs.Books.{Book}
-use Rattle.bot_machine.specs.declared.event.Event.{Event}
-use Rattle.bot_machine.specs.declared.event.Answer.{Answer}
-use Rattle.bot_machine.specs.Conversation.{refused_events}
-use Rattle.bot_machine.specs.Disk.{DiskValue, FitsDisk, UnitRun, StepsThrough, over}
+use Rattle.spec.specs.Book.{Book}
+use Rattle.spec.specs.declared.event.Event.{Event}
+use Rattle.spec.specs.declared.event.Answer.{Answer}
+use Rattle.spec.specs.Conversation.{refused_events}
+use Rattle.bot_machine.specs.Disk.{DiskValue, FitsDisk, StepsThrough, over}
+use Rattle.spec.specs.UnitConversation.{UnitRun}
 use Rattle.runner.specs.Script.{LinePlays, StopsAt}
 use Rattle.runner.specs.Streams.{AppendsUpTo}
 use Rattle.runner.specs.Text.{line_for, text_of}

@@ -1,6 +1,6 @@
 -- What the program's commands do.
-use Rattle.std.specs.Prelude.{◌≡◌, ◌⊎◌, ◌*◌, ℕ, Bool, true, false, List, [], length, codes}
-use Rattle.std.specs.Prelude.{Option, Some, None}
+use Rattle.std.specs.Prelude.{◌≡◌, ◌⊎◌, ◌*◌, ℕ, Bool, true, false, List, [], length, codes, Option}
+use Rattle.std.specs.Prelude.{Some, None}
 use Rattle.std.specs.Io.KnownBytes.{Appends, Keeps}
 use Rattle.medium.specs.Medium.{State}
 use Rattle.medium.specs.FileStory.{IsReadWhole}
@@ -14,9 +14,9 @@ use Rattle.log_layout.specs.Places.{new_shape, sectors_of}
 use Rattle.recovery.specs.Formatted.{AreSizes, IsFormatted}
 use Rattle.recovery.specs.Migrated.{IsMigrationBy, IsMigrationCause, MigrationLeaves}
 use Rattle.recovery.specs.declared.recovered.Recovered.{Recovered}
-use Rattle.bot_machine.specs.PacketBytes.{bytes_of}
+use Rattle.spec.specs.Packets.{bytes_of}
 use Rattle.bot_machine.specs.StartFaults.{StartFault}
-use Rattle.bot_machine.specs.declared.packet_size.PacketSize.{PacketSize}
+use Rattle.spec.specs.declared.packet_size.PacketSize.{PacketSize}
 use Rattle.runner.specs.declared.fault.ScriptFault.{ScriptFault}
 use Rattle.runner.specs.declared.refusal.Refusal.{Refusal}
 use Rattle.runner.specs.declared.refusal.Refusal.TheVariants as refused

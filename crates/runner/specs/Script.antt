@@ -2,21 +2,20 @@
 use Rattle.std.specs.Prelude.{◌≡◌, ◌≤◌, ℕ, ◌+◌, Bool, true, List, [], ◌∷◌, ◌++◌, length, All, codes}
 use Rattle.medium.specs.Medium.{State}
 use Rattle.medium.specs.Moments.{EachCut}
-use Rattle.medium.specs.Blocks.{Array}
+use Rattle.spec.specs.Blocks.{Array}
 use Rattle.log_layout.specs.Places.{limit_of}
-use Rattle.bot_machine.specs.Starting.{Shape}
-use Rattle.bot_machine.specs.Starting.{StandsFor}
-use Rattle.bot_machine.specs.Starting.{IsOursForSome}
+use Rattle.bot_machine.specs.Starting.{Shape, StandsFor, IsOursForSome}
 use Rattle.bot_machine.specs.Device.{Device, Late}
-use Rattle.bot_machine.specs.Identification.{Identification}
-use Rattle.bot_machine.specs.Books.{Book, opened}
+use Rattle.spec.specs.Identification.{Identification}
+use Rattle.spec.specs.Book.{Book, opened}
 use Rattle.bot_machine.specs.Books.{MayFind}
-use Rattle.bot_machine.specs.Rules.{UnitState, opened_unit}
-use Rattle.bot_machine.specs.declared.event.Event.{Event}
-use Rattle.bot_machine.specs.declared.event.Answer.{Answer}
-use Rattle.bot_machine.specs.Exchange.{at_rest}
-use Rattle.bot_machine.specs.Conversation.{Conversation, refused_events}
-use Rattle.bot_machine.specs.Disk.{DiskValue, StepsThrough, UnitRun, on_line}
+use Rattle.spec.specs.Rules.{UnitState, opened_unit}
+use Rattle.spec.specs.declared.event.Event.{Event}
+use Rattle.spec.specs.declared.event.Answer.{Answer}
+use Rattle.spec.specs.Exchange.{at_rest}
+use Rattle.spec.specs.Conversation.{Conversation, refused_events}
+use Rattle.bot_machine.specs.Disk.{DiskValue, StepsThrough}
+use Rattle.spec.specs.UnitConversation.{UnitRun, on_line}
 use Rattle.bot_machine.specs.Opening.{IsOpened, StartLeaves}
 use Rattle.runner.specs.declared.line.ScriptLine.{ScriptLine}
 use Rattle.runner.specs.declared.line.ScriptKind.{ScriptKind}

@@ -1,11 +1,11 @@
 -- What serving lines leaves: the player of their events, and what was written.
-use Rattle.std.specs.Prelude.{◌≡◌, ◌⊎◌, ◌==◌, ℕ, ◌+◌, min, false, List, [], ◌∷◌, ◌++◌, All}
-use Rattle.std.specs.Prelude.{codes, length, take, slice_index, ◌<◌, Option}
+use Rattle.std.specs.Prelude.{◌≡◌, ◌⊎◌, ◌==◌, ℕ, ◌+◌, min, false, List, [], ◌∷◌, ◌++◌, All, codes}
+use Rattle.std.specs.Prelude.{length, take, slice_index, ◌<◌, Option}
 use Rattle.std.specs.Io.KnownBytes.{Appends, Keeps, Consumes, IsAtEnd}
 use Rattle.medium.specs.Medium.{State}
 use Rattle.bot_machine.specs.Disk.{DiskValue}
-use Rattle.bot_machine.specs.declared.event.Event.{Event}
-use Rattle.bot_machine.specs.declared.event.Answer.{Answer}
+use Rattle.spec.specs.declared.event.Event.{Event}
+use Rattle.spec.specs.declared.event.Answer.{Answer}
 use Rattle.runner.specs.declared.line.ScriptKind.TheVariants.{OneLife}
 use Rattle.runner.specs.declared.serve.LineFault.{LineFault}
 use Rattle.runner.specs.declared.serve.LineFault.TheVariants as fault

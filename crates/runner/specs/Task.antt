@@ -2,8 +2,8 @@
 use Rattle.std.specs.Prelude.{◌≡◌, ◌≢◌, ◌⊎◌, ℕ, List, [], ◌∷◌, ◌++◌, codes}
 use Rattle.log_layout.specs.declared.log_format.LogFormat.{LogFormat}
 use Rattle.log_layout.specs.declared.log_format.LogFormat.TheVariants.{One, Two}
-use Rattle.bot_machine.specs.declared.packet_size.PacketSize.{PacketSize}
-use Rattle.bot_machine.specs.declared.packet_size.PacketSize.TheVariants.{Full64, High512}
+use Rattle.spec.specs.declared.packet_size.PacketSize.{PacketSize}
+use Rattle.spec.specs.declared.packet_size.PacketSize.TheVariants.{Full64, High512}
 use Rattle.runner.specs.declared.task.Task.{Task}
 use Rattle.runner.specs.declared.task.Task.TheVariants.{Format, Migrate, Run, Sim}
 use Rattle.runner.specs.Numbers.{SpellsNumber}

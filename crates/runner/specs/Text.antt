@@ -1,11 +1,11 @@
 -- The lines that tell answers.
 use Rattle.std.specs.Prelude.{ℕ, List, [], ◌∷◌, ◌++◌, codes}
 use Rattle.hex.specs.Hex.{encode_lower}
-use Rattle.bot_machine.specs.declared.event.Event.{Event}
-use Rattle.bot_machine.specs.declared.event.Event.TheVariants.{Tick}
-use Rattle.bot_machine.specs.declared.event.Answer.{Answer}
-use Rattle.bot_machine.specs.declared.event.Answer.TheVariants.{Ack, Nak, Stall, Data, Byte, Two}
-use Rattle.bot_machine.specs.declared.event.Answer.TheVariants.{Ticked, Off}
+use Rattle.spec.specs.declared.event.Event.{Event}
+use Rattle.spec.specs.declared.event.Event.TheVariants.{Tick}
+use Rattle.spec.specs.declared.event.Answer.{Answer}
+use Rattle.spec.specs.declared.event.Answer.TheVariants.{Ack, Nak, Stall, Data, Byte, Two, Ticked}
+use Rattle.spec.specs.declared.event.Answer.TheVariants.{Off}
 
 -- a text and a line feed
 abbrev pub ended : List ℕ → List ℕ

@@ -1,6 +1,6 @@
 //! A script is checked whole before any line of it is played.
 ghost use Rattle.std.specs.Prelude.{◌≤◌, All, OnOk, IfErr, length};
-ghost use Rattle.bot_machine.specs.PacketBytes.{bytes_of};
+ghost use Rattle.spec.specs.Packets.{bytes_of};
 ghost use Rattle.runner.specs.Line.{IsScriptLine};
 ghost use Rattle.runner.specs.Lines.{lines_of};
 ghost use Rattle.runner.specs.Script.{IsFirstBadLine};

@@ -1,8 +1,9 @@
 //! A checked script of several lives, played on a simulated medium.
-ghost use Rattle.std.specs.Prelude.{◌≡◌, ◌≤◌, ◌∷◌, [], All, OnOk, IfOk, IfErr, flat_map, length, vec_capacity};
+ghost use Rattle.std.specs.Prelude.{◌≡◌, ◌≤◌, ◌∷◌, [], All, OnOk, IfOk, IfErr, flat_map, length};
+ghost use Rattle.std.specs.Prelude.{vec_capacity};
 ghost use Rattle.bot_machine.specs.Fitting.{AreWithin};
-ghost use Rattle.bot_machine.specs.Lives.{cuts};
-ghost use Rattle.bot_machine.specs.PacketBytes.{bytes_of};
+ghost use Rattle.spec.specs.Lives.{cuts};
+ghost use Rattle.spec.specs.Packets.{bytes_of};
 ghost use Rattle.runner.specs.Line.{IsScriptLine};
 ghost use Rattle.runner.specs.Lines.{lines_of};
 ghost use Rattle.runner.specs.Events.{events_of};

@@ -1,6 +1,6 @@
 //! One line of a script.
 ghost use Rattle.std.specs.Prelude.{◌≡◌, ◌⊎◌, ℕ, IfSome, IfNone, codes};
-ghost use Rattle.bot_machine.specs.PacketBytes.{bytes_of};
+ghost use Rattle.spec.specs.Packets.{bytes_of};
 ghost use Rattle.runner.specs.Line.{Spells, Allows, SpellsCount, SpellsCut};
 ghost use Rattle.runner.specs.declared.line.ScriptLine.{ScriptLine};
 ghost use Rattle.runner.specs.declared.kept.KeptWrites.{KeptWrites};

@@ -1,9 +1,9 @@
 //! A checked script of one life, played on a disk.
 ghost use Rattle.std.specs.Prelude.{◌≡◌, ◌∷◌, ◌++◌, ℕ, List, All, OnOk, OnErr, IfOk, IfErr};
 ghost use Rattle.std.specs.Io.KnownBytes.{Appends};
-ghost use Rattle.bot_machine.specs.PacketBytes.{bytes_of};
+ghost use Rattle.spec.specs.Packets.{bytes_of};
 ghost use Rattle.bot_machine.specs.Fitting.{AreWithin};
-ghost use Rattle.bot_machine.specs.declared.event.Event.{Event};
+ghost use Rattle.spec.specs.declared.event.Event.{Event};
 ghost use Rattle.runner.specs.Events.{events_of};
 ghost use Rattle.runner.specs.Line.{IsScriptLine};
 ghost use Rattle.runner.specs.Lines.{lines_of};

@@ -1,9 +1,9 @@
 //! What plays events, one after another, and answers them.
 ghost use Rattle.std.specs.Prelude.{◌≡◌, ℕ, List, [], ◌∷◌, IfSome, IfNone};
 ghost use Rattle.bot_machine.specs.Fitting.{IsWithin};
-ghost use Rattle.bot_machine.specs.PacketBytes.{bytes_of};
-ghost use Rattle.bot_machine.specs.declared.event.Answer.{Answer};
-ghost use Rattle.bot_machine.specs.declared.event.Event.{Event};
+ghost use Rattle.spec.specs.Packets.{bytes_of};
+ghost use Rattle.spec.specs.declared.event.Answer.{Answer};
+ghost use Rattle.spec.specs.declared.event.Event.{Event};
 ghost use Rattle.runner.specs.Players.{IsPlayer};
 
 use bot_machine::{Answer, Disk, Event, PacketSize, answer_to};

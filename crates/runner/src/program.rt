@@ -1,24 +1,13 @@
 //! From the words of a command to its exit status.
-ghost use Rattle.std.specs.Prelude.{◌≡◌, ◌≢◌, ◌⊎◌, ◌≤◌, List, ℕ, None, IfOk, IfErr, map, drop, string_bytes};
-ghost use Rattle.bot_machine.specs.PacketBytes.{bytes_of};
+ghost use Rattle.std.specs.Prelude.{◌≡◌, ◌≢◌, ◌⊎◌, ◌≤◌, List, ℕ, None, IfOk, IfErr, map, drop};
+ghost use Rattle.std.specs.Prelude.{string_bytes};
+ghost use Rattle.spec.specs.Packets.{bytes_of};
 ghost use Rattle.runner.specs.declared.refusal.Refusal.{Refusal};
 ghost use Rattle.runner.specs.Status.{status_of};
 ghost use Rattle.runner.specs.Task.{IsCommandLine};
-ghost use Rattle.runner.specs.Program.{
-  HasDone,
-  IsFormat,
-  IsFormatRefused,
-  IsMigrated,
-  IsMigration,
-  IsMigrationRefused,
-  IsNotMigrated,
-  IsRefusedFor,
-  IsRun,
-  IsRunRefused,
-  IsSim,
-  IsSimRefused,
-  migration_text,
-};
+ghost use Rattle.runner.specs.Program.{HasDone, IsFormat, IsFormatRefused, IsMigrated, IsMigration};
+ghost use Rattle.runner.specs.Program.{IsMigrationRefused, IsNotMigrated, IsRefusedFor, IsRun};
+ghost use Rattle.runner.specs.Program.{IsRunRefused, IsSim, IsSimRefused, migration_text};
 
 use crate::ended::{Ended, Stopped};
 use crate::fault::ScriptError;

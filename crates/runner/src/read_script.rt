@@ -1,7 +1,7 @@
 //! A script is read whole and checked before any line of it is played.
 ghost use Rattle.std.specs.Prelude.{All, IfOk, IfErr, MatchResult};
 ghost use Rattle.std.specs.Io.KnownBytes.{IsAtEnd};
-ghost use Rattle.bot_machine.specs.PacketBytes.{bytes_of};
+ghost use Rattle.spec.specs.Packets.{bytes_of};
 ghost use Rattle.runner.specs.Line.{IsScriptLine};
 ghost use Rattle.runner.specs.Lines.{lines_of};
 ghost use Rattle.runner.specs.Outcome.{IsRead, IsNoScript, HasTaken};

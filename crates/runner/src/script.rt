@@ -1,7 +1,7 @@
 //! Scripts of packets and tokens, and the text of a disk's answers.
 ghost use Rattle.std.specs.Prelude.{IfOk, IfErr, MatchResult};
 ghost use Rattle.std.specs.Io.KnownBytes.{IsAtEnd};
-ghost use Rattle.bot_machine.specs.PacketBytes.{bytes_of};
+ghost use Rattle.spec.specs.Packets.{bytes_of};
 ghost use Rattle.runner.specs.Outcome.{IsPlayed, IsRefused, HasTaken};
 
 use crate::fault::{ScriptError, ScriptFault};

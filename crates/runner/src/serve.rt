@@ -1,11 +1,12 @@
 //! A disk served line by line: each line is answered as soon as it is there.
-ghost use Rattle.std.specs.Prelude.{◌≡◌, ◌⊎◌, ◌++◌, ◌<◌, ℕ, List, Option, OnOk, OnErr, IfOk, IfErr, MatchOption, ⊤};
+ghost use Rattle.std.specs.Prelude.{◌≡◌, ◌⊎◌, ◌++◌, ◌<◌, ℕ, List, Option, OnOk, OnErr, IfOk, IfErr};
+ghost use Rattle.std.specs.Prelude.{MatchOption, ⊤};
 ghost use Rattle.std.specs.Io.{ReadsAtMost};
 ghost use Rattle.std.specs.Io.KnownBytes.{ReadConsumes};
-ghost use Rattle.bot_machine.specs.PacketBytes.{bytes_of};
+ghost use Rattle.spec.specs.Packets.{bytes_of};
 ghost use Rattle.runner.specs.Served.{HasServed, IsAnswered, IsLineStopped, IsServed, IsServedBy};
-ghost use Rattle.runner.specs.Served.{IsLineEnd, IsUnended};
-ghost use Rattle.runner.specs.Served.{IsStopped, IsStoppedBy, MayAsk, MayAskInTurn, StopsIn};
+ghost use Rattle.runner.specs.Served.{IsLineEnd, IsUnended, IsStopped, IsStoppedBy, MayAsk};
+ghost use Rattle.runner.specs.Served.{MayAskInTurn, StopsIn};
 ghost use Rattle.runner.specs.Line.{IsScriptLine};
 
 use crate::held::HeldLine;

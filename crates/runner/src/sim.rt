@@ -2,7 +2,7 @@
 ghost use Rattle.std.specs.Prelude.{◌≡◌, ◌⊎◌, None, IfOk, IfErr, MatchResult};
 ghost use Rattle.std.specs.Io.KnownBytes.{IsAtEnd};
 ghost use Rattle.bot_machine.specs.LivesValue.{IsAtRest};
-ghost use Rattle.bot_machine.specs.PacketBytes.{bytes_of};
+ghost use Rattle.spec.specs.Packets.{bytes_of};
 ghost use Rattle.runner.specs.Outcome.{HasTaken};
 ghost use Rattle.runner.specs.OutcomeOfLives.{ArePlayed, AreRefused};
 

@@ -6,18 +6,19 @@ use Rattle.std.proofs.lemmas.Bool.{eqb-false}
 use Rattle.std.proofs.lemmas.Bool.Decides.{nat_tests}
 use Rattle.std.proofs.lemmas.List.{length-take, length-drop}
 use Rattle.std.proofs.lemmas.List.Elements.{All-nil, All-cons}
-use Rattle.medium.specs.Blocks.{Write, IsWrite}
-use Rattle.blocks.specs.Book.{write_of}
-use Rattle.sense.specs.declared.codes.Sense.{Sense}
-use Rattle.cdb.specs.declared.command.Command.{Command}
-use Rattle.cdb.specs.declared.command.Command.TheVariants as command
-use Rattle.cdb.specs.declared.command.Transfer.{Transfer}
+use Rattle.spec.specs.Blocks.{Write, IsWrite}
+use Rattle.spec.specs.Book.{write_of}
+use Rattle.spec.specs.Sense.{Sense}
+use Rattle.spec.specs.declared.command.Command.{Command}
+use Rattle.spec.specs.declared.command.Command.TheVariants as command
+use Rattle.spec.specs.declared.command.Transfer.{Transfer}
 use Rattle.cdb.specs.Supported.{IsSupported, IsWithin}
-use Rattle.scsi_unit.specs.declared.intent.Intent.TheVariants as intent
-use Rattle.scsi_unit.specs.Rules.{UnitState, checked, moves, moves_after, takes, moves_blocks, write_after, write_of_command, some_write}
-use Rattle.scsi_unit.specs.Rules.{write_by}
+use Rattle.spec.specs.declared.intent.Intent.TheVariants as intent
+use Rattle.spec.specs.Rules.{UnitState, checked, moves, moves_after, takes, moves_blocks, write_after, write_of_command, some_write}
+use Rattle.spec.specs.Rules.{write_by}
 use Rattle.scsi_unit.specs.Laws.{WritesAreWrites}
 use Rattle.scsi_unit.proofs.Intentions.{served_by, moved_by}
+use Rattle.scsi_unit.proofs.Directions.{out_or_none}
 
 -- these are so many blocks, each of 512 bytes
 pub record AreBlocks (count : ℕ) (blocks : List (List ℕ)) : Type 0 where
@@ -51,8 +52,8 @@ is_write_by blocks limit transfer taken within some size =
       inside = omega (arith, are.count_is, within.on_medium);
     }
 
-takes_size : (bytes : ℕ) (nothing : Bool) → nothing ≡ false → (if nothing then intent.None else intent.Out bytes) ≡ intent.Out bytes
-takes_size bytes nothing some = ap (λ (b : Bool). if b then intent.None else intent.Out bytes) some
+takes_size : (bytes : ℕ) (nothing : Bool) → nothing ≡ false → out_or_none bytes nothing ≡ intent.Out bytes
+takes_size bytes nothing some = ap (out_or_none bytes) some
 
 is_not_zero : (n : ℕ) → n ≢ 0 → (512 * n == 0) ≡ false
 is_not_zero n some = grind (arith, nat_tests)

@@ -6,12 +6,12 @@ use Rattle.blocks.specs.StoreValue.{Cached, HasLimits, layout_of, blocks_of, slo
 use Rattle.blocks.specs.Calls.{reads_of, most_reads}
 use Rattle.blocks.proofs.Counting.{few_copy_reads, reads_few}
 use Rattle.blocks.proofs.Limits.{few_batch_steps}
-use Rattle.sense.specs.declared.codes.Sense.{Sense}
+use Rattle.spec.specs.Sense.{Sense}
 use Rattle.cdb.specs.Supported.{IsSupported}
-use Rattle.cdb.specs.declared.command.Command.{Command}
-use Rattle.cdb.specs.declared.command.Command.TheVariants as command
-use Rattle.cdb.specs.declared.command.Transfer.{Transfer}
-use Rattle.scsi_unit.specs.Rules.{moves_blocks, forces_reading, clears, selected_by}
+use Rattle.spec.specs.declared.command.Command.{Command}
+use Rattle.spec.specs.declared.command.Command.TheVariants as command
+use Rattle.spec.specs.declared.command.Transfer.{Transfer}
+use Rattle.spec.specs.Rules.{moves_blocks, forces_reading, clears, selected_by}
 use Rattle.scsi_unit.specs.Calls.{calls_of_sync, calls_of_read, calls_of_write, calls_of, calls_after, most_calls_of, most_calls}
 use Rattle.scsi_unit.specs.UnitValue.{UnitValue, unit_limit}
 

@@ -7,10 +7,10 @@ use Rattle.blocks.specs.Limit.{Shape}
 use Rattle.blocks.specs.StoreValue.{Cached, layout_of, batch_steps}
 use Rattle.blocks.specs.Calls.{copy_reads_of, reads_of, most_reads}
 use Rattle.blocks.proofs.Counting.{reads_few}
-use Rattle.sense.specs.declared.codes.Sense.{Sense}
-use Rattle.cdb.specs.declared.command.Command.TheVariants as command
-use Rattle.cdb.specs.declared.command.Transfer.{Transfer}
-use Rattle.scsi_unit.specs.Rules.{moves_blocks, wants_writing}
+use Rattle.spec.specs.Sense.{Sense}
+use Rattle.spec.specs.declared.command.Command.TheVariants as command
+use Rattle.spec.specs.declared.command.Transfer.{Transfer}
+use Rattle.spec.specs.Rules.{moves_blocks, wants_writing}
 use Rattle.scsi_unit.specs.Calls.{calls_of_sync, calls_of_read, calls_of_write, calls_of}
 
 -- ---- READ

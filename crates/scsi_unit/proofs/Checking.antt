@@ -1,15 +1,14 @@
 -- What the checks of a command come to.
 use Rattle.std.proofs.Common.{◌≡◌, ◌≢◌, ◌⊎◌, ℕ, Bool, true, false, List, inl, inr, Result, Ok, Err, refl, sym, ◌∙◌, ap, subst}
 use Rattle.std.specs.Prelude.{◌&&◌, not, if◌then◌else◌}
-use Rattle.sense.specs.declared.codes.Sense.{Sense}
-use Rattle.cdb.specs.declared.command.Command.{Command}
-use Rattle.cdb.specs.Table.{byte_at, command_of}
-use Rattle.scsi_unit.specs.declared.intent.Intent.{Intent}
-use Rattle.scsi_unit.specs.declared.intent.Intent.TheVariants as intent
-use Rattle.scsi_unit.specs.Rules.{needs_medium, passes_attention, checked_for_fault, command_by, moves, moves_after, intention_by}
+use Rattle.spec.specs.Sense.{Sense}
+use Rattle.spec.specs.declared.command.Command.{Command}
+use Rattle.spec.specs.Commands.{byte_at, command_of}
+use Rattle.spec.specs.Rules.{Intention, needs_medium, passes_attention, checked_for_fault, command_by, moves, moves_after, intention_by}
+use Rattle.spec.specs.declared.intent.Intent.TheVariants as intent
 
 -- of what is moved: so many bytes to the initiator, or from it
-module _ (moved : ℕ → Intent) (good : (sense : Sense) (n : ℕ) → intent.Fail sense ≢ moved n) where
+module _ (moved : ℕ → Intention) (good : (sense : Sense) (n : ℕ) → intent.Fail sense ≢ moved n) where
   -- a command that a faulted unit does not refuse moves what it moves without the fault
   not_refused : (refuses : Bool) (sense : Sense) (command : Command) (n : ℕ)
       → moves_after (if refuses then Err sense else Ok command) ≡ moved n

@@ -1,24 +1,25 @@
 -- How many bytes an intention has, and how long data are.
-use Rattle.std.proofs.Common.{◌≡◌, ◌≢◌, ◌<◌, ◌≤◌, ◌+◌, ◌*◌, ℕ, zero, suc, Bool, true, false, List, [], length, take, Some}
-use Rattle.std.proofs.Common.{None, Option, refl, ap, arith, length-append}
+use Rattle.std.proofs.Common.{◌≡◌, ◌≢◌, ◌<◌, ◌≤◌, ◌+◌, ◌*◌, ℕ, zero, suc, Bool, true, false, List, [], length, take, Some, None, Option}
+use Rattle.std.proofs.Common.{refl, ap, arith, length-append}
 use Rattle.std.specs.Prelude.{if◌then◌else◌, ◌==◌, min, unwrap_or}
 use Rattle.std.proofs.lemmas.Bool.{eqb-true, eqb-false}
-use Rattle.medium.specs.Blocks.{Array}
-use Rattle.blocks.specs.Book.{blocks_at}
-use Rattle.sense.specs.declared.codes.Sense.{Sense}
-use Rattle.sense.specs.Fixed.{fixed_sense}
-use Rattle.pages.specs.Identification.{Identification}
-use Rattle.pages.specs.Inquiry.{inquiry_data, inquiry_size, standard_data, supported_pages, unit_serial_number, device_identification}
-use Rattle.pages.specs.Inquiry.{block_limits}
-use Rattle.pages.specs.Mode.{mode_data, caching_page}
-use Rattle.scsi_unit.specs.declared.intent.Intent.TheVariants as intent
-use Rattle.scsi_unit.specs.Capacity.{capacity_10, capacity_16}
-use Rattle.scsi_unit.specs.Rules.{UnitState, sends, takes}
+use Rattle.spec.specs.Blocks.{Array}
+use Rattle.spec.specs.Book.{blocks_at}
+use Rattle.spec.specs.Sense.{Sense}
+use Rattle.spec.specs.FixedSense.{fixed_sense}
+use Rattle.spec.specs.Identification.{Identification}
+use Rattle.spec.specs.Inquiry.{inquiry_data, inquiry_size, standard_data, supported_pages, unit_serial_number, device_identification}
+use Rattle.spec.specs.Inquiry.{block_limits}
+use Rattle.spec.specs.ModePage.{mode_data, caching_page}
+use Rattle.spec.specs.declared.intent.Intent.TheVariants as intent
+use Rattle.spec.specs.Capacity.{capacity_10, capacity_16}
+use Rattle.spec.specs.Rules.{UnitState, sends, takes}
 use Rattle.scsi_unit.specs.Laws.{IsSized}
+use Rattle.scsi_unit.proofs.Directions.{in_or_none, out_or_none}
 
 -- ---- how many bytes an intention has
 
-sends_at : (bytes n : ℕ) (nothing : Bool) → (nothing ≡ false → bytes ≢ 0) → (if nothing then intent.None else intent.In bytes) ≡ intent.In n
+sends_at : (bytes n : ℕ) (nothing : Bool) → (nothing ≡ false → bytes ≢ 0) → in_or_none bytes nothing ≡ intent.In n
     → (bytes ≡ n) × (0 < n)
 sends_at bytes n true some is = cc
 sends_at bytes n false some is = let same : bytes ≡ n = cc in (same, omega (arith, same, some refl))
@@ -28,24 +29,24 @@ pub sends_is : (bytes n : ℕ) → sends bytes ≡ intent.In n → (bytes ≡ n)
 sends_is bytes n is = sends_at bytes n (bytes == 0) (λ no. eqb-false bytes 0 no) is
 
 takes_at : (bytes n : ℕ) (nothing : Bool) → (nothing ≡ false → bytes ≢ 0)
-    → (if nothing then intent.None else intent.Out bytes) ≡ intent.Out n → (bytes ≡ n) × (0 < n)
+    → out_or_none bytes nothing ≡ intent.Out n → (bytes ≡ n) × (0 < n)
 takes_at bytes n true some is = cc
 takes_at bytes n false some is = let same : bytes ≡ n = cc in (same, omega (arith, same, some refl))
 
 pub takes_is : (bytes n : ℕ) → takes bytes ≡ intent.Out n → (bytes ≡ n) × (0 < n)
 takes_is bytes n is = takes_at bytes n (bytes == 0) (λ no. eqb-false bytes 0 no) is
 
-pub sends_no_out : (bytes n : ℕ) (nothing : Bool) → (if nothing then intent.None else intent.In bytes) ≡ intent.Out n → ⊥
+pub sends_no_out : (bytes n : ℕ) (nothing : Bool) → in_or_none bytes nothing ≡ intent.Out n → ⊥
 sends_no_out bytes n true is = cc
 sends_no_out bytes n false is = cc
 
-pub takes_no_in : (bytes n : ℕ) (nothing : Bool) → (if nothing then intent.None else intent.Out bytes) ≡ intent.In n → ⊥
+pub takes_no_in : (bytes n : ℕ) (nothing : Bool) → out_or_none bytes nothing ≡ intent.In n → ⊥
 takes_no_in bytes n true is = cc
 takes_no_in bytes n false is = cc
 
 -- nothing is sent where nothing is intended
 sends_nothing_at : (bytes : ℕ) (nothing : Bool) → (nothing ≡ true → bytes ≡ 0)
-    → ((n : ℕ) → (if nothing then intent.None else intent.In bytes) ≢ intent.In n) → bytes ≡ 0
+    → ((n : ℕ) → in_or_none bytes nothing ≢ intent.In n) → bytes ≡ 0
 sends_nothing_at bytes true none never = none refl
 sends_nothing_at bytes false none never = absurd (never bytes refl)
 
@@ -53,7 +54,7 @@ pub sends_nothing : (bytes : ℕ) → ((n : ℕ) → sends bytes ≢ intent.In n
 sends_nothing bytes never = sends_nothing_at bytes (bytes == 0) (λ yes. eqb-true bytes 0 yes) never
 
 takes_nothing_at : (bytes : ℕ) (nothing : Bool) → (nothing ≡ true → bytes ≡ 0)
-    → ((n : ℕ) → (if nothing then intent.None else intent.Out bytes) ≢ intent.Out n) → bytes ≡ 0
+    → ((n : ℕ) → out_or_none bytes nothing ≢ intent.Out n) → bytes ≡ 0
 takes_nothing_at bytes true none never = none refl
 takes_nothing_at bytes false none never = absurd (never bytes refl)
 

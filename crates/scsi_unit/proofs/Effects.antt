@@ -1,13 +1,13 @@
 -- What each line of the table leaves of a unit.
 use Rattle.std.proofs.Common.{◌≡◌, ℕ, Bool, true, false, List, [], ◌∷◌, ◌++◌, length, Some, None, Option, Result, Ok, Err, refl}
 use Rattle.std.specs.Prelude.{if◌then◌else◌, ◌&&◌, ◌||◌, not}
-use Rattle.medium.specs.Blocks.{Write}
-use Rattle.blocks.specs.Book.{Book}
-use Rattle.sense.specs.declared.codes.Sense.{Sense}
-use Rattle.cdb.specs.declared.command.Command.{Command}
-use Rattle.cdb.specs.declared.command.Command.TheVariants as command
-use Rattle.scsi_unit.specs.Rules.{UnitState, Effect, fails, gives, effect_of, writes, selects, write_of_command, write_by, moves_blocks}
-use Rattle.scsi_unit.specs.Rules.{forces_reading, clears, selected_by, made_durable, accepting, needs_medium, reads_blocks, wants_writing}
+use Rattle.spec.specs.Blocks.{Write}
+use Rattle.spec.specs.Book.{Book}
+use Rattle.spec.specs.Sense.{Sense}
+use Rattle.spec.specs.declared.command.Command.{Command}
+use Rattle.spec.specs.declared.command.Command.TheVariants as command
+use Rattle.spec.specs.Rules.{UnitState, Effect, fails, gives, effect_of, writes, selects, write_of_command, write_by, moves_blocks}
+use Rattle.spec.specs.Rules.{forces_reading, clears, selected_by, made_durable, accepting, needs_medium, reads_blocks, wants_writing}
 use Rattle.scsi_unit.specs.Laws.{IsSameLife, is_promising}
 
 -- the writes with one more, if there is one

@@ -1,13 +1,12 @@
 -- A unit that is told of a refusal of the device, and a faulted one.
 use Rattle.std.proofs.Common.{◌≡◌, ◌≢◌, ◌⊎◌, ℕ, Bool, true, false, List, inl, inr, refl, subst}
 use Rattle.std.specs.Prelude.{Result, Ok, Err}
-use Rattle.sense.specs.declared.codes.Sense.{Sense}
-use Rattle.cdb.specs.declared.command.Command.{Command}
-use Rattle.cdb.specs.declared.command.Command.TheVariants as command
+use Rattle.spec.specs.Sense.{Sense}
+use Rattle.spec.specs.declared.command.Command.{Command}
+use Rattle.spec.specs.declared.command.Command.TheVariants as command
 use Rattle.blocks.specs.StoreValue.{is_dead, blocks_of}
-use Rattle.scsi_unit.specs.declared.intent.Intent.{Intent}
-use Rattle.scsi_unit.specs.declared.intent.Intent.TheVariants as intent
-use Rattle.scsi_unit.specs.Rules.{needs_medium, command_by}
+use Rattle.spec.specs.Rules.{Intention, needs_medium, command_by}
+use Rattle.spec.specs.declared.intent.Intent.TheVariants as intent
 use Rattle.scsi_unit.specs.Serving.{command_for, wants_medium}
 use Rattle.scsi_unit.specs.UnitValue.{UnitValue, unit_limit, intention_of}
 use Rattle.scsi_unit.specs.Faulting.{faulted_unit, IsSteady}
@@ -49,7 +48,7 @@ was_or_is true = inl refl
 was_or_is false = inr (refl, refl)
 
 -- what a unit moves that is told of a refusal it moved before
-moved_before : {M : Type 0} (moved : ℕ → Intent) → ((sense : Sense) (n : ℕ) → intent.Fail sense ≢ moved n)
+moved_before : {M : Type 0} (moved : ℕ → Intention) → ((sense : Sense) (n : ℕ) → intent.Fail sense ≢ moved n)
     → (taken_back : Bool) (old : UnitValue M) (block : List ℕ) (n : ℕ)
     → intention_of (faulted_unit taken_back old) block ≡ moved n → intention_of old block ≡ moved n
 moved_before moved good true old block n is =

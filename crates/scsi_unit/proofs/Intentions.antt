@@ -1,32 +1,33 @@
 -- A command moves what it intended to.
-use Rattle.std.proofs.Common.{◌≡◌, ◌≢◌, ◌<◌, ◌≤◌, ◌*◌, ⊎_elim, ℕ, Bool, true, false, List, [], ◌∷◌, length, Some}
-use Rattle.std.proofs.Common.{None, Result, Ok, Err, refl, ap, sym, ◌∙◌, subst, arith}
+use Rattle.std.proofs.Common.{◌≡◌, ◌≢◌, ◌<◌, ◌≤◌, ◌*◌, ⊎_elim, ℕ, Bool, true, false, List, [], ◌∷◌, length, Some, None, Result, Ok, Err}
+use Rattle.std.proofs.Common.{refl, ap, sym, ◌∙◌, subst, arith}
 use Rattle.std.specs.Prelude.{IfOk, if◌then◌else◌, ◌||◌, ◌==◌, not, min, unwrap_or, IsTrue}
 use Rattle.std.proofs.lemmas.Result.{IfOk-at_ok}
 use Rattle.std.proofs.lemmas.Bool.{false≢true, eqb-true}
 use Rattle.std.proofs.lemmas.List.{length-take}
-use Rattle.blocks.specs.Book.{array_of, blocks_at}
-use Rattle.sense.specs.declared.codes.Sense.{Sense}
-use Rattle.sense.specs.Fixed.{fixed_sense}
-use Rattle.sense.specs.Waiting.{reported}
-use Rattle.cdb.specs.declared.command.Command.{Command}
-use Rattle.cdb.specs.declared.command.Command.TheVariants as command
-use Rattle.cdb.specs.declared.command.Transfer.{Transfer}
+use Rattle.spec.specs.Book.{array_of, blocks_at}
+use Rattle.spec.specs.Sense.{Sense}
+use Rattle.spec.specs.FixedSense.{fixed_sense}
+use Rattle.spec.specs.Waiting.{reported}
+use Rattle.spec.specs.declared.command.Command.{Command}
+use Rattle.spec.specs.declared.command.Command.TheVariants as command
+use Rattle.spec.specs.declared.command.Transfer.{Transfer}
 use Rattle.cdb.specs.Supported.{IsSupported, IsWithin}
-use Rattle.cdb.specs.Table.{is_one_of}
+use Rattle.spec.specs.Commands.{is_one_of}
 use Rattle.cdb.proofs.Laws.{supported}
-use Rattle.pages.specs.Inquiry.{inquiry_data, inquiry_size}
-use Rattle.pages.specs.Mode.{mode_data}
-use Rattle.scsi_unit.specs.declared.intent.Intent.TheVariants as intent
-use Rattle.scsi_unit.specs.Capacity.{capacity_16}
-use Rattle.scsi_unit.specs.Rules.{UnitState, checked, intention, moves, moves_after, sends, effect_of, moves_blocks, selected_by}
-use Rattle.scsi_unit.specs.Rules.{selects, write_after, write_of_command, some_write, write_by, IsOutcome}
+use Rattle.spec.specs.Inquiry.{inquiry_data, inquiry_size}
+use Rattle.spec.specs.ModePage.{mode_data}
+use Rattle.spec.specs.declared.intent.Intent.TheVariants as intent
+use Rattle.spec.specs.Capacity.{capacity_16}
+use Rattle.spec.specs.Rules.{UnitState, checked, intention, moves, moves_after, sends, effect_of, moves_blocks, selected_by, selects}
+use Rattle.spec.specs.Rules.{write_after, write_of_command, some_write, write_by, IsOutcome}
 use Rattle.scsi_unit.specs.Laws.{IsSized, KeepsIntentions}
 use Rattle.scsi_unit.proofs.Checking.{intention_is, passed_by}
 use Rattle.scsi_unit.proofs.Writing.{written}
 use Rattle.scsi_unit.proofs.DataSizes.{sends_is, takes_is, sends_no_out, takes_no_in, sends_nothing, takes_nothing, length-fixed_sense}
 use Rattle.scsi_unit.proofs.DataSizes.{length-mode_data, length-capacity_10, length-capacity_16, length-inquiry_data, inquiry_most}
 use Rattle.scsi_unit.proofs.DataSizes.{take_none, inquiry_none, length-blocks_at}
+use Rattle.scsi_unit.proofs.Directions.{in_or_none, out_or_none}
 
 -- ---- command by command
 
@@ -200,11 +201,11 @@ of_out : (told : Result Command Sense) (n : ℕ) → moves_after told ≡ intent
 of_out (Ok command) n is = (command, refl, is)
 of_out (Err sense) n is = cc
 
-sends_no_fail : (bytes : ℕ) (sense : Sense) (nothing : Bool) → (if nothing then intent.None else intent.In bytes) ≡ intent.Fail sense → ⊥
+sends_no_fail : (bytes : ℕ) (sense : Sense) (nothing : Bool) → in_or_none bytes nothing ≡ intent.Fail sense → ⊥
 sends_no_fail bytes sense true is = cc
 sends_no_fail bytes sense false is = cc
 
-takes_no_fail : (bytes : ℕ) (sense : Sense) (nothing : Bool) → (if nothing then intent.None else intent.Out bytes) ≡ intent.Fail sense → ⊥
+takes_no_fail : (bytes : ℕ) (sense : Sense) (nothing : Bool) → out_or_none bytes nothing ≡ intent.Fail sense → ⊥
 takes_no_fail bytes sense true is = cc
 takes_no_fail bytes sense false is = cc
 

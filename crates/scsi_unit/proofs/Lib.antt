@@ -1,3 +1,4 @@
+pub mod Directions
 pub mod Checking
 pub mod Turning
 pub mod Performing

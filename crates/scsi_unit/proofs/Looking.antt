@@ -6,18 +6,17 @@ use Rattle.medium.specs.Medium.{State}
 use Rattle.medium.proofs.Looking.{no_looks, looks_joined, looks_wider}
 use Rattle.blocks.specs.Limit.{Shape}
 use Rattle.blocks.specs.Looks.{LooksAtLog, LooksAtBlocks, IsLogOrHome}
-use Rattle.blocks.specs.StoreValue.{Cached, layout_of}
-use Rattle.sense.specs.declared.codes.Sense.{Sense}
-use Rattle.cdb.specs.declared.command.Command.{Command}
-use Rattle.cdb.specs.declared.command.Command.TheVariants as command
-use Rattle.cdb.specs.declared.command.Transfer.{Transfer}
-use Rattle.scsi_unit.specs.declared.intent.Intent.TheVariants as intent
-use Rattle.scsi_unit.specs.Rules.{moves_blocks, moves_after, sends}
+use Rattle.blocks.specs.StoreValue.{Cached, layout_of, blocks_of, is_dead}
+use Rattle.spec.specs.Sense.{Sense}
+use Rattle.spec.specs.declared.command.Command.{Command}
+use Rattle.spec.specs.declared.command.Command.TheVariants as command
+use Rattle.spec.specs.declared.command.Transfer.{Transfer}
+use Rattle.spec.specs.declared.intent.Intent.TheVariants as intent
+use Rattle.spec.specs.Rules.{moves_blocks, moves_after, sends}
 use Rattle.scsi_unit.specs.Calls.{MakesAtMost}
 use Rattle.scsi_unit.specs.Reading.{IsLogOr, LooksToRead, first_home_of, home_sectors_of, some_read, read_of}
 use Rattle.scsi_unit.specs.Serving.{command_for}
 use Rattle.scsi_unit.specs.UnitValue.{UnitValue, unit_limit, intention_of}
-use Rattle.blocks.specs.StoreValue.{blocks_of, is_dead}
 use Rattle.scsi_unit.proofs.Checking.{intention_is}
 use Rattle.scsi_unit.proofs.DataSizes.{sends_nothing}
 

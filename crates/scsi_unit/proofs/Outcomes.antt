@@ -3,15 +3,15 @@ use Rattle.std.proofs.Common.{◌≡◌, ◌⊎◌, inl, inr, ⊎_elim, ℕ, Boo
 use Rattle.std.proofs.Common.{Err, refl, ap, sym, ◌∙◌, subst}
 use Rattle.std.specs.Prelude.{if◌then◌else◌, ◌&&◌}
 use Rattle.std.proofs.lemmas.Bool.{false≢true}
-use Rattle.medium.specs.Blocks.{Write}
-use Rattle.blocks.specs.Book.{Book, StampsOut}
-use Rattle.sense.specs.declared.codes.Sense.{Sense}
-use Rattle.cdb.specs.declared.command.Command.{Command}
-use Rattle.scsi_unit.specs.Rules.{UnitState, Effect, fails, effect_of, checked, write_after, write_of_command, with_progress, IsByTable}
-use Rattle.scsi_unit.specs.Rules.{IsOutcome, needs_medium, intention}
-use Rattle.sense.specs.Waiting.{after_failure}
+use Rattle.spec.specs.Blocks.{Write}
+use Rattle.spec.specs.Book.{Book, StampsOut}
+use Rattle.spec.specs.Sense.{Sense}
+use Rattle.spec.specs.declared.command.Command.{Command}
+use Rattle.spec.specs.Rules.{UnitState, Effect, fails, effect_of, checked, write_after, write_of_command, with_progress, IsByTable}
+use Rattle.spec.specs.Rules.{IsOutcome, needs_medium, intention}
+use Rattle.spec.specs.Waiting.{after_failure}
 use Rattle.scsi_unit.specs.Laws.{IsFunction, IsSameLife, KeepsLimit, KeepsWrites, StaysFaulted, TicksOnly, is_promising}
-use Rattle.scsi_unit.specs.declared.intent.Intent.TheVariants as intent
+use Rattle.spec.specs.declared.intent.Intent.TheVariants as intent
 use Rattle.scsi_unit.proofs.Checking.{passed_by, steady_by}
 use Rattle.scsi_unit.proofs.Turning.{died_or_not}
 use Rattle.scsi_unit.proofs.Effects.{Leaves, appended, leaves, refused_leaves, ok_or_err, uses_no_blocks}

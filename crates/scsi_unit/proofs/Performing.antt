@@ -6,30 +6,30 @@ use Rattle.std.specs.Prelude.{◌&&◌, ◌==◌, not, if◌then◌else◌, take
 use Rattle.std.proofs.lemmas.Bool.{false≢true, eqb-true}
 use Rattle.std.proofs.lemmas.Bool.Decides.{nat_tests}
 use Rattle.medium.specs.Medium.{State, IsSound}
-use Rattle.medium.specs.Blocks.{Array}
+use Rattle.spec.specs.Blocks.{Array, Write}
 use Rattle.medium.specs.Moments.{LeavesOnly}
-use Rattle.medium.specs.Blocks.{Write}
-use Rattle.blocks.specs.Book.{Book, array_of, blocks_at, promised}
+use Rattle.spec.specs.Book.{Book, array_of, blocks_at, promised}
 use Rattle.blocks.specs.Finding.{FoundWith}
 use Rattle.blocks.specs.StoreValue.{StoreValue, FitsBook, layout_of, blocks_of, transfer_limit, is_dead}
 use Rattle.blocks.specs.Turns.{IsTurn}
 use Rattle.blocks.proofs.Turning.{stays, turns}
-use Rattle.sense.specs.declared.codes.Sense.{Sense}
-use Rattle.sense.specs.Codes.{unrecovered_read_error, write_error}
-use Rattle.sense.specs.Fixed.{fixed_sense}
-use Rattle.sense.specs.Waiting.{after_failure, reported, after_report}
-use Rattle.scsi_unit.specs.declared.intent.Intent.TheVariants as intent
-use Rattle.cdb.specs.declared.command.Command.{Command}
-use Rattle.cdb.specs.declared.command.Command.TheVariants as command
-use Rattle.cdb.specs.declared.command.Transfer.{Transfer}
-use Rattle.cdb.specs.declared.command.BlockRange.{BlockRange}
-use Rattle.scsi_unit.specs.Rules.{UnitState, Effect, takes, gives, fails, made_durable, effect_of, moves_blocks, forces_reading}
-use Rattle.scsi_unit.specs.Rules.{write_of_command, write_after, wants_writing, with_progress, MayFault, IsByTable, IsOutcome}
-use Rattle.scsi_unit.specs.Capacity.{capacity_10}
+use Rattle.spec.specs.Sense.{Sense}
+use Rattle.spec.specs.SenseCodes.{unrecovered_read_error, write_error}
+use Rattle.spec.specs.FixedSense.{fixed_sense}
+use Rattle.spec.specs.Waiting.{after_failure, reported, after_report}
+use Rattle.spec.specs.declared.intent.Intent.TheVariants as intent
+use Rattle.spec.specs.declared.command.Command.{Command}
+use Rattle.spec.specs.declared.command.Command.TheVariants as command
+use Rattle.spec.specs.declared.command.Transfer.{Transfer}
+use Rattle.spec.specs.declared.command.BlockRange.{BlockRange}
+use Rattle.spec.specs.Rules.{UnitState, Effect, takes, gives, fails, made_durable, effect_of, moves_blocks, forces_reading}
+use Rattle.spec.specs.Rules.{write_of_command, write_after, wants_writing, with_progress, MayFault, IsByTable, IsOutcome}
+use Rattle.spec.specs.Capacity.{capacity_10}
 use Rattle.scsi_unit.specs.UnitValue.{UnitValue, unit_limit, state_of, answer_of}
 use Rattle.scsi_unit.specs.Serving.{has_refused}
 use Rattle.scsi_unit.specs.Performing.{settled, silent, Performs, Spares}
 use Rattle.scsi_unit.proofs.Turning.{may_fault, refused_so, limit_stays}
+use Rattle.scsi_unit.proofs.Directions.{out_or_none}
 
 -- a unit with this book, and faulted or not
 abbrev pub become : UnitState → Book → Bool → UnitState
@@ -331,7 +331,7 @@ reports_sense m sound old allocation taken bytes same =
     (Ok bytes) refl (λ book fits. inl (record { answered = ap Ok same; after = refl }))
 
 takes_at : (bytes : ℕ) (taken : List ℕ) (nothing : Bool) → (nothing ≡ true → bytes ≡ 0)
-    → ((n : ℕ) → (if nothing then intent.None else intent.Out bytes) ≡ intent.Out n → length taken ≡ n) → bytes ≤ length taken
+    → ((n : ℕ) → out_or_none bytes nothing ≡ intent.Out n → length taken ≡ n) → bytes ≤ length taken
 takes_at bytes taken true zero exact = omega (arith, zero refl)
 takes_at bytes taken false zero exact = omega (arith, exact bytes refl)
 

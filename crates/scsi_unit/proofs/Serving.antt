@@ -4,8 +4,8 @@ use Rattle.medium.specs.Medium.{State}
 use Rattle.medium.specs.Moments.{LeavesOnly}
 use Rattle.blocks.specs.Finding.{FoundWith}
 use Rattle.blocks.specs.StoreValue.{is_dead}
-use Rattle.sense.specs.declared.codes.Sense.{Sense}
-use Rattle.scsi_unit.specs.Rules.{command_by, write_after, IsOutcome}
+use Rattle.spec.specs.Sense.{Sense}
+use Rattle.spec.specs.Rules.{command_by, write_after, IsOutcome}
 use Rattle.scsi_unit.specs.UnitValue.{UnitValue, unit_limit, state_of}
 use Rattle.scsi_unit.specs.Serving.{has_refused, command_for, Serves, IsSparing}
 use Rattle.scsi_unit.specs.Performing.{settled, settled_kept, Performs, Spares}

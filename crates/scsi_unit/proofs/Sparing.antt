@@ -6,11 +6,11 @@ use Rattle.blocks.specs.Calls.{TurnsBatches}
 use Rattle.blocks.specs.Retiring.{both_calls}
 use Rattle.blocks.specs.StoreValue.{Cached, FitsBeside, TakesRange, active_of, transfer_limit}
 use Rattle.blocks.proofs.Steady.{steady_sync}
-use Rattle.sense.specs.declared.codes.Sense.{Sense}
-use Rattle.cdb.specs.declared.command.Command.TheVariants as command
-use Rattle.cdb.specs.declared.command.Transfer.{Transfer}
-use Rattle.cdb.specs.declared.command.BlockRange.{BlockRange}
-use Rattle.scsi_unit.specs.Rules.{moves_blocks}
+use Rattle.spec.specs.Sense.{Sense}
+use Rattle.spec.specs.declared.command.Command.TheVariants as command
+use Rattle.spec.specs.declared.command.Transfer.{Transfer}
+use Rattle.spec.specs.declared.command.BlockRange.{BlockRange}
+use Rattle.spec.specs.Rules.{moves_blocks}
 use Rattle.scsi_unit.specs.UnitValue.{UnitValue}
 use Rattle.scsi_unit.specs.Costs.{CostsFinishing, CostsWriting, SteadyIsCheap}
 use Rattle.scsi_unit.specs.Performing.{Spares}

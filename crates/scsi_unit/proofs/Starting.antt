@@ -3,7 +3,7 @@ use Rattle.std.proofs.Common.{◌≡◌, ℕ, false, Result, Ok, Err}
 use Rattle.std.specs.Prelude.{IfOk, IfErr, MatchResult}
 use Rattle.medium.specs.Medium.{State, IsSound}
 use Rattle.medium.specs.Moments.{EachCut, LeavesOnly}
-use Rattle.medium.specs.Blocks.{Array}
+use Rattle.spec.specs.Blocks.{Array}
 use Rattle.blocks.specs.Opening.{Shape, StartFault, IsOurs, IsOursForSome, IsOursWithNext, StandsForOneOf}
 use Rattle.blocks.specs.Started.{IsStarted, IsStartCause, IsOursSince, IsBounded, StartLeaves, LeavesMedium, StartsAhead, RefusesStart}
 use Rattle.blocks.specs.StoreValue.{StoreValue}

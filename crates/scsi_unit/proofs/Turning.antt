@@ -6,13 +6,12 @@ use Rattle.medium.specs.Sent.{SendsUpTo}
 use Rattle.blocks.specs.Limit.{Shape, limit_of}
 use Rattle.blocks.specs.Background.{IsBackgroundStep}
 use Rattle.blocks.specs.Looks.{LooksAtLog}
-use Rattle.blocks.specs.Book.{Book}
+use Rattle.spec.specs.Book.{Book}
 use Rattle.blocks.specs.StoreValue.{Cached, StoreValue, FitsBook, layout_of, blocks_of, transfer_limit, is_dead, active_of, steps_left}
 use Rattle.blocks.specs.Turns.{GoesOn, HasCause, IsTurn}
-use Rattle.scsi_unit.specs.Rules.{MayFault, Ticks, intention_by}
-use Rattle.sense.specs.declared.codes.Sense.{Sense}
-use Rattle.scsi_unit.specs.declared.intent.Intent.{Intent}
-use Rattle.scsi_unit.specs.declared.intent.Intent.TheVariants as intent
+use Rattle.spec.specs.Rules.{MayFault, Ticks, intention_by, Intention}
+use Rattle.spec.specs.Sense.{Sense}
+use Rattle.spec.specs.declared.intent.Intent.TheVariants as intent
 use Rattle.scsi_unit.specs.UnitValue.{UnitValue, unit_limit, state_of, intention_of}
 use Rattle.scsi_unit.specs.Serving.{has_refused, TicksOver}
 use Rattle.scsi_unit.proofs.Checking.{steady_by}
@@ -62,7 +61,7 @@ ticks_line before after old store book on fits =
     ]
 
 -- what a command comes to move it moved before the step
-steady_through : {M : Type 0} {before after : State} (moved : ℕ → Intent) → ((sense : Sense) (n : ℕ) → intent.Fail sense ≢ moved n)
+steady_through : {M : Type 0} {before after : State} (moved : ℕ → Intention) → ((sense : Sense) (n : ℕ) → intent.Fail sense ≢ moved n)
     → (old : UnitValue M) (store : StoreValue M) → GoesOn before after old.store.cached store.cached
     → (block : List ℕ) (n : ℕ) → intention_of (record old { store = store }) block ≡ moved n → intention_of old block ≡ moved n
 steady_through moved good old store on block n out =

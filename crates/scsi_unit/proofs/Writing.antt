@@ -6,21 +6,21 @@ use Rattle.std.proofs.lemmas.Bool.{false≢true}
 use Rattle.std.specs.Prelude.{◌&&◌, ◌||◌, ◌==◌, not, if◌then◌else◌, OnOk, MatchResult, is_ok}
 use Rattle.medium.specs.Medium.{State, IsSound}
 use Rattle.medium.specs.Moments.{LeavesOnly}
-use Rattle.medium.specs.Blocks.{Write}
+use Rattle.spec.specs.Blocks.{Write}
 use Rattle.medium.proofs.Moments.{weaker, joined_same}
-use Rattle.blocks.specs.Book.{Book, promised, with_write, StampsOut}
+use Rattle.spec.specs.Book.{Book, promised, with_write, StampsOut}
 use Rattle.blocks.specs.Finding.{MayFind, Found, FoundWith}
 use Rattle.blocks.specs.Calls.{TurnsBatches}
 use Rattle.blocks.specs.StoreValue.{Cached, StoreValue, FitsBook, TakesRange, is_dead, active_of, transfer_limit}
 use Rattle.blocks.specs.Turns.{HasCause, IsTurn, IsWriteTurn}
-use Rattle.sense.specs.declared.codes.Sense.{Sense}
-use Rattle.sense.specs.Codes.{write_error}
-use Rattle.sense.specs.Waiting.{after_failure}
-use Rattle.cdb.specs.declared.command.Command.TheVariants as command
-use Rattle.cdb.specs.declared.command.Transfer.{Transfer}
-use Rattle.cdb.specs.declared.command.BlockRange.{BlockRange}
-use Rattle.scsi_unit.specs.Rules.{UnitState, Effect, gives, clears, selected_by, made_durable, accepting, selects, moves_blocks, write_by}
-use Rattle.scsi_unit.specs.Rules.{some_write, wants_writing, with_progress, MayFault, IsByTable, IsOutcome}
+use Rattle.spec.specs.Sense.{Sense}
+use Rattle.spec.specs.SenseCodes.{write_error}
+use Rattle.spec.specs.Waiting.{after_failure}
+use Rattle.spec.specs.declared.command.Command.TheVariants as command
+use Rattle.spec.specs.declared.command.Transfer.{Transfer}
+use Rattle.spec.specs.declared.command.BlockRange.{BlockRange}
+use Rattle.spec.specs.Rules.{UnitState, Effect, gives, clears, selected_by, made_durable, accepting, selects, moves_blocks, write_by}
+use Rattle.spec.specs.Rules.{some_write, wants_writing, with_progress, MayFault, IsByTable, IsOutcome}
 use Rattle.scsi_unit.specs.UnitValue.{UnitValue, unit_limit, state_of}
 use Rattle.scsi_unit.specs.Serving.{has_refused, IsFinished, IsLoggedWrite}
 use Rattle.scsi_unit.specs.Performing.{settled, silent, Performs}

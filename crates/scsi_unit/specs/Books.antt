@@ -1,5 +1,3 @@
--- Books, handed on to the layers above, which know a disk over its lives by them and name no store:
--- what a book is, and what may be found of one after a cut.
-pub use Rattle.blocks.specs.Book.{Book, array_of, after_first, with_write, promised, opened}
-pub use Rattle.blocks.specs.Book.{StampsOut}
+-- What may be found of a book after a cut, handed on to the layers above, which know a disk over
+-- its lives by it and name no store.
 pub use Rattle.blocks.specs.Finding.{StandsAs, MayFind, FoundWith}

@@ -1,6 +1,6 @@
 -- How many calls of the medium a command makes at most: what its calls of the store add up to.
-use Rattle.std.specs.Prelude.{◌≡◌, ℕ, ◌+◌, ◌*◌, ◌≤◌, ◌||◌, not, Bool, List, Result, Ok, Err}
-use Rattle.std.specs.Prelude.{IfOk, Option, if◌then◌else◌}
+use Rattle.std.specs.Prelude.{◌≡◌, ℕ, ◌+◌, ◌*◌, ◌≤◌, ◌||◌, not, Bool, List, Result, Ok, Err, IfOk}
+use Rattle.std.specs.Prelude.{Option, if◌then◌else◌}
 use Rattle.medium.specs.Medium.{State}
 use Rattle.medium.specs.Sent.{SendsUpTo}
 use Rattle.blocks.specs.Sent.{LogFormat, most_sent}
@@ -8,16 +8,15 @@ use Rattle.blocks.specs.StoreValue.{Cached, layout_of, slots_of, batch_steps, st
 -- handed on to the layers above: for each block that no batch has, one call from home, and from
 -- the log one in format 1 and two in format 2
 pub use Rattle.blocks.specs.Calls.{reads_of, most_reads}
-use Rattle.sense.specs.declared.codes.Sense.{Sense}
-use Rattle.cdb.specs.declared.command.Command.{Command}
-use Rattle.cdb.specs.declared.command.Command.TheVariants as command
-use Rattle.cdb.specs.declared.command.Transfer.{Transfer}
-use Rattle.scsi_unit.specs.Rules.{moves_blocks, forces_reading, clears, selected_by}
+use Rattle.spec.specs.Sense.{Sense}
+use Rattle.spec.specs.declared.command.Command.{Command}
+use Rattle.spec.specs.declared.command.Command.TheVariants as command
+use Rattle.spec.specs.declared.command.Transfer.{Transfer}
+use Rattle.spec.specs.Rules.{moves_blocks, forces_reading, clears, selected_by, Intention}
 use Rattle.scsi_unit.specs.UnitValue.{UnitValue, unit_limit}
 use Rattle.scsi_unit.specs.Serving.{command_for}
 use Rattle.scsi_unit.specs.Reading.{read_of, LooksToRead}
-use Rattle.scsi_unit.specs.declared.intent.Intent.{Intent}
-use Rattle.scsi_unit.specs.declared.intent.Intent.TheVariants as intent
+use Rattle.spec.specs.declared.intent.Intent.TheVariants as intent
 
 -- making all accepted writes durable: two for each step that is left
 abbrev pub calls_of_sync : Cached → ℕ
@@ -101,6 +100,6 @@ pub record MakesFew {M : Type 0} (before after : State) (block taken : List ℕ)
   pub looks : LooksToRead before after old (read_of (command_for old block))
 
 -- How many bytes a command sends: as many as it is meant to, and no more than a transfer has.
-pub record SendsAsMeant (intention : Intent) (limit : ℕ) (result : Result ℕ Sense) : Type 0 where
+pub record SendsAsMeant (intention : Intention) (limit : ℕ) (result : Result ℕ Sense) : Type 0 where
   pub sent : (n : ℕ) → intention ≡ intent.In n → IfOk result (λ sent. sent ≡ n)
   pub most : IfOk result (λ sent. sent ≤ 512 * limit)

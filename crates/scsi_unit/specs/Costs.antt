@@ -6,11 +6,11 @@ use Rattle.medium.specs.Medium.{State}
 use Rattle.blocks.specs.Retiring.{both_calls}
 use Rattle.blocks.specs.StoreValue.{Cached, transfer_limit, active_of, FitsBeside, TakesRange}
 pub use Rattle.blocks.specs.Steady.{IsSteady, steady_calls}
-use Rattle.sense.specs.declared.codes.Sense.{Sense}
-use Rattle.cdb.specs.declared.command.Command.{Command}
-use Rattle.cdb.specs.declared.command.Command.TheVariants as command
-use Rattle.cdb.specs.declared.command.Transfer.{Transfer}
-use Rattle.scsi_unit.specs.Rules.{moves_blocks, wants_writing}
+use Rattle.spec.specs.Sense.{Sense}
+use Rattle.spec.specs.declared.command.Command.{Command}
+use Rattle.spec.specs.declared.command.Command.TheVariants as command
+use Rattle.spec.specs.declared.command.Transfer.{Transfer}
+use Rattle.spec.specs.Rules.{moves_blocks, wants_writing}
 
 -- where writes are made durable: the calls that make the one batch durable and then the other, and
 -- no other; else none

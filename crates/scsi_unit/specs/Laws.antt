@@ -1,20 +1,18 @@
 -- What follows from the rules of the logical unit, whatever its state.
-use Rattle.std.specs.Prelude.{◌≡◌, ◌≢◌, ◌⊎◌, ◌<◌, ◌≤◌, ◌*◌, ℕ, Bool, true, false, List, []}
-use Rattle.std.specs.Prelude.{◌∷◌, ◌++◌, length, ◌&&◌, ◌||◌, not}
-use Rattle.std.specs.Prelude.{if◌then◌else◌}
-use Rattle.std.specs.Prelude.{Option, Some, None, Result, Ok, Err, IfOk}
+use Rattle.std.specs.Prelude.{◌≡◌, ◌≢◌, ◌⊎◌, ◌<◌, ◌≤◌, ◌*◌, ℕ, Bool, true, false, List, [], ◌∷◌}
+use Rattle.std.specs.Prelude.{◌++◌, length, ◌&&◌, ◌||◌, not, if◌then◌else◌, Option, Some, None}
+use Rattle.std.specs.Prelude.{Result, Ok, Err, IfOk}
 use Rattle.medium.specs.Medium.{Image}
-use Rattle.medium.specs.Blocks.{Write, IsWrite}
-use Rattle.blocks.specs.Book.{Book, array_of, StampsOut}
+use Rattle.spec.specs.Blocks.{Write, IsWrite}
+use Rattle.spec.specs.Book.{Book, array_of, StampsOut}
 use Rattle.blocks.specs.Finding.{StandsAs, FoundWith}
 use Rattle.blocks.specs.Opening.{IsOursForSome, Stands, StandsForOpening}
-use Rattle.sense.specs.declared.codes.Sense.{Sense}
-use Rattle.cdb.specs.declared.command.Command.{Command}
-use Rattle.cdb.specs.declared.command.Command.TheVariants as command
-use Rattle.scsi_unit.specs.declared.intent.Intent.TheVariants as intent
-use Rattle.scsi_unit.specs.Rules.{UnitState, checked, intention, write_in_progress, with_progress}
-use Rattle.scsi_unit.specs.Rules.{forces_reading, moves_blocks, clears, selected_by}
-use Rattle.scsi_unit.specs.Rules.{CarriesOut, Ticks}
+use Rattle.spec.specs.Sense.{Sense}
+use Rattle.spec.specs.declared.command.Command.{Command}
+use Rattle.spec.specs.declared.command.Command.TheVariants as command
+use Rattle.spec.specs.declared.intent.Intent.TheVariants as intent
+use Rattle.spec.specs.Rules.{UnitState, checked, intention, write_in_progress, with_progress}
+use Rattle.spec.specs.Rules.{forces_reading, moves_blocks, clears, selected_by, CarriesOut, Ticks}
 use Rattle.blocks.specs.Limit.{HasLimit}
 
 -- no stamp is wanting for a command, with its write counted

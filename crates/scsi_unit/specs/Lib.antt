@@ -1,9 +1,6 @@
 pub mod Books
 pub mod Background
-pub mod Identification
 pub mod StartFaults
-pub mod Capacity
-pub mod Rules
 pub mod UnitValue
 pub mod Retiring
 pub mod Faulting

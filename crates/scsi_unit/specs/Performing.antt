@@ -3,14 +3,14 @@ use Rattle.std.specs.Prelude.{◌≡◌, ◌≤◌, ℕ, true, false, List, [], 
 use Rattle.std.specs.Prelude.{is_ok}
 use Rattle.medium.specs.Medium.{State}
 use Rattle.medium.specs.Moments.{LeavesOnly}
-use Rattle.blocks.specs.Book.{Book}
+use Rattle.spec.specs.Book.{Book}
 use Rattle.blocks.specs.Finding.{FoundWith}
 use Rattle.blocks.specs.StoreValue.{layout_of, blocks_of, is_dead, active_of, FitsBeside}
-use Rattle.sense.specs.declared.codes.Sense.{Sense}
-use Rattle.sense.specs.Waiting.{Waiting, after_failure}
-use Rattle.cdb.specs.declared.command.Command.{Command}
-use Rattle.cdb.specs.declared.command.Transfer.{Transfer}
-use Rattle.scsi_unit.specs.Rules.{UnitState, write_after, IsOutcome}
+use Rattle.spec.specs.Sense.{Sense}
+use Rattle.spec.specs.Waiting.{Waiting, after_failure}
+use Rattle.spec.specs.declared.command.Command.{Command}
+use Rattle.spec.specs.declared.command.Transfer.{Transfer}
+use Rattle.spec.specs.Rules.{UnitState, write_after, IsOutcome}
 use Rattle.scsi_unit.specs.Costs.{CostsAfter}
 use Rattle.scsi_unit.specs.UnitValue.{UnitValue, unit_limit, state_of, FitsUnit}
 use Rattle.scsi_unit.specs.Serving.{has_refused, wants_medium, plain_write, ActiveAfter, LogAfter}

@@ -1,12 +1,12 @@
 -- What carrying out a command does to a unit over its medium, and to each book that the unit fits.
 use Rattle.std.specs.Prelude.{◌≡◌, ◌⊎◌, ℕ, ◌<◌, ◌≤◌, ◌+◌, nat_lt, ◌&&◌, ◌||◌, not, Bool, true}
-use Rattle.std.specs.Prelude.{false}
-use Rattle.std.specs.Prelude.{List, [], Option, Some, None, Result, Ok, Err, is_ok, if◌then◌else◌}
+use Rattle.std.specs.Prelude.{false, List, [], Option, Some, None, Result, Ok, Err, is_ok}
+use Rattle.std.specs.Prelude.{if◌then◌else◌}
 use Rattle.medium.specs.Medium.{State}
 use Rattle.medium.specs.Moments.{LeavesOnly}
 use Rattle.medium.specs.Sent.{SendsUpTo}
 use Rattle.blocks.specs.Background.{IsBackgroundStep}
-use Rattle.blocks.specs.Book.{Book}
+use Rattle.spec.specs.Book.{Book}
 use Rattle.blocks.specs.Finding.{MayFind, FoundWith}
 use Rattle.blocks.specs.Calls.{TurnsBatches}
 use Rattle.blocks.specs.Looks.{LooksAtLog}
@@ -14,14 +14,13 @@ use Rattle.blocks.specs.Passing.{MayEmpty}
 use Rattle.blocks.specs.Retiring.{finished, IsLog}
 use Rattle.blocks.specs.StoreValue.{Cached, layout_of, blocks_of, is_dead, active_of, steps_left}
 use Rattle.blocks.specs.StoreValue.{transfer_limit, FitsBeside, TakesRange}
-use Rattle.sense.specs.declared.codes.Sense.{Sense}
-use Rattle.cdb.specs.declared.command.Command.{Command}
-use Rattle.cdb.specs.declared.command.Command.TheVariants as command
-use Rattle.cdb.specs.declared.command.Transfer.{Transfer}
-use Rattle.scsi_unit.specs.declared.intent.Intent.TheVariants as intent
-use Rattle.scsi_unit.specs.Rules.{command_by, moves_blocks, reads_blocks}
-use Rattle.scsi_unit.specs.Rules.{wants_writing, write_in_progress}
-use Rattle.scsi_unit.specs.Rules.{CarriesOut, Ticks}
+use Rattle.spec.specs.Sense.{Sense}
+use Rattle.spec.specs.declared.command.Command.{Command}
+use Rattle.spec.specs.declared.command.Command.TheVariants as command
+use Rattle.spec.specs.declared.command.Transfer.{Transfer}
+use Rattle.spec.specs.declared.intent.Intent.TheVariants as intent
+use Rattle.spec.specs.Rules.{command_by, moves_blocks, reads_blocks, wants_writing}
+use Rattle.spec.specs.Rules.{write_in_progress, CarriesOut, Ticks}
 use Rattle.scsi_unit.specs.Costs.{CostsAfter}
 use Rattle.scsi_unit.specs.UnitValue.{UnitValue, unit_limit, state_of, intention_of, FitsUnit}
 

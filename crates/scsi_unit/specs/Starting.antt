@@ -3,10 +3,10 @@
 use Rattle.std.specs.Prelude.{◌≡◌, ℕ}
 use Rattle.medium.specs.Medium.{State}
 use Rattle.medium.specs.Moments.{EachCut, LeavesOnly}
-use Rattle.blocks.specs.Book.{Book}
+use Rattle.spec.specs.Book.{Book}
 use Rattle.blocks.specs.StoreValue.{Cached, StoreValue}
-use Rattle.pages.specs.Identification.{Identification}
-use Rattle.scsi_unit.specs.Rules.{opened_unit}
+use Rattle.spec.specs.Identification.{Identification}
+use Rattle.spec.specs.Rules.{opened_unit}
 use Rattle.scsi_unit.specs.UnitValue.{UnitValue, unit_limit, state_of}
 use Rattle.scsi_unit.specs.Retiring.{goes_ahead_by, RetiresBy}
 use Rattle.scsi_unit.specs.declared.retiring.Retiring.{Retiring}
@@ -14,7 +14,8 @@ use Rattle.scsi_unit.specs.declared.retiring.Retiring.TheVariants.{Late}
 use Rattle.blocks.specs.Opening.{StartFault}
 -- the limit of a unit is that of the image that it starts on
 pub use Rattle.blocks.specs.Limit.{HasLimit}
-pub use Rattle.blocks.specs.Opening.{IsOursForSome, Stands, StandsForOpening, OpensOn, IsCauseFor}
+pub use Rattle.blocks.specs.Opening.{IsOursForSome, Stands, StandsForOpening, StandsForSome}
+pub use Rattle.blocks.specs.Opening.{OpensOn, IsCauseFor}
 pub use Rattle.blocks.specs.Started.{IsStarted, IsStartCause, StartLeaves}
 -- what it leaves of its medium, and which sectors its reads name
 pub use Rattle.blocks.specs.Started.{LeavesMedium}

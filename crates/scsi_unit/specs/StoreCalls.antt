@@ -3,7 +3,7 @@ use Rattle.std.specs.Prelude.{◌≡◌, ◌⊎◌, ℕ, ◌+◌, ◌*◌, ◌<�
 use Rattle.std.specs.Prelude.{Result, OnOk, IfErr, MatchResult, is_ok, if◌then◌else◌}
 use Rattle.medium.specs.Medium.{State}
 use Rattle.blocks.specs.Background.{IsBackgroundStep}
-use Rattle.blocks.specs.Book.{Book, array_of, blocks_at, promised, write_of}
+use Rattle.spec.specs.Book.{Book, array_of, blocks_at, promised, write_of}
 use Rattle.blocks.specs.Calls.{reads_of, TurnsBatches}
 use Rattle.blocks.specs.Looks.{LooksAtLog, LooksAtBlocks}
 use Rattle.medium.specs.Sent.{SendsUpTo}
@@ -12,9 +12,9 @@ use Rattle.blocks.specs.Sent.{batch_sends}
 use Rattle.blocks.specs.StoreValue.{Cached, StoreValue, transfer_limit, is_dead, active_of}
 use Rattle.blocks.specs.StoreValue.{batch_steps, steps_left, FitsBook, TakesRange}
 use Rattle.blocks.specs.Turns.{IsTurn, IsWriteTurn}
-use Rattle.sense.specs.declared.codes.Sense.{Sense}
-use Rattle.sense.specs.Codes.{unrecovered_read_error, write_error}
-use Rattle.cdb.specs.declared.command.Transfer.{Transfer}
+use Rattle.spec.specs.Sense.{Sense}
+use Rattle.spec.specs.SenseCodes.{unrecovered_read_error, write_error}
+use Rattle.spec.specs.declared.command.Transfer.{Transfer}
 use Rattle.scsi_unit.specs.Serving.{IsEmptied, IsFinished}
 use Rattle.scsi_unit.specs.Calls.{calls_of_sync}
 use Rattle.scsi_unit.specs.Costs.{CostsFinishing}

@@ -1,13 +1,12 @@
 -- A logical unit over its store.
 use Rattle.std.specs.Prelude.{ℕ, Bool, List, take, Result, Ok, Err}
 use Rattle.medium.specs.Medium.{State}
-use Rattle.sense.specs.Waiting.{Waiting}
-use Rattle.sense.specs.declared.codes.Sense.{Sense}
-use Rattle.pages.specs.Identification.{Identification}
-use Rattle.blocks.specs.Book.{Book}
+use Rattle.spec.specs.Waiting.{Waiting}
+use Rattle.spec.specs.Sense.{Sense}
+use Rattle.spec.specs.Identification.{Identification}
+use Rattle.spec.specs.Book.{Book}
 use Rattle.blocks.specs.StoreValue.{StoreValue, FitsBook, blocks_of, transfer_limit, is_dead}
-use Rattle.scsi_unit.specs.declared.intent.Intent.{Intent}
-use Rattle.scsi_unit.specs.Rules.{UnitState, intention_by}
+use Rattle.spec.specs.Rules.{Intention, UnitState, intention_by}
 
 -- what is seen of a unit over a medium
 pub record UnitValue (M : Type 0) : Type 0 where
@@ -36,7 +35,7 @@ abbrev pub FitsUnit : {M : Type 0} → State → UnitValue M → Book → Type 0
 FitsUnit m unit book = FitsBook m unit.store.cached book
 
 -- what a command block is about to move; that is the intention of the unit with any book that fits
-abbrev pub intention_of : {M : Type 0} → UnitValue M → List ℕ → Intent
+abbrev pub intention_of : {M : Type 0} → UnitValue M → List ℕ → Intention
 intention_of unit block =
     let cached = unit.store.cached in
     intention_by (blocks_of cached) (unit_limit unit) unit.kept.attention (is_dead cached) block

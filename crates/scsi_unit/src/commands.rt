@@ -1,15 +1,15 @@
 //! Commands, each by its own function.
-ghost use Rattle.std.specs.Prelude.{◌≡◌, ◌<◌, ◌≤◌, ◌+◌, ◌*◌, ◌&&◌, ℕ, List, false, [], length, take};
-ghost use Rattle.std.specs.Prelude.{min, unwrap_or, IfOk, Ok};
+ghost use Rattle.std.specs.Prelude.{◌≡◌, ◌<◌, ◌≤◌, ◌+◌, ◌*◌, ◌&&◌, ℕ, List, false, [], length};
+ghost use Rattle.std.specs.Prelude.{take, min, unwrap_or, IfOk, Ok};
 ghost use Rattle.blocks.specs.StoreValue.{blocks_of, is_dead};
-ghost use Rattle.sense.specs.Fixed.{fixed_sense};
-ghost use Rattle.sense.specs.Waiting.{reported, after_report};
+ghost use Rattle.spec.specs.FixedSense.{fixed_sense};
+ghost use Rattle.spec.specs.Waiting.{reported, after_report};
 ghost use Rattle.cdb.specs.Supported.{IsSupported, HasModePage};
-ghost use Rattle.pages.specs.Inquiry.{inquiry_data, inquiry_size};
-ghost use Rattle.pages.specs.Mode.{mode_data};
-ghost use Rattle.scsi_unit.specs.declared.intent.Intent.TheVariants as intent;
-ghost use Rattle.scsi_unit.specs.Capacity.{capacity_10, capacity_16};
-ghost use Rattle.scsi_unit.specs.Rules.{needs_medium, moves};
+ghost use Rattle.spec.specs.Inquiry.{inquiry_data, inquiry_size};
+ghost use Rattle.spec.specs.ModePage.{mode_data};
+ghost use Rattle.spec.specs.declared.intent.Intent.TheVariants as intent;
+ghost use Rattle.spec.specs.Capacity.{capacity_10, capacity_16};
+ghost use Rattle.spec.specs.Rules.{needs_medium, moves};
 ghost use Rattle.scsi_unit.specs.UnitValue.{unit_limit, intention_of, answer_of};
 ghost use Rattle.scsi_unit.specs.Serving.{command_for};
 ghost use Rattle.scsi_unit.specs.Reading.{read_of};
@@ -47,7 +47,7 @@ fn silent(done: Result<(), Sense>) -> Result<usize, Sense>
 }
 
 // The data of READ CAPACITY (10), for a medium of `n` blocks.
-#[tactic(auto, unfolding(crate::specs::Capacity::capacity_10))]
+#[tactic(auto, unfolding(spec::specs::Capacity::capacity_10))]
 fn capacity_10(n: u64) -> [u8; 8]
     requires { n ≤ 2147483648 }
     ensures { result ≡ capacity_10 n }
@@ -59,7 +59,7 @@ fn capacity_10(n: u64) -> [u8; 8]
 }
 
 // The data of READ CAPACITY (16), for a medium of `n` blocks.
-#[tactic(auto, unfolding(crate::specs::Capacity::capacity_16))]
+#[tactic(auto, unfolding(spec::specs::Capacity::capacity_16))]
 fn capacity_16(n: u64) -> [u8; 32]
     ensures { result ≡ capacity_16 n }
 {

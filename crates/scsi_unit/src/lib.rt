@@ -8,7 +8,6 @@
 mod checks;
 mod commands;
 mod fault;
-mod intent;
 mod laws;
 mod reading;
 mod retiring;
@@ -18,10 +17,12 @@ mod transfers;
 mod unit;
 
 pub use blocks::{StartError, StartFault};
-pub use intent::Intent;
 pub use laws::unit_laws;
 pub use pages::Identity;
 pub use reading::HomeSectors;
 pub use retiring::Retiring;
 pub use sense::Sense;
 pub use unit::Unit;
+
+/// What a command is about to move, or the sense with which it is refused.
+pub type Intent = spec::Intent<Sense>;

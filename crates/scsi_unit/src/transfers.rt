@@ -2,8 +2,8 @@
 ghost use Rattle.std.specs.Prelude.{◌≡◌, ◌≤◌, ◌+◌, ◌*◌, ℕ, false, List, length, None, Ok, IfOk};
 ghost use Rattle.blocks.specs.StoreValue.{blocks_of, is_dead};
 ghost use Rattle.cdb.specs.Supported.{IsWithin};
-ghost use Rattle.cdb.specs.declared.command.BlockRange.{BlockRange};
-ghost use Rattle.cdb.specs.declared.command.Command.TheVariants as command;
+ghost use Rattle.spec.specs.declared.command.BlockRange.{BlockRange};
+ghost use Rattle.spec.specs.declared.command.Command.TheVariants as command;
 ghost use Rattle.scsi_unit.specs.UnitValue.{unit_limit, answer_of};
 ghost use Rattle.scsi_unit.specs.Calls.{calls_of_sync, calls_of_read, calls_of_write, calls_of};
 ghost use Rattle.scsi_unit.specs.Calls.{MakesAtMost};

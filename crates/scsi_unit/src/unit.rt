@@ -1,15 +1,16 @@
 //! A unit over its store.
-ghost use Rattle.std.specs.Prelude.{◌≡◌, ◌<◌, ◌≤◌, ◌+◌, ◌*◌, ◌/◌, ℕ, List, None, false, true, length};
-ghost use Rattle.std.specs.Prelude.{◌↔◌, IfOk, IsTrue};
+ghost use Rattle.std.specs.Prelude.{◌≡◌, ◌<◌, ◌≤◌, ◌+◌, ◌*◌, ◌/◌, ℕ, List, None, false, true};
+ghost use Rattle.std.specs.Prelude.{length, ◌↔◌, IfOk, IsTrue};
 ghost use Rattle.inlet.specs.Inlet.{AreHeld};
 ghost use Rattle.medium.specs.Moments.{EachCut, IsUnchanged};
-ghost use Rattle.blocks.specs.Book.{Book};
+ghost use Rattle.spec.specs.Book.{Book};
 ghost use Rattle.blocks.specs.Finding.{MayFind};
 ghost use Rattle.blocks.specs.Settled.{IsSettled};
 ghost use Rattle.blocks.specs.StoreValue.{is_dead, steps_left, HasLimits, FitsBook};
-ghost use Rattle.scsi_unit.specs.Rules.{opened_unit, intention};
+ghost use Rattle.spec.specs.Rules.{opened_unit, intention};
 ghost use Rattle.scsi_unit.specs.UnitValue.{unit_limit, state_of, intention_of, answer_of};
 ghost use Rattle.scsi_unit.specs.UnitValue.{FitsUnit};
+ghost use Rattle.spec.specs.declared.intent.Intent.TheVariants as intent;
 ghost use Rattle.blocks.specs.Limit.{HasLimit};
 ghost use Rattle.scsi_unit.specs.Serving.{Serves, IsSparing, TicksOver};
 ghost use Rattle.scsi_unit.specs.Calls.{MakesFew, SendsAsMeant};
@@ -79,13 +80,13 @@ impl<M: Medium> Unit<M> {
 
     /// What a command block is about to move: 1 to 16 bytes, of which those past the command are
     /// ignored. At most `limit` blocks are moved.
-    #[tactic(auto, unfolding(crate::specs::Rules::intention_by))]
+    #[tactic(auto, unfolding(spec::specs::Rules::intention_by))]
     pub fn intend(&self, block: &[u8]) -> Intent
         requires { 0 < length block.now }
         ensures intention { result ≡ intention_of self.now block.now }
         ensures by_book { (book : Book) → FitsUnit (M.state self.now.store.medium) self.now book
             → result ≡ intention (state_of self.now book) block.now }
-        ensures most { (n : ℕ) → result ≡ Intent.Out n → (0 < n) × (n ≤ 512 * unit_limit self.now) }
+        ensures most { (n : ℕ) → result ≡ intent.Out n → (0 < n) × (n ≤ 512 * unit_limit self.now) }
     {
         match self.command(block) {
             Ok(command) => moves(&self.identity, &command),
@@ -103,7 +104,7 @@ impl<M: Medium> Unit<M> {
     /// The sense with which the command fails, which is kept for REQUEST SENSE.
     pub fn carry_out(&mut self, block: &[u8], taken: &[u8], out: &mut [u8]) -> Result<usize, Sense>
         requires some { 0 < length block.now }
-        requires taken { (n : ℕ) → intention_of self.old block.now ≡ Intent.Out n
+        requires taken { (n : ℕ) → intention_of self.old block.now ≡ intent.Out n
             → length taken.now ≡ n }
         requires room { length out.old ≡ 512 * unit_limit self.old }
         ensures serves { Serves (M.state self.old.store.medium) (M.state self.new.store.medium)
@@ -118,7 +119,7 @@ impl<M: Medium> Unit<M> {
         ensures follows { M.follows self.old.store.medium self.new.store.medium }
     {
         let answer = self.perform_block(block, taken, out);
-        settle(&mut self.kept, answer);
+        settle(&mut self.kept, &answer);
         answer
     }
 
@@ -244,11 +245,11 @@ impl<M: Inlet> Unit<M> {
 }
 
 // Keeps the sense of a command that failed, and drops that of an earlier one.
-fn settle(kept: &mut Kept, answer: Result<usize, Sense>)
-    ensures { (out : List ℕ) → kept.new ≡ settled_kept (answer_of answer out) kept.old }
+fn settle(kept: &mut Kept, answer: &Result<usize, Sense>)
+    ensures { (out : List ℕ) → kept.new ≡ settled_kept (answer_of answer.now out) kept.old }
 {
     match answer {
         Ok(_) => kept.begin(),
-        Err(sense) => kept.fail(sense),
+        Err(sense) => kept.fail(*sense),
     }
 }

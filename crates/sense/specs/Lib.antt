@@ -1,3 +1,1 @@
 pub mod Codes
-pub mod Fixed
-pub mod Waiting

@@ -1,16 +1,10 @@
 //! Sense keys and additional sense codes.
 ghost use Rattle.std.specs.Prelude.{◌≡◌, length, drop, slice_index};
-ghost use Rattle.sense.specs.Fixed.{fixed_sense};
+ghost use Rattle.spec.specs.Sense as value;
+ghost use Rattle.spec.specs.FixedSense.{fixed_sense};
 
-/// What kind of condition a sense reports (SPC-4 4.5.6).
-#[derive(Clone, Copy, Debug, PartialEq, Eq)]
-pub enum SenseKey {
-    NoSense = 0,
-    MediumError = 3,
-    HardwareError = 4,
-    IllegalRequest = 5,
-    UnitAttention = 6,
-}
+use spec::SenseKey;
+use std::marker::Model;
 
 /// Why a command failed: a sense key, an additional sense code and its qualifier (SPC-4 4.5.6).
 #[derive(Clone, Copy, Debug, PartialEq, Eq)]
@@ -20,6 +14,22 @@ pub struct Sense {
     pub code: u8,
     /// The additional sense code qualifier.
     pub qualifier: u8,
+}
+
+impl Model for Sense {
+    ghost Value = { value.Sense };
+
+    ghost view = { λ sense. record {
+      key = sense.key;
+      code = sense.code;
+      qualifier = sense.qualifier;
+    } };
+
+    ghost inverse = { λ sense. record {
+      key = sense.key;
+      code = sense.code;
+      qualifier = sense.qualifier;
+    } };
 }
 
 impl Sense {
@@ -101,7 +111,7 @@ impl Sense {
     };
 
     /// The sense as fixed-format sense data of a current error (SPC-4 4.5.3).
-    #[tactic(auto, unfolding(crate::specs::Fixed::fixed_sense))]
+    #[tactic(auto, unfolding(spec::specs::FixedSense::fixed_sense))]
     pub fn encode18(&self) -> [u8; 18]
         ensures bytes { result ≡ fixed_sense self.now }
         ensures counted { slice_index result 7 ≡ length (drop 8 result) }

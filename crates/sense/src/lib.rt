@@ -6,6 +6,7 @@ mod codes;
 mod laws;
 mod waiting;
 
-pub use codes::{Sense, SenseKey};
+pub use codes::Sense;
 pub use laws::sense_codes;
+pub use spec::SenseKey;
 pub use waiting::Kept;

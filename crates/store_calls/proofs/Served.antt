@@ -1,15 +1,15 @@
 -- What `usbdisk_room` tells is enough, and what is read is in sight.
 use Rattle.std.proofs.Common.{◌≡◌, ◌<◌, ◌≤◌, ◌+◌, ◌*◌, ℕ, true, length, inl, inr, sym, ◌∙◌, false, arith}
 use Rattle.std.proofs.Math.Nat.{le-max_left, le-max_right}
-use Rattle.std.proofs.lemmas.Bool.{cases_lt, false≢true}
+use Rattle.std.proofs.lemmas.Bool.{false≢true}
 use Rattle.log_layout.specs.Places.{first_home}
 use Rattle.log_layout.specs.declared.log_format.LogFormat.{LogFormat}
 use Rattle.log_layout.specs.declared.log_format.LogFormat.TheVariants.{One, Two}
 use Rattle.medium.specs.Medium.{LooksOnly}
 use Rattle.medium.specs.Sent.{sent, SendsUpTo}
 use Rattle.recovery.specs.Copies.{most_start_sends}
-use Rattle.window.specs.Window.{Window, state_of, kept_out, is_in_sight, ComesAfter, IsServed}
-use Rattle.window.specs.Looks.{near_in_sight, none_refused, none_missed}
+use Rattle.window.specs.Window.{Window, state_of, is_in_sight, ComesAfter, IsServed}
+use Rattle.window.specs.Looks.{near_in_sight, none_refused, none_missed, none_kept_out}
 use Rattle.blocks.specs.Looks.{IsLogOrHome, LooksAtLog, LooksAtBlocks}
 use Rattle.blocks.specs.Sent.{most_sent}
 use Rattle.blocks.specs.Started.{LeavesMedium}
@@ -40,20 +40,12 @@ fits_in : (waits before after most told room : ℕ) → after ≤ before + most 
     → waits + after ≤ before + room
 fits_in waits before after most told room calls less fits = omega (arith, calls, less, fits)
 
--- where what waits and all writes and flushes since have room together, none of them is refused
-kept_same : (old new : Window) → ComesAfter old new → length old.outbox + sent (state_of new) ≤ sent (state_of old) + old.room
-    → kept_out new.seen.told.refused ≡ kept_out old.seen.told.refused
-kept_same old new follows few = elim (cases_lt (kept_out old.seen.told.refused) (kept_out new.seen.told.refused)) [
-  | inl more ↦ absurd (omega (arith, few, follows.refuses more, follows.room_stays))
-  | inr none ↦ omega (arith, none, follows.failures_stay)
-]
-
--- nor any read, where each named a sector that was in sight
+-- what leaves no write, no flush and no read refused, where each named a sector that was in sight
 refuses_nothing : (P : ℕ → Type 0) (Room Sight : Type 0) (old new : Window) → ComesAfter old new → IsServed old new
     → (Room → length old.outbox + sent (state_of new) ≤ sent (state_of old) + old.room) → LooksOnly P (state_of old) (state_of new)
     → (Sight → (s : ℕ) → P s → is_in_sight old s ≡ true) → RefusesNothing Room Sight old new
 refuses_nothing P Room Sight old new follows served few named in_sight = record {
-  kept = λ room. kept_same old new follows (few room);
+  kept = λ room. none_kept_out old new follows (few room);
   seen = λ sight. none_missed P old new follows (in_sight sight) named;
   none = λ room sight. none_refused P old new served (in_sight sight) named (few room);
 }
@@ -126,7 +118,7 @@ module _ (first after : Window) (empty : length first.outbox ≡ 0) (leaves : Le
   pub start_refuses : IsServed first after → StartRefusesNothing first after
   start_refuses served =
       let near = first.near in record {
-        kept = λ room. kept_same first after leaves.follows (fits_start room);
+        kept = λ room. none_kept_out first after leaves.follows (fits_start room);
         seen = λ log. none_missed (λ s. s < near) first after leaves.follows (near_in_sight first) (leaves.looks near log);
         none = λ room log. none_refused (λ s. s < near) first after served (near_in_sight first) (leaves.looks near log)
             (fits_start room);

@@ -4,7 +4,7 @@ use Rattle.medium.specs.Moments.{IsUnchanged}
 use Rattle.medium.proofs.Moments.{unchanged, unchanged_through}
 use Rattle.window.specs.Window.{Window, state_of}
 use Rattle.window.specs.WindowLaws.{is_sound}
-use Rattle.blocks.specs.Book.{Book}
+use Rattle.spec.specs.Book.{Book}
 use Rattle.blocks.specs.Passing.{IsUntouched}
 use Rattle.blocks.specs.Stopping.{stopped, stopped_store}
 use Rattle.blocks.specs.StoreValue.{FitsBook}

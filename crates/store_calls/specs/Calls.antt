@@ -2,12 +2,13 @@
 use Rattle.std.specs.Prelude.{◌≡◌, ◌≢◌, ◌⊎◌, ◌↔◌, ℕ, ◌+◌, ◌*◌, ◌/◌, ◌%◌, ◌<◌, Bool, true, false}
 use Rattle.std.specs.Prelude.{not, List, length, Option, Some, None, Result, Ok, Err}
 use Rattle.inlet.specs.Inlet.{AreHeld}
-use Rattle.medium.specs.Blocks.{Write}
+use Rattle.spec.specs.Blocks.{Write}
 use Rattle.mirror.specs.Mirror.{first_of}
 use Rattle.log_layout.specs.Places.{first_home}
 use Rattle.window.specs.Window.{state_of, without_first, ComesAfter, IsShown}
 use Rattle.blocks.specs.Background.{IsBackgroundStep, CountsDown}
-use Rattle.blocks.specs.Book.{Book, IsTransfer, array_of, blocks_at, write_of, promised}
+use Rattle.spec.specs.Book.{Book, array_of, blocks_at, write_of, promised}
+use Rattle.blocks.specs.Book.{IsTransfer}
 use Rattle.blocks.specs.Passing.{KeepsStore, PassesOn, PassesPaid, IsUntouched}
 use Rattle.blocks.specs.Sent.{batch_sends}
 use Rattle.blocks.specs.Settled.{IsSettled}

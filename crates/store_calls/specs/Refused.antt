@@ -2,7 +2,7 @@
 use Rattle.std.specs.Prelude.{◌≡◌, Result, Ok, Err}
 use Rattle.medium.specs.Moments.{IsUnchanged}
 use Rattle.window.specs.Window.{state_of}
-use Rattle.blocks.specs.Book.{Book}
+use Rattle.spec.specs.Book.{Book}
 use Rattle.blocks.specs.Passing.{IsUntouched}
 use Rattle.blocks.specs.Stopping.{stopped_store}
 use Rattle.blocks.specs.StoreValue.{FitsBook}

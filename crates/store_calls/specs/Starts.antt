@@ -4,7 +4,7 @@ use Rattle.medium.specs.Sent.{sent}
 use Rattle.window.specs.Window.{Window, state_of, ComesAfter, CoversDevice, IsServed}
 use Rattle.recovery.specs.declared.start_fault.StartFault.{StartFault}
 use Rattle.recovery.specs.declared.start_fault.StartFault.TheVariants as start
-use Rattle.blocks.specs.Book.{Book}
+use Rattle.spec.specs.Book.{Book}
 use Rattle.blocks.specs.Opening.{OpensOn, IsCauseFor}
 use Rattle.blocks.specs.Ahead.{may_go_ahead}
 use Rattle.blocks.specs.Started.{IsStarted, IsStartCause, StartLeaves, LeavesMedium}

@@ -11,8 +11,8 @@ pub struct Opaque {
     byte: u8,
 }
 
-/// C's `struct usbdisk_store { void *at; }`, which C sets to null before the store starts, and never
-/// writes after.
+/// C's `struct usbdisk_store { void *at; }`, which C sets to null before the store starts, and
+/// never writes after.
 #[repr(C)]
 pub struct UsbDiskStore {
     pub(crate) at: *mut Opaque,

@@ -3,7 +3,8 @@ ghost use Rattle.std.specs.Prelude.{◌≡◌, ◌<◌, ◌≤◌, ◌+◌, ◌/
 ghost use Rattle.log_layout.specs.Places.{first_home};
 ghost use Rattle.blocks.specs.StoreValue.{layout_of, blocks_of};
 ghost use Rattle.store_calls.specs.Rooms.{AreInSight, AreMissing, Foresees};
-ghost use Rattle.store_calls.specs.Calls.{MayMove, MayNotMove, ReadsBlocks, IsRead, IsUnread, home_of};
+ghost use Rattle.store_calls.specs.Calls.{MayMove, MayNotMove, ReadsBlocks};
+ghost use Rattle.store_calls.specs.Calls.{IsRead, IsUnread, home_of};
 
 use crate::CallFault;
 use blocks::Store;

@@ -2,7 +2,7 @@
 use Rattle.std.proofs.Common.{◌≡◌, refl, sym, ◌∙◌, ap, subst}
 use Rattle.window.specs.Window.{Window, state_of}
 use Rattle.store_calls.specs.Outbox.{IsEmptied}
-use Rattle.scsi_unit.specs.Books.{Book}
+use Rattle.spec.specs.Book.{Book}
 use Rattle.bot_machine.specs.Disk.{FitsDisk, IsRearmed, over}
 use Rattle.bot_machine.specs.Faulting.{faulted_disk}
 use Rattle.usbdisk_c.specs.Plays.{Disk, medium_of}

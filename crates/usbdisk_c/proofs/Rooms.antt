@@ -4,7 +4,6 @@ use Rattle.std.proofs.Common.{length-append}
 use Rattle.std.specs.Prelude.{Option}
 use Rattle.std.proofs.lemmas.List.{append-nil}
 use Rattle.std.proofs.Math.Nat.{le-max_left, le-max_right}
-use Rattle.std.proofs.lemmas.Bool.{cases_lt}
 use Rattle.log_layout.specs.declared.log_format.LogFormat.{LogFormat}
 use Rattle.log_layout.specs.declared.log_format.LogFormat.TheVariants.{One, Two}
 use Rattle.log_layout.specs.Places.{Shape}
@@ -14,17 +13,17 @@ use Rattle.medium.specs.Sent.{sent}
 use Rattle.mirror.specs.Story.{given}
 use Rattle.mirror.specs.declared.call.DeviceCall.{DeviceCall}
 use Rattle.recovery.specs.Copies.{most_start_sends}
-use Rattle.window.specs.Window.{Window, fresh, state_of, kept_out, is_in_sight, ComesAfter, IsServed}
-use Rattle.window.specs.Looks.{near_in_sight, none_refused, none_missed}
+use Rattle.window.specs.Window.{Window, fresh, state_of, is_in_sight, ComesAfter, IsServed}
+use Rattle.window.specs.Looks.{near_in_sight, none_refused, none_missed, none_kept_out}
 use Rattle.scsi_unit.specs.Calls.{most_sends_of}
 use Rattle.scsi_unit.specs.Reading.{first_home_of}
 use Rattle.bot_machine.specs.Device.{Device}
 use Rattle.bot_machine.specs.Disk.{IsStep}
 use Rattle.bot_machine.specs.Opening.{IsOpened, StartLeaves, LeavesMedium}
 use Rattle.bot_machine.specs.Reading.{ReadsAt}
-use Rattle.bot_machine.specs.declared.event.Event.{Event}
-use Rattle.bot_machine.specs.declared.event.Event.TheVariants as event
-use Rattle.bot_machine.specs.declared.event.Answer.{Answer}
+use Rattle.spec.specs.declared.event.Event.{Event}
+use Rattle.spec.specs.declared.event.Event.TheVariants as event
+use Rattle.spec.specs.declared.event.Answer.{Answer}
 use Rattle.usbdisk_c.specs.Plays.{Disk, medium_of, layout_on, Foresees, Plays, PlaysPacket}
 use Rattle.usbdisk_c.specs.Refusals.{RefusesNothing, HasRoom, IsRoomy, HoldsLog, SeesHome, HasRoomToStart, HoldsImageLog}
 use Rattle.usbdisk_c.specs.Refusals.{StartRefusesNothing}
@@ -48,20 +47,12 @@ fits_in : (waits before after most told room : ℕ) → after ≤ before + most 
     → waits + after ≤ before + room
 fits_in waits before after most told room calls less fits = omega (arith, calls, less, fits)
 
--- where what waits and all writes and flushes since have room together, none of them is refused
-kept_same : (old new : Window) → ComesAfter old new → length old.outbox + sent (state_of new) ≤ sent (state_of old) + old.room
-    → kept_out new.seen.told.refused ≡ kept_out old.seen.told.refused
-kept_same old new follows few = elim (cases_lt (kept_out old.seen.told.refused) (kept_out new.seen.told.refused)) [
-  | inl more ↦ absurd (omega (arith, few, follows.refuses more, follows.room_stays))
-  | inr none ↦ omega (arith, none, follows.failures_stay)
-]
-
--- nor any read, where each named a sector that is in sight
+-- what leaves no write, no flush and no read refused, where each named a sector that is in sight
 refuses_nothing : (P : ℕ → Type 0) (Room Sight : Type 0) (old new : Window) → ComesAfter old new → IsServed old new
     → (Room → length old.outbox + sent (state_of new) ≤ sent (state_of old) + old.room) → LooksOnly P (state_of old) (state_of new)
     → (Sight → (s : ℕ) → P s → is_in_sight old s ≡ true) → RefusesNothing Room Sight old new
 refuses_nothing P Room Sight old new follows served few named in_sight = record {
-  kept = λ room. kept_same old new follows (few room);
+  kept = λ room. none_kept_out old new follows (few room);
   seen = λ sight. none_missed P old new follows (in_sight sight) named;
   none = λ room sight. none_refused P old new served (in_sight sight) named (few room);
 }
@@ -137,7 +128,7 @@ module _ (first after : Window) (empty : length first.outbox ≡ 0) (leaves : St
   pub start_refuses : LeavesMedium state_of ComesAfter first after → IsServed first after → StartRefusesNothing first after
   start_refuses medium served =
       let near = first.near in record {
-        kept = λ room. kept_same first after medium.follows (fits_start room);
+        kept = λ room. none_kept_out first after medium.follows (fits_start room);
         seen = λ log. none_missed (λ s. s < near) first after medium.follows (near_in_sight first) (medium.looks near log);
         none = λ room log. none_refused (λ s. s < near) first after served (near_in_sight first) (medium.looks near log)
             (fits_start room);

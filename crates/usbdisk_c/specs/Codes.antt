@@ -1,7 +1,7 @@
 -- The numbers that C sees.
 use Rattle.std.specs.Prelude.{ℕ, List, [], ◌∷◌, ◌≡◌}
-use Rattle.bot_machine.specs.declared.event.Answer.{Answer}
-use Rattle.bot_machine.specs.declared.event.Answer.TheVariants as answer
+use Rattle.spec.specs.declared.event.Answer.{Answer}
+use Rattle.spec.specs.declared.event.Answer.TheVariants as answer
 use Rattle.scsi_unit.specs.StartFaults.{StartFault}
 use Rattle.recovery.specs.declared.start_fault.StartFault.TheVariants as fault
 
@@ -76,7 +76,7 @@ LITTLE_ROOM = 25
 
 -- the version of the library, by two bytes for the first number and one for each other
 abbrev pub VERSION : ℕ
-VERSION = 0x000b00
+VERSION = 0x000c00
 
 -- (a clause that names VERSION itself would mean the constant of the source)
 abbrev pub TellsVersion : ℕ → Type 0

@@ -1,16 +1,15 @@
 -- What each export answers, and what it leaves in the handle.
-use Rattle.std.specs.Prelude.{◌≡◌, ◌≢◌, ◌⊎◌, ℕ, Bool, true, false}
-use Rattle.std.specs.Prelude.{List, Option, Some, None}
+use Rattle.std.specs.Prelude.{◌≡◌, ◌≢◌, ◌⊎◌, ℕ, Bool, true, false, List, Option, Some, None}
 use Rattle.medium.specs.Medium.{Image}
 use Rattle.mirror.specs.Mirror.{first_of}
 use Rattle.window.specs.Window.{Window}
 use Rattle.log_layout.specs.Places.{Shape, first_home}
 use Rattle.log_layout.specs.Sectors.{IsSuper}
 use Rattle.recovery.specs.Looks.{HoldsLog}
-use Rattle.scsi_unit.specs.Identification.{Identification, IsLegible}
+use Rattle.spec.specs.Identification.{Identification, IsLegible}
 use Rattle.bot_machine.specs.Device.{device_by, Ahead}
-use Rattle.bot_machine.specs.PacketBytes.{bytes_of}
-use Rattle.bot_machine.specs.declared.packet_size.PacketSize.{PacketSize}
+use Rattle.spec.specs.Packets.{bytes_of}
+use Rattle.spec.specs.declared.packet_size.PacketSize.{PacketSize}
 use Rattle.store_calls.specs.Rooms.{WantsMore}
 use Rattle.store_calls.specs.Starts.{IsNoLength}
 use Rattle.usbdisk_c.specs.Codes.{number_of, EMPTY, STARTED, BAD_IDENTITY, BAD_PACKET_SIZE}

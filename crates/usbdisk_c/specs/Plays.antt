@@ -1,25 +1,24 @@
 -- What each call does to a disk over a medium that reads on demand.
 use Rattle.std.specs.Prelude.{◌≡◌, ◌≢◌, ◌⊎◌, ◌↔◌, ℕ, ◌+◌, ◌/◌, ◌<◌, ◌≤◌, ◌++◌, Bool, true, false}
-use Rattle.std.specs.Prelude.{List}
-use Rattle.std.specs.Prelude.{length, drop}
+use Rattle.std.specs.Prelude.{List, length, drop}
 use Rattle.std.specs.List.{list_all}
 use Rattle.medium.specs.Sent.{sent}
 use Rattle.medium.specs.Moments.{IsUnchanged}
 use Rattle.inlet.specs.Inlet.{AreHeld}
-use Rattle.window.specs.Window.{Window, state_of, without_first, ComesAfter}
-use Rattle.window.specs.Window.{CoversDevice, IsServed, IsShown, is_in_sight}
+use Rattle.window.specs.Window.{Window, state_of, without_first, ComesAfter, CoversDevice, IsServed}
+use Rattle.window.specs.Window.{IsShown, is_in_sight}
 pub use Rattle.store_calls.specs.Outbox.{Shows}
 use Rattle.scsi_unit.specs.Background.{IsSettled, is_dead, steps_left}
-use Rattle.scsi_unit.specs.Books.{Book}
+use Rattle.spec.specs.Book.{Book}
 use Rattle.recovery.specs.declared.start_fault.StartFault.TheVariants as fault
 use Rattle.scsi_unit.specs.StartFaults.{StartFault, NoMemory}
 use Rattle.bot_machine.specs.Device.{Device}
 use Rattle.bot_machine.specs.Disk.{FitsDisk, IsStep, IsRearmed}
 use Rattle.bot_machine.specs.Opening.{IsOpened, IsNotOpened, StartLeaves}
-use Rattle.bot_machine.specs.declared.event.Event.{Event}
-use Rattle.bot_machine.specs.declared.event.Event.TheVariants as event
-use Rattle.bot_machine.specs.declared.event.Answer.{Answer}
-use Rattle.bot_machine.specs.declared.event.Answer.TheVariants as answer
+use Rattle.spec.specs.declared.event.Event.{Event}
+use Rattle.spec.specs.declared.event.Event.TheVariants as event
+use Rattle.spec.specs.declared.event.Answer.{Answer}
+use Rattle.spec.specs.declared.event.Answer.TheVariants as answer
 use Rattle.usbdisk_c.specs.Codes.{code_of, bytes_of, TOO_LONG, NEEDS}
 pub use Rattle.usbdisk_c.specs.Seen.{Disk, medium_of, layout_on}
 use Rattle.usbdisk_c.specs.Wanted.{Wants, WantsNone}

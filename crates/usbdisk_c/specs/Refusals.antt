@@ -7,8 +7,8 @@ use Rattle.log_layout.specs.declared.log_format.LogFormat.TheVariants.{Two}
 use Rattle.medium.specs.Medium.{State}
 use Rattle.recovery.specs.Looks as recovery
 use Rattle.window.specs.Window.{Window, state_of, kept_out}
-use Rattle.bot_machine.specs.declared.event.Event.{Event}
-use Rattle.bot_machine.specs.declared.event.Event.TheVariants as event
+use Rattle.spec.specs.declared.event.Event.{Event}
+use Rattle.spec.specs.declared.event.Event.TheVariants as event
 use Rattle.usbdisk_c.specs.Room.{room_of, room_for}
 use Rattle.usbdisk_c.specs.Seen.{Disk, medium_of, layout_on}
 use Rattle.usbdisk_c.specs.Wanted.{WantsNone}

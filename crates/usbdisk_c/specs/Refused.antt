@@ -2,7 +2,7 @@
 use Rattle.std.specs.Prelude.{◌≡◌, Option, Some, None, ℕ}
 use Rattle.window.specs.Window.{state_of}
 use Rattle.store_calls.specs.Outbox.{IsEmptied}
-use Rattle.scsi_unit.specs.Books.{Book}
+use Rattle.spec.specs.Book.{Book}
 use Rattle.bot_machine.specs.Disk.{FitsDisk, IsRearmed, over}
 use Rattle.bot_machine.specs.Faulting.{faulted_disk, faulted_over}
 use Rattle.usbdisk_c.specs.Codes.{EMPTY}

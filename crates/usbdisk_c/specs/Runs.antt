@@ -3,7 +3,7 @@ use Rattle.std.specs.Prelude.{◌≡◌, ◌⊎◌, ℕ, List, length, Option, S
 use Rattle.window.specs.Window.{state_of}
 use Rattle.mirror.specs.Mirror.{first_of}
 use Rattle.store_calls.specs.Outbox.{ShowsRun, IsNoRoom}
-use Rattle.scsi_unit.specs.Books.{Book}
+use Rattle.spec.specs.Book.{Book}
 use Rattle.bot_machine.specs.Disk.{FitsDisk, IsRearmed}
 use Rattle.usbdisk_c.specs.Codes.{BAD_LENGTH, EMPTY}
 use Rattle.usbdisk_c.specs.Plays.{Disk, medium_of}

@@ -1,9 +1,9 @@
 //! What C asks of a disk, and what it is told.
-ghost use Rattle.usbdisk_c.specs.Plays.{TakesPacket, SendsPacket, AnswersRequest};
-ghost use Rattle.usbdisk_c.specs.Plays.{MakesStep, Shows, LetsGo, Plays, Foresees, medium_of};
-ghost use Rattle.bot_machine.specs.declared.event.Answer.TheVariants as answer;
-ghost use Rattle.bot_machine.specs.declared.event.Event.TheVariants as event;
-ghost use Rattle.usbdisk_c.specs.Plays.{Sees, PlaysPacket, TakesUnread};
+ghost use Rattle.usbdisk_c.specs.Plays.{TakesPacket, SendsPacket, AnswersRequest, MakesStep, Shows};
+ghost use Rattle.usbdisk_c.specs.Plays.{LetsGo, Plays, Foresees, medium_of, Sees, PlaysPacket};
+ghost use Rattle.usbdisk_c.specs.Plays.{TakesUnread};
+ghost use Rattle.spec.specs.declared.event.Answer.TheVariants as answer;
+ghost use Rattle.spec.specs.declared.event.Event.TheVariants as event;
 ghost use Rattle.std.specs.Prelude.{◌≤◌, length};
 ghost use Rattle.mirror.specs.Mirror.{first_of};
 
@@ -60,6 +60,7 @@ pub(crate) fn take_unread(disk: &mut Disk<WindowMedium>, packet: &[u8]) -> u32
 }
 
 // Plays a packet that is no longer than those of the disk.
+#[inline]
 fn play_packet(disk: &mut Disk<WindowMedium>, packet: &[u8]) -> u32
     requires { length packet.now ≤ disk.old.line.packet_size }
     ensures { PlaysPacket disk.old packet.now disk.new result }

@@ -1,8 +1,8 @@
 //! How much room in the outbox, and how much memory, a disk on an image takes.
 ghost use Rattle.usbdisk_c.specs.Room.{TellsRoom, TellsMemory};
 
-/// How many writes and flushes an outbox must have room for, for an image of this format with so many
-/// slots.
+/// How many writes and flushes an outbox must have room for, for an image of this format with so
+/// many slots.
 pub(crate) fn room_for(version: u32, slots: u64) -> u64
     ensures { TellsRoom version slots result }
 {

@@ -1,10 +1,10 @@
 //! How a disk starts on the first sectors of a device.
 ghost use Rattle.std.specs.Prelude.{◌≡◌, ◌≢◌, IfOk, IfErr, MatchOption};
-ghost use Rattle.bot_machine.specs.PacketBytes.{bytes_of};
+ghost use Rattle.spec.specs.Packets.{bytes_of};
 ghost use Rattle.usbdisk_c.specs.Exports.{BeginsOn, IsRefusal, code_of_refusal, identity_of};
 ghost use Rattle.usbdisk_c.specs.Exports.{TellsNear};
 ghost use Rattle.window.specs.Window.{fresh};
-ghost use Rattle.scsi_unit.specs.Identification.{IsLegible};
+ghost use Rattle.spec.specs.Identification.{IsLegible};
 
 use crate::codes::{BAD_IDENTITY, BAD_LENGTH, BAD_PACKET_SIZE, LITTLE_ROOM, number_of};
 use bot_machine::{Disk, Identity, PacketSize, Retiring, StartFault};

@@ -21,7 +21,8 @@ pub(crate) fn unseen(disk: &Disk<WindowMedium>, packet: &[u8]) -> Option<(u64, u
     }
 }
 
-// Those of some home sectors that are neither in memory nor in sight: all from the first of them on.
+// Those of some home sectors that are neither in memory nor in sight: all from the first of them
+// on.
 fn missing(medium: &WindowMedium, home: &HomeSectors) -> Option<(u64, u32)>
     requires { (limit : ℕ) × (limit ≤ 240)
         × AreHome limit (state_of medium.now).size home.now.first home.now.count }

@@ -2,64 +2,60 @@
 ghost use Rattle.std.specs.Prelude.{◌≤◌};
 ghost use Rattle.log_layout.specs.Places.{limit_of};
 
-use crate::answer::{tell, tell_bytes, tell_run};
+use crate::answer::Answer;
 use crate::call::Call;
-use crate::stop::Stop;
 use log_image::{part, parts, read_copy, slot_place};
 use log_layout::{LogFormat, Super};
 use medium::{Medium, MediumFault, SimMedium};
-use recovery::{format, format2, migrate, recover};
+use recovery::{format, format2};
 
-/// Plays `format FORMAT BLOCKS SLOTS`, `recover`, `migrate` or `record FORMAT`.
-pub(crate) fn play(m: &mut SimMedium, call: Call, answer: &mut String) -> Result<(), Stop> {
-    match call.word(0) {
-        "format" => make(m, call, answer),
-        "recover" => tell(answer, recover(m)),
-        "migrate" => tell(answer, migrate(m)),
-        "record" if call.word(1) == "1" => record(m, LogFormat::One, answer),
-        "record" => record(m, LogFormat::Two, answer),
-        _ => Err(Stop::Word),
+/// What a word means as a format.
+pub(crate) const FORMATS: [(&str, LogFormat); 1] = [("1", LogFormat::One)];
+
+/// Plays `format FORMAT BLOCKS SLOTS`.
+pub(crate) fn make(m: &mut SimMedium, call: &Call, answer: &mut Answer) {
+    let (blocks, slots) = (call.number(2), call.number(3));
+    match call.verb(1, &FORMATS, LogFormat::Two) {
+        LogFormat::One => answer.tell(format(m, blocks, slots)),
+        LogFormat::Two => answer.tell(format2(m, blocks, slots)),
     }
 }
 
-fn make(m: &mut SimMedium, call: Call, answer: &mut String) -> Result<(), Stop> {
-    let (blocks, slots) = (call.number(2)?, call.number(3)?);
-    if call.word(1) == "1" {
-        return tell(answer, format(m, blocks, slots));
-    }
-    tell(answer, format2(m, blocks, slots))
+/// Plays `bytes OFFSET COUNT`.
+pub(crate) fn tell_bytes(m: &SimMedium, call: &Call, answer: &mut Answer) {
+    answer.tell_bytes(range_of(m.image(), call));
 }
 
-/// Plays `unflushed`, `flushes`, `off`, `bytes OFFSET COUNT` or `run OFFSET COUNT`.
-pub(crate) fn look(m: &SimMedium, call: Call, answer: &mut String) -> Result<(), Stop> {
-    match call.word(0) {
-        "unflushed" => tell(answer, m.unflushed()),
-        "flushes" => tell(answer, m.flushes()),
-        "off" => tell(answer, m.is_off()),
-        "bytes" => tell_bytes(answer, range_of(m.image(), call)?),
-        _ => tell_run(answer, range_of(m.image(), call)?),
-    }
+/// Plays `run OFFSET COUNT`.
+pub(crate) fn tell_run(m: &SimMedium, call: &Call, answer: &mut Answer) {
+    answer.tell_run(range_of(m.image(), call));
 }
 
-// The bytes from an offset on.
-fn range_of<'a>(image: &'a [u8], call: Call) -> Result<&'a [u8], Stop> {
-    let start = call.offset(1)?;
-    match image.get(start..start.saturating_add(call.size(2)?)) {
-        Some(bytes) => Ok(bytes),
-        None => Err(Stop::Word),
+// The bytes from an offset on, or none.
+fn range_of<'a>(image: &'a [u8], call: &Call) -> &'a [u8] {
+    let start = call.offset(1);
+    image
+        .get(start..start.saturating_add(call.size(2)))
+        .unwrap_or(&[])
+}
+
+/// Plays `record FORMAT`.
+pub(crate) fn record(m: &mut SimMedium, call: &Call, answer: &mut Answer) {
+    match call.verb(1, &FORMATS, LogFormat::Two) {
+        LogFormat::One => record_in(m, LogFormat::One, answer),
+        LogFormat::Two => record_in(m, LogFormat::Two, answer),
     }
 }
 
 // Writes block 2 as the record with stamp 3, and reads it back.
-fn record(m: &mut SimMedium, format: LogFormat, answer: &mut String) -> Result<(), Stop>
+fn record_in(m: &mut SimMedium, format: LogFormat, answer: &mut Answer)
     requires { 1 ≤ limit_of format }
 {
     let mut to = [0; 512];
-    let done = write_then_read(m, format, &mut to);
-    if done.is_err() {
-        return tell(answer, done);
+    match write_then_read(m, format, &mut to) {
+        Ok(()) => answer.tell_run(&to),
+        Err(fault) => answer.tell(Err::<(), _>(fault)),
     }
-    tell_run(answer, &to)
 }
 
 fn write_then_read<M: Medium>(

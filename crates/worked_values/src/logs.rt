@@ -1,9 +1,10 @@
 //! A redo log, on a medium that tells its calls.
+use crate::answer::Answer;
 use crate::call::Call;
+use crate::images::FORMATS;
 use crate::play::Player;
 use crate::recorder::Recorder;
 use crate::ring::Ring;
-use crate::stop::Stop;
 use log_layout::LogFormat;
 use medium::SimMedium;
 use std::alloc::Global;
@@ -16,11 +17,14 @@ pub(crate) struct Logs {
 }
 
 impl Player for Logs {
-    fn play(&mut self, call: Call, answer: &mut String) -> Result<(), Stop> {
+    fn play(&mut self, call: &Call, answer: &mut Answer) {
         if call.word(0) == "log" {
-            return self.make(call);
+            return self.make(call, answer);
         }
-        self.ring.as_mut().ok_or(Stop::Missing)?.play(call, answer)
+        match &mut self.ring {
+            Some(ring) => ring.play(call, answer),
+            None => answer.missing(),
+        }
     }
 }
 
@@ -31,26 +35,29 @@ impl Logs {
     }
 
     // `log FORMAT SLOTS STAMP SECTORS`: a log without records on a medium of zeros.
-    fn make(&mut self, call: Call) -> Result<(), Stop> {
-        let format = match call.word(1) {
-            "1" => LogFormat::One,
-            _ => LogFormat::Two,
-        };
-        let (slots, next, sectors) = (call.number(2)?, call.number(3)?, call.size(4)?);
-        let medium = self.zeros(sectors)?;
-        self.ring = Ring::new(self.alloc, format, slots, next, medium);
-        Ok(())
+    fn make(&mut self, call: &Call, answer: &mut Answer) {
+        match zeros(self.alloc, call.size(4)) {
+            Some(medium) => self.make_on(call, medium),
+            None => answer.no_memory(),
+        }
     }
 
-    // So many sectors of zeros.
-    fn zeros(&self, sectors: usize) -> Result<Recorder<SimMedium>, Stop> {
-        let image = vec![in self.alloc; 0; sectors.saturating_mul(512)]?;
-        match SimMedium::new(self.alloc, image, 64) {
-            Ok(medium) => Ok(Recorder {
-                medium,
-                calls: Vec::new(self.alloc),
-            }),
-            Err(_) => Err(Stop::Word),
-        }
+    fn make_on(&mut self, call: &Call, medium: Recorder<SimMedium>) {
+        let format = call.verb(1, &FORMATS, LogFormat::Two);
+        self.ring = Ring::new(self.alloc, format, call.number(2), call.number(3), medium);
+    }
+}
+
+// So many sectors of zeros.
+fn zeros(alloc: Global, sectors: usize) -> Option<Recorder<SimMedium>> {
+    let Ok(image) = vec![in alloc; 0; sectors.saturating_mul(512)] else {
+        return None;
+    };
+    match SimMedium::new(alloc, image, 64) {
+        Ok(medium) => Some(Recorder {
+            medium,
+            calls: Vec::new(alloc),
+        }),
+        Err(_) => None,
     }
 }

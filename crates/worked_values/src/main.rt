@@ -22,7 +22,6 @@ mod play;
 mod read_back;
 mod recorder;
 mod ring;
-mod stop;
 mod stores;
 mod stubborn;
 mod values;
@@ -34,7 +33,6 @@ use mirrors::Mirrors;
 use play::{Player, play_file};
 use std::fs;
 use std::process::ExitCode;
-use stop::Stop;
 use values::Values;
 use worked::Report;
 
@@ -50,9 +48,9 @@ fn main(rt: HostRuntime) -> ExitCode {
 }
 
 // Plays the file of this name.
-fn play_all<P: Player + Drop>(rt: HostRuntime, name: &str, mut player: P, report: &mut Report) {
+fn play_all<P: Player + Drop>(rt: HostRuntime, name: &str, player: P, report: &mut Report) {
     match fs::read_to_string(&rt, name) {
-        Ok(text) => play_file(rt.alloc(), text.as_str(), &mut player, report),
-        Err(_) => report.tell(name, Err(Stop::File)),
+        Ok(text) => play_file(rt.alloc(), text.as_str(), player, report),
+        Err(_) => report.tell(name, Err("a file failed")),
     }
 }

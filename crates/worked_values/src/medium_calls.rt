@@ -1,35 +1,50 @@
 //! Calls of any medium.
-use crate::answer::{tell, tell_run};
+use crate::answer::Answer;
 use crate::call::Call;
-use crate::stop::Stop;
 use medium::Medium;
 
+/// What a call asks of a medium.
+#[derive(Clone, Copy)]
+enum Verb {
+    Sectors,
+    Flush,
+    Read,
+    Write,
+    Unknown,
+}
+
+const VERBS: [(&str, Verb); 4] = [
+    ("sectors", Verb::Sectors),
+    ("flush", Verb::Flush),
+    ("read", Verb::Read),
+    ("write", Verb::Write),
+];
+
 /// Plays `sectors`, `flush`, `read SECTOR` or `write SECTOR BYTE`, whose sector is of that byte alone.
-pub(crate) fn play<M: Medium>(m: &mut M, call: Call, answer: &mut String) -> Result<(), Stop> {
-    match call.word(0) {
-        "sectors" => tell(answer, m.sectors()),
-        "flush" => tell(answer, m.flush()),
-        "read" => read(m, call.number(1)?, answer),
-        "write" => write(m, call.number(1)?, call.byte(2)?, answer),
-        _ => Err(Stop::Word),
+pub(crate) fn play<M: Medium>(m: &mut M, call: &Call, answer: &mut Answer) {
+    match call.verb(0, &VERBS, Verb::Unknown) {
+        Verb::Sectors => answer.tell(m.sectors()),
+        Verb::Flush => answer.tell(m.flush()),
+        Verb::Read => read(m, call.number(1), answer),
+        Verb::Write => write(m, call.number(1), call.byte(2), answer),
+        Verb::Unknown => answer.say("no call"),
     }
 }
 
-fn read<M: Medium>(m: &mut M, sector: u64, answer: &mut String) -> Result<(), Stop> {
-    if sector >= m.sectors() {
-        return Err(Stop::Word);
-    }
+fn read<M: Medium>(m: &mut M, sector: u64, answer: &mut Answer) {
     let mut block = [9; 512];
-    let answered = m.read(sector, &mut block);
-    if answered.is_err() {
-        return tell(answer, answered);
+    if sector >= m.sectors() {
+        return answer.say("no sector");
     }
-    tell_run(answer, &block)
+    match m.read(sector, &mut block) {
+        Ok(()) => answer.tell_run(&block),
+        Err(fault) => answer.tell(Err::<(), _>(fault)),
+    }
 }
 
-fn write<M: Medium>(m: &mut M, sector: u64, byte: u8, answer: &mut String) -> Result<(), Stop> {
+fn write<M: Medium>(m: &mut M, sector: u64, byte: u8, answer: &mut Answer) {
     if sector >= m.sectors() {
-        return Err(Stop::Word);
+        return answer.say("no sector");
     }
-    tell(answer, m.write(sector, &[byte; 512]))
+    answer.tell(m.write(sector, &[byte; 512]));
 }

@@ -1,9 +1,8 @@
 //! A medium with an outbox.
-use crate::answer::{space, tell, tell_run};
+use crate::answer::Answer;
 use crate::call::Call;
 use crate::medium_calls;
 use crate::play::Player;
-use crate::stop::Stop;
 use mirror::{DeviceCall, MirrorMedium};
 use std::alloc::Global;
 
@@ -14,16 +13,31 @@ pub(crate) struct Mirrors {
     mirror: Option<MirrorMedium>,
 }
 
+/// What a call asks for.
+#[derive(Clone, Copy)]
+enum Verb {
+    Make,
+    Waiting,
+    Take,
+    Bytes,
+    GiveBack,
+    OfMedium,
+}
+
+const VERBS: [(&str, Verb); 5] = [
+    ("mirror", Verb::Make),
+    ("waiting", Verb::Waiting),
+    ("take", Verb::Take),
+    ("bytes", Verb::Bytes),
+    ("content", Verb::GiveBack),
+];
+
 impl Player for Mirrors {
-    fn play(&mut self, call: Call, answer: &mut String) -> Result<(), Stop> {
-        match (call.word(0), &mut self.mirror) {
-            ("mirror", _) => self.make(call, answer),
-            ("content", _) => self.give_back(answer),
-            ("waiting", Some(m)) => tell(answer, m.waiting()),
-            ("take", Some(m)) => take(m, answer),
-            ("bytes", Some(m)) => tell_sectors(m.bytes(), answer),
-            (_, Some(m)) => medium_calls::play(m, call, answer),
-            (_, None) => Err(Stop::Missing),
+    fn play(&mut self, call: &Call, answer: &mut Answer) {
+        match call.verb(0, &VERBS, Verb::OfMedium) {
+            Verb::Make => self.make(call, answer),
+            Verb::GiveBack => self.give_back(answer),
+            verb => self.play_on_medium(verb, call, answer),
         }
     }
 }
@@ -38,43 +52,56 @@ impl Mirrors {
     }
 
     // `mirror SIZE ROOM`: so many bytes of zeros, with room for so many calls.
-    fn make(&mut self, call: Call, answer: &mut String) -> Result<(), Stop> {
-        let (size, room) = (call.size(1)?, call.size(2)?);
-        let image = vec![in self.alloc; 0; size]?;
-        match MirrorMedium::new(self.alloc, image, room) {
-            Ok(made) => {
-                self.mirror = Some(made);
-                Ok(())
-            }
-            Err(error) => tell(answer, error),
+    fn make(&mut self, call: &Call, answer: &mut Answer) {
+        let Ok(image) = vec![in self.alloc; 0; call.size(1)] else {
+            return answer.no_memory();
+        };
+        match MirrorMedium::new(self.alloc, image, call.size(2)) {
+            Ok(made) => self.mirror = Some(made),
+            Err(error) => answer.tell(error),
         }
     }
 
     // The sectors that come back at the end.
-    fn give_back(&mut self, answer: &mut String) -> Result<(), Stop> {
-        let mirror = self.mirror.take().ok_or(Stop::Missing)?;
-        tell_sectors(mirror.into_bytes().as_slice(), answer)
+    fn give_back(&mut self, answer: &mut Answer) {
+        match self.mirror.take() {
+            Some(mirror) => tell_sectors(mirror.into_bytes().as_slice(), answer),
+            None => answer.missing(),
+        }
+    }
+
+    fn play_on_medium(&mut self, verb: Verb, call: &Call, answer: &mut Answer) {
+        match &mut self.mirror {
+            Some(m) => play_on(m, verb, call, answer),
+            None => answer.missing(),
+        }
+    }
+}
+
+fn play_on(m: &mut MirrorMedium, verb: Verb, call: &Call, answer: &mut Answer) {
+    match verb {
+        Verb::Waiting => answer.tell(m.waiting()),
+        Verb::Take => take(m, answer),
+        Verb::Bytes => tell_sectors(m.bytes(), answer),
+        _ => medium_calls::play(m, call, answer),
     }
 }
 
 // The number of bytes, and each sector.
-fn tell_sectors(bytes: &[u8], answer: &mut String) -> Result<(), Stop> {
-    tell(answer, bytes.len())?;
+fn tell_sectors(bytes: &[u8], answer: &mut Answer) {
+    answer.tell(bytes.len());
     for sector in bytes.chunks(512) {
-        space(answer)?;
-        tell_run(answer, sector)?;
+        answer.tell_run(sector);
     }
-    Ok(())
 }
 
 // The next call out of the outbox.
-fn take(m: &mut MirrorMedium, answer: &mut String) -> Result<(), Stop> {
+fn take(m: &mut MirrorMedium, answer: &mut Answer) {
     match m.take() {
         Some(DeviceCall::Write(write)) => {
-            tell(answer, write.sector)?;
-            space(answer)?;
-            tell_run(answer, &write.block)
+            answer.tell(write.sector);
+            answer.tell_run(&write.block);
         }
-        other => tell(answer, other),
+        other => answer.tell(other),
     }
 }

@@ -1,6 +1,6 @@
 //! The numbers that faults have for a caller from outside.
-use crate::answer::tell;
-use crate::stop::Stop;
+use crate::answer::Answer;
+use crate::call::Call;
 use blocks::StoreFault;
 use log_layout::SuperFault;
 use medium::{FileError, MediumFault, SimError};
@@ -59,18 +59,19 @@ const WRAPPER: [u8; 3] = [
     CbwFault::NotMeaningful as u8,
 ];
 
-/// The numbers of the faults of a kind, as they are declared.
-pub(crate) fn play(kind: &str, answer: &mut String) -> Result<(), Stop> {
-    match kind {
-        "MediumFault" => tell(answer, MEDIUM),
-        "SimError" => tell(answer, SIM),
-        "FileError" => tell(answer, FILE),
-        "SuperFault" => tell(answer, SUPER),
-        "FormatFault" => tell(answer, FORMAT),
-        "StartFault" => tell(answer, START),
-        "LogFault" => tell(answer, LOG),
-        "StoreFault" => tell(answer, STORE),
-        "CbwFault" => tell(answer, WRAPPER),
-        _ => Err(Stop::Word),
-    }
+const KINDS: [(&str, &[u8]); 9] = [
+    ("MediumFault", &MEDIUM),
+    ("SimError", &SIM),
+    ("FileError", &FILE),
+    ("SuperFault", &SUPER),
+    ("FormatFault", &FORMAT),
+    ("StartFault", &START),
+    ("LogFault", &LOG),
+    ("StoreFault", &STORE),
+    ("CbwFault", &WRAPPER),
+];
+
+/// Plays `numbers KIND`: the numbers of the faults of a kind, as they are declared.
+pub(crate) fn play(call: &Call, answer: &mut Answer) {
+    answer.tell(call.verb(1, &KINDS, &[]));
 }

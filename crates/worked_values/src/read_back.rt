@@ -3,23 +3,32 @@
 ghost use Rattle.std.specs.Prelude.{◌≡◌, IsOkAnd, IsSomeAnd};
 ghost use Rattle.log_layout.specs.Values.{shape_of};
 
+use crate::layout::Kind;
 use log_layout::{Commit, Commit2, Descriptor, Descriptor2, Head, LogFormat, Super, SuperFault};
 
 /// Whether the greatest value of this kind is read back, or the descriptor of a sector.
-pub(crate) fn is_read_back(word: &str, sector: &[u8; 512]) -> bool {
-    match word {
-        "super" => read_back_super(&Super::new(LogFormat::Two, 1 << 31, 64)).is_ok(),
-        "head" => read_back_head(&Head::new((1 << 63) - 1)).is_some(),
-        "commit" => read_back_commit(&Commit::new((1 << 63) - 2, 48)).is_some(),
-        "commit-2" => read_back_commit2(&Commit2::new((1 << 63) - 2, 240)).is_some(),
-        "descriptor" => match Descriptor::decode(sector) {
-            Some(found) => read_back_descriptor(&found).is_some(),
-            None => false,
-        },
-        _ => match Descriptor2::decode(sector) {
-            Some(found) => read_back_descriptor2(&found).is_some(),
-            None => false,
-        },
+pub(crate) fn is_read_back(kind: Kind, sector: &[u8; 512]) -> bool {
+    match kind {
+        Kind::Super => read_back_super(&Super::new(LogFormat::Two, 1 << 31, 64)).is_ok(),
+        Kind::Head => read_back_head(&Head::new((1 << 63) - 1)).is_some(),
+        Kind::Commit => read_back_commit(&Commit::new((1 << 63) - 2, 48)).is_some(),
+        Kind::Commit2 => read_back_commit2(&Commit2::new((1 << 63) - 2, 240)).is_some(),
+        Kind::Descriptor => is_descriptor_read_back(sector),
+        Kind::Descriptor2 => is_descriptor2_read_back(sector),
+    }
+}
+
+fn is_descriptor_read_back(sector: &[u8; 512]) -> bool {
+    match Descriptor::decode(sector) {
+        Some(found) => read_back_descriptor(&found).is_some(),
+        None => false,
+    }
+}
+
+fn is_descriptor2_read_back(sector: &[u8; 512]) -> bool {
+    match Descriptor2::decode(sector) {
+        Some(found) => read_back_descriptor2(&found).is_some(),
+        None => false,
     }
 }
 

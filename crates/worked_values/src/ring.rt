@@ -4,11 +4,10 @@ ghost use Rattle.log_layout.specs.Places.{sectors_of};
 ghost use Rattle.log_layout.specs.Sectors.{IsRising};
 ghost use Rattle.medium.specs.Sim.{state_of};
 
-use crate::answer::{space, tell};
+use crate::answer::Answer;
 use crate::call::Call;
-use crate::images;
+use crate::media::look;
 use crate::recorder::{Called, Recorder};
-use crate::stop::Stop;
 use log_layout::{LogFormat, Super, are_rising};
 use medium::{Medium, SimMedium, Switch};
 use redo_log::{Log, LogFault, Progress};
@@ -22,6 +21,31 @@ pub(crate) struct Ring {
     ghost blocks: { log.shape.blocks ≡ 1000 },
     ghost fits: { sectors_of log.shape ≤ (state_of m.medium).size },
 }
+
+/// What a call asks of a log.
+#[derive(Clone, Copy)]
+enum Verb {
+    Room,
+    Dead,
+    Calls,
+    Count,
+    Fail,
+    Record,
+    Retire,
+    Copy,
+    Look,
+}
+
+const VERBS: [(&str, Verb); 8] = [
+    ("room", Verb::Room),
+    ("dead", Verb::Dead),
+    ("calls", Verb::Calls),
+    ("count", Verb::Count),
+    ("fail", Verb::Fail),
+    ("record", Verb::Record),
+    ("retire", Verb::Retire),
+    ("copy", Verb::Copy),
+];
 
 impl Ring {
     /// A log without records, where there are 1 to 64 slots, its stamp is one, and it fits.
@@ -47,69 +71,61 @@ impl Ring {
 
     /// Plays `room`, `dead`, `calls`, `count`, `fail CALL`, `record BYTE LAST BLOCK ..`,
     /// `retire STEPS`, `copy BLOCK`, or looks at the medium.
-    pub(crate) fn play(&mut self, call: Call, answer: &mut String) -> Result<(), Stop> {
-        match call.word(0) {
-            "room" => tell(answer, self.log.has_room()),
-            "dead" => tell(answer, self.log.is_dead()),
-            "calls" => tell_calls(&mut self.m.calls, answer),
-            "count" => tell_count(&mut self.m.calls, answer),
-            "fail" => self.fail(call.number(1)?),
-            "record" => self.record(call, answer),
-            "retire" => tell(answer, retire(&mut self.log, &mut self.m, call.number(1)?)),
-            "copy" => self.copy(call.number(1)?, answer),
-            _ => images::look(&self.m.medium, call, answer),
+    pub(crate) fn play(&mut self, call: &Call, answer: &mut Answer) {
+        match call.verb(0, &VERBS, Verb::Look) {
+            Verb::Room => answer.tell(self.log.has_room()),
+            Verb::Dead => answer.tell(self.log.is_dead()),
+            Verb::Calls => tell_calls(&mut self.m.calls, answer),
+            Verb::Count => tell_count(&mut self.m.calls, answer),
+            Verb::Fail => self.fail(call.number(1), answer),
+            Verb::Record => self.record(call, answer),
+            Verb::Retire => answer.tell(retire(&mut self.log, &mut self.m, call.number(1))),
+            Verb::Copy => self.copy(call.number(1), answer),
+            Verb::Look => look(&self.m.medium, call, answer),
         }
     }
 
     // The next call but so many is refused.
-    fn fail(&mut self, call: u64) -> Result<(), Stop> {
+    fn fail(&mut self, call: u64, answer: &mut Answer) {
         if call == 0 {
-            return Err(Stop::Word);
+            return answer.say("no call");
         }
         self.m.medium.fail(call);
-        Ok(())
     }
 
     // `record BYTE LAST BLOCK ..`: a record of these blocks, all of one byte but the first of the last
     // block. Tells whether there was room under way, and how it ended.
-    fn record(&mut self, call: Call, answer: &mut String) -> Result<(), Stop> {
-        let (byte, last) = (call.byte(1)?, call.byte(2)?);
+    fn record(&mut self, call: &Call, answer: &mut Answer) {
         let mut numbers = [0; 48];
-        let count = call.numbers_into(3, &mut numbers)?;
+        let count = call.numbers_into(3, &mut numbers);
         match numbers.get(..count) {
-            Some(numbers) => self.record_blocks(numbers, byte, last, answer),
-            None => Err(Stop::Word),
+            Some(numbers) => self.record_blocks(numbers, call, answer),
+            None => answer.say("too many blocks"),
         }
     }
 
-    fn record_blocks(
-        &mut self,
-        numbers: &[u64],
-        byte: u8,
-        last: u8,
-        answer: &mut String,
-    ) -> Result<(), Stop> {
-        let mut bytes = [byte; 48 * 512];
+    fn record_blocks(&mut self, numbers: &[u64], call: &Call, answer: &mut Answer) {
+        let mut bytes = [call.byte(1); 48 * 512];
         match bytes.get_mut(..numbers.len().saturating_mul(512)) {
             Some(bytes) => {
-                put_in_last(bytes, last);
-                log_record(&mut self.log, &mut self.m, numbers, bytes, answer)
+                put_in_last(bytes, call.byte(2));
+                log_record(&mut self.log, &mut self.m, numbers, bytes, answer);
             }
-            None => Err(Stop::Word),
+            None => answer.say("too many blocks"),
         }
     }
 
     // The slot and the place of the newest copy of a block, and its first byte.
-    fn copy(&mut self, block: u64, answer: &mut String) -> Result<(), Stop> {
+    fn copy(&mut self, block: u64, answer: &mut Answer) {
         if self.log.is_dead() {
-            return Err(Stop::Missing);
+            return answer.missing();
         }
         let Some((slot, place)) = self.log.find(block) else {
-            return tell(answer, None::<u8>);
+            return answer.tell(None::<u8>);
         };
         let mut bytes = [0; 512];
         let read = self.log.read_copy(&mut self.m, slot, place, &mut bytes);
-        tell(answer, (slot, place, bytes[0], read))
+        answer.tell((slot, place, bytes[0], read));
     }
 }
 
@@ -122,21 +138,18 @@ fn put_in_last(bytes: &mut [u8], byte: u8) {
 }
 
 // The number of calls so far, which are forgotten.
-fn tell_count(calls: &mut Vec<Called>, answer: &mut String) -> Result<(), Stop> {
-    let count = calls.len();
+fn tell_count(calls: &mut Vec<Called>, answer: &mut Answer) {
+    answer.tell(calls.len());
     calls.clear();
-    tell(answer, count)
 }
 
 // The number of calls so far, and the calls, which are forgotten.
-fn tell_calls(calls: &mut Vec<Called>, answer: &mut String) -> Result<(), Stop> {
-    tell(answer, calls.len())?;
+fn tell_calls(calls: &mut Vec<Called>, answer: &mut Answer) {
+    answer.tell(calls.len());
     for call in calls.iter() {
-        space(answer)?;
-        tell(answer, *call)?;
+        answer.tell(*call);
     }
     calls.clear();
-    Ok(())
 }
 
 // Begins a record, and makes all its steps.
@@ -145,22 +158,23 @@ fn log_record<M: Medium>(
     m: &mut M,
     numbers: &[u64],
     bytes: &[u8],
-    answer: &mut String,
-) -> Result<(), Stop>
+    answer: &mut Answer,
+)
     requires blocks { log.old.shape.blocks ≡ 1000 }
     requires fits { sectors_of log.old.shape ≤ (M.state m.old).size }
     ensures shape { log.new.shape ≡ log.old.shape }
     ensures size { (M.state m.new).size ≡ (M.state m.old).size }
 {
     if log.is_dead() || !log.has_room() || !is_batch(numbers, bytes) {
-        return Err(Stop::Word);
+        return answer.say("no record");
     }
-    let begun = log.begin(numbers, bytes);
-    if begun.is_err() {
-        return tell(answer, begun);
+    match log.begin(numbers, bytes) {
+        Ok(()) => {
+            let room = log.has_room();
+            answer.tell((room, write_out(log, m, numbers, bytes)));
+        }
+        Err(fault) => answer.tell(Err::<(), _>(fault)),
     }
-    let room = log.has_room();
-    tell(answer, (room, write_out(log, m, numbers, bytes)))
 }
 
 // Whether these are the rising numbers of 1 to 48 blocks of 1000, and their bytes.

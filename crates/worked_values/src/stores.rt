@@ -3,78 +3,93 @@ ghost use Rattle.std.specs.Prelude.{IsTrue};
 ghost use Rattle.blocks.specs.Book.{IsTransfer};
 ghost use Rattle.blocks.specs.StoreValue.{blocks_of, transfer_limit};
 
-use crate::answer::{tell, tell_bytes, tell_run};
+use crate::answer::Answer;
 use crate::call::Call;
-use crate::stop::Stop;
 use blocks::Store;
 use medium::SimMedium;
 
 /// The bytes of as many blocks as a call may have.
 const MOST: usize = 48 * 512;
 
+/// What a call asks of a store.
+#[derive(Clone, Copy)]
+enum Verb {
+    Write,
+    Each,
+    Read,
+    Sync,
+    Tick,
+    Dead,
+    Unknown,
+}
+
+const VERBS: [(&str, Verb); 6] = [
+    ("write", Verb::Write),
+    ("each", Verb::Each),
+    ("read", Verb::Read),
+    ("sync", Verb::Sync),
+    ("tick", Verb::Tick),
+    ("dead", Verb::Dead),
+];
+
 /// Plays `store write ADDRESS COUNT BYTE`, `store each ADDRESS COUNT BYTE`,
 /// `store read ADDRESS COUNT`, `store sync`, `store tick COUNT` or `store dead`.
-pub(crate) fn play(
-    store: &mut Store<SimMedium>,
-    call: Call,
-    answer: &mut String,
-) -> Result<(), Stop> {
-    match call.word(1) {
-        "write" => write(store, call, answer),
-        "read" => read(store, call, answer),
-        "each" => write_each(store, call, answer),
-        "sync" => tell(answer, store.sync()),
-        "dead" => tell(answer, store.is_dead()),
-        "tick" => tick(store, call.number(2)?),
-        _ => Err(Stop::Word),
+pub(crate) fn play(store: &mut Store<SimMedium>, call: &Call, answer: &mut Answer) {
+    match call.verb(1, &VERBS, Verb::Unknown) {
+        Verb::Write => write(store, call, answer),
+        Verb::Each => write_each(store, call, answer),
+        Verb::Read => read(store, call, answer),
+        Verb::Sync => answer.tell(store.sync()),
+        Verb::Tick => tick(store, call.number(2)),
+        Verb::Dead => answer.tell(store.is_dead()),
+        Verb::Unknown => answer.say("no call"),
     }
 }
 
 // Writes blocks of one byte alone.
-fn write(store: &mut Store<SimMedium>, call: Call, answer: &mut String) -> Result<(), Stop> {
-    let (address, size, byte) = (call.number(2)?, size_of(call)?, call.byte(4)?);
-    let bytes = [byte; MOST];
-    match bytes.get(..size) {
-        Some(bytes) => write_at(store, address, bytes, answer),
-        None => Err(Stop::Word),
+fn write(store: &mut Store<SimMedium>, call: &Call, answer: &mut Answer) {
+    let bytes = [call.byte(4); MOST];
+    match bytes.get(..size_of(call)) {
+        Some(bytes) => write_at(store, call.number(2), bytes, answer),
+        None => answer.say("too many blocks"),
     }
 }
 
-fn write_at(
-    store: &mut Store<SimMedium>,
-    address: u64,
-    bytes: &[u8],
-    answer: &mut String,
-) -> Result<(), Stop> {
+fn write_at(store: &mut Store<SimMedium>, address: u64, bytes: &[u8], answer: &mut Answer) {
     if !is_inside(store, address, bytes.len()) {
-        return Err(Stop::Word);
+        return answer.say("no blocks");
     }
-    tell(answer, store.write(address, bytes))
+    answer.tell(store.write(address, bytes));
 }
 
 // Reads blocks, and tells what they hold.
-fn read(store: &mut Store<SimMedium>, call: Call, answer: &mut String) -> Result<(), Stop> {
-    let (address, size) = (call.number(2)?, size_of(call)?);
+fn read(store: &mut Store<SimMedium>, call: &Call, answer: &mut Answer) {
     let mut bytes = [0xee; MOST];
-    if size > MOST || !is_inside(store, address, size) {
-        return Err(Stop::Word);
+    match bytes.get_mut(..size_of(call)) {
+        Some(bytes) => read_at(store, call.number(2), bytes, answer),
+        None => answer.say("too many blocks"),
     }
-    let answered = store.read(address, &mut bytes[..size]);
-    if answered.is_err() {
-        return tell(answer, answered);
+}
+
+fn read_at(store: &mut Store<SimMedium>, address: u64, bytes: &mut [u8], answer: &mut Answer) {
+    if !is_inside(store, address, bytes.len()) {
+        return answer.say("no blocks");
     }
-    tell_blocks(&bytes[..size], answer)
+    match store.read(address, bytes) {
+        Ok(()) => tell_blocks(bytes, answer),
+        Err(fault) => answer.tell(Err::<(), _>(fault)),
+    }
 }
 
 // Writes blocks of one byte, and makes each durable before the next.
-fn write_each(store: &mut Store<SimMedium>, call: Call, answer: &mut String) -> Result<(), Stop> {
-    let (first, count, byte) = (call.number(2)?, call.number(3)?, call.byte(4)?);
+fn write_each(store: &mut Store<SimMedium>, call: &Call, answer: &mut Answer) {
+    let (first, count, byte) = (call.number(2), call.number(3), call.byte(4));
     for address in first..first.saturating_add(count) {
         if !is_written_through(store, address, byte) {
-            return Err(Stop::Word);
+            return answer.say("a write failed");
         }
     }
-    tell(answer, count)
+    answer.tell(count);
 }
 
 // Whether a block is written and synced.
@@ -85,26 +100,24 @@ fn is_written_through(store: &mut Store<SimMedium>, address: u64, byte: u8) -> b
 }
 
 // The bytes of so many blocks.
-fn size_of(call: Call) -> Result<usize, Stop> {
-    Ok(call.size(3)?.saturating_mul(512))
+fn size_of(call: &Call) -> usize {
+    call.size(3).saturating_mul(512)
 }
 
 // A block, or the first byte of each of several.
-fn tell_blocks(bytes: &[u8], answer: &mut String) -> Result<(), Stop> {
+fn tell_blocks(bytes: &[u8], answer: &mut Answer) {
     if bytes.len() == 512 {
-        return tell_run(answer, bytes);
+        return answer.tell_run(bytes);
     }
     for block in bytes.chunks(512) {
-        tell_bytes(answer, block.get(..1).unwrap_or(&[]))?;
+        answer.push_byte(block.first().copied().unwrap_or(0));
     }
-    Ok(())
 }
 
-fn tick(store: &mut Store<SimMedium>, count: u64) -> Result<(), Stop> {
+fn tick(store: &mut Store<SimMedium>, count: u64) {
     for _ in 0..count {
         store.tick();
     }
-    Ok(())
 }
 
 // Whether so many bytes from an address on are whole blocks of a store, and no more than it takes at

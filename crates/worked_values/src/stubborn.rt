@@ -1,4 +1,6 @@
 //! A file in memory that refuses calls, and gives and takes few bytes at a time.
+ghost use Rattle.std.specs.Prelude.{◌≤◌, length};
+
 use medium::SectorFile;
 use std::alloc::{AllocError, Allocator};
 use std::cell::Cell;
@@ -88,32 +90,31 @@ impl FileExt for Stubborn {
         let mut held = self.held.get();
         held.reads = held.reads.saturating_add(1);
         self.held.set(held);
-        let start = offset as usize;
-        let count = held
-            .length
-            .saturating_sub(start)
-            .min(buf.len())
-            .min(AT_ONCE);
-        for (to, from) in buf
-            .iter_mut()
-            .zip(held.bytes.iter().skip(start))
-            .take(count)
-        {
-            *to = *from;
-        }
-        Ok(count)
+        let end = held.length.min(held.bytes.len());
+        let left = held.bytes.get(offset as usize..end).unwrap_or(&[]);
+        Ok(copy_some(left, buf))
     }
 
     fn write_at(&self, buf: &[u8], offset: u64) -> io::Result<usize> {
-        answer(self.refused == Refused::Writes)?;
-        let mut held = self.held.get();
-        let from = buf.iter().take(AT_ONCE);
-        for (to, from) in held.bytes.iter_mut().skip(offset as usize).zip(from) {
-            *to = *from;
+        if self.refused == Refused::Writes {
+            return Err(io::Error::from(io::ErrorKind::Other));
         }
+        let mut held = self.held.get();
+        let to = held.bytes.get_mut(offset as usize..).unwrap_or(&mut []);
+        let count = copy_some(buf, to);
         self.held.set(held);
-        Ok(buf.len().min(AT_ONCE))
+        Ok(count)
     }
+}
+
+// Copies as many bytes as there are and as there is room for, but at most 100, and tells how many.
+fn copy_some(from: &[u8], to: &mut [u8]) -> usize
+    ensures given { result ≤ length from.now }
+    ensures taken { result ≤ length to.new }
+{
+    let count = from.len().min(to.len()).min(AT_ONCE);
+    to[..count].copy_from_slice(&from[..count]);
+    count
 }
 
 impl SectorFile for Stubborn {

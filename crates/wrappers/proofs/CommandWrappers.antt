@@ -1,8 +1,9 @@
 -- A packet spells one command block wrapper, or has one fault.
 use Rattle.std.proofs.Common.{◌≡◌, ℕ, List, arith}
-use Rattle.wrappers.specs.declared.command.Cbw.{Cbw}
+use Rattle.spec.specs.declared.wrapper.Cbw.{Cbw}
 use Rattle.wrappers.specs.declared.command.CbwFault.{CbwFault}
-use Rattle.wrappers.specs.Command.{SpellsCommand, SpellsNone, HasFault}
+use Rattle.spec.specs.CommandWrapper.{SpellsCommand, SpellsNone}
+use Rattle.wrappers.specs.Command.{HasFault}
 use Rattle.wrappers.specs.Cases.{IsWellFormed}
 
 -- a packet spells one wrapper

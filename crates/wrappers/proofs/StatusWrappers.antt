@@ -1,7 +1,7 @@
 -- What callers use of a status wrapper without opening it.
 use Rattle.std.proofs.Common.{◌≡◌, ℕ, length, refl}
-use Rattle.wrappers.specs.declared.status.Status.{Status}
-use Rattle.wrappers.specs.Status.{status_wrapper}
+use Rattle.spec.specs.declared.status.Status.{Status}
+use Rattle.spec.specs.StatusWrapper.{status_wrapper}
 
 -- a status wrapper has 13 bytes
 pub length-status_wrapper : (tag residue : ℕ) (status : Status) →

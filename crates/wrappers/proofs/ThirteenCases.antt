@@ -1,9 +1,10 @@
 -- Each pair of ways has one case, and the rules fix one outcome.
 use Rattle.std.proofs.Common.{◌≡◌, arith}
-use Rattle.wrappers.specs.declared.way.Way.{Way}
-use Rattle.wrappers.specs.declared.case.Case.{Case}
-use Rattle.wrappers.specs.declared.case.Outcome.{Outcome}
-use Rattle.wrappers.specs.Cases.{IsCase, IsFit}
+use Rattle.spec.specs.declared.way.Way.{Way}
+use Rattle.spec.specs.declared.case.Case.{Case}
+use Rattle.spec.specs.declared.case.Outcome.{Outcome}
+use Rattle.spec.specs.Cases.{IsCase}
+use Rattle.wrappers.specs.Cases.{IsFit}
 
 -- host and device have one case
 pub one_case : (case other : Case) (host intention : Way) →

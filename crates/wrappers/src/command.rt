@@ -1,28 +1,12 @@
 //! Command block wrappers.
 ghost use Rattle.std.specs.Prelude.{◌≡◌, ◌↔◌, IsTrue, MatchResult, IfOk, OnErr, length};
-ghost use Rattle.wrappers.specs.Command.{
-  Announces,
-  IsMeaningful,
-  SpellsCommand,
-  SpellsNone,
-  HasFault,
-};
+ghost use Rattle.spec.specs.CommandWrapper.{Announces, IsMeaningful, SpellsCommand, SpellsNone};
+ghost use Rattle.wrappers.specs.Command.{HasFault};
 
-use crate::way::Way;
 use arrayvec::ArrayVec;
 use byteorder::{ByteOrder, LittleEndian};
+use spec::{Cbw, Way};
 use thiserror::Error;
-
-/// The fields of a command block wrapper (Bulk-Only Transport 1.0, 5.1).
-#[derive(Debug, Drop, PartialEq, Eq)]
-pub struct Cbw {
-    /// What the command status wrapper repeats.
-    pub tag: u32,
-    /// What the host announces: the transfer length and its direction.
-    pub host: Way,
-    /// The command descriptor block, of 1 to 16 bytes.
-    pub block: ArrayVec<u8, 16>,
-}
 
 /// Why a packet is no valid and meaningful command block wrapper (Bulk-Only Transport 1.0, 6.2).
 #[derive(Clone, Copy, Debug, PartialEq, Eq, Error)]

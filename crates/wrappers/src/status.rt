@@ -1,20 +1,12 @@
 //! Command status wrappers.
 ghost use Rattle.std.specs.Prelude.{◌≡◌};
-ghost use Rattle.wrappers.specs.Status.{status_wrapper};
+ghost use Rattle.spec.specs.StatusWrapper.{status_wrapper};
 
 use byteorder::{ByteOrder, LittleEndian};
-
-/// What a command status wrapper says of its command, with the byte that stands for it (Bulk-Only
-/// Transport 1.0, 5.2).
-#[derive(Clone, Copy, Debug, PartialEq, Eq)]
-pub enum Status {
-    Passed = 0,
-    Failed = 1,
-    PhaseError = 2,
-}
+use spec::Status;
 
 /// The command status wrapper of the command with this tag (Bulk-Only Transport 1.0, 5.2).
-#[tactic(auto, unfolding(crate::specs::Status::status_wrapper))]
+#[tactic(auto, unfolding(spec::specs::StatusWrapper::status_wrapper))]
 pub fn write_csw(tag: u32, residue: u32, status: Status) -> [u8; 13]
     ensures { result ≡ status_wrapper tag residue status }
 {

@@ -1,17 +1,9 @@
 //! The thirteen cases, and what comes of each.
 ghost use Rattle.std.specs.Prelude.{◌≡◌};
-ghost use Rattle.wrappers.specs.Cases.{
-  IsCase,
-  IsPossible,
-  IsWellFormed,
-  IsFit,
-  outcome_of,
-  intention_in,
-  size_of_way,
-};
+ghost use Rattle.spec.specs.Cases.{IsCase, outcome_of, size_of_way};
+ghost use Rattle.wrappers.specs.Cases.{IsPossible, IsWellFormed, IsFit, intention_in};
 
-use crate::case::{Case, Endpoint, Outcome};
-use crate::way::Way;
+use spec::{Case, Endpoint, Outcome, Way};
 use std::cmp::Ordering;
 
 /// The case of what the host announces and what the device intends (Bulk-Only Transport 1.0, 6.7).

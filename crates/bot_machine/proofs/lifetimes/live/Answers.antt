@@ -1,7 +1,7 @@
 use Rattle.std.proofs.Common.{map, length}
 use Rattle.std.proofs.lemmas.Result.{err_from_is_err_and}
 use Rattle.medium.specs.Writes.{keeps}
-use Rattle.bot_machine.specs.Lives.{plays, cuts}
+use Rattle.spec.specs.Lives.{plays, cuts}
 use Rattle.bot_machine.specs.Lifetimes.{armed_by}
 use Rattle.bot_machine.specs.LivesValue.{state_in}
 use Rattle.bot_machine.proofs.Playing.{whole_life, no_life}

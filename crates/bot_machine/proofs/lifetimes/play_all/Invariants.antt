@@ -1,5 +1,5 @@
 use Rattle.std.proofs.Common.{map, take}
-use Rattle.bot_machine.specs.Lives.{plays}
+use Rattle.spec.specs.Lives.{plays}
 use Rattle.bot_machine.specs.LivesValue.{HasStarted}
 use Rattle.bot_machine.specs.Lifetimes.{AppendsFor}
 use Rattle.bot_machine.proofs.lifetimes.play_all.Given as goal

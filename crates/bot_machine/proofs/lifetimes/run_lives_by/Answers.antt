@@ -2,15 +2,16 @@ use Rattle.std.proofs.Common.{◌≡◌, ◌+◌, ℕ, List, [], take, drop, suc
 use Rattle.std.proofs.lemmas.List.{take_all}
 use Rattle.bot_machine.specs.declared.stage.Stage.TheVariants.{Rests}
 use Rattle.bot_machine.specs.Answers.{Room}
-use Rattle.bot_machine.specs.Lives.{Action}
+use Rattle.spec.specs.Lives.{Action}
 use Rattle.bot_machine.specs.Device.{Device, device_by}
 use Rattle.bot_machine.specs.declared.life.Life.{Life}
-use Rattle.bot_machine.specs.PacketBytes.{bytes_of}
+use Rattle.spec.specs.Packets.{bytes_of}
 use Rattle.bot_machine.specs.Fitting.{AreWithin}
 use Rattle.bot_machine.specs.LivesValue.{LivesValue}
 use Rattle.bot_machine.specs.Lifetimes.{actions_of, actions_of_all, events_in, AppendsFor}
 use Rattle.bot_machine.proofs.Playing.{appends_on}
 use Rattle.bot_machine.proofs.Lasting.{none_yet, actions_more, events_more, room_left, apart, all_lived, lived_up_to}
+use Rattle.bot_machine.proofs.KeptPromise.{promise_kept, promise_kept_up_to}
 use Rattle.bot_machine.proofs.lifetimes.run_lives_by.Goals as goal
 
 pub loop-life-init : goal.loop-life-init
@@ -41,8 +42,8 @@ live-requires-clause-room c =
     let room = c.requires.room in
     omega (arith, lists, rooms, told, left, room, length-append c.args.answers.now.list appends.told)
 
-pub returns-in-Err-clause-err : goal.returns-in-Err-clause-err
-returns-in-Err-clause-err c =
+pub returns-in-Err-clause-moves_until : goal.returns-in-Err-clause-moves_until
+returns-in-Err-clause-moves_until c =
     let first : LivesValue = record { device = device_by c.args.identity c.args.size c.args.retiring; stage = Rests c.args.medium } in
     let lives = c.args.lives.now in
     let i = c.loop-life.life-index in
@@ -78,8 +79,8 @@ loop-life-preserved c =
       ended = c.in_default.ensures.ended;
     }
 
-pub returns-clause-ok : goal.returns-clause-ok
-returns-clause-ok c =
+pub returns-clause-moves : goal.returns-clause-moves
+returns-clause-moves c =
     let first : LivesValue = record { device = device_by c.args.identity c.args.size c.args.retiring; stage = Rests c.args.medium } in
     let lives = c.args.lives.now in
     let i = c.loop-life.life-index in
@@ -91,4 +92,22 @@ returns-clause-ok c =
       rw c.into_medium-2.ensures
           (all_lived c.args.medium (device_by c.args.identity c.args.size c.args.retiring) c.requires.rests c.requires.unfused
           c.loop-life.run run.told lives run.goes_on run.one_each ended.rests ended.unfused ended.alone),
+    )
+
+pub returns-clause-promise : goal.returns-clause-promise
+returns-clause-promise c =
+    let moves = returns-clause-moves c in (
+      moves.0,
+      moves.1,
+      promise_kept c.args.medium (device_by c.args.identity c.args.size c.args.retiring) c.args.lives.now moves.0
+          c.into_medium-2.result moves.2,
+    )
+
+pub returns-in-Err-clause-promise_until : goal.returns-in-Err-clause-promise_until
+returns-in-Err-clause-promise_until c =
+    let moves = returns-in-Err-clause-moves_until c in (
+      moves.0,
+      moves.1,
+      promise_kept_up_to c.args.medium (device_by c.args.identity c.args.size c.args.retiring) c.args.lives.now moves.0
+          c.in-Err.fault c.into_medium.result moves.2,
     )

@@ -1,5 +1,5 @@
 use Rattle.std.proofs.Common.{MatchOption, subst}
-use Rattle.wrappers.specs.Command.{SpellsNone}
+use Rattle.spec.specs.CommandWrapper.{SpellsNone}
 use Rattle.bot_machine.specs.Serving.{IsBegun}
 use Rattle.bot_machine.proofs.ReadAtOnce.{nothing_spelled}
 use Rattle.bot_machine.proofs.reading.wrapper_reads.Goals as goal

@@ -1,6 +1,6 @@
 use Rattle.std.proofs.Common.{rules, ◌≡◌}
-use Rattle.bot_machine.specs.declared.event.Answer.TheVariants.{Data}
-use Rattle.bot_machine.specs.Exchange.{in_answer}
+use Rattle.spec.specs.declared.event.Answer.TheVariants.{Data}
+use Rattle.spec.specs.Exchange.{in_answer}
 use Rattle.bot_machine.proofs.Stepping.{token, asked}
 use Rattle.bot_machine.proofs.run.answer_to.Goals as goal
 

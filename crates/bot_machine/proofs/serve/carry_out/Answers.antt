@@ -1,7 +1,7 @@
 use Rattle.std.proofs.Common.{take, arith, length-take}
 use Rattle.std.specs.Prelude.{Ok, Err}
 use Rattle.bot_machine.proofs.UnitLaws.{ours_stay}
-use Rattle.bot_machine.specs.Exchange.{finished}
+use Rattle.spec.specs.Exchange.{finished}
 use Rattle.bot_machine.specs.Refinement.{line_with}
 use Rattle.bot_machine.proofs.Sending.{sent_in-size}
 use Rattle.bot_machine.proofs.Telling.{tells}

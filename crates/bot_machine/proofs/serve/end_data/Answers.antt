@@ -4,7 +4,7 @@ use Rattle.bot_machine.specs.Refinement.{IsTaking}
 use Rattle.bot_machine.proofs.ReadAtOnce.{log_alone}
 use Rattle.std.proofs.lemmas.Bool.{cases_lt}
 use Rattle.bot_machine.specs.declared.wire.Taking.{Taking}
-use Rattle.bot_machine.specs.PacketBytes.{bytes_of}
+use Rattle.spec.specs.Packets.{bytes_of}
 use Rattle.bot_machine.proofs.Filling.{last_packet, other_packet}
 use Rattle.bot_machine.proofs.Packets.{packets_of-none}
 use Rattle.bot_machine.proofs.Sizes.{some_bytes}

@@ -2,13 +2,13 @@ use Rattle.std.proofs.Common.{◌≡◌, ◌∙◌, inl, inr, [], refl, sym, ari
 use Rattle.scsi_unit.specs.Reading.{IsOneOf}
 use Rattle.bot_machine.specs.Reading.{sectors_for, WrapperReadsAt}
 use Rattle.bot_machine.proofs.ReadAtOnce.{besides, at_home}
-use Rattle.bot_machine.specs.PacketBytes.{bytes_of}
+use Rattle.spec.specs.Packets.{bytes_of}
 use Rattle.bot_machine.proofs.Packets.{packets_of-none}
 use Rattle.bot_machine.proofs.Sizes.{some_bytes}
 use Rattle.bot_machine.proofs.Proceeding.{staying, proceeding_so}
 use Rattle.bot_machine.proofs.Passing.{unit_stays}
 use Rattle.bot_machine.proofs.Opening.{opens, no_write, carries_out, carried_at_once}
-use Rattle.bot_machine.specs.Exchange.{finished, at_once, after_data, never}
+use Rattle.spec.specs.Exchange.{finished, at_once, after_data, never}
 use Rattle.bot_machine.specs.Refinement.{left_of}
 use Rattle.bot_machine.proofs.serve.open.Goals as goal
 

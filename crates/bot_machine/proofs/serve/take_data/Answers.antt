@@ -1,11 +1,11 @@
 use Rattle.std.proofs.Common.{ℕ, ◌≡◌, ◌<◌, ◌-◌, ◌++◌, inl, length, take, refl, sym, arith, ap, ◌∙◌}
-use Rattle.wrappers.specs.Cases.{size_of_way}
+use Rattle.spec.specs.Cases.{size_of_way}
 use Rattle.bot_machine.specs.declared.wire.Taking.{Taking}
 use Rattle.bot_machine.specs.declared.wire.Phase.{Phase}
 use Rattle.bot_machine.specs.declared.wire.Phase.TheVariants.{DataOut}
-use Rattle.bot_machine.specs.Exchange.{taking}
+use Rattle.spec.specs.Exchange.{taking}
 use Rattle.bot_machine.specs.Refinement.{line_with}
-use Rattle.bot_machine.specs.PacketBytes.{bytes_of}
+use Rattle.spec.specs.Packets.{bytes_of}
 use Rattle.bot_machine.proofs.Filling.{other_packet}
 use Rattle.bot_machine.proofs.Proceeding.{staying_so}
 use Rattle.bot_machine.proofs.Taking.{one_taking}

@@ -1,7 +1,7 @@
 use Rattle.std.proofs.Common.{arith}
 use Rattle.std.proofs.lemmas.Bool.Decides.{nat_tests}
 use Rattle.std.proofs.lemmas.Nat.Bits.{and_pow}
-use Rattle.cdb.specs.Table.{byte_at}
+use Rattle.spec.specs.Commands.{byte_at}
 use Rattle.cdb.proofs.blocks.has_fua.Goals as goal
 
 pub returns : goal.returns

@@ -1,12 +1,12 @@
 use Rattle.std.proofs.Common.{subst, sym, ap, ◌∙◌}
 use Rattle.std.specs.Prelude.{Result, IfOk, IfErr}
-use Rattle.sense.specs.declared.codes.Sense.{Sense}
-use Rattle.cdb.specs.declared.command.Command.{Command}
+use Rattle.spec.specs.Sense.{Sense}
+use Rattle.spec.specs.declared.command.Command.{Command}
 use Rattle.cdb.specs.Supported.{IsSupported, IsRefusal}
 use Rattle.cdb.proofs.Laws.{supported, refused}
 use Rattle.cdb.proofs.Past.{past}
 use Rattle.cdb.proofs.Writing.{written}
-use Rattle.cdb.specs.Table.{command_of}
+use Rattle.spec.specs.Commands.{command_of}
 use Rattle.cdb.proofs.decode.parse.Goals as goal
 
 pub returns-clause-supported : goal.returns-clause-supported

@@ -1,5 +1,5 @@
 use Rattle.std.proofs.Common.{ℕ, List, subst, sym}
-use Rattle.bot_machine.specs.declared.event.Event.{Event}
+use Rattle.spec.specs.declared.event.Event.{Event}
 use Rattle.live.specs.Playing.{Prepares, PreparesPacket}
 use Rattle.live.proofs.player.prepare.Goals as goal
 

@@ -1,6 +1,6 @@
 use Rattle.std.proofs.Common.{◌≡◌, ◌∙◌, ℕ, List, inl, inr, refl, ap, subst}
 use Rattle.std.proofs.KnownBytes.{Keeps-refl}
-use Rattle.bot_machine.specs.Exchange.{Line}
+use Rattle.spec.specs.Exchange.{Line}
 use Rattle.device_file.specs.Asked.{Told}
 use Rattle.runner.specs.Played.{packets_of}
 use Rattle.runner.specs.Served.{IsServedBy, IsStoppedBy}

@@ -1,5 +1,5 @@
 use Rattle.std.proofs.Common.{inr, sym, subst}
-use Rattle.bot_machine.specs.PacketBytes.{bytes_of}
+use Rattle.spec.specs.Packets.{bytes_of}
 use Rattle.live.proofs.Opened.{opened_ready}
 use Rattle.live.specs.Ready.{IsReadyToStart}
 use Rattle.live.specs.Missing.{DiskOn}

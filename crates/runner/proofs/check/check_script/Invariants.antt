@@ -1,4 +1,4 @@
-use Rattle.bot_machine.specs.PacketBytes.{bytes_of}
+use Rattle.spec.specs.Packets.{bytes_of}
 use Rattle.runner.specs.Left.{parts_left}
 use Rattle.runner.specs.Lines.{lines_of}
 use Rattle.runner.proofs.Checking.{IsReadTo}

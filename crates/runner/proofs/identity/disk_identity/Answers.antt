@@ -1,4 +1,4 @@
-use Rattle.bot_machine.specs.Identification.{IsLegible}
+use Rattle.spec.specs.Identification.{IsLegible}
 use Rattle.runner.specs.Script.{identification}
 use Rattle.runner.proofs.Printable.{legible, some-where}
 use Rattle.runner.proofs.identity.disk_identity.Goals as goal

@@ -5,8 +5,8 @@ use Rattle.std.proofs.lemmas.Result.{err_from_is_err_and}
 use Rattle.bot_machine.specs.Device.{Device}
 use Rattle.bot_machine.specs.Fitting.{IsWithin, AreWithin}
 use Rattle.bot_machine.specs.LivesValue.{LivesValue}
-use Rattle.bot_machine.specs.declared.event.Event.{Event}
-use Rattle.bot_machine.specs.Lives.{Action}
+use Rattle.spec.specs.declared.event.Event.{Event}
+use Rattle.spec.specs.Lives.{Action}
 use Rattle.runner.specs.Events.{events_of}
 use Rattle.runner.specs.Lifetimes.{comes}
 use Rattle.runner.specs.PlayedLives.{BreaksOff, TellsLives}

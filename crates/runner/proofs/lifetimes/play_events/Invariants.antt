@@ -1,7 +1,7 @@
 use Rattle.std.proofs.Common.{◌≡◌, ◌++◌, List}
 use Rattle.std.specs.Prelude.{flat_map}
 use Rattle.bot_machine.specs.Fitting.{AreWithin}
-use Rattle.bot_machine.specs.Lives.{Action}
+use Rattle.spec.specs.Lives.{Action}
 use Rattle.runner.specs.Events.{events_of}
 use Rattle.runner.specs.Lifetimes.{comes}
 use Rattle.runner.specs.PlayedLives.{TellsLives}

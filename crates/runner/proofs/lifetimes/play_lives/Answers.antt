@@ -1,9 +1,9 @@
 use Rattle.std.proofs.Common.{◌∷◌, [], ◌∙◌, ℕ, suc, ap, sym, subst, refl, arith}
 use Rattle.std.specs.Prelude.{flat_map}
-use Rattle.bot_machine.specs.Lives.{arms, fails, cuts}
+use Rattle.spec.specs.Lives.{arms, fails, cuts}
 use Rattle.bot_machine.specs.Device.{Device}
 use Rattle.bot_machine.specs.Fitting.{AreWithin}
-use Rattle.bot_machine.specs.PacketBytes.{bytes_of}
+use Rattle.spec.specs.Packets.{bytes_of}
 use Rattle.runner.specs.declared.line.ScriptLine.TheVariants.{Fuse, Fail, Cut}
 use Rattle.runner.specs.Left.{parts_left}
 use Rattle.runner.specs.Lines.{lines_of}

@@ -1,6 +1,6 @@
 use Rattle.std.proofs.Common.{◌≤◌}
 use Rattle.std.specs.Prelude.{All, vec_capacity}
-use Rattle.bot_machine.specs.PacketBytes.{bytes_of}
+use Rattle.spec.specs.Packets.{bytes_of}
 use Rattle.runner.specs.declared.line.ScriptKind.TheVariants.{Lives}
 use Rattle.runner.specs.Left.{parts_left}
 use Rattle.runner.specs.Line.{IsScriptLine}

@@ -1,4 +1,4 @@
-use Rattle.bot_machine.specs.PacketBytes.{bytes_of}
+use Rattle.spec.specs.Packets.{bytes_of}
 use Rattle.runner.proofs.Readings.{is_plain}
 use Rattle.runner.proofs.line.read_sent.Goals as goal
 

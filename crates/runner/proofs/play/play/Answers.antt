@@ -1,5 +1,5 @@
 use Rattle.std.proofs.Common.{[], ◌++◌, ◌∙◌, suc, ap, sym, refl, arith}
-use Rattle.bot_machine.specs.PacketBytes.{bytes_of}
+use Rattle.spec.specs.Packets.{bytes_of}
 use Rattle.runner.specs.Left.{parts_left}
 use Rattle.runner.specs.Lines.{lines_of}
 use Rattle.runner.specs.declared.line.ScriptKind.TheVariants.{OneLife}

@@ -1,8 +1,8 @@
 use Rattle.std.proofs.Common.{ℕ, List}
 use Rattle.std.specs.Prelude.{All}
 use Rattle.std.specs.Io.KnownBytes.{Appends}
-use Rattle.bot_machine.specs.PacketBytes.{bytes_of}
-use Rattle.bot_machine.specs.declared.event.Event.{Event}
+use Rattle.spec.specs.Packets.{bytes_of}
+use Rattle.spec.specs.declared.event.Event.{Event}
 use Rattle.runner.specs.declared.line.ScriptKind.TheVariants.{OneLife}
 use Rattle.runner.specs.Left.{parts_left}
 use Rattle.runner.specs.Line.{IsScriptLine}

@@ -1,6 +1,6 @@
 use Rattle.std.proofs.Common.{◌≡◌, ◌++◌, ℕ, List}
 use Rattle.std.specs.Io.KnownBytes.{Appends}
-use Rattle.bot_machine.specs.declared.event.Event.{Event}
+use Rattle.spec.specs.declared.event.Event.{Event}
 use Rattle.runner.specs.Events.{events_of}
 use Rattle.runner.specs.Played.{TellsBy}
 use Rattle.runner.proofs.play.play_asked.Given as goal

@@ -1,7 +1,7 @@
 use Rattle.std.proofs.Common.{ap, sym}
 use Rattle.std.proofs.KnownBytes.{Keeps-refl}
-use Rattle.bot_machine.specs.Exchange.{Line}
-use Rattle.bot_machine.specs.PacketBytes.{bytes_of}
+use Rattle.spec.specs.Exchange.{Line}
+use Rattle.spec.specs.Packets.{bytes_of}
 use Rattle.runner.proofs.OneLife.{is_played, is_cut_short}
 use Rattle.runner.proofs.Options.{if_ok, if_err, match_result}
 use Rattle.runner.proofs.NoScript.{of_one_life}

@@ -1,6 +1,6 @@
 use Rattle.std.proofs.Common.{ℕ, subst, sym}
 use Rattle.bot_machine.specs.Fitting.{AreWithin}
-use Rattle.bot_machine.specs.PacketBytes.{bytes_of}
+use Rattle.spec.specs.Packets.{bytes_of}
 use Rattle.runner.specs.Events.{events_of}
 use Rattle.runner.proofs.Within.{events_within}
 use Rattle.runner.proofs.serve.answer_line.Goals as goal

@@ -1,10 +1,9 @@
-use Rattle.std.proofs.Common.{◌≡◌, ◌==◌, ◌++◌, ◌∷◌, ◌∙◌, ◌≤◌, ◌+◌, ◌-◌, ℕ, suc, List, take, drop}
-use Rattle.std.proofs.Common.{length, append-nil, sym, ap, subst, refl, arith}
-use Rattle.std.proofs.Common.{length-drop}
+use Rattle.std.proofs.Common.{◌≡◌, ◌==◌, ◌++◌, ◌∷◌, ◌∙◌, ◌≤◌, ◌+◌, ◌-◌, ℕ, suc, List, take, drop, length, append-nil, sym, ap, subst, refl}
+use Rattle.std.proofs.Common.{arith, length-drop}
 use Rattle.std.proofs.lemmas.List.{take_rest}
-use Rattle.bot_machine.specs.PacketBytes.{bytes_of}
-use Rattle.bot_machine.specs.declared.packet_size.PacketSize.{PacketSize}
-use Rattle.bot_machine.specs.declared.packet_size.PacketSize.TheVariants.{Full64, High512}
+use Rattle.spec.specs.Packets.{bytes_of}
+use Rattle.spec.specs.declared.packet_size.PacketSize.{PacketSize}
+use Rattle.spec.specs.declared.packet_size.PacketSize.TheVariants.{Full64, High512}
 use Rattle.runner.specs.declared.player.ServeFault.{ServeFault}
 use Rattle.runner.specs.declared.player.ServeFault.TheVariants.{Line}
 use Rattle.runner.specs.Served.{HasServed, StopsIn, StandsFor, IsTooLong, IsLineEnd, IsUnended}

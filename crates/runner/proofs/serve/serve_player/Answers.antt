@@ -1,7 +1,7 @@
 use Rattle.std.proofs.Common.{◌≡◌, ◌++◌, ◌∙◌, ℕ, [], take, sym, subst, rules}
 use Rattle.std.proofs.KnownBytes.{Consumes-nil, Consumes-trans, Consumes-kept}
 use Rattle.std.specs.Io.KnownBytes.{IsAtEnd}
-use Rattle.bot_machine.specs.PacketBytes.{bytes_of}
+use Rattle.spec.specs.Packets.{bytes_of}
 use Rattle.runner.specs.declared.player.ServeFault.{ServeFault}
 use Rattle.runner.specs.Served.{IsStoppedBy, IsServedBy, StopsUnread}
 use Rattle.runner.proofs.Options.{on_ok_weaker, if_err}

@@ -1,6 +1,6 @@
 use Rattle.std.proofs.Common.{ℕ, List}
 use Rattle.std.specs.Io.KnownBytes.{Consumes}
-use Rattle.bot_machine.specs.PacketBytes.{bytes_of}
+use Rattle.spec.specs.Packets.{bytes_of}
 use Rattle.runner.specs.Served.{HasServed}
 use Rattle.runner.proofs.serve.serve_player.Given as goal
 

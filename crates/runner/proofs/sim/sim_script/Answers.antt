@@ -1,6 +1,6 @@
 use Rattle.std.proofs.Common.{ap, sym, inl}
 use Rattle.bot_machine.specs.LivesValue.{LivesValue}
-use Rattle.bot_machine.specs.PacketBytes.{bytes_of}
+use Rattle.spec.specs.Packets.{bytes_of}
 use Rattle.runner.specs.Lines.{lines_of}
 use Rattle.runner.proofs.Options.{if_ok, if_err, match_result}
 use Rattle.runner.proofs.SeveralLives.{is_played, is_refused, taken_up_to}

@@ -1,6 +1,6 @@
 use Rattle.std.proofs.Common.{◌≤◌, ℕ, List, ◌∷◌, ap, sym, subst, inl, inr, map, drop, length, arith}
 use Rattle.std.proofs.lemmas.List.{length-map}
-use Rattle.bot_machine.specs.declared.packet_size.PacketSize.{PacketSize}
+use Rattle.spec.specs.declared.packet_size.PacketSize.{PacketSize}
 use Rattle.runner.specs.Task.{IsCommandLine, IsPacketEnding}
 use Rattle.runner.proofs.task.script_task.Goals as goal
 

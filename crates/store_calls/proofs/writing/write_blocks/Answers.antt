@@ -1,7 +1,7 @@
 use Rattle.std.proofs.Common.{◌≡◌, inr, refl, ◌*◌, Bool, true, false}
 use Rattle.std.specs.Prelude.{not}
-use Rattle.medium.specs.Blocks.{Write}
-use Rattle.blocks.specs.Book.{write_of}
+use Rattle.spec.specs.Blocks.{Write}
+use Rattle.spec.specs.Book.{write_of}
 use Rattle.blocks.specs.Passing.{PassesOn}
 use Rattle.blocks.specs.Sent.{batch_sends}
 use Rattle.blocks.specs.StoreValue.{steps_left, is_dead}

@@ -1,6 +1,6 @@
 use Rattle.std.proofs.Common.{◌≡◌, ◌∷◌, [], ◌++◌, List, ℕ, ◌<◌, length, drop, refl, sym, ap, ◌∙◌, subst, arith, slice_set}
 use Rattle.std.proofs.lemmas.List.{append-nil, drop_all}
-use Rattle.bot_machine.specs.declared.event.Answer.TheVariants.{Ack, Byte, Two, Stall}
+use Rattle.spec.specs.declared.event.Answer.TheVariants.{Ack, Byte, Two, Stall}
 use Rattle.window.specs.Window.{ComesAfter}
 use Rattle.window.specs.WindowLaws.{comes_after_itself}
 use Rattle.usbdisk_c.specs.Plays.{Disk, medium_of}

@@ -1,5 +1,5 @@
 use Rattle.std.proofs.Common.{refl}
-use Rattle.bot_machine.specs.declared.event.Answer.TheVariants.{Ack, Nak, Stall}
+use Rattle.spec.specs.declared.event.Answer.TheVariants.{Ack, Nak, Stall}
 use Rattle.usbdisk_c.proofs.Rooms.{played}
 use Rattle.usbdisk_c.proofs.play.play_packet.Goals as goal
 

@@ -1,8 +1,8 @@
 use Rattle.std.proofs.Common.{◌≡◌, ◌++◌, List, ℕ, length, drop, refl, sym, ap, subst}
-use Rattle.bot_machine.specs.declared.event.Answer.{Answer}
-use Rattle.bot_machine.specs.declared.event.Answer.TheVariants.{Data, Nak, Stall}
-use Rattle.bot_machine.specs.declared.event.Event.TheVariants as event
-use Rattle.bot_machine.specs.Exchange.{in_answer, after_in}
+use Rattle.spec.specs.declared.event.Answer.{Answer}
+use Rattle.spec.specs.declared.event.Answer.TheVariants.{Data, Nak, Stall}
+use Rattle.spec.specs.declared.event.Event.TheVariants as event
+use Rattle.spec.specs.Exchange.{in_answer, after_in}
 use Rattle.bot_machine.proofs.Stepping.{token}
 use Rattle.window.specs.Window.{state_of}
 use Rattle.window.specs.WindowLaws.{is_sound, comes_after_itself}

@@ -1,11 +1,11 @@
 use Rattle.std.proofs.Common.{rules, refl, ℕ, ◌≡◌, ◌⊎◌, inl, inr, sym, subst, ap, length}
 use Rattle.window.specs.Window.{Window, mirror_of, state_of, fresh, ComesAfter, CoversDevice, IsServed}
-use Rattle.scsi_unit.specs.Identification.{Identification, IsLegible}
+use Rattle.spec.specs.Identification.{Identification, IsLegible}
 use Rattle.bot_machine.specs.Device.{device_by, Ahead}
 use Rattle.bot_machine.specs.Opening.{IsOpened, StartLeaves}
-use Rattle.bot_machine.specs.PacketBytes.{bytes_of}
-use Rattle.bot_machine.specs.declared.packet_size.PacketSize.{PacketSize}
-use Rattle.bot_machine.specs.declared.packet_size.PacketSize.TheVariants.{Full64, High512}
+use Rattle.spec.specs.Packets.{bytes_of}
+use Rattle.spec.specs.declared.packet_size.PacketSize.{PacketSize}
+use Rattle.spec.specs.declared.packet_size.PacketSize.TheVariants.{Full64, High512}
 use Rattle.usbdisk_c.specs.Exports.{BeginsOn, identity_of}
 use Rattle.usbdisk_c.specs.Parts.{CoversParts}
 use Rattle.usbdisk_c.specs.Plays.{Disk, medium_of, Begins, EndsIn}

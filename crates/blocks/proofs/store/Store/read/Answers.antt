@@ -2,7 +2,7 @@ use Rattle.std.proofs.Common.{◌≡◌, ◌≤◌, ◌+◌, ◌-◌, ◌*◌, �
 use Rattle.log_layout.specs.Places.{Shape}
 use Rattle.cache.specs.Places.{HasPlace}
 use Rattle.medium.proofs.Moments.{quiet_start, quiet_joined}
-use Rattle.blocks.specs.Book.{array_of}
+use Rattle.spec.specs.Book.{array_of}
 use Rattle.blocks.specs.StoreValue.{Cached, FitsBook}
 use Rattle.blocks.specs.Turns.{IsTurn}
 use Rattle.blocks.proofs.Turning.{quiet_turn}

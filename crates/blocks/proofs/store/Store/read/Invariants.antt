@@ -2,7 +2,7 @@ use Rattle.std.proofs.Common.{◌≡◌, ◌≤◌, ◌+◌, ◌*◌, take}
 use Rattle.medium.specs.Moments.{IsQuiet}
 use Rattle.medium.specs.Sent.{SendsUpTo}
 use Rattle.cache.specs.Places.{HasPlace}
-use Rattle.blocks.specs.Book.{Book, array_of, blocks_at}
+use Rattle.spec.specs.Book.{Book, array_of, blocks_at}
 use Rattle.blocks.specs.Looks.{LooksAtBlocks}
 use Rattle.blocks.specs.StoreValue.{FitsBook}
 use Rattle.blocks.specs.Calls.{reads_of}

@@ -1,5 +1,5 @@
 use Rattle.std.proofs.Common.{◌≡◌, ◌≤◌, ◌<◌, ◌+◌, ◌-◌, ◌*◌, ◌/◌, ℕ, zero, suc, Bool, true, false, List, Option, Some, None, length, rules}
-use Rattle.std.proofs.Common.{◌∙◌, ap, arith, subst, sym, refl, rules}
+use Rattle.std.proofs.Common.{◌∙◌, ap, arith, subst, sym, refl}
 use Rattle.std.specs.Prelude.{if◌then◌else◌, is_some}
 use Rattle.std.proofs.lemmas.Bool.{false≢true}
 use Rattle.cache.specs.Blocks.{is_listed, absent, unlisted}
@@ -7,7 +7,7 @@ use Rattle.cache.specs.Entries.{Entries, map_of}
 use Rattle.cache.proofs.Arrays.{unlisted_most}
 use Rattle.cache.proofs.Maps.{listed_is}
 use Rattle.medium.proofs.Moments.{quiet_joined}
-use Rattle.blocks.specs.Book.{array_of}
+use Rattle.spec.specs.Book.{array_of}
 use Rattle.blocks.specs.StoreValue.{Cached, FitsBook}
 use Rattle.blocks.specs.Turns.{IsTurn}
 use Rattle.blocks.proofs.Turning.{quiet_turn}

@@ -1,7 +1,7 @@
 use Rattle.std.proofs.Common.{◌≡◌, ◌≤◌, ◌<◌, ◌+◌, ◌-◌, min, length, drop, sym, ap, refl, arith, length-take}
-use Rattle.bot_machine.specs.Exchange.{Line}
+use Rattle.spec.specs.Exchange.{Line}
 use Rattle.bot_machine.specs.Disk.{DiskValue}
-use Rattle.bot_machine.specs.PacketBytes.{bytes_of}
+use Rattle.spec.specs.Packets.{bytes_of}
 use Rattle.bot_machine.proofs.Sizes.{some_bytes, few_bytes}
 use Rattle.bot_machine.proofs.Sending.{sent_more, sent_last, answer_sent}
 use Rattle.bot_machine.proofs.disk.Disk.bulk_in.Goals as goal

@@ -1,5 +1,5 @@
 use Rattle.std.proofs.Common.{ap}
-use Rattle.bot_machine.specs.PacketBytes.{bytes_of}
+use Rattle.spec.specs.Packets.{bytes_of}
 use Rattle.bot_machine.specs.Refinement.{left_of}
 use Rattle.bot_machine.proofs.ReadAtOnce.{at_rest_reads}
 use Rattle.bot_machine.proofs.disk.Disk.home_sectors.Goals as goal

@@ -1,6 +1,6 @@
 use Rattle.std.proofs.Common.{[], ◌∷◌}
 use Rattle.medium.specs.SimLaws.{comes_after_through}
-use Rattle.bot_machine.specs.Lives.{starts, plays}
+use Rattle.spec.specs.Lives.{starts, plays}
 use Rattle.bot_machine.specs.LivesValue.{medium_in}
 use Rattle.bot_machine.proofs.Happening.{on_before}
 use Rattle.bot_machine.proofs.Playing.{lives_go_on}

@@ -1,7 +1,7 @@
 use Rattle.std.proofs.Common.{[], ◌∷◌}
 use Rattle.bot_machine.specs.Device.{Device, device_by}
-use Rattle.bot_machine.specs.Lives.{arms}
-use Rattle.bot_machine.specs.PacketBytes.{bytes_of}
+use Rattle.spec.specs.Lives.{arms}
+use Rattle.spec.specs.Packets.{bytes_of}
 use Rattle.bot_machine.specs.LivesValue.{HasPackets}
 use Rattle.bot_machine.proofs.Fitting.{packets_stay}
 use Rattle.bot_machine.proofs.lives.Lives.fuse.Goals as goal

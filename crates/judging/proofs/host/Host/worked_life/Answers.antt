@@ -1,5 +1,5 @@
 use Rattle.std.proofs.Common.{◌≡◌, ◌∙◌, ap, subst, OnOk}
-use Rattle.bot_machine.specs.declared.event.Event.TheVariants.{In}
+use Rattle.spec.specs.declared.event.Event.TheVariants.{In}
 use Rattle.judging.specs.declared.worked.TheConstants.{STROKES}
 use Rattle.judging.specs.Commands.{synchronize_command}
 use Rattle.judging.specs.Sent.{Sent, with_event, with_command, with_strokes}

@@ -1,5 +1,5 @@
 use Rattle.std.proofs.Common.{◌≡◌, ◌∙◌, ap, subst, ℕ, List, length, OnOk}
-use Rattle.bot_machine.specs.declared.event.Event.TheVariants.{In}
+use Rattle.spec.specs.declared.event.Event.TheVariants.{In}
 use Rattle.judging.specs.declared.command.Command.{Command}
 use Rattle.judging.specs.Commands.{write_command}
 use Rattle.judging.specs.Sent.{Sent, with_event, with_packets, with_command}

@@ -1,7 +1,7 @@
 use Rattle.std.proofs.Common.{ℕ, List, [], ◌∷◌, refl, subst}
 use Rattle.std.specs.Prelude.{true, Option, Some, None, IfSome}
-use Rattle.bot_machine.specs.declared.event.Event.{Event}
-use Rattle.bot_machine.specs.declared.event.Answer.{Answer}
+use Rattle.spec.specs.declared.event.Event.{Event}
+use Rattle.spec.specs.declared.event.Answer.{Answer}
 use Rattle.device_file.specs.Asked.{Told}
 use Rattle.live.specs.Missing.{DiskOn}
 use Rattle.live.specs.Playing.{Plays, AnswersThrough}

@@ -1,6 +1,5 @@
 use Rattle.std.proofs.Common.{◌≡◌, ◌∙◌, ◌∷◌, ◌-◌, ℕ, List, min, ap, sym, map, replicate, refl, arith}
-use Rattle.bot_machine.specs.PacketBytes.{bytes_of}
-use Rattle.bot_machine.specs.Packets.{packets_of}
+use Rattle.spec.specs.Packets.{bytes_of, packets_of}
 use Rattle.runner.specs.Events.{packet_out}
 use Rattle.runner.proofs.Uniform.{packets-none, packets-more}
 use Rattle.runner.proofs.line.ScriptLine.next_fill.Goals as goal

@@ -1,5 +1,5 @@
 use Rattle.std.proofs.Common.{◌≡◌, subst, sym}
-use Rattle.sense.specs.Waiting.{Waiting}
+use Rattle.spec.specs.Waiting.{Waiting}
 use Rattle.scsi_unit.specs.UnitValue.{UnitValue, answer_of}
 use Rattle.scsi_unit.specs.Serving.{Serves, command_for}
 use Rattle.scsi_unit.specs.Performing.{Performs}

@@ -1,16 +1,15 @@
 use Rattle.std.proofs.Common.{◌≡◌, ◌*◌, ℕ, List, [], Ok, refl, subst, sym, ◌∙◌, ap, length, take}
-use Rattle.cdb.specs.declared.command.Command.{Command}
-use Rattle.cdb.specs.declared.command.Command.TheVariants as command
-use Rattle.scsi_unit.specs.declared.intent.Intent.TheVariants as intent
-use Rattle.scsi_unit.specs.Rules.{moves, gives}
+use Rattle.spec.specs.declared.command.Command.{Command}
+use Rattle.spec.specs.declared.command.Command.TheVariants as command
+use Rattle.spec.specs.declared.intent.Intent.TheVariants as intent
+use Rattle.spec.specs.Rules.{moves, gives}
 use Rattle.scsi_unit.specs.UnitValue.{UnitValue, state_of, answer_of}
-use Rattle.scsi_unit.specs.Capacity.{capacity_10, capacity_16}
-use Rattle.pages.specs.Mode.{mode_data}
+use Rattle.spec.specs.Capacity.{capacity_10, capacity_16}
+use Rattle.spec.specs.ModePage.{mode_data}
 use Rattle.blocks.specs.StoreValue.{blocks_of}
 use Rattle.scsi_unit.specs.Performing.{Performs, Spares, silent}
-use Rattle.scsi_unit.proofs.Performing.{takes_enough, sends_data, reports_sense, reads_16, writes_16, synchronizes_16}
-use Rattle.scsi_unit.proofs.Performing.{answer_at, take-capacity_10, performs_silently}
-use Rattle.scsi_unit.proofs.Performing.{spares_silently}
+use Rattle.scsi_unit.proofs.Performing.{takes_enough, sends_data, reports_sense, reads_16, writes_16, synchronizes_16, answer_at}
+use Rattle.scsi_unit.proofs.Performing.{take-capacity_10, performs_silently, spares_silently}
 use Rattle.scsi_unit.proofs.Sparing.{spares_reading_16, spares_writing_16, spares_synchronizing_16}
 use Rattle.scsi_unit.proofs.unit.Unit.perform.Goals as goal
 

@@ -1,10 +1,10 @@
 use Rattle.std.proofs.Common.{◌≡◌, Bool, ℕ, false, [], None, Ok, Err, refl, subst, sym, ◌∙◌, ap, arith}
 use Rattle.std.specs.Prelude.{◌&&◌, not, if◌then◌else◌, OnOk}
 use Rattle.std.proofs.lemmas.Result.{err_from_is_err_and}
-use Rattle.cdb.specs.declared.command.Command.TheVariants as command
-use Rattle.blocks.specs.Book.{Book, promised}
+use Rattle.spec.specs.declared.command.Command.TheVariants as command
+use Rattle.spec.specs.Book.{Book, promised}
 use Rattle.blocks.specs.StoreValue.{is_dead, FitsBook}
-use Rattle.scsi_unit.specs.Rules.{selected_by}
+use Rattle.spec.specs.Rules.{selected_by}
 use Rattle.scsi_unit.specs.UnitValue.{UnitValue}
 use Rattle.scsi_unit.specs.Performing.{Performs, silent}
 use Rattle.scsi_unit.specs.Calls.{calls_of, MakesAtMost}

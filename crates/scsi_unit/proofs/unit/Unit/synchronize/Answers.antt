@@ -1,5 +1,5 @@
 use Rattle.std.proofs.Common.{◌≡◌, false, Ok, subst, sym}
-use Rattle.cdb.specs.declared.command.Command.TheVariants as command
+use Rattle.spec.specs.declared.command.Command.TheVariants as command
 use Rattle.blocks.specs.StoreValue.{is_dead}
 use Rattle.scsi_unit.specs.UnitValue.{UnitValue}
 use Rattle.scsi_unit.specs.Performing.{Performs, silent}

@@ -1,8 +1,8 @@
 use Rattle.std.proofs.Common.{rules, ◌≡◌, ◌≤◌, ◌+◌, Bool, true, false, None, Ok, subst, sym, ap, arith, ◌∙◌}
 use Rattle.std.specs.Prelude.{◌||◌, not, if◌then◌else◌, OnOk, is_ok}
-use Rattle.blocks.specs.Book.{Book, promised}
+use Rattle.spec.specs.Book.{Book, promised}
 use Rattle.std.proofs.lemmas.Result.{err_from_is_err_and}
-use Rattle.cdb.specs.declared.command.Command.TheVariants as command
+use Rattle.spec.specs.declared.command.Command.TheVariants as command
 use Rattle.blocks.specs.StoreValue.{is_dead, FitsBook}
 use Rattle.scsi_unit.specs.UnitValue.{UnitValue}
 use Rattle.scsi_unit.specs.Performing.{Performs, silent}
