@@ -40,6 +40,11 @@ pub found_ours : (size : ℕ) (book : Book) (write : Option Write) (image : Imag
 found_ours size book None image m = may_find_ours size book image m
 found_ours size book (Some w) image m = ⊎_elim (may_find_ours size book image) (may_find_ours size (with_write book w) image) m
 
+-- every image that a cut may leave is ours, where the book says so
+pub each_ours : (m : State) (book : Book) → OpensOn m book → book.ours ≡ true → EachCut (IsOursForSome m.size) m
+each_ours m book on is_ours image cut =
+    let (blocks, array, next, is) = on.ours is_ours image cut in (is.0, array, next, is.2)
+
 -- an image that is ours, and stands for the opening of a book, is ours for it
 pub ours_for_opening : (size : ℕ) (book : Book) (image : Image) → StandsForOpening size book image → IsOursForSome size image
     → StandsAs size book.blocks image book.opening book.stamp
@@ -89,7 +94,7 @@ serves before after s array next stood fits book on =
     let one = StandsFor-one before.size before.size (layout_of s) on.stands.0 before.content array book.opening next book.stamp stood
     on.stands.2 in
     let f : FitsBook after s (opened (blocks_of s) book.opening next book.ours) =
-    reopened after s (opened (blocks_of s) array next book.ours) book.opening one.2 (fits book.ours on.ours) in
+    reopened after s (opened (blocks_of s) array next book.ours) book.opening one.2 (fits book.ours (each_ours before book on)) in
     subst (FitsBook after s) (sym on.opens)
     (subst (λ (n : ℕ). FitsBook after s (opened n book.opening book.stamp book.ours)) (ap (λ (x : Shape). x.blocks) one.0 ∙ on.stands.1)
     (subst (λ (t : ℕ). FitsBook after s (opened (blocks_of s) book.opening t book.ours)) one.1 f))

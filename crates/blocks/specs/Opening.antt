@@ -1,8 +1,7 @@
 -- The books with which a life may open over a medium. A layer above knows an image by these words
 -- alone, and opens none of them: what it needs of the layers below the store is handed on here.
-use Rattle.std.specs.Prelude.{◌≡◌, ◌^◌, ◌≤◌, ⊤, ℕ, true}
-use Rattle.medium.specs.Medium.{State, Image}
-use Rattle.medium.specs.Moments.{EachCut}
+use Rattle.std.specs.Prelude.{◌≡◌, ◌^◌, ◌≤◌, ⊤, ℕ}
+use Rattle.medium.specs.Medium.{State, Image, CutLeaves}
 use Rattle.medium.specs.declared.fault.MediumFault.TheVariants as medium
 pub use Rattle.log_layout.specs.Places.{Shape}
 pub use Rattle.log_image.specs.Standing.{StandsFor, IsOurs, Stands}
@@ -15,7 +14,9 @@ pub use Rattle.recovery.specs.declared.start_fault.StartFault.TheVariants.{BadVe
 pub use Rattle.recovery.specs.declared.start_fault.StartFault.TheVariants.{BadHead, StampsUsedUp}
 pub use Rattle.recovery.specs.declared.start_fault.StartFault.TheVariants.{LogTooSmall}
 use Rattle.spec.specs.Blocks.{Array}
-use Rattle.spec.specs.Book.{Book, opened}
+use Rattle.spec.specs.Book.{Book}
+use Rattle.spec.specs.Promise as promise
+use Rattle.blocks.specs.Finding.{StandsAs}
 
 -- the image of a medium of so many sectors has so many logical blocks in some shape, and stands for
 -- this array with this next stamp
@@ -29,12 +30,10 @@ abbrev pub StandsForOpening : ℕ → Book → Image → Type 0
 StandsForOpening size book image =
     StandsForSome size book.blocks image book.opening book.stamp
 
--- A first life over a medium opens with this book: the contents stand for its blocks and its next
--- stamp. Where the book says so, every image that a cut may leave is ours.
-pub record OpensOn (m : State) (book : Book) : Type 0 where
-  pub opens : book ≡ opened book.blocks book.opening book.stamp book.ours
-  pub stands : StandsForOpening m.size book m.content
-  pub ours : book.ours ≡ true → EachCut (IsOursForSome m.size) m
+-- A first life over a medium opens with this book, by the promise.
+abbrev pub OpensOn : State → Book → Type 0
+OpensOn m book = promise.OpensOn (StandsForSome m.size) (StandsAs m.size) m.content
+    (CutLeaves m.may_leave) book
 
 -- Why a start is refused over contents with which a life opens with this book: for want of memory,
 -- since the medium refused a call of the kind that the fault names, or since no stamp is left.

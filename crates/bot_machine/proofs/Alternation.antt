@@ -12,7 +12,7 @@ use Rattle.spec.specs.StatusWrapper.{status_wrapper}
 use Rattle.spec.specs.declared.event.Event.{Event}
 use Rattle.spec.specs.declared.event.Event.TheVariants as event
 use Rattle.spec.specs.declared.event.Answer.{Answer}
-use Rattle.spec.specs.CommandWrapper.{number_at}
+use Rattle.spec.specs.CommandWrapper.{field_at}
 use Rattle.spec.specs.Requests.{Request, mass_storage_reset, get_max_lun, clear_halt, get_status}
 use Rattle.spec.specs.Exchange.{Script, finished, taking, sending, Line, laid_out, Moment, at_once, after_data, never, moment_of, told}
 use Rattle.spec.specs.Exchange.{told_at_once, case_if_failed, sent_in, outcome_for, status_for, after_packet, set_halt, after_request}
@@ -61,17 +61,17 @@ told-owes case command intended (Err fault) s =
     told_at_once-owes (case_if_failed case) command intended Failed s
 
 -- a wrapper that is taken is owed its status
-took : (packet : List ℕ) (left : Script) → Owes (Some (number_at packet 4)) left
+took : (packet : List ℕ) (left : Script) → Owes (Some (field_at packet 4)) left
     → Next None (marks_of_out false finished packet left) left
 took packet finished owes = absurd owes
 took packet (taking case command intended bytes due) owes = (
-  Some (number_at packet 4),
+  Some (field_at packet 4),
   owes,
   λ
       rest turns. turns,
 )
 took packet (sending packets halt status) owes = (
-  Some (number_at packet 4),
+  Some (field_at packet 4),
   owes,
   λ rest turns.
       turns,

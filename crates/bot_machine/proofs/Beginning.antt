@@ -76,13 +76,24 @@ leaves_book size book (Some w) image (inr m) = record {
   stands = m.stands;
 }
 
+-- an image that is ours in some shape is ours with some number of blocks, and the other way round
+pub with_shape : (size : ℕ) (image : Image)
+    → (blocks : ℕ) × (array : Array) × (next : ℕ) × StandsAs size blocks image array next
+    → IsOursForSome size image
+with_shape size image (blocks, array, next, (shape, same, is)) = (shape, array, next, is)
+
+with_blocks : (size : ℕ) (image : Image) → IsOursForSome size image
+    → (blocks : ℕ) × (array : Array) × (next : ℕ) × StandsAs size blocks image array next
+with_blocks size image (shape, array, next, is) = (shape.blocks, array, next, (shape, refl, is))
+
 -- where the contents stand for a book, and every image is ours, every image stands for it
 pub first_found : (m : Sim) (book : Book) → m.unflushed ≡ [] → OpensOn (state_of m) book → book.ours ≡ true
     → EachCut (FoundAt (state_of m).size (before_first book)) (state_of m)
 first_found m book none h ours image cut =
     let size = (state_of m).size in
     let same : image ≡ (state_of m).content = only_image (state_of m).content (state_of m).may_leave (none_flushed m none) image cut in
-    knows_images.ours_for size book image (subst (StandsForOpening size book) (sym same) h.stands) (h.ours ours image cut)
+    knows_images.ours_for size book image (subst (StandsForOpening size book) (sym same) h.stands)
+    (with_shape size image (h.ours ours image cut))
 
 -- nothing is unflushed: what the contents have every image has
 pub first_limited : (m : Sim) (limit : ℕ) → m.unflushed ≡ [] → HasLimit (state_of m).size limit (state_of m).content
@@ -126,7 +137,7 @@ module _ (m : Sim) (remains : Remains) where
         on = λ _. record {
           opens = l.is ∙ ap (opened l.next.blocks l.next.opening l.next.stamp) (sym is_ours);
           stands = knows_images.stands_for (state_of m).size l.next (state_of m).content l.stands;
-          ours = λ _. remains_ours (state_of m) remains found;
+          ours = λ _ image cut. with_blocks (state_of m).size image (remains_ours (state_of m) remains found image cut);
         };
       }
 

@@ -27,7 +27,7 @@ use Rattle.scsi_unit.specs.Serving.{has_refused}
 use Rattle.bot_machine.specs.Moving.{StartsIn}
 use Rattle.bot_machine.proofs.Moved.{one_move, some_refused}
 use Rattle.bot_machine.proofs.Happening.{lives_at, stays, one_run, one_counted, armed_then, on_or_off}
-use Rattle.bot_machine.proofs.Beginning.{WouldOpen, first_opens, next_opens, next_limit, HasOpened, first_opened, next_opened}
+use Rattle.bot_machine.proofs.Beginning.{WouldOpen, first_opens, next_opens, next_limit, HasOpened, first_opened, next_opened, with_shape}
 use Rattle.bot_machine.proofs.UnitLaws.{between_calls, limit_between_calls, start_keeps_limit, knows_images}
 
 -- ---- what a start leaves, where it has no disk
@@ -44,7 +44,8 @@ limited_start : (before after : Sim) (leaves : StartLeaves (state_of before) (st
 limited_start before after leaves place limit w ours has =
     subst (λ (n : ℕ). EachCut (HasLimit n limit) (state_of after)) (sym leaves.bounded.moments.size_stays)
     (at_exit (HasLimit (state_of before).size limit) (state_of before) (state_of after) (is_sound after)
-    (start_keeps_limit (state_of before) (state_of after) limit leaves ((w.on ours).ours ours) has))
+    (start_keeps_limit (state_of before) (state_of after) limit leaves
+    (λ image cut. with_shape (state_of before).size image ((w.on ours).ours ours image cut)) has))
 
 -- ---- why a start is refused
 

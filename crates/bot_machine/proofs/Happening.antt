@@ -13,9 +13,9 @@ use Rattle.medium.specs.declared.power.Power.{Power}
 use Rattle.medium.proofs.Moments.{at_exit, only_image}
 use Rattle.medium.proofs.Keeping.{none_flushed}
 use Rattle.bot_machine.specs.Device.{presented, Device}
-use Rattle.scsi_unit.specs.Starting.{IsOursForSome, StandsForOpening}
+use Rattle.scsi_unit.specs.Starting.{StandsForOpening}
 use Rattle.spec.specs.Book.{Book}
-use Rattle.scsi_unit.specs.Books.{MayFind, FoundWith}
+use Rattle.scsi_unit.specs.Books.{MayFind, FoundWith, StandsAs}
 use Rattle.spec.specs.declared.event.Event.{Event}
 use Rattle.spec.specs.declared.event.Answer.{Answer}
 use Rattle.spec.specs.declared.event.Answer.TheVariants.{Off}
@@ -29,6 +29,7 @@ use Rattle.scsi_unit.specs.UnitValue.{unit_limit}
 use Rattle.bot_machine.proofs.UnitLaws.{limit_between_calls}
 use Rattle.spec.specs.Lives.{Action, plays, cuts, Remains, Place, before_first, between, runs, off, Standing, after_cut, LivesStep}
 use Rattle.spec.specs.Lives.{LivesRun}
+use Rattle.spec.specs.Blocks.{Array}
 use Rattle.bot_machine.specs.Moving.{Does, EventMovesIn, EventMoves}
 use Rattle.bot_machine.proofs.Moved.{one_move, none_refused, some_refused}
 use Rattle.bot_machine.specs.LivesValue.{LivesValue, medium_in, state_in, IsAtRest, OpensOn, HasLimit, IsAt, LimitAt, LeavesLimit, book_at}
@@ -107,13 +108,16 @@ module _ (device : Device) where
     content_stays : old.unflushed ≡ [] → (state_of new).content ≡ (state_of old).content
     content_stays none = only_image (state_of old).content (state_of old).may_leave (none_flushed old none) (state_of new).content allowed
 
+    abbrev IsAllowed : ℕ → Image → Type 0
+    IsAllowed n image = (blocks : ℕ) × (array : Array) × (next : ℕ) × StandsAs n blocks image array next
+
     opens_still : (book : Book) → old.unflushed ≡ [] → OpensOn (state_of old) book → OpensOn (state_of new) book
     opens_still book none h = record {
       opens = h.opens;
       stands = subst (λ (n : ℕ). StandsForOpening n book (state_of new).content) (sym size)
           (subst (StandsForOpening (state_of old).size book) (sym (content_stays none)) h.stands);
-      ours = λ ours. subst (λ (n : ℕ). EachCut (IsOursForSome n) (state_of new)) (sym size)
-          (left_before (IsOursForSome (state_of old).size) (h.ours ours));
+      ours = λ ours. subst (λ (n : ℕ). EachCut (IsAllowed n) (state_of new)) (sym size)
+          (left_before (IsAllowed (state_of old).size) (h.ours ours));
     }
 
     cut_place : (stage : Stage) (place : Place) → medium_in stage ≡ old → IsAt place stage → IsAt (after_cut place) (Rests new)

@@ -4,7 +4,7 @@ use Rattle.std.proofs.Common.{◌∙◌, ap, arith, append_assoc, drop-cons}
 use Rattle.std.proofs.lemmas.List.{append-nil, take_more, take-append-drop}
 use Rattle.std.proofs.lemmas.List.Sums.{sum_by-append, sum_by-take-le}
 use Rattle.std.specs.Prelude.{Option, Some, MatchOption}
-use Rattle.medium.specs.Medium.{State}
+use Rattle.medium.specs.Medium.{State, Image, CutLeaves}
 use Rattle.medium.specs.Sim.{Sim, state_of, IsFused}
 use Rattle.scsi_unit.specs.StartFaults.{StartFault}
 use Rattle.bot_machine.specs.Device.{presented, Device}
@@ -19,10 +19,12 @@ use Rattle.spec.specs.Conversation.{refused_events}
 use Rattle.bot_machine.specs.Opening.{IsNotOpened}
 use Rattle.spec.specs.Lives.{Action, Standing, LivesRun}
 use Rattle.bot_machine.specs.LivesValue.{LivesValue, medium_in, state_in, IsAtRest, OpensOn, HasLimit, LeavesLimit, FitsLives, LivesGoOn}
-use Rattle.bot_machine.specs.LivesValue.{LivesStopAt, LivesStop}
-use Rattle.spec.specs.Promise.{first_standing}
-use Rattle.bot_machine.specs.Lifetimes.{actions_of, actions_of_all, armed_by, events_in, AppendsFor, EndsIn, AreLived, StopsIn}
-use Rattle.bot_machine.specs.Lifetimes.{AreLivedUpTo}
+use Rattle.bot_machine.specs.LivesValue.{LivesStopAt, LivesStop, FoundAt, MayRefuse}
+use Rattle.spec.specs.Promise.{first_standing, AreKept, AreKeptUpTo}
+use Rattle.scsi_unit.specs.Books.{StandsAs, MayFind}
+use Rattle.scsi_unit.specs.Starting.{StandsForSome}
+use Rattle.bot_machine.specs.Lifetimes.{actions_of, actions_of_all, armed_by, events_in, AppendsFor, AreLived, AreLivedUpTo}
+use Rattle.bot_machine.specs.Lifetimes.{KeepsPromiseUpTo, IsRefusedFor}
 use Rattle.bot_machine.proofs.Playing.{rests, lives_stop, lives_stop-refusals}
 use Rattle.bot_machine.proofs.Beginning.{first_found, first_limited}
 
@@ -93,31 +95,38 @@ module _ (m : Sim) (device : Device) (rest : IsAtRest m) (unfused : m.power.fuse
       → AreLived m device lives told (medium_in after.stage)
   all_lived lives on one_each rest_after unfused_after alone = record {
     one_each = one_each;
-    refusals = on.refusals;
+    kept = record { refusals = on.refusals; few = on.refused; lives = kept };
     moves = subst (λ (x : Stage). MovesBy device (Rests m) (actions_of_all lives) told on.refusals x) alone on.moves;
-    refused = on.refused;
-    ends = ends;
     rests = rest_after;
     unfused = unfused_after;
     size_stays = on.size_stays;
   }
     where
-      ends : (limit : ℕ) (book : Book) → OpensOn (state_of m) book → HasLimit (state_of m).size limit (state_of m).content
-          → EndsIn device limit book (actions_of_all lives) told on.refusals (medium_in after.stage)
-      ends limit book opens has =
+      size : ℕ
+      size = (state_of m).size
+
+      Leaves : Image → Type 0
+      Leaves = CutLeaves (state_of (medium_in after.stage)).may_leave
+
+      kept : (limit : ℕ) (book : Book) → OpensOn (state_of m) book → HasLimit size limit (state_of m).content
+          → AreKept (StandsForSome size) (StandsAs size) (HasLimit size) (presented device) limit book (actions_of_all lives) told
+          on.refusals Leaves
+      kept limit book opens has =
           let here : Standing = first_standing limit book in
           let g = on.goes here (first_fits m device rest unfused limit book opens has) in
           record {
             last = g.there;
             run = subst (λ (x : Device). LivesRun (presented x) here (actions_of_all lives) told on.refusals g.there) on.device_stays g.run;
-            limited = λ ours. subst (λ (n : ℕ). LeavesLimit n after.stage) (g.limit_stays ours) (g.fits.limited (g.ours ∙ ours));
-            found = λ ours. g.fits.found (g.ours ∙ ours);
+            limited = λ ours image cut. subst (λ (n : ℕ). HasLimit n limit image) on.size_stays
+                (subst (λ (n : ℕ). LeavesLimit n after.stage) (g.limit_stays ours) (g.fits.limited (g.ours ∙ ours)) image cut);
+            found = λ ours image cut. subst (λ (n : ℕ). FoundAt n g.there.place image) on.size_stays
+                (g.fits.found (g.ours ∙ ours) image cut);
           }
 
   all_lived-refusals : (lives : List Life) (on : LivesGoOn first (actions_of_all lives) told after)
       (one_each : length told ≡ events_in lives) (rest_after : IsAtRest (medium_in after.stage))
       (unfused_after : (medium_in after.stage).power.fuse ≡ None) (alone : after.stage ≡ Rests (medium_in after.stage))
-      → (all_lived lives on one_each rest_after unfused_after alone).refusals ≡ on.refusals
+      → (all_lived lives on one_each rest_after unfused_after alone).kept.refusals ≡ on.refusals
   unfolding all_lived
   all_lived-refusals lives on one_each rest_after unfused_after alone = refl
 
@@ -161,7 +170,7 @@ module _ (m : Sim) (device : Device) (rest : IsAtRest m) (unfused : m.power.fuse
   stop = told_same begun after (actions_of_all lived ++ armed_by life.fuse) (told ++ []) told fault (append-nil told)
       (lives_stop begun mid after (actions_of_all lived) (armed_by life.fuse) told [] on fault last)
 
-  refusals_are : stop.refusals ≡ were_lived.refusals ++ last.refusals
+  refusals_are : stop.refusals ≡ were_lived.kept.refusals ++ last.refusals
   unfolding stop were_lived
   refusals_are =
       told_same-refusals begun after (actions_of_all lived ++ armed_by life.fuse) (told ++ []) told fault (append-nil told)
@@ -175,12 +184,40 @@ module _ (m : Sim) (device : Device) (rest : IsAtRest m) (unfused : m.power.fuse
       subst (λ (i : Device). MovesBy i (Rests (medium_in mid.stage)) (armed_by life.fuse) [] last.refusals (Rests last.at)) on.device_stays
       (subst (λ (x : Stage). MovesBy mid.device x (armed_by life.fuse) [] last.refusals (Rests last.at)) alone last.moves)
 
+  abbrev actions : List Action
+  actions = actions_of_all lived ++ armed_by life.fuse
+
+  at_stop : (limit : ℕ) (book : Book) → OpensOn (state_of m) book → HasLimit (state_of m).size limit (state_of m).content
+      → LivesStopAt after (first_standing limit book) actions told stop.refusals
+      (refused_events stop.refusals + (state_of m).failures) fault
+  at_stop limit book opens has = stop.goes (first_standing limit book) (first_fits m device rest unfused limit book opens has)
+
+  kept_up_to : (limit : ℕ) (book : Book) → OpensOn (state_of m) book → HasLimit (state_of m).size limit (state_of m).content
+      → AreKeptUpTo (StandsForSome (state_of m).size) (StandsAs (state_of m).size) (HasLimit (state_of m).size) (presented device) limit
+      book actions told stop.refusals (CutLeaves (state_of (medium_in after.stage)).may_leave)
+  kept_up_to limit book opens has =
+      let g = at_stop limit book opens has in
+      record {
+        last = g.there;
+        run = subst (λ (x : Device). LivesRun (presented x) (first_standing limit book) actions told stop.refusals g.there)
+            stop.device_stays g.run;
+        next = g.book;
+        opens = g.opens;
+        limited = λ ours image cut. subst (λ (n : ℕ). HasLimit n limit image) stop.size_stays (g.limited (g.ours ∙ ours) image cut);
+        found = λ ours image cut. subst (λ (n : ℕ). MayFind n g.book image) stop.size_stays (g.found (g.ours ∙ ours) image cut);
+      }
+
+  keeps : KeepsPromiseUpTo m device actions told (medium_in after.stage)
+  keeps = record { refusals = stop.refusals; few = stop.refused; lives = kept_up_to }
+
+  refused_for : IsRefusedFor m device actions told fault (medium_in after.stage) keeps
+  unfolding keeps kept_up_to
+  refused_for limit book opens has ours = let g = at_stop limit book opens has in g.cause (g.ours ∙ ours)
+
   pub lived_up_to : AreLivedUpTo m device lives told fault (medium_in after.stage)
+  unfolding keeps
   lived_up_to = record {
-    lived = lived;
-    life = life;
-    rest = others;
-    lives_are = lives_are;
+    up_to = record { lived = lived; life = life; rest = others; lives_are = lives_are; kept = keeps };
     at = medium_in mid.stage;
     were_lived = were_lived;
     cause = cause;
@@ -188,28 +225,8 @@ module _ (m : Sim) (device : Device) (rest : IsAtRest m) (unfused : m.power.fuse
     arming = last.refusals;
     arms = arms;
     start = last.start;
-    refusals = stop.refusals;
     refusals_are = refusals_are;
-    refused = stop.refused;
-    stops = stops;
+    refused = refused_for;
     on = stop.on;
     size_stays = stop.size_stays;
   }
-    where
-      stops : (limit : ℕ) (book : Book) → OpensOn (state_of m) book → HasLimit (state_of m).size limit (state_of m).content
-          → StopsIn device limit book (actions_of_all lived ++ armed_by life.fuse) told stop.refusals
-          (refused_events stop.refusals + (state_of m).failures) fault (medium_in after.stage)
-      stops limit book opens has =
-          let here : Standing = first_standing limit book in
-          let g = stop.goes here (first_fits m device rest unfused limit book opens has) in
-          record {
-            last = g.there;
-            run = subst
-                (λ (x : Device). LivesRun (presented x) here (actions_of_all lived ++ armed_by life.fuse) told stop.refusals g.there)
-                stop.device_stays g.run;
-            limited = λ ours. g.limited (g.ours ∙ ours);
-            next = g.book;
-            opens = g.opens;
-            cause = λ ours. g.cause (g.ours ∙ ours);
-            found = λ ours. g.found (g.ours ∙ ours);
-          }

@@ -27,4 +27,3 @@ pub mod Arming
 pub mod Beginning
 pub mod Begun
 pub mod Lasting
-pub mod KeptPromise

@@ -17,7 +17,7 @@ use Rattle.spec.specs.declared.event.Answer.{Answer}
 use Rattle.spec.specs.Requests.{Request, setup_packet, mass_storage_reset, get_max_lun, clear_halt, get_status}
 use Rattle.spec.specs.Exchange.{Line, Script, finished, taking, sending, Moment, at_once, after_data, never, moment_of, told}
 use Rattle.spec.specs.Exchange.{request_answer, after_request}
-use Rattle.spec.specs.Conversation.{Conversation, IsCarriedOut, Begins, Opens, Takes, OutStep, SetupStep}
+use Rattle.spec.specs.Conversation.{Conversation, IsCarriedOut, Begins, OpensExchange, Takes, OutStep, SetupStep}
 use Rattle.spec.specs.UnitConversation.{Intends, way_of, write_of_packet, UnitStep}
 use Rattle.bot_machine.specs.Striking.{HasStamps}
 use Rattle.bot_machine.proofs.Cases.{at_once-takes_none}
@@ -55,7 +55,7 @@ begins_once never case command intended old one other stamps a b =
 -- the same command, the same intention and the same case
 pub opens_as : (packet : List ℕ) (old other : Conversation UnitState) (command : Cbw) (intended : Way) (case : Case)
     → SpellsCommand packet command → Intends old.unit command.block.items intended → IsCase case command.host intended
-    → Opens Intends CarriesOut Ticks false packet old other
+    → OpensExchange Intends CarriesOut Ticks false packet old other
     → Begins Intends CarriesOut Ticks false (moment_of case) case command intended old other
 opens_as packet old other command intended case spelled intends is_case b =
     let Begun : Cbw → Way → Case → Type 0
@@ -69,7 +69,8 @@ opens_as packet old other command intended case spelled intends is_case b =
     (subst (λ w. Begun command w b.case) way (subst (λ c. Begun c b.intended b.case) same b.begins))
 
 opens_once : (packet : List ℕ) (old one other : Conversation UnitState) → ¬ StampsOut old.unit.book
-    → Opens Intends CarriesOut Ticks false packet old one → Opens Intends CarriesOut Ticks false packet old other → one ≡ other
+    → OpensExchange Intends CarriesOut Ticks false packet old one
+    → OpensExchange Intends CarriesOut Ticks false packet old other → one ≡ other
 opens_once packet old one other stamps a b =
     let none : at_once ≡ moment_of a.case → write_in_progress old.unit a.command.block.items [] ≡ None
     = λ moment. writes_none old.unit a.command.block.items [] (λ n out.

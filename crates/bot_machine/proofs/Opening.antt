@@ -7,7 +7,7 @@ use Rattle.spec.specs.Cases.{IsCase}
 use Rattle.spec.specs.Rules.{UnitState, CarriesOut, Ticks, intention, write_in_progress}
 use Rattle.scsi_unit.specs.UnitValue.{UnitValue, state_of, FitsUnit}
 use Rattle.spec.specs.Exchange.{Line, at_once, moment_of}
-use Rattle.spec.specs.Conversation.{Conversation, Begins, Opens}
+use Rattle.spec.specs.Conversation.{Conversation, Begins, OpensExchange}
 use Rattle.spec.specs.UnitConversation.{way_of, Intends, on_line}
 use Rattle.bot_machine.specs.Acts.{CarriesOutAtOnce}
 use Rattle.bot_machine.specs.declared.exchange.Exchange.{Exchange}
@@ -25,7 +25,7 @@ module _ {M : Type 0} (m : State) (unit : UnitValue M) (book : Book) (fits : Fit
   pub opens : (refused : Bool) (line : Line) (new : Conversation UnitState)
       → Begins Intends CarriesOut Ticks refused (moment_of exchange.case) exchange.case exchange.command
       exchange.intended (on_line line (state_of unit book)) new
-      → Opens Intends CarriesOut Ticks refused packet (on_line line (state_of unit book)) new
+      → OpensExchange Intends CarriesOut Ticks refused packet (on_line line (state_of unit book)) new
   opens refused line new begins = record {
     command = exchange.command;
     intended = exchange.intended;

@@ -18,7 +18,7 @@ use Rattle.spec.specs.declared.event.Answer.{Answer}
 use Rattle.spec.specs.Packets.{packets_of}
 use Rattle.spec.specs.Exchange.{Script, finished, taking, Line, at_rest, Moment, at_once, after_data, never, moment_of, outcome_for}
 use Rattle.spec.specs.Exchange.{status_for, told, told_at_once}
-use Rattle.spec.specs.Conversation.{Conversation, Begins, Opens, Takes}
+use Rattle.spec.specs.Conversation.{Conversation, Begins, OpensExchange, Takes}
 use Rattle.spec.specs.UnitConversation.{Intends, way_of, write_of_packet, on_line}
 use Rattle.bot_machine.specs.Transfers.{Transfer, packet_out, Asks, events_of, packets_in, Heard, heard_in, IsTransferred, AreTransferred}
 use Rattle.bot_machine.specs.Transfers.{SizesAreAlike}
@@ -183,7 +183,7 @@ record Opened (size : ℕ) (wrapper : List ℕ) (old new : UnitState) (events : 
   mid : Conversation UnitState
   later : List Answer
   same : packets_in answers ≡ packets_in later
-  opens : Opens Intends CarriesOut Ticks false wrapper (on_line (at_rest size) old) mid
+  opens : OpensExchange Intends CarriesOut Ticks false wrapper (on_line (at_rest size) old) mid
   stamps : ¬ StampsOut old.book
   run : Untroubled mid events later (on_line (at_rest size) new)
 

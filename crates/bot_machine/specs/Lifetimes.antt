@@ -21,8 +21,7 @@ use Rattle.bot_machine.specs.LivesValue.{LivesValue, LivesGoOn, IsAtRest, OpensO
 use Rattle.bot_machine.specs.LivesValue.{FitsLives, LeavesLimit, FoundAt, MayRefuse}
 use Rattle.medium.specs.Medium.{CutLeaves}
 use Rattle.scsi_unit.specs.Starting.{StandsForSome}
-use Rattle.spec.specs.Promise.{first_standing}
-use Rattle.spec.specs.Promise as promise
+use Rattle.spec.specs.Promise.{first_standing, IsKept, IsKeptUpTo}
 
 -- what is done before the start of a life
 abbrev pub armed_by : Option ℕ → List Action
@@ -55,14 +54,22 @@ StandsFirst medium lives = (limit : ℕ) (book : Book) → IsAtRest medium → m
     → HasLimit (state_of medium).size limit (state_of medium).content
     → FitsLives lives (first_standing limit book)
 
--- Lives whose first opens with this book and has this limit, and what a cut of the medium may leave
--- after them.
-pub record EndsIn (device : Device) (limit : ℕ) (book : Book) (actions : List Action)
-    (told : List Answer) (refusals : List Bool) (after : Sim) : Type 0 where
-  pub last : Standing
-  pub run : LivesRun (presented device) (first_standing limit book) actions told refusals last
-  pub limited : book.ours ≡ true → LeavesLimit limit (Rests after)
-  pub found : book.ours ≡ true → EachCut (FoundAt (state_of after).size last.place) (state_of after)
+-- Actions of a disk over a medium in memory, and their answers, keep the promise, by what its
+-- images stand for and what a cut may leave of it.
+abbrev pub KeepsPromise : Sim → Device → List Action → List Answer → Sim → Type 0
+KeepsPromise before device actions told after =
+    let size : ℕ = (state_of before).size in
+    IsKept (StandsForSome size) (StandsAs size) (HasLimit size) (presented device)
+    (state_of before).content (CutLeaves (state_of before).may_leave) (state_of before).failures
+    (state_of after).failures actions told (CutLeaves (state_of after).may_leave)
+
+-- The same up to a start that was refused.
+abbrev pub KeepsPromiseUpTo : Sim → Device → List Action → List Answer → Sim → Type 0
+KeepsPromiseUpTo before device actions told after =
+    let size : ℕ = (state_of before).size in
+    IsKeptUpTo (StandsForSome size) (StandsAs size) (HasLimit size) (presented device)
+    (state_of before).content (CutLeaves (state_of before).may_leave) (state_of before).failures
+    (state_of after).failures actions told (CutLeaves (state_of after).may_leave)
 
 -- lives went on by these actions, and the answers to so many events were appended
 pub record AppendsFor (before after : LivesValue) (old new : Room) (actions : List Action)
@@ -73,82 +80,61 @@ pub record AppendsFor (before after : LivesValue) (old new : Room) (actions : Li
   pub one_each : length told ≡ events
   pub goes_on : LivesGoOn before actions told after
 
--- Lives of a disk over a medium in memory, and their answers, one for each event. The actions move
--- the disk and its medium just so, whatever the contents: a fuse and a cut do exactly what they
--- say, a start that was not cut stood on contents that stand for something, a step in the
--- background is one step. The actions in which the medium refused a call are at most as many as the
--- calls that it refused. The power of the medium that comes back is on, nothing is unflushed, and
--- no fuse is armed.
+-- The promise of lives over a medium in memory.
+abbrev pub KeepPromise : Sim → Device → List Life → List Answer → Sim → Type 0
+KeepPromise before device lives told after =
+    KeepsPromise before device (actions_of_all lives) told after
+
+-- Lives of a disk over a medium in memory, and their answers, one for each event. They keep the
+-- promise. The actions move the disk and its medium just so, whatever the contents: a fuse and a
+-- cut do exactly what they say, a start that was not cut stood on contents that stand for
+-- something, a step in the background is one step. The power of the medium that comes back is on,
+-- nothing is unflushed, and no fuse is armed.
 pub record AreLived (before : Sim) (device : Device) (lives : List Life)
     (told : List Answer) (after : Sim) : Type 0 where
   pub one_each : length told ≡ events_in lives
-  pub refusals : List Bool
-  pub moves : MovesBy device (Rests before) (actions_of_all lives) told refusals (Rests after)
-  pub refused : refused_events refusals + (state_of before).failures ≤ (state_of after).failures
-  pub ends : (limit : ℕ) (book : Book) → OpensOn (state_of before) book
-      → HasLimit (state_of before).size limit (state_of before).content
-      → EndsIn device limit book (actions_of_all lives) told refusals after
+  pub kept : KeepPromise before device lives told after
+  pub moves : MovesBy device (Rests before) (actions_of_all lives) told kept.refusals (Rests after)
   pub rests : IsAtRest after
   pub unfused : after.power.fuse ≡ None
   pub size_stays : (state_of after).size ≡ (state_of before).size
 
--- The promise of lives over a medium in memory, by what its images stand for.
-abbrev pub KeepPromise : Sim → Device → List Life → List Answer → Sim → Type 0
-KeepPromise before device lives told after =
-    let size : ℕ = (state_of before).size in
-    promise.IsKept (StandsForSome size) (StandsAs size) (HasLimit size) (presented device)
-    (state_of before).content (CutLeaves (state_of before).may_leave) (actions_of_all lives) told
-    (CutLeaves (state_of after).may_leave)
-
--- The same of the first of these lives, where the start of the one after them was refused.
+-- The promise of the first of these lives, where the start of the one after them was refused.
 pub record KeepPromiseUpTo (before : Sim) (device : Device) (lives : List Life)
     (told : List Answer) (after : Sim) : Type 0 where
   pub lived : List Life
   pub life : Life
   pub rest : List Life
   pub lives_are : lives ≡ lived ++ life ∷ rest
-  pub kept : let size : ℕ = (state_of before).size in
-      promise.IsKeptUpTo (StandsForSome size) (StandsAs size) (HasLimit size) (presented device)
-      (state_of before).content (CutLeaves (state_of before).may_leave)
-      (actions_of_all lived ++ armed_by life.fuse) told (CutLeaves (state_of after).may_leave)
+  pub kept : KeepsPromiseUpTo before device (actions_of_all lived ++ armed_by life.fuse) told after
 
--- Lives whose first opens with this book and has this limit, and the book with which the next would
--- have opened, whose start was refused.
-pub record StopsIn (device : Device) (limit : ℕ) (book : Book) (actions : List Action)
-    (told : List Answer) (refusals : List Bool) (counted : ℕ) (fault : StartFault) (after : Sim)
-    : Type 0 where
-  pub last : Standing
-  pub run : LivesRun (presented device) (first_standing limit book) actions told refusals last
-  pub limited : book.ours ≡ true → LeavesLimit limit (Rests after)
-  pub next : Book
-  pub opens : Opens last.place next
-  pub cause : book.ours ≡ true → MayRefuse next counted (state_of after).failures fault
-  pub found : book.ours ≡ true → EachCut (MayFind (state_of after).size next) (state_of after)
+-- A start was refused with this fault for a cause, on each book with which the first life may open:
+-- by the book with which the refused one would have opened, and the refused calls.
+abbrev pub IsRefusedFor : (before : Sim) (device : Device) (actions : List Action)
+    (told : List Answer) (fault : StartFault) (after : Sim)
+    → KeepsPromiseUpTo before device actions told after → Type 0
+IsRefusedFor before device actions told fault after kept =
+    (limit : ℕ) (book : Book) (opens : OpensOn (state_of before) book)
+    (has : HasLimit (state_of before).size limit (state_of before).content) → book.ours ≡ true
+    → MayRefuse (kept.lives limit book opens has).next
+    (refused_events kept.refusals + (state_of before).failures) (state_of after).failures fault
 
 -- The first of these lives were lived, and left a medium in this state. The start of the one after
 -- them was refused with this fault, though power did not go in it: why, whatever the medium held at
 -- first.
 pub record AreLivedUpTo (before : Sim) (device : Device) (lives : List Life)
     (told : List Answer) (fault : StartFault) (after : Sim) : Type 0 where
-  pub lived : List Life
-  pub life : Life
-  pub rest : List Life
-  pub lives_are : lives ≡ lived ++ life ∷ rest
+  pub up_to : KeepPromiseUpTo before device lives told after
   pub at : Sim
-  pub were_lived : AreLived before device lived told at
+  pub were_lived : AreLived before device up_to.lived told at
   pub cause : IsNotOpened (state_of at) (state_of after) fault
   -- the medium with the fuse of that life, if it has one, on which the start was made
   pub armed : Sim
   pub arming : List Bool
-  pub arms : MovesBy device (Rests at) (armed_by life.fuse) [] arming (Rests armed)
+  pub arms : MovesBy device (Rests at) (armed_by up_to.life.fuse) [] arming (Rests armed)
   pub start : IsRefusedStart armed fault after
-  pub refusals : List Bool
-  pub refusals_are : refusals ≡ were_lived.refusals ++ arming
-  pub refused : refused_events refusals + (state_of before).failures ≤ (state_of after).failures
-  pub stops : (limit : ℕ) (book : Book) → OpensOn (state_of before) book
-      → HasLimit (state_of before).size limit (state_of before).content
-      → StopsIn device limit book
-      (actions_of_all lived ++ armed_by life.fuse) told refusals
-      (refused_events refusals + (state_of before).failures) fault after
+  pub refusals_are : up_to.kept.refusals ≡ were_lived.kept.refusals ++ arming
+  pub refused : IsRefusedFor before device (actions_of_all up_to.lived ++ armed_by up_to.life.fuse)
+      told fault after up_to.kept
   pub on : after.power.off ≡ false
   pub size_stays : (state_of after).size ≡ (state_of before).size

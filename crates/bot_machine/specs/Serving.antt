@@ -18,7 +18,7 @@ use Rattle.bot_machine.specs.declared.wire.Phase.TheVariants.{DataOut}
 use Rattle.bot_machine.specs.declared.wire.Wire.{Wire}
 use Rattle.spec.specs.Packets.{bytes_of}
 use Rattle.spec.specs.Exchange.{Line, Script}
-use Rattle.spec.specs.Conversation.{IsCarriedOut, Opens, Locks, Takes}
+use Rattle.spec.specs.Conversation.{IsCarriedOut, OpensExchange, Locks, Takes}
 use Rattle.spec.specs.UnitConversation.{way_of, Intends, write_of_packet, on_line}
 use Rattle.bot_machine.specs.Acts.{PacketCarriesOut}
 use Rattle.bot_machine.specs.Refinement.{taking_of, line_with, IsInPhase}
@@ -50,7 +50,7 @@ module _ {M : Type 0} (before after : State) (old new : UnitValue M) (from to : 
   -- a packet comes where a command wrapper is expected
   abbrev pub BeginsOn : List ℕ → Type 0
   BeginsOn packet = (book : Book) → FitsUnit before old book → Proceeds before after old new
-      (λ unit later. Opens Intends CarriesOut Ticks (has_refused before after)
+      (λ unit later. OpensExchange Intends CarriesOut Ticks (has_refused before after)
       packet (on_line from unit) (on_line to later)
       ⊎ Locks Intends CarriesOut Ticks (has_refused before after)
       packet (on_line from unit) (on_line to later)) None book

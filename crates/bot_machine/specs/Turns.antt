@@ -3,7 +3,7 @@ use Rattle.std.specs.Prelude.{◌≡◌, ⊤, ℕ, Bool, false, List, [], ◌∷
 use Rattle.std.specs.Prelude.{Result}
 use Rattle.spec.specs.declared.way.Way.{Way}
 use Rattle.spec.specs.declared.status.Status.{Status}
-use Rattle.spec.specs.CommandWrapper.{number_at}
+use Rattle.spec.specs.CommandWrapper.{field_at}
 use Rattle.spec.specs.StatusWrapper.{status_wrapper}
 use Rattle.spec.specs.declared.event.Event.{Event}
 use Rattle.spec.specs.declared.event.Event.TheVariants as event
@@ -23,7 +23,7 @@ pub data Mark : Type 0 where
 -- a packet to Bulk-Out, which is halted or not: what was left before it, and what is left after it
 abbrev pub marks_of_out : Bool → Script → List ℕ → Script → List Mark
 marks_of_out false finished packet finished = []
-marks_of_out false finished packet left = takes (number_at packet 4) ∷ []
+marks_of_out false finished packet left = takes (field_at packet 4) ∷ []
 marks_of_out halted before packet left = []
 
 -- a token to Bulk-In, which is halted or not

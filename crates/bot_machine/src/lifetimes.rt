@@ -2,7 +2,6 @@
 ghost use Rattle.std.specs.Prelude.{◌≡◌, ◌≤◌, ◌+◌, [], ◌∷◌, ◌++◌, None, List, length, map, OnOk};
 ghost use Rattle.std.specs.Prelude.{OnErr, IfOk, IfErr, MatchOption};
 ghost use Rattle.medium.specs.Sim.{IsFused};
-ghost use Rattle.medium.specs.Writes.{keeps};
 ghost use Rattle.spec.specs.declared.event.Answer.{Answer};
 ghost use Rattle.spec.specs.Lives.{plays};
 ghost use Rattle.bot_machine.specs.Device.{device_by, device_of};
@@ -95,7 +94,8 @@ pub fn run_lives_with(
 }
 
 /// Lives a disk's lives with packets of this size, which no packet of the events exceeds, and appends
-/// an answer to each event. In each life a disk that retires as is asked here is started on the
+/// an answer to each event. The clause `promise` says what a host may rely on, by `spec` alone, and
+/// `moves` what the same actions do to the disk and its medium. In each life a disk that retires as is asked here is started on the
 /// medium that the one before has left, its events come, and the power is cut. Where a fuse lets the
 /// power go, in the start or in an event, every answer from there on is `Off`. Memory is taken by the
 /// starts alone.

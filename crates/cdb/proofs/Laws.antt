@@ -9,7 +9,8 @@ use Rattle.spec.specs.declared.command.Command.{Command}
 use Rattle.spec.specs.declared.command.Command.TheVariants.{Inquiry}
 use Rattle.spec.specs.declared.command.Transfer.{Transfer}
 use Rattle.spec.specs.declared.command.BlockRange.{BlockRange}
-use Rattle.spec.specs.Commands.{Row, byte_at, flag_at, is_one_of, vital_pages, form_tests, outcome_of, command_of, table, number_at}
+use Rattle.spec.specs.Commands.{Row, byte_at, flag_at, is_one_of, form_tests, judged_by, command_of, table, number_at}
+use Rattle.spec.specs.Inquiry.{page_codes}
 use Rattle.spec.specs.Commands.{test_unit_ready, request_sense, inquiry, mode_select, mode_sense, read_capacity_10, read_capacity_16}
 use Rattle.spec.specs.Commands.{read_10, write_10, read_16, write_16, synchronize_cache_10, synchronize_cache_16, transfer_10, transfer_16}
 use Rattle.spec.specs.Commands.{range_10, range_16, transfer_tests, range_tests, mode_sense_tests}
@@ -20,7 +21,7 @@ use Rattle.cdb.proofs.Rows.{by_rows}
 -- the command of a row is supported where the tests of its fields say so
 row_supported : (n limit : ℕ) (block : List ℕ) (row : Row)
     → (AllPassed row.fields → IsSupported n limit row.command)
-    → IfOk (outcome_of block row) (IsSupported n limit)
+    → IfOk (judged_by block row) (IsSupported n limit)
 row_supported n limit block row by_fields =
     let tests = form_tests row.size row.byte_1 block in
     IfOk-judged (IsSupported n limit) (tests ++ row.fields) row.command
@@ -40,7 +41,7 @@ on_medium : (n : ℕ) (range : BlockRange) → AllPassed (range_tests n range)
 on_medium n range passed = leb-true (range.address + range.count) n passed.0
 
 served_page : (n limit page allocation : ℕ) (vital : Bool)
-    → is_one_of (if vital then vital_pages else 0x00 ∷ []) page ≡ true
+    → is_one_of (if vital then page_codes else 0x00 ∷ []) page ≡ true
     → IsSupported n limit (Inquiry (if vital then Some page else None) allocation)
 served_page n limit page allocation true passed = passed
 served_page n limit page allocation false passed = tt
@@ -131,7 +132,7 @@ saved_pages : IsRefusal saving_parameters_not_supported
 saved_pages = inr (inr (inr (inr refl)))
 
 row_refused : (block : List ℕ) (row : Row) → AllRefuse IsRefusal row.fields
-    → IfErr (outcome_of block row) IsRefusal
+    → IfErr (judged_by block row) IsRefusal
 unfolding form_tests
 row_refused block row by_fields =
     let tests = form_tests row.size row.byte_1 block in

@@ -7,7 +7,7 @@ use Rattle.std.proofs.lemmas.Bool.{le-leb}
 use Rattle.byteorder.specs.Endian.{big_number}
 use Rattle.byteorder.specs.Numbers.{big_from-append}
 use Rattle.spec.specs.Judging.{Test, judged}
-use Rattle.spec.specs.Commands.{Row, byte_at, number_at, form_tests, outcome_of, outcome_of_row, command_of, table, test_unit_ready}
+use Rattle.spec.specs.Commands.{Row, byte_at, number_at, form_tests, judged_by, judged_by_row, command_of, table, test_unit_ready}
 use Rattle.spec.specs.Commands.{request_sense, inquiry, mode_select, mode_sense, read_capacity_10, read_capacity_16, read_10, write_10}
 use Rattle.spec.specs.Commands.{read_16, write_16, synchronize_cache_10, synchronize_cache_16}
 use Rattle.cdb.specs.Supported.{command_size}
@@ -42,9 +42,9 @@ form_past size allowed block more two enough =
 
 -- what a block says by a row, where more follows
 row_past : (block more : List ℕ) (row row' : Row) → row ≡ row' → 1 < row'.size
-    → row'.size ≤ length block → outcome_of (block ++ more) row ≡ outcome_of block row'
+    → row'.size ≤ length block → judged_by (block ++ more) row ≡ judged_by block row'
 row_past block more row row' same two enough =
-    ap (outcome_of (block ++ more)) same
+    ap (judged_by (block ++ more)) same
     ∙ ap (λ (tests : List Test). judged (tests ++ row'.fields) row'.command)
     (form_past row'.size row'.byte_1 block more two enough)
 
@@ -146,7 +146,7 @@ past n limit block more some enough =
     let code = byte_at 0 block in
     let whole = block ++ more in
     let size = sized code (length block) in
-    ap (λ (k : ℕ). outcome_of_row whole (find (λ (row : Row). row.code == k) (table n limit whole)))
+    ap (λ (k : ℕ). judged_by_row whole (find (λ (row : Row). row.code == k) (table n limit whole)))
     (byte_past 0 block more some)
     ∙ by_same_rows whole block code (table n limit whole) (table n limit block) (
       refl,

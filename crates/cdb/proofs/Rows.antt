@@ -4,24 +4,24 @@ use Rattle.std.proofs.lemmas.Bool.{eqb-true}
 use Rattle.spec.specs.Sense.{Sense}
 use Rattle.spec.specs.SenseCodes.{invalid_command_operation_code}
 use Rattle.spec.specs.declared.command.Command.{Command}
-use Rattle.spec.specs.Commands.{Row, outcome_of, outcome_of_row}
+use Rattle.spec.specs.Commands.{Row, judged_by, judged_by_row}
 
 -- what each row of an operation code says of a block has a property
 abbrev pub EachRow : (Result Command Sense → Type 0) → List ℕ → ℕ → List Row → Type 0
 EachRow P block code [] = ⊤
 EachRow P block code (row ∷ rows) =
-    (row.code ≡ code → P (outcome_of block row)) × EachRow P block code rows
+    (row.code ≡ code → P (judged_by block row)) × EachRow P block code rows
 
 at_row : (P : Result Command Sense → Type 0) (block : List ℕ) (row : Row) (rest : Option Row)
-    (found : Bool) → (found ≡ true → P (outcome_of block row)) → P (outcome_of_row block rest)
-    → P (outcome_of_row block (cond found (Some row) rest))
+    (found : Bool) → (found ≡ true → P (judged_by block row)) → P (judged_by_row block rest)
+    → P (judged_by_row block (cond found (Some row) rest))
 at_row P block row rest true here others = here refl
 at_row P block row rest false here others = others
 
 -- then so has what the block says
 pub by_rows : (P : Result Command Sense → Type 0) (block : List ℕ) (code : ℕ) (rows : List Row)
     → P (Err invalid_command_operation_code) → EachRow P block code rows
-    → P (outcome_of_row block (find (λ (row : Row). row.code == code) rows))
+    → P (judged_by_row block (find (λ (row : Row). row.code == code) rows))
 by_rows P block code [] unknown each = unknown
 by_rows P block code (row ∷ rows) unknown each =
     at_row P block row (find (λ (r : Row). r.code == code) rows) (row.code == code)
@@ -34,12 +34,12 @@ SameRows block other code [] (row ∷ rows) = ⊥
 SameRows block other code (row ∷ rows) [] = ⊥
 SameRows block other code (row ∷ rows) (row' ∷ rows') =
     (row.code ≡ row'.code) × (row.code ≡ code
-    → outcome_of block row ≡ outcome_of other row') × SameRows block other code rows rows'
+    → judged_by block row ≡ judged_by other row') × SameRows block other code rows rows'
 
 at_rows : (block other : List ℕ) (row row' : Row) (rest rest' : Option Row) (found found' : Bool)
-    → found ≡ found' → (found ≡ true → outcome_of block row ≡ outcome_of other row')
-    → outcome_of_row block rest ≡ outcome_of_row other rest'
-    → outcome_of_row block (cond found (Some row) rest) ≡ outcome_of_row other
+    → found ≡ found' → (found ≡ true → judged_by block row ≡ judged_by other row')
+    → judged_by_row block rest ≡ judged_by_row other rest'
+    → judged_by_row block (cond found (Some row) rest) ≡ judged_by_row other
     (cond found' (Some row') rest')
 at_rows block other row row' rest rest' true true same here others = here refl
 at_rows block other row row' rest rest' false false same here others = others
@@ -49,7 +49,7 @@ at_rows block other row row' rest rest' false true same here others = cc
 -- then they say the same
 pub by_same_rows : (block other : List ℕ) (code : ℕ) (rows rows' : List Row)
     → SameRows block other code rows rows'
-    → outcome_of_row block (find (λ (row : Row). row.code == code) rows) ≡ outcome_of_row other
+    → judged_by_row block (find (λ (row : Row). row.code == code) rows) ≡ judged_by_row other
     (find (λ (row : Row). row.code == code) rows')
 by_same_rows block other code [] [] each = refl
 by_same_rows block other code [] (row ∷ rows) each = absurd each

@@ -12,7 +12,7 @@ use Rattle.spec.specs.declared.command.Command.TheVariants.{ReadCapacity16}
 use Rattle.spec.specs.declared.command.Transfer.{Transfer}
 use Rattle.spec.specs.declared.command.BlockRange.{BlockRange}
 use Rattle.spec.specs.Commands.{Row, number_at, is_one_of, form_tests, transfer_flags, transfer_tests, range_tests, transfer_10}
-use Rattle.spec.specs.Commands.{transfer_16, range_10, range_16, synchronize_flags, mode_sense_tests, outcome_of, command_of, inquiry}
+use Rattle.spec.specs.Commands.{transfer_16, range_10, range_16, synchronize_flags, mode_sense_tests, judged_by, command_of, inquiry}
 use Rattle.spec.specs.Commands.{mode_select, mode_sense, read_capacity_16}
 use Rattle.cdb.specs.Supported.{IsWithin, HasModePage, IsSupported}
 use Rattle.cdb.specs.Written.{FitsFields, block_of, fua_bit, ten_bytes, sixteen_bytes}
@@ -29,7 +29,7 @@ number_written place bytes x block rest there fits =
 -- a block that passes its tests says the command that they were made for
 row_written : (block : List ℕ) (row : Row) (command : Command)
     → AllPassed (form_tests row.size row.byte_1 block) → AllPassed row.fields
-    → row.command ≡ command → outcome_of block row ≡ Ok command
+    → row.command ≡ command → judged_by block row ≡ Ok command
 row_written block row command form fields same =
     let tests = form_tests row.size row.byte_1 block in
     judged_all (tests ++ row.fields) row.command (AllPassed-append tests row.fields form fields)
@@ -100,7 +100,7 @@ form_16_written code address count false = (refl, (refl, (refl, tt)))
 transfer_row : (code size n limit : ℕ) (make : Transfer → Command) (block : List ℕ)
     (found meant : Transfer) → found ≡ meant → AllPassed (form_tests size transfer_flags block)
     → IsWithin n limit meant
-    → outcome_of block
+    → judged_by block
     (record {
       code = code;
       size = size;
@@ -126,7 +126,7 @@ transfer_row code size n limit make block found meant same form within =
 range_row : (code size n : ℕ) (make : BlockRange → Command) (block : List ℕ)
     (found meant : BlockRange) → found ≡ meant → AllPassed (form_tests size synchronize_flags block)
     → meant.address + meant.count ≤ n
-    → outcome_of block
+    → judged_by block
     (record {
       code = code;
       size = size;
@@ -152,7 +152,7 @@ range_row code size n make block found meant same form within =
 transfer_10_row : (code n limit : ℕ) (make : Transfer → Command) (t : Transfer) → IsWithin n limit t
     → (t.address < 2 ^ 32) × (t.count < 2 ^ 16) →
     let block = ten_bytes code (fua_bit t.fua) t.address t.count in
-    outcome_of block
+    judged_by block
     (record {
       code = code;
       size = 10;
@@ -171,7 +171,7 @@ transfer_10_row code n limit make t within fits =
 transfer_16_row : (code n limit : ℕ) (make : Transfer → Command) (t : Transfer) → IsWithin n limit t
     → (t.address < 2 ^ 64) × (t.count < 2 ^ 32) →
     let block = sixteen_bytes code (fua_bit t.fua) t.address t.count in
-    outcome_of block
+    judged_by block
     (record {
       code = code;
       size = 16;
@@ -224,7 +224,7 @@ mode_passed control page subpage has = (
 )
 
 mode_sense_written : (control page subpage allocation : ℕ) → HasModePage control page subpage
-    → outcome_of (block_of (ModeSense control page subpage allocation))
+    → judged_by (block_of (ModeSense control page subpage allocation))
     (mode_sense (block_of (ModeSense control page subpage allocation))) ≡ Ok
     (ModeSense control page subpage allocation)
 unfolding block_of form_tests

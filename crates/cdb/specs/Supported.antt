@@ -12,7 +12,8 @@ use Rattle.spec.specs.declared.command.Command.TheVariants.{ModeSelect, ModeSens
 use Rattle.spec.specs.declared.command.Command.TheVariants.{Read10, Write10, SynchronizeCache10}
 use Rattle.spec.specs.declared.command.Command.TheVariants.{Read16, Write16, SynchronizeCache16}
 use Rattle.spec.specs.declared.command.Command.TheVariants.{ReadCapacity16}
-use Rattle.spec.specs.Commands.{is_one_of, vital_pages}
+use Rattle.spec.specs.Commands.{is_one_of}
+use Rattle.spec.specs.Inquiry.{page_codes}
 
 -- a READ or WRITE that moves at most so many blocks, all of them on a medium of n blocks
 pub record IsWithin (n limit : ℕ) (transfer : Transfer) : Type 0 where
@@ -31,7 +32,7 @@ abbrev pub IsSupported : ℕ → ℕ → Command → Type 0
 IsSupported n limit TestUnitReady = ⊤
 IsSupported n limit (RequestSense allocation) = ⊤
 IsSupported n limit (Inquiry None allocation) = ⊤
-IsSupported n limit (Inquiry (Some page) allocation) = IsTrue (is_one_of vital_pages page)
+IsSupported n limit (Inquiry (Some page) allocation) = IsTrue (is_one_of page_codes page)
 IsSupported n limit (ModeSelect length) = IsTrue (is_one_of (0 ∷ 4 ∷ 24 ∷ []) length)
 IsSupported n limit (ModeSense control page subpage allocation) = HasModePage control page subpage
 IsSupported n limit ReadCapacity10 = ⊤

@@ -5,7 +5,7 @@
 ghost use Rattle.std.specs.Prelude.{◌≡◌, ◌≤◌, ◌++◌, length};
 ghost use Rattle.spec.specs.declared.command.Transfer.{Transfer};
 ghost use Rattle.spec.specs.Judging.{judged};
-ghost use Rattle.spec.specs.Commands.{outcome_of, flag_at, form_tests, range_tests, range_10};
+ghost use Rattle.spec.specs.Commands.{judged_by, flag_at, form_tests, range_tests, range_10};
 ghost use Rattle.spec.specs.Commands.{range_16, transfer_tests, transfer_10, transfer_16};
 ghost use Rattle.spec.specs.Commands.{transfer_flags, synchronize_flags, read_capacity_10};
 ghost use Rattle.spec.specs.Commands.{read_capacity_16};
@@ -27,14 +27,14 @@ const IMMED: u8 = 0x02;
 const READ_CAPACITY_16_ACTION: u8 = 0x10;
 
 pub(crate) fn read_capacity_10(block: &[u8]) -> Result<Command, Sense>
-    ensures { result ≡ outcome_of block.now read_capacity_10 }
+    ensures { result ≡ judged_by block.now read_capacity_10 }
 {
     check_form(block, 10, &[0])?;
     Ok(Command::ReadCapacity10)
 }
 
 pub(crate) fn read_capacity_16(block: &[u8]) -> Result<Command, Sense>
-    ensures { result ≡ outcome_of block.now (read_capacity_16 block.now) }
+    ensures { result ≡ judged_by block.now (read_capacity_16 block.now) }
 {
     check_form(block, 16, &[READ_CAPACITY_16_ACTION])?;
     Ok(Command::ReadCapacity16 {

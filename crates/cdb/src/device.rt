@@ -4,7 +4,7 @@
 
 ghost use Rattle.std.specs.Prelude.{◌≡◌, ◌<◌, ◌≤◌, length};
 ghost use Rattle.spec.specs.Judging.{judged};
-ghost use Rattle.spec.specs.Commands.{outcome_of, test_unit_ready, request_sense, inquiry};
+ghost use Rattle.spec.specs.Commands.{judged_by, test_unit_ready, request_sense, inquiry};
 ghost use Rattle.spec.specs.Commands.{inquiry_page, inquiry_tests, mode_select, mode_sense};
 ghost use Rattle.spec.specs.Commands.{mode_sense_tests};
 
@@ -36,14 +36,14 @@ const SAVED_VALUES: u8 = 3;
 const LIST_LENGTHS: [u8; 3] = [0, 4, 24];
 
 pub(crate) fn test_unit_ready(block: &[u8]) -> Result<Command, Sense>
-    ensures { result ≡ outcome_of block.now test_unit_ready }
+    ensures { result ≡ judged_by block.now test_unit_ready }
 {
     check_form(block, 6, &[0])?;
     Ok(Command::TestUnitReady)
 }
 
 pub(crate) fn request_sense(block: &[u8]) -> Result<Command, Sense>
-    ensures { result ≡ outcome_of block.now (request_sense block.now) }
+    ensures { result ≡ judged_by block.now (request_sense block.now) }
 {
     check_form(block, 6, &[0])?;
     Ok(Command::RequestSense {
@@ -52,7 +52,7 @@ pub(crate) fn request_sense(block: &[u8]) -> Result<Command, Sense>
 }
 
 pub(crate) fn inquiry(block: &[u8]) -> Result<Command, Sense>
-    ensures { result ≡ outcome_of block.now (inquiry block.now) }
+    ensures { result ≡ judged_by block.now (inquiry block.now) }
 {
     check_form(block, 6, &[0, EVPD])?;
     let page = inquiry_page(block)?;
@@ -79,7 +79,7 @@ fn inquiry_page(block: &[u8]) -> Result<Option<u8>, Sense>
 }
 
 pub(crate) fn mode_select(block: &[u8]) -> Result<Command, Sense>
-    ensures { result ≡ outcome_of block.now (mode_select block.now) }
+    ensures { result ≡ judged_by block.now (mode_select block.now) }
 {
     check_form(block, 6, &[PAGE_FORMAT])?;
     let length = block[4];
@@ -91,7 +91,7 @@ pub(crate) fn mode_select(block: &[u8]) -> Result<Command, Sense>
 
 #[tactic(auto, using(crate::proofs::Judging::judging, std::proofs::lemmas::Grind::common_steps))]
 pub(crate) fn mode_sense(block: &[u8]) -> Result<Command, Sense>
-    ensures { result ≡ outcome_of block.now (mode_sense block.now) }
+    ensures { result ≡ judged_by block.now (mode_sense block.now) }
 {
     check_form(block, 6, &[0, DISABLE_BLOCK_DESCRIPTORS])?;
     let (control, page) = (block[2] >> 6, block[2] & 0x3f);

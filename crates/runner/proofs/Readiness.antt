@@ -17,12 +17,11 @@ use Rattle.bot_machine.specs.Books.{StandsAs}
 use Rattle.bot_machine.specs.Device.{presented, Device}
 use Rattle.spec.specs.Rules.{UnitState, CarriesOut, Ticks}
 use Rattle.spec.specs.Sense.{Sense}
-use Rattle.bot_machine.specs.Starting.{IsOursForSome}
 use Rattle.spec.specs.declared.event.Event.{Event}
 use Rattle.spec.specs.declared.event.Event.TheVariants as event
 use Rattle.spec.specs.declared.event.Answer.{Answer}
 use Rattle.bot_machine.specs.declared.life.Life.{Life}
-use Rattle.spec.specs.Conversation.{Conversation, Begins, Opens as OpensExchange, OutStep}
+use Rattle.spec.specs.Conversation.{Conversation, Begins, OpensExchange, OutStep}
 use Rattle.spec.specs.UnitConversation.{UnitStep, Intends}
 use Rattle.spec.specs.Exchange.{Script, finished, taking, sending, Moment, at_once, after_data, never, moment_of}
 use Rattle.spec.specs.Lives.{Action, arms, fails, starts, plays, cuts, Remains, Place, before_first, between, runs, off, Standing, Opens}
@@ -34,11 +33,6 @@ use Rattle.bot_machine.proofs.Beginning.{next_opens}
 use Rattle.bot_machine.proofs.UnitLaws.{knows_images, ours_stay}
 use Rattle.runner.specs.Laws.{IsReadyFor, FormatIsReady, MigrationIsReady, LivesAreReady}
 
--- an image that is ours for a book is ours for something
-ours_for_some : (size blocks : ℕ) (image : Image) (array : Array) (next : ℕ) → StandsAs size blocks image array next
-    → IsOursForSome size image
-ours_for_some size blocks image array next s = (s.0, array, next, s.2)
-
 -- where nothing is unflushed and the contents are ours for a book, a life opens with it
 opens_at_rest : (m : Sim) (blocks : ℕ) (array : Array) (next : ℕ) → m.unflushed ≡ []
     → StandsAs (state_of m).size blocks (state_of m).content array next → OpensOn (state_of m) (opened blocks array next true)
@@ -47,7 +41,7 @@ opens_at_rest m blocks array next none stands = record {
   stands = knows_images.stands_for (state_of m).size (opened blocks array next true) (state_of m).content stands;
   ours = λ is image cut.
       let same : image ≡ (state_of m).content = only_image (state_of m).content (state_of m).may_leave (none_flushed m none) image cut in
-      subst (IsOursForSome (state_of m).size) (sym same) (ours_for_some (state_of m).size blocks (state_of m).content array next stands);
+      (blocks, array, next, subst (λ (i : Image). StandsAs (state_of m).size blocks i array next) (sym same) stands);
 }
 
 -- ---- a medium that was formatted or migrated, and cut
@@ -298,18 +292,22 @@ opens_next m book (off remains) none is ours from rests found = absurd rests
 
 pub lives_are_ready : LivesAreReady
 lives_are_ready = λ before after device lives told lived limit book opens has ours.
-    let ends = lived.ends limit book opens has in
+    let ends = lived.kept.lives limit book opens has in
+    let here : EachCut (FoundAt (state_of after).size ends.last.place) (state_of after) =
+    λ image cut. subst (λ (n : ℕ). FoundAt n ends.last.place image) (sym lived.size_stays) (ends.found ours image cut) in
+    let limits : EachCut (HasLimit (state_of after).size limit) (state_of after) =
+    λ image cut. subst (λ (n : ℕ). HasLimit n limit image) (sym lived.size_stays) (ends.limited ours image cut) in
     let first : Standing = first_standing limit book in
     let from =
-    from_run device book (actions_of_all lives) first ends.last told lived.refusals (record { first = refl; ours = refl }) ends.run in
-    let rests = all_between device lives first ends.last told lived.refusals tt ends.run in
-    let next = opens_next after book ends.last.place lived.rests.flushed opens.opens ours from rests (ends.found ours) in (
+    from_run device book (actions_of_all lives) first ends.last told lived.kept.refusals (record { first = refl; ours = refl }) ends.run in
+    let rests = all_between device lives first ends.last told lived.kept.refusals tt ends.run in
+    let next = opens_next after book ends.last.place lived.rests.flushed opens.opens ours from rests here in (
       next.0,
       record {
         rests = lived.rests;
         unfused = lived.unfused;
         opens = next.1;
-        limited = content_has (HasLimit (state_of after).size limit) (state_of after) (is_sound after) (ends.limited ours);
+        limited = content_has (HasLimit (state_of after).size limit) (state_of after) (is_sound after) limits;
         ours = next.2;
       },
       next.3,

@@ -1,28 +1,32 @@
 -- Lives of a disk over a medium in memory, from the first on.
 use Rattle.std.proofs.Common.{◌≡◌, ℕ, ◌+◌, ◌≤◌, Bool, false, List, [], ◌∷◌, ◌++◌, None, Option, refl, subst, ◌∙◌, arith}
+use Rattle.medium.specs.Medium.{Image, CutLeaves}
 use Rattle.medium.specs.Sim.{Sim, state_of}
 use Rattle.bot_machine.specs.StartFaults.{StartFault}
 use Rattle.bot_machine.specs.StartFaults as start
 use Rattle.bot_machine.specs.Device.{presented, Device, Late}
 use Rattle.spec.specs.Identification.{Identification}
+use Rattle.bot_machine.specs.Books.{StandsAs, MayFind}
+use Rattle.bot_machine.specs.Starting.{StandsForSome}
 use Rattle.spec.specs.Book.{Book}
 use Rattle.spec.specs.declared.event.Answer.{Answer}
 use Rattle.bot_machine.specs.declared.stage.Stage.{Stage}
 use Rattle.bot_machine.specs.declared.stage.Stage.TheVariants.{Rests}
 use Rattle.spec.specs.Conversation.{refused_events}
-use Rattle.spec.specs.Promise.{first_standing}
-use Rattle.bot_machine.specs.Lifetimes.{EndsIn, StopsIn}
+use Rattle.spec.specs.Promise.{first_standing, AreKept, AreKeptUpTo}
+use Rattle.bot_machine.specs.Lifetimes.{KeepsPromise, KeepsPromiseUpTo, IsRefusedFor}
 use Rattle.spec.specs.Lives.{Action, plays, Standing, Opens, LivesRun}
-use Rattle.bot_machine.specs.LivesValue.{LivesValue, MayRefuse, LivesRefuseStart, HasLimit, LeavesLimit, FitsLives, OpensOn, IsAtRest}
+use Rattle.bot_machine.specs.LivesValue.{LivesValue, MayRefuse, LivesRefuseStart, HasLimit, LeavesLimit, FitsLives, OpensOn}
+use Rattle.bot_machine.specs.LivesValue.{IsAtRest, FoundAt}
 use Rattle.bot_machine.specs.Moving.{medium_in, MovesBy, IsRefusedStart}
 use Rattle.runner.specs.declared.fault.ScriptError.{ScriptError as ErrorOf}
 use Rattle.runner.specs.declared.fault.ScriptFault.{ScriptFault}
 use Rattle.runner.specs.declared.fault.ScriptFault.TheVariants.{Line, TooLong, Start, NoMemory, Reader, Writer}
-use Rattle.runner.specs.Lifetimes.{LineActs, AreLives, AreStopped}
+use Rattle.runner.specs.Lifetimes.{LineActs, AreMoved, AreStopped}
 use Rattle.runner.specs.Lines.{lines_of}
 use Rattle.std.specs.Io.KnownBytes.{IsAtEnd}
 use Rattle.runner.specs.Outcome.{IsRead, HasTaken}
-use Rattle.runner.specs.OutcomeOfLives.{ArePlayed, AreRefused}
+use Rattle.runner.specs.OutcomeOfLives.{ArePlayed, AreRefused, KeepsUntil}
 use Rattle.runner.specs.PlayedLives.{Acted, EndsBy, PlaysAll, PlaysUpTo}
 use Rattle.runner.specs.Script.{StopsAt, identification, device}
 
@@ -56,110 +60,141 @@ may_refuse book fewer counted failures start.LogTooSmall le h = h
 module _ (most : ℕ) (medium : Sim) (rest : IsAtRest medium) (unfused : medium.power.fuse ≡ None)
     (fits : (limit : ℕ) (book : Book) → OpensOn (state_of medium) book → HasLimit (state_of medium).size limit (state_of medium).content
     → FitsLives (first_over most medium) (first_standing limit book)) where
-  are_lives : (actions : List Action) (answers : List Answer) (new : LivesValue) → Acted (first_over most medium) actions answers new
-      → AreLives most medium (medium_in new.stage) actions answers
-  are_lives actions answers new acted = record {
-    fits = acted.fits false (λ _. (unfused, rest.on));
-    stage = new.stage;
-    refusals = acted.goes_on.refusals;
-    moves = acted.goes_on.moves;
-    left = refl;
-    refused = acted.goes_on.refused;
-    ends = ends;
-  }
+  module _ (actions : List Action) (answers : List Answer) (new : LivesValue) (acted : Acted (first_over most medium) actions answers new)
     where
-      ends : (limit : ℕ) (book : Book) → OpensOn (state_of medium) book → HasLimit (state_of medium).size limit (state_of medium).content
-          → EndsIn (device most) limit book actions answers acted.goes_on.refusals (medium_in new.stage)
-      ends limit book opens has =
+      kept_from : (limit : ℕ) (book : Book) → OpensOn (state_of medium) book → HasLimit (state_of medium).size limit (state_of medium).content
+          → AreKept (StandsForSome (state_of medium).size) (StandsAs (state_of medium).size) (HasLimit (state_of medium).size)
+          (presented (device most)) limit book actions answers acted.goes_on.refusals
+          (CutLeaves (state_of (medium_in new.stage)).may_leave)
+      kept_from limit book opens has =
           let g = acted.goes_on.goes (first_standing limit book) (fits limit book opens has) in
           record {
             last = g.there;
             run = subst (λ (i : Device). LivesRun (presented i) (first_standing limit book) actions answers acted.goes_on.refusals g.there)
                 acted.goes_on.device_stays g.run;
-            limited = λ ours. subst (λ (n : ℕ). LeavesLimit n new.stage) (g.limit_stays ours) (g.fits.limited (g.ours ∙ ours));
-            found = λ ours. g.fits.found (g.ours ∙ ours);
+            limited = λ ours image cut. subst (λ (n : ℕ). HasLimit n limit image) acted.goes_on.size_stays
+                (subst (λ (n : ℕ). LeavesLimit n new.stage) (g.limit_stays ours) (g.fits.limited (g.ours ∙ ours)) image cut);
+            found = λ ours image cut. subst (λ (n : ℕ). FoundAt n g.there.place image) acted.goes_on.size_stays
+                (g.fits.found (g.ours ∙ ours) image cut);
           }
 
-  stops : (actions : List Action) (answers : List Answer) (mid new : LivesValue) (fault : StartFault)
-      (acted : Acted (first_over most medium) actions answers mid) (refused : LivesRefuseStart mid fault new) (limit : ℕ) (book : Book)
-      → OpensOn (state_of medium) book → HasLimit (state_of medium).size limit (state_of medium).content
-      → StopsIn (device most) limit book actions answers acted.goes_on.refusals
-      (refused_events acted.goes_on.refusals + (state_of medium).failures) fault (medium_in new.stage)
-  stops actions answers mid new fault acted refused limit book opens has =
-      let on = acted.goes_on in
-      let g = on.goes (first_standing limit book) (fits limit book opens has) in
-      let l = refused.stops.goes g.there g.fits in
-      let fewer = on.refused in
-      record {
-        last = g.there;
-        run = subst (λ (i : Device). LivesRun (presented i) (first_standing limit book) actions answers on.refusals g.there)
-            on.device_stays g.run;
-        limited = λ ours. subst (λ (n : ℕ). LeavesLimit n new.stage) (g.limit_stays ours) (l.limited (l.ours ∙ g.ours ∙ ours));
-        next = l.book;
-        opens = subst (λ (s : Standing). Opens s.place l.book) (stays new.device refused.stops.refusals g.there l.there l.run) l.opens;
-        cause = λ ours. may_refuse l.book (refused_events on.refusals + (state_of medium).failures)
-            (refused_events refused.stops.refusals + (state_of (medium_in mid.stage)).failures) (state_of (medium_in new.stage)).failures
-            fault (omega (arith, fewer)) (l.cause (l.ours ∙ g.ours ∙ ours));
-        found = λ ours. l.found (l.ours ∙ g.ours ∙ ours);
+      keep : KeepsPromise medium (device most) actions answers (medium_in new.stage)
+      keep = record { refusals = acted.goes_on.refusals; few = acted.goes_on.refused; lives = kept_from }
+
+      moved : AreMoved most medium (medium_in new.stage) actions answers keep.refusals
+      unfolding keep
+      moved = record {
+        fits = acted.fits false (λ _. (unfused, rest.on));
+        stage = new.stage;
+        moves = acted.goes_on.moves;
+        left = refl;
       }
 
-  are_stopped : (actions : List Action) (answers : List Answer) (mid new : LivesValue) (fault : StartFault)
-      → Acted (first_over most medium) actions answers mid → LivesRefuseStart mid fault new
-      → AreStopped most medium (medium_in new.stage) actions answers fault
-  unfolding are_lives
-  are_stopped actions answers mid new fault acted refused =
-      let stop = refused.stops in
-      let same = not_moved mid.device stop.refusals mid.stage (Rests stop.at) stop.moves in
-      let first = acted.goes_on.refused in
-      let then = stop.refused in
-      record {
-        mid = medium_in mid.stage;
-        lives = are_lives actions answers mid acted;
-        rests = subst (λ (s : Stage). s ≡ Rests (medium_in s)) same refl;
-        start = subst (λ (s : Stage). IsRefusedStart (medium_in s) fault (medium_in new.stage)) same stop.start;
-        counted = omega (arith, first, then);
-        stops = stops actions answers mid new fault acted refused;
-      }
+  module _ (actions : List Action) (answers : List Answer) (mid new : LivesValue) (fault : StartFault)
+      (acted : Acted (first_over most medium) actions answers mid) (refused : LivesRefuseStart mid fault new) where
+    abbrev size : ℕ
+    size = (state_of medium).size
+
+    size_stays : (state_of (medium_in new.stage)).size ≡ size
+    size_stays = refused.stops.size_stays ∙ acted.goes_on.size_stays
+
+    stopped_at : (limit : ℕ) (book : Book) → OpensOn (state_of medium) book → HasLimit size limit (state_of medium).content
+        → AreKeptUpTo (StandsForSome size) (StandsAs size) (HasLimit size) (presented (device most)) limit book actions answers
+        acted.goes_on.refusals (CutLeaves (state_of (medium_in new.stage)).may_leave)
+    stopped_at limit book opens has =
+        let on = acted.goes_on in
+        let g = on.goes (first_standing limit book) (fits limit book opens has) in
+        let l = refused.stops.goes g.there g.fits in
+        record {
+          last = g.there;
+          run = subst (λ (i : Device). LivesRun (presented i) (first_standing limit book) actions answers on.refusals g.there)
+              on.device_stays g.run;
+          next = l.book;
+          opens = subst (λ (s : Standing). Opens s.place l.book) (stays new.device refused.stops.refusals g.there l.there l.run) l.opens;
+          limited = λ ours image cut. subst (λ (n : ℕ). HasLimit n limit image) size_stays
+              (subst (λ (n : ℕ). LeavesLimit n new.stage) (g.limit_stays ours) (l.limited (l.ours ∙ g.ours ∙ ours)) image cut);
+          found = λ ours image cut. subst (λ (n : ℕ). MayFind n l.book image) size_stays (l.found (l.ours ∙ g.ours ∙ ours) image cut);
+        }
+
+    keeps : KeepsPromiseUpTo medium (device most) actions answers (medium_in new.stage)
+    keeps =
+        let first = acted.goes_on.refused in
+        let then = refused.stops.refused in
+        record { refusals = acted.goes_on.refusals; few = omega (arith, first, then); lives = stopped_at }
+
+    refused_for : IsRefusedFor medium (device most) actions answers fault (medium_in new.stage) keeps
+    unfolding keeps stopped_at
+    refused_for limit book opens has ours =
+        let on = acted.goes_on in
+        let g = on.goes (first_standing limit book) (fits limit book opens has) in
+        let l = refused.stops.goes g.there g.fits in
+        let fewer = on.refused in
+        may_refuse l.book (refused_events on.refusals + (state_of medium).failures)
+        (refused_events refused.stops.refusals + (state_of (medium_in mid.stage)).failures) (state_of (medium_in new.stage)).failures
+        fault (omega (arith, fewer)) (l.cause (l.ours ∙ g.ours ∙ ours))
+
+    are_stopped : AreStopped most medium (medium_in new.stage) actions answers fault keeps
+    unfolding keep moved keeps
+    are_stopped =
+        let stop = refused.stops in
+        let same = not_moved mid.device stop.refusals mid.stage (Rests stop.at) stop.moves in
+        record {
+          mid = medium_in mid.stage;
+          were_kept = keep actions answers mid acted;
+          same = refl;
+          moved = moved actions answers mid acted;
+          rests = subst (λ (s : Stage). s ≡ Rests (medium_in s)) same refl;
+          start = subst (λ (s : Stage). IsRefusedStart (medium_in s) fault (medium_in new.stage)) same stop.start;
+          refused = refused_for;
+        }
 
   module _ (left was now : Option (List ℕ)) (script : List ℕ) (read : IsRead left script) where
     are_played : (after : Sim) → PlaysAll was now (first_over most medium) most (lines_of script) after
         → ArePlayed most left was now medium after
-    are_played after all = record {
-      script = script;
-      read = read;
-      actions = all.actions;
-      acts = all.acts;
-      answers = all.tells.answers;
-      lives = subst (λ (m : Sim). AreLives most medium m all.actions all.tells.answers) all.left
-          (are_lives all.actions all.tells.answers all.new all.tells.acted);
-      written = all.tells.written;
-    }
+    are_played after all = subst (λ (m : Sim). ArePlayed most left was now medium m) all.left (record {
+      promise = record {
+        script = script;
+        read = read;
+        actions = all.actions;
+        acts = all.acts;
+        answers = all.tells.answers;
+        written = all.tells.written;
+        kept = keep all.actions all.tells.answers all.new all.tells.acted;
+      };
+      moved = moved all.actions all.tells.answers all.new all.tells.acted;
+    })
 
     ended : (first part : List Action) (last : Action) (answers : List Answer) (new : LivesValue) (fault : ScriptFault)
         → StopsAt (LineActs most) (lines_of script) first part last
         → EndsBy was now (first_over most medium) (first ++ part) answers last new fault
         → AreRefused most left was now medium fault (medium_in new.stage)
     ended first part last answers new (Start fault) stops ends = record {
-      script = script;
-      read = read;
-      first = first;
-      part = part;
-      stops = subst (λ (a : Action). StopsAt (LineActs most) (lines_of script) first part a) ends.is stops;
-      answers = answers;
+      promise = record {
+        script = script;
+        read = read;
+        first = first;
+        part = part;
+        stops = subst (λ (a : Action). StopsAt (LineActs most) (lines_of script) first part a) ends.is stops;
+        answers = answers;
+        written = ends.written;
+        kept = keeps (first ++ part) answers ends.mid new fault ends.acted ends.refused;
+      };
       stopped = are_stopped (first ++ part) answers ends.mid new fault ends.acted ends.refused;
-      written = ends.written;
     }
     ended first part last answers new Writer stops ends = record {
-      script = script;
-      read = read;
-      first = first;
-      part = part;
-      event = ends.event;
-      stops = subst (λ (a : Action). StopsAt (LineActs most) (lines_of script) first part a) ends.is stops;
-      answers = answers;
-      answer = ends.answer;
-      lives = are_lives ((first ++ part) ++ plays ends.event ∷ []) (answers ++ ends.answer ∷ []) new ends.acted;
-      written = ends.written;
+      promise = record {
+        script = script;
+        read = read;
+        first = first;
+        part = part;
+        event = ends.event;
+        stops = subst (λ (a : Action). StopsAt (LineActs most) (lines_of script) first part a) ends.is stops;
+        answers = answers;
+        answer = ends.answer;
+        written = ends.written;
+        kept = keep ((first ++ part) ++ plays ends.event ∷ []) (answers ++ ends.answer ∷ []) new ends.acted;
+      };
+      moved = moved ((first ++ part) ++ plays ends.event ∷ []) (answers ++ ends.answer ∷ []) new ends.acted;
     }
     ended first part last answers new (Line number) stops ends = absurd ends
     ended first part last answers new TooLong stops ends = absurd ends
@@ -195,6 +230,16 @@ module _ (most : ℕ) (medium : Sim) (rest : IsAtRest medium) (unfused : medium.
       → AreRefused most left was now medium error.fault error.medium
   is_refused error up_to = are_refused most medium rest unfused fits left was now script read error.fault error.medium
       (subst (λ (l : LivesValue). PlaysUpTo was now l most (lines_of script) error.fault error.medium) same up_to)
+
+-- what is told of a script that was refused tells of the promise
+pub until : (most : ℕ) (left was now : Option (List ℕ)) (medium back : Sim) (fault : ScriptFault)
+    → AreRefused most left was now medium fault back → KeepsUntil most left was now medium fault back
+until most left was now medium back (Start fault) refused = refused.promise
+until most left was now medium back Writer refused = refused.promise
+until most left was now medium back (Line number) refused = refused.0
+until most left was now medium back TooLong refused = refused.0
+until most left was now medium back NoMemory refused = refused
+until most left was now medium back Reader refused = refused
 
 -- a script that was played up to a fault was read to its end
 pub taken_up_to : (most : ℕ) (was now : Option (List ℕ)) (lives : LivesValue) (lines : List (List ℕ)) (error : ErrorOf Sim)

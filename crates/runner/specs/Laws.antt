@@ -49,4 +49,4 @@ LivesAreReady = (before after : Sim) (device : Device) (lives : List Life)
     (limit : ℕ) (book : Book) (opens : OpensOn (state_of before) book)
     (has : HasLimit (state_of before).size limit (state_of before).content) → book.ours ≡ true
     → (next : Book) × IsReadyFor after limit next
-    × Opens (lived.ends limit book opens has).last.place next
+    × Opens (lived.kept.lives limit book opens has).last.place next

@@ -1,17 +1,14 @@
 -- What a script of several lives plays, and its text.
-use Rattle.std.specs.Prelude.{◌≡◌, ◌≤◌, ℕ, ◌+◌, Bool, true, false, List, [], ◌∷◌, ◌++◌, flat_map}
+use Rattle.std.specs.Prelude.{◌≡◌, ℕ, Bool, true, false, List, [], ◌∷◌, ◌++◌, flat_map}
 use Rattle.std.specs.Prelude.{◌==◌}
 use Rattle.std.specs.List.{list_any}
-use Rattle.medium.specs.Sim.{Sim, state_of}
+use Rattle.medium.specs.Sim.{Sim}
 use Rattle.bot_machine.specs.StartFaults.{StartFault}
-use Rattle.spec.specs.Book.{Book}
 use Rattle.spec.specs.declared.event.Event.{Event}
 use Rattle.spec.specs.declared.event.Answer.{Answer}
 use Rattle.spec.specs.declared.event.Answer.TheVariants.{Off}
-use Rattle.spec.specs.Conversation.{refused_events}
-use Rattle.bot_machine.specs.Lifetimes.{EndsIn, StopsIn}
+use Rattle.bot_machine.specs.Lifetimes.{KeepsPromise, KeepsPromiseUpTo, IsRefusedFor}
 use Rattle.spec.specs.Lives.{Action, arms, fails, starts, plays, cuts}
-use Rattle.bot_machine.specs.LivesValue.{OpensOn, HasLimit}
 use Rattle.bot_machine.specs.Moving.{medium_in, MovesBy, IsRefusedStart}
 use Rattle.bot_machine.specs.declared.stage.Stage.{Stage}
 use Rattle.bot_machine.specs.declared.stage.Stage.TheVariants.{Rests}
@@ -89,36 +86,26 @@ fused_after fused (starts ∷ actions) = fused_after fused actions
 fused_after fused (cuts keeps ∷ actions) = fused_after false actions
 fused_after fused (plays event ∷ actions) = fused_after fused actions
 
--- Lives of a disk with packets of at most so many bytes, over a medium in memory, and the answers.
--- The actions move the disk and its medium one after another, and leave this medium: a fuse, a
--- failure and a cut do exactly what they say, an event is one step of the disk, and each step in
--- the background is one. The truth values say in which of them the medium refused a call. For each
--- book with which a first life opens over the contents they are a run of lives; a cut afterwards
--- leaves what may be found.
-pub record AreLives (most : ℕ) (before after : Sim) (actions : List Action)
-    (answers : List Answer) : Type 0 where
+-- Actions of a disk with packets of at most so many bytes, over a medium in memory, and the answers:
+-- they move the disk and its medium one after another, and leave this medium. A fuse, a failure and
+-- a cut do exactly what they say, an event is one step of the disk, and each step in the background
+-- is one. The truth values say in which of them the medium refused a call.
+pub record AreMoved (most : ℕ) (before after : Sim) (actions : List Action)
+    (answers : List Answer) (refusals : List Bool) : Type 0 where
   pub fits : AnswersFit false actions answers
   pub stage : Stage
-  pub refusals : List Bool
   pub moves : MovesBy (device most) (Rests before) actions answers refusals stage
   pub left : medium_in stage ≡ after
-  pub refused : refused_events refusals + (state_of before).failures ≤ (state_of after).failures
-  pub ends : (limit : ℕ) (book : Book) → OpensOn (state_of before) book
-      → HasLimit (state_of before).size limit (state_of before).content
-      → EndsIn (device most) limit book actions answers refusals after
 
--- Lives of a disk, and then, where no disk ran, a start that was refused with this fault, though
--- power did not go in it. For each book with which a first life opens it was refused for a cause,
--- and a cut afterwards leaves what may be found.
+-- Lives that keep the promise up to a start: no disk ran, and the start was refused with this fault
+-- for a cause, though power did not go in it.
 pub record AreStopped (most : ℕ) (before after : Sim) (actions : List Action)
-    (answers : List Answer) (fault : StartFault) : Type 0 where
+    (answers : List Answer) (fault : StartFault)
+    (kept : KeepsPromiseUpTo before (device most) actions answers after) : Type 0 where
   pub mid : Sim
-  pub lives : AreLives most before mid actions answers
-  pub rests : lives.stage ≡ Rests mid
+  pub were_kept : KeepsPromise before (device most) actions answers mid
+  pub same : kept.refusals ≡ were_kept.refusals
+  pub moved : AreMoved most before mid actions answers kept.refusals
+  pub rests : moved.stage ≡ Rests mid
   pub start : IsRefusedStart mid fault after
-  pub counted : refused_events lives.refusals + (state_of before).failures
-      ≤ (state_of after).failures
-  pub stops : (limit : ℕ) (book : Book) → OpensOn (state_of before) book
-      → HasLimit (state_of before).size limit (state_of before).content
-      → StopsIn (device most) limit book actions answers lives.refusals
-      (refused_events lives.refusals + (state_of before).failures) fault after
+  pub refused : IsRefusedFor before (device most) actions answers fault after kept

@@ -3,6 +3,7 @@ use Rattle.std.specs.Prelude.{◌<◌, ℕ, List, [], ◌∷◌, ◌++◌, lengt
 use Rattle.std.specs.Io.KnownBytes.{Appends}
 use Rattle.medium.specs.Sim.{Sim}
 use Rattle.bot_machine.specs.StartFaults.{StartFault}
+use Rattle.bot_machine.specs.Lifetimes.{KeepsPromise, KeepsPromiseUpTo}
 use Rattle.spec.specs.declared.event.Event.{Event}
 use Rattle.spec.specs.declared.event.Answer.{Answer}
 use Rattle.spec.specs.Lives.{Action, starts, plays}
@@ -10,41 +11,51 @@ use Rattle.runner.specs.declared.fault.ScriptFault.{ScriptFault}
 use Rattle.runner.specs.declared.fault.ScriptFault.TheVariants.{Line, TooLong, Start, NoMemory}
 use Rattle.runner.specs.declared.fault.ScriptFault.TheVariants.{Reader, Writer}
 use Rattle.runner.specs.declared.line.ScriptKind.TheVariants.{Lives}
-use Rattle.runner.specs.Lifetimes.{LineActs, Acts, AreLives, AreStopped, text_of_lives}
+use Rattle.runner.specs.Lifetimes.{LineActs, Acts, AreMoved, AreStopped, text_of_lives}
 use Rattle.runner.specs.Lines.{lines_of}
 use Rattle.runner.specs.Outcome.{script_limit, IsRead, IsLeftAlone, HasBadLine}
-use Rattle.runner.specs.Script.{StopsAt}
+use Rattle.runner.specs.Script.{StopsAt, device}
 use Rattle.runner.specs.Streams.{AppendsUpTo}
 use Rattle.runner.specs.Text.{line_for}
 
 module _ (most : ℕ) (left was now : Option (List ℕ)) (medium : Sim) where
-  -- the script was played whole: exactly the text of the answers in lives of its actions was
-  -- appended
-  pub record ArePlayed (after : Sim) : Type 0 where
+  -- the script was played whole: exactly the text of the answers to its actions was appended, and
+  -- these keep the promise
+  pub record KeepsPlayed (after : Sim) : Type 0 where
     pub script : List ℕ
     pub read : IsRead left script
     pub actions : List Action
     pub acts : Acts most (lines_of script) actions
     pub answers : List Answer
-    pub lives : AreLives most medium after actions answers
     pub written : Appends was now (text_of_lives actions answers)
+    pub kept : KeepsPromise medium (device most) actions answers after
+
+  -- and they moved the disk and its medium
+  pub record ArePlayed (after : Sim) : Type 0 where
+    pub promise : KeepsPlayed after
+    pub moved : AreMoved most medium after promise.actions promise.answers promise.kept.refusals
 
   -- a start that a line of the script came to was refused: the text of the lives before it was
-  -- appended
-  pub record AreRefusedAStart (fault : StartFault) (back : Sim) : Type 0 where
+  -- appended, and they keep the promise
+  pub record KeepsToAStart (back : Sim) : Type 0 where
     pub script : List ℕ
     pub read : IsRead left script
     pub first : List Action
     pub part : List Action
     pub stops : StopsAt (LineActs most) (lines_of script) first part starts
     pub answers : List Answer
-    pub stopped : AreStopped most medium back (first ++ part) answers fault
     pub written : Appends was now (text_of_lives (first ++ part) answers)
+    pub kept : KeepsPromiseUpTo medium (device most) (first ++ part) answers back
+
+  pub record AreRefusedAStart (fault : StartFault) (back : Sim) : Type 0 where
+    pub promise : KeepsToAStart back
+    pub stopped : AreStopped most medium back (promise.first ++ promise.part) promise.answers fault
+        promise.kept
 
   -- The writer failed at one line of the script: the lines before it acted and their answers were
   -- written. Of that line events were played, all of whose answers were written but the last one's:
   -- a first part of that was, and at least one byte of it is missing. Nothing was done behind it.
-  pub record AreCutShort (back : Sim) : Type 0 where
+  pub record KeepsToALine (back : Sim) : Type 0 where
     pub script : List ℕ
     pub read : IsRead left script
     pub first : List Action
@@ -53,12 +64,24 @@ module _ (most : ℕ) (left was now : Option (List ℕ)) (medium : Sim) where
     pub stops : StopsAt (LineActs most) (lines_of script) first part (plays event)
     pub answers : List Answer
     pub answer : Answer
-    pub lives : AreLives most medium back (first ++ part ++ plays event ∷ [])
-        (answers ++ answer ∷ [])
     pub written : AppendsUpTo was now (text_of_lives (first ++ part) answers)
         (line_for event answer)
+    pub kept : KeepsPromise medium (device most) (first ++ part ++ plays event ∷ [])
+        (answers ++ answer ∷ []) back
 
-  -- why a script was refused, and what was written then
+  pub record AreCutShort (back : Sim) : Type 0 where
+    pub promise : KeepsToALine back
+    pub moved : AreMoved most medium back
+        (promise.first ++ promise.part ++ plays promise.event ∷ [])
+        (promise.answers ++ promise.answer ∷ []) promise.kept.refusals
+
+  -- what was written of a script that was refused, and the promise of what was played
+  abbrev pub KeepsUntil : ScriptFault → Sim → Type 0
+  KeepsUntil (Start fault) back = KeepsToAStart back
+  KeepsUntil Writer back = KeepsToALine back
+  KeepsUntil fault back = IsLeftAlone medium back was now
+
+  -- why a script was refused, and how it moved the disk and its medium
   abbrev pub AreRefused : ScriptFault → Sim → Type 0
   AreRefused (Line number) back = IsLeftAlone medium back was now
       × HasBadLine Lives most left number

@@ -4,7 +4,7 @@ ghost use Rattle.std.specs.Io.KnownBytes.{IsAtEnd};
 ghost use Rattle.bot_machine.specs.LivesValue.{IsAtRest};
 ghost use Rattle.spec.specs.Packets.{bytes_of};
 ghost use Rattle.runner.specs.Outcome.{HasTaken};
-ghost use Rattle.runner.specs.OutcomeOfLives.{ArePlayed, AreRefused};
+ghost use Rattle.runner.specs.OutcomeOfLives.{ArePlayed, AreRefused, KeepsPlayed, KeepsUntil};
 
 use crate::fault::{ScriptError, ScriptFault};
 use crate::identity::disk_identity;
@@ -34,9 +34,14 @@ pub fn sim_script<R: Read, W: Write>(
 ) -> Result<SimMedium, ScriptError<SimMedium>>
     requires rests { IsAtRest medium }
     requires unfused { medium.power.fuse ≡ None }
-    ensures played { IfOk result (ArePlayed (bytes_of size) (R.remaining script.old)
+    ensures promise { IfOk result (KeepsPlayed (bytes_of size) (R.remaining script.old)
         (W.contents out.old) (W.contents out.new) medium) }
-    ensures refused { IfErr result (λ error. AreRefused (bytes_of size)
+    ensures moves { IfOk result (ArePlayed (bytes_of size) (R.remaining script.old)
+        (W.contents out.old) (W.contents out.new) medium) }
+    ensures promise_until { IfErr result (λ error. KeepsUntil (bytes_of size)
+        (R.remaining script.old) (W.contents out.old) (W.contents out.new) medium error.fault
+        error.medium) }
+    ensures moves_until { IfErr result (λ error. AreRefused (bytes_of size)
         (R.remaining script.old) (W.contents out.old) (W.contents out.new) medium error.fault
         error.medium) }
     // There may be no memory for the numbers of writes, after all was read.

@@ -6,7 +6,7 @@ use Rattle.spec.specs.Book.{Book}
 use Rattle.spec.specs.Sense.{Sense}
 use Rattle.spec.specs.declared.command.Command.{Command}
 use Rattle.spec.specs.declared.command.Command.TheVariants as command
-use Rattle.spec.specs.Rules.{UnitState, Effect, fails, gives, effect_of, writes, selects, write_of_command, write_by, moves_blocks}
+use Rattle.spec.specs.Rules.{UnitState, Effect, fails_with, gives, effect_of, writes, selects, write_of_command, write_by, moves_blocks}
 use Rattle.spec.specs.Rules.{forces_reading, clears, selected_by, made_durable, accepting, needs_medium, reads_blocks, wants_writing}
 use Rattle.scsi_unit.specs.Laws.{IsSameLife, is_promising}
 
@@ -31,7 +31,7 @@ given : (unit : UnitState) (bytes : List ℕ) → Leaves unit None false (gives 
 given unit bytes =
     record { life = same_life unit.book; writes_are = refl; mark_is = refl; faulted_is = refl; limit_is = refl; bad = λ sense e. cc }
 
-failed : (unit : UnitState) (sense : Sense) → Leaves unit None false (fails sense unit)
+failed : (unit : UnitState) (sense : Sense) → Leaves unit None false (fails_with sense unit)
 failed unit sense =
     record { life = same_life unit.book; writes_are = refl; mark_is = refl; faulted_is = refl; limit_is = refl; bad = λ other e. refl }
 
@@ -133,7 +133,7 @@ uses_no_blocks (command.SynchronizeCache16 range) taken unit none = cc
 uses_no_blocks (command.ReadCapacity16 allocation) taken unit none = cc
 
 -- a refusal leaves all of the book
-pub refused_leaves : (unit : UnitState) (sense : Sense) → Leaves unit None false (fails sense unit)
+pub refused_leaves : (unit : UnitState) (sense : Sense) → Leaves unit None false (fails_with sense unit)
 refused_leaves unit sense = failed unit sense
 
 pub ok_or_err : {A : Type 0} (sent : A) (sense : Sense) → Ok sent ≡ Err sense → ⊥

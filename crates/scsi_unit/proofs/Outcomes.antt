@@ -7,7 +7,7 @@ use Rattle.spec.specs.Blocks.{Write}
 use Rattle.spec.specs.Book.{Book, StampsOut}
 use Rattle.spec.specs.Sense.{Sense}
 use Rattle.spec.specs.declared.command.Command.{Command}
-use Rattle.spec.specs.Rules.{UnitState, Effect, fails, effect_of, checked, write_after, write_of_command, with_progress, IsByTable}
+use Rattle.spec.specs.Rules.{UnitState, Effect, fails_with, effect_of, checked, write_after, write_of_command, with_progress, IsByTable}
 use Rattle.spec.specs.Rules.{IsOutcome, needs_medium, intention}
 use Rattle.spec.specs.Waiting.{after_failure}
 use Rattle.scsi_unit.specs.Laws.{IsFunction, IsSameLife, KeepsLimit, KeepsWrites, StaysFaulted, TicksOnly, is_promising}
@@ -19,7 +19,7 @@ use Rattle.scsi_unit.proofs.Effects.{Leaves, appended, leaves, refused_leaves, o
 -- what the table says of a command, or of its refusal
 abbrev pub table_of : Result Command Sense → List ℕ → UnitState → Effect
 table_of (Ok command) taken unit = effect_of command taken unit
-table_of (Err sense) taken unit = fails sense unit
+table_of (Err sense) taken unit = fails_with sense unit
 
 by_table : (refused : Bool) (told : Result Command Sense) (taken : List ℕ) (old : UnitState)
     → IsOutcome refused told taken old (table_of told taken old).answer (table_of told taken old).after
@@ -76,7 +76,7 @@ progress_is (Some write) book = inr (write, refl, refl)
 -- what holds after the table's line, after a read error, and after a write error, holds after each outcome
 by_cases : (P : UnitState → Type 0) (refused : Bool) (told : Result Command Sense) (taken : List ℕ) (old new : UnitState)
     (answer : Result (List ℕ) Sense) → P (table_of told taken old).after
-    → ((sense : Sense) → answer ≡ Err sense → P (fails sense old).after)
+    → ((sense : Sense) → answer ≡ Err sense → P (fails_with sense old).after)
     → ((book : Book) (sense : Sense) → answer ≡ Err sense → (book ≡ old.book) ⊎ (book ≡ with_progress old.book (write_after told taken))
     → P (record old { book = book; kept = after_failure sense old.kept; faulted = true }))
     → IsOutcome refused told taken old answer new → P new

@@ -22,7 +22,7 @@ use Rattle.spec.specs.declared.command.Command.{Command}
 use Rattle.spec.specs.declared.command.Command.TheVariants as command
 use Rattle.spec.specs.declared.command.Transfer.{Transfer}
 use Rattle.spec.specs.declared.command.BlockRange.{BlockRange}
-use Rattle.spec.specs.Rules.{UnitState, Effect, takes, gives, fails, made_durable, effect_of, moves_blocks, forces_reading}
+use Rattle.spec.specs.Rules.{UnitState, Effect, takes, gives, fails_with, made_durable, effect_of, moves_blocks, forces_reading}
 use Rattle.spec.specs.Rules.{write_of_command, write_after, wants_writing, with_progress, MayFault, IsByTable, IsOutcome}
 use Rattle.spec.specs.Capacity.{capacity_10}
 use Rattle.scsi_unit.specs.UnitValue.{UnitValue, unit_limit, state_of, answer_of}
@@ -74,7 +74,7 @@ died unit book faulted dead = ap (λ (f : Bool). settled (Err write_error) (beco
 
 -- a command that failed and left the unit as it was
 failed : (unit : UnitState) (sense : Sense) (faulted : Bool) → faulted ≡ unit.faulted
-    → settled (Err sense) (become unit unit.book faulted) ≡ (fails sense unit).after
+    → settled (Err sense) (become unit unit.book faulted) ≡ (fails_with sense unit).after
 failed unit sense faulted same = ap (λ (f : Bool). settled (Err sense) (become unit unit.book f)) same
 
 -- a command that moves nothing and answers nothing
@@ -257,7 +257,7 @@ module _ {M : Type 0} (before mid after : State) (old : UnitValue M) (half last 
             answered = ap Err refused.0;
             after = subst
                 (λ (e : Sense). settled (Err e) (become (state_of old book) book (is_dead last.cached))
-                ≡ (fails unrecovered_read_error (state_of old book)).after)
+                ≡ (fails_with unrecovered_read_error (state_of old book)).after)
                 (sym refused.0) (failed (state_of old book) unrecovered_read_error (is_dead last.cached) lives);
           })),
           more.fits book (turn.fits book fits),

@@ -7,7 +7,7 @@ use Rattle.spec.specs.Blocks.{Array}
 use Rattle.blocks.specs.Opening.{Shape, StartFault, IsOurs, IsOursForSome, IsOursWithNext, StandsForOneOf}
 use Rattle.blocks.specs.Started.{IsStarted, IsStartCause, IsOursSince, IsBounded, StartLeaves, LeavesMedium, StartsAhead, RefusesStart}
 use Rattle.blocks.specs.StoreValue.{StoreValue}
-use Rattle.blocks.proofs.Opening.{finds, is_cause_for}
+use Rattle.blocks.proofs.Opening.{each_ours, finds, is_cause_for}
 use Rattle.scsi_unit.specs.declared.retiring.Retiring.TheVariants.{Late, Ahead}
 use Rattle.scsi_unit.specs.Starting.{LeavesStarted, IsNotStarted, StoreStartsBy, StoreRefuses}
 use Rattle.scsi_unit.proofs.Books.{start_keeps_limit}
@@ -20,7 +20,8 @@ module _ (before after : State) where
   leaves sound cuts after_flush bounded = record {
     cuts = cuts;
     after_flush = after_flush;
-    finds = λ book on ours flushed. finds before after sound bounded.moments.size_stays book on flushed (cuts (on.ours ours));
+    finds = λ book on ours flushed. finds before after sound bounded.moments.size_stays book on flushed
+        (cuts (each_ours before book on ours));
     bounded = bounded;
   }
 

@@ -39,7 +39,7 @@ abbrev pub opened : ℕ → Array → ℕ → Bool → Book
 opened blocks array stamp ours =
     record { blocks = blocks; opening = array; stamp = stamp; writes = []; mark = 0; ours = ours }
 
--- no stamp may be left for a record: each takes one, and there are no more of them than writes
+-- The stamps may be used up: those below 2^63 are given one by one, at most one to each write.
 abbrev pub StampsOut : Book → Type 0
 StampsOut book = 2 ^ 63 - 1 ≤ book.stamp + length book.writes
 

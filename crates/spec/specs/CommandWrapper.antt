@@ -10,8 +10,8 @@ abbrev pub command_signature : List ℕ
 command_signature = 0x55 ∷ 0x53 ∷ 0x42 ∷ 0x43 ∷ []
 
 -- the little-endian number of four bytes from a place on
-abbrev pub number_at : List ℕ → ℕ → ℕ
-number_at packet place = little_number 4 (drop place packet)
+abbrev pub field_at : List ℕ → ℕ → ℕ
+field_at packet place = little_number 4 (drop place packet)
 
 -- the host announces so many bytes; if there are any, bit 7 of the flags is set if it reads them
 abbrev pub Announces : ℕ → ℕ → Way → Type 0
@@ -35,8 +35,8 @@ pub record IsMeaningful (packet : List ℕ) : Type 0 where
 pub record SpellsCommand (packet : List ℕ) (wrapper : Cbw) : Type 0 where
   pub valid : IsValid packet
   pub meaningful : IsMeaningful packet
-  pub tag : wrapper.tag ≡ number_at packet 4
-  pub host : Announces (number_at packet 8) (slice_index packet 12) wrapper.host
+  pub tag : wrapper.tag ≡ field_at packet 4
+  pub host : Announces (field_at packet 8) (slice_index packet 12) wrapper.host
   pub block : wrapper.block.items ≡ take (slice_index packet 14) (drop 15 packet)
 
 -- the packet spells no command block wrapper

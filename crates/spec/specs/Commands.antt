@@ -18,6 +18,7 @@ use Rattle.spec.specs.declared.command.Command.TheVariants.{ModeSelect, ModeSens
 use Rattle.spec.specs.declared.command.Command.TheVariants.{Read10, Write10, SynchronizeCache10}
 use Rattle.spec.specs.declared.command.Command.TheVariants.{Read16, Write16, SynchronizeCache16}
 use Rattle.spec.specs.declared.command.Command.TheVariants.{ReadCapacity16}
+use Rattle.spec.specs.Inquiry.{page_codes}
 use Rattle.spec.specs.Judging.{Test, must, judged}
 
 -- a row: operation code, length in bytes, the values that byte 1 may have, the tests of the other
@@ -63,11 +64,6 @@ request_sense block = record {
   command = RequestSense (byte_at 4 block);
 }
 
--- the vital product data pages: supported pages, unit serial number, device identification, and
--- block limits
-abbrev pub vital_pages : List ℕ
-vital_pages = 0x00 ∷ 0x80 ∷ 0x83 ∷ 0xb0 ∷ []
-
 -- INQUIRY: bit 0 of byte 1 is EVPD, byte 2 the page code, bytes 3 and 4 the allocation length.
 -- With EVPD 1 the page code is that of a vital product data page; with EVPD 0 it is 0, for
 -- standard data
@@ -76,7 +72,7 @@ inquiry_page block = if flag_at 0 block then Some (byte_at 2 block) else None
 
 abbrev pub inquiry_tests : List ℕ → List Test
 inquiry_tests block =
-    must (is_one_of (if flag_at 0 block then vital_pages else 0x00 ∷ []) (byte_at 2 block))
+    must (is_one_of (if flag_at 0 block then page_codes else 0x00 ∷ []) (byte_at 2 block))
     invalid_field_in_cdb ∷ []
 
 abbrev pub inquiry : List ℕ → Row
@@ -161,45 +157,26 @@ abbrev pub transfer_16 : List ℕ → Transfer
 transfer_16 block =
     record { address = number_at 2 8 block; count = number_at 10 4 block; fua = flag_at 3 block }
 
--- READ (10)
+abbrev pub transfer_row : ℕ → ℕ → ℕ → ℕ → Transfer → (Transfer → Command) → Row
+transfer_row code size n limit transfer command = record {
+  code = code;
+  size = size;
+  byte_1 = transfer_flags;
+  fields = transfer_tests n limit transfer;
+  command = command transfer;
+}
+
 abbrev pub read_10 : ℕ → ℕ → List ℕ → Row
-read_10 n limit block = record {
-  code = 0x28;
-  size = 10;
-  byte_1 = transfer_flags;
-  fields = transfer_tests n limit (transfer_10 block);
-  command = Read10 (transfer_10 block);
-}
+read_10 n limit block = transfer_row 0x28 10 n limit (transfer_10 block) Read10
 
--- WRITE (10)
 abbrev pub write_10 : ℕ → ℕ → List ℕ → Row
-write_10 n limit block = record {
-  code = 0x2a;
-  size = 10;
-  byte_1 = transfer_flags;
-  fields = transfer_tests n limit (transfer_10 block);
-  command = Write10 (transfer_10 block);
-}
+write_10 n limit block = transfer_row 0x2a 10 n limit (transfer_10 block) Write10
 
--- READ (16)
 abbrev pub read_16 : ℕ → ℕ → List ℕ → Row
-read_16 n limit block = record {
-  code = 0x88;
-  size = 16;
-  byte_1 = transfer_flags;
-  fields = transfer_tests n limit (transfer_16 block);
-  command = Read16 (transfer_16 block);
-}
+read_16 n limit block = transfer_row 0x88 16 n limit (transfer_16 block) Read16
 
--- WRITE (16)
 abbrev pub write_16 : ℕ → ℕ → List ℕ → Row
-write_16 n limit block = record {
-  code = 0x8a;
-  size = 16;
-  byte_1 = transfer_flags;
-  fields = transfer_tests n limit (transfer_16 block);
-  command = Write16 (transfer_16 block);
-}
+write_16 n limit block = transfer_row 0x8a 16 n limit (transfer_16 block) Write16
 
 -- SYNCHRONIZE CACHE: in byte 1 bit 1 is IMMED, which is ignored, and all others are 0.
 -- No block past the end of the medium; the limit of a transfer is none of it
@@ -218,25 +195,20 @@ range_10 block = record { address = number_at 2 4 block; count = number_at 7 2 b
 abbrev pub range_16 : List ℕ → BlockRange
 range_16 block = record { address = number_at 2 8 block; count = number_at 10 4 block }
 
--- SYNCHRONIZE CACHE (10)
-abbrev pub synchronize_cache_10 : ℕ → List ℕ → Row
-synchronize_cache_10 n block = record {
-  code = 0x35;
-  size = 10;
+abbrev pub range_row : ℕ → ℕ → ℕ → BlockRange → (BlockRange → Command) → Row
+range_row code size n range command = record {
+  code = code;
+  size = size;
   byte_1 = synchronize_flags;
-  fields = range_tests n (range_10 block);
-  command = SynchronizeCache10 (range_10 block);
+  fields = range_tests n range;
+  command = command range;
 }
 
--- SYNCHRONIZE CACHE (16)
+abbrev pub synchronize_cache_10 : ℕ → List ℕ → Row
+synchronize_cache_10 n block = range_row 0x35 10 n (range_10 block) SynchronizeCache10
+
 abbrev pub synchronize_cache_16 : ℕ → List ℕ → Row
-synchronize_cache_16 n block = record {
-  code = 0x91;
-  size = 16;
-  byte_1 = synchronize_flags;
-  fields = range_tests n (range_16 block);
-  command = SynchronizeCache16 (range_16 block);
-}
+synchronize_cache_16 n block = range_row 0x91 16 n (range_16 block) SynchronizeCache16
 
 -- ---- the table, and what a block says
 
@@ -267,15 +239,15 @@ form_tests size allowed block =
     ∷ must (is_one_of allowed (byte_at 1 block)) invalid_field_in_cdb ∷ []
 
 -- what a block says by a row: the command, or the sense of the first test that it does not pass
-abbrev pub outcome_of : List ℕ → Row → Result Command Sense
-outcome_of block row = judged (form_tests row.size row.byte_1 block ++ row.fields) row.command
+abbrev pub judged_by : List ℕ → Row → Result Command Sense
+judged_by block row = judged (form_tests row.size row.byte_1 block ++ row.fields) row.command
 
 -- what a block says by the row of its operation code, if there is one
-abbrev pub outcome_of_row : List ℕ → Option Row → Result Command Sense
-outcome_of_row block None = Err invalid_command_operation_code
-outcome_of_row block (Some row) = outcome_of block row
+abbrev pub judged_by_row : List ℕ → Option Row → Result Command Sense
+judged_by_row block None = Err invalid_command_operation_code
+judged_by_row block (Some row) = judged_by block row
 
 -- the command that a block says, or the sense with which it is refused
 unfoldable pub command_of : ℕ → ℕ → List ℕ → Result Command Sense
 command_of n limit block =
-    outcome_of_row block (find (λ row. row.code == byte_at 0 block) (table n limit block))
+    judged_by_row block (find (λ row. row.code == byte_at 0 block) (table n limit block))

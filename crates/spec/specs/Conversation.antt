@@ -70,7 +70,7 @@ module _ {S F : Type 0} (Intends : S → List ℕ → Way → Type 0)
       × (new.line ≡ told_at_once case command intended PhaseError old.line)
 
   -- a packet that spells a command wrapper
-  pub record Opens (packet : List ℕ) (old new : Conversation S) : Type 0 where
+  pub record OpensExchange (packet : List ℕ) (old new : Conversation S) : Type 0 where
     pub command : Cbw
     pub intended : Way
     pub case : Case
@@ -123,7 +123,7 @@ module _ {S F : Type 0} (Intends : S → List ℕ → Way → Type 0)
   abbrev pub OutStep : Bool → Script → List ℕ → Conversation S → Answer → Conversation S → Type 0
   OutStep true left packet old answer new = (answer ≡ Stall) × (new ≡ old)
   OutStep false finished packet old answer new =
-      (answer ≡ Ack) × (Opens packet old new ⊎ Locks packet old new)
+      (answer ≡ Ack) × (OpensExchange packet old new ⊎ Locks packet old new)
   OutStep false (taking case command intended bytes due) packet old answer new =
       (answer ≡ Ack) × Takes case command intended bytes due packet old new
   OutStep false (sending packets halt status) packet old answer new = (answer ≡ Nak) × (new ≡ old)

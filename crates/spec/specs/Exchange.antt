@@ -29,11 +29,13 @@ pub data Script : Type 0 where
   -- packets to send, the endpoint that is halted with the last of them, and the status wrapper
   sending : List (List ℕ) → Option Endpoint → List ℕ → Script
 
--- how many bytes a packet has at most, two halts, a lock, and what is left of the exchange
+-- the line to the host, and what is left of the exchange on it
 pub record Line : Type 0 where
+  -- how many bytes a packet has at most
   pub packet_size : ℕ
   pub in_halted : Bool
   pub out_halted : Bool
+  -- both endpoints stay halted until a mass storage reset: a packet spelled no command wrapper
   pub locked : Bool
   pub left : Script
 
@@ -59,27 +61,19 @@ set_halt endpoint.Out halt s = record s { out_halted = halt }
 -- packets, a halt with the last of them or at once where there is none, and a status wrapper
 abbrev pub laid_out : List (List ℕ) → Option Endpoint → List ℕ → Line → Line
 laid_out [] None status s = record s { left = sending [] None status }
-laid_out [] (Some endpoint) status s = set_halt endpoint true (record s {
-  left = sending [] None
-      status;
-})
-laid_out (packet ∷ packets) halt status s = record s {
-  left = sending (packet ∷ packets) halt
-      status;
-}
+laid_out [] (Some end) status s = set_halt end true (record s { left = sending [] None status })
+laid_out (first ∷ more) halt status s = record s { left = sending (first ∷ more) halt status }
 
 -- the next packet, or the status wrapper where no packet is left
 abbrev pub next_packet : Script → Answer
-next_packet finished = Nak
-next_packet (taking case command intended bytes due) = Nak
 next_packet (sending [] halt status) = Data (record { items = status })
 next_packet (sending (packet ∷ packets) halt status) = Data (record { items = packet })
+next_packet left = Nak
 
 abbrev pub after_packet : Script → Line → Line
-after_packet finished s = s
-after_packet (taking case command intended bytes due) s = s
 after_packet (sending [] halt status) s = record s { left = finished }
 after_packet (sending (packet ∷ packets) halt status) s = laid_out packets halt status s
+after_packet left s = s
 
 -- a token to Bulk-In
 abbrev pub in_answer : Line → Answer
@@ -112,18 +106,13 @@ pub data Moment : Type 0 where
 
 abbrev pub moment_of : Case → Moment
 moment_of C1 = at_once
-moment_of C2 = never
-moment_of C3 = never
 moment_of C4 = at_once
 moment_of C5 = at_once
 moment_of C6 = at_once
-moment_of C7 = never
-moment_of C8 = never
 moment_of C9 = after_data
-moment_of C10 = never
 moment_of C11 = after_data
 moment_of C12 = after_data
-moment_of C13 = never
+moment_of case = never
 
 -- a command that intended to send and failed goes on as case 4
 abbrev pub case_if_failed : Case → Case

@@ -78,16 +78,14 @@ pub record OpensAfter (remains : Remains) (next : Book) : Type 0 where
 abbrev pub Opens : Place → Book → Type 0
 Opens (before_first book) next = next ≡ book
 Opens (between remains) next = OpensAfter remains next
-Opens (runs conversation) next = ⊥
-Opens (off remains) next = ⊥
+Opens place next = ⊥
 
 -- A life that begins at this place has this limit: the first that of the image with which the lives
 -- began, and a later one, where every image was ours then, that of the life before.
 abbrev pub KeepsLimit : Place → ℕ → ℕ → Type 0
 KeepsLimit (before_first book) old limit = limit ≡ old
 KeepsLimit (between remains) old limit = remains.book.ours ≡ true → limit ≡ old
-KeepsLimit (runs conversation) old limit = ⊥
-KeepsLimit (off remains) old limit = ⊥
+KeepsLimit place old limit = ⊥
 
 -- a disk that has just started with this book
 abbrev pub started : ℕ → Presentation → Book → Conversation UnitState
@@ -114,8 +112,7 @@ pub record LifeBegins (disk : Presentation) (refused : Bool) (old new : Standing
 abbrev pub StartsAt : Place → Presentation → Bool → Standing → Standing → Type 0
 StartsAt (before_first book) disk refused old new = LifeBegins disk refused old new
 StartsAt (between remains) disk refused old new = LifeBegins disk refused old new
-StartsAt (runs conversation) disk refused old new = new ≡ old
-StartsAt (off remains) disk refused old new = new ≡ old
+StartsAt place disk refused old new = new ≡ old
 
 -- an event that is whole
 pub record EventEnds (conversation : Conversation UnitState) (refused : Bool) (event : Event)
@@ -135,20 +132,18 @@ pub record EventIsCut (conversation : Conversation UnitState) (refused : Bool) (
 
 -- an event: it is whole, or power goes in it; where power is off, nothing changes
 abbrev pub PlaysAt : Place → Bool → Event → Answer → Standing → Standing → Type 0
-PlaysAt (before_first book) refused event answer old new = ⊥
-PlaysAt (between remains) refused event answer old new = ⊥
 PlaysAt (runs conversation) refused event answer old new =
     EventEnds conversation refused event answer old new
     ⊎ EventIsCut conversation refused event answer old new
 PlaysAt (off remains) refused event answer old new = (answer ≡ Off) × (new ≡ old)
+PlaysAt place refused event answer old new = ⊥
 
 -- where lives stand after a cut
 abbrev pub after_cut : Place → Place
-after_cut (before_first book) = before_first book
-after_cut (between remains) = between remains
 after_cut (runs conversation) =
     between (record { book = conversation.unit.book; in_progress = None })
 after_cut (off remains) = between remains
+after_cut place = place
 
 -- One action and its answers, none or one; did the medium refuse a call in it?
 abbrev pub LivesStep : Presentation → Bool → Standing → Action → List Answer → Standing → Type 0

@@ -5,6 +5,7 @@ use Rattle.std.specs.Prelude.{None}
 use Rattle.spec.specs.declared.event.Answer.{Answer}
 use Rattle.spec.specs.Blocks.{Array, Write}
 use Rattle.spec.specs.Book.{Book, after_first, with_write, opened}
+use Rattle.spec.specs.Conversation.{refused_events}
 use Rattle.spec.specs.Lives.{Presentation, Action, Place, before_first, between, runs, off}
 use Rattle.spec.specs.Lives.{Standing, Opens, LivesRun}
 
@@ -17,7 +18,9 @@ module _ {Image : Type 0} (Holds : ℕ → Image → Array → ℕ → Type 0) w
   -- the image holds the blocks after some of the first writes of the book, the promised ones at
   -- least
   pub record MayFind (book : Book) (image : Image) : Type 0 where
+    -- how many of the writes
     pub count : ℕ
+    -- the next stamp: each write since the book opened took one at most, and a start takes one
     pub next : ℕ
     pub promises : book.mark ≤ count
     pub accepted : count ≤ length book.writes
@@ -40,10 +43,9 @@ module _ {Image : Type 0} (Holds : ℕ → Image → Array → ℕ → Type 0) w
   FoundAt (runs conversation) image = MayFind conversation.unit.book image
   FoundAt (off remains) image = FoundWith remains.book remains.in_progress image
 
--- Content stands for blocks and a next stamp, or it does so and is ours: no sector of it carries a
--- stamp that is later than it may be. A limit is the most blocks of one READ or WRITE.
-module _ {Image : Type 0} (StandsFor IsOurs : ℕ → Image → Array → ℕ → Type 0)
-    (HasLimit : ℕ → Image → Type 0) where
+-- An image stands for blocks and a next stamp. It is ours where it does so and was written by lives
+-- alone, so that a later write is never taken for an earlier one.
+module _ {Image : Type 0} (StandsFor IsOurs : ℕ → Image → Array → ℕ → Type 0) where
   -- A first life opens with this book on a medium with this content, of which a loss of power may
   -- leave these images. Where the book says so, each of them is ours.
   pub record OpensOn (content : Image) (Leaves : Image → Type 0) (book : Book) : Type 0 where
@@ -52,8 +54,11 @@ module _ {Image : Type 0} (StandsFor IsOurs : ℕ → Image → Array → ℕ �
     pub ours : book.ours ≡ true → (image : Image) → Leaves image
         → (blocks : ℕ) × (array : Array) × (next : ℕ) × IsOurs blocks image array next
 
-  -- Lives by the rules, of which the first opens with this book and has this limit, and what a loss
-  -- of power may leave after them.
+-- A limit is the most blocks of one READ or WRITE: an image tells it.
+module _ {Image : Type 0} (StandsFor IsOurs : ℕ → Image → Array → ℕ → Type 0)
+    (HasLimit : ℕ → Image → Type 0) where
+  -- Lives by the rules, of which the first opens with this book and has this limit, and what a
+  -- loss of power may leave after them.
   pub record AreKept (disk : Presentation) (limit : ℕ) (book : Book) (actions : List Action)
       (answers : List Answer) (refusals : List Bool) (Leaves : Image → Type 0) : Type 0 where
     pub last : Standing
@@ -62,14 +67,17 @@ module _ {Image : Type 0} (StandsFor IsOurs : ℕ → Image → Array → ℕ �
     pub found : book.ours ≡ true → (image : Image) → Leaves image
         → FoundAt IsOurs last.place image
 
-  -- The promise: what was done, what was answered, and what a loss of power may leave are lives by
-  -- the rules, on each book with which the first may open over what the medium held.
+  -- The promise: what was done, what was answered, and what a loss of power may leave are lives
+  -- by the rules, on each book with which the first may open over what the medium held. The two
+  -- numbers are how many calls the medium had refused before, and how many it has afterwards.
   pub record IsKept (disk : Presentation) (content : Image) (Before : Image → Type 0)
-      (actions : List Action) (answers : List Answer) (Leaves : Image → Type 0) : Type 0 where
-    -- the actions in which the medium refused a call
+      (before after : ℕ) (actions : List Action) (answers : List Answer)
+      (Leaves : Image → Type 0) : Type 0 where
+    -- the actions in which the medium refused a call: no more than it refused
     pub refusals : List Bool
-    pub lives : (limit : ℕ) (book : Book) → OpensOn content Before book → HasLimit limit content
-        → AreKept disk limit book actions answers refusals Leaves
+    pub few : refused_events refusals + before ≤ after
+    pub lives : (limit : ℕ) (book : Book) → OpensOn StandsFor IsOurs content Before book
+        → HasLimit limit content → AreKept disk limit book actions answers refusals Leaves
 
   -- The same, where the next start was refused: the book with which that life would have opened,
   -- and what a start after it may find.
@@ -83,7 +91,9 @@ module _ {Image : Type 0} (StandsFor IsOurs : ℕ → Image → Array → ℕ �
     pub found : book.ours ≡ true → (image : Image) → Leaves image → MayFind IsOurs next image
 
   pub record IsKeptUpTo (disk : Presentation) (content : Image) (Before : Image → Type 0)
-      (actions : List Action) (answers : List Answer) (Leaves : Image → Type 0) : Type 0 where
+      (before after : ℕ) (actions : List Action) (answers : List Answer)
+      (Leaves : Image → Type 0) : Type 0 where
     pub refusals : List Bool
-    pub lives : (limit : ℕ) (book : Book) → OpensOn content Before book → HasLimit limit content
-        → AreKeptUpTo disk limit book actions answers refusals Leaves
+    pub few : refused_events refusals + before ≤ after
+    pub lives : (limit : ℕ) (book : Book) → OpensOn StandsFor IsOurs content Before book
+        → HasLimit limit content → AreKeptUpTo disk limit book actions answers refusals Leaves

@@ -1,6 +1,5 @@
 -- The rules of the logical unit (SPC-4, SBC-3): which checks a command passes, what it intends to
 -- move, what it answers, and what it leaves behind.
--- the sense with which a command fails, handed on to the layers above
 use Rattle.std.specs.Prelude.{◌≡◌, ◌⊎◌, ℕ, ◌*◌, ◌==◌, ◌&&◌, ◌||◌, not, min, Bool, true, false, List}
 use Rattle.std.specs.Prelude.{[], take, Option, Some, None, unwrap_or, Result, Ok, Err}
 use Rattle.std.specs.Prelude.{if◌then◌else◌}
@@ -55,19 +54,10 @@ passes_attention code = (code == 0x12) || (code == 0x03)
 
 -- the commands that a faulted unit refuses
 abbrev pub needs_medium : Command → Bool
-needs_medium command.TestUnitReady = true
 needs_medium (command.RequestSense allocation) = false
 needs_medium (command.Inquiry page allocation) = false
-needs_medium (command.ModeSelect length) = true
 needs_medium (command.ModeSense control page subpage allocation) = false
-needs_medium command.ReadCapacity10 = true
-needs_medium (command.Read10 transfer) = true
-needs_medium (command.Write10 transfer) = true
-needs_medium (command.SynchronizeCache10 range) = true
-needs_medium (command.Read16 transfer) = true
-needs_medium (command.Write16 transfer) = true
-needs_medium (command.SynchronizeCache16 range) = true
-needs_medium (command.ReadCapacity16 allocation) = true
+needs_medium command = true
 
 -- the last check: the unit is not faulted, or the command does not need the medium
 abbrev pub checked_for_fault : Bool → Result Command Sense → Result Command Sense
@@ -103,7 +93,6 @@ takes bytes = if bytes == 0 then intent.None else intent.Out bytes
 
 -- how many bytes a command is to move; an allocation length cuts what is sent
 abbrev pub moves : Command → Intention
-moves command.TestUnitReady = intent.None
 moves (command.RequestSense allocation) = sends (min allocation 18)
 moves (command.Inquiry page allocation) = sends (min allocation (unwrap_or (inquiry_size page) 0))
 moves (command.ModeSelect length) = takes length
@@ -111,11 +100,10 @@ moves (command.ModeSense control page subpage allocation) = sends (min allocatio
 moves command.ReadCapacity10 = sends 8
 moves (command.Read10 transfer) = sends (512 * transfer.count)
 moves (command.Write10 transfer) = takes (512 * transfer.count)
-moves (command.SynchronizeCache10 range) = intent.None
 moves (command.Read16 transfer) = sends (512 * transfer.count)
 moves (command.Write16 transfer) = takes (512 * transfer.count)
-moves (command.SynchronizeCache16 range) = intent.None
 moves (command.ReadCapacity16 allocation) = sends (min allocation 32)
+moves command = intent.None
 
 abbrev pub moves_after : Result Command Sense → Intention
 moves_after (Ok command) = moves command
@@ -139,8 +127,8 @@ pub record Effect : Type 0 where
   pub after : UnitState
 
 -- a command fails: its sense is kept in place of an earlier one
-abbrev pub fails : Sense → UnitState → Effect
-fails sense unit = record {
+abbrev pub fails_with : Sense → UnitState → Effect
+fails_with sense unit = record {
   answer = Err sense;
   after = record unit { kept = after_failure sense unit.kept };
 }
@@ -207,7 +195,7 @@ abbrev pub selects : Result Bool Sense → UnitState → Effect
 selects (Ok enabled) unit =
     let enabling = record unit { write_cache = enabled } in
     gives [] (if clears unit.write_cache (Ok enabled) then made_durable enabling else enabling)
-selects (Err sense) unit = fails sense unit
+selects (Err sense) unit = fails_with sense unit
 
 -- the table: what each command does, over the bytes taken for it
 abbrev pub effect_of : Command → List ℕ → UnitState → Effect
@@ -290,7 +278,7 @@ pub record IsReadError (refused reading : Bool) (old : UnitState) (answer : Resu
   pub cause : refused ≡ true
   pub reads : reading ≡ true
   pub answered : answer ≡ Err unrecovered_read_error
-  pub after : new ≡ (fails unrecovered_read_error old).after
+  pub after : new ≡ (fails_with unrecovered_read_error old).after
 
 -- A command that writes, or makes writes durable, faults the unit: it fails, WCE and the promises
 -- stay, and its write is the last one accepted, or is not accepted.
@@ -312,7 +300,7 @@ IsOutcome refused (Ok command) taken old answer new =
     ⊎ (IsReadError refused (reads_blocks command) old answer new
     ⊎ IsWriteError refused (wants_writing command taken old.write_cache)
     (write_of_command command taken) old answer new)
-IsOutcome refused (Err sense) taken old answer new = IsByTable (fails sense old) answer new
+IsOutcome refused (Err sense) taken old answer new = IsByTable (fails_with sense old) answer new
 
 -- A command block is carried out over the bytes taken for it: whether the medium refused a call in
 -- that event, the unit before, the answer, and the unit after.

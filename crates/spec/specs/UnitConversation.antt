@@ -16,10 +16,9 @@ use Rattle.spec.specs.declared.event.Event.TheVariants as event
 
 -- a command that is refused intends to move nothing
 abbrev pub way_of : Intention → Way
-way_of intent.None = ways.Nothing
 way_of (intent.In n) = ways.In n
 way_of (intent.Out n) = ways.Out n
-way_of (intent.Fail sense) = ways.Nothing
+way_of intended = ways.Nothing
 
 -- what the unit in some state intends for a command block
 abbrev pub Intends : UnitState → List ℕ → Way → Type 0
@@ -44,18 +43,14 @@ UnitRun old events answers refusals new =
 -- command whose last bytes it has. A command that is carried out in the event of its wrapper takes
 -- no bytes, and writes none.
 abbrev pub write_of_packet : ℕ → Bool → Script → List ℕ → UnitState → Option Write
-write_of_packet most true left packet unit = None
-write_of_packet most false finished packet unit = None
 write_of_packet most false (taking case command intended bytes due) packet unit =
     if (length packet == due) && nat_le due most
     then write_in_progress unit command.block.items (take (size_of_way intended) (bytes ++ packet))
     else None
-write_of_packet most false (sending packets halt status) packet unit = None
+write_of_packet most halted left packet unit = None
 
 -- the write that is in progress in an event, if there is one
 abbrev pub write_of_event : Conversation UnitState → Event → Option Write
 write_of_event s (event.Out packet) =
     write_of_packet s.line.packet_size s.line.out_halted s.line.left packet.items s.unit
-write_of_event s event.In = None
-write_of_event s (event.Setup packet) = None
-write_of_event s event.Tick = None
+write_of_event s event = None

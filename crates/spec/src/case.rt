@@ -1,4 +1,5 @@
 //! The thirteen cases by name.
+
 /// A bulk endpoint, named from the host's side.
 #[derive(Clone, Copy, Debug, PartialEq, Eq)]
 pub enum Endpoint {

@@ -1,4 +1,5 @@
 //! The commands that the disk knows, with their fields.
+
 /// Blocks in a row: the logical block address of the first, and how many (SBC-3 4.5).
 #[derive(Clone, Copy, Debug, PartialEq, Eq)]
 pub struct BlockRange {

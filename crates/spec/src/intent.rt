@@ -1,4 +1,5 @@
 //! What a command intends to move.
+
 /// What a command is about to move, before it is carried out. A number of bytes is never 0.
 /// `S` is what tells why a command is refused.
 #[derive(Clone, Copy, Debug, PartialEq, Eq)]

@@ -1,4 +1,5 @@
 //! Sense keys.
+
 /// What kind of condition a sense reports (SPC-4 4.5.6).
 #[derive(Clone, Copy, Debug, PartialEq, Eq)]
 pub enum SenseKey {

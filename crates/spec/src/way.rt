@@ -1,4 +1,5 @@
 //! Which way data goes, and how much of it.
+
 /// A direction and a number of bytes: what the host announces, or what the device intends.
 #[derive(Clone, Copy, Debug, PartialEq, Eq)]
 pub enum Way {

@@ -11,7 +11,6 @@ use Rattle.bot_machine.specs.LivesValue.{LivesValue}
 use Rattle.bot_machine.specs.Lifetimes.{actions_of, actions_of_all, events_in, AppendsFor}
 use Rattle.bot_machine.proofs.Playing.{appends_on}
 use Rattle.bot_machine.proofs.Lasting.{none_yet, actions_more, events_more, room_left, apart, all_lived, lived_up_to}
-use Rattle.bot_machine.proofs.KeptPromise.{promise_kept, promise_kept_up_to}
 use Rattle.bot_machine.proofs.lifetimes.run_lives_by.Goals as goal
 
 pub loop-life-init : goal.loop-life-init
@@ -99,8 +98,7 @@ returns-clause-promise c =
     let moves = returns-clause-moves c in (
       moves.0,
       moves.1,
-      promise_kept c.args.medium (device_by c.args.identity c.args.size c.args.retiring) c.args.lives.now moves.0
-          c.into_medium-2.result moves.2,
+      moves.2.kept,
     )
 
 pub returns-in-Err-clause-promise_until : goal.returns-in-Err-clause-promise_until
@@ -108,6 +106,5 @@ returns-in-Err-clause-promise_until c =
     let moves = returns-in-Err-clause-moves_until c in (
       moves.0,
       moves.1,
-      promise_kept_up_to c.args.medium (device_by c.args.identity c.args.size c.args.retiring) c.args.lives.now moves.0
-          c.in-Err.fault c.into_medium.result moves.2,
+      moves.2.up_to,
     )
