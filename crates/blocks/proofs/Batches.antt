@@ -4,7 +4,7 @@ use Rattle.std.specs.Prelude.{if◌then◌else◌, ◌==◌}
 use Rattle.std.proofs.lemmas.Bool.Decides.{nat_tests}
 use Rattle.cache.specs.Blocks.{is_listed, Listed}
 use Rattle.cache.specs.Entries.{Entries}
-use Rattle.log_layout.specs.Places.{Shape}
+use Rattle.journal.specs.Places.{Shape}
 use Rattle.redo_log.specs.Batch.{IsBatch}
 use Rattle.blocks.specs.Kept.{IsBatchOf}
 

@@ -2,7 +2,7 @@
 use Rattle.std.proofs.Common.{◌≡◌, ◌⊎◌, ◌<◌, ◌+◌, ◌-◌, ◌∙◌, inl, inr, ⊎_elim, ap, sym, subst, arith, refl, []}
 use Rattle.std.specs.Prelude.{ℕ, suc, zero, List, ◌∷◌, length, nat_lt, Bool, true, false, if◌then◌else◌}
 use Rattle.std.proofs.lemmas.Bool.{cases_Bool, cases_lt, ltb-true, lt-ltb}
-use Rattle.log_layout.specs.declared.log_format.LogFormat.{LogFormat}
+use Rattle.journal.specs.declared.log_format.LogFormat.{LogFormat}
 use Rattle.redo_log.specs.Value.{LogValue, HasRoom, IsRetireStepped, behind_oldest, of_oldest, home_of_oldest, turn_calls, turns_calls}
 use Rattle.redo_log.specs.Value.{next_calls, steps_of}
 use Rattle.blocks.specs.Retiring.{oldest_retired, room_calls, ready_calls, finish_from, finish_calls}

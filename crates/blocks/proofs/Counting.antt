@@ -4,9 +4,9 @@ use Rattle.std.proofs.Common.{List, [], ◌∷◌, length, get_or, Option, Some,
 use Rattle.std.specs.Prelude.{if◌then◌else◌, ◌==◌, is_some, Contains}
 use Rattle.std.proofs.lemmas.Bool.{false≢true, cases_eq}
 use Rattle.std.proofs.lemmas.Bool.Decides.{nat_tests}
-use Rattle.log_layout.specs.declared.log_format.LogFormat.{LogFormat}
-use Rattle.log_layout.specs.declared.log_format.LogFormat.TheVariants.{One, Two}
-use Rattle.log_image.specs.Copies.{copy_reads_of}
+use Rattle.journal.specs.declared.log_format.LogFormat.{LogFormat}
+use Rattle.journal.specs.declared.log_format.LogFormat.TheVariants.{One, Two}
+use Rattle.journal.specs.Copies.{copy_reads_of}
 use Rattle.redo_log.specs.Value.{LogValue, IsNewestCopy, HasNoCopy}
 use Rattle.cache.specs.Blocks.{is_listed}
 use Rattle.cache.specs.Entries.{map_of}

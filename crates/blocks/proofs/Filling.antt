@@ -6,9 +6,9 @@ use Rattle.std.proofs.lemmas.Bool.{false≢true, ne_eqb, lt-ltb, leb-true, cases
 use Rattle.std.proofs.lemmas.List.Sums.{sum_by-cons, sum_by_push}
 use Rattle.std.proofs.lemmas.List.Elements.{All-append, All-cons}
 use Rattle.medium.specs.Medium.{State}
-use Rattle.log_layout.specs.declared.log_format.LogFormat.{LogFormat}
-use Rattle.log_layout.specs.declared.log_format.LogFormat.TheVariants.{One, Two}
-use Rattle.log_layout.specs.Places.{Shape}
+use Rattle.journal.specs.declared.log_format.LogFormat.{LogFormat}
+use Rattle.journal.specs.declared.log_format.LogFormat.TheVariants.{One, Two}
+use Rattle.journal.specs.Places.{Shape}
 use Rattle.redo_log.specs.Value.{LogValue, CanPass, behind_oldest, of_oldest, ahead_of, retire_steps_of, settled, begun}
 use Rattle.redo_log.specs.Value.{idle_from}
 use Rattle.blocks.specs.Ahead.{oldest_retired, counted, past, passed, gone_home, sent_home, ahead_room, IsBut}

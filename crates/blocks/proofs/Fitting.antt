@@ -6,9 +6,9 @@ use Rattle.std.proofs.lemmas.List.{take-append-le, length-map, drop-drop}
 use Rattle.std.proofs.Math.Seq.{take-length}
 use Rattle.medium.specs.Medium.{State, Image}
 use Rattle.spec.specs.Blocks.{Array, Write, apply, after, chunks}
-use Rattle.log_layout.specs.Places.{Shape}
-use Rattle.log_image.specs.Record.{Entry, numbers_of, with_blocks}
-use Rattle.log_image.specs.Standing.{IsOurs}
+use Rattle.journal.specs.Places.{Shape}
+use Rattle.journal.specs.Record.{Entry, numbers_of, with_blocks}
+use Rattle.journal.specs.Standing.{IsOurs}
 use Rattle.redo_log.specs.Value.{LogValue, HasRoom, begun}
 use Rattle.redo_log.specs.Batch.{IsBatch, entries_from, entries_of}
 use Rattle.redo_log.specs.Held.{View, HoldsView, MayLeave, with_record, with_begun}

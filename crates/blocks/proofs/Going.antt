@@ -8,7 +8,7 @@ use Rattle.medium.specs.Moments.{LeavesOnly, SparesFrom}
 use Rattle.medium.specs.Sent.{SendsUpTo}
 use Rattle.medium.specs.declared.fault.MediumFault.TheVariants.{Flush}
 use Rattle.medium.proofs.Moments.{started}
-use Rattle.log_layout.specs.Places.{sectors_of}
+use Rattle.journal.specs.Places.{sectors_of}
 use Rattle.redo_log.specs.Value.{LogValue, Owes, IsCovered, CanPass, IsAway, IsSentHome, IsRetireStepped, settled, pass_calls, of_oldest}
 use Rattle.redo_log.specs.Value.{behind_oldest, ahead_calls, next_calls, next_sends, died}
 use Rattle.redo_log.specs.Held.{View, HoldsView, MayLeave, view_retired}

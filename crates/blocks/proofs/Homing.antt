@@ -2,8 +2,8 @@
 use Rattle.std.proofs.Common.{◌≡◌, ◌⊎◌, ◌<◌, ◌≤◌, ◌+◌, ◌-◌, ◌∙◌, inl, inr, ⊎_elim, ap, sym, refl, arith}
 use Rattle.std.specs.Prelude.{ℕ, suc, zero, nat_lt, Bool, true, false, if◌then◌else◌, List}
 use Rattle.std.proofs.lemmas.Bool.{cases_Bool, cases_lt, false≢true, ltb-true, lt-ltb}
-use Rattle.log_layout.specs.declared.log_format.LogFormat.{LogFormat}
-use Rattle.log_layout.specs.Places.{limit_of}
+use Rattle.journal.specs.declared.log_format.LogFormat.{LogFormat}
+use Rattle.journal.specs.Places.{limit_of}
 use Rattle.redo_log.specs.Value.{LogValue, IsAway, IsSentHome, behind_oldest, of_oldest, home_of_oldest, ahead_of, next_calls, next_sends}
 use Rattle.redo_log.specs.Value.{pass_calls}
 use Rattle.redo_log.specs.Value.{turns_calls, turns_sends, sends_of_oldest, most_retire_sends}

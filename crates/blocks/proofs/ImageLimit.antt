@@ -3,8 +3,8 @@ use Rattle.std.proofs.Common.{◌≡◌, ◌+◌, ⊎_elim, ℕ, true, refl, sym
 use Rattle.medium.specs.Medium.{State, Image}
 use Rattle.medium.specs.Moments.{EachCut, LeavesOnly}
 use Rattle.medium.proofs.Moments.{weaker}
-use Rattle.log_image.specs.Standing.{Stands}
-use Rattle.log_image.proofs.StandingLaws.{StandsFor-one}
+use Rattle.journal.specs.Standing.{Stands}
+use Rattle.journal.proofs.StandingLaws.{StandsFor-one}
 use Rattle.redo_log.proofs.Handing.{may_leave_ours}
 use Rattle.recovery.specs.Recovered.{IsOursForSome, StandsForOneOf}
 use Rattle.spec.specs.Book.{Book}

@@ -1,9 +1,9 @@
 -- How many blocks a transfer has at most, and how many steps are left at most.
 use Rattle.std.proofs.Common.{◌≡◌, ◌≤◌, ℕ, ◌+◌, ◌*◌, ap, arith, Bool, zero, suc}
-use Rattle.log_layout.specs.Places.{Shape, limit_of}
-use Rattle.log_layout.specs.declared.log_format.LogFormat.{LogFormat}
-use Rattle.log_layout.specs.declared.log_format.LogFormat.TheVariants.{One, Two}
-use Rattle.log_layout.specs.declared.super_sector.Super.{Super}
+use Rattle.journal.specs.Places.{Shape, limit_of}
+use Rattle.journal.specs.declared.log_format.LogFormat.{LogFormat}
+use Rattle.journal.specs.declared.log_format.LogFormat.TheVariants.{One, Two}
+use Rattle.journal.specs.declared.super_sector.Super.{Super}
 use Rattle.blocks.specs.StoreValue.{Cached, layout_of, blocks_of, slots_of, transfer_limit, batch_steps, steps_for, waiting, HasLimits}
 use Rattle.redo_log.specs.Value.{most_steps, most_retire_steps}
 use Rattle.blocks.specs.Kept.{IsKept}

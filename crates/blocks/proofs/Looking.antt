@@ -2,7 +2,7 @@
 use Rattle.std.proofs.Common.{◌≡◌, ◌<◌, ◌≤◌, ◌+◌, ℕ, ⊎_elim, inl, inr, arith, subst}
 use Rattle.medium.specs.Medium.{State, LooksOnly}
 use Rattle.medium.proofs.Looking.{no_looks, one_look, looks_joined, looks_wider}
-use Rattle.log_layout.specs.Places.{Shape, first_home}
+use Rattle.journal.specs.Places.{Shape, first_home}
 use Rattle.blocks.specs.Looks.{LooksAtLog, IsLogOrHome, LooksAtBlocks}
 use Rattle.blocks.specs.StoreValue.{Cached, layout_of}
 

@@ -6,11 +6,11 @@ use Rattle.medium.specs.Medium.{State, Image, IsSound}
 use Rattle.medium.specs.Moments.{EachCut, IsFlushed, LeavesOnly}
 use Rattle.spec.specs.Blocks.{Array, Write, apply, after}
 use Rattle.medium.proofs.Moments.{at_exit, only_image}
-use Rattle.log_layout.specs.Places.{Shape}
-use Rattle.log_image.specs.Standing.{StandsFor, Stands, IsOurs}
-use Rattle.log_image.specs.ImageFaults as image
-use Rattle.log_image.proofs.StandingLaws.{StandsFor-one}
-use Rattle.log_image.proofs.FaultLaws.{HasFault-stands}
+use Rattle.journal.specs.Places.{Shape}
+use Rattle.journal.specs.Standing.{StandsFor, Stands, IsOurs}
+use Rattle.journal.specs.ImageFaults as image
+use Rattle.journal.proofs.StandingLaws.{StandsFor-one}
+use Rattle.journal.proofs.FaultLaws.{HasFault-stands}
 use Rattle.recovery.specs.Causes.{IsCause}
 use Rattle.recovery.specs.Recovered.{IsOursForSome, StandsForOneOf}
 use Rattle.recovery.specs.declared.start_fault.StartFault.{StartFault}

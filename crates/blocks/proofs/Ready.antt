@@ -3,7 +3,7 @@ use Rattle.std.proofs.Common.{◌≡◌, ◌<◌, ◌≤◌, ◌+◌, ◌-◌, �
 use Rattle.std.specs.Prelude.{ℕ, suc, zero, List, [], ◌∷◌, length, nat_lt, Bool, true, false, if◌then◌else◌}
 use Rattle.std.specs.Prelude.{◌==◌, Ok, Err, OnOk}
 use Rattle.std.proofs.lemmas.Bool.{cases_Bool, ltb-true, lt-ltb}
-use Rattle.log_layout.specs.Places.{Shape}
+use Rattle.journal.specs.Places.{Shape}
 use Rattle.redo_log.specs.Value.{LogValue, HasRoom, begun, behind_oldest, of_oldest, ahead_of, settled, pass_calls, steps_of}
 use Rattle.blocks.specs.Ahead.{oldest_retired, is_covered, is_short, counted, past, passed, passed_calls, gone_home, sent_home}
 use Rattle.blocks.specs.Ahead.{sent_calls, ahead_room, ahead_room_calls, retiring_calls, IsBut}

@@ -5,8 +5,8 @@ use Rattle.medium.specs.Medium.{State}
 use Rattle.medium.specs.Moments.{IsUnchanged}
 use Rattle.medium.specs.Sent.{SendsUpTo}
 use Rattle.medium.specs.declared.fault.MediumFault.TheVariants.{Flush}
-use Rattle.log_layout.specs.Places.{Shape, sectors_of}
-use Rattle.log_layout.specs.declared.super_sector.Super.{Super}
+use Rattle.journal.specs.Places.{Shape, sectors_of}
+use Rattle.journal.specs.declared.super_sector.Super.{Super}
 use Rattle.redo_log.specs.Value.{LogValue, IsRetireStepped, behind_oldest, died, most_steps, most_retire_steps, next_calls, next_sends}
 use Rattle.redo_log.specs.Flushes.{next_turn_flushes}
 use Rattle.blocks.specs.Background.{IsRetiring}

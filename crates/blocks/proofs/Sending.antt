@@ -2,7 +2,7 @@
 use Rattle.std.proofs.Common.{◌≡◌, ◌⊎◌, ◌<◌, ◌≤◌, ◌+◌, ◌-◌, ◌∙◌, inl, inr, ⊎_elim, ap, sym, arith, []}
 use Rattle.std.specs.Prelude.{ℕ, suc, zero}
 use Rattle.std.proofs.lemmas.Bool.{cases_lt}
-use Rattle.log_layout.specs.declared.log_format.LogFormat.{LogFormat}
+use Rattle.journal.specs.declared.log_format.LogFormat.{LogFormat}
 use Rattle.redo_log.specs.Value.{LogValue, HasRoom, IsRetireStepped, behind_oldest, of_oldest, home_of_oldest, turn_sends, turns_sends}
 use Rattle.redo_log.specs.Value.{next_sends, sends_of_oldest}
 use Rattle.blocks.specs.Retiring.{oldest_retired}

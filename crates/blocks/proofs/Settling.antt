@@ -5,9 +5,9 @@ use Rattle.std.proofs.lemmas.List.{length-map}
 use Rattle.medium.specs.Medium.{State, Image}
 use Rattle.medium.specs.Moments.{EachCut}
 use Rattle.spec.specs.Blocks.{Array}
-use Rattle.log_image.specs.Record.{Entry, numbers_of, with_records, home_of}
+use Rattle.journal.specs.Record.{Entry, numbers_of, with_records, home_of}
 use Rattle.redo_log.specs.Value.{LogValue, Owes, retire_steps_of}
-use Rattle.log_image.specs.Standing.{Keeps}
+use Rattle.journal.specs.Standing.{Keeps}
 use Rattle.redo_log.proofs.Handing.{home_is, blocks_guarded}
 use Rattle.redo_log.proofs.Heads.{put_head}
 use Rattle.cache.specs.Blocks.{over}

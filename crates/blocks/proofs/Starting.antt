@@ -5,13 +5,13 @@ use Rattle.medium.specs.Medium.{State, Image, IsSound}
 use Rattle.medium.specs.Moments.{EachCut}
 use Rattle.spec.specs.Blocks.{Array}
 use Rattle.std.proofs.lemmas.Bool.{false≢true}
-use Rattle.log_layout.specs.Places.{Shape, limit_of, sectors_of}
-use Rattle.log_layout.specs.declared.super_sector.Super.{Super}
-use Rattle.log_layout.specs.declared.log_format.LogFormat.{LogFormat}
-use Rattle.log_layout.specs.Values.{shape_of}
-use Rattle.log_image.specs.Formats.{CarriesBelow}
-use Rattle.log_image.specs.Standing.{IsOurs}
-use Rattle.log_image.proofs.StandingLaws.{StandsFor-one}
+use Rattle.journal.specs.Places.{Shape, limit_of, sectors_of}
+use Rattle.journal.specs.declared.super_sector.Super.{Super}
+use Rattle.journal.specs.declared.log_format.LogFormat.{LogFormat}
+use Rattle.journal.specs.Values.{shape_of}
+use Rattle.journal.specs.Formats.{CarriesBelow}
+use Rattle.journal.specs.Standing.{IsOurs}
+use Rattle.journal.proofs.StandingLaws.{StandsFor-one}
 use Rattle.recovery.specs.Recovered as recovered
 use Rattle.recovery.specs.Recovered.{IsRecoveredFrom, IsOursForSome}
 use Rattle.recovery.specs.declared.recovered.Recovered.{Recovered}

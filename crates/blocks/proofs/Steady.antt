@@ -3,8 +3,8 @@ use Rattle.std.proofs.Common.{◌≡◌, ◌<◌, ◌≤◌, ◌+◌, ◌-◌, �
 use Rattle.std.specs.Prelude.{ℕ, List, [], ◌∷◌, length, get_or, drop, sum_by, nat_lt, Bool, true, if◌then◌else◌, ◌==◌, ◌&&◌}
 use Rattle.std.proofs.lemmas.Bool.{eq-eqb, lt-ltb}
 use Rattle.std.proofs.lemmas.List.Sums.{sum_by-cons}
-use Rattle.log_layout.specs.declared.log_format.LogFormat.{LogFormat}
-use Rattle.log_layout.specs.declared.log_format.LogFormat.TheVariants.{One, Two}
+use Rattle.journal.specs.declared.log_format.LogFormat.{LogFormat}
+use Rattle.journal.specs.declared.log_format.LogFormat.TheVariants.{One, Two}
 use Rattle.redo_log.specs.Value.{LogValue, HasRoom, IsCovered, settled, of_oldest, home_of_oldest, turns_home, turns_calls}
 use Rattle.redo_log.specs.Value.{retire_steps_of, pass_calls}
 use Rattle.blocks.specs.Ahead.{oldest_retired, is_covered, counted, past, passed, going_calls, sent_calls, ahead_room_calls, retiring_calls}

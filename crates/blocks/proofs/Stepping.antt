@@ -7,8 +7,8 @@ use Rattle.medium.specs.Medium.{State, IsSound}
 use Rattle.medium.specs.Moments.{LeavesOnly, SparesFrom}
 use Rattle.medium.proofs.Moments.{started, weaker}
 use Rattle.medium.proofs.Sparing.{spared_start}
-use Rattle.log_layout.specs.Places.{sectors_of}
-use Rattle.log_image.specs.Record.{Entry, numbers_of}
+use Rattle.journal.specs.Places.{sectors_of}
+use Rattle.journal.specs.Record.{Entry, numbers_of}
 use Rattle.redo_log.specs.Value.{LogValue, HasRoom, begun, died, IsStepped, IsRetireStepped, behind_oldest}
 use Rattle.redo_log.specs.Batch.{IsBatch}
 use Rattle.redo_log.specs.Held.{View, HoldsView, MayLeave, with_record, view_retired, stamps_of}

@@ -6,7 +6,7 @@ use Rattle.medium.specs.Moments.{EachCut, LeavesOnly, IsQuiet, SparesFrom}
 use Rattle.spec.specs.Blocks.{Write}
 use Rattle.medium.proofs.Moments.{joined_same, weaker, quiet_leaves, quiet_start}
 use Rattle.medium.proofs.Sparing.{spared_joined, spared_quiet}
-use Rattle.log_layout.specs.Places.{Shape, sectors_of}
+use Rattle.journal.specs.Places.{Shape, sectors_of}
 use Rattle.redo_log.proofs.Handing.{quiet_held}
 use Rattle.spec.specs.Book.{Book}
 use Rattle.blocks.specs.Finding.{MayFind, Found}

@@ -3,9 +3,9 @@
 -- home. None of these calls is a flush: that of the record that is begun covers them.
 use Rattle.std.specs.Prelude.{◌≡◌, ◌+◌, ◌-◌, ◌&&◌, ◌==◌, ℕ, Bool, length}
 use Rattle.std.specs.Prelude.{nat_lt, nat_le, false, if◌then◌else◌, drop, replicate}
-use Rattle.log_layout.specs.Places.{Shape}
-use Rattle.log_layout.specs.declared.log_format.LogFormat.{LogFormat}
-use Rattle.log_layout.specs.declared.log_format.LogFormat.TheVariants.{One, Two}
+use Rattle.journal.specs.Places.{Shape}
+use Rattle.journal.specs.declared.log_format.LogFormat.{LogFormat}
+use Rattle.journal.specs.declared.log_format.LogFormat.TheVariants.{One, Two}
 use Rattle.redo_log.specs.Value.{LogValue, settled, behind_oldest, of_oldest, home_of_oldest}
 use Rattle.redo_log.specs.Value.{ahead_of, turns_calls, pass_calls}
 

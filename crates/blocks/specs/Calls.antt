@@ -5,7 +5,7 @@ use Rattle.medium.specs.Medium.{State}
 use Rattle.medium.specs.Sent.{SendsUpTo}
 use Rattle.medium.specs.declared.fault.MediumFault.TheVariants.{Flush}
 use Rattle.cache.specs.Blocks.{is_listed}
-pub use Rattle.log_image.specs.Copies.{copy_reads_of}
+pub use Rattle.journal.specs.Copies.{copy_reads_of}
 use Rattle.redo_log.specs.Value.{LogValue}
 use Rattle.blocks.specs.Retiring.{finished, finish_calls, IsLog}
 use Rattle.blocks.specs.Flushing.{finish_flushes}

@@ -2,8 +2,8 @@
 use Rattle.std.specs.Prelude.{◌≡◌, ℕ, Option}
 use Rattle.medium.specs.Medium.{Image}
 use Rattle.spec.specs.Blocks.{Array, Write}
-use Rattle.log_layout.specs.Places.{Shape}
-use Rattle.log_image.specs.Standing.{IsOurs}
+use Rattle.journal.specs.Places.{Shape}
+use Rattle.journal.specs.Standing.{IsOurs}
 use Rattle.spec.specs.Book.{Book}
 use Rattle.spec.specs.Promise as promise
 

@@ -2,8 +2,8 @@
 use Rattle.std.specs.Prelude.{◌≡◌, ℕ}
 use Rattle.medium.specs.Medium.{Image}
 use Rattle.spec.specs.Blocks.{Array}
-pub use Rattle.log_layout.specs.Places.{Shape, limit_of}
-use Rattle.log_image.specs.Standing.{StandsFor}
+pub use Rattle.journal.specs.Places.{Shape, limit_of}
+use Rattle.journal.specs.Standing.{StandsFor}
 
 -- the image stands for something, in a shape of whose format a transfer has so many blocks at most
 pub record HasLimit (size limit : ℕ) (image : Image) : Type 0 where

@@ -1,7 +1,7 @@
 -- Which sectors the calls of a store read.
 use Rattle.std.specs.Prelude.{◌⊎◌, ◌<◌, ◌≤◌, ◌+◌, ℕ}
 use Rattle.medium.specs.Medium.{State, LooksOnly}
-use Rattle.log_layout.specs.Places.{first_home}
+use Rattle.journal.specs.Places.{first_home}
 use Rattle.blocks.specs.StoreValue.{Cached, layout_of}
 
 -- each read names a sector of the log: one before home

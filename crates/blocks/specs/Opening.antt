@@ -3,8 +3,8 @@
 use Rattle.std.specs.Prelude.{◌≡◌, ◌^◌, ◌≤◌, ⊤, ℕ}
 use Rattle.medium.specs.Medium.{State, Image, CutLeaves}
 use Rattle.medium.specs.declared.fault.MediumFault.TheVariants as medium
-pub use Rattle.log_layout.specs.Places.{Shape}
-pub use Rattle.log_image.specs.Standing.{StandsFor, IsOurs, Stands}
+pub use Rattle.journal.specs.Places.{Shape}
+pub use Rattle.journal.specs.Standing.{StandsFor, IsOurs, Stands}
 pub use Rattle.recovery.specs.Causes.{IsRefusedCall}
 pub use Rattle.recovery.specs.Recovered.{IsOursForSome, IsOursWithNext, StandsForOneOf}
 pub use Rattle.recovery.specs.declared.start_fault.StartFault.{StartFault}

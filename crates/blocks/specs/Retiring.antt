@@ -2,7 +2,7 @@
 -- for.
 use Rattle.std.specs.Prelude.{◌≡◌, ◌+◌, ◌-◌, ◌≤◌, ℕ, zero, suc, List, [], ◌∷◌, ◌++◌, nat_lt}
 use Rattle.std.specs.Prelude.{Bool, true, false, if◌then◌else◌}
-use Rattle.log_layout.specs.declared.log_format.LogFormat.{LogFormat}
+use Rattle.journal.specs.declared.log_format.LogFormat.{LogFormat}
 use Rattle.redo_log.specs.Value.{LogValue, HasRoom, begun, steps_of}
 use Rattle.redo_log.specs.Value.{of_oldest, home_of_oldest, turns_calls}
 pub use Rattle.blocks.specs.Ahead.{oldest_retired}

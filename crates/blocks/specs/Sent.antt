@@ -1,6 +1,6 @@
 -- How many writes and flushes a call of a store makes at most.
 use Rattle.std.specs.Prelude.{ℕ, ◌+◌}
-pub use Rattle.log_layout.specs.declared.log_format.LogFormat.{LogFormat}
+pub use Rattle.journal.specs.declared.log_format.LogFormat.{LogFormat}
 use Rattle.redo_log.specs.Value.{most_steps, most_retire_sends}
 use Rattle.blocks.specs.StoreValue.{Cached, layout_of}
 

@@ -2,7 +2,7 @@
 use Rattle.std.specs.Prelude.{◌≡◌, ℕ, ◌+◌, ◌<◌, true, []}
 use Rattle.medium.specs.Medium.{State, Image}
 use Rattle.medium.specs.Moments.{EachCut}
-use Rattle.log_layout.specs.Places.{Shape, first_home}
+use Rattle.journal.specs.Places.{Shape, first_home}
 use Rattle.spec.specs.Book.{Book, array_of, promised}
 use Rattle.blocks.specs.StoreValue.{Cached, layout_of, FitsBook}
 

@@ -3,9 +3,9 @@ use Rattle.std.specs.Prelude.{◌≡◌, ◌⊎◌, ℕ, ◌+◌, ◌*◌, ◌^�
 use Rattle.medium.specs.Medium.{State, Image}
 use Rattle.medium.specs.Moments.{EachCut, LeavesOnly, IsFlushed}
 use Rattle.spec.specs.Blocks.{Array}
-use Rattle.log_layout.specs.Places.{Shape}
-use Rattle.log_image.specs.Standing.{StandsFor, IsOurs}
-use Rattle.log_image.specs.ImageFaults.{HasShape}
+use Rattle.journal.specs.Places.{Shape}
+use Rattle.journal.specs.Standing.{StandsFor, IsOurs}
+use Rattle.journal.specs.ImageFaults.{HasShape}
 use Rattle.recovery.specs.Causes.{IsCause, IsDeviceFault}
 use Rattle.recovery.specs.Copies.{most_start_of}
 use Rattle.recovery.specs.Recovered.{IsRecoveredFrom, IsOursForSome, IsOursWithNext, StandsForOneOf}

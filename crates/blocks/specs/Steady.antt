@@ -1,7 +1,7 @@
 -- How records alone fill the ring of a store that goes ahead, and what a sync costs it then.
 use Rattle.std.specs.Prelude.{◌≡◌, ◌+◌, ◌-◌, ◌<◌, ◌≤◌, ℕ, List, [], ◌∷◌, length, get_or, sum_by}
 use Rattle.std.specs.Prelude.{true, All}
-use Rattle.log_layout.specs.declared.log_format.LogFormat.{LogFormat}
+use Rattle.journal.specs.declared.log_format.LogFormat.{LogFormat}
 use Rattle.redo_log.specs.Value.{LogValue, IsCovered, turns_home, turns_calls, steps_of}
 use Rattle.redo_log.specs.Value.{retire_steps_of}
 use Rattle.blocks.specs.Retiring.{finished}

@@ -4,7 +4,7 @@ use Rattle.std.specs.Prelude.{◌∷◌, length}
 use Rattle.medium.specs.Medium.{State}
 use Rattle.cache.specs.Blocks.{over, Listed, unlisted, InRange}
 use Rattle.cache.specs.Entries.{Entries, map_of}
-use Rattle.log_layout.specs.Places.{Shape, limit_of}
+use Rattle.journal.specs.Places.{Shape, limit_of}
 use Rattle.redo_log.specs.Value.{LogValue, most_steps, most_retire_steps}
 use Rattle.redo_log.specs.Batch.{entries_of}
 use Rattle.redo_log.specs.Held.{View, HoldsView}

@@ -3,7 +3,7 @@ use Rattle.std.specs.Prelude.{◌≡◌, ◌⊎◌, ◌+◌, ◌*◌, ◌≤◌,
 use Rattle.medium.specs.Medium.{State}
 use Rattle.medium.specs.Moments.{LeavesOnly, SparesFrom}
 use Rattle.spec.specs.Blocks.{Write}
-use Rattle.log_layout.specs.Places.{sectors_of}
+use Rattle.journal.specs.Places.{sectors_of}
 use Rattle.medium.specs.declared.fault.MediumFault.TheVariants.{Read}
 use Rattle.blocks.specs.declared.fault.StoreFault.{StoreFault}
 use Rattle.blocks.specs.declared.fault.StoreFault.TheVariants.{ReadFault, Dead}

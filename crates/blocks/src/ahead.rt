@@ -1,6 +1,6 @@
 //! What a store does ahead of the flush of the record that it is about to begin.
 ghost use Rattle.std.specs.Prelude.{◌≡◌, ◌+◌, false};
-ghost use Rattle.log_layout.specs.Places.{limit_of};
+ghost use Rattle.journal.specs.Places.{limit_of};
 ghost use Rattle.redo_log.specs.Value.{IsAway};
 ghost use Rattle.blocks.specs.StoreValue.{layout_of, is_dead};
 ghost use Rattle.blocks.specs.Turns.{IsTurn};

@@ -2,9 +2,9 @@
 ghost use Rattle.std.specs.Prelude.{◌≡◌, ◌⊎◌, ◌<◌, ◌≤◌, ◌^◌, ℕ, [], false, IfOk, IfErr};
 ghost use Rattle.std.specs.Prelude.{MatchResult};
 ghost use Rattle.spec.specs.Blocks.{Array};
-ghost use Rattle.log_layout.specs.Places.{Shape, limit_of};
-ghost use Rattle.log_image.specs.Standing.{StandsFor};
-ghost use Rattle.log_layout.specs.Values.{shape_of};
+ghost use Rattle.journal.specs.Places.{Shape, limit_of};
+ghost use Rattle.journal.specs.Standing.{StandsFor};
+ghost use Rattle.journal.specs.Values.{shape_of};
 ghost use Rattle.redo_log.specs.Value.{idle_from};
 ghost use Rattle.recovery.specs.Causes.{IsDeviceFault};
 ghost use Rattle.blocks.specs.Ahead.{may_go_ahead};
@@ -13,7 +13,7 @@ ghost use Rattle.blocks.specs.Started.{RefusesStart};
 
 use crate::{StartError, Store};
 use cache::{Batch, Frozen};
-use log_layout::{LogFormat, Super};
+use journal::{LogFormat, Super};
 use medium::Medium;
 use recovery::{Recovered, StartFault, recover};
 use redo_log::Log;

@@ -2,7 +2,7 @@
 ghost use Rattle.std.specs.Prelude.{◌≡◌, ◌↔◌, ◌<◌, ◌≤◌, ◌+◌, ◌/◌, ℕ, true, false, length, IsTrue};
 ghost use Rattle.inlet.specs.Inlet.{AreHeld};
 ghost use Rattle.medium.specs.Moments.{EachCut};
-ghost use Rattle.log_layout.specs.Places.{first_home, sectors_of};
+ghost use Rattle.journal.specs.Places.{first_home, sectors_of};
 ghost use Rattle.spec.specs.Book.{Book};
 ghost use Rattle.blocks.specs.Finding.{MayFind};
 ghost use Rattle.blocks.specs.StoreValue.{blocks_of, layout_of, transfer_limit, is_dead};
@@ -12,7 +12,7 @@ ghost use Rattle.blocks.specs.Passing.{IsUntouched};
 
 use cache::{Batch, Frozen};
 use inlet::Inlet;
-use log_layout::Super;
+use journal::Super;
 use medium::{Medium, Outlet, Switch};
 use redo_log::Log;
 use std::marker::Model;

@@ -1,9 +1,9 @@
 -- The first sectors of a file.
 use Rattle.std.specs.Prelude.{◌≡◌, ◌⊎◌, ◌<◌, ℕ, List, Option, Some, None}
-use Rattle.log_layout.specs.Places.{Shape}
-use Rattle.log_layout.specs.Sectors.{IsSuper}
-use Rattle.log_layout.specs.Values.{shape_of}
-use Rattle.log_layout.specs.declared.super_sector.Super.{Super}
+use Rattle.journal.specs.Places.{Shape}
+use Rattle.journal.specs.Sectors.{IsSuper}
+use Rattle.journal.specs.Values.{shape_of}
+use Rattle.journal.specs.declared.super_sector.Super.{Super}
 use Rattle.device_file.specs.declared.fault.FileCall.TheVariants as call
 use Rattle.device_file.specs.declared.opening.OpenFault.{OpenFault}
 use Rattle.device_file.specs.declared.opening.OpenFault.TheVariants as fault

@@ -11,7 +11,7 @@ ghost use Rattle.device_file.specs.First.{IsUnopened, SpellsSuper, near_of};
 use crate::fault::{FileCall, FileFault};
 use crate::file::DeviceFile;
 use inlet::Inlet;
-use log_layout::Super;
+use journal::Super;
 use std::alloc::Global;
 use std::io::ErrorKind;
 use window::{DeviceHolds, WindowMedium};

@@ -8,9 +8,9 @@ use Rattle.medium.proofs.Sparing.{spared_joined, spared_unchanged}
 use Rattle.mirror.specs.declared.call.DeviceCall.{DeviceCall}
 use Rattle.window.specs.Window.{Window, state_of, take_first, without_first, ComesAfter, CoversDevice}
 use Rattle.window.specs.WindowLaws.{is_sound, comes_after_through}
-use Rattle.log_layout.specs.Places.{Shape, sectors_of, slot_sectors_of}
-use Rattle.log_layout.specs.Sectors.{IsSuper, IsHead}
-use Rattle.log_image.specs.Standing.{IsOurs}
+use Rattle.journal.specs.Places.{Shape, sectors_of, slot_sectors_of}
+use Rattle.journal.specs.Sectors.{IsSuper, IsHead}
+use Rattle.journal.specs.Standing.{IsOurs}
 use Rattle.recovery.specs.Formatted.{FormatLeaves, IsMidway}
 use Rattle.image_calls.specs.Parts.{IsUnderWay, IsMadeAnew, IsOnWay, KeepsOnWay, FailsOnWay, SendsPart}
 use Rattle.image_calls.specs.Images.{WaitFor}

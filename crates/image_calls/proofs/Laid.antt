@@ -5,7 +5,7 @@ use Rattle.medium.specs.Sent.{sent}
 use Rattle.std.specs.Prelude.{Bool}
 use Rattle.window.specs.Window.{Window, state_of, kept_out, ComesAfter, CoversDevice}
 use Rattle.window.specs.Looks.{near_in_sight, none_missed}
-use Rattle.log_layout.specs.Places.{Shape, first_home, slot_sectors_of}
+use Rattle.journal.specs.Places.{Shape, first_home, slot_sectors_of}
 use Rattle.recovery.specs.Unread.{MakesNoRead}
 use Rattle.recovery.specs.Formatted.{IsLaid, LayingLeaves, AreSizes, IsFormatCause}
 use Rattle.recovery.specs.Migrated.{IsMigrationBy, IsMigrationRefusal, MigrationLeaves}
@@ -13,7 +13,7 @@ use Rattle.recovery.specs.declared.format_fault.FormatFault.{FormatFault}
 use Rattle.recovery.specs.declared.format_fault.FormatFault.TheVariants.{BadSize, Medium}
 use Rattle.recovery.specs.declared.recovered.Recovered.{Recovered}
 use Rattle.recovery.specs.declared.start_fault.StartFault.{StartFault}
-use Rattle.log_layout.specs.Values.{shape_of}
+use Rattle.journal.specs.Values.{shape_of}
 use Rattle.image_calls.specs.Parts.{IsBegun}
 use Rattle.image_calls.specs.Formats.{BeginsFormat, HasRoom}
 use Rattle.image_calls.specs.Works.{Work}

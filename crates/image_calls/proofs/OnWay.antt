@@ -7,9 +7,9 @@ use Rattle.medium.specs.Moments.{IsFlushed, LeavesOnly, StaysWithin, SparesFrom}
 use Rattle.spec.specs.Blocks.{Array}
 use Rattle.medium.proofs.Moments.{weaker, joined_same}
 use Rattle.medium.proofs.Sparing.{HasSpared, spared_joined}
-use Rattle.log_layout.specs.Places.{Shape, first_home, sectors_of, new_shape}
-use Rattle.log_image.specs.Record.{home_of}
-use Rattle.log_image.specs.Standing.{IsOurs}
+use Rattle.journal.specs.Places.{Shape, first_home, sectors_of, new_shape}
+use Rattle.journal.specs.Record.{home_of}
+use Rattle.journal.specs.Standing.{IsOurs}
 use Rattle.recovery.specs.Copies.{cleared_at, WithOrWithout, IsBetween}
 use Rattle.recovery.specs.Formatted.{FormatLeaves, AreSizes, IsNoneOrNew, IsMidway, IsLaid, LayingLeaves}
 use Rattle.recovery.proofs.Copying.{sets_within}

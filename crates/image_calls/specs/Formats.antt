@@ -2,7 +2,7 @@
 use Rattle.std.specs.Prelude.{◌≡◌, ◌⊎◌, ℕ, ◌+◌, ◌*◌, ◌<◌, ◌≤◌, List, length, Option, Some, None}
 use Rattle.mirror.specs.Mirror.{first_of}
 use Rattle.window.specs.Window.{Window, state_of, without_first}
-use Rattle.log_layout.specs.Places.{Shape, slot_sectors_of}
+use Rattle.journal.specs.Places.{Shape, slot_sectors_of}
 use Rattle.image_calls.specs.Images.{WaitFor, Shows}
 use Rattle.image_calls.specs.Parts.{IsOnWay}
 use Rattle.image_calls.specs.Works.{Work}

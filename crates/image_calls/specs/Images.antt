@@ -4,10 +4,10 @@ use Rattle.std.specs.Prelude.{Option, Some, None, Result, MatchResult}
 use Rattle.mirror.specs.declared.call.DeviceCall.{DeviceCall}
 use Rattle.mirror.specs.declared.call.DeviceCall.TheVariants.{Write, Flush}
 use Rattle.window.specs.Window.{Window, state_of, kept_out, ComesAfter, CoversDevice}
-use Rattle.log_layout.specs.Places.{Shape, first_home}
+use Rattle.journal.specs.Places.{Shape, first_home}
 use Rattle.recovery.specs.Looks.{HoldsLog}
 use Rattle.recovery.specs.Formatted.{IsLaid, LayingLeaves, AreSizes}
-use Rattle.log_image.specs.ImageFaults.{HasShape}
+use Rattle.journal.specs.ImageFaults.{HasShape}
 use Rattle.recovery.specs.Migrated.{IsMigrationBy, IsMigrationRefusal, MigrationLeaves}
 use Rattle.recovery.specs.Migrated.{most_migration_sends}
 use Rattle.recovery.specs.declared.recovered.Recovered.{Recovered}

@@ -2,8 +2,8 @@
 use Rattle.std.specs.Prelude.{◌≡◌, ℕ, suc, ◌+◌, ◌-◌, ◌<◌, ◌≤◌, List, replicate, Option, Some, None}
 use Rattle.medium.specs.Medium.{State, Image}
 use Rattle.medium.specs.Sent.{SendsUpTo}
-use Rattle.log_layout.specs.Places.{Shape, first_home, sectors_of, new_shape}
-use Rattle.log_layout.specs.Values.{shape_of}
+use Rattle.journal.specs.Places.{Shape, first_home, sectors_of, new_shape}
+use Rattle.journal.specs.Values.{shape_of}
 use Rattle.recovery.specs.Formatted.{IsFormatted, FormatLeaves, AreSizes}
 use Rattle.recovery.specs.Unread.{MakesNoRead}
 use Rattle.image_calls.specs.declared.plan.Plan.{Plan}

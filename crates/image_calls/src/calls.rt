@@ -1,6 +1,6 @@
 //! What C's calls for an image do.
 ghost use Rattle.std.specs.Prelude.{◌≡◌, ◌+◌, ◌*◌, ◌↔◌, None, IsTrue, IsSome};
-ghost use Rattle.log_layout.specs.Places.{new_shape, slot_sectors_of};
+ghost use Rattle.journal.specs.Places.{new_shape, slot_sectors_of};
 ghost use Rattle.window.specs.Window.{fresh};
 ghost use Rattle.image_calls.specs.Images.{Makes, IsLaidOn, IsLayFault, IsMigratedOn};
 ghost use Rattle.image_calls.specs.Images.{IsMigrateFault, IsWhole};
@@ -11,7 +11,7 @@ use crate::going::hand_on;
 use crate::handle::UsbDiskImage;
 use crate::image::{begin, lay, migrate_image};
 use crate::moves::{adopt, reclaim};
-use log_layout::LogFormat;
+use journal::LogFormat;
 use std::alloc::Global;
 use window::DeviceHolds;
 

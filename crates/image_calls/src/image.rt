@@ -1,6 +1,6 @@
 //! A log is laid on a device, an image is made on it, or its image is migrated.
 ghost use Rattle.std.specs.Prelude.{◌≡◌, ◌⊎◌, ◌≤◌, ◌+◌, ◌*◌, IfOk, IfErr};
-ghost use Rattle.log_layout.specs.Places.{new_shape, slot_sectors_of};
+ghost use Rattle.journal.specs.Places.{new_shape, slot_sectors_of};
 ghost use Rattle.window.specs.Window.{fresh};
 ghost use Rattle.image_calls.specs.Images.{IsNoLength, IsLaidOn, IsLayFault};
 ghost use Rattle.image_calls.specs.Images.{IsMigratedOn, IsMigrateFault, IsWhole};
@@ -11,7 +11,7 @@ use crate::ImageFault;
 use crate::part::begin_format;
 use crate::plan::Plan;
 use crate::work::Work;
-use log_layout::LogFormat;
+use journal::LogFormat;
 use recovery::{StartFault, lay_log, migrate};
 use std::alloc::Global;
 use window::{DeviceHolds, WindowError, WindowMedium};

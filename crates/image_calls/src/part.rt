@@ -1,12 +1,12 @@
 //! The parts of a format: each by so few calls that they have room in an outbox.
 ghost use Rattle.std.specs.Prelude.{◌+◌, ◌*◌, ◌<◌, OnErr, IfOk, IfErr};
-ghost use Rattle.log_layout.specs.Places.{new_shape, slot_sectors_of};
+ghost use Rattle.journal.specs.Places.{new_shape, slot_sectors_of};
 ghost use Rattle.recovery.specs.Formatted.{IsFormatCause};
 ghost use Rattle.image_calls.specs.Parts.{IsBegun, KeepsOnWay, FailsOnWay, SendsPart};
 ghost use Rattle.image_calls.specs.Parts.{parts_left};
 
 use crate::plan::Plan;
-use log_layout::LogFormat;
+use journal::LogFormat;
 use medium::Medium;
 use recovery::{FormatFault, clear, lay_log, sizes_of, write_through};
 

@@ -1,7 +1,7 @@
 //! A format that is made in parts: what is left of it.
 ghost use Rattle.std.specs.Prelude.{◌≤◌, ◌+◌};
 
-use log_layout::Super;
+use journal::Super;
 
 /// What is left of a format: to clear home from a sector on, and then to lay the log.
 #[derive(Clone, Copy)]

@@ -11,7 +11,7 @@ use Rattle.mirror.specs.Story.{given, are_whole}
 use Rattle.mirror.specs.declared.call.DeviceCall.{DeviceCall}
 use Rattle.mirror.specs.declared.call.DeviceCall.TheVariants.{Flush}
 use Rattle.mirror.proofs.Asked.{after-append}
-use Rattle.log_layout.specs.declared.super_sector.Super.{Super}
+use Rattle.journal.specs.declared.super_sector.Super.{Super}
 use Rattle.window.specs.Window.{Window, state_of}
 use Rattle.device_file.specs.Copied.{some_writes, moved_calls}
 use Rattle.device_file.specs.Reads.{AreReadFrom}

@@ -3,7 +3,7 @@ use Rattle.std.proofs.Common.{◌≡◌, ℕ, List, [], ◌∷◌, ◌++◌, sym
 use Rattle.std.proofs.lemmas.List.{append-nil}
 use Rattle.mirror.specs.declared.call.DeviceCall.{DeviceCall}
 use Rattle.mirror.specs.declared.call.DeviceCall.TheVariants.{Flush}
-use Rattle.log_layout.specs.declared.super_sector.Super.{Super}
+use Rattle.journal.specs.declared.super_sector.Super.{Super}
 use Rattle.device_file.specs.Asked.{Told, asked_for, refused}
 use Rattle.device_file.specs.Copied.{some_writes, moved_calls, IsCopied, IsCopiedInPart, IsAskedInPart}
 use Rattle.device_file.specs.declared.copying.CopyFault.{CopyFault}

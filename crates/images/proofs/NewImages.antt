@@ -6,9 +6,9 @@ use Rattle.spec.specs.Blocks.{Array}
 use Rattle.mirror.specs.Device.{Device, put, after}
 use Rattle.mirror.specs.declared.call.DeviceCall.{DeviceCall}
 use Rattle.mirror.proofs.Asked.{after-append}
-use Rattle.log_layout.specs.Places.{Shape, first_home, sectors_of}
-use Rattle.log_layout.specs.Sectors.{IsSuper, IsHead}
-use Rattle.log_image.specs.Standing.{IsOurs}
+use Rattle.journal.specs.Places.{Shape, first_home, sectors_of}
+use Rattle.journal.specs.Sectors.{IsSuper, IsHead}
+use Rattle.journal.specs.Standing.{IsOurs}
 use Rattle.recovery.specs.Formatted.{IsNoneOrNew}
 use Rattle.recovery.proofs.Zeros.{zeros_ours}
 use Rattle.device_file.specs.Copied.{some_writes}

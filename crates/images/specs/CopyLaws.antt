@@ -4,10 +4,10 @@ use Rattle.medium.specs.Medium.{Image, CutLeaves, Only}
 use Rattle.spec.specs.Blocks.{Array}
 use Rattle.mirror.specs.Device.{Device, after}
 use Rattle.mirror.specs.declared.call.DeviceCall.{DeviceCall}
-use Rattle.log_layout.specs.declared.super_sector.Super.{Super}
-use Rattle.log_layout.specs.Places.{Shape, first_home, sectors_of}
-use Rattle.log_layout.specs.Sectors.{IsSuper, IsHead}
-use Rattle.log_image.specs.Standing.{IsOurs}
+use Rattle.journal.specs.declared.super_sector.Super.{Super}
+use Rattle.journal.specs.Places.{Shape, first_home, sectors_of}
+use Rattle.journal.specs.Sectors.{IsSuper, IsHead}
+use Rattle.journal.specs.Standing.{IsOurs}
 use Rattle.window.specs.Window.{Window, state_of}
 use Rattle.recovery.specs.Formatted.{IsNoneOrNew}
 use Rattle.device_file.specs.Copied.{some_writes}

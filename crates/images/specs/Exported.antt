@@ -2,7 +2,7 @@
 use Rattle.std.specs.Prelude.{◌≡◌, ◌⊎◌, ℕ, List, codes, Option, Some, None}
 use Rattle.std.specs.Io.KnownBytes.{Appends, Keeps}
 use Rattle.mirror.specs.declared.call.DeviceCall.{DeviceCall}
-use Rattle.log_layout.specs.declared.super_sector.Super.{Super}
+use Rattle.journal.specs.declared.super_sector.Super.{Super}
 use Rattle.window.specs.Window.{Window}
 use Rattle.device_file.specs.Asked.{begun}
 use Rattle.device_file.specs.FileValue.{FileValue}

@@ -2,7 +2,7 @@
 use Rattle.std.specs.Prelude.{◌≡◌, ◌⊎◌, ◌≤◌, ℕ, List, [], ◌∷◌, ◌++◌, length, Option, Some, None}
 use Rattle.mirror.specs.declared.call.DeviceCall.{DeviceCall}
 use Rattle.mirror.specs.declared.call.DeviceCall.TheVariants.{Flush}
-use Rattle.log_layout.specs.declared.super_sector.Super.{Super}
+use Rattle.journal.specs.declared.super_sector.Super.{Super}
 use Rattle.window.specs.Window.{Window, state_of, ComesAfter}
 use Rattle.recovery.specs.Copies.{most_start_sends}
 use Rattle.recovery.specs.Recovered.{IsRecoveredFrom, IsRecoveryRefusal}

@@ -1,6 +1,6 @@
 -- The blocks of a plain file become those of a new image.
 use Rattle.std.specs.Prelude.{◌≡◌, ◌⊎◌, ℕ, List, true, false}
-use Rattle.log_layout.specs.Places.{Shape, first_home}
+use Rattle.journal.specs.Places.{Shape, first_home}
 use Rattle.device_file.specs.Asked.{Told}
 use Rattle.device_file.specs.Copied.{IsCopied, IsCopiedInPart}
 use Rattle.device_file.specs.declared.copying.CopyFault.{CopyFault}

@@ -1,7 +1,7 @@
 -- An image in a file is migrated.
 use Rattle.std.specs.Prelude.{◌≡◌, ◌⊎◌, ℕ, Bool, true, false, List, [], codes, Option, Some}
 use Rattle.std.specs.Prelude.{None}
-use Rattle.log_layout.specs.declared.super_sector.Super.{Super}
+use Rattle.journal.specs.declared.super_sector.Super.{Super}
 use Rattle.window.specs.Window.{Window, state_of, ComesAfter, CoversDevice}
 use Rattle.recovery.specs.Migrated.{IsMigrationBy, IsMigrationRefusal, MigrationLeaves}
 use Rattle.recovery.specs.Migrated.{most_migration_sends}

@@ -2,8 +2,8 @@
 use Rattle.std.specs.Prelude.{◌≡◌, ◌⊎◌, ℕ, Bool, true, false, List, ◌++◌, codes}
 use Rattle.std.specs.Prelude.{Option, Some, None}
 use Rattle.std.specs.Io.KnownBytes.{Appends, Keeps}
-use Rattle.log_layout.specs.declared.log_format.LogFormat.{LogFormat}
-use Rattle.log_layout.specs.Places.{Shape, new_shape, sectors_of}
+use Rattle.journal.specs.declared.log_format.LogFormat.{LogFormat}
+use Rattle.journal.specs.Places.{Shape, new_shape, sectors_of}
 use Rattle.device_file.specs.Asked.{begun}
 use Rattle.device_file.specs.FileValue.{FileValue, fresh}
 use Rattle.device_file.specs.declared.fault.FileFault.{FileFault}

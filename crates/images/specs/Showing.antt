@@ -1,7 +1,7 @@
 -- What is told of an image.
 use Rattle.std.specs.Prelude.{◌≡◌, ◌⊎◌, ℕ, ◌+◌, List, [], ◌∷◌, ◌++◌, codes, decimal, Option}
 use Rattle.std.specs.Io.KnownBytes.{Appends, Keeps}
-use Rattle.log_layout.specs.Sectors.{version_of}
+use Rattle.journal.specs.Sectors.{version_of}
 use Rattle.window.specs.Window.{Window, state_of}
 use Rattle.recovery.specs.Inspected.{IsInspected, IsLookRefusal}
 use Rattle.recovery.specs.declared.inspection.Inspection.{Inspection}

@@ -26,7 +26,7 @@ use crate::refusal::Refusal;
 use device_file::{
     CopyFault, DeviceFile, FirstSectors, Meter, Run, SystemFile, carry_moved, copy_sectors,
 };
-use log_layout::{LogFormat, Super};
+use journal::{LogFormat, Super};
 use recovery::recover;
 use std::alloc::Global;
 use std::fs::{File, Files};

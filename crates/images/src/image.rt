@@ -1,7 +1,7 @@
 //! The file of a new image, or of a copy.
 ghost use Rattle.std.specs.Prelude.{◌≡◌, ◌⊎◌, IfOk, IfErr, MatchOption};
-ghost use Rattle.log_layout.specs.Places.{new_shape};
-ghost use Rattle.log_layout.specs.Values.{shape_of};
+ghost use Rattle.journal.specs.Places.{new_shape};
+ghost use Rattle.journal.specs.Values.{shape_of};
 ghost use Rattle.device_file.specs.FileValue.{fresh};
 ghost use Rattle.device_file.specs.declared.fault.FileFault.{FileFault};
 ghost use Rattle.images.specs.Limits.{AreLimits};
@@ -11,7 +11,7 @@ ghost use Rattle.images.specs.declared.refusal.Refusal.TheVariants as refused;
 use crate::refusal::Refusal;
 use crate::streams::hold_streams;
 use device_file::SystemFile;
-use log_layout::{LogFormat, Super};
+use journal::{LogFormat, Super};
 use std::fs::{File, Files};
 
 /// The super of an image with these sizes, where it may have them.

@@ -1,6 +1,6 @@
 //! The blocks of a plain file become those of a new image.
 ghost use Rattle.std.specs.Prelude.{◌≡◌, ◌≤◌, Some, length, IfOk, OnOk, IfErr};
-ghost use Rattle.log_layout.specs.Values.{shape_of};
+ghost use Rattle.journal.specs.Values.{shape_of};
 ghost use Rattle.images.specs.Imported.{IsImage, IsNoImage, import_refusal};
 ghost use Rattle.images.specs.Importing.{IsImported, IsNotImported};
 ghost use Rattle.images.specs.Program.{IsImport, IsImportRefused};
@@ -14,7 +14,7 @@ use crate::opening::open_plain;
 use crate::output::write_out;
 use crate::refusal::Refusal;
 use device_file::{CopyFault, DeviceFile, Meter, Run, SystemFile, copy_sectors};
-use log_layout::{LogFormat, Super};
+use journal::{LogFormat, Super};
 use std::fs::{File, Files};
 use std::io::{IsTerminal, Write};
 

@@ -1,10 +1,10 @@
 //! The making of an image in a file of zeros.
 ghost use Rattle.std.specs.Prelude.{◌≡◌, ◌⊎◌, IfErr, is_ok};
-ghost use Rattle.log_layout.specs.Values.{shape_of};
+ghost use Rattle.journal.specs.Values.{shape_of};
 ghost use Rattle.images.specs.NewImage.{IsAskedToBe};
 
 use device_file::{DeviceFile, FileCall, FileFault, Run, write_sector};
-use log_layout::{Head, Super};
+use journal::{Head, Super};
 
 /// Has a file that was just made or emptied become a new image with these sizes: it is made durable
 /// as it is, then the head, then the super. Zeros are not written.

@@ -9,7 +9,7 @@ use crate::opening::{Access, open_image, window_over};
 use crate::output::write_out;
 use crate::refusal::Refusal;
 use device_file::{DeviceFile, FirstSectors, Run, carry_out};
-use log_layout::{LogFormat, Super};
+use journal::{LogFormat, Super};
 use std::alloc::Global;
 use std::fs::{File, Files};
 use std::io::Write;

@@ -30,7 +30,7 @@ use crate::showing::show;
 use crate::task::{Task, read_words};
 use crate::words::{arguments, words_of};
 use device_file::{Run, SystemFile};
-use log_layout::{LogFormat, Super};
+use journal::{LogFormat, Super};
 use std::env::Env;
 use std::fs::{File, Files};
 use std::io::{IsTerminal, Write};

@@ -12,10 +12,10 @@ ghost use Rattle.images.specs.Task.{
   replace_words,
   wanted_of,
 };
-ghost use Rattle.log_layout.specs.declared.log_format.LogFormat.{LogFormat};
+ghost use Rattle.journal.specs.declared.log_format.LogFormat.{LogFormat};
 
 use crate::number::read_number;
-use log_layout::LogFormat;
+use journal::LogFormat;
 
 // The greatest size that a word may tell.
 const MOST: u64 = 4_294_967_295;

@@ -4,11 +4,11 @@ use Rattle.std.proofs.Common.{subst}
 use Rattle.std.specs.Prelude.{Option, Some, None, nat_le}
 use Rattle.std.proofs.lemmas.Bool.{cases_Bool, leb-true}
 use Rattle.medium.specs.Writes.{sector_of}
-use Rattle.log_layout.specs.Places.{Shape}
-use Rattle.log_layout.specs.Sectors.{IsSuper}
-use Rattle.log_layout.specs.Values.{shape_of}
-use Rattle.log_layout.specs.declared.super_sector.Super.{Super}
-use Rattle.log_layout.proofs.Decoding.{IsSuper-one}
+use Rattle.journal.specs.Places.{Shape}
+use Rattle.journal.specs.Sectors.{IsSuper}
+use Rattle.journal.specs.Values.{shape_of}
+use Rattle.journal.specs.declared.super_sector.Super.{Super}
+use Rattle.journal.proofs.Decoding.{IsSuper-one}
 use Rattle.window.specs.Window.{Window, state_of, fresh}
 use Rattle.window.proofs.Kept.{opened_length, opened_front}
 use Rattle.device_file.specs.First.{SpellsSuper, near_of}

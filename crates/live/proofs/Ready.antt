@@ -3,9 +3,9 @@ use Rattle.std.proofs.Common.{◌≡◌, ◌⊎◌, ◌<◌, ◌≤◌, ◌+◌,
 use Rattle.std.specs.Prelude.{Option, Some, None}
 use Rattle.std.proofs.lemmas.Bool.{cases_Bool, cases_lt}
 use Rattle.medium.specs.Sent.{sent}
-use Rattle.log_layout.specs.Places.{Shape}
-use Rattle.log_layout.specs.Sectors.{IsSuper}
-use Rattle.log_layout.proofs.Decoding.{IsSuper-one}
+use Rattle.journal.specs.Places.{Shape}
+use Rattle.journal.specs.Sectors.{IsSuper}
+use Rattle.journal.proofs.Decoding.{IsSuper-one}
 use Rattle.mirror.specs.Story as story
 use Rattle.spec.specs.declared.case.Case.{Case}
 use Rattle.spec.specs.declared.case.Case.TheVariants.{C5, C6}

@@ -1,10 +1,10 @@
 -- Nothing that a disk asks of its window is refused: no write and no flush for want of room, and no
 -- read of a sector that is not in sight.
 use Rattle.std.specs.Prelude.{⊤, ◌≡◌, ◌⊎◌, ℕ, ◌≤◌, [], max}
-use Rattle.log_layout.specs.Places.{Shape, first_home, sectors_of}
-use Rattle.log_layout.specs.Sectors.{IsSuper}
-use Rattle.log_layout.specs.declared.log_format.LogFormat.{LogFormat}
-use Rattle.log_layout.specs.declared.log_format.LogFormat.TheVariants.{Two}
+use Rattle.journal.specs.Places.{Shape, first_home, sectors_of}
+use Rattle.journal.specs.Sectors.{IsSuper}
+use Rattle.journal.specs.declared.log_format.LogFormat.{LogFormat}
+use Rattle.journal.specs.declared.log_format.LogFormat.TheVariants.{Two}
 use Rattle.medium.specs.Medium.{Image}
 use Rattle.recovery.specs.Copies.{most_start_sends}
 use Rattle.recovery.specs.Looks.{HoldsLog}

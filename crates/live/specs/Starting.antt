@@ -1,7 +1,7 @@
 -- How a disk starts on an open file.
 use Rattle.std.specs.Prelude.{◌≡◌, ◌⊎◌, ℕ, ◌+◌, List, Option, Some, None, if◌then◌else◌, nat_le}
 use Rattle.medium.specs.Writes.{sector_of}
-use Rattle.log_layout.specs.declared.super_sector.Super.{Super}
+use Rattle.journal.specs.declared.super_sector.Super.{Super}
 use Rattle.recovery.specs.Causes.{IsDeviceFault}
 use Rattle.window.specs.Window.{Window, CoversDevice, fresh}
 use Rattle.device_file.specs.Asked.{Told}

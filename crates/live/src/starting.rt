@@ -12,7 +12,7 @@ use crate::refusal::Refusal;
 use bot_machine::{Disk, PacketSize, Retiring};
 use device_file::{DeviceFile, FirstSectors, OpenFault, Run};
 use file_window::FileWindow;
-use log_layout::{LogFormat, Super};
+use journal::{LogFormat, Super};
 use medium::Outlet;
 use runner::disk_identity;
 use std::alloc::{AllocError, Global};

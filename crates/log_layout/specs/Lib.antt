@@ -1,8 +1,8 @@
-pub mod Places
-pub mod Spelling
-pub mod Sectors
-pub mod SuperFaults
-pub mod Entry
-pub mod SectorsTwo
-pub mod Values
-pub mod Laws
+pub use Rattle.journal.specs.Places
+pub use Rattle.journal.specs.Spelling
+pub use Rattle.journal.specs.Sectors
+pub use Rattle.journal.specs.SuperFaults
+pub use Rattle.journal.specs.Entry
+pub use Rattle.journal.specs.SectorsTwo
+pub use Rattle.journal.specs.Values
+pub use Rattle.journal.specs.SectorLaws

@@ -1,33 +1,8 @@
-//! The sectors of the redo log as bytes: numbers of eight bytes, the lowest byte first.
-//!
-//! Sector 0 is the super, sector 1 the head. Behind them stand the slots of the log, of 50 sectors
-//! each in format 1 and 249 in format 2, and behind the log the blocks at home.
+//! The sectors of the redo log as bytes: the names of `journal` that callers of this crate know.
 #![tactic(auto)]
 
-mod commit;
-mod commit_two;
-mod data_two;
-mod descriptor;
-mod descriptor_two;
-mod fields;
-mod head;
-mod laws;
-mod log_format;
-mod places;
-mod sectors_two;
-mod super_fault;
-mod super_sector;
-mod whole;
-
-pub use commit::Commit;
-pub use commit_two::Commit2;
-pub use data_two::{data_sector2, is_data2};
-pub use descriptor::{Descriptor, are_rising};
-pub use descriptor_two::Descriptor2;
-pub use head::Head;
-pub use laws::layout_laws;
-pub use log_format::LogFormat;
-pub use places::{commit_place, data_place, place_of, place_of2, slot_of};
-pub use super_fault::SuperFault;
-pub use super_sector::Super;
-pub use whole::whole_record;
+pub use journal::{
+    Commit, Commit2, Descriptor, Descriptor2, Head, LogFormat, Super, SuperFault, are_rising,
+    commit_place, data_place, data_sector2, is_data2, layout_laws, place_of, place_of2, slot_of,
+    whole_record,
+};

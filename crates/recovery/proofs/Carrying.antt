@@ -3,13 +3,13 @@ use Rattle.std.proofs.Common.{◌≡◌, ⊎_elim, ℕ, ◌+◌, ◌*◌, ◌-�
 use Rattle.std.specs.Prelude.{replicate}
 use Rattle.std.proofs.lemmas.Nat.{mod_below}
 use Rattle.medium.specs.Medium.{Image}
-use Rattle.log_layout.specs.Places.{Shape}
-use Rattle.log_image.specs.Record.{Entry}
-use Rattle.log_image.specs.Layout.{Layout, IsWholeIn, CarriesBelowIn, slot_at}
-use Rattle.log_image.specs.LayoutLaws.{Laws}
-use Rattle.log_image.specs.Formats.{layout_of, HasWhole, CarriesBelow}
-use Rattle.log_image.proofs.Apart.{in_log}
-use Rattle.log_image.proofs.Formats.{laws_of}
+use Rattle.journal.specs.Places.{Shape}
+use Rattle.journal.specs.Record.{Entry}
+use Rattle.journal.specs.Layout.{Layout, IsWholeIn, CarriesBelowIn, slot_at}
+use Rattle.journal.specs.LayoutLaws.{Laws}
+use Rattle.journal.specs.Formats.{layout_of, HasWhole, CarriesBelow}
+use Rattle.journal.proofs.Apart.{in_log}
+use Rattle.journal.proofs.Formats.{laws_of}
 
 module _ (L : Layout) (laws : Laws L) (shape : Shape) (image : Image) where
   -- a whole record carries its stamp in its last sector

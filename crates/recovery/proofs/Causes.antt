@@ -6,14 +6,14 @@ use Rattle.spec.specs.Blocks.{Array}
 use Rattle.medium.specs.declared.fault.MediumFault.{MediumFault}
 use Rattle.medium.specs.declared.fault.MediumFault.TheVariants as medium
 use Rattle.medium.proofs.Moments.{quiet_joined}
-use Rattle.log_layout.specs.declared.log_format.LogFormat.TheVariants.{One}
-use Rattle.log_layout.specs.Places.{Shape}
-use Rattle.log_layout.proofs.Decoding.{IsSuper-one}
-use Rattle.log_image.specs.Standing.{StandsFor}
-use Rattle.log_layout.specs.Values.{shape_of}
-use Rattle.log_image.specs.ImageFaults as image
-use Rattle.log_image.proofs.StandingLaws.{StandsFor-one}
-use Rattle.log_image.proofs.FaultLaws.{HasFault-stands}
+use Rattle.journal.specs.declared.log_format.LogFormat.TheVariants.{One}
+use Rattle.journal.specs.Places.{Shape}
+use Rattle.journal.proofs.Decoding.{IsSuper-one}
+use Rattle.journal.specs.Standing.{StandsFor}
+use Rattle.journal.specs.Values.{shape_of}
+use Rattle.journal.specs.ImageFaults as image
+use Rattle.journal.proofs.StandingLaws.{StandsFor-one}
+use Rattle.journal.proofs.FaultLaws.{HasFault-stands}
 use Rattle.recovery.specs.Causes.{start_fault_of, IsRefusedCall, MakesReadsAlone, WritesNothing, IsCause, HasFewSlots, IsRefusalBy}
 use Rattle.recovery.specs.Causes.{IsDeviceFault}
 use Rattle.recovery.specs.Recovered.{IsRecoveredFrom}

@@ -9,14 +9,14 @@ use Rattle.medium.specs.Moments.{StaysWithin, IsQuiet}
 use Rattle.medium.specs.declared.fault.MediumFault.{MediumFault}
 use Rattle.medium.proofs.Moments.{started_within, goes_on_within, joined_same, weaker, at_exit, quiet_leaves, updated, updated_here}
 use Rattle.medium.proofs.Moments.{updated_elsewhere}
-use Rattle.log_layout.specs.declared.log_format.LogFormat.{LogFormat}
-use Rattle.log_layout.specs.Places.{Shape, first_home, sectors_of, IsFirstHome}
-use Rattle.log_image.specs.Record.{Entry, numbers_of, block_of, with_blocks, with_records, home_of, Agree}
-use Rattle.log_image.specs.Layout.{slot_at}
-use Rattle.log_image.specs.Formats.{layout_of, IsWhole}
-use Rattle.log_image.proofs.Formats.{laws_of, sectors_are}
-use Rattle.log_image.proofs.Overlay.{with_blocks-copied, with_blocks-same, with_records-append}
-use Rattle.log_image.proofs.Wholeness.{IsWhole-one, IsWhole-same, slot_inside}
+use Rattle.journal.specs.declared.log_format.LogFormat.{LogFormat}
+use Rattle.journal.specs.Places.{Shape, first_home, sectors_of, IsFirstHome}
+use Rattle.journal.specs.Record.{Entry, numbers_of, block_of, with_blocks, with_records, home_of, Agree}
+use Rattle.journal.specs.Layout.{slot_at}
+use Rattle.journal.specs.Formats.{layout_of, IsWhole}
+use Rattle.journal.proofs.Formats.{laws_of, sectors_are}
+use Rattle.journal.proofs.Overlay.{with_blocks-copied, with_blocks-same, with_records-append}
+use Rattle.journal.proofs.Wholeness.{IsWhole-one, IsWhole-same, slot_inside}
 use Rattle.recovery.specs.Copies.{freed_at, calls_of, copy_calls, IsHomeOf, IsHomeInRecord, IsHomeInRecords}
 
 -- before the first call

@@ -3,13 +3,13 @@ use Rattle.std.proofs.Common.{◌≡◌, ◌∙◌, inl, inr, ℕ, ◌+◌, ◌*
 use Rattle.std.specs.Prelude.{All}
 use Rattle.std.proofs.lemmas.Bool.{cases_lt}
 use Rattle.medium.specs.Medium.{Image}
-use Rattle.log_layout.specs.Places.{Shape}
-use Rattle.log_layout.specs.Sectors.{IsRising}
-use Rattle.log_layout.specs.SectorsTwo.{descriptors_of, IsDescriptorTwo}
-use Rattle.log_layout.proofs.EntriesTwo.{commit_count}
-use Rattle.log_image.specs.Layout.{slot_at}
-use Rattle.log_image.specs.Format2.{format2}
-use Rattle.log_image.specs.SlotTwo.{HasDescriptors}
+use Rattle.journal.specs.Places.{Shape}
+use Rattle.journal.specs.Sectors.{IsRising}
+use Rattle.journal.specs.SectorsTwo.{descriptors_of, IsDescriptorTwo}
+use Rattle.journal.proofs.EntriesTwo.{commit_count}
+use Rattle.journal.specs.Layout.{slot_at}
+use Rattle.journal.specs.Format2.{format2}
+use Rattle.journal.specs.SlotTwo.{HasDescriptors}
 use Rattle.recovery.specs.Tries.{StopsAtBad, ReadsUpToBad, HasDescriptor, HasPlace, NamesBlocks, IsReadBehind, IsReadInSlot, IsTryTwo}
 
 -- there is one first bad one

@@ -3,15 +3,15 @@ use Rattle.std.proofs.Common.{◌≡◌, ℕ, ◌+◌, length, sym, subst, ◌�
 use Rattle.medium.specs.Medium.{State, Image}
 use Rattle.medium.specs.Moments.{IsQuiet}
 use Rattle.spec.specs.Blocks.{Array}
-use Rattle.log_layout.specs.Places.{Shape}
-use Rattle.log_layout.specs.Values.{shape_of}
-use Rattle.log_image.specs.Formats.{layout_of, HasWhole}
-use Rattle.log_image.proofs.Formats.{laws_of}
-use Rattle.log_image.proofs.Wholeness.{HasWhole-same}
-use Rattle.log_layout.specs.Sectors.{IsSuper}
-use Rattle.log_image.specs.Standing.{StandsFor}
-use Rattle.log_image.specs.ImageFaults.{HasShape}
-use Rattle.log_image.proofs.StandingLaws.{Stood, count_stands, heads, counts}
+use Rattle.journal.specs.Places.{Shape}
+use Rattle.journal.specs.Values.{shape_of}
+use Rattle.journal.specs.Formats.{layout_of, HasWhole}
+use Rattle.journal.proofs.Formats.{laws_of}
+use Rattle.journal.proofs.Wholeness.{HasWhole-same}
+use Rattle.journal.specs.Sectors.{IsSuper}
+use Rattle.journal.specs.Standing.{StandsFor}
+use Rattle.journal.specs.ImageFaults.{HasShape}
+use Rattle.journal.proofs.StandingLaws.{Stood, count_stands, heads, counts}
 use Rattle.recovery.specs.Found.{IsFound}
 use Rattle.recovery.specs.declared.found.Found.{Found}
 

@@ -7,20 +7,20 @@ use Rattle.std.proofs.lemmas.Nat.{mod_below}
 use Rattle.std.proofs.lemmas.List.Elements.{All-take, All-drop}
 use Rattle.std.proofs.lemmas.List.{length-take, length-drop, get_or-take, get_or-drop}
 use Rattle.medium.specs.Medium.{Image}
-use Rattle.log_layout.specs.declared.log_format.LogFormat.TheVariants.{Two}
-use Rattle.log_layout.specs.declared.super_sector.Super.{Super}
-use Rattle.log_layout.specs.declared.descriptor_two.Descriptor2.{Descriptor2}
-use Rattle.log_layout.specs.Places.{Shape, first_home, IsFirstHome}
-use Rattle.log_layout.specs.SectorsTwo.{descriptors_of, chunk_of, firsts_of, place_bytes, IsDescriptorTwo, IsCommitTwo}
-use Rattle.log_layout.specs.Values.{shape_of}
-use Rattle.log_layout.proofs.BytesTwo.{place_rest, two_parts}
-use Rattle.log_layout.proofs.RecordTwo.{numbers_of_chunk}
-use Rattle.log_image.specs.Record.{Entry, numbers_of, block_of}
-use Rattle.log_image.specs.Layout.{IsWholeIn}
-use Rattle.log_image.specs.Format2.{format2}
-use Rattle.log_image.specs.Formats.{IsWhole}
-use Rattle.log_image.proofs.Copying.{place_there}
-use Rattle.log_image.proofs.WholeTwo.{commit_whole, descriptor_whole}
+use Rattle.journal.specs.declared.log_format.LogFormat.TheVariants.{Two}
+use Rattle.journal.specs.declared.super_sector.Super.{Super}
+use Rattle.journal.specs.declared.descriptor_two.Descriptor2.{Descriptor2}
+use Rattle.journal.specs.Places.{Shape, first_home, IsFirstHome}
+use Rattle.journal.specs.SectorsTwo.{descriptors_of, chunk_of, firsts_of, place_bytes, IsDescriptorTwo, IsCommitTwo}
+use Rattle.journal.specs.Values.{shape_of}
+use Rattle.journal.proofs.BytesTwo.{place_rest, two_parts}
+use Rattle.journal.proofs.RecordTwo.{numbers_of_chunk}
+use Rattle.journal.specs.Record.{Entry, numbers_of, block_of}
+use Rattle.journal.specs.Layout.{IsWholeIn}
+use Rattle.journal.specs.Format2.{format2}
+use Rattle.journal.specs.Formats.{IsWhole}
+use Rattle.journal.proofs.Copying.{place_there}
+use Rattle.journal.proofs.WholeTwo.{commit_whole, descriptor_whole}
 use Rattle.recovery.specs.Copies.{IsHomeOf, IsHomeInRecord}
 use Rattle.recovery.proofs.Copying.{number_of, long_as}
 use Rattle.recovery.proofs.WholeTwo.{as_two, slot_two}

@@ -5,12 +5,12 @@ use Rattle.medium.specs.Moments.{EachCut, IsFlushed, LeavesOnly, IsQuiet, Spares
 use Rattle.spec.specs.Blocks.{Array}
 use Rattle.medium.specs.declared.fault.MediumFault.{MediumFault}
 use Rattle.medium.proofs.Moments.{quiet_joined}
-use Rattle.log_layout.specs.Places.{Shape, first_home, sectors_of}
-use Rattle.log_layout.specs.Values.{shape_of}
-use Rattle.log_image.specs.Record.{Entry}
-use Rattle.log_image.specs.Formats.{IsWhole}
-use Rattle.log_image.specs.Standing.{IsOurs}
-use Rattle.log_image.specs.ImageFaults.{HasShape}
+use Rattle.journal.specs.Places.{Shape, first_home, sectors_of}
+use Rattle.journal.specs.Values.{shape_of}
+use Rattle.journal.specs.Record.{Entry}
+use Rattle.journal.specs.Formats.{IsWhole}
+use Rattle.journal.specs.Standing.{IsOurs}
+use Rattle.journal.specs.ImageFaults.{HasShape}
 use Rattle.recovery.specs.Calls.{CopiesPass, MovesHead}
 use Rattle.recovery.specs.Copies.{most_calls_of, most_start_of, AreCopied, IsHomeInRecords, HasNewHead}
 use Rattle.recovery.specs.Found.{IsFound, IsSurvey, SurveysAtMost}

@@ -7,17 +7,17 @@ use Rattle.medium.specs.Medium.{State, Image}
 use Rattle.medium.specs.Moments.{IsQuiet}
 use Rattle.medium.specs.declared.fault.MediumFault.{MediumFault}
 use Rattle.medium.specs.declared.fault.MediumFault.TheVariants as medium
-use Rattle.log_layout.specs.Places.{Shape}
-use Rattle.log_layout.specs.Sectors.{IsHead}
-use Rattle.log_layout.specs.Values.{shape_of}
-use Rattle.log_image.specs.Record.{Entry, numbers_of}
-use Rattle.log_image.specs.Formats.{layout_of, IsWhole, HasWhole}
-use Rattle.log_image.specs.Standing.{Stands}
-use Rattle.log_image.specs.ImageFaults as image
-use Rattle.log_image.proofs.Formats.{laws_of}
-use Rattle.log_image.proofs.Wholeness.{IsWhole-one}
-use Rattle.log_image.proofs.StandingLaws.{count_stands}
-use Rattle.log_image.proofs.FaultLaws.{HasFault-stands}
+use Rattle.journal.specs.Places.{Shape}
+use Rattle.journal.specs.Sectors.{IsHead}
+use Rattle.journal.specs.Values.{shape_of}
+use Rattle.journal.specs.Record.{Entry, numbers_of}
+use Rattle.journal.specs.Formats.{layout_of, IsWhole, HasWhole}
+use Rattle.journal.specs.Standing.{Stands}
+use Rattle.journal.specs.ImageFaults as image
+use Rattle.journal.proofs.Formats.{laws_of}
+use Rattle.journal.proofs.Wholeness.{IsWhole-one}
+use Rattle.journal.proofs.StandingLaws.{count_stands}
+use Rattle.journal.proofs.FaultLaws.{HasFault-stands}
 use Rattle.recovery.specs.Causes.{start_fault_of, IsRefusedCall, IsRefusalBy, IsDeviceFault}
 use Rattle.recovery.specs.Inspected.{AreCounts, IsInspected, IsLookCause, IsLookRefusal}
 use Rattle.recovery.specs.declared.inspection.Inspection.{Inspection}

@@ -3,8 +3,8 @@ use Rattle.std.proofs.Common.{◌≡◌, ℕ, sym, subst}
 use Rattle.std.specs.Prelude.{replicate}
 use Rattle.medium.specs.Medium.{State}
 use Rattle.spec.specs.Blocks.{Array}
-use Rattle.log_layout.specs.Places.{Shape, first_home, sectors_of}
-use Rattle.log_image.specs.Record.{home_of}
+use Rattle.journal.specs.Places.{Shape, first_home, sectors_of}
+use Rattle.journal.specs.Record.{home_of}
 use Rattle.recovery.specs.Formatted.{IsArrayFrom, IsMade, IsFormatted, ImageLeaves, FormatLeaves, IsLaid, LayingLeaves}
 use Rattle.recovery.proofs.Zeros.{zeros_from, home_from, formatted}
 

@@ -8,10 +8,10 @@ use Rattle.medium.proofs.Moments.{started, started_within, gains_within, goes_on
 use Rattle.medium.proofs.Moments.{shrunk}
 use Rattle.medium.proofs.Sparing.{HasSpared, spared_start, spared_joined}
 use Rattle.spec.specs.Blocks.{Array}
-use Rattle.log_layout.specs.Places.{Shape, first_home, sectors_of}
-use Rattle.log_layout.specs.Sectors.{IsSuper, IsHead}
-use Rattle.log_image.specs.Record.{home_of}
-use Rattle.log_image.specs.Standing.{IsOurs}
+use Rattle.journal.specs.Places.{Shape, first_home, sectors_of}
+use Rattle.journal.specs.Sectors.{IsSuper, IsHead}
+use Rattle.journal.specs.Record.{home_of}
+use Rattle.journal.specs.Standing.{IsOurs}
 use Rattle.recovery.specs.Copies.{freed_at, cleared_at, WithOrWithout, IsBetween}
 use Rattle.recovery.specs.Formatted.{IsNoneOrNew, IsMidway, ImageLeaves}
 use Rattle.recovery.proofs.Copying.{sets_within, log_ends}

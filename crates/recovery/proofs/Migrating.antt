@@ -8,17 +8,17 @@ use Rattle.spec.specs.Blocks.{Array}
 use Rattle.medium.specs.Sent.{sent, SendsUpTo}
 use Rattle.medium.proofs.Moments.{weaker, joined_same, at_exit, only_image}
 use Rattle.medium.proofs.Sparing.{spared_behind, spared_joined}
-use Rattle.log_layout.specs.declared.log_format.LogFormat.{LogFormat}
-use Rattle.log_layout.specs.declared.log_format.LogFormat.TheVariants.{One}
-use Rattle.log_layout.specs.Places.{Shape, first_home, sectors_of, migrated}
-use Rattle.log_layout.specs.Sectors.{IsSuper, IsHead}
-use Rattle.log_layout.specs.Values.{shape_of}
-use Rattle.log_layout.proofs.Decoding.{IsSuper-one}
-use Rattle.log_image.specs.Formats.{layout_of}
-use Rattle.log_image.specs.Standing.{IsOurs}
-use Rattle.log_image.specs.ImageFaults.{HasShape}
-use Rattle.log_image.proofs.Formats.{laws_of}
-use Rattle.log_image.proofs.StandingLaws.{StandsFor-one, StandsFor-shape}
+use Rattle.journal.specs.declared.log_format.LogFormat.{LogFormat}
+use Rattle.journal.specs.declared.log_format.LogFormat.TheVariants.{One}
+use Rattle.journal.specs.Places.{Shape, first_home, sectors_of, migrated}
+use Rattle.journal.specs.Sectors.{IsSuper, IsHead}
+use Rattle.journal.specs.Values.{shape_of}
+use Rattle.journal.proofs.Decoding.{IsSuper-one}
+use Rattle.journal.specs.Formats.{layout_of}
+use Rattle.journal.specs.Standing.{IsOurs}
+use Rattle.journal.specs.ImageFaults.{HasShape}
+use Rattle.journal.proofs.Formats.{laws_of}
+use Rattle.journal.proofs.StandingLaws.{StandsFor-one, StandsFor-shape}
 use Rattle.recovery.specs.Causes.{HasFewSlots}
 use Rattle.recovery.specs.Copies.{cleared_at, WithOrWithout, IsBetween, HasNewHead, copy_calls, most_start_of}
 use Rattle.recovery.specs.Tries.{AreTriesOf}

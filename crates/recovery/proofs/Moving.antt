@@ -4,7 +4,7 @@ use Rattle.medium.specs.Medium.{State, Image, CutLeaves, Stays, Holds, Within, G
 use Rattle.medium.specs.Moments.{EachCut, LeavesOnly}
 use Rattle.medium.specs.declared.fault.MediumFault.{MediumFault}
 use Rattle.medium.proofs.Moments.{started, goes_on, each_write, shrunk, only_image}
-use Rattle.log_layout.specs.Sectors.{IsHead}
+use Rattle.journal.specs.Sectors.{IsHead}
 use Rattle.recovery.specs.Copies.{HasNewHead}
 
 -- an image that could be left before, or the contents before with the new head

@@ -3,7 +3,7 @@ use Rattle.std.proofs.Common.{◌≡◌, inl, inr, ℕ, ◌+◌, ◌*◌, ◌<�
 use Rattle.std.proofs.lemmas.Bool.{cases_eq}
 use Rattle.std.proofs.lemmas.List.{drop_at, take_all, drop-append-le, take-append-le, length-drop}
 use Rattle.medium.specs.Medium.{Image}
-use Rattle.log_layout.specs.SectorsTwo.{IsDescriptorTwo}
+use Rattle.journal.specs.SectorsTwo.{IsDescriptorTwo}
 
 module _ (j : ℕ) (numbers more : List ℕ) (long : length numbers ≡ 30 * j) where
   -- the numbers that were there

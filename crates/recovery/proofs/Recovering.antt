@@ -5,13 +5,13 @@ use Rattle.medium.specs.Medium.{State, Image, CutLeaves, Only, IsSound}
 use Rattle.medium.specs.Moments.{EachCut, IsFlushed, LeavesOnly, StaysWithin, IsQuiet}
 use Rattle.spec.specs.Blocks.{Array}
 use Rattle.medium.proofs.Moments.{joined_same, weaker, at_exit, only_image, quiet_joined, quiet_leaves}
-use Rattle.log_layout.specs.Places.{Shape, first_home}
-use Rattle.log_layout.specs.Sectors.{IsSuper}
-use Rattle.log_layout.specs.Values.{shape_of}
-use Rattle.log_image.specs.Record.{Entry, with_records, home_of}
-use Rattle.log_image.specs.Formats.{IsWhole}
-use Rattle.log_image.specs.Standing.{StandsFor, IsOurs}
-use Rattle.log_layout.proofs.Decoding.{IsSuper-one}
+use Rattle.journal.specs.Places.{Shape, first_home}
+use Rattle.journal.specs.Sectors.{IsSuper}
+use Rattle.journal.specs.Values.{shape_of}
+use Rattle.journal.specs.Record.{Entry, with_records, home_of}
+use Rattle.journal.specs.Formats.{IsWhole}
+use Rattle.journal.specs.Standing.{StandsFor, IsOurs}
+use Rattle.journal.proofs.Decoding.{IsSuper-one}
 use Rattle.recovery.specs.Copies.{freed_at, copy_calls, AreCopied, IsHomeInRecords, HasNewHead}
 use Rattle.recovery.specs.Tries.{AreTries}
 use Rattle.recovery.proofs.Trying.{tries_moved}

@@ -4,14 +4,14 @@ use Rattle.std.proofs.Math.ListN.{get_or-map}
 use Rattle.std.proofs.lemmas.List.{length-map}
 use Rattle.medium.specs.Medium.{Image}
 use Rattle.spec.specs.Blocks.{Array}
-use Rattle.log_layout.specs.Places.{Shape, first_home, sectors_of, IsFirstHome}
-use Rattle.log_layout.specs.Sectors.{IsSuper, IsHead}
-use Rattle.log_image.specs.Record.{Entry, numbers_of, with_records, home_of, Hides}
-use Rattle.log_image.specs.Formats.{layout_of, IsWhole}
-use Rattle.log_image.specs.Standing.{IsOurs}
-use Rattle.log_image.proofs.Formats.{laws_of}
-use Rattle.log_image.proofs.Overlay.{with_records-same, records-hide}
-use Rattle.log_image.proofs.Wholeness.{IsWhole-one, CarriesBelow-agree}
+use Rattle.journal.specs.Places.{Shape, first_home, sectors_of, IsFirstHome}
+use Rattle.journal.specs.Sectors.{IsSuper, IsHead}
+use Rattle.journal.specs.Record.{Entry, numbers_of, with_records, home_of, Hides}
+use Rattle.journal.specs.Formats.{layout_of, IsWhole}
+use Rattle.journal.specs.Standing.{IsOurs}
+use Rattle.journal.proofs.Formats.{laws_of}
+use Rattle.journal.proofs.Overlay.{with_records-same, records-hide}
+use Rattle.journal.proofs.Wholeness.{IsWhole-one, CarriesBelow-agree}
 use Rattle.recovery.specs.Copies.{IsHomeInRecords, HasNewHead}
 use Rattle.recovery.specs.Recovered.{IsFresh}
 use Rattle.recovery.proofs.Carrying.{carried_whole, carries_later}

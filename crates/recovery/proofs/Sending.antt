@@ -2,11 +2,11 @@
 use Rattle.std.proofs.Common.{◌≡◌, ℕ, ◌+◌, ◌*◌, ◌≤◌, sym, subst, arith}
 use Rattle.medium.specs.Medium.{State}
 use Rattle.medium.specs.Sent.{sent, SendsUpTo}
-use Rattle.log_layout.specs.declared.log_format.LogFormat.{LogFormat}
-use Rattle.log_layout.specs.declared.log_format.LogFormat.TheVariants.{One, Two}
-use Rattle.log_layout.specs.Places.{Shape, limit_of}
-use Rattle.log_layout.specs.Values.{shape_of}
-use Rattle.log_layout.proofs.Decoding.{IsSuper-one}
+use Rattle.journal.specs.declared.log_format.LogFormat.{LogFormat}
+use Rattle.journal.specs.declared.log_format.LogFormat.TheVariants.{One, Two}
+use Rattle.journal.specs.Places.{Shape, limit_of}
+use Rattle.journal.specs.Values.{shape_of}
+use Rattle.journal.proofs.Decoding.{IsSuper-one}
 use Rattle.recovery.specs.Copies.{most_start_sends}
 use Rattle.recovery.specs.Found.{IsFound}
 use Rattle.recovery.specs.Migrated.{most_migration_sends}

@@ -4,9 +4,9 @@ use Rattle.std.proofs.lemmas.Nat.{mod_below}
 use Rattle.medium.specs.Medium.{State, Image, LooksOnly}
 use Rattle.medium.specs.Moments.{IsQuiet}
 use Rattle.medium.proofs.Looking.{no_looks, looks_joined, looks_below, look_below}
-use Rattle.log_layout.specs.declared.log_format.LogFormat.TheVariants.{One, Two}
-use Rattle.log_layout.specs.Places.{Shape, first_home, IsFirstHome}
-use Rattle.log_image.specs.ImageFaults.{HasShape}
+use Rattle.journal.specs.declared.log_format.LogFormat.TheVariants.{One, Two}
+use Rattle.journal.specs.Places.{Shape, first_home, IsFirstHome}
+use Rattle.journal.specs.ImageFaults.{HasShape}
 use Rattle.recovery.specs.Looks.{HoldsLog, LooksAtLog}
 use Rattle.recovery.proofs.WholeOne.{slot_one}
 use Rattle.recovery.proofs.WholeTwo.{slot_two}

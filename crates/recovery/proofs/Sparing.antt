@@ -5,9 +5,9 @@ use Rattle.medium.specs.Medium.{State, CutLeaves, IsSound}
 use Rattle.medium.specs.Moments.{LeavesOnly, StaysWithin, IsQuiet, SparesFrom}
 use Rattle.medium.proofs.Moments.{weaker, at_exit, updated, updated_here, updated_elsewhere}
 use Rattle.medium.proofs.Sparing.{HasSpared, spared_quiet, spared_joined, spared_behind}
-use Rattle.log_layout.specs.Places.{Shape, sectors_of}
-use Rattle.log_layout.specs.Values.{shape_of}
-use Rattle.log_layout.proofs.Decoding.{IsSuper-one}
+use Rattle.journal.specs.Places.{Shape, sectors_of}
+use Rattle.journal.specs.Values.{shape_of}
+use Rattle.journal.proofs.Decoding.{IsSuper-one}
 use Rattle.recovery.specs.Copies.{freed_at, IsHomeInRecords}
 use Rattle.recovery.specs.Found.{IsFound}
 use Rattle.recovery.specs.Recovered.{SparesTheRest}

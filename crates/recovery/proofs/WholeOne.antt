@@ -4,19 +4,19 @@ use Rattle.std.specs.Prelude.{All}
 use Rattle.std.proofs.lemmas.List.{length-map}
 use Rattle.std.proofs.lemmas.List.Elements.{All-from_get_or}
 use Rattle.medium.specs.Medium.{Image}
-use Rattle.log_layout.specs.declared.log_format.LogFormat.{LogFormat}
-use Rattle.log_layout.specs.declared.log_format.LogFormat.TheVariants.{One}
-use Rattle.log_layout.specs.Places.{Shape, first_home, slot_sectors_of, IsFirstHome}
-use Rattle.log_layout.specs.Entry.{Entry, numbers_of}
-use Rattle.log_layout.specs.Spelling.{spelling, descriptor_mark, commit_mark}
-use Rattle.log_layout.specs.Sectors.{IsRising, IsDescriptor, IsCommit}
-use Rattle.log_image.specs.Record.{entries_in}
-use Rattle.log_image.specs.Layout.{AreEntries, IsWholeIn}
-use Rattle.log_image.specs.Format1.{format1, offset1, part1}
-use Rattle.log_image.specs.Formats.{layout_of, IsWhole}
-use Rattle.log_image.proofs.Format1Laws.{Kind, Described, Placed, Committed, kind_of, offset_early, offset_commit, part_descriptor}
-use Rattle.log_image.proofs.Format1Laws.{part_place, part_commit, commit_of}
-use Rattle.log_image.proofs.ReadingOne.{numbers_of-entries_in, length-entries_in, bytes_of-entries_in}
+use Rattle.journal.specs.declared.log_format.LogFormat.{LogFormat}
+use Rattle.journal.specs.declared.log_format.LogFormat.TheVariants.{One}
+use Rattle.journal.specs.Places.{Shape, first_home, slot_sectors_of, IsFirstHome}
+use Rattle.journal.specs.Entry.{Entry, numbers_of}
+use Rattle.journal.specs.Spelling.{spelling, descriptor_mark, commit_mark}
+use Rattle.journal.specs.Sectors.{IsRising, IsDescriptor, IsCommit}
+use Rattle.journal.specs.Record.{entries_in}
+use Rattle.journal.specs.Layout.{AreEntries, IsWholeIn}
+use Rattle.journal.specs.Format1.{format1, offset1, part1}
+use Rattle.journal.specs.Formats.{layout_of, IsWhole}
+use Rattle.journal.proofs.Format1Laws.{Kind, Described, Placed, Committed, kind_of, offset_early, offset_commit, part_descriptor}
+use Rattle.journal.proofs.Format1Laws.{part_place, part_commit, commit_of}
+use Rattle.journal.proofs.ReadingOne.{numbers_of-entries_in, length-entries_in, bytes_of-entries_in}
 
 -- a record of format 1, as one of that layout
 pub as_one : (shape : Shape) (image : Image) (stamp : ℕ) (es : List Entry) → shape.format ≡ One → IsWhole shape image stamp es

@@ -3,18 +3,18 @@ use Rattle.std.proofs.Common.{◌≡◌, ℕ, ◌+◌, ◌*◌, ◌%◌, ◌<◌
 use Rattle.std.specs.Prelude.{true, false, IsTrue, All}
 use Rattle.std.proofs.lemmas.List.{length-map}
 use Rattle.medium.specs.Medium.{Image}
-use Rattle.log_layout.specs.declared.log_format.LogFormat.{LogFormat}
-use Rattle.log_layout.specs.declared.log_format.LogFormat.TheVariants.{Two}
-use Rattle.log_layout.specs.Places.{Shape, first_home, slot_sectors_of, IsFirstHome}
-use Rattle.log_layout.specs.Entry.{Entry, numbers_of}
-use Rattle.log_layout.specs.Sectors.{IsRising}
-use Rattle.log_layout.specs.SectorsTwo.{firsts_of, chunk_of, IsDescriptorTwo, IsCommitTwo}
-use Rattle.log_layout.proofs.RecordTwo.{numbers_of_chunk}
-use Rattle.log_image.specs.Layout.{IsWholeIn}
-use Rattle.log_image.specs.Format2.{format2, record_in}
-use Rattle.log_image.specs.Formats.{layout_of, IsWhole, HasWhole}
-use Rattle.log_image.specs.SlotTwo.{HasDescriptors, HasPlaces}
-use Rattle.log_image.proofs.WholeTwo.{whole_two, commit_whole, descriptor_whole, place_whole}
+use Rattle.journal.specs.declared.log_format.LogFormat.{LogFormat}
+use Rattle.journal.specs.declared.log_format.LogFormat.TheVariants.{Two}
+use Rattle.journal.specs.Places.{Shape, first_home, slot_sectors_of, IsFirstHome}
+use Rattle.journal.specs.Entry.{Entry, numbers_of}
+use Rattle.journal.specs.Sectors.{IsRising}
+use Rattle.journal.specs.SectorsTwo.{firsts_of, chunk_of, IsDescriptorTwo, IsCommitTwo}
+use Rattle.journal.proofs.RecordTwo.{numbers_of_chunk}
+use Rattle.journal.specs.Layout.{IsWholeIn}
+use Rattle.journal.specs.Format2.{format2, record_in}
+use Rattle.journal.specs.Formats.{layout_of, IsWhole, HasWhole}
+use Rattle.journal.specs.SlotTwo.{HasDescriptors, HasPlaces}
+use Rattle.journal.proofs.WholeTwo.{whole_two, commit_whole, descriptor_whole, place_whole}
 
 -- what is not true is nothing to show
 pub untrue : {P : Type 0} → IsTrue false → P

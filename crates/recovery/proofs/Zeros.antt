@@ -5,11 +5,11 @@ use Rattle.std.proofs.lemmas.Bool.{cases_lt}
 use Rattle.medium.specs.Medium.{State, Image}
 use Rattle.medium.specs.Moments.{IsFlushed}
 use Rattle.spec.specs.Blocks.{Array}
-use Rattle.log_layout.specs.Places.{Shape, first_home, sectors_of}
-use Rattle.log_layout.specs.Sectors.{IsSuper, IsHead}
-use Rattle.log_image.specs.Record.{home_of}
-use Rattle.log_image.specs.Formats.{CarriesBelow}
-use Rattle.log_image.specs.Standing.{IsOurs}
+use Rattle.journal.specs.Places.{Shape, first_home, sectors_of}
+use Rattle.journal.specs.Sectors.{IsSuper, IsHead}
+use Rattle.journal.specs.Record.{home_of}
+use Rattle.journal.specs.Formats.{CarriesBelow}
+use Rattle.journal.specs.Standing.{IsOurs}
 use Rattle.recovery.specs.Formatted.{IsArrayFrom, IsMade, IsFormatted}
 use Rattle.recovery.proofs.Carrying.{carried_whole, zeros_carry, carries_later}
 use Rattle.recovery.proofs.Copying.{log_ends}

@@ -4,10 +4,10 @@ use Rattle.medium.specs.Medium.{State, Image}
 use Rattle.medium.specs.Moments.{IsQuiet}
 use Rattle.medium.specs.declared.fault.MediumFault.{MediumFault}
 use Rattle.medium.specs.declared.fault.MediumFault.TheVariants as medium
-use Rattle.log_layout.specs.declared.log_format.LogFormat.TheVariants.{One}
-use Rattle.log_layout.specs.Places.{Shape}
-use Rattle.log_layout.specs.Sectors.{IsHead}
-use Rattle.log_image.specs.ImageFaults as image
+use Rattle.journal.specs.declared.log_format.LogFormat.TheVariants.{One}
+use Rattle.journal.specs.Places.{Shape}
+use Rattle.journal.specs.Sectors.{IsHead}
+use Rattle.journal.specs.ImageFaults as image
 use Rattle.recovery.specs.declared.start_fault.StartFault.{StartFault}
 use Rattle.recovery.specs.declared.start_fault.StartFault.TheVariants.{NoMemory, Read, Write, Flush}
 use Rattle.recovery.specs.declared.start_fault.StartFault.TheVariants.{BadSuper, BadVersion}

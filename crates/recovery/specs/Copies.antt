@@ -2,13 +2,13 @@
 use Rattle.std.specs.Prelude.{◌≡◌, ◌≢◌, ◌⊎◌, ℕ, ◌+◌, ◌*◌, ◌<◌, ◌≤◌, List, [], ◌∷◌, length}
 use Rattle.std.specs.Prelude.{slice_index, get_or, replicate}
 use Rattle.medium.specs.Medium.{State, Image, Sets, CutLeaves, Holds}
-use Rattle.log_layout.specs.declared.log_format.LogFormat.{LogFormat}
-use Rattle.log_layout.specs.declared.log_format.LogFormat.TheVariants.{One, Two}
-use Rattle.log_layout.specs.Places.{Shape, first_home, limit_of}
-use Rattle.log_layout.specs.Sectors.{IsHead}
-use Rattle.log_layout.specs.SectorsTwo.{descriptors_of}
-use Rattle.log_image.specs.Record.{Entry, numbers_of, block_of, with_records, home_of}
-use Rattle.log_image.specs.Formats.{IsWhole}
+use Rattle.journal.specs.declared.log_format.LogFormat.{LogFormat}
+use Rattle.journal.specs.declared.log_format.LogFormat.TheVariants.{One, Two}
+use Rattle.journal.specs.Places.{Shape, first_home, limit_of}
+use Rattle.journal.specs.Sectors.{IsHead}
+use Rattle.journal.specs.SectorsTwo.{descriptors_of}
+use Rattle.journal.specs.Record.{Entry, numbers_of, block_of, with_records, home_of}
+use Rattle.journal.specs.Formats.{IsWhole}
 
 -- what a cut may leave, and in these sectors anything
 abbrev pub freed_at : (ℕ → Type 0) → Sets → Sets

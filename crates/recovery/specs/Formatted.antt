@@ -4,10 +4,10 @@ use Rattle.medium.specs.Medium.{State, Image, CutLeaves}
 use Rattle.medium.specs.Moments.{IsFlushed, LeavesOnly, SparesFrom}
 use Rattle.spec.specs.Blocks.{Array}
 use Rattle.medium.specs.Sent.{SendsUpTo}
-pub use Rattle.log_layout.specs.Places.{Shape, first_home, sectors_of}
-use Rattle.log_layout.specs.Sectors.{IsSuper, IsHead}
-use Rattle.log_image.specs.Record.{home_of}
-use Rattle.log_image.specs.Standing.{IsOurs}
+pub use Rattle.journal.specs.Places.{Shape, first_home, sectors_of}
+use Rattle.journal.specs.Sectors.{IsSuper, IsHead}
+use Rattle.journal.specs.Record.{home_of}
+use Rattle.journal.specs.Standing.{IsOurs}
 use Rattle.recovery.specs.Unread.{MakesNoRead}
 use Rattle.recovery.specs.declared.format_fault.FormatFault.{FormatFault}
 use Rattle.recovery.specs.declared.format_fault.FormatFault.TheVariants.{BadSize, Medium}

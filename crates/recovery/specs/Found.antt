@@ -2,11 +2,11 @@
 use Rattle.std.specs.Prelude.{ℕ, ◌+◌, ◌*◌, ◌^◌, ◌<◌, ◌≤◌, min}
 use Rattle.medium.specs.Medium.{State, Image}
 use Rattle.medium.specs.Moments.{IsQuiet}
-use Rattle.log_layout.specs.Places.{Shape}
-use Rattle.log_layout.specs.Values.{shape_of}
-use Rattle.log_layout.specs.Sectors.{IsHead}
-use Rattle.log_image.specs.Standing.{IsCount}
-use Rattle.log_image.specs.ImageFaults.{HasShape}
+use Rattle.journal.specs.Places.{Shape}
+use Rattle.journal.specs.Values.{shape_of}
+use Rattle.journal.specs.Sectors.{IsHead}
+use Rattle.journal.specs.Standing.{IsCount}
+use Rattle.journal.specs.ImageFaults.{HasShape}
 use Rattle.recovery.specs.Causes.{HasFewSlots, MakesReadsAlone}
 use Rattle.recovery.specs.Copies.{most_reads_of}
 use Rattle.recovery.specs.Looks.{LooksAtLog}

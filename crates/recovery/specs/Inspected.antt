@@ -4,12 +4,12 @@ use Rattle.medium.specs.Medium.{State, Image}
 use Rattle.medium.specs.Moments.{IsQuiet}
 use Rattle.spec.specs.Blocks.{Array}
 use Rattle.medium.specs.declared.fault.MediumFault.TheVariants as medium
-use Rattle.log_layout.specs.Places.{Shape}
-use Rattle.log_layout.specs.Values.{shape_of}
-use Rattle.log_image.specs.Record.{Entry}
-use Rattle.log_image.specs.Formats.{IsWhole}
-use Rattle.log_image.specs.Standing.{IsCount, StandsFor, Stands}
-use Rattle.log_image.specs.ImageFaults as image
+use Rattle.journal.specs.Places.{Shape}
+use Rattle.journal.specs.Values.{shape_of}
+use Rattle.journal.specs.Record.{Entry}
+use Rattle.journal.specs.Formats.{IsWhole}
+use Rattle.journal.specs.Standing.{IsCount, StandsFor, Stands}
+use Rattle.journal.specs.ImageFaults as image
 use Rattle.recovery.specs.Causes.{IsRefusedCall, MakesReadsAlone, IsDeviceFault}
 use Rattle.recovery.specs.declared.inspection.Inspection.{Inspection}
 use Rattle.recovery.specs.declared.start_fault.StartFault.{StartFault}

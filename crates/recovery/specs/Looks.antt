@@ -1,8 +1,8 @@
 -- Which sectors are read.
 use Rattle.std.specs.Prelude.{ℕ, ◌<◌, ◌≤◌}
 use Rattle.medium.specs.Medium.{State, Image, LooksOnly}
-use Rattle.log_layout.specs.Places.{Shape, first_home}
-use Rattle.log_image.specs.ImageFaults.{HasShape}
+use Rattle.journal.specs.Places.{Shape, first_home}
+use Rattle.journal.specs.ImageFaults.{HasShape}
 
 -- So many first sectors are all that is read of an image but its blocks at home: the super, and
 -- where that names a log, the head and the log.

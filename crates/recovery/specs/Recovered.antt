@@ -4,13 +4,13 @@ use Rattle.medium.specs.Medium.{State, Image, CutLeaves}
 use Rattle.medium.specs.Moments.{EachCut, IsFlushed, LeavesOnly, SparesFrom}
 use Rattle.spec.specs.Blocks.{Array}
 use Rattle.medium.specs.Sent.{SendsUpTo}
-use Rattle.log_layout.specs.declared.log_format.LogFormat.TheVariants.{Two}
-use Rattle.log_layout.specs.Places.{Shape, first_home, sectors_of}
-use Rattle.log_layout.specs.Values.{shape_of}
-use Rattle.log_layout.specs.Sectors.{IsSuper, IsHead}
-use Rattle.log_image.specs.Formats.{CarriesBelow}
-use Rattle.log_image.specs.Standing.{StandsFor, IsOurs}
-use Rattle.log_image.specs.ImageFaults.{HasShape}
+use Rattle.journal.specs.declared.log_format.LogFormat.TheVariants.{Two}
+use Rattle.journal.specs.Places.{Shape, first_home, sectors_of}
+use Rattle.journal.specs.Values.{shape_of}
+use Rattle.journal.specs.Sectors.{IsSuper, IsHead}
+use Rattle.journal.specs.Formats.{CarriesBelow}
+use Rattle.journal.specs.Standing.{StandsFor, IsOurs}
+use Rattle.journal.specs.ImageFaults.{HasShape}
 use Rattle.recovery.specs.Causes.{HasFewSlots, IsCause, IsDeviceFault}
 use Rattle.recovery.specs.Copies.{copy_calls, most_start_of, most_start_sends}
 use Rattle.recovery.specs.Looks.{LooksAtLog}

@@ -1,15 +1,14 @@
 -- How many reads tell whether records are whole, by what the image holds.
 use Rattle.std.specs.Prelude.{◌≡◌, ◌⊎◌, ℕ, ◌+◌, ◌*◌, ◌<◌, List, length, All, sum, slice_index}
 use Rattle.medium.specs.Medium.{Image}
-use Rattle.log_layout.specs.declared.log_format.LogFormat.{LogFormat}
-use Rattle.log_layout.specs.declared.log_format.LogFormat.TheVariants.{One, Two}
-use Rattle.log_layout.specs.Places.{Shape}
-use Rattle.log_layout.specs.Sectors.{IsRising}
-use Rattle.log_layout.specs.SectorsTwo.{descriptors_of, place_bytes}
-use Rattle.log_layout.specs.SectorsTwo.{IsDescriptorTwo, IsCommitTwo}
-use Rattle.log_image.specs.Layout.{slot_at}
-use Rattle.log_image.specs.Format2.{format2}
-use Rattle.log_image.specs.SlotTwo.{HasDescriptors}
+use Rattle.journal.specs.declared.log_format.LogFormat.{LogFormat}
+use Rattle.journal.specs.declared.log_format.LogFormat.TheVariants.{One, Two}
+use Rattle.journal.specs.Places.{Shape}
+use Rattle.journal.specs.Sectors.{IsRising}
+use Rattle.journal.specs.SectorsTwo.{descriptors_of, place_bytes, IsDescriptorTwo, IsCommitTwo}
+use Rattle.journal.specs.Layout.{slot_at}
+use Rattle.journal.specs.Format2.{format2}
+use Rattle.journal.specs.SlotTwo.{HasDescriptors}
 
 -- one of so many is bad, and as many are read as go up to the first bad one, and with it
 pub record StopsAtBad (good : ℕ → Type 0) (many reads : ℕ) : Type 0 where

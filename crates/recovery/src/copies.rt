@@ -2,17 +2,17 @@
 ghost use Rattle.std.specs.Prelude.{◌≡◌, ◌<◌, ◌≤◌, ◌+◌, ◌*◌, ◌^◌, ◌++◌};
 ghost use Rattle.std.specs.Prelude.{List, ℕ, OnOk, length, [], get_or, drop};
 ghost use Rattle.medium.specs.Medium.{LooksOnly};
-ghost use Rattle.log_layout.specs.Places.{first_home, sectors_of, limit_of};
-ghost use Rattle.log_layout.specs.Values.{shape_of};
-ghost use Rattle.log_image.specs.Record.{Entry};
-ghost use Rattle.log_image.specs.Formats.{IsWhole, HasWhole};
+ghost use Rattle.journal.specs.Places.{first_home, sectors_of, limit_of};
+ghost use Rattle.journal.specs.Values.{shape_of};
+ghost use Rattle.journal.specs.Record.{Entry};
+ghost use Rattle.journal.specs.Formats.{IsWhole, HasWhole};
 ghost use Rattle.recovery.specs.Calls.{FollowsBy, CopiesPass, CopiesAllPass};
 ghost use Rattle.recovery.specs.Copies.{most_calls_of, IsHomeInRecord, IsHomeInRecords};
 ghost use Rattle.recovery.specs.Copies.{IsCopied, AreCopied};
 
 use crate::found::Found;
 use crate::{copies_one, copies_two};
-use log_layout::{LogFormat, Super};
+use journal::{LogFormat, Super};
 use medium::{Medium, MediumFault};
 
 /// Copies the bytes of one sector to another, with these in place of the first.

@@ -2,18 +2,18 @@
 ghost use Rattle.std.specs.Prelude.{◌≡◌, ◌<◌, ◌≤◌, ◌+◌, ◌*◌};
 ghost use Rattle.std.specs.Prelude.{List, ℕ, OnOk, length, slice_index, All};
 ghost use Rattle.medium.specs.Medium.{LooksOnly};
-ghost use Rattle.log_layout.specs.declared.log_format.LogFormat.TheVariants.{One};
-ghost use Rattle.log_layout.specs.Places.{first_home, sectors_of};
-ghost use Rattle.log_layout.specs.Sectors.{IsRising};
-ghost use Rattle.log_layout.specs.Values.{shape_of};
-ghost use Rattle.log_image.specs.Record.{Entry};
-ghost use Rattle.log_image.specs.Formats.{IsWhole, HasWhole};
+ghost use Rattle.journal.specs.declared.log_format.LogFormat.TheVariants.{One};
+ghost use Rattle.journal.specs.Places.{first_home, sectors_of};
+ghost use Rattle.journal.specs.Sectors.{IsRising};
+ghost use Rattle.journal.specs.Values.{shape_of};
+ghost use Rattle.journal.specs.Record.{Entry};
+ghost use Rattle.journal.specs.Formats.{IsWhole, HasWhole};
 ghost use Rattle.recovery.specs.Calls.{FollowsBy, CopiesPass, CopiesAllPass};
 ghost use Rattle.recovery.specs.Copies.{IsHomeOf, IsHomeInRecord, IsCopied};
 
 use crate::copies::copy_sector;
 use crate::record_one::read_record;
-use log_layout::{Super, data_place, slot_of};
+use journal::{Super, data_place, slot_of};
 use medium::{Medium, MediumFault};
 
 // Copies the blocks with these numbers home, from the data places of a slot.

@@ -2,17 +2,17 @@
 ghost use Rattle.std.specs.Prelude.{◌≡◌, ◌<◌, ◌≤◌, ◌+◌, ◌*◌, ◌++◌};
 ghost use Rattle.std.specs.Prelude.{List, ℕ, OnOk, [], length, slice_index, get_or, drop, All};
 ghost use Rattle.medium.specs.Medium.{LooksOnly};
-ghost use Rattle.log_layout.specs.declared.log_format.LogFormat.TheVariants.{Two};
-ghost use Rattle.log_layout.specs.Places.{first_home, sectors_of};
-ghost use Rattle.log_layout.specs.Values.{shape_of};
-ghost use Rattle.log_image.specs.Record.{Entry};
-ghost use Rattle.log_image.specs.Formats.{IsWhole, HasWhole};
+ghost use Rattle.journal.specs.declared.log_format.LogFormat.TheVariants.{Two};
+ghost use Rattle.journal.specs.Places.{first_home, sectors_of};
+ghost use Rattle.journal.specs.Values.{shape_of};
+ghost use Rattle.journal.specs.Record.{Entry};
+ghost use Rattle.journal.specs.Formats.{IsWhole, HasWhole};
 ghost use Rattle.recovery.specs.Calls.{FollowsBy, CopiesPass, CopiesAllPass};
 ghost use Rattle.recovery.specs.Copies.{IsHomeOf, IsHomeInRecord, IsCopied};
 
 use crate::copies::copy_sector;
 use crate::record_two::{ENTRIES, data_place, read_count, read_descriptor};
-use log_layout::{Descriptor2, Super, slot_of};
+use journal::{Descriptor2, Super, slot_of};
 use medium::{Medium, MediumFault};
 
 // Copies the blocks home that a descriptor of the record in a slot names.

@@ -1,8 +1,8 @@
 //! The making of an image.
 ghost use Rattle.std.specs.Prelude.{◌≡◌, ◌<◌, ◌≤◌, ◌+◌, ◌*◌, OnOk, OnErr, IfErr, MatchOption};
-ghost use Rattle.log_layout.specs.declared.log_format.LogFormat.TheVariants.{One, Two};
-ghost use Rattle.log_layout.specs.Places.{new_shape, sectors_of};
-ghost use Rattle.log_layout.specs.Values.{shape_of};
+ghost use Rattle.journal.specs.declared.log_format.LogFormat.TheVariants.{One, Two};
+ghost use Rattle.journal.specs.Places.{new_shape, sectors_of};
+ghost use Rattle.journal.specs.Values.{shape_of};
 ghost use Rattle.recovery.specs.Calls.{CallsUpTo};
 ghost use Rattle.spec.specs.Blocks.{Array};
 ghost use Rattle.recovery.specs.Formatted.{AreSizes, IsFormatted, FormatLeaves, IsFormatCause};
@@ -10,7 +10,7 @@ ghost use Rattle.recovery.specs.Formatted.{IsArrayFrom, IsMade, ImageLeaves, Cal
 
 use crate::FormatFault;
 use crate::sectors::{clear, write_through};
-use log_layout::{Head, LogFormat, Super};
+use journal::{Head, LogFormat, Super};
 use medium::{Medium, MediumFault};
 
 /// The super of a new image of these sizes, where they are in their limits and this many sectors

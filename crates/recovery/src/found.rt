@@ -1,5 +1,5 @@
 //! What recovery finds before its first write.
-use log_layout::Super;
+use journal::Super;
 
 /// The sizes, the stamp of the head, and how many whole records follow it.
 #[derive(Clone, Copy)]

@@ -1,11 +1,11 @@
 //! A look at an image, which changes nothing.
 ghost use Rattle.std.specs.Prelude.{◌≡◌, ◌≤◌, ◌<◌, ◌+◌, ◌*◌, ◌^◌};
 ghost use Rattle.std.specs.Prelude.{List, length, IfOk, IfErr, MatchOption};
-ghost use Rattle.log_layout.specs.declared.log_format.LogFormat.TheVariants.{Two};
-ghost use Rattle.log_layout.specs.Places.{sectors_of};
-ghost use Rattle.log_layout.specs.Values.{shape_of};
-ghost use Rattle.log_image.specs.Record.{Entry};
-ghost use Rattle.log_image.specs.Formats.{IsWhole, HasWhole};
+ghost use Rattle.journal.specs.declared.log_format.LogFormat.TheVariants.{Two};
+ghost use Rattle.journal.specs.Places.{sectors_of};
+ghost use Rattle.journal.specs.Values.{shape_of};
+ghost use Rattle.journal.specs.Record.{Entry};
+ghost use Rattle.journal.specs.Formats.{IsWhole, HasWhole};
 ghost use Rattle.recovery.specs.Calls.{ReadsPass};
 ghost use Rattle.recovery.specs.Inspected.{AreCounts, IsInspected, OnlyLooks, IsLookRefusal};
 
@@ -14,7 +14,7 @@ use crate::record_one::read_record;
 use crate::record_two::{is_whole, read_count};
 use crate::survey::read_super;
 use arrayvec::ArrayVec;
-use log_layout::{Head, LogFormat, Super, slot_of};
+use journal::{Head, LogFormat, Super, slot_of};
 use medium::{Medium, MediumFault};
 
 /// What an image holds beside its blocks at home.

@@ -1,11 +1,11 @@
 //! The laying of a log before blocks that stay.
 ghost use Rattle.std.specs.Prelude.{◌≡◌, ◌+◌, ◌*◌, OnOk, IfErr};
-ghost use Rattle.log_layout.specs.Places.{new_shape, first_home};
+ghost use Rattle.journal.specs.Places.{new_shape, first_home};
 ghost use Rattle.recovery.specs.Formatted.{IsLaid, LayingLeaves, IsFormatCause, CallsWithoutReads};
 
 use crate::FormatFault;
 use crate::formatting::{sizes_of, write_image};
-use log_layout::LogFormat;
+use journal::LogFormat;
 use medium::Medium;
 
 /// Makes an image of this format around `blocks` blocks, 1 to 2^31, that are at home already, with

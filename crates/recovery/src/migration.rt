@@ -2,9 +2,9 @@
 ghost use Rattle.std.specs.Prelude.{◌<◌, ◌≤◌, ◌+◌, ◌*◌, ◌^◌, ℕ, IfOk, IfErr};
 ghost use Rattle.medium.specs.Moments.{EachCut, IsFlushed};
 ghost use Rattle.spec.specs.Blocks.{Array};
-ghost use Rattle.log_layout.specs.Places.{Shape, sectors_of};
-ghost use Rattle.log_layout.specs.Values.{shape_of};
-ghost use Rattle.log_image.specs.Standing.{IsOurs};
+ghost use Rattle.journal.specs.Places.{Shape, sectors_of};
+ghost use Rattle.journal.specs.Values.{shape_of};
+ghost use Rattle.journal.specs.Standing.{IsOurs};
 ghost use Rattle.recovery.specs.Calls.{CallsUpTo};
 ghost use Rattle.recovery.specs.Causes.{IsRefusedCall};
 ghost use Rattle.recovery.specs.Recovered.{IsFresh};
@@ -15,7 +15,7 @@ use crate::new_head::move_head;
 use crate::recovery::recover_at_least;
 use crate::sectors::{clear, write_through};
 use crate::{Recovered, StartFault};
-use log_layout::LogFormat;
+use journal::LogFormat;
 use medium::{Medium, MediumFault};
 
 /// Recovers an image and, where it is of format 1, makes it one of format 2 with the same blocks:

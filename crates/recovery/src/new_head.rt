@@ -5,7 +5,7 @@ ghost use Rattle.recovery.specs.Unread.{LooksNowhere};
 ghost use Rattle.recovery.specs.Calls.{FollowsBy, MovesHead};
 ghost use Rattle.recovery.specs.Copies.{HasNewHead};
 
-use log_layout::Head;
+use journal::Head;
 use medium::{Medium, MediumFault};
 
 /// Moves the head to this stamp, once every write before is durable.

@@ -1,14 +1,14 @@
 //! The record of a stamp, in format 1.
 ghost use Rattle.std.specs.Prelude.{◌≡◌, ◌<◌, ◌≤◌, List, IfOk, IfSome, IsSomeAnd};
 ghost use Rattle.medium.specs.Medium.{LooksOnly};
-ghost use Rattle.log_layout.specs.declared.log_format.LogFormat.TheVariants.{One};
-ghost use Rattle.log_layout.specs.Places.{first_home, sectors_of};
-ghost use Rattle.log_layout.specs.Values.{shape_of};
-ghost use Rattle.log_image.specs.Record.{Entry, numbers_of};
-ghost use Rattle.log_image.specs.Formats.{IsWhole};
+ghost use Rattle.journal.specs.declared.log_format.LogFormat.TheVariants.{One};
+ghost use Rattle.journal.specs.Places.{first_home, sectors_of};
+ghost use Rattle.journal.specs.Values.{shape_of};
+ghost use Rattle.journal.specs.Record.{Entry, numbers_of};
+ghost use Rattle.journal.specs.Formats.{IsWhole};
 ghost use Rattle.recovery.specs.Calls.{ReadsAllPass};
 
-use log_layout::{Descriptor, Super, commit_place, place_of, slot_of, whole_record};
+use journal::{Descriptor, Super, commit_place, place_of, slot_of, whole_record};
 use medium::{Medium, MediumFault};
 
 /// Reads the record of a stamp, if it is whole.

@@ -4,18 +4,18 @@ ghost use Rattle.std.specs.Prelude.{ℕ, List, length, All, IfOk};
 ghost use Rattle.std.specs.Prelude.{IfSome, IsSomeAnd, IsTrue, MatchOption};
 ghost use Rattle.std.specs.Prelude.{OnOk, ◌↔◌};
 ghost use Rattle.medium.specs.Medium.{LooksOnly};
-ghost use Rattle.log_layout.specs.declared.log_format.LogFormat.TheVariants.{Two};
-ghost use Rattle.log_layout.specs.Places.{first_home, sectors_of};
-ghost use Rattle.log_layout.specs.Sectors.{IsRising};
-ghost use Rattle.log_layout.specs.SectorsTwo.{descriptors_of, IsDescriptorTwo, IsCommitTwo};
-ghost use Rattle.log_layout.specs.Values.{shape_of};
-ghost use Rattle.log_image.specs.Formats.{HasWhole};
-ghost use Rattle.log_image.specs.SlotTwo.{HasDescriptors, HasPlaces};
+ghost use Rattle.journal.specs.declared.log_format.LogFormat.TheVariants.{Two};
+ghost use Rattle.journal.specs.Places.{first_home, sectors_of};
+ghost use Rattle.journal.specs.Sectors.{IsRising};
+ghost use Rattle.journal.specs.SectorsTwo.{descriptors_of, IsDescriptorTwo, IsCommitTwo};
+ghost use Rattle.journal.specs.Values.{shape_of};
+ghost use Rattle.journal.specs.Formats.{HasWhole};
+ghost use Rattle.journal.specs.SlotTwo.{HasDescriptors, HasPlaces};
 ghost use Rattle.recovery.specs.Calls.{ReadsPass, ReadsAllPass};
 ghost use Rattle.recovery.specs.Tries.{StopsAtBad, ReadsUpToBad, HasDescriptor, HasPlace, IsTryTwo};
 
 use arrayvec::ArrayVec;
-use log_layout::{Commit2, Descriptor2, Super, are_rising, is_data2, place_of2, slot_of};
+use journal::{Commit2, Descriptor2, Super, are_rising, is_data2, place_of2, slot_of};
 use medium::{Medium, MediumFault};
 
 /// How many entries a descriptor has at most.

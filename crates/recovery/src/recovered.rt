@@ -1,5 +1,5 @@
 //! What recovery answers.
-use log_layout::Super;
+use journal::Super;
 
 /// What is known of a medium once it is recovered.
 #[derive(Clone, Copy, Debug, PartialEq, Eq)]

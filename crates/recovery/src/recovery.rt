@@ -3,8 +3,8 @@
 ghost use Rattle.std.specs.Prelude.{ℕ, OnOk, IfOk, IfErr};
 ghost use Rattle.medium.specs.Moments.{EachCut};
 ghost use Rattle.spec.specs.Blocks.{Array};
-ghost use Rattle.log_layout.specs.Places.{Shape};
-ghost use Rattle.log_image.specs.Standing.{IsOurs};
+ghost use Rattle.journal.specs.Places.{Shape};
+ghost use Rattle.journal.specs.Standing.{IsOurs};
 ghost use Rattle.recovery.specs.Causes.{IsRefusalBy, WritesNothing};
 ghost use Rattle.recovery.specs.Recovered.{IsRecoveredFrom, IsRecoveredAtLeast, IsRecoveryRefusal};
 ghost use Rattle.recovery.specs.Recovered.{IsFresh, RecoveryLeaves, LeavesAtLeast};

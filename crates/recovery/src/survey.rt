@@ -3,12 +3,12 @@ ghost use Rattle.std.specs.Prelude.{◌≡◌, ◌<◌, ◌≤◌, ◌+◌, ◌*
 ghost use Rattle.std.specs.Prelude.{ℕ, OnOk, IfOk, IfErr, min, IsTrue};
 ghost use Rattle.medium.specs.Medium.{LooksOnly};
 ghost use Rattle.medium.specs.Moments.{IsQuiet};
-ghost use Rattle.log_layout.specs.declared.log_format.LogFormat.TheVariants.{One};
-ghost use Rattle.log_layout.specs.Places.{first_home, sectors_of};
-ghost use Rattle.log_layout.specs.Values.{shape_of};
-ghost use Rattle.log_image.specs.Formats.{HasWhole};
-ghost use Rattle.log_image.specs.Standing.{IsCount};
-ghost use Rattle.log_image.specs.ImageFaults.{HasShape};
+ghost use Rattle.journal.specs.declared.log_format.LogFormat.TheVariants.{One};
+ghost use Rattle.journal.specs.Places.{first_home, sectors_of};
+ghost use Rattle.journal.specs.Values.{shape_of};
+ghost use Rattle.journal.specs.Formats.{HasWhole};
+ghost use Rattle.journal.specs.Standing.{IsCount};
+ghost use Rattle.journal.specs.ImageFaults.{HasShape};
 ghost use Rattle.recovery.specs.Calls.{ReadsUpTo, ReadsPass};
 ghost use Rattle.recovery.specs.Causes.{IsRefusalBy};
 ghost use Rattle.recovery.specs.Copies.{most_reads_of};
@@ -19,7 +19,7 @@ ghost use Rattle.recovery.specs.Tries.{AreTries, IsTryOf};
 use crate::found::Found;
 use crate::record_one::read_record;
 use crate::{StartFault, record_two};
-use log_layout::{Head, LogFormat, Super, SuperFault};
+use journal::{Head, LogFormat, Super, SuperFault};
 use medium::{Medium, MediumFault};
 
 // Whether the record of a stamp is whole.

@@ -2,13 +2,13 @@
 use Rattle.std.proofs.Common.{◌≡◌, ℕ, ◌*◌, ◌<◌, List, length, sym, ap, subst, arith}
 use Rattle.std.specs.Prelude.{All}
 use Rattle.std.proofs.lemmas.List.{length-map}
-use Rattle.log_layout.specs.Places.{Shape}
-use Rattle.log_layout.specs.Sectors.{IsRising}
-use Rattle.log_image.specs.Record.{Entry, numbers_of, entries_of}
-use Rattle.log_image.specs.LayoutLaws.{IsRecordOf}
-use Rattle.log_image.specs.Formats.{layout_of}
-use Rattle.log_image.proofs.Batching.{numbers_of_batch, sized_batch}
-use Rattle.log_image.proofs.Formats.{most_is}
+use Rattle.journal.specs.Places.{Shape}
+use Rattle.journal.specs.Sectors.{IsRising}
+use Rattle.journal.specs.Record.{Entry, numbers_of, entries_of}
+use Rattle.journal.specs.LayoutLaws.{IsRecordOf}
+use Rattle.journal.specs.Formats.{layout_of}
+use Rattle.journal.proofs.Batching.{numbers_of_batch, sized_batch}
+use Rattle.journal.proofs.Formats.{most_is}
 use Rattle.redo_log.specs.Stages.{IsRecord, IsSized}
 
 -- as many entries as block numbers

@@ -8,15 +8,15 @@ use Rattle.medium.specs.Moments.{EachCut, LeavesOnly, IsQuiet}
 use Rattle.medium.specs.declared.fault.MediumFault.{MediumFault}
 use Rattle.medium.specs.declared.fault.MediumFault.TheVariants as fault
 use Rattle.medium.proofs.Moments.{one_call, at_exit, shrunk, weaker, quiet_leaves}
-use Rattle.log_layout.specs.Places.{Shape, first_home}
-use Rattle.log_layout.specs.Values.{shape_of}
-use Rattle.log_layout.specs.declared.super_sector.Super.{Super}
-use Rattle.log_layout.specs.Sectors.{IsSuper}
-use Rattle.log_image.specs.Record.{block_of, entries_of, home_of}
-use Rattle.log_image.proofs.Overlay.{with_records-same}
-use Rattle.log_image.specs.Formats.{layout_of, IsWhole}
-use Rattle.log_image.proofs.Engine.{rests_logged}
-use Rattle.log_image.proofs.Formats.{laws_of, sectors_are}
+use Rattle.journal.specs.Places.{Shape, first_home}
+use Rattle.journal.specs.Values.{shape_of}
+use Rattle.journal.specs.declared.super_sector.Super.{Super}
+use Rattle.journal.specs.Sectors.{IsSuper}
+use Rattle.journal.specs.Record.{block_of, entries_of, home_of}
+use Rattle.journal.proofs.Overlay.{with_records-same}
+use Rattle.journal.specs.Formats.{layout_of, IsWhole}
+use Rattle.journal.proofs.Engine.{rests_logged}
+use Rattle.journal.proofs.Formats.{laws_of, sectors_are}
 use Rattle.redo_log.specs.declared.turn.Turn.{Turn}
 use Rattle.redo_log.specs.declared.turn.Turn.TheVariants.{Load, Copy, Flush, Head}
 use Rattle.redo_log.specs.Value.{LogValue, Ahead, steps_for, turns_home, IsNewestCopy, died}

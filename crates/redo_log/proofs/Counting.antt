@@ -1,12 +1,12 @@
 -- How many calls and turns a record takes, and how far it is after so many.
 use Rattle.std.proofs.Common.{◌≡◌, ◌⊎◌, inl, inr, ⊎_elim, ℕ, ◌+◌, ◌-◌, ◌<◌, ◌≤◌, refl, arith}
 use Rattle.std.proofs.lemmas.Bool.{cases_eq, cases_lt}
-use Rattle.log_layout.specs.declared.log_format.LogFormat.{LogFormat}
-use Rattle.log_layout.specs.declared.log_format.LogFormat.TheVariants.{One, Two}
-use Rattle.log_layout.specs.Places.{limit_of}
-use Rattle.log_image.specs.Layout.{Layout}
-use Rattle.log_image.specs.Formats.{layout_of}
-use Rattle.log_image.proofs.Format1Laws.{below_is, above_is}
+use Rattle.journal.specs.declared.log_format.LogFormat.{LogFormat}
+use Rattle.journal.specs.declared.log_format.LogFormat.TheVariants.{One, Two}
+use Rattle.journal.specs.Places.{limit_of}
+use Rattle.journal.specs.Layout.{Layout}
+use Rattle.journal.specs.Formats.{layout_of}
+use Rattle.journal.proofs.Format1Laws.{below_is, above_is}
 use Rattle.redo_log.specs.Value.{steps_for, turns_home, most_steps, most_retire_steps}
 use Rattle.redo_log.specs.Stages.{flush_of, written_at, flushed_at, homed_at}
 use Rattle.redo_log.specs.Calls.{IsFlushDue}

@@ -9,7 +9,7 @@ use Rattle.std.proofs.lemmas.Nat.{mod_below, mul-add-lt, div-mul-add, mod-mul-ad
 use Rattle.std.proofs.lemmas.List.{length-map, get_or-map}
 use Rattle.std.proofs.Math.Nat.{mul-suc}
 use Rattle.std.proofs.lemmas.Map.Steps.{length-le_from_distinct_below}
-use Rattle.log_image.proofs.Slots.{other_slot}
+use Rattle.journal.proofs.Slots.{other_slot}
 use Rattle.redo_log.specs.declared.index.Copied.{Copied}
 use Rattle.redo_log.specs.Value.{LogValue, HasNoCopy, IsNewestCopy}
 use Rattle.redo_log.specs.Index.{no_copies, look, with_copies, copies_of, outside, block_at, IsSorted, IsIndex}

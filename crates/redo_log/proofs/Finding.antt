@@ -7,10 +7,10 @@ use Rattle.std.proofs.lemmas.List.Elements.{Contains-get_or}
 use Rattle.std.proofs.Math.ListN.{get_or-map}
 use Rattle.medium.specs.Medium.{State}
 use Rattle.spec.specs.Blocks.{Array}
-use Rattle.log_layout.specs.Places.{first_home}
-use Rattle.log_layout.specs.Sectors.{IsRising}
-use Rattle.log_image.specs.Record.{Entry, numbers_of, block_of, with_blocks, with_records, home_of}
-use Rattle.log_image.specs.Formats.{IsWhole}
+use Rattle.journal.specs.Places.{first_home}
+use Rattle.journal.specs.Sectors.{IsRising}
+use Rattle.journal.specs.Record.{Entry, numbers_of, block_of, with_blocks, with_records, home_of}
+use Rattle.journal.specs.Formats.{IsWhole}
 use Rattle.redo_log.specs.Value.{LogValue, IsNewestCopy, HasNoCopy}
 use Rattle.redo_log.specs.Held.{View, HoldsView}
 

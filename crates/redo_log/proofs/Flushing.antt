@@ -6,12 +6,12 @@ use Rattle.std.proofs.lemmas.Bool.{cases_eq, cases_lt, ne_eqb}
 use Rattle.medium.specs.Medium.{State, Passes}
 use Rattle.medium.specs.declared.fault.MediumFault.{MediumFault}
 use Rattle.medium.specs.declared.fault.MediumFault.TheVariants as fault
-use Rattle.log_layout.specs.declared.log_format.LogFormat.{LogFormat}
-use Rattle.log_layout.specs.declared.log_format.LogFormat.TheVariants.{One, Two}
-use Rattle.log_layout.specs.Places.{Shape}
-use Rattle.log_layout.specs.SectorsTwo.{descriptors_of}
-use Rattle.log_image.specs.Record.{entries_of}
-use Rattle.log_image.specs.Formats.{layout_of}
+use Rattle.journal.specs.declared.log_format.LogFormat.{LogFormat}
+use Rattle.journal.specs.declared.log_format.LogFormat.TheVariants.{One, Two}
+use Rattle.journal.specs.Places.{Shape}
+use Rattle.journal.specs.SectorsTwo.{descriptors_of}
+use Rattle.journal.specs.Record.{entries_of}
+use Rattle.journal.specs.Formats.{layout_of}
 use Rattle.redo_log.specs.Calls.{Call, Write, Flush, fault_of, IsFlush, IsWriteOf, IsFlushDue, IsNextCall}
 use Rattle.redo_log.specs.Flushes.{step_flushes, turn_flushes}
 use Rattle.redo_log.specs.Value.{steps_for, turns_home}
@@ -19,7 +19,7 @@ use Rattle.redo_log.specs.Stages.{written_at}
 use Rattle.redo_log.specs.Turns.{flushes_of, IsFlushTurn, IsHeadTurn, IsHomeTurn, IsLoadOf, IsCopyOf, IsNextTurn}
 use Rattle.redo_log.specs.declared.turn.Turn.{Turn}
 use Rattle.redo_log.specs.declared.turn.Turn.TheVariants as turn
-use Rattle.log_image.proofs.Batching.{length_of_batch}
+use Rattle.journal.proofs.Batching.{length_of_batch}
 use Rattle.redo_log.proofs.Counting.{due_or_not, written_soon, written_late, flush_some, flush_none}
 
 -- whether a call of a record is a flush

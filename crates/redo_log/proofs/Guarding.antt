@@ -5,20 +5,20 @@ use Rattle.std.proofs.lemmas.Bool.{cases_lt}
 use Rattle.medium.specs.Medium.{State, Image, Holds, Gains, Only, IsSound}
 use Rattle.medium.specs.Moments.{EachCut}
 use Rattle.medium.proofs.Moments.{content_has, each_write, each_flush}
-use Rattle.log_layout.specs.Places.{Shape, first_home, sectors_of}
-use Rattle.log_layout.specs.Sectors.{IsHead}
-use Rattle.log_image.specs.Record.{Entry, with_blocks}
-use Rattle.log_image.specs.Layout.{Layout}
-use Rattle.log_image.specs.LayoutLaws.{Laws, IsRecordOf}
-use Rattle.log_image.specs.Formats.{layout_of, IsWhole}
-use Rattle.log_image.specs.Standing.{IsOurs}
-use Rattle.log_image.specs.Staged as staged
-use Rattle.log_image.specs.Staged.{HasSlots, Guarded, Resting, IsHomed}
-use Rattle.log_image.proofs.Overlay.{records-hide}
-use Rattle.log_image.proofs.Formats.{laws_of}
-use Rattle.log_image.proofs.Engine.{rests_logged, Guarded-write, Guarded-lost, Guarded-flush, other_written}
-use Rattle.log_image.proofs.Ending.{guarded_leaves, rest_early, durable_rests}
-use Rattle.log_image.proofs.Retiring.{Resting-home, Resting-head, Guarded-home, Guarded-head, HasSlots-less}
+use Rattle.journal.specs.Places.{Shape, first_home, sectors_of}
+use Rattle.journal.specs.Sectors.{IsHead}
+use Rattle.journal.specs.Record.{Entry, with_blocks}
+use Rattle.journal.specs.Layout.{Layout}
+use Rattle.journal.specs.LayoutLaws.{Laws, IsRecordOf}
+use Rattle.journal.specs.Formats.{layout_of, IsWhole}
+use Rattle.journal.specs.Standing.{IsOurs}
+use Rattle.journal.specs.Staged as staged
+use Rattle.journal.specs.Staged.{HasSlots, Guarded, Resting, IsHomed}
+use Rattle.journal.proofs.Overlay.{records-hide}
+use Rattle.journal.proofs.Formats.{laws_of}
+use Rattle.journal.proofs.Engine.{rests_logged, Guarded-write, Guarded-lost, Guarded-flush, other_written}
+use Rattle.journal.proofs.Ending.{guarded_leaves, rest_early, durable_rests}
+use Rattle.journal.proofs.Retiring.{Resting-home, Resting-head, Guarded-home, Guarded-head, HasSlots-less}
 use Rattle.redo_log.specs.Logged.{HasRecords, Logged, AreHome}
 use Rattle.redo_log.specs.Stages.{homed_at, IsSized}
 use Rattle.redo_log.specs.Held.{View, with_record, view_retired, image_view, written_of, flushed_of, Stores, Safe, Guards}

@@ -7,14 +7,14 @@ use Rattle.medium.specs.Medium.{State, Image, CutLeaves, IsSound}
 use Rattle.medium.specs.Moments.{EachCut}
 use Rattle.spec.specs.Blocks.{Array}
 use Rattle.medium.proofs.Moments.{updated_elsewhere}
-use Rattle.log_layout.specs.Places.{Shape, first_home, sectors_of}
-use Rattle.log_image.specs.Record.{Entry, numbers_of, with_blocks, entries_of}
-use Rattle.log_image.specs.Formats.{layout_of}
-use Rattle.log_image.specs.Standing.{IsOurs}
-use Rattle.log_image.specs.Staged.{Guarded}
-use Rattle.log_image.proofs.Batching.{numbers_of_batch, length_of_batch, sized_batch}
-use Rattle.log_image.proofs.Engine.{rests_logged, rests_begun}
-use Rattle.log_image.proofs.Formats.{laws_of, most_is}
+use Rattle.journal.specs.Places.{Shape, first_home, sectors_of}
+use Rattle.journal.specs.Record.{Entry, numbers_of, with_blocks, entries_of}
+use Rattle.journal.specs.Formats.{layout_of}
+use Rattle.journal.specs.Standing.{IsOurs}
+use Rattle.journal.specs.Staged.{Guarded}
+use Rattle.journal.proofs.Batching.{numbers_of_batch, length_of_batch, sized_batch}
+use Rattle.journal.proofs.Engine.{rests_logged, rests_begun}
+use Rattle.journal.proofs.Formats.{laws_of, most_is}
 use Rattle.redo_log.specs.Value.{LogValue, HasRoom, IsCovered, steps_of, turns_home, retire_steps_of, behind_oldest, of_oldest, idle_from}
 use Rattle.redo_log.specs.Value.{begun, died, settled}
 use Rattle.redo_log.specs.Batch.{IsBatch}

@@ -7,14 +7,14 @@ use Rattle.medium.specs.Medium.{State, Image, CutLeaves, Holds, Within, Gains, O
 use Rattle.medium.specs.Moments.{EachCut}
 use Rattle.spec.specs.Blocks.{Array}
 use Rattle.medium.proofs.Moments.{each_write, updated, updated_here, updated_elsewhere}
-use Rattle.log_layout.specs.Places.{Shape, first_home, sectors_of}
-use Rattle.log_layout.specs.Sectors.{IsSuper, IsHead}
-use Rattle.log_image.specs.Record.{Entry, with_blocks, Hides}
-use Rattle.log_image.specs.Layout.{Layout}
-use Rattle.log_image.specs.Formats.{layout_of, IsWhole}
-use Rattle.log_image.proofs.Formats.{laws_of}
-use Rattle.log_image.proofs.Overlay.{records-hide}
-use Rattle.log_image.proofs.Retiring.{CarriesBelow-same}
+use Rattle.journal.specs.Places.{Shape, first_home, sectors_of}
+use Rattle.journal.specs.Sectors.{IsSuper, IsHead}
+use Rattle.journal.specs.Record.{Entry, with_blocks, Hides}
+use Rattle.journal.specs.Layout.{Layout}
+use Rattle.journal.specs.Formats.{layout_of, IsWhole}
+use Rattle.journal.proofs.Formats.{laws_of}
+use Rattle.journal.proofs.Overlay.{records-hide}
+use Rattle.journal.proofs.Retiring.{CarriesBelow-same}
 use Rattle.redo_log.specs.Logged.{HasRecords, Logged, Laid}
 use Rattle.redo_log.specs.Stages.{IsSized}
 use Rattle.redo_log.specs.Held.{View, with_begun, IsOlder, HasHead, Guards, Shields, with_head}

@@ -8,13 +8,13 @@ use Rattle.std.proofs.Math.ListN.{get_or-map}
 use Rattle.medium.specs.Medium.{State, Image, Holds, Gains, IsSound}
 use Rattle.medium.specs.Moments.{LeavesOnly}
 use Rattle.medium.proofs.Moments.{quiet_leaves, shrunk}
-use Rattle.log_layout.specs.declared.head.Head.{Head as HeadOf}
-use Rattle.log_layout.specs.Places.{Shape}
-use Rattle.log_layout.specs.Sectors.{IsRising}
-use Rattle.log_image.specs.Record.{Entry, numbers_of}
-use Rattle.log_image.specs.Layout.{Layout}
-use Rattle.log_image.specs.Formats.{layout_of, IsWhole}
-use Rattle.log_image.specs.Staged.{HasSlots}
+use Rattle.journal.specs.declared.head.Head.{Head as HeadOf}
+use Rattle.journal.specs.Places.{Shape}
+use Rattle.journal.specs.Sectors.{IsRising}
+use Rattle.journal.specs.Record.{Entry, numbers_of}
+use Rattle.journal.specs.Layout.{Layout}
+use Rattle.journal.specs.Formats.{layout_of, IsWhole}
+use Rattle.journal.specs.Staged.{HasSlots}
 use Rattle.redo_log.specs.declared.turn.Turn.{Turn}
 use Rattle.redo_log.specs.declared.turn.Turn.TheVariants.{Load, Copy, Flush, Head}
 use Rattle.redo_log.specs.Value.{LogValue, Ahead, steps_for, turns_home, of_oldest}
@@ -38,7 +38,7 @@ use Rattle.redo_log.proofs.Showing.{of_oldest_is, turned_of_is, needed_of_is}
 use Rattle.redo_log.proofs.Leaving.{leave_of}
 use Rattle.redo_log.proofs.Waiting.{needs_then, needs_more, still_held, passed_held}
 use Rattle.redo_log.proofs.Turning.{BringsHome, new_head, all_read, brings_home}
-use Rattle.log_image.proofs.Formats.{laws_of}
+use Rattle.journal.proofs.Formats.{laws_of}
 
 module _ (ahead : Ahead) (shape : Shape) (sized : IsSized shape) (head : ℕ) (numbers : List ℕ) (newer : List (List ℕ)) (turned : ℕ)
     (kept under_way : List ℕ) (writing : Option ℕ) (past : ahead.home ≤ head)

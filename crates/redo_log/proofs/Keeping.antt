@@ -2,8 +2,8 @@
 use Rattle.std.proofs.Common.{ℕ, ◌≤◌, List, refl}
 use Rattle.medium.specs.Medium.{Image}
 use Rattle.spec.specs.Blocks.{Array}
-use Rattle.log_layout.specs.Places.{Shape, sectors_of}
-use Rattle.log_image.specs.Record.{Entry}
+use Rattle.journal.specs.Places.{Shape, sectors_of}
+use Rattle.journal.specs.Record.{Entry}
 use Rattle.redo_log.specs.Logged.{HasRecords, Logged}
 
 -- such an image is ours and stands for its array

@@ -8,16 +8,16 @@ use Rattle.std.proofs.lemmas.List.{get_or_append_left, length-map}
 use Rattle.std.proofs.Math.Seq.{get_or-append_seam}
 use Rattle.medium.specs.Medium.{Image, Holds}
 use Rattle.spec.specs.Blocks.{Array}
-use Rattle.log_layout.specs.Places.{Shape, first_home}
-use Rattle.log_layout.specs.Sectors.{IsRising}
-use Rattle.log_image.specs.Record.{Entry, numbers_of, with_blocks, with_records, home_of, Hides}
-use Rattle.log_image.specs.Layout.{Layout}
-use Rattle.log_image.specs.Formats.{layout_of, IsWhole}
-use Rattle.log_image.proofs.Overlay.{with_blocks-same, with_records-append, with_records-same, with_blocks-home}
-use Rattle.log_image.proofs.Slots.{other_slot}
-use Rattle.log_image.proofs.Apart.{in_log, other_sector}
-use Rattle.log_image.proofs.Formats.{laws_of}
-use Rattle.log_image.proofs.Retiring.{IsWholeIn-same}
+use Rattle.journal.specs.Places.{Shape, first_home}
+use Rattle.journal.specs.Sectors.{IsRising}
+use Rattle.journal.specs.Record.{Entry, numbers_of, with_blocks, with_records, home_of, Hides}
+use Rattle.journal.specs.Layout.{Layout}
+use Rattle.journal.specs.Formats.{layout_of, IsWhole}
+use Rattle.journal.proofs.Overlay.{with_blocks-same, with_records-append, with_records-same, with_blocks-home}
+use Rattle.journal.proofs.Slots.{other_slot}
+use Rattle.journal.proofs.Apart.{in_log, other_sector}
+use Rattle.journal.proofs.Formats.{laws_of}
+use Rattle.journal.proofs.Retiring.{IsWholeIn-same}
 use Rattle.redo_log.specs.Logged.{AreHome, Laid}
 use Rattle.redo_log.specs.Stages.{IsSized}
 

@@ -3,8 +3,8 @@ use Rattle.std.proofs.Common.{◌≡◌, ℕ, ◌+◌, ◌-◌, ◌^◌, ◌<◌
 use Rattle.std.specs.Prelude.{replicate, Bool, true, false, Option}
 use Rattle.medium.specs.Medium.{State, Holds, IsSound}
 use Rattle.medium.specs.Moments.{LeavesOnly}
-use Rattle.log_layout.specs.Places.{Shape}
-use Rattle.log_layout.specs.declared.head.Head.{Head}
+use Rattle.journal.specs.Places.{Shape}
+use Rattle.journal.specs.declared.head.Head.{Head}
 use Rattle.redo_log.specs.declared.turn.Turn.TheVariants as turn
 use Rattle.redo_log.specs.Value.{LogValue, Ahead, turns_home, of_oldest, CanPass}
 use Rattle.redo_log.specs.Stages.{value_at, begun_at, IsRing, IsAheadOf, IsSized}

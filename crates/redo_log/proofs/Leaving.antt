@@ -5,10 +5,10 @@ use Rattle.std.specs.Prelude.{map}
 use Rattle.std.proofs.lemmas.List.{map-append}
 use Rattle.medium.specs.Medium.{State, Image}
 use Rattle.medium.specs.Moments.{EachCut}
-use Rattle.log_layout.specs.Places.{sectors_of}
-use Rattle.log_image.specs.Record.{Entry, numbers_of, with_blocks}
-use Rattle.log_image.specs.Formats.{layout_of}
-use Rattle.log_image.specs.Staged.{HasSlots}
+use Rattle.journal.specs.Places.{sectors_of}
+use Rattle.journal.specs.Record.{Entry, numbers_of, with_blocks}
+use Rattle.journal.specs.Formats.{layout_of}
+use Rattle.journal.specs.Staged.{HasSlots}
 use Rattle.redo_log.specs.Value.{LogValue}
 use Rattle.redo_log.specs.Logged.{Logged}
 use Rattle.redo_log.specs.Stages.{IsSized}

@@ -7,7 +7,7 @@ use Rattle.std.proofs.lemmas.Bool.{cases_eq}
 use Rattle.std.proofs.lemmas.Bool.Decides.{nat_tests}
 use Rattle.std.proofs.lemmas.List.{drop-set, take-set-le, get_or-take, length-set}
 use Rattle.std.proofs.Math.Seq.{take-suc, drop-cons, drop-length}
-use Rattle.log_layout.specs.Sectors.{IsRising}
+use Rattle.journal.specs.Sectors.{IsRising}
 use Rattle.redo_log.specs.declared.index.Copied.{Copied}
 use Rattle.redo_log.specs.Index.{look, with_copy, with_copies, block_at, IsSorted}
 use Rattle.redo_log.proofs.Indexing.{blank, IsAbove, sorted_cons, above_cons, look_above}

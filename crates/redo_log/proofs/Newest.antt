@@ -4,7 +4,7 @@ use Rattle.std.proofs.Common.{if◌then◌else◌, Some, None, Option, refl, sym
 use Rattle.std.specs.Prelude.{◌==◌, Bool, true, false, slice_index, Contains}
 use Rattle.std.proofs.lemmas.Bool.{cases_eq}
 use Rattle.std.proofs.lemmas.Bool.Decides.{nat_tests}
-use Rattle.log_image.proofs.Slots.{other_slot}
+use Rattle.journal.proofs.Slots.{other_slot}
 use Rattle.redo_log.specs.Index.{Copies, no_copies, with_copy, with_copies, copies_of, outside}
 
 -- the same copies under a copy

@@ -5,11 +5,11 @@ use Rattle.std.proofs.lemmas.Bool.{cases_eq, cases_lt}
 use Rattle.medium.specs.Medium.{State, Image, CutLeaves, Holds, Gains, IsSound}
 use Rattle.medium.specs.Moments.{EachCut}
 use Rattle.medium.proofs.Moments.{each_write, updated, updated_here, updated_elsewhere}
-use Rattle.log_layout.specs.Places.{Shape}
-use Rattle.log_layout.specs.Sectors.{IsHead}
-use Rattle.log_image.specs.Record.{Entry}
-use Rattle.log_image.specs.Formats.{layout_of}
-use Rattle.log_image.specs.Staged.{KeepsView}
+use Rattle.journal.specs.Places.{Shape}
+use Rattle.journal.specs.Sectors.{IsHead}
+use Rattle.journal.specs.Record.{Entry}
+use Rattle.journal.specs.Formats.{layout_of}
+use Rattle.journal.specs.Staged.{KeepsView}
 use Rattle.redo_log.specs.Logged.{Laid}
 use Rattle.redo_log.specs.Stages.{IsSized}
 use Rattle.redo_log.specs.Held.{View, view_retired, image_view, IsOlder, HasHead, Safe, Guards, with_head}

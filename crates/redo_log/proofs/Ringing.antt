@@ -5,8 +5,8 @@ use Rattle.std.specs.Prelude.{All, replicate, Bool, Option, Some, None, sum_by, 
 use Rattle.std.proofs.lemmas.List.{map-append}
 use Rattle.std.proofs.lemmas.List.Sums.{sum_by-cons}
 use Rattle.arrayvec.specs.ArrayVec.{ArrayVec}
-use Rattle.log_layout.specs.declared.log_format.LogFormat.{LogFormat}
-use Rattle.log_layout.specs.Places.{Shape, limit_of}
+use Rattle.journal.specs.declared.log_format.LogFormat.{LogFormat}
+use Rattle.journal.specs.Places.{Shape, limit_of}
 use Rattle.redo_log.specs.Value.{Ahead, turns_home, retire_steps_of, most_retire_steps, IsRetireStepped}
 use Rattle.redo_log.specs.Stages.{value_at, oldest_at, begun_at, AreInside, IsOldest, IsUnderWay, IsRing}
 use Rattle.redo_log.proofs.Counting.{few_turns}

@@ -7,9 +7,9 @@ use Rattle.medium.specs.Medium.{State, Passes}
 use Rattle.medium.specs.Sent.{sent}
 use Rattle.medium.specs.declared.fault.MediumFault.{MediumFault}
 use Rattle.medium.proofs.Sending.{write_sends, flush_sends}
-use Rattle.log_layout.specs.declared.log_format.LogFormat.{LogFormat}
-use Rattle.log_layout.specs.declared.log_format.LogFormat.TheVariants.{One, Two}
-use Rattle.log_layout.specs.Places.{Shape, limit_of}
+use Rattle.journal.specs.declared.log_format.LogFormat.{LogFormat}
+use Rattle.journal.specs.declared.log_format.LogFormat.TheVariants.{One, Two}
+use Rattle.journal.specs.Places.{Shape, limit_of}
 use Rattle.redo_log.specs.Calls.{Call, Write, Flush, fault_of}
 use Rattle.redo_log.specs.Value.{Ahead, LogValue, turns_home, home_calls, turn_sends, turns_sends, next_sends, sends_of_oldest}
 use Rattle.redo_log.specs.Value.{most_retire_sends, home_of_oldest, of_oldest}

@@ -1,9 +1,9 @@
 -- What the value of a log says of its oldest record.
 use Rattle.std.proofs.Common.{◌≡◌, ◌≢◌, ℕ, ◌+◌, ◌-◌, ◌<◌, ◌≤◌, List, [], ◌∷◌, ◌++◌, length, get_or, refl, ap, subst, arith}
 use Rattle.std.specs.Prelude.{Bool, Option, Some}
-use Rattle.log_layout.specs.declared.log_format.LogFormat.{LogFormat}
-use Rattle.log_layout.specs.Places.{Shape}
-use Rattle.log_image.specs.Record.{Entry}
+use Rattle.journal.specs.declared.log_format.LogFormat.{LogFormat}
+use Rattle.journal.specs.Places.{Shape}
+use Rattle.journal.specs.Record.{Entry}
 use Rattle.redo_log.specs.Value.{Ahead, steps_for, turns_home, of_oldest}
 use Rattle.redo_log.specs.Stages.{value_at, oldest_at, homed_at, needed_at, IsOldest, IsRead}
 use Rattle.redo_log.specs.Held.{made_of, turned_of, needed_of}

@@ -4,7 +4,7 @@ use Rattle.medium.specs.Medium.{State, Passes, LooksOnly}
 use Rattle.medium.specs.declared.fault.MediumFault.{MediumFault}
 use Rattle.medium.specs.declared.fault.MediumFault.TheVariants as fault
 use Rattle.medium.proofs.Looking.{no_looks}
-use Rattle.log_layout.specs.Places.{Shape, first_home}
+use Rattle.journal.specs.Places.{Shape, first_home}
 use Rattle.redo_log.specs.Calls.{Call, Write, Flush, fault_of}
 use Rattle.redo_log.specs.Turns.{ReadsBefore}
 use Rattle.redo_log.specs.Value.{LogValue}

@@ -3,7 +3,7 @@ use Rattle.std.proofs.Common.{◌≡◌, ℕ, arith, subst}
 use Rattle.medium.specs.Medium.{State}
 use Rattle.medium.specs.Moments.{SparesFrom}
 use Rattle.medium.proofs.Sparing.{spared_behind}
-use Rattle.log_layout.specs.Places.{Shape, first_home, sectors_of}
+use Rattle.journal.specs.Places.{Shape, first_home, sectors_of}
 use Rattle.redo_log.specs.declared.turn.Turn.{Turn}
 use Rattle.redo_log.specs.Value.{LogValue}
 use Rattle.redo_log.specs.Calls.{Call, IsWithin}

@@ -8,14 +8,14 @@ use Rattle.std.proofs.Math.ListN.{get_or-map}
 use Rattle.medium.specs.Medium.{State, CutLeaves, Gains, IsSound}
 use Rattle.medium.specs.Moments.{EachCut}
 use Rattle.medium.proofs.Moments.{shrunk}
-use Rattle.log_layout.specs.Places.{Shape, sectors_of}
-use Rattle.log_image.specs.Record.{Entry, numbers_of, entries_of}
-use Rattle.log_image.specs.Layout.{Layout, part_at}
-use Rattle.log_image.specs.LayoutLaws.{Laws, IsRecordOf}
-use Rattle.log_image.specs.Formats.{layout_of}
-use Rattle.log_image.specs.Staged.{HasSlots}
-use Rattle.log_image.proofs.Formats.{laws_of}
-use Rattle.log_image.proofs.Batching.{length_of_batch}
+use Rattle.journal.specs.Places.{Shape, sectors_of}
+use Rattle.journal.specs.Record.{Entry, numbers_of, entries_of}
+use Rattle.journal.specs.Layout.{Layout, part_at}
+use Rattle.journal.specs.LayoutLaws.{Laws, IsRecordOf}
+use Rattle.journal.specs.Formats.{layout_of}
+use Rattle.journal.specs.Staged.{HasSlots}
+use Rattle.journal.proofs.Formats.{laws_of}
+use Rattle.journal.proofs.Batching.{length_of_batch}
 use Rattle.redo_log.specs.Value.{LogValue, Ahead, steps_for, turns_home}
 use Rattle.redo_log.specs.Stages.{value_at, oldest_at, written_at, homed_at, flush_of, needed_at, IsRecord, IsOldest, IsRead, IsSized}
 use Rattle.redo_log.specs.Calls.{gaining, Call, Write, Flush, MayAdd, IsDone, IsNextCall, IsFlush, IsFlushDue, IsWriteOf}

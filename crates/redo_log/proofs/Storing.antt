@@ -3,14 +3,14 @@ use Rattle.std.proofs.Common.{◌≡◌, inl, inr, ℕ, ◌+◌, ◌*◌, ◌%�
 use Rattle.std.proofs.Common.{subst, arith}
 use Rattle.std.proofs.lemmas.Bool.{cases_eq}
 use Rattle.medium.specs.Medium.{Image, Stays, Holds}
-use Rattle.log_layout.specs.Places.{Shape, first_home}
-use Rattle.log_layout.specs.Sectors.{IsRising}
-use Rattle.log_image.specs.Record.{Entry, numbers_of}
-use Rattle.log_image.specs.Layout.{Layout}
-use Rattle.log_image.specs.LayoutLaws.{IsRecordOf}
-use Rattle.log_image.specs.Formats.{layout_of}
-use Rattle.log_image.proofs.Formats.{laws_of}
-use Rattle.log_image.proofs.Overlay.{records-hide}
+use Rattle.journal.specs.Places.{Shape, first_home}
+use Rattle.journal.specs.Sectors.{IsRising}
+use Rattle.journal.specs.Record.{Entry, numbers_of}
+use Rattle.journal.specs.Layout.{Layout}
+use Rattle.journal.specs.LayoutLaws.{IsRecordOf}
+use Rattle.journal.specs.Formats.{layout_of}
+use Rattle.journal.proofs.Formats.{laws_of}
+use Rattle.journal.proofs.Overlay.{records-hide}
 use Rattle.redo_log.specs.Logged.{AreHome}
 use Rattle.redo_log.specs.Stages.{homed_at, IsSized}
 use Rattle.redo_log.specs.Held.{View, with_record, view_retired, written_of, Stores}

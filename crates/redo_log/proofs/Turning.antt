@@ -4,18 +4,18 @@ use Rattle.std.specs.Prelude.{slice_index, slice_range, Option, Some}
 use Rattle.std.proofs.lemmas.Bool.{cases_lt}
 use Rattle.std.proofs.Math.ListN.{get_or-map}
 use Rattle.medium.specs.Medium.{Image}
-use Rattle.log_layout.specs.declared.log_format.LogFormat.{LogFormat}
-use Rattle.log_layout.specs.declared.log_format.LogFormat.TheVariants.{One, Two}
-use Rattle.log_layout.specs.Places.{Shape, first_home}
-use Rattle.log_layout.specs.Sectors.{IsHead}
-use Rattle.log_layout.specs.SectorsTwo.{descriptor_bytes}
-use Rattle.log_image.specs.Record.{Entry, numbers_of}
-use Rattle.log_image.specs.Layout.{IsWholeIn}
-use Rattle.log_image.specs.Formats.{layout_of}
-use Rattle.log_image.specs.Format2.{part2}
-use Rattle.log_image.proofs.ReadingOne as one
-use Rattle.log_image.proofs.Copying as two
-use Rattle.log_image.proofs.Format2Laws.{offset_descriptor, part_descriptor}
+use Rattle.journal.specs.declared.log_format.LogFormat.{LogFormat}
+use Rattle.journal.specs.declared.log_format.LogFormat.TheVariants.{One, Two}
+use Rattle.journal.specs.Places.{Shape, first_home}
+use Rattle.journal.specs.Sectors.{IsHead}
+use Rattle.journal.specs.SectorsTwo.{descriptor_bytes}
+use Rattle.journal.specs.Record.{Entry, numbers_of}
+use Rattle.journal.specs.Layout.{IsWholeIn}
+use Rattle.journal.specs.Formats.{layout_of}
+use Rattle.journal.specs.Format2.{part2}
+use Rattle.journal.proofs.ReadingOne as one
+use Rattle.journal.proofs.Copying as two
+use Rattle.journal.proofs.Format2Laws.{offset_descriptor, part_descriptor}
 use Rattle.redo_log.specs.Value.{turns_home}
 use Rattle.redo_log.specs.Stages.{homed_at, IsRead}
 use Rattle.redo_log.specs.Turns.{begun_with, head_bytes, IsHomeTurn}

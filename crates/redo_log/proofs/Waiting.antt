@@ -4,10 +4,10 @@ use Rattle.std.specs.Prelude.{replicate, map, true, false, Option}
 use Rattle.std.proofs.lemmas.List.{length-map}
 use Rattle.std.proofs.Math.ListN.{get_or-map}
 use Rattle.medium.specs.Medium.{State, Holds}
-use Rattle.log_layout.specs.Places.{Shape, sectors_of}
-use Rattle.log_image.specs.Record.{Entry, numbers_of}
-use Rattle.log_image.specs.Formats.{layout_of}
-use Rattle.log_image.specs.Staged.{HasSlots}
+use Rattle.journal.specs.Places.{Shape, sectors_of}
+use Rattle.journal.specs.Record.{Entry, numbers_of}
+use Rattle.journal.specs.Formats.{layout_of}
+use Rattle.journal.specs.Staged.{HasSlots}
 use Rattle.redo_log.specs.Value.{Ahead, turns_home}
 use Rattle.redo_log.specs.Stages.{value_at, steps_at, oldest_at, homed_at, needed_at, IsRead, IsSized}
 use Rattle.redo_log.specs.Held.{View, view_retired, image_view, written_of, made_of, turned_of, Stores, Shields, HoldsView}

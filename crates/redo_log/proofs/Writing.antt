@@ -6,16 +6,16 @@ use Rattle.medium.specs.Medium.{State, Stays, Holds, Within, Gains, Only, Passes
 use Rattle.medium.specs.declared.fault.MediumFault.{MediumFault}
 use Rattle.medium.specs.declared.fault.MediumFault.TheVariants as fault
 use Rattle.medium.proofs.Sparing.{spared_write, spared_silent}
-use Rattle.log_layout.specs.declared.log_format.LogFormat.{LogFormat}
-use Rattle.log_layout.specs.declared.log_format.LogFormat.TheVariants.{One, Two}
-use Rattle.log_layout.specs.Places.{Shape, first_data_of}
-use Rattle.log_layout.specs.SectorsTwo.{place_bytes}
-use Rattle.log_image.specs.Record.{Entry, block_of, entries_of}
-use Rattle.log_image.specs.Layout.{Layout, part_at}
-use Rattle.log_image.specs.Formats.{layout_of}
-use Rattle.log_image.proofs.Batching.{length_of_batch, entry_of_batch}
-use Rattle.log_image.proofs.Format1Laws as one
-use Rattle.log_image.proofs.Format2Laws as two
+use Rattle.journal.specs.declared.log_format.LogFormat.{LogFormat}
+use Rattle.journal.specs.declared.log_format.LogFormat.TheVariants.{One, Two}
+use Rattle.journal.specs.Places.{Shape, first_data_of}
+use Rattle.journal.specs.SectorsTwo.{place_bytes}
+use Rattle.journal.specs.Record.{Entry, block_of, entries_of}
+use Rattle.journal.specs.Layout.{Layout, part_at}
+use Rattle.journal.specs.Formats.{layout_of}
+use Rattle.journal.proofs.Batching.{length_of_batch, entry_of_batch}
+use Rattle.journal.proofs.Format1Laws as one
+use Rattle.journal.proofs.Format2Laws as two
 use Rattle.redo_log.specs.Calls.{Write, Flush, placed, MakesCall}
 
 -- a good write holds the bytes, and a refused one may

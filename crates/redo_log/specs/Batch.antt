@@ -1,8 +1,8 @@
 -- The blocks that are logged as one record.
 use Rattle.std.specs.Prelude.{◌≡◌, ℕ, ◌*◌, ◌≤◌, ◌<◌, List, length, All}
-use Rattle.log_layout.specs.Places.{Shape, limit_of}
-use Rattle.log_layout.specs.Sectors.{IsRising}
-pub use Rattle.log_image.specs.Record.{entries_from, entries_of}
+use Rattle.journal.specs.Places.{Shape, limit_of}
+use Rattle.journal.specs.Sectors.{IsRising}
+pub use Rattle.journal.specs.Record.{entries_from, entries_of}
 
 -- 1 to as many block numbers as a record has at most, which rise and are below the number of
 -- blocks, and 512 bytes for each

@@ -6,13 +6,13 @@ use Rattle.medium.specs.Moments.{StaysWithin, SparesFrom}
 use Rattle.medium.specs.Sent.{SendsUpTo}
 use Rattle.medium.specs.declared.fault.MediumFault.{MediumFault}
 use Rattle.medium.specs.declared.fault.MediumFault.TheVariants as fault
-use Rattle.log_layout.specs.declared.log_format.LogFormat.{LogFormat}
-use Rattle.log_layout.specs.declared.log_format.LogFormat.TheVariants.{One, Two}
-use Rattle.log_layout.specs.Places.{Shape, first_home}
-use Rattle.log_layout.specs.SectorsTwo.{place_bytes}
-use Rattle.log_image.specs.Record.{Entry}
-use Rattle.log_image.specs.Layout.{Layout, part_at}
-use Rattle.log_image.specs.Formats.{layout_of}
+use Rattle.journal.specs.declared.log_format.LogFormat.{LogFormat}
+use Rattle.journal.specs.declared.log_format.LogFormat.TheVariants.{One, Two}
+use Rattle.journal.specs.Places.{Shape, first_home}
+use Rattle.journal.specs.SectorsTwo.{place_bytes}
+use Rattle.journal.specs.Record.{Entry}
+use Rattle.journal.specs.Layout.{Layout, part_at}
+use Rattle.journal.specs.Formats.{layout_of}
 use Rattle.redo_log.specs.Stages.{written_at}
 use Rattle.redo_log.specs.Flushes.{FlushesUpTo}
 

@@ -4,13 +4,13 @@ use Rattle.std.specs.Prelude.{get_or, drop, map, All, Bool, true, false}
 use Rattle.medium.specs.Medium.{State, Image, Sets, CutLeaves}
 use Rattle.medium.specs.Moments.{EachCut}
 use Rattle.spec.specs.Blocks.{Array}
-use Rattle.log_layout.specs.Places.{Shape, sectors_of}
-use Rattle.log_layout.specs.Sectors.{IsHead}
-use Rattle.log_image.specs.Record.{Entry, numbers_of, with_blocks}
-use Rattle.log_image.specs.Layout.{part_at}
-use Rattle.log_image.specs.Formats.{layout_of}
-use Rattle.log_image.specs.Staged as staged
-use Rattle.log_image.specs.Staged.{Resting, Guarded, IsHomed}
+use Rattle.journal.specs.Places.{Shape, sectors_of}
+use Rattle.journal.specs.Sectors.{IsHead}
+use Rattle.journal.specs.Record.{Entry, numbers_of, with_blocks}
+use Rattle.journal.specs.Layout.{part_at}
+use Rattle.journal.specs.Formats.{layout_of}
+use Rattle.journal.specs.Staged as staged
+use Rattle.journal.specs.Staged.{Resting, Guarded, IsHomed}
 use Rattle.redo_log.specs.declared.progress.Progress.{Progress}
 use Rattle.redo_log.specs.declared.progress.Progress.TheVariants.{More, Durable}
 use Rattle.redo_log.specs.Value.{LogValue, steps_of, turns_home, behind_oldest, of_oldest}

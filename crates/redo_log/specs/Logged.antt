@@ -2,11 +2,11 @@
 use Rattle.std.specs.Prelude.{◌≡◌, ◌<◌, ℕ, ◌+◌, List, [], length, get_or}
 use Rattle.medium.specs.Medium.{Image}
 use Rattle.spec.specs.Blocks.{Array}
-use Rattle.log_layout.specs.Places.{Shape, first_home}
-use Rattle.log_image.specs.Record.{Entry, with_records, home_of}
-use Rattle.log_image.specs.Layout.{LoggedIn, RestsIn}
-use Rattle.log_image.specs.Formats.{layout_of, IsWhole}
-use Rattle.log_image.specs.Standing.{IsOurs}
+use Rattle.journal.specs.Places.{Shape, first_home}
+use Rattle.journal.specs.Record.{Entry, with_records, home_of}
+use Rattle.journal.specs.Layout.{LoggedIn, RestsIn}
+use Rattle.journal.specs.Formats.{layout_of, IsWhole}
+use Rattle.journal.specs.Standing.{IsOurs}
 
 -- the image has these records whole from this stamp on, it is ours, and it stands for this array
 pub record HasRecords (size : ℕ) (shape : Shape) (head : ℕ) (records : List (List Entry))

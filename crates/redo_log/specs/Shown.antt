@@ -2,8 +2,8 @@
 use Rattle.std.specs.Prelude.{ℕ, ◌+◌, ◌*◌, ◌^◌, ◌≤◌, ◌<◌, List, length, map, vec_capacity}
 use Rattle.std.specs.VecDeque.{deque_capacity}
 use Rattle.arrayvec.specs.ArrayVec.{ArrayVec}
-use Rattle.log_layout.specs.Places.{limit_of}
-use Rattle.log_layout.specs.Values.{shape_of}
+use Rattle.journal.specs.Places.{limit_of}
+use Rattle.journal.specs.Values.{shape_of}
 use Rattle.redo_log.specs.Value.{LogValue, Ahead}
 use Rattle.redo_log.specs.Stages.{value_at, begun_at, IsRing, IsAheadOf}
 use Rattle.redo_log.specs.Index.{IsIndex}

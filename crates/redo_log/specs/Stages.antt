@@ -2,12 +2,12 @@
 use Rattle.std.specs.Prelude.{◌≡◌, ◌⊎◌, ℕ, zero, suc, ◌≤◌, ◌<◌, ◌^◌, ◌+◌, ◌*◌, ◌-◌, ◌/◌, ◌%◌, List}
 use Rattle.std.specs.Prelude.{[], ◌∷◌, length, get_or, drop, sum_by, All, Bool, Option, Some, None}
 use Rattle.std.specs.Prelude.{if◌then◌else◌, nat_lt, ◌==◌}
-use Rattle.log_layout.specs.declared.log_format.LogFormat.{LogFormat}
-use Rattle.log_layout.specs.declared.log_format.LogFormat.TheVariants.{One, Two}
-use Rattle.log_layout.specs.Places.{Shape, limit_of}
-use Rattle.log_layout.specs.Sectors.{IsRising}
-use Rattle.log_image.specs.Record.{Entry}
-use Rattle.log_image.specs.Formats.{layout_of}
+use Rattle.journal.specs.declared.log_format.LogFormat.{LogFormat}
+use Rattle.journal.specs.declared.log_format.LogFormat.TheVariants.{One, Two}
+use Rattle.journal.specs.Places.{Shape, limit_of}
+use Rattle.journal.specs.Sectors.{IsRising}
+use Rattle.journal.specs.Record.{Entry}
+use Rattle.journal.specs.Formats.{layout_of}
 use Rattle.redo_log.specs.Value.{LogValue, Ahead, steps_for, turns_home, retire_steps_of}
 
 -- one flush for the parts that are flushed early, none where there are none

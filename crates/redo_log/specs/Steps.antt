@@ -5,7 +5,7 @@ use Rattle.medium.specs.Medium.{State, LooksOnly}
 use Rattle.medium.specs.Moments.{LeavesOnly, SparesFrom, IsQuiet}
 use Rattle.medium.specs.Sent.{SendsUpTo}
 use Rattle.medium.specs.declared.fault.MediumFault.TheVariants.{Flush}
-use Rattle.log_layout.specs.Places.{first_home, sectors_of}
+use Rattle.journal.specs.Places.{first_home, sectors_of}
 use Rattle.redo_log.specs.declared.fault.LogFault.{LogFault}
 use Rattle.redo_log.specs.declared.fault.LogFault.TheVariants.{Medium}
 use Rattle.redo_log.specs.Value.{LogValue, died}

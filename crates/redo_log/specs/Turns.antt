@@ -4,12 +4,12 @@ use Rattle.std.specs.Prelude.{slice_index, slice_range, Option, Some, None, Resu
 use Rattle.medium.specs.Medium.{State, Stays, Holds, Only}
 use Rattle.medium.specs.Moments.{IsQuiet, SparesFrom}
 use Rattle.medium.specs.declared.fault.MediumFault.{MediumFault}
-use Rattle.log_layout.specs.declared.log_format.LogFormat.{LogFormat}
-use Rattle.log_layout.specs.declared.log_format.LogFormat.TheVariants.{One, Two}
-use Rattle.log_layout.specs.Places.{Shape, first_home, first_data_of}
-use Rattle.log_layout.specs.Spelling.{spelling, head_mark}
-use Rattle.log_image.specs.Layout.{slot_at}
-use Rattle.log_image.specs.Formats.{layout_of}
+use Rattle.journal.specs.declared.log_format.LogFormat.{LogFormat}
+use Rattle.journal.specs.declared.log_format.LogFormat.TheVariants.{One, Two}
+use Rattle.journal.specs.Places.{Shape, first_home, first_data_of}
+use Rattle.journal.specs.Spelling.{spelling, head_mark}
+use Rattle.journal.specs.Layout.{slot_at}
+use Rattle.journal.specs.Formats.{layout_of}
 use Rattle.redo_log.specs.Value.{turns_home}
 use Rattle.redo_log.specs.Stages.{homed_at}
 use Rattle.redo_log.specs.Calls.{WritesOnly}

@@ -2,7 +2,7 @@
 ghost use Rattle.std.specs.Prelude.{◌≡◌, ◌+◌, ◌-◌, ◌*◌, ◌<◌, ◌≤◌, ◌↔◌, if◌then◌else◌};
 ghost use Rattle.std.specs.Prelude.{false, length};
 ghost use Rattle.std.specs.Prelude.{IsTrue, IsOk, MatchResult};
-ghost use Rattle.log_layout.specs.Places.{sectors_of};
+ghost use Rattle.journal.specs.Places.{sectors_of};
 ghost use Rattle.redo_log.specs.Value.{next_sends, IsAway, IsSentHome, ahead_calls};
 ghost use Rattle.redo_log.specs.Value.{IsCovered, settled, CanPass, pass_calls, IsRetireStepped};
 ghost use Rattle.redo_log.specs.Held.{View, HoldsView, view_retired};
@@ -12,7 +12,7 @@ use crate::index::drop_slot;
 use crate::stage::turns_home;
 use crate::turn::next_turn;
 use crate::{Log, LogFault};
-use log_layout::{Head, slot_of};
+use journal::{Head, slot_of};
 use medium::Medium;
 
 impl Log {

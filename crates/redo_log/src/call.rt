@@ -1,15 +1,16 @@
 //! The calls of a medium that write a record, one after the other.
 ghost use Rattle.std.specs.Prelude.{◌≡◌, ◌⊎◌, ℕ, ◌≤◌, ◌<◌, ◌*◌, length, IsTrue, ◌↔◌};
-ghost use Rattle.log_layout.specs.Places.{sectors_of};
-ghost use Rattle.log_layout.specs.Values.{shape_of};
-ghost use Rattle.log_image.specs.Layout.{part_at};
-ghost use Rattle.log_image.specs.Record.{entries_of};
-ghost use Rattle.log_image.specs.Formats.{layout_of};
+ghost use Rattle.journal.specs.Places.{sectors_of};
+ghost use Rattle.journal.specs.Values.{shape_of};
+ghost use Rattle.journal.specs.Layout.{part_at};
+ghost use Rattle.journal.specs.Record.{entries_of};
+ghost use Rattle.journal.specs.Formats.{layout_of};
 ghost use Rattle.redo_log.specs.Stages.{IsRecord, written_at};
 ghost use Rattle.redo_log.specs.Calls.{Write, placed, MakesCall, MakesNext};
 
-use log_image::{copy_place, early, part, parts, slot_place};
-use log_layout::{LogFormat, Super, data_sector2, slot_of};
+use journal::{
+    LogFormat, Super, copy_place, data_sector2, early, part, parts, slot_of, slot_place,
+};
 use medium::{Medium, MediumFault};
 
 // How many parts of a record are written after so many calls. One of them may be the early flush.

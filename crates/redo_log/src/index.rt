@@ -2,7 +2,7 @@
 ghost use Rattle.std.specs.Prelude.{◌≡◌, ℕ, ◌+◌, ◌^◌, ◌<◌, ◌≤◌, length, take, vec_capacity};
 ghost use Rattle.std.specs.Prelude.{All, IfOk, IfErr};
 ghost use Rattle.std.specs.List.{remove_range};
-ghost use Rattle.log_layout.specs.Sectors.{IsRising};
+ghost use Rattle.journal.specs.Sectors.{IsRising};
 ghost use Rattle.redo_log.specs.Index.{look, with_copies, outside, block_at};
 ghost use Rattle.redo_log.specs.Index.{IsSorted, IsGapFor};
 

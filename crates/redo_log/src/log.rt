@@ -11,8 +11,7 @@ use crate::stage::{steps_for, turns_home};
 use crate::turn::next_turn;
 use crate::{LogFault, Progress};
 use arrayvec::ArrayVec;
-use log_image::read_copy;
-use log_layout::{Super, slot_of};
+use journal::{Super, read_copy, slot_of};
 use medium::{Medium, MediumFault};
 use std::alloc::Global;
 use std::collections::VecDeque;
@@ -60,10 +59,10 @@ impl Model for Log {
 }
 
 impl Log {
-    ghost use Rattle.log_layout.specs.Places.{sectors_of};
-    ghost use Rattle.log_layout.specs.Values.{shape_of};
+    ghost use Rattle.journal.specs.Places.{sectors_of};
+    ghost use Rattle.journal.specs.Values.{shape_of};
     ghost use Rattle.redo_log.specs.Value.{HasRoom, Owes, HasNoCopy, IsNewestCopy, idle_from};
-    ghost use Rattle.log_image.specs.Copies.{copy_reads_of, MakesReads};
+    ghost use Rattle.journal.specs.Copies.{copy_reads_of, MakesReads};
     ghost use Rattle.redo_log.specs.Value.{begun, died, most_steps, most_retire_steps};
     ghost use Rattle.redo_log.specs.Value.{IsStepped, IsRetireStepped, next_calls, next_sends};
     ghost use Rattle.redo_log.specs.Value.{sends_of_oldest, most_retire_sends};

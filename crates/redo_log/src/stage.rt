@@ -2,7 +2,7 @@
 ghost use Rattle.std.specs.Prelude.{◌≡◌, ◌≤◌};
 ghost use Rattle.redo_log.specs.Value.{steps_for, turns_home};
 
-use log_layout::LogFormat;
+use journal::LogFormat;
 
 /// How many steps the writing of a record of so many blocks takes.
 pub(crate) fn steps_for(format: LogFormat, count: usize) -> usize

@@ -3,10 +3,10 @@ ghost use Rattle.std.specs.Prelude.{◌≡◌, ℕ, ◌≤◌, ◌<◌, ◌+◌,
 ghost use Rattle.std.specs.Prelude.{OnOk, is_ok, if◌then◌else◌};
 ghost use Rattle.medium.specs.Medium.{Holds, Only, LooksOnly};
 ghost use Rattle.medium.specs.Moments.{SparesFrom};
-ghost use Rattle.log_layout.specs.Places.{first_home, sectors_of, first_data_of};
-ghost use Rattle.log_layout.specs.Values.{shape_of};
-ghost use Rattle.log_image.specs.Layout.{slot_at};
-ghost use Rattle.log_image.specs.Formats.{layout_of};
+ghost use Rattle.journal.specs.Places.{first_home, sectors_of, first_data_of};
+ghost use Rattle.journal.specs.Values.{shape_of};
+ghost use Rattle.journal.specs.Layout.{slot_at};
+ghost use Rattle.journal.specs.Formats.{layout_of};
 ghost use Rattle.redo_log.specs.Value.{turns_home};
 ghost use Rattle.redo_log.specs.Stages.{IsRecord};
 ghost use Rattle.redo_log.specs.Calls.{CallsUpTo, WritesOnly};
@@ -15,8 +15,7 @@ ghost use Rattle.redo_log.specs.Turns.{IsInside, MakesTurn, ReadsBefore};
 ghost use Rattle.redo_log.specs.Turns.{IsCopyOf, IsHomeTurn, IsNextTurn};
 
 use crate::stage::turns_home;
-use log_image::{copy_place, slot_place};
-use log_layout::{Head, LogFormat, Super, slot_of};
+use journal::{Head, LogFormat, Super, copy_place, slot_of, slot_place};
 use medium::{Medium, MediumFault};
 
 /// One medium call or two.

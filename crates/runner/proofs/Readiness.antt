@@ -11,7 +11,7 @@ use Rattle.medium.specs.SimLaws.{is_sound, size_whole}
 use Rattle.medium.specs.Writes.{sector_of, are_whole, keeps}
 use Rattle.medium.proofs.Keeping.{kept_allowed, none_size, none_content, none_flushed}
 use Rattle.medium.proofs.Moments.{only_image, content_has}
-use Rattle.log_layout.specs.Places.{limit_of, migrated}
+use Rattle.journal.specs.Places.{limit_of, migrated}
 use Rattle.spec.specs.Book.{Book, opened}
 use Rattle.bot_machine.specs.Books.{StandsAs}
 use Rattle.bot_machine.specs.Device.{presented, Device}

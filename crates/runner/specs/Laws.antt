@@ -2,8 +2,8 @@
 -- that lives have left.
 use Rattle.std.specs.Prelude.{◌≡◌, ℕ, ◌+◌, Bool, true, List, None, replicate}
 use Rattle.medium.specs.Sim.{Sim, state_of, IsCut}
-use Rattle.log_layout.specs.declared.log_format.LogFormat.TheVariants.{Two}
-use Rattle.log_layout.specs.Places.{limit_of}
+use Rattle.journal.specs.declared.log_format.LogFormat.TheVariants.{Two}
+use Rattle.journal.specs.Places.{limit_of}
 use Rattle.recovery.specs.Formatted.{Shape, IsFormatted}
 use Rattle.recovery.specs.Migrated.{IsMigratedFrom}
 use Rattle.recovery.specs.declared.recovered.Recovered.{Recovered}

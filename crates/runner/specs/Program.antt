@@ -9,8 +9,8 @@ use Rattle.medium.specs.ImageFile.{Copied, IsImage, fresh}
 use Rattle.medium.specs.Sim.{Sim}
 use Rattle.medium.specs.Power.{powered}
 use Rattle.medium.specs.Tally.{none}
-use Rattle.log_layout.specs.declared.log_format.LogFormat.{LogFormat}
-use Rattle.log_layout.specs.Places.{new_shape, sectors_of}
+use Rattle.journal.specs.declared.log_format.LogFormat.{LogFormat}
+use Rattle.journal.specs.Places.{new_shape, sectors_of}
 use Rattle.recovery.specs.Formatted.{AreSizes, IsFormatted}
 use Rattle.recovery.specs.Migrated.{IsMigrationBy, IsMigrationCause, MigrationLeaves}
 use Rattle.recovery.specs.declared.recovered.Recovered.{Recovered}

@@ -3,7 +3,7 @@ use Rattle.std.specs.Prelude.{◌≡◌, ◌≤◌, ℕ, ◌+◌, Bool, true, Li
 use Rattle.medium.specs.Medium.{State}
 use Rattle.medium.specs.Moments.{EachCut}
 use Rattle.spec.specs.Blocks.{Array}
-use Rattle.log_layout.specs.Places.{limit_of}
+use Rattle.journal.specs.Places.{limit_of}
 use Rattle.bot_machine.specs.Starting.{Shape, StandsFor, IsOursForSome}
 use Rattle.bot_machine.specs.Device.{Device, Late}
 use Rattle.spec.specs.Identification.{Identification}

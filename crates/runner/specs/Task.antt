@@ -1,7 +1,7 @@
 -- The words of a command line.
 use Rattle.std.specs.Prelude.{◌≡◌, ◌≢◌, ◌⊎◌, ℕ, List, [], ◌∷◌, ◌++◌, codes}
-use Rattle.log_layout.specs.declared.log_format.LogFormat.{LogFormat}
-use Rattle.log_layout.specs.declared.log_format.LogFormat.TheVariants.{One, Two}
+use Rattle.journal.specs.declared.log_format.LogFormat.{LogFormat}
+use Rattle.journal.specs.declared.log_format.LogFormat.TheVariants.{One, Two}
 use Rattle.spec.specs.declared.packet_size.PacketSize.{PacketSize}
 use Rattle.spec.specs.declared.packet_size.PacketSize.TheVariants.{Full64, High512}
 use Rattle.runner.specs.declared.task.Task.{Task}

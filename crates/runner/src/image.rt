@@ -1,6 +1,6 @@
 //! Image files, as media.
 ghost use Rattle.std.specs.Prelude.{◌≡◌, ◌⊎◌, ◌↔◌, ℕ, List, IfOk, IfErr, IfSome, IfNone, OnOk};
-ghost use Rattle.log_layout.specs.Places.{new_shape, sectors_of};
+ghost use Rattle.journal.specs.Places.{new_shape, sectors_of};
 ghost use Rattle.recovery.specs.Formatted.{IsFormatCause, IsFormatted};
 ghost use Rattle.medium.specs.ImageFile.{IsImage};
 ghost use Rattle.runner.specs.Program.{AreImageSizes, IsJustOpened, IsMade, simulated};
@@ -8,7 +8,7 @@ ghost use Rattle.runner.specs.Program.{AreImageSizes, IsJustOpened, IsMade, simu
 use crate::read::{ReadFault, read_to_limit};
 use crate::refusal::Refusal;
 use crate::streams::hold_streams;
-use log_layout::LogFormat;
+use journal::LogFormat;
 use medium::{FileMedium, Medium, SimError, SimMedium};
 use recovery::FormatFault;
 use std::fs;

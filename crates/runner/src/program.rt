@@ -19,7 +19,7 @@ use crate::sim::sim_script;
 use crate::streams::hold_streams;
 use crate::task::{Task, read_words};
 use bot_machine::PacketSize;
-use log_layout::LogFormat;
+use journal::LogFormat;
 use medium::{FileMedium, Medium};
 use std::alloc::{AllocError, Global};
 use std::env::Env;

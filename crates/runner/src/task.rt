@@ -15,7 +15,7 @@ use crate::number::read_number;
 use crate::refusal::Refusal;
 use bot_machine::PacketSize;
 use clap::{Arg, Command};
-use log_layout::LogFormat;
+use journal::LogFormat;
 use std::alloc::{AllocError, Global};
 
 // The greatest size that a word may tell.

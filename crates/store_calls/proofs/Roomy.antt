@@ -4,8 +4,8 @@ use Rattle.std.proofs.lemmas.Bool.{cases_lt}
 use Rattle.medium.specs.Writes.{sector_of}
 use Rattle.window.specs.Window.{Window, state_of, fresh, ComesAfter}
 use Rattle.window.proofs.Kept.{opened_front}
-use Rattle.log_layout.specs.Places.{Shape}
-use Rattle.log_layout.specs.Sectors.{IsSuper}
+use Rattle.journal.specs.Places.{Shape}
+use Rattle.journal.specs.Sectors.{IsSuper}
 use Rattle.blocks.specs.Started.{IsStarted}
 use Rattle.blocks.specs.StoreValue.{layout_of}
 use Rattle.store_calls.specs.Stores.{Store}

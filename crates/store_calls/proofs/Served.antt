@@ -2,9 +2,9 @@
 use Rattle.std.proofs.Common.{◌≡◌, ◌<◌, ◌≤◌, ◌+◌, ◌*◌, ℕ, true, length, inl, inr, sym, ◌∙◌, false, arith}
 use Rattle.std.proofs.Math.Nat.{le-max_left, le-max_right}
 use Rattle.std.proofs.lemmas.Bool.{false≢true}
-use Rattle.log_layout.specs.Places.{first_home}
-use Rattle.log_layout.specs.declared.log_format.LogFormat.{LogFormat}
-use Rattle.log_layout.specs.declared.log_format.LogFormat.TheVariants.{One, Two}
+use Rattle.journal.specs.Places.{first_home}
+use Rattle.journal.specs.declared.log_format.LogFormat.{LogFormat}
+use Rattle.journal.specs.declared.log_format.LogFormat.TheVariants.{One, Two}
 use Rattle.medium.specs.Medium.{LooksOnly}
 use Rattle.medium.specs.Sent.{sent, SendsUpTo}
 use Rattle.recovery.specs.Copies.{most_start_sends}

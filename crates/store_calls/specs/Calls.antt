@@ -4,7 +4,7 @@ use Rattle.std.specs.Prelude.{not, List, length, Option, Some, None, Result, Ok,
 use Rattle.inlet.specs.Inlet.{AreHeld}
 use Rattle.spec.specs.Blocks.{Write}
 use Rattle.mirror.specs.Mirror.{first_of}
-use Rattle.log_layout.specs.Places.{first_home}
+use Rattle.journal.specs.Places.{first_home}
 use Rattle.window.specs.Window.{state_of, without_first, ComesAfter, IsShown}
 use Rattle.blocks.specs.Background.{IsBackgroundStep, CountsDown}
 use Rattle.spec.specs.Book.{Book, array_of, blocks_at, write_of, promised}

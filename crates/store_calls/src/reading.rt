@@ -1,6 +1,6 @@
 //! How blocks are read, and which sectors are to be shown before.
 ghost use Rattle.std.specs.Prelude.{◌≡◌, ◌<◌, ◌≤◌, ◌+◌, ◌/◌, None, IfSome, OnOk, IfErr, length};
-ghost use Rattle.log_layout.specs.Places.{first_home};
+ghost use Rattle.journal.specs.Places.{first_home};
 ghost use Rattle.blocks.specs.StoreValue.{layout_of, blocks_of};
 ghost use Rattle.store_calls.specs.Rooms.{AreInSight, AreMissing, Foresees};
 ghost use Rattle.store_calls.specs.Calls.{MayMove, MayNotMove, ReadsBlocks};

@@ -2,7 +2,7 @@
 ghost use Rattle.std.specs.Prelude.{◌≡◌, ◌≤◌, ◌↔◌, IsTrue};
 ghost use Rattle.store_calls.specs.Rooms.{room_of, WantsMore};
 
-use log_layout::{LogFormat, Super};
+use journal::{LogFormat, Super};
 
 const SECTOR: usize = 512;
 

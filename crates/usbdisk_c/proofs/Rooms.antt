@@ -4,10 +4,10 @@ use Rattle.std.proofs.Common.{length-append}
 use Rattle.std.specs.Prelude.{Option}
 use Rattle.std.proofs.lemmas.List.{append-nil}
 use Rattle.std.proofs.Math.Nat.{le-max_left, le-max_right}
-use Rattle.log_layout.specs.declared.log_format.LogFormat.{LogFormat}
-use Rattle.log_layout.specs.declared.log_format.LogFormat.TheVariants.{One, Two}
-use Rattle.log_layout.specs.Places.{Shape}
-use Rattle.log_layout.specs.Sectors.{IsSuper}
+use Rattle.journal.specs.declared.log_format.LogFormat.{LogFormat}
+use Rattle.journal.specs.declared.log_format.LogFormat.TheVariants.{One, Two}
+use Rattle.journal.specs.Places.{Shape}
+use Rattle.journal.specs.Sectors.{IsSuper}
 use Rattle.medium.specs.Medium.{LooksOnly}
 use Rattle.medium.specs.Sent.{sent}
 use Rattle.mirror.specs.Story.{given}

@@ -3,8 +3,8 @@ use Rattle.std.specs.Prelude.{◌≡◌, ◌≢◌, ◌⊎◌, ℕ, Bool, true, 
 use Rattle.medium.specs.Medium.{Image}
 use Rattle.mirror.specs.Mirror.{first_of}
 use Rattle.window.specs.Window.{Window}
-use Rattle.log_layout.specs.Places.{Shape, first_home}
-use Rattle.log_layout.specs.Sectors.{IsSuper}
+use Rattle.journal.specs.Places.{Shape, first_home}
+use Rattle.journal.specs.Sectors.{IsSuper}
 use Rattle.recovery.specs.Looks.{HoldsLog}
 use Rattle.spec.specs.Identification.{Identification, IsLegible}
 use Rattle.bot_machine.specs.Device.{device_by, Ahead}

@@ -1,9 +1,9 @@
 -- What the exports that make or change an image answer, and what they leave in the handle.
 use Rattle.std.specs.Prelude.{◌≡◌, ◌≢◌, ◌⊎◌, ℕ, ◌+◌, ◌*◌, List, Option, Some, None, Result, Ok, Err}
 use Rattle.window.specs.Window.{Window, fresh}
-use Rattle.log_layout.specs.declared.log_format.LogFormat.{LogFormat}
-use Rattle.log_layout.specs.Places.{Shape, new_shape, slot_sectors_of}
-use Rattle.log_layout.specs.Sectors.{version_of}
+use Rattle.journal.specs.declared.log_format.LogFormat.{LogFormat}
+use Rattle.journal.specs.Places.{Shape, new_shape, slot_sectors_of}
+use Rattle.journal.specs.Sectors.{version_of}
 use Rattle.image_calls.specs.Images.{Makes, IsLaidOn, IsLayFault, IsMigratedOn, IsMigrateFault}
 use Rattle.image_calls.specs.Images.{IsWhole}
 use Rattle.image_calls.specs.Formats.{BeginsFormat, HandsOn}

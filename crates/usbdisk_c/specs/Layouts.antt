@@ -1,10 +1,10 @@
 -- What a maker is told of an image by its first sector.
 use Rattle.std.specs.Prelude.{◌≡◌, ◌⊎◌, ℕ, List}
-use Rattle.log_layout.specs.Places.{Shape, first_home, sectors_of}
-use Rattle.log_layout.specs.Sectors.{IsSuper, version_of}
-use Rattle.log_layout.specs.SuperFaults.{IsSuperFault}
-use Rattle.log_layout.specs.declared.super_fault.SuperFault.{SuperFault}
-use Rattle.log_layout.specs.declared.super_fault.SuperFault.TheVariants as super
+use Rattle.journal.specs.Places.{Shape, first_home, sectors_of}
+use Rattle.journal.specs.Sectors.{IsSuper, version_of}
+use Rattle.journal.specs.SuperFaults.{IsSuperFault}
+use Rattle.journal.specs.declared.super_fault.SuperFault.{SuperFault}
+use Rattle.journal.specs.declared.super_fault.SuperFault.TheVariants as super
 use Rattle.recovery.specs.declared.start_fault.StartFault.TheVariants as fault
 use Rattle.usbdisk_c.specs.Codes.{number_of}
 use Rattle.usbdisk_c.specs.declared.look.UsbDiskLayout.{UsbDiskLayout}

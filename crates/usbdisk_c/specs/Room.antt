@@ -1,8 +1,8 @@
 -- How many calls an outbox must have room for, and how much memory a disk takes.
 use Rattle.std.specs.Prelude.{◌≡◌, ◌≢◌, ◌≤◌, ◌<◌, ◌⊎◌, ℕ, ◌+◌, ◌*◌, ◌^◌, max}
-use Rattle.log_layout.specs.Places.{Shape, limit_of}
-use Rattle.log_layout.specs.declared.log_format.LogFormat.{LogFormat}
-use Rattle.log_layout.specs.declared.log_format.LogFormat.TheVariants.{One, Two}
+use Rattle.journal.specs.Places.{Shape, limit_of}
+use Rattle.journal.specs.declared.log_format.LogFormat.{LogFormat}
+use Rattle.journal.specs.declared.log_format.LogFormat.TheVariants.{One, Two}
 use Rattle.recovery.specs.Copies.{most_start_sends}
 use Rattle.scsi_unit.specs.Calls.{most_sends_of}
 

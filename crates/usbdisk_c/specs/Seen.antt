@@ -1,5 +1,5 @@
 -- What is seen of a disk over a medium that reads on demand.
-use Rattle.log_layout.specs.Places.{Shape}
+use Rattle.journal.specs.Places.{Shape}
 use Rattle.window.specs.Window.{Window}
 use Rattle.scsi_unit.specs.Starting.{layout_of}
 use Rattle.usbdisk_c.specs.DiskRow.{disk_row}

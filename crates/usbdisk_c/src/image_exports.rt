@@ -5,7 +5,7 @@ ghost use Rattle.usbdisk_c.specs.ImageExports.{HandsOver, Ends};
 
 use crate::codes::{ACK, BAD_LENGTH, BAD_SIZES, EMPTY, STARTED, number_of};
 use image_calls::{ImageFault, UsbDiskImage, end, format_in, lay_in, migrate_in, next_call};
-use log_layout::LogFormat;
+use journal::LogFormat;
 use std::alloc::Global;
 use window::DeviceHolds;
 

@@ -1,12 +1,12 @@
 //! The export that tells what image a device has, from its first sector.
 ghost use Rattle.std.specs.Prelude.{◌≡◌};
-ghost use Rattle.log_layout.specs.Sectors.{version_of};
-ghost use Rattle.log_layout.specs.Values.{shape_of};
+ghost use Rattle.journal.specs.Sectors.{version_of};
+ghost use Rattle.journal.specs.Values.{shape_of};
 ghost use Rattle.usbdisk_c.specs.Layouts.{IsLayout, TellsLayout, code_of_super};
 
 use crate::codes::{ACK, number_of};
 use bot_machine::StartFault;
-use log_layout::{LogFormat, Super, SuperFault};
+use journal::{LogFormat, Super, SuperFault};
 
 /// C's `struct usbdisk_layout`.
 #[repr(C)]

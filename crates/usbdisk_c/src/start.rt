@@ -8,7 +8,7 @@ ghost use Rattle.spec.specs.Identification.{IsLegible};
 
 use crate::codes::{BAD_IDENTITY, BAD_LENGTH, BAD_PACKET_SIZE, LITTLE_ROOM, number_of};
 use bot_machine::{Disk, Identity, PacketSize, Retiring, StartFault};
-use log_layout::Super;
+use journal::Super;
 use mirror::device_laws;
 use std::alloc::Global;
 use store_calls::{CallFault, has_little_room, window_of};

@@ -1,11 +1,10 @@
 //! Images on a medium in memory.
 ghost use Rattle.std.specs.Prelude.{◌≤◌};
-ghost use Rattle.log_layout.specs.Places.{limit_of};
+ghost use Rattle.journal.specs.Places.{limit_of};
 
 use crate::answer::Answer;
 use crate::call::Call;
-use log_image::{part, parts, read_copy, slot_place};
-use log_layout::{LogFormat, Super};
+use journal::{LogFormat, Super, part, parts, read_copy, slot_place};
 use medium::{Medium, MediumFault, SimMedium};
 use recovery::{format, format2};
 

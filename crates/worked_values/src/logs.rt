@@ -5,7 +5,7 @@ use crate::images::FORMATS;
 use crate::play::Player;
 use crate::recorder::Recorder;
 use crate::ring::Ring;
-use log_layout::LogFormat;
+use journal::LogFormat;
 use medium::SimMedium;
 use std::alloc::Global;
 

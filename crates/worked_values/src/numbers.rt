@@ -2,7 +2,7 @@
 use crate::answer::Answer;
 use crate::call::Call;
 use blocks::StoreFault;
-use log_layout::SuperFault;
+use journal::SuperFault;
 use medium::{FileError, MediumFault, SimError};
 use recovery::{FormatFault, StartFault};
 use redo_log::LogFault;

@@ -1,14 +1,14 @@
 //! A redo log that fits its medium.
 ghost use Rattle.std.specs.Prelude.{◌≡◌, ◌≤◌, ◌<◌, ◌*◌, ◌↔◌, length, All, IsTrue, false};
-ghost use Rattle.log_layout.specs.Places.{sectors_of};
-ghost use Rattle.log_layout.specs.Sectors.{IsRising};
+ghost use Rattle.journal.specs.Places.{sectors_of};
+ghost use Rattle.journal.specs.Sectors.{IsRising};
 ghost use Rattle.medium.specs.Sim.{state_of};
 
 use crate::answer::Answer;
 use crate::call::Call;
 use crate::media::look;
 use crate::recorder::{Called, Recorder};
-use log_layout::{LogFormat, Super, are_rising};
+use journal::{LogFormat, Super, are_rising};
 use medium::{Medium, SimMedium, Switch};
 use redo_log::{Log, LogFault, Progress};
 use std::alloc::Global;

@@ -1,5 +1,5 @@
 use Rattle.std.proofs.Common.{◌≡◌, ◌⊎◌, ◌<◌, None, length}
-use Rattle.log_layout.specs.Places.{Shape}
+use Rattle.journal.specs.Places.{Shape}
 use Rattle.window.specs.Window.{Window, ComesAfter}
 use Rattle.image_calls.specs.Formats.{IsFormatting}
 use Rattle.image_calls.specs.Parts.{parts_left}

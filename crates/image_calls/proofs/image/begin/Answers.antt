@@ -1,6 +1,6 @@
 use Rattle.std.proofs.Common.{◌∙◌, ◌+◌, ◌*◌, ℕ, refl, ap}
 use Rattle.std.proofs.lemmas.Result.{IfOk-weaker}
-use Rattle.log_layout.specs.Places.{new_shape, slot_sectors_of}
+use Rattle.journal.specs.Places.{new_shape, slot_sectors_of}
 use Rattle.window.specs.Window.{Window, fresh}
 use Rattle.image_calls.proofs.Laid.{begins}
 use Rattle.image_calls.proofs.image.begin.Goals as goal

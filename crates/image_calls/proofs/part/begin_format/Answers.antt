@@ -1,5 +1,5 @@
 use Rattle.std.proofs.Common.{ℕ, sym, ap, refl, subst}
-use Rattle.log_layout.specs.Places.{Shape, new_shape, first_home}
+use Rattle.journal.specs.Places.{Shape, new_shape, first_home}
 use Rattle.recovery.specs.Formatted.{AreSizes}
 use Rattle.image_calls.specs.Parts.{IsUnderWay}
 use Rattle.image_calls.proofs.OnWay.{begun}

@@ -1,5 +1,5 @@
 use Rattle.std.proofs.Common.{◌≡◌, ◌∙◌, sym, ap, subst, arith}
-use Rattle.log_layout.specs.Places.{Shape, new_shape, first_home, sectors_of}
+use Rattle.journal.specs.Places.{Shape, new_shape, first_home, sectors_of}
 use Rattle.recovery.specs.Formatted.{IsLaid, LayingLeaves}
 use Rattle.image_calls.proofs.OnWay.{cleared, made}
 use Rattle.image_calls.proofs.part.next_part.Goals as goal

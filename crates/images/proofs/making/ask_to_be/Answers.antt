@@ -1,6 +1,6 @@
 use Rattle.std.proofs.Common.{ℕ, [], ◌∷◌, refl, subst}
 use Rattle.mirror.specs.declared.call.DeviceCall.TheVariants.{Write, Flush}
-use Rattle.log_layout.specs.Sectors.{IsHead}
+use Rattle.journal.specs.Sectors.{IsHead}
 use Rattle.std.specs.Prelude.{is_ok}
 use Rattle.images.proofs.InOrder.{went_none, went_on, ended}
 use Rattle.images.proofs.making.ask_to_be.Goals as goal

@@ -1,10 +1,10 @@
 use Rattle.std.proofs.Common.{◌≡◌, ◌∙◌, ◌+◌, ◌<◌, List, ℕ, [], length, get_or, refl, sym, ap, arith, rules}
 use Rattle.std.proofs.lemmas.List.{take_all}
 use Rattle.medium.specs.Sent.{sent}
-use Rattle.log_layout.specs.Places.{first_home}
-use Rattle.log_layout.specs.Values.{shape_of}
-use Rattle.log_image.specs.Record.{Entry, with_records, home_of}
-use Rattle.log_image.specs.Formats.{IsWhole}
+use Rattle.journal.specs.Places.{first_home}
+use Rattle.journal.specs.Values.{shape_of}
+use Rattle.journal.specs.Record.{Entry, with_records, home_of}
+use Rattle.journal.specs.Formats.{IsWhole}
 use Rattle.recovery.specs.Copies.{copy_calls, IsHomeInRecord, IsHomeInRecords}
 use Rattle.recovery.proofs.Copying.{none_copied, copies_joined, record_home, one_more_home, not_in_log, whole_same, home_same}
 use Rattle.recovery.proofs.Copying.{copy_calls-more}

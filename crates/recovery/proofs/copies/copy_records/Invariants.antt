@@ -1,10 +1,10 @@
 use Rattle.std.proofs.Common.{◌≡◌, ◌<◌, ◌≤◌, ◌+◌, ◌*◌, List, ℕ, length, take, get_or, []}
 use Rattle.medium.specs.Medium.{LooksOnly}
 use Rattle.medium.specs.Moments.{StaysWithin}
-use Rattle.log_layout.specs.Places.{first_home, limit_of}
-use Rattle.log_layout.specs.Values.{shape_of}
-use Rattle.log_image.specs.Record.{Entry, with_records, home_of}
-use Rattle.log_image.specs.Formats.{IsWhole}
+use Rattle.journal.specs.Places.{first_home, limit_of}
+use Rattle.journal.specs.Values.{shape_of}
+use Rattle.journal.specs.Record.{Entry, with_records, home_of}
+use Rattle.journal.specs.Formats.{IsWhole}
 use Rattle.recovery.specs.Copies.{freed_at, copy_calls, most_calls_of, IsHomeInRecords}
 use Rattle.medium.specs.Sent.{SendsUpTo}
 use Rattle.recovery.proofs.copies.copy_records.Given as goal

@@ -1,7 +1,7 @@
 use Rattle.std.proofs.Common.{◌≡◌, ◌≢◌, ◌<◌, inl, inr, ◌∙◌, ◌+◌, ◌*◌, ℕ, get_or, refl, sym, ap, arith, rules}
 use Rattle.std.proofs.lemmas.Bool.{cases_eq}
-use Rattle.log_layout.specs.Places.{first_home}
-use Rattle.log_layout.specs.Values.{shape_of}
+use Rattle.journal.specs.Places.{first_home}
+use Rattle.journal.specs.Values.{shape_of}
 use Rattle.recovery.specs.Copies.{IsHomeOf}
 use Rattle.recovery.proofs.Copying.{none_copied, copies_joined}
 use Rattle.recovery.proofs.WholeOne.{slot_one}

@@ -1,8 +1,8 @@
 use Rattle.std.proofs.Common.{◌≡◌, ◌<◌, ◌+◌, ◌*◌, ℕ, get_or}
 use Rattle.medium.specs.Medium.{LooksOnly}
 use Rattle.medium.specs.Moments.{StaysWithin}
-use Rattle.log_layout.specs.Places.{first_home}
-use Rattle.log_layout.specs.Values.{shape_of}
+use Rattle.journal.specs.Places.{first_home}
+use Rattle.journal.specs.Values.{shape_of}
 use Rattle.recovery.specs.Copies.{freed_at, IsHomeOf}
 use Rattle.medium.specs.Sent.{SendsUpTo}
 use Rattle.recovery.proofs.copies_one.copy_blocks.Given as goal

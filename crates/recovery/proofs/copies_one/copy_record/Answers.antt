@@ -1,12 +1,12 @@
 use Rattle.std.proofs.Common.{◌≡◌, ◌∙◌, ◌+◌, ◌*◌, ◌%◌, ◌<◌, List, ℕ, length, sym, ap, subst, arith, rules, Result, Ok, Err}
 use Rattle.std.specs.Prelude.{All, IfSome, IsSomeAnd, OnOk}
 use Rattle.std.proofs.lemmas.Nat.{mod_below}
-use Rattle.log_layout.specs.Places.{first_home}
-use Rattle.log_layout.specs.Values.{shape_of}
-use Rattle.log_layout.specs.Sectors.{IsRising}
-use Rattle.log_image.specs.Record.{Entry, numbers_of}
-use Rattle.log_image.specs.Formats.{IsWhole}
-use Rattle.log_image.proofs.ReadingOne.{place_there}
+use Rattle.journal.specs.Places.{first_home}
+use Rattle.journal.specs.Values.{shape_of}
+use Rattle.journal.specs.Sectors.{IsRising}
+use Rattle.journal.specs.Record.{Entry, numbers_of}
+use Rattle.journal.specs.Formats.{IsWhole}
+use Rattle.journal.proofs.ReadingOne.{place_there}
 use Rattle.recovery.specs.Copies.{calls_of, IsHomeOf, IsHomeInRecord}
 use Rattle.recovery.proofs.Copying.{quiet_within, copies_joined, number_of, long_as}
 use Rattle.recovery.proofs.WholeOne.{as_one}

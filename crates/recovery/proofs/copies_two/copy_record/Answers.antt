@@ -1,10 +1,10 @@
 use Rattle.std.proofs.Common.{◌≡◌, ◌<◌, inl, inr, ◌∙◌, ◌+◌, ◌*◌, ℕ, [], length, get_or, ap, subst, arith, rules}
 use Rattle.std.specs.Prelude.{IfSome}
 use Rattle.std.proofs.lemmas.Bool.{cases_lt}
-use Rattle.log_layout.specs.SectorsTwo.{descriptors_of, IsDescriptorTwo, IsCommitTwo}
+use Rattle.journal.specs.SectorsTwo.{descriptors_of, IsDescriptorTwo, IsCommitTwo}
 use Rattle.medium.proofs.Sending.{none_sent}
-use Rattle.log_layout.specs.Places.{first_home}
-use Rattle.log_layout.specs.Values.{shape_of}
+use Rattle.journal.specs.Places.{first_home}
+use Rattle.journal.specs.Values.{shape_of}
 use Rattle.recovery.specs.Copies.{calls_of, IsHomeOf, IsHomeInRecord}
 use Rattle.recovery.proofs.Copying.{quiet_within, copies_joined}
 use Rattle.recovery.proofs.Homing.{stands, counted, not_counted, named, not_named, length_named, inside_named, home_named, apart}

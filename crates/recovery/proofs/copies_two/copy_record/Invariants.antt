@@ -2,10 +2,10 @@ use Rattle.std.proofs.Common.{◌≡◌, ◌<◌, ◌+◌, ◌*◌, ℕ, List, [
 use Rattle.std.specs.Prelude.{min}
 use Rattle.medium.specs.Medium.{LooksOnly}
 use Rattle.medium.specs.Moments.{StaysWithin}
-use Rattle.log_layout.specs.Places.{first_home}
-use Rattle.log_layout.specs.Values.{shape_of}
-use Rattle.log_image.specs.Record.{Entry, block_of}
-use Rattle.log_image.specs.Formats.{IsWhole}
+use Rattle.journal.specs.Places.{first_home}
+use Rattle.journal.specs.Values.{shape_of}
+use Rattle.journal.specs.Record.{Entry, block_of}
+use Rattle.journal.specs.Formats.{IsWhole}
 use Rattle.recovery.specs.Copies.{freed_at, IsHomeInRecord}
 use Rattle.medium.specs.Sent.{SendsUpTo}
 use Rattle.recovery.proofs.copies_two.copy_record.Given as goal

@@ -1,5 +1,5 @@
-use Rattle.log_layout.specs.Places.{new_shape}
-use Rattle.log_layout.specs.Values.{shape_of}
+use Rattle.journal.specs.Places.{new_shape}
+use Rattle.journal.specs.Values.{shape_of}
 use Rattle.recovery.proofs.Made.{format_made, format_leaves}
 use Rattle.recovery.proofs.formatting.make.Goals as goal
 

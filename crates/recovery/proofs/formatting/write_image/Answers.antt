@@ -2,8 +2,8 @@ use Rattle.std.proofs.Common.{◌≡◌, ◌≤◌, ◌<◌, ◌∙◌, ℕ, ref
 use Rattle.std.specs.Prelude.{replicate}
 use Rattle.medium.proofs.Sparing.{spared_joined}
 use Rattle.std.proofs.lemmas.Result.{on_ok_weaker}
-use Rattle.log_layout.specs.Sectors.{IsSuper, IsHead}
-use Rattle.log_layout.specs.Values.{shape_of}
+use Rattle.journal.specs.Sectors.{IsSuper, IsHead}
+use Rattle.journal.specs.Values.{shape_of}
 use Rattle.recovery.proofs.Zeros.{made_from, home_made}
 use Rattle.recovery.proofs.Making.{through_spares, clear_spares, first_leaves, then_leaves, clear_leaves, head_leaves, none_leaves}
 use Rattle.recovery.proofs.Making.{super_leaves}

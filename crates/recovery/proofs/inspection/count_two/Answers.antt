@@ -1,9 +1,9 @@
 use Rattle.std.proofs.Common.{◌≡◌, ◌+◌, ◌*◌, length, sym, subst}
 use Rattle.std.proofs.lemmas.Result.{IfOk-weaker}
 use Rattle.medium.specs.Medium.{Image}
-use Rattle.log_layout.specs.SectorsTwo.{IsCommitTwo}
-use Rattle.log_layout.specs.Values.{shape_of}
-use Rattle.log_image.specs.Record.{numbers_of}
+use Rattle.journal.specs.SectorsTwo.{IsCommitTwo}
+use Rattle.journal.specs.Values.{shape_of}
+use Rattle.journal.specs.Record.{numbers_of}
 use Rattle.recovery.proofs.WholeTwo.{two_says}
 use Rattle.recovery.proofs.Looking.{counted_two}
 use Rattle.recovery.proofs.inspection.count_two.Goals as goal

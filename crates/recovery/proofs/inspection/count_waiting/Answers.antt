@@ -2,7 +2,7 @@ use Rattle.std.proofs.Common.{◌≡◌, ◌∙◌, ◌+◌, ◌∷◌, [], leng
 use Rattle.std.proofs.lemmas.List.{length-append}
 use Rattle.medium.specs.Medium.{Image}
 use Rattle.medium.proofs.Moments.{quiet_joined}
-use Rattle.log_layout.specs.Values.{shape_of}
+use Rattle.journal.specs.Values.{shape_of}
 use Rattle.recovery.proofs.Finding.{has_whole_same}
 use Rattle.recovery.proofs.Looking.{HasCount, counts_made, one_counted}
 use Rattle.recovery.proofs.inspection.count_waiting.Goals as goal

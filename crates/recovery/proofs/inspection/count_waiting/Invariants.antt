@@ -1,9 +1,9 @@
 use Rattle.std.proofs.Common.{◌≡◌, ◌<◌, ◌≤◌, ◌+◌, ◌*◌, ℕ, List, length}
 use Rattle.std.specs.Prelude.{slice_index}
 use Rattle.medium.specs.Moments.{IsQuiet}
-use Rattle.log_layout.specs.Values.{shape_of}
-use Rattle.log_image.specs.Record.{Entry}
-use Rattle.log_image.specs.Formats.{IsWhole}
+use Rattle.journal.specs.Values.{shape_of}
+use Rattle.journal.specs.Record.{Entry}
+use Rattle.journal.specs.Formats.{IsWhole}
 use Rattle.recovery.specs.Causes.{MakesReadsAlone}
 use Rattle.recovery.proofs.inspection.count_waiting.Given as goal
 

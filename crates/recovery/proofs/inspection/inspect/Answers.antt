@@ -1,8 +1,8 @@
 use Rattle.std.proofs.Common.{◌∙◌, subst, arith}
 use Rattle.std.proofs.lemmas.Result.{err_from_is_err_and}
 use Rattle.medium.proofs.Moments.{quiet_call, quiet_joined}
-use Rattle.log_layout.specs.Sectors.{IsHead}
-use Rattle.log_layout.specs.Values.{shape_of}
+use Rattle.journal.specs.Sectors.{IsHead}
+use Rattle.journal.specs.Values.{shape_of}
 use Rattle.recovery.proofs.Looking.{counts_stand, counts_before, refused_look}
 use Rattle.recovery.proofs.inspection.inspect.Goals as goal
 

@@ -1,6 +1,6 @@
 use Rattle.std.proofs.Common.{refl}
-use Rattle.log_layout.specs.Places.{new_shape}
-use Rattle.log_layout.specs.Values.{shape_of}
+use Rattle.journal.specs.Places.{new_shape}
+use Rattle.journal.specs.Values.{shape_of}
 use Rattle.recovery.proofs.Made.{laying_made, laying_leaves}
 use Rattle.recovery.proofs.laying.lay_log.Goals as goal
 

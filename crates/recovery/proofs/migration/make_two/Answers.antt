@@ -1,10 +1,10 @@
 use Rattle.std.proofs.Common.{◌≡◌, ℕ, ap, subst, ◌∙◌, arith}
 use Rattle.medium.specs.Moments.{StaysWithin, SparesFrom}
 use Rattle.medium.proofs.Sparing.{spared_behind, spared_joined}
-use Rattle.log_layout.specs.declared.log_format.LogFormat.{LogFormat}
-use Rattle.log_layout.specs.Places.{Shape, IsFirstHome}
-use Rattle.log_layout.specs.Sectors.{IsSuper}
-use Rattle.log_layout.specs.Values.{shape_of}
+use Rattle.journal.specs.declared.log_format.LogFormat.{LogFormat}
+use Rattle.journal.specs.Places.{Shape, IsFirstHome}
+use Rattle.journal.specs.Sectors.{IsSuper}
+use Rattle.journal.specs.Values.{shape_of}
 use Rattle.recovery.specs.Copies.{cleared_at, IsBetween}
 use Rattle.recovery.proofs.Copying.{log_ends}
 use Rattle.recovery.proofs.Making.{clear_spares, through_spares}

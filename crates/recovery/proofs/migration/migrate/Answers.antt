@@ -1,9 +1,9 @@
 use Rattle.std.proofs.Common.{◌≡◌, refl, subst}
 use Rattle.std.proofs.lemmas.Result.{err_from_is_err_and}
 use Rattle.medium.specs.Moments.{EachCut}
-use Rattle.log_layout.specs.Places.{Shape}
-use Rattle.log_layout.specs.Values.{shape_of}
-use Rattle.log_layout.proofs.Decoding.{IsSuper-one}
+use Rattle.journal.specs.Places.{Shape}
+use Rattle.journal.specs.Values.{shape_of}
+use Rattle.journal.proofs.Decoding.{IsSuper-one}
 use Rattle.recovery.specs.Causes.{start_fault_of}
 use Rattle.recovery.specs.Migrated.{IsMigrationRefusal}
 use Rattle.recovery.specs.Recovered.{IsFresh}

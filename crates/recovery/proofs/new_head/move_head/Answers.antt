@@ -1,5 +1,5 @@
 use Rattle.std.proofs.Common.{ℕ, ◌∙◌, inr, subst, arith, rules}
-use Rattle.log_layout.specs.Sectors.{IsHead}
+use Rattle.journal.specs.Sectors.{IsHead}
 use Rattle.medium.proofs.Sparing.{spared_silent, spared_write, spared_joined}
 use Rattle.recovery.proofs.Moving.{head_written, head_flushed}
 use Rattle.recovery.proofs.new_head.move_head.Goals as goal

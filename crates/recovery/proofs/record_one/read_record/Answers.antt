@@ -1,10 +1,10 @@
 use Rattle.std.proofs.Common.{◌≡◌, ◌∙◌, ◌+◌, ◌*◌, ◌%◌, ◌<◌, ℕ, Option, Some, None, IfSome, length, sym, ap, subst, arith}
 use Rattle.std.proofs.lemmas.Nat.{mod_below}
-use Rattle.log_layout.specs.Places.{first_home}
-use Rattle.log_layout.specs.Values.{shape_of}
-use Rattle.log_layout.specs.Sectors.{IsDescriptor, IsCommit}
-use Rattle.log_image.specs.Record.{entries_in, numbers_of}
-use Rattle.log_image.proofs.ReadingOne.{descriptor_there, numbers_of-entries_in}
+use Rattle.journal.specs.Places.{first_home}
+use Rattle.journal.specs.Values.{shape_of}
+use Rattle.journal.specs.Sectors.{IsDescriptor, IsCommit}
+use Rattle.journal.specs.Record.{entries_in, numbers_of}
+use Rattle.journal.proofs.ReadingOne.{descriptor_there, numbers_of-entries_in}
 use Rattle.recovery.proofs.WholeOne.{as_one, of_one, slot_one, whole_in, commit_there}
 use Rattle.medium.proofs.Looking.{looks_joined, look_below}
 use Rattle.recovery.proofs.Sighting.{within_one}

@@ -1,6 +1,6 @@
 use Rattle.std.proofs.Common.{◌≡◌, ◌∙◌, ◌<◌, ◌+◌, ◌*◌, ℕ, List, inl, inr, refl, sym, ap, subst, arith}
-use Rattle.log_layout.specs.SectorsTwo.{place_bytes}
-use Rattle.log_image.specs.SlotTwo.{HasPlaces}
+use Rattle.journal.specs.SectorsTwo.{place_bytes}
+use Rattle.journal.specs.SlotTwo.{HasPlaces}
 use Rattle.recovery.specs.Tries.{HasPlace}
 use Rattle.recovery.proofs.WholeTwo.{untrue}
 use Rattle.medium.proofs.Looking.{looks_joined, look_below}

@@ -2,7 +2,7 @@ use Rattle.std.proofs.Common.{◌≡◌, ◌<◌, ◌+◌, ◌*◌}
 use Rattle.medium.specs.Medium.{LooksOnly}
 use Rattle.medium.specs.Moments.{IsQuiet}
 use Rattle.recovery.specs.Causes.{MakesReadsAlone}
-use Rattle.log_image.specs.SlotTwo.{HasPlaces}
+use Rattle.journal.specs.SlotTwo.{HasPlaces}
 use Rattle.recovery.proofs.record_two.are_stamped.Given as goal
 
 abbrev pub invariant-loop-i : goal.invariant-loop-i

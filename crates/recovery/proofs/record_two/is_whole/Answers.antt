@@ -4,12 +4,12 @@ use Rattle.std.proofs.lemmas.Nat.{mod_below}
 use Rattle.std.proofs.lemmas.Result.{IfOk-weaker}
 use Rattle.medium.specs.Medium.{Image}
 use Rattle.medium.proofs.Moments.{quiet_joined}
-use Rattle.log_layout.specs.Sectors.{IsRising}
-use Rattle.log_layout.specs.SectorsTwo.{descriptors_of, IsCommitTwo}
-use Rattle.log_layout.specs.Places.{first_home}
-use Rattle.log_layout.specs.Values.{shape_of}
-use Rattle.log_image.specs.Record.{numbers_of}
-use Rattle.log_image.specs.SlotTwo.{HasDescriptors, HasPlaces}
+use Rattle.journal.specs.Sectors.{IsRising}
+use Rattle.journal.specs.SectorsTwo.{descriptors_of, IsCommitTwo}
+use Rattle.journal.specs.Places.{first_home}
+use Rattle.journal.specs.Values.{shape_of}
+use Rattle.journal.specs.Record.{numbers_of}
+use Rattle.journal.specs.SlotTwo.{HasDescriptors, HasPlaces}
 use Rattle.recovery.specs.Tries.{StopsAtBad, ReadsUpToBad, HasDescriptor, HasPlace}
 use Rattle.recovery.proofs.Counting.{each_there, names_these, try_at}
 use Rattle.recovery.proofs.WholeTwo.{untrue, slot_two, two_whole, two_says}

@@ -3,7 +3,7 @@ use Rattle.std.specs.Prelude.{IfSome, IsSomeAnd}
 use Rattle.std.proofs.Math.Seq.{take-add}
 use Rattle.std.proofs.lemmas.List.{length-append}
 use Rattle.medium.proofs.Moments.{quiet_joined}
-use Rattle.log_layout.specs.SectorsTwo.{descriptors_of, IsDescriptorTwo}
+use Rattle.journal.specs.SectorsTwo.{descriptors_of, IsDescriptorTwo}
 use Rattle.recovery.proofs.Naming.{described_more}
 use Rattle.medium.proofs.Looking.{looks_joined}
 use Rattle.recovery.proofs.record_two.read_numbers.Goals as goal

@@ -2,8 +2,8 @@ use Rattle.std.proofs.Common.{◌≡◌, ◌<◌, ◌+◌, ◌*◌, ℕ, List, l
 use Rattle.std.specs.Prelude.{min}
 use Rattle.medium.specs.Medium.{LooksOnly}
 use Rattle.medium.specs.Moments.{IsQuiet}
-use Rattle.log_layout.specs.SectorsTwo.{IsDescriptorTwo}
-use Rattle.log_image.specs.SlotTwo.{HasDescriptors}
+use Rattle.journal.specs.SectorsTwo.{IsDescriptorTwo}
+use Rattle.journal.specs.SlotTwo.{HasDescriptors}
 use Rattle.recovery.specs.Causes.{MakesReadsAlone}
 use Rattle.recovery.proofs.record_two.read_numbers.Given as goal
 

@@ -3,7 +3,7 @@ use Rattle.std.proofs.lemmas.Result.{err_from_is_err_and}
 use Rattle.medium.proofs.Moments.{quiet_call, quiet_joined}
 use Rattle.medium.proofs.Sending.{none_sent, flush_sends}
 use Rattle.medium.proofs.Sparing.{spared_quiet}
-use Rattle.log_layout.specs.Values.{shape_of}
+use Rattle.journal.specs.Values.{shape_of}
 use Rattle.recovery.proofs.Causes.{few_after, refusal_before}
 use Rattle.recovery.proofs.Copying.{log_ends}
 use Rattle.recovery.proofs.Finding.{has_whole_same, found_before}

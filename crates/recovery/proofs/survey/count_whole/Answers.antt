@@ -3,9 +3,9 @@ use Rattle.std.specs.Prelude.{min}
 use Rattle.std.proofs.lemmas.Bool.{cases_eq}
 use Rattle.medium.specs.Medium.{Image}
 use Rattle.medium.proofs.Moments.{quiet_start, quiet_joined}
-use Rattle.log_layout.specs.Places.{first_home}
-use Rattle.log_layout.specs.Values.{shape_of}
-use Rattle.log_image.specs.Formats.{HasWhole}
+use Rattle.journal.specs.Places.{first_home}
+use Rattle.journal.specs.Values.{shape_of}
+use Rattle.journal.specs.Formats.{HasWhole}
 use Rattle.recovery.proofs.Finding.{has_whole_same}
 use Rattle.recovery.specs.Tries.{IsTryOf, AreTries}
 use Rattle.recovery.proofs.Trying.{no_tries, tries_more, no_reads, reads_more, reads_stay}

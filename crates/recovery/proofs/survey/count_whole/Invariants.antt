@@ -1,9 +1,9 @@
 use Rattle.std.proofs.Common.{◌<◌, ◌≤◌, ◌+◌, ◌*◌, ℕ}
 use Rattle.medium.specs.Medium.{LooksOnly}
 use Rattle.medium.specs.Moments.{IsQuiet}
-use Rattle.log_layout.specs.Places.{first_home}
-use Rattle.log_layout.specs.Values.{shape_of}
-use Rattle.log_image.specs.Formats.{HasWhole}
+use Rattle.journal.specs.Places.{first_home}
+use Rattle.journal.specs.Values.{shape_of}
+use Rattle.journal.specs.Formats.{HasWhole}
 use Rattle.recovery.specs.Causes.{MakesReadsAlone}
 use Rattle.recovery.specs.Copies.{most_reads_of}
 use Rattle.recovery.specs.Tries.{AreTries}

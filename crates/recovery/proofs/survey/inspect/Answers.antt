@@ -3,11 +3,11 @@ use Rattle.std.specs.Prelude.{min}
 use Rattle.std.proofs.lemmas.Result.{err_from_is_err_and}
 use Rattle.medium.specs.Medium.{Image}
 use Rattle.medium.proofs.Moments.{quiet_call, quiet_joined}
-use Rattle.log_layout.specs.Places.{first_home}
-use Rattle.log_layout.specs.Values.{shape_of}
-use Rattle.log_layout.specs.Sectors.{IsHead}
-use Rattle.log_layout.proofs.Decoding.{IsSuper-one}
-use Rattle.log_image.proofs.StandingLaws.{IsCount-same, count_stands}
+use Rattle.journal.specs.Places.{first_home}
+use Rattle.journal.specs.Values.{shape_of}
+use Rattle.journal.specs.Sectors.{IsHead}
+use Rattle.journal.proofs.Decoding.{IsSuper-one}
+use Rattle.journal.proofs.StandingLaws.{IsCount-same, count_stands}
 use Rattle.recovery.specs.Tries.{AreTries}
 use Rattle.recovery.proofs.Causes.{enough_slots}
 use Rattle.recovery.proofs.Looking.{look_refusal}

@@ -1,12 +1,12 @@
 use Rattle.std.proofs.Common.{◌≡◌, ◌⊎◌, inl, inr, ⊎_elim, ℕ, ◌<◌, ◌≤◌, length, sym, ◌∙◌, ap, subst, arith}
 use Rattle.std.specs.Prelude.{Bool, false, IsTrue}
 use Rattle.std.proofs.lemmas.Bool.{cases_lt}
-use Rattle.log_layout.specs.Values.{shape_of}
-use Rattle.log_image.specs.Record.{entries_of}
-use Rattle.log_image.specs.Layout.{Layout, part_at}
-use Rattle.log_image.specs.Formats.{layout_of}
-use Rattle.log_image.proofs.Batching.{length_of_batch}
-use Rattle.log_image.proofs.Formats.{laws_of, most_is}
+use Rattle.journal.specs.Values.{shape_of}
+use Rattle.journal.specs.Record.{entries_of}
+use Rattle.journal.specs.Layout.{Layout, part_at}
+use Rattle.journal.specs.Formats.{layout_of}
+use Rattle.journal.proofs.Batching.{length_of_batch}
+use Rattle.journal.proofs.Formats.{laws_of, most_is}
 use Rattle.redo_log.specs.Stages.{written_at}
 use Rattle.redo_log.specs.Calls.{Write, Flush, IsFlushDue}
 use Rattle.redo_log.proofs.Laying.{before_home}

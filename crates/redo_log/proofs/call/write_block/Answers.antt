@@ -1,5 +1,5 @@
 use Rattle.std.proofs.Common.{sym, subst}
-use Rattle.log_layout.specs.declared.log_format.LogFormat.{LogFormat}
+use Rattle.journal.specs.declared.log_format.LogFormat.{LogFormat}
 use Rattle.redo_log.specs.Calls.{Write, placed, MakesCall}
 use Rattle.redo_log.proofs.Writing.{write_makes}
 use Rattle.redo_log.proofs.call.write_block.Goals as goal

@@ -1,11 +1,11 @@
 use Rattle.std.proofs.Common.{◌≡◌, ℕ, ◌+◌, ◌*◌, ◌-◌, ◌%◌, ◌<◌, ◌≤◌, length, ◌∙◌, ap, arith}
-use Rattle.log_layout.specs.declared.log_format.LogFormat.{LogFormat}
-use Rattle.log_layout.specs.declared.log_format.LogFormat.TheVariants.{One, Two}
-use Rattle.log_layout.specs.declared.super_sector.Super.{Super}
-use Rattle.log_layout.specs.Places.{limit_of, IsFirstHome}
-use Rattle.log_layout.specs.Values.{shape_of}
-use Rattle.log_image.specs.Formats.{layout_of}
-use Rattle.log_image.proofs.Formats.{laws_of, most_is}
+use Rattle.journal.specs.declared.log_format.LogFormat.{LogFormat}
+use Rattle.journal.specs.declared.log_format.LogFormat.TheVariants.{One, Two}
+use Rattle.journal.specs.declared.super_sector.Super.{Super}
+use Rattle.journal.specs.Places.{limit_of, IsFirstHome}
+use Rattle.journal.specs.Values.{shape_of}
+use Rattle.journal.specs.Formats.{layout_of}
+use Rattle.journal.proofs.Formats.{laws_of, most_is}
 use Rattle.redo_log.proofs.Laying.{before_home}
 use Rattle.redo_log.proofs.Closing.{sizes_sized}
 use Rattle.redo_log.proofs.Writing.{parts_more, block_makes}

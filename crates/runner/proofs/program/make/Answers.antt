@@ -2,7 +2,7 @@ use Rattle.std.proofs.Common.{◌≡◌, ◌⊎◌, ◌↔◌, ℕ, List, Option
 use Rattle.std.proofs.KnownBytes.{Keeps-refl}
 use Rattle.runner.specs.declared.refusal.Refusal.{Refusal}
 use Rattle.runner.specs.declared.refusal.Refusal.TheVariants.{ImageSize, File, NoMemory}
-use Rattle.log_layout.specs.declared.log_format.LogFormat.{LogFormat}
+use Rattle.journal.specs.declared.log_format.LogFormat.{LogFormat}
 use Rattle.runner.specs.Program.{AreImageSizes, IsFormatRefused}
 use Rattle.runner.proofs.Taken.{if-err}
 use Rattle.runner.proofs.program.make.Goals as goal

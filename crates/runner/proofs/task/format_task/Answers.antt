@@ -1,5 +1,5 @@
 use Rattle.std.proofs.Common.{◌≡◌, ℕ, List, ◌∷◌, ap, sym, subst, inl, inr, map, drop, length, arith}
-use Rattle.log_layout.specs.declared.log_format.LogFormat.{LogFormat}
+use Rattle.journal.specs.declared.log_format.LogFormat.{LogFormat}
 use Rattle.spec.specs.declared.packet_size.PacketSize.{PacketSize}
 use Rattle.runner.specs.Task.{IsCommandLine, IsFormatEnding, IsPacketEnding}
 use Rattle.runner.proofs.task.format_task.Goals as goal

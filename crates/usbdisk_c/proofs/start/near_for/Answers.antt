@@ -1,6 +1,6 @@
 use Rattle.std.proofs.Common.{ℕ, List, refl, ap, subst, arith}
-use Rattle.log_layout.specs.Places.{Shape, first_home}
-use Rattle.log_layout.specs.Sectors.{IsSuper}
+use Rattle.journal.specs.Places.{Shape, first_home}
+use Rattle.journal.specs.Sectors.{IsSuper}
 use Rattle.usbdisk_c.proofs.start.near_for.Goals as goal
 
 pub returns-in-Ok : goal.returns-in-Ok

@@ -6,7 +6,7 @@ use Rattle.cache.specs.Entries.{Entries}
 use Rattle.medium.specs.Sent.{sent}
 use Rattle.redo_log.specs.Value.{LogValue, begun, steps_of, most_steps}
 use Rattle.redo_log.proofs.Counting.{few_steps_for}
-use Rattle.log_layout.specs.Places.{Shape, limit_of}
+use Rattle.journal.specs.Places.{Shape, limit_of}
 use Rattle.blocks.specs.Retiring.{written_out, finished, IsLog}
 use Rattle.blocks.specs.Flushing.{left_flushes}
 use Rattle.medium.specs.declared.fault.MediumFault.TheVariants.{Flush}

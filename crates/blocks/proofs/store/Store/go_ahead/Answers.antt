@@ -1,6 +1,6 @@
 use Rattle.std.proofs.Common.{◌≡◌, ◌≤◌, ◌+◌, ◌∙◌, ℕ, false, ap, sym, refl, subst, arith, rules}
 use Rattle.std.proofs.lemmas.Bool.{false≢true}
-use Rattle.log_layout.specs.Places.{Shape, limit_of}
+use Rattle.journal.specs.Places.{Shape, limit_of}
 use Rattle.medium.specs.Medium.{State}
 use Rattle.medium.specs.Sent.{sent}
 use Rattle.medium.specs.declared.fault.MediumFault.TheVariants.{Flush}

@@ -1,6 +1,6 @@
 use Rattle.std.proofs.Common.{◌≡◌, ◌≤◌, refl, ◌∙◌, ap, sym, subst, inl, arith, false, rules}
 use Rattle.std.proofs.lemmas.Bool.{false≢true}
-use Rattle.log_layout.specs.Places.{Shape}
+use Rattle.journal.specs.Places.{Shape}
 use Rattle.medium.specs.Sent.{sent}
 use Rattle.medium.specs.declared.fault.MediumFault.TheVariants.{Flush}
 use Rattle.redo_log.specs.Flushes.{next_turn_flushes}

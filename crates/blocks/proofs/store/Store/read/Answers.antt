@@ -1,5 +1,5 @@
 use Rattle.std.proofs.Common.{◌≡◌, ◌≤◌, ◌+◌, ◌-◌, ◌*◌, ◌/◌, length, ◌∙◌, ap, arith, subst, sym, rules}
-use Rattle.log_layout.specs.Places.{Shape}
+use Rattle.journal.specs.Places.{Shape}
 use Rattle.cache.specs.Places.{HasPlace}
 use Rattle.medium.proofs.Moments.{quiet_start, quiet_joined}
 use Rattle.spec.specs.Book.{array_of}

@@ -3,7 +3,7 @@ use Rattle.std.proofs.lemmas.Result.{on_ok_weaker}
 use Rattle.medium.specs.Medium.{LooksOnly}
 use Rattle.medium.specs.Sent.{sent}
 use Rattle.medium.proofs.Sending.{none_sent, read_sends}
-use Rattle.log_layout.specs.Places.{Shape, first_home}
+use Rattle.journal.specs.Places.{Shape, first_home}
 use Rattle.redo_log.specs.Value.{LogValue, HasNoCopy}
 use Rattle.redo_log.proofs.Handing.{home_is}
 use Rattle.blocks.specs.Calls.{durable_reads}

@@ -3,7 +3,7 @@ use Rattle.medium.specs.Medium.{LooksOnly}
 use Rattle.medium.proofs.Moments.{quiet_call}
 use Rattle.medium.specs.Sent.{sent}
 use Rattle.medium.proofs.Sending.{read_sends}
-use Rattle.log_layout.specs.Places.{Shape, first_home}
+use Rattle.journal.specs.Places.{Shape, first_home}
 use Rattle.redo_log.specs.Value.{LogValue, HasNoCopy}
 use Rattle.redo_log.proofs.Handing.{home_is}
 use Rattle.cache.specs.Entries.{map_of}

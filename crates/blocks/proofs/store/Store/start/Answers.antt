@@ -1,7 +1,7 @@
 use Rattle.std.proofs.Common.{◌≤◌, inl, inr, sym, subst, arith, false}
 use Rattle.blocks.specs.Started.{IsStarted}
-use Rattle.log_layout.specs.Places.{sectors_of}
-use Rattle.log_layout.specs.Values.{shape_of}
+use Rattle.journal.specs.Places.{sectors_of}
+use Rattle.journal.specs.Values.{shape_of}
 use Rattle.blocks.specs.Kept.{IsKept}
 use Rattle.blocks.proofs.Starting.{starts, started_kept}
 use Rattle.blocks.proofs.store.Store.start.Goals as goal

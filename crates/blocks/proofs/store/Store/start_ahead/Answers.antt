@@ -1,5 +1,5 @@
 use Rattle.std.proofs.Common.{◌≡◌, ◌∙◌, ap, sym, subst}
-use Rattle.log_layout.specs.Places.{Shape}
+use Rattle.journal.specs.Places.{Shape}
 use Rattle.blocks.specs.Ahead.{may_go_ahead}
 use Rattle.blocks.specs.Started.{IsStarted, LeavesMedium}
 use Rattle.blocks.specs.StoreValue.{Cached, layout_of}

@@ -2,7 +2,7 @@ use Rattle.std.proofs.Common.{◌≡◌, ◌∙◌, Bool, ap, sym, subst, arith,
 use Rattle.std.proofs.lemmas.Result.{on_ok_weaker}
 use Rattle.cache.specs.Entries.{Entries}
 use Rattle.redo_log.specs.Value.{LogValue}
-use Rattle.log_layout.specs.Places.{Shape}
+use Rattle.journal.specs.Places.{Shape}
 use Rattle.blocks.specs.Retiring.{finished, finish_calls, both_calls, IsLog}
 use Rattle.medium.specs.Sent.{sent}
 use Rattle.medium.specs.declared.fault.MediumFault.TheVariants.{Flush}

@@ -1,6 +1,6 @@
 use Rattle.std.proofs.Common.{◌≡◌, ◌∙◌, ◌/◌, ap, sym, subst, [], length, arith, rules}
 use Rattle.std.proofs.lemmas.Result.{err_from_is_err_and}
-use Rattle.log_layout.specs.Places.{Shape, limit_of}
+use Rattle.journal.specs.Places.{Shape, limit_of}
 use Rattle.medium.specs.Sent.{sent}
 use Rattle.cache.proofs.Arrays.{unlisted_empty}
 use Rattle.redo_log.specs.Value.{LogValue}

@@ -1,8 +1,8 @@
 use Rattle.std.proofs.Common.{◌≡◌, ◌≤◌, ◌<◌, ◌+◌, ◌*◌, ℕ, List, length, ◌∙◌, arith, ap}
 use Rattle.std.proofs.Math.Nat.{mul-le-mul_left}
-use Rattle.log_layout.specs.Places.{limit_of}
-use Rattle.log_layout.specs.Values.{shape_of}
-use Rattle.log_layout.specs.declared.log_format.LogFormat.{LogFormat}
+use Rattle.journal.specs.Places.{limit_of}
+use Rattle.journal.specs.Values.{shape_of}
+use Rattle.journal.specs.declared.log_format.LogFormat.{LogFormat}
 use Rattle.redo_log.specs.Value.{LogValue, most_retire_steps}
 use Rattle.redo_log.specs.Shown.{lists_of}
 use Rattle.redo_log.proofs.Ringing.{few_steps}

@@ -1,6 +1,6 @@
 use Rattle.std.proofs.Common.{◌≡◌, ℕ, ◌+◌, ◌<◌, length, drop, ◌∙◌, ap, arith, rules}
 use Rattle.std.proofs.lemmas.Bool.Decides.{nat_tests}
-use Rattle.log_layout.specs.Values.{shape_of}
+use Rattle.journal.specs.Values.{shape_of}
 use Rattle.redo_log.specs.Value.{turns_home}
 use Rattle.redo_log.specs.Shown.{lists_of, ahead_in}
 use Rattle.redo_log.proofs.Calling.{left_is}

@@ -1,6 +1,6 @@
 use Rattle.std.proofs.Common.{List, ◌∙◌, ap, subst}
 use Rattle.std.specs.Prelude.{MatchOption}
-use Rattle.log_layout.specs.Values.{shape_of}
+use Rattle.journal.specs.Values.{shape_of}
 use Rattle.redo_log.specs.Value.{LogValue, HasNoCopy, IsNewestCopy}
 use Rattle.redo_log.specs.Stages.{value_at}
 use Rattle.redo_log.specs.declared.index.Copied.{Copied}

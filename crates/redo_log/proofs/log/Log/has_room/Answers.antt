@@ -1,5 +1,5 @@
 use Rattle.redo_log.specs.Shown.{lists_of, ahead_in}
-use Rattle.log_layout.specs.Values.{shape_of}
+use Rattle.journal.specs.Values.{shape_of}
 use Rattle.redo_log.proofs.Sending.{few_of_oldest}
 use Rattle.redo_log.proofs.log.Log.has_room.Goals as goal
 

@@ -8,9 +8,9 @@ use Rattle.medium.proofs.Moments.{started, one_call}
 use Rattle.medium.proofs.Sparing.{spared_write}
 use Rattle.arrayvec.specs.ArrayVec.{ArrayVec}
 use Rattle.medium.specs.declared.fault.MediumFault.{MediumFault}
-use Rattle.log_layout.specs.Places.{Shape, first_home, sectors_of}
-use Rattle.log_layout.specs.declared.super_sector.Super.{Super}
-use Rattle.log_layout.specs.Values.{shape_of}
+use Rattle.journal.specs.Places.{Shape, first_home, sectors_of}
+use Rattle.journal.specs.declared.super_sector.Super.{Super}
+use Rattle.journal.specs.Values.{shape_of}
 use Rattle.redo_log.specs.Value.{LogValue, died, CanPass, IsRetireStepped}
 use Rattle.redo_log.specs.Stages.{value_at, IsRing, AreInside}
 use Rattle.redo_log.specs.Calls.{WritesOnly}

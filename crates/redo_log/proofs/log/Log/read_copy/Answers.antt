@@ -3,9 +3,9 @@ use Rattle.std.proofs.lemmas.Result.{on_ok_weaker}
 use Rattle.std.proofs.lemmas.List.{length-map}
 use Rattle.medium.proofs.Moments.{quiet_leaves}
 use Rattle.arrayvec.specs.ArrayVec.{ArrayVec}
-use Rattle.log_layout.specs.Places.{Shape}
-use Rattle.log_layout.specs.Values.{shape_of}
-use Rattle.log_image.specs.Formats.{IsWhole}
+use Rattle.journal.specs.Places.{Shape}
+use Rattle.journal.specs.Values.{shape_of}
+use Rattle.journal.specs.Formats.{IsWhole}
 use Rattle.redo_log.specs.Value.{LogValue}
 use Rattle.redo_log.specs.Held.{MayLeave}
 use Rattle.redo_log.specs.Shown.{lists_of, ahead_in}

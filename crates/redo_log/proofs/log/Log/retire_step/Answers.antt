@@ -4,8 +4,8 @@ use Rattle.std.proofs.lemmas.List.{length-map}
 use Rattle.medium.proofs.Looking.{no_looks}
 use Rattle.medium.proofs.Moments.{started}
 use Rattle.arrayvec.specs.ArrayVec.{ArrayVec}
-use Rattle.log_layout.specs.Places.{first_home}
-use Rattle.log_layout.specs.Values.{shape_of}
+use Rattle.journal.specs.Places.{first_home}
+use Rattle.journal.specs.Values.{shape_of}
 use Rattle.redo_log.specs.Value.{LogValue, turns_home, died, IsRetireStepped}
 use Rattle.redo_log.specs.Stages.{value_at, IsRing, AreInside}
 use Rattle.redo_log.specs.Turns.{kept_by}

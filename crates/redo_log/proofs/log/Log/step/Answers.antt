@@ -3,8 +3,8 @@ use Rattle.std.specs.Prelude.{Option, Some, None}
 use Rattle.std.proofs.lemmas.List.{length-map}
 use Rattle.arrayvec.specs.ArrayVec.{ArrayVec}
 use Rattle.medium.proofs.Moments.{one_call}
-use Rattle.log_layout.specs.Places.{Shape, limit_of}
-use Rattle.log_layout.specs.Values.{shape_of}
+use Rattle.journal.specs.Places.{Shape, limit_of}
+use Rattle.journal.specs.Values.{shape_of}
 use Rattle.redo_log.specs.Value.{LogValue, died}
 use Rattle.redo_log.specs.Held.{HoldsView, with_record}
 use Rattle.redo_log.specs.Stages.{value_at, begun_at, AreInside, IsRing, IsUnderWay, IsAheadOf}

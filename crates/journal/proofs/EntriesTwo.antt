@@ -1,0 +1,241 @@
+-- The entries of a descriptor of format 2.
+use Rattle.std.proofs.Common.{◌≡◌, inl, inr, ℕ, suc, ◌+◌, ◌*◌, ◌-◌, ◌^◌, ◌<◌, ◌≤◌, List, [], ◌∷◌, ◌++◌, length, get_or, take, drop, refl}
+use Rattle.std.proofs.Common.{sym, ◌∙◌, ap, arith, length-append}
+use Rattle.std.specs.Prelude.{All, min, zip, slice_range, replicate}
+use Rattle.std.specs.List.{flat_map}
+use Rattle.std.proofs.lemmas.Bool.{cases_lt}
+use Rattle.std.proofs.lemmas.List.{take_all, length-take, length-drop, append_assoc, append-nil, take_more, drop-drop, drop-take}
+use Rattle.std.proofs.lemmas.List.{get_or-take, get_or-drop, ext_get_or}
+use Rattle.std.proofs.lemmas.List.Elements.{All-take, All-from_get_or}
+use Rattle.std.proofs.lemmas.Slice.Zip.{length-zip, get_or-zip}
+use Rattle.std.proofs.lemmas.Grind.{flat_map-append}
+use Rattle.byteorder.specs.Endian.{little_bytes, little_number}
+use Rattle.byteorder.specs.Numbers.{little_number-reads_back, little_from-take}
+use Rattle.journal.specs.Entry.{Entry}
+use Rattle.journal.specs.Spelling.{number_in}
+use Rattle.journal.specs.Sectors.{IsRising}
+use Rattle.journal.specs.SectorsTwo.{padded, entry_bytes, commit_bytes, descriptor_mark, commit_mark, entries_here, IsDescriptorTwo}
+use Rattle.journal.specs.SectorsTwo.{IsCommitTwo}
+use Rattle.journal.proofs.BytesTwo.{length_entry, entry_at}
+
+-- each entry has the 8 bytes that a descriptor keeps
+abbrev pub AreLong : List Entry → Type 0
+AreLong entries = All (λ (e : Entry). 8 ≤ length e.1) entries
+
+-- entries take 16 bytes each
+pub length_entries : (es : List Entry) → AreLong es → length (flat_map entry_bytes es) ≡ 16 * length es
+length_entries [] long = refl
+length_entries (x ∷ es) long =
+    omega (
+      arith,
+      length-append (entry_bytes x) (flat_map entry_bytes es),
+      length_entry x (long 0 (0, []) (omega arith)),
+      length_entries es (λ k d below. long (suc k) d (omega arith)),
+    )
+
+module _ (numbers : List ℕ) (firsts : List (List ℕ)) (each : length firsts ≡ length numbers) where
+  -- entry e
+  pub zipped : (e : ℕ) → e < length numbers → get_or (zip numbers firsts) e (0, []) ≡ (get_or numbers e 0, get_or firsts e [])
+  zipped e below = get_or-zip numbers firsts e (0, []) below (omega arith)
+
+  pub length_zipped : length (zip numbers firsts) ≡ length numbers
+  length_zipped = omega (arith, length-zip numbers firsts)
+
+  module _ (sized : All (λ (first : List ℕ). length first ≡ 8) firsts) where
+    pub zipped_long : AreLong (zip numbers firsts)
+    zipped_long e d below =
+        let inside : e < length numbers = omega (arith, length_zipped) in
+        omega (
+          arith,
+          ap (λ (x : Entry). length x.1) (get_or-zip numbers firsts e d inside (omega (arith, inside))),
+          sized e d.1 (omega (arith, inside)),
+        )
+
+    -- how many bytes stand behind so many entries
+    pub length_so_far : (before : List ℕ) (e : ℕ) → length before ≡ 32 → e ≤ length numbers
+        → length (before ++ flat_map entry_bytes (take e (zip numbers firsts))) ≡ 32 + 16 * e
+    length_so_far before e count inside =
+        omega (
+          arith,
+          length-append before (flat_map entry_bytes (take e (zip numbers firsts))),
+          length_entries (take e (zip numbers firsts)) (All-take (λ (x : Entry). 8 ≤ length x.1) e (zip numbers firsts) zipped_long),
+          length-take e (zip numbers firsts),
+          length_zipped,
+        )
+
+    -- one entry more
+    pub entries_more : (before : List ℕ) (e : ℕ) → e < length numbers
+        → ((before ++ flat_map entry_bytes (take e (zip numbers firsts))) ++ little_bytes 8 (get_or numbers e 0)) ++ get_or firsts e []
+        ≡ before ++ flat_map entry_bytes (take (e + 1) (zip numbers firsts))
+    unfolding entry_bytes
+    entries_more before e below =
+        let es : List Entry = zip numbers firsts in
+        let fm : List ℕ = flat_map entry_bytes (take e (zip numbers firsts)) in
+        let x : Entry = (get_or numbers e 0, get_or firsts e []) in
+        let eight : take 8 (get_or firsts e []) ≡ get_or firsts e [] =
+        take_all 8 (get_or firsts e []) (omega (arith, sized e [] (omega arith))) in
+        let longer : take (e + 1) (zip numbers firsts) ≡ take e (zip numbers firsts) ++ x ∷ [] =
+        take_more (zip numbers firsts) e (0, []) (omega (arith, length_zipped))
+        ∙ ap (λ (y : Entry). take e (zip numbers firsts) ++ y ∷ []) (zipped e below) in
+        append_assoc (before ++ fm) (little_bytes 8 (get_or numbers e 0)) (get_or firsts e [])
+        ∙ append_assoc before fm (little_bytes 8 (get_or numbers e 0) ++ get_or firsts e [])
+        ∙ ap (λ (l : List ℕ). before ++ (fm ++ (little_bytes 8 (get_or numbers e 0) ++ l))) (sym eight)
+        ∙ ap (λ (l : List ℕ). before ++ (fm ++ l)) (sym (append-nil (entry_bytes x)))
+        ∙ ap (λ (l : List ℕ). before ++ l) (sym (flat_map-append entry_bytes (take e (zip numbers firsts)) (x ∷ [])))
+        ∙ ap (λ (l : List Entry). before ++ flat_map entry_bytes l) (sym longer)
+
+-- a part of what rises rises
+pub rising_part : (numbers : List ℕ) (from count : ℕ) → IsRising numbers → IsRising (take count (drop from numbers))
+rising_part numbers from count rising i j less below =
+    let inside : from + j < length numbers = omega (arith, length-take count (drop from numbers), length-drop from numbers) in
+    let few : j < count = omega (arith, length-take count (drop from numbers)) in
+    let a = get_or-take count (drop from numbers) i 0 (omega arith) ∙ get_or-drop from numbers i 0 in
+    let b = get_or-take count (drop from numbers) j 0 few ∙ get_or-drop from numbers j 0 in
+    omega (arith, a, b, rising (from + i) (from + j) (omega arith) inside)
+
+-- the numbers of a descriptor are 30, or all that are left
+pub items_here : (items numbers : List ℕ) (from here : ℕ) → here ≡ min 30 (length numbers - from)
+    → items ≡ take (from + here - from) (drop from numbers) → items ≡ take 30 (drop from numbers)
+items_here items numbers from here is are =
+    let count : from + here - from ≡ here = omega arith in
+    are ∙ ap (λ (k : ℕ). take k (drop from numbers)) count ∙ elim (cases_lt 30 (length numbers - from)) [
+      | inl more ↦ let full : here ≡ 30 = omega arith in ap (λ (k : ℕ). take k (drop from numbers)) full
+      | inr all ↦
+          take_all here (drop from numbers) (omega (arith, length-drop from numbers))
+          ∙ sym (take_all 30 (drop from numbers) (omega (arith, length-drop from numbers)))
+    ]
+
+-- a part of bytes is as long as it says
+pub length_range : (bytes : List ℕ) (a b : ℕ) → a ≤ b → b ≤ length bytes → length (slice_range bytes a b) ≡ b - a
+length_range bytes a b le inside = omega (arith, length-take (b - a) (drop a bytes), length-drop a bytes)
+
+-- first bytes that were cut from bytes are 8 each
+pub sized_from : (firsts : List (List ℕ)) (count : ℕ) (bytes : List ℕ) (at : ℕ → ℕ) → length firsts ≡ count
+    → ((i : ℕ) → i < count → at i + 8 ≤ length bytes)
+    → ((i : ℕ) → i < count → get_or firsts i [] ≡ slice_range bytes (at i) (at i + 8))
+    → All (λ (first : List ℕ). length first ≡ 8) firsts
+sized_from firsts count bytes at size inside each = All-from_get_or (λ (first : List ℕ). length first ≡ 8) firsts [] (λ i below.
+    let small : i < count = omega arith in
+    ap (λ (l : List ℕ). length l) (each i small) ∙ (length_range bytes (at i) (at i + 8) (omega arith) (inside i small) ∙ (omega arith)))
+
+-- the second number of a sector
+pub second_number : (a b : ℕ) (xs bytes : List ℕ) → b < 2 ^ 64
+    → bytes ≡ padded (little_bytes 8 a ++ (little_bytes 8 b ++ xs)) → number_in bytes 1 ≡ b
+unfolding number_in padded
+second_number a b xs bytes small is =
+    ap (λ (l : List ℕ). little_number 8 (drop 8 l)) is
+    ∙ little_number-reads_back 8 b (xs ++ replicate (512 - length (little_bytes 8 a ++ (little_bytes 8 b ++ xs))) 0) small
+
+-- the third
+pub third_number : (a b c : ℕ) (xs bytes : List ℕ) → c < 2 ^ 64
+    → bytes ≡ padded (little_bytes 8 a ++ (little_bytes 8 b ++ (little_bytes 8 c ++ xs))) → number_in bytes 2 ≡ c
+unfolding number_in padded
+third_number a b c xs bytes small is =
+    ap (λ (l : List ℕ). little_number 8 (drop 16 l)) is
+    ∙ little_number-reads_back 8 c
+    (xs ++ replicate (512 - length (little_bytes 8 a ++ (little_bytes 8 b ++ (little_bytes 8 c ++ xs)))) 0) small
+
+module _ (a b c d : ℕ) (xs bytes : List ℕ)
+    (is : bytes ≡ padded (little_bytes 8 a ++ (little_bytes 8 b ++ (little_bytes 8 c ++ (little_bytes 8 d ++ xs))))) where
+  -- the fourth
+  pub fourth_number : d < 2 ^ 64 → number_in bytes 3 ≡ d
+  unfolding number_in padded
+  fourth_number small =
+      ap (λ (l : List ℕ). little_number 8 (drop 24 l)) is
+      ∙ little_number-reads_back 8 d
+      (xs ++ replicate (512 - length (little_bytes 8 a ++ (little_bytes 8 b ++ (little_bytes 8 c ++ (little_bytes 8 d ++ xs))))) 0)
+      small
+
+  -- and what stands behind it
+  pub behind_four : drop 32 bytes
+      ≡ xs ++ replicate (512 - length (little_bytes 8 a ++ (little_bytes 8 b ++ (little_bytes 8 c ++ (little_bytes 8 d ++ xs))))) 0
+  unfolding padded
+  behind_four = ap (λ (l : List ℕ). drop 32 l) is
+
+-- the numbers of a commit
+module _ (stamp count : ℕ) (bytes : List ℕ) (c : IsCommitTwo stamp count bytes) where
+  pub commit_stamp : number_in bytes 1 ≡ stamp
+  unfolding commit_bytes
+  commit_stamp = second_number commit_mark stamp (little_bytes 8 count) bytes (omega (arith, c.most)) c.spelled
+
+  pub commit_count : number_in bytes 2 ≡ count
+  unfolding commit_bytes
+  commit_count = third_number commit_mark stamp count [] bytes (omega (arith, c.few)) c.spelled
+
+-- what the bytes of a descriptor say
+module _ (stamp count j : ℕ) (numbers : List ℕ) (firsts : List (List ℕ)) (bytes : List ℕ)
+    (d : IsDescriptorTwo stamp count j numbers firsts bytes) where
+  pub stamp_is : number_in bytes 1 ≡ stamp
+  stamp_is =
+      second_number descriptor_mark stamp (little_bytes 8 count ++ (little_bytes 8 j ++ flat_map entry_bytes (zip numbers firsts))) bytes
+      (omega (arith, d.most)) d.spelled
+
+  pub count_is : number_in bytes 2 ≡ count
+  count_is =
+      third_number descriptor_mark stamp count (little_bytes 8 j ++ flat_map entry_bytes (zip numbers firsts)) bytes
+      (omega (arith, d.entries.few)) d.spelled
+
+  pub index_is : number_in bytes 3 ≡ j
+  index_is =
+      fourth_number descriptor_mark stamp count j (flat_map entry_bytes (zip numbers firsts)) bytes d.spelled
+      (omega (arith, d.entries.few, d.entries.used))
+
+  entry_is : (e : ℕ) → e < length numbers → take 16 (drop (32 + 16 * e) bytes) ≡ entry_bytes (get_or numbers e 0, get_or firsts e [])
+  entry_is e below =
+      ap (λ (l : List ℕ). take 16 l) (sym (drop-drop (16 * e) 32 bytes))
+      ∙ ap (λ (l : List ℕ). take 16 (drop (16 * e) l))
+      (behind_four descriptor_mark stamp count j (flat_map entry_bytes (zip numbers firsts)) bytes d.spelled)
+      ∙ entry_at (zip numbers firsts) e _ (omega (arith, length_zipped numbers firsts d.entries.each))
+      (zipped_long numbers firsts d.entries.each d.entries.sized)
+      ∙ ap entry_bytes (zipped numbers firsts d.entries.each e below)
+
+  pub number_is : (e : ℕ) → e < length numbers → number_in bytes (4 + 2 * e) ≡ get_or numbers e 0
+  unfolding number_in entry_bytes
+  number_is e below =
+      let at : 8 * (4 + 2 * e) ≡ 32 + 16 * e = omega arith in
+      ap (λ (k : ℕ). little_number 8 (drop k bytes)) at
+      ∙ sym (little_from-take 0 8 16 (drop (32 + 16 * e) bytes) (omega arith))
+      ∙ ap (little_number 8) (entry_is e below)
+      ∙ little_number-reads_back 8 (get_or numbers e 0) (take 8 (get_or firsts e [])) (omega (arith, d.entries.small e 0 below))
+
+  pub first_is : (e : ℕ) → e < length numbers → slice_range bytes (40 + 16 * e) (40 + 16 * e + 8) ≡ get_or firsts e []
+  unfolding entry_bytes
+  first_is e below =
+      let eight : 40 + 16 * e + 8 - (40 + 16 * e) ≡ 8 = omega arith in
+      let at : 40 + 16 * e ≡ 32 + 16 * e + 8 = omega arith in
+      ap (λ (k : ℕ). take k (drop (40 + 16 * e) bytes)) eight
+      ∙ ap (λ (k : ℕ). take 8 (drop k bytes)) at
+      ∙ ap (λ (l : List ℕ). take 8 l) (sym (drop-drop 8 (32 + 16 * e) bytes))
+      ∙ sym (drop-take 8 8 (drop (32 + 16 * e) bytes))
+      ∙ ap (λ (l : List ℕ). drop 8 l) (entry_is e below)
+      ∙ take_all 8 (get_or firsts e []) (omega (arith, d.entries.sized e [] (omega (arith, d.entries.each))))
+
+  -- numbers that were read from the entries are those of the descriptor
+  pub numbers_are : (here : ℕ) (list : List ℕ) → here ≡ entries_here count j → length list ≡ here
+      → ((i : ℕ) → i < here → get_or list i 0 ≡ number_in bytes (4 + 2 * i)) → list ≡ numbers
+  numbers_are here list is size read =
+      let same : length list ≡ length numbers = size ∙ (is ∙ sym d.entries.many) in
+      ext_get_or 0 list numbers same (λ i below. read i (omega (arith, size)) ∙ number_is i (omega (arith, same)))
+
+  -- and so are first bytes
+  pub firsts_are : (here : ℕ) (list : List (List ℕ)) → here ≡ entries_here count j → length list ≡ here
+      → ((i : ℕ) → i < here → get_or list i [] ≡ slice_range bytes (40 + 16 * i) (40 + 16 * i + 8)) → list ≡ firsts
+  firsts_are here list is size read =
+      let same : length list ≡ length numbers = size ∙ (is ∙ sym d.entries.many) in
+      ext_get_or [] list firsts (same ∙ sym d.entries.each) (λ i below. read i (omega (arith, size)) ∙ first_is i (omega (arith, same)))
+
+-- a sector is a descriptor of one value
+pub IsDescriptorTwo-one : (bytes : List ℕ) (a b m n i j : ℕ) (ns ms : List ℕ) (fs gs : List (List ℕ))
+    → IsDescriptorTwo a m i ns fs bytes → IsDescriptorTwo b n j ms gs bytes
+    → (a ≡ b) × (m ≡ n) × (i ≡ j) × (ns ≡ ms) × (fs ≡ gs)
+IsDescriptorTwo-one bytes a b m n i j ns ms fs gs d e =
+    let counts : m ≡ n = sym (count_is a m i ns fs bytes d) ∙ count_is b n j ms gs bytes e in
+    let indices : i ≡ j = sym (index_is a m i ns fs bytes d) ∙ index_is b n j ms gs bytes e in
+    let here : length ns ≡ entries_here n j =
+    d.entries.many ∙ ap (λ (k : ℕ). entries_here k i) counts ∙ ap (λ (k : ℕ). entries_here n k) indices in (
+      sym (stamp_is a m i ns fs bytes d) ∙ stamp_is b n j ms gs bytes e,
+      counts,
+      indices,
+      numbers_are b n j ms gs bytes e (length ns) ns here refl (λ x below. sym (number_is a m i ns fs bytes d x below)),
+      firsts_are b n j ms gs bytes e (length ns) fs here d.entries.each (λ x below. sym (first_is a m i ns fs bytes d x below)),
+    )

@@ -1,0 +1,144 @@
+-- An image stands for something or has one fault.
+use Rattle.std.proofs.Common.{◌≡◌, ◌⊎◌, inl, inr, ⊎_elim, ℕ, ◌+◌, ◌<◌, ◌≤◌, List, refl, subst, arith}
+use Rattle.std.specs.Prelude.{drop, replicate}
+use Rattle.std.proofs.lemmas.Bool.{cases_eq, cases_lt}
+use Rattle.medium.specs.Medium.{Image}
+use Rattle.journal.specs.declared.super_fault.SuperFault.{SuperFault}
+use Rattle.journal.specs.declared.super_fault.SuperFault.TheVariants.{Magic, Version, Rest, Sizes}
+use Rattle.journal.specs.Places.{Shape, sectors_of}
+use Rattle.journal.specs.Spelling.{number_in, super_mark}
+use Rattle.journal.specs.Sectors.{IsSuper, IsHead}
+use Rattle.journal.specs.SuperFaults.{HasVersion, IsSuperFault}
+use Rattle.journal.specs.Standing.{Stands}
+use Rattle.journal.specs.ImageFaults.{HasShape, ImageFault, BadSuper, BadVersion, BadSize, BadHead, HasFault}
+use Rattle.journal.proofs.Decoding.{super_begins, IsSuper-one}
+use Rattle.journal.proofs.DecidingSectors.{same_or_not, head_or_not, super_or_not}
+use Rattle.journal.proofs.DecidingRecords.{count_of}
+use Rattle.journal.proofs.StandingLaws.{count_stands}
+
+-- a super has no fault
+pub no_fault : (fault : SuperFault) (shape : Shape) (bytes : List ℕ) → IsSuperFault fault bytes
+    → ¬ IsSuper shape bytes
+no_fault Magic shape bytes f s = f ((super_begins shape bytes s).0)
+no_fault Version shape bytes f s = f.1 ((super_begins shape bytes s).1)
+no_fault Rest shape bytes f s = f.2 ((super_begins shape bytes s).2)
+no_fault Sizes shape bytes f s = f.3 shape s
+
+-- a version is known or not
+version_or_not : (bytes : List ℕ) → HasVersion bytes ⊎ (¬ HasVersion bytes)
+version_or_not bytes = elim (cases_eq (number_in bytes 1) 1) [
+  | inl one ↦ inl (inl one)
+  | inr no_one ↦ elim (cases_eq (number_in bytes 1) 2) [
+    | inl two ↦ inl (inr two)
+    | inr no_two ↦ inr (λ known. ⊎_elim no_one no_two known)
+  ]
+]
+
+-- a sector is a super or has a fault
+pub super_or_fault : (bytes : List ℕ) → ((shape : Shape)
+    × IsSuper shape bytes) ⊎ ((fault : SuperFault) × IsSuperFault fault bytes)
+super_or_fault bytes = elim (cases_eq (number_in bytes 0) super_mark) [
+  | inr no_mark ↦ inr (Magic, no_mark)
+  | inl magic ↦ elim (version_or_not bytes) [
+    | inr other ↦ inr (Version, (magic, other))
+    | inl version ↦ elim (same_or_not (drop 48 bytes) (replicate 464 0)) [
+      | inr more ↦ inr (Rest, (magic, version, more))
+      | inl zeros ↦ elim (super_or_not bytes) [
+        | inl s ↦ inl s
+        | inr none ↦ inr (Sizes, (magic, version, zeros, λ shape s. none (shape, s)))
+      ]
+    ]
+  ]
+]
+
+-- the faults of a super, as those of an image
+fault_of : (size : ℕ) (image : Image) → 1 ≤ size → (fault : SuperFault)
+    → IsSuperFault fault (image 0) → (f : ImageFault) × HasFault size image f
+fault_of size image some Magic f = (BadSuper, (some, inl f))
+fault_of size image some Version f = (BadVersion, (some, f))
+fault_of size image some Rest f = (BadSuper, (some, inr f))
+fault_of size image some Sizes f = (BadSize, inr (inl f))
+
+-- an image stands for something or has a fault
+pub stands_or_fault : (size : ℕ) (image : Image) → Stands size image ⊎ ((fault : ImageFault)
+    × HasFault size image fault)
+stands_or_fault size image = elim (cases_lt 0 size) [
+  | inr none ↦ inr (BadSize, inl (omega arith))
+  | inl some ↦ elim (super_or_fault (image 0)) [
+    | inr f ↦ inr (fault_of size image some f.0 f.1)
+    | inl s ↦ elim (cases_lt size (sectors_of s.0)) [
+      | inl short ↦ inr (BadSize, inr (inr (s.0, s.1, short)))
+      | inr fits ↦ elim (head_or_not (image 1)) [
+        | inl h ↦ inl (found s.0 h.0 fits s.1 h.1)
+        | inr no_head ↦ inr (BadHead, (s.0, record { super = s.1; fits = fits }, λ stamp h. no_head (stamp, h)))
+      ]
+    ]
+  ]
+]
+  where
+    found : (shape : Shape) (head : ℕ) → sectors_of shape ≤ size → IsSuper shape (image 0)
+        → IsHead head (image 1) → Stands size image
+    found shape head fits super head_is =
+        let c = count_of shape image head in
+        let stood = count_stands size shape image head c.0 fits super head_is c.1 in
+        (shape, stood.array, head + c.0 + 1, stood.stands)
+
+module _ (size : ℕ) (image : Image) where
+  -- two faults are never both there
+  super_version : HasFault size image BadSuper → ¬ HasFault size image BadVersion
+  super_version h k = ⊎_elim (λ m. m (k.1.0)) (λ r. k.1.1 (r.1)) h.1
+
+  -- nor these
+  super_size : HasFault size image BadSuper → ¬ HasFault size image BadSize
+  super_size h k =
+      ⊎_elim (λ e. omega arith)
+      (λ q. ⊎_elim (λ z. ⊎_elim (λ m. m (z.0)) (λ r. r.2 (z.2)) h.1)
+      (λ short. ⊎_elim (λ m. no_fault Magic short.0 (image 0) m short.1) (λ r. no_fault Rest short.0 (image 0) r short.1) h.1) q) k
+
+  -- nor these
+  super_head : HasFault size image BadSuper → ¬ HasFault size image BadHead
+  super_head h k = ⊎_elim (λ m. no_fault Magic k.0 (image 0) m k.1.super) (λ r. no_fault Rest k.0 (image 0) r k.1.super) h.1
+
+  -- nor these
+  version_size : HasFault size image BadVersion → ¬ HasFault size image BadSize
+  version_size h k =
+      ⊎_elim (λ e. omega arith) (λ q. ⊎_elim (λ z. h.1.1 (z.1)) (λ short. no_fault Version short.0 (image 0) h.1 short.1) q) k
+
+  -- nor these
+  version_head : HasFault size image BadVersion → ¬ HasFault size image BadHead
+  version_head h k = no_fault Version k.0 (image 0) h.1 k.1.super
+
+  -- a medium that is long enough for its super has no bad size
+  size_shape : HasFault size image BadSize → (shape : Shape) → ¬ HasShape size shape image
+  size_shape h shape k = ⊎_elim (λ e. omega (arith, k.fits))
+      (λ q. ⊎_elim (λ z. no_fault Sizes shape (image 0) z k.super)
+      (λ short. let one : short.0 ≡ shape = IsSuper-one short.0 shape (image 0) short.1 k.super in
+      let less : size < sectors_of shape = subst (λ (x : Shape). size < sectors_of x) one short.2 in
+      omega (arith, less, k.fits)) q) h
+
+  -- an image has at most one fault
+  pub HasFault-one : (a b : ImageFault) → HasFault size image a → HasFault size image b → a ≡ b
+  HasFault-one BadSuper BadSuper h k = refl
+  HasFault-one BadSuper BadVersion h k = absurd (super_version h k)
+  HasFault-one BadSuper BadSize h k = absurd (super_size h k)
+  HasFault-one BadSuper BadHead h k = absurd (super_head h k)
+  HasFault-one BadVersion BadSuper h k = absurd (super_version k h)
+  HasFault-one BadVersion BadVersion h k = refl
+  HasFault-one BadVersion BadSize h k = absurd (version_size h k)
+  HasFault-one BadVersion BadHead h k = absurd (version_head h k)
+  HasFault-one BadSize BadSuper h k = absurd (super_size k h)
+  HasFault-one BadSize BadVersion h k = absurd (version_size k h)
+  HasFault-one BadSize BadSize h k = refl
+  HasFault-one BadSize BadHead h k = absurd (size_shape h k.0 k.1)
+  HasFault-one BadHead BadSuper h k = absurd (super_head k h)
+  HasFault-one BadHead BadVersion h k = absurd (version_head k h)
+  HasFault-one BadHead BadSize h k = absurd (size_shape k h.0 h.1)
+  HasFault-one BadHead BadHead h k = refl
+
+  -- an image that stands for something has none
+  pub HasFault-stands : (fault : ImageFault) → HasFault size image fault → ¬ Stands size image
+  HasFault-stands BadSuper h s =
+      ⊎_elim (λ m. no_fault Magic s.0 (image 0) m s.3.keeps.super) (λ r. no_fault Rest s.0 (image 0) r s.3.keeps.super) h.1
+  HasFault-stands BadVersion h s = no_fault Version s.0 (image 0) h.1 s.3.keeps.super
+  HasFault-stands BadSize h s = size_shape h s.0 (record { super = s.3.keeps.super; fits = s.3.fits })
+  HasFault-stands BadHead h s = h.2 s.3.head s.3.keeps.head_is

@@ -1,0 +1,98 @@
+-- Arrays with records laid over them.
+use Rattle.std.proofs.Common.{◌≡◌, ◌≢◌, ◌⊎◌, inl, inr, ℕ, zero, suc, ◌<◌, List, [], ◌∷◌, ◌++◌, length, get_or, refl, sym, ◌∙◌, ap, subst}
+use Rattle.std.proofs.Common.{arith}
+use Rattle.std.specs.Prelude.{if◌then◌else◌, ◌==◌, Bool, true, false}
+use Rattle.std.proofs.lemmas.Bool.{cases_eq}
+use Rattle.std.proofs.lemmas.Bool.Decides.{nat_tests}
+use Rattle.spec.specs.Blocks.{Array}
+use Rattle.journal.specs.Record.{Entry, with_blocks, with_records, Hides}
+
+-- a block depends on that block alone
+pub with_blocks-same : (entries : List Entry) (a c : Array) (b : ℕ) → a b ≡ c b
+    → with_blocks entries a b ≡ with_blocks entries c b
+with_blocks-same [] a c b e = e
+with_blocks-same (x ∷ entries) a c b e = ap (λ (v : List ℕ). if x.0 == b then x.1 else v) (with_blocks-same entries a c b e)
+
+-- the same of records
+pub with_records-same : (records : List (List Entry)) (a c : Array) (b : ℕ) → a b ≡ c b
+    → with_records records a b ≡ with_records records c b
+with_records-same [] a c b e = e
+with_records-same (entries ∷ records) a c b e =
+    with_records-same records (with_blocks entries a) (with_blocks entries c) b (with_blocks-same entries a c b e)
+
+-- one more record is laid over the others
+pub with_records-append : (records : List (List Entry)) (entries : List Entry) (a : Array) (b : ℕ)
+    → with_records (records ++ entries ∷ []) a b ≡ with_blocks entries (with_records records a) b
+with_records-append [] entries a b = refl
+with_records-append (x ∷ records) entries a b = with_records-append records entries (with_blocks x a) b
+
+-- a block that is named hides the one below it
+pub with_blocks-hides : (entries : List Entry) (i : ℕ) (a c : Array) → i < length entries
+    → with_blocks entries a (get_or entries i (0, [])).0 ≡ with_blocks entries c (get_or entries i (0, [])).0
+with_blocks-hides [] i a c below = absurd (omega arith)
+with_blocks-hides (e ∷ entries) zero a c below = found
+  where
+    yes : (e.0 == e.0) ≡ true
+    yes = grind (arith, nat_tests)
+
+    found : with_blocks (e ∷ entries) a e.0 ≡ with_blocks (e ∷ entries) c e.0
+    found = ap (λ (t : Bool). if t then e.1 else with_blocks entries a e.0) yes
+        ∙ sym (ap (λ (t : Bool). if t then e.1 else with_blocks entries c e.0) yes)
+with_blocks-hides (e ∷ entries) (suc i) a c below =
+    let b = (get_or entries i (0, [])).0 in
+    ap (λ (v : List ℕ). if e.0 == b then e.1 else v) (with_blocks-hides entries i a c (omega arith))
+
+-- a block that a record names is hidden
+pub records-hide : (records : List (List Entry)) (j i : ℕ) → j < length records
+    → i < length (get_or records j []) → Hides records (get_or (get_or records j []) i (0, [])).0
+records-hide [] j i below inside a c = absurd (omega arith)
+records-hide (r ∷ records) zero i below inside a c =
+    with_records-same records (with_blocks r a) (with_blocks r c) (get_or r i (0, [])).0 (with_blocks-hides r i a c inside)
+records-hide (r ∷ records) (suc j) i below inside a c = records-hide records j i (omega arith) inside (with_blocks r a) (with_blocks r c)
+
+-- blocks that stand in the array already change nothing
+pub with_blocks-home : (entries : List Entry) (a : Array) (b : ℕ) → ((i : ℕ) → i < length entries
+    → a (get_or entries i (0, [])).0 ≡ (get_or entries i (0, [])).1) → with_blocks entries a b ≡ a b
+with_blocks-home [] a b home = refl
+with_blocks-home (e ∷ entries) a b home = elim (cases_eq e.0 b) [
+  | inl is ↦ ap (λ (t : Bool). if t then e.1 else with_blocks entries a b) (yes is) ∙ sym (home 0 (omega arith)) ∙ ap a is
+  | inr not ↦
+      ap (λ (t : Bool). if t then e.1 else with_blocks entries a b) (no not)
+      ∙ with_blocks-home entries a b (λ i below. home (suc i) (omega arith))
+]
+  where
+    yes : e.0 ≡ b → (e.0 == b) ≡ true
+    yes is = grind (arith, nat_tests)
+
+    no : e.0 ≢ b → (e.0 == b) ≡ false
+    no not = grind (arith, nat_tests)
+
+-- a block is named by the entries or not
+named_or_not : (entries : List Entry) (b : ℕ) → ((i : ℕ) × (i < length entries)
+    × ((get_or entries i (0, [])).0 ≡ b)) ⊎ ((i : ℕ) → i < length entries
+    → (get_or entries i (0, [])).0 ≢ b)
+named_or_not [] b = inr (λ i below. absurd (omega arith))
+named_or_not (e ∷ entries) b = elim (cases_eq e.0 b) [
+  | inl is ↦ inl (0, omega arith, is)
+  | inr not ↦ elim (named_or_not entries b) [
+    | inl found ↦ inl (suc found.0, omega (arith, found.1), found.2)
+    | inr none ↦ inr (nowhere not none)
+  ]
+]
+  where
+    nowhere : e.0 ≢ b → ((i : ℕ) → i < length entries → (get_or entries i (0, [])).0 ≢ b) → (i : ℕ)
+        → i < length (e ∷ entries) → (get_or (e ∷ entries) i (0, [])).0 ≢ b
+    nowhere not none zero below = not
+    nowhere not none (suc i) below = none i (omega arith)
+
+-- once the blocks of a record are copied, and no others changed, home is as if they were laid over it
+pub with_blocks-copied : (entries : List Entry) (old new : Array) → ((i : ℕ) → i < length entries
+    → new (get_or entries i (0, [])).0 ≡ (get_or entries i (0, [])).1)
+    → ((b : ℕ) → ((i : ℕ) → i < length entries → (get_or entries i (0, [])).0 ≢ b) → new b ≡ old b)
+    → (b : ℕ) → new b ≡ with_blocks entries old b
+with_blocks-copied entries old new copied others b =
+    sym (with_blocks-home entries new b copied) ∙ elim (named_or_not entries b) [
+      | inl found ↦
+          subst (λ x. with_blocks entries new x ≡ with_blocks entries old x) found.2 (with_blocks-hides entries found.0 new old found.1)
+      | inr none ↦ with_blocks-same entries new old b (others b none)
+    ]

@@ -1,0 +1,187 @@
+-- An image stands for one array and one next stamp.
+use Rattle.std.proofs.Common.{◌≡◌, ⊎_elim, ℕ, zero, suc, ◌+◌, ◌*◌, ◌<◌, ◌≤◌, List, [], ◌∷◌, length, get_or, refl, sym, ◌∙◌, ap, subst}
+use Rattle.std.proofs.Common.{arith}
+use Rattle.std.proofs.lemmas.Bool.{cases_lt}
+use Rattle.std.proofs.lemmas.List.{ext_get_or}
+use Rattle.medium.specs.Medium.{Image}
+use Rattle.spec.specs.Blocks.{Array}
+use Rattle.journal.specs.Places.{Shape, sectors_of}
+use Rattle.journal.specs.Sectors.{IsSuper, IsHead}
+use Rattle.journal.specs.Record.{Entry, Agree, with_records, home_of}
+use Rattle.journal.specs.Layout.{slot_at}
+use Rattle.journal.specs.Formats.{layout_of, IsWhole}
+use Rattle.journal.specs.Standing.{IsCount, StandsFor, IsOurs}
+use Rattle.journal.specs.ImageFaults.{HasShape}
+use Rattle.journal.proofs.Spelling.{IsHead-one}
+use Rattle.journal.proofs.Decoding.{IsSuper-one}
+use Rattle.journal.proofs.Formats.{laws_of, sectors_are}
+use Rattle.journal.proofs.Wholeness.{IsWhole-one, HasWhole-same, CarriesBelow-agree, Keeps-same, slot_inside}
+
+module _ (size other : ℕ) (shape : Shape) (image : Image) (a b : Array) (t u : ℕ) (h : StandsFor size shape image a t)
+    (k : StandsFor other shape image b u) where
+  -- the head is the same
+  pub heads : h.head ≡ k.head
+  heads = IsHead-one h.head k.head (image 1) h.keeps.head_is k.keeps.head_is
+
+  -- there are as many records
+  pub counts : length h.records ≡ length k.records
+  counts =
+      ⊎_elim
+      (λ (less : length h.records < length k.records). absurd (h.ends (omega (arith, k.few)) (
+        get_or k.records (length h.records) [],
+        subst (λ s. IsWhole shape image s (get_or k.records (length h.records) [])) (omega (arith, heads))
+            (k.keeps.whole (length h.records) less),
+      )))
+      (λ (ge : length k.records ≤ length h.records). ⊎_elim
+      (λ (less : length k.records < length h.records). absurd (k.ends (omega (arith, h.few)) (
+        get_or h.records (length k.records) [],
+        subst (λ s. IsWhole shape image s (get_or h.records (length k.records) [])) (omega (arith, heads))
+            (h.keeps.whole (length k.records) less),
+      )))
+      (λ (le : length h.records ≤ length k.records). omega arith) (cases_lt (length k.records) (length h.records)))
+      (cases_lt (length h.records) (length k.records))
+
+  -- they are the same records
+  pub records_same : h.records ≡ k.records
+  records_same =
+      ext_get_or [] h.records k.records counts
+      (λ j below. IsWhole-one (layout_of shape.format) (laws_of shape.format) shape image (h.head + j) (get_or h.records j [])
+      (get_or k.records j []) (h.keeps.whole j below)
+      (subst (λ s. IsWhole shape image s (get_or k.records j [])) (omega (arith, heads)) (k.keeps.whole j (omega (arith, counts)))))
+
+  -- so are the next stamp and the blocks of the array
+  pub same_stamp_and_blocks : (t ≡ u) × ((x : ℕ) → x < shape.blocks → a x ≡ b x)
+  same_stamp_and_blocks = (
+    omega (arith, h.next_is, k.next_is, heads, counts),
+    λ x below. sym (h.keeps.blocks x below)
+        ∙ ap (λ (rs : List (List Entry)). with_records rs (home_of shape image) x) records_same
+        ∙ k.keeps.blocks x below,
+  )
+
+-- an image stands for at most one array and next stamp, of one shape
+pub StandsFor-one : (size other : ℕ) (s r : Shape) (image : Image) (a b : Array) (t u : ℕ)
+    → StandsFor size s image a t → StandsFor other r image b u
+    → (s ≡ r) × (t ≡ u) × ((x : ℕ) → x < s.blocks → a x ≡ b x)
+StandsFor-one size other s r image a b t u h k =
+    let one : s ≡ r = IsSuper-one s r (image 0) h.keeps.super k.keeps.super in
+    let there : StandsFor other s image b u = subst (λ (x : Shape). StandsFor other x image b u) (sym one) k in
+    let same = same_stamp_and_blocks size other s image a b t u h there in
+    (one, same.0, same.1)
+
+-- for each of n numbers there is an entry: all of them as a list
+abbrev Collected : ℕ → (ℕ → List Entry → Type 0) → Type 0
+Collected n P = (records : List (List Entry)) × (length records ≡ n) × ((j : ℕ) → j < n
+    → P j (get_or records j []))
+
+-- one more in front
+one_more : (n : ℕ) (P : ℕ → List Entry → Type 0) → ((e : List Entry) × P 0 e)
+    → Collected n (λ j. P (suc j)) → Collected (suc n) P
+one_more n P first rest = (first.0 ∷ rest.0, (let e = rest.1 in omega (arith, e)), each)
+  where
+    each : (j : ℕ) → j < suc n → P j (get_or (first.0 ∷ rest.0) j [])
+    each zero below = first.1
+    each (suc j) below = rest.2 j (omega arith)
+
+-- all of them
+collect : (n : ℕ) (P : ℕ → List Entry → Type 0) → ((j : ℕ) → j < n → (e : List Entry) × P j e)
+    → Collected n P
+collect zero P f = ([], refl, λ j below. absurd (omega arith))
+collect (suc n) P f = one_more n P (f 0 (omega arith)) (collect n (λ j. P (suc j)) (λ j below. f (suc j) (omega arith)))
+
+-- an image with a super, a head and so many whole records stands for an array
+pub record Stood (size : ℕ) (shape : Shape) (image : Image) (head count : ℕ) : Type 0 where
+  pub array : Array
+  pub stands : StandsFor size shape image array (head + count + 1)
+  pub head_is : stands.head ≡ head
+  pub count_is : length stands.records ≡ count
+
+-- what it stands for
+pub count_stands : (size : ℕ) (shape : Shape) (image : Image) (head count : ℕ)
+    → sectors_of shape ≤ size → IsSuper shape (image 0) → IsHead head (image 1)
+    → IsCount shape image head count → Stood size shape image head count
+count_stands size shape image head count fits s h c =
+    let found = collect count (λ j e. IsWhole shape image (head + j) e) (λ j below. c.whole j below) in
+    let long : length found.0 ≡ count = found.1 in
+    record {
+      array = with_records found.0 (home_of shape image);
+      stands = record {
+        fits = fits;
+        head = head;
+        records = found.0;
+        keeps = record { super = s; head_is = h; whole = λ j below. found.2 j (omega (arith, long)); blocks = λ b below. refl };
+        few = omega (arith, long, c.few);
+        ends = λ less w. c.ends (omega (arith, long)) (w.0, subst (λ (n : ℕ). IsWhole shape image (head + n) w.0) long w.1);
+        next_is = omega (arith, long);
+      };
+      head_is = refl;
+      count_is = long;
+    }
+
+-- the log ends before home
+pub log_before_home : (shape : Shape) (bytes : List ℕ) → IsSuper shape bytes
+    → 2 + (layout_of shape.format).slot_sectors * shape.slots ≤ shape.home
+log_before_home shape bytes super =
+    let same = ap (λ (n : ℕ). n * shape.slots) (sectors_are shape.format) in
+    omega (arith, same, super.home_is.0)
+
+module _ (size : ℕ) (shape : Shape) (before image : Image) (agree : Agree 0 size image before) where
+  -- where a medium is long enough its log agrees
+  log_agrees : (bytes : List ℕ) → IsSuper shape bytes → sectors_of shape ≤ size
+      → Agree 2 (2 + (layout_of shape.format).slot_sectors * shape.slots) image before
+  log_agrees bytes super fits x low high = agree x (omega arith) (omega (arith, fits, log_before_home shape bytes super))
+
+  -- so does each slot
+  slot_agrees : (bytes : List ℕ) → IsSuper shape bytes → sectors_of shape ≤ size → (stamp : ℕ)
+      → Agree (slot_at (layout_of shape.format) shape stamp)
+      (slot_at (layout_of shape.format) shape stamp + (layout_of shape.format).slot_sectors) image before
+  slot_agrees bytes super fits stamp x low high = log_agrees bytes super fits x (omega arith)
+      (omega (arith, slot_inside (layout_of shape.format) (laws_of shape.format) shape stamp super.some_slots))
+
+  -- images with the same sectors stand for the same
+  pub StandsFor-same : (array : Array) (next : ℕ)
+      → StandsFor size shape before array next → StandsFor size shape image array next
+  StandsFor-same array next s =
+      let L = layout_of shape.format in
+      let laws = laws_of shape.format in
+      let super = s.keeps.super in
+      record {
+        fits = s.fits;
+        head = s.head;
+        records = s.records;
+        keeps = Keeps-same (layout_of shape.format) (laws_of shape.format) shape before image s.head s.records array
+            (agree 0 (omega arith) (omega (arith, s.fits, log_before_home shape (before 0) s.keeps.super)))
+            (agree 1 (omega arith) (omega (arith, s.fits, log_before_home shape (before 0) s.keeps.super)))
+            (λ j below. slot_agrees (before 0) s.keeps.super s.fits (s.head + j))
+            (λ x low high. agree x (omega arith) (omega (arith, s.fits)))
+            s.keeps;
+        few = s.few;
+        ends = λ less w. s.ends less
+            (HasWhole-same (layout_of shape.format) (laws_of shape.format) shape image before (s.head + length s.records)
+            (λ x low high. sym (slot_agrees (before 0) s.keeps.super s.fits (s.head + length s.records) x low high)) w);
+        next_is = s.next_is;
+      }
+
+  -- an image with the same sectors is ours too
+  pub IsOurs-same : (array : Array) (next : ℕ)
+      → IsOurs size shape before array next → IsOurs size shape image array next
+  IsOurs-same array next o = record {
+    stands = StandsFor-same array next o.stands;
+    carries = CarriesBelow-agree (layout_of shape.format) (laws_of shape.format) shape before image next
+        (log_agrees (before 0) o.stands.keeps.super o.stands.fits) o.carries;
+  }
+
+-- an image that stands for something has the shape of its super
+pub StandsFor-shape : (size : ℕ) (shape : Shape) (image : Image) (array : Array) (next : ℕ) → StandsFor size shape image array next
+    → HasShape size shape image
+StandsFor-shape size shape image array next s = record { super = s.keeps.super; fits = s.fits }
+
+-- a count holds in each image with the same sectors
+pub IsCount-same : (shape : Shape) (before image : Image) (head count : ℕ) → ((x : ℕ)
+    → image x ≡ before x) → IsCount shape before head count → IsCount shape image head count
+IsCount-same shape before image head count same c = record {
+  few = c.few;
+  whole = λ j below.
+      HasWhole-same (layout_of shape.format) (laws_of shape.format) shape before image (head + j) (λ x low high. same x) (c.whole j below);
+  ends = λ less w. c.ends less
+      (HasWhole-same (layout_of shape.format) (laws_of shape.format) shape image before (head + count) (λ x low high. sym (same x)) w);
+}

@@ -1,0 +1,70 @@
+-- Whole records of an image: each stamp has at most one, and a slot's bytes decide.
+use Rattle.std.proofs.Common.{◌≡◌, ℕ, ◌+◌, ◌-◌, ◌*◌, ◌%◌, ◌<◌, ◌≤◌, List, [], length, get_or, sym, ◌∙◌, subst, arith}
+use Rattle.std.proofs.lemmas.Nat.{mod_below}
+use Rattle.medium.specs.Medium.{Image}
+use Rattle.spec.specs.Blocks.{Array}
+use Rattle.journal.specs.Places.{Shape}
+use Rattle.journal.specs.Sectors.{IsSuper, IsHead}
+use Rattle.journal.specs.Record.{Entry, home_of, Agree}
+use Rattle.journal.specs.Layout.{Layout, IsWholeIn, HasWholeIn, CarriesBelowIn, KeepsIn, slot_at}
+use Rattle.journal.specs.LayoutLaws.{Laws}
+use Rattle.journal.proofs.Apart.{in_log}
+use Rattle.journal.proofs.Overlay.{with_records-same}
+
+module _ (L : Layout) (laws : Laws L) (shape : Shape) where
+  -- an image has at most one whole record of a stamp
+  pub IsWhole-one : (image : Image) (stamp : ℕ) (es fs : List Entry)
+      → IsWholeIn L shape image stamp es → IsWholeIn L shape image stamp fs → es ≡ fs
+  IsWhole-one image stamp es fs h k = laws.read shape image stamp es h ∙ sym (laws.read shape image stamp fs k)
+
+  module _ (before image : Image) where
+    -- a record is whole in each image that agrees on its slot
+    pub IsWhole-same : (stamp : ℕ) (entries : List Entry)
+        → Agree (slot_at L shape stamp) (slot_at L shape stamp + L.slot_sectors) image before
+        → IsWholeIn L shape before stamp entries → IsWholeIn L shape image stamp entries
+    IsWhole-same stamp entries agree w = record {
+      fit = w.fit;
+      least = w.least;
+      below = w.below;
+      there = λ p below. agree (slot_at L shape stamp + L.offset (length entries) p) (omega arith)
+          (omega (arith, laws.inside (length entries) p w.fit.few below))
+          ∙ w.there p below;
+    }
+
+    -- the same of some whole record
+    pub HasWhole-same : (stamp : ℕ)
+        → Agree (slot_at L shape stamp) (slot_at L shape stamp + L.slot_sectors) image before
+        → HasWholeIn L shape before stamp → HasWholeIn L shape image stamp
+    HasWhole-same stamp agree w = (w.0, IsWhole-same stamp w.0 agree w.1)
+
+    -- the log carries what it carried in an image that agrees on it
+    pub CarriesBelow-agree : (end : ℕ) → Agree 2 (2 + L.slot_sectors * shape.slots) image before
+        → CarriesBelowIn L shape before end → CarriesBelowIn L shape image end
+    CarriesBelow-agree end agree c slot o t low small carries = c slot o t low small
+        (subst (L.carries o t) (agree (2 + L.slot_sectors * slot + o) (omega arith)
+        (in_log L.slot_sectors slot shape.slots o low small)) carries)
+
+    -- an image keeps records if it agrees on the super, the head, their slots and home
+    pub Keeps-same : (head : ℕ) (records : List (List Entry)) (array : Array)
+        → image 0 ≡ before 0 → image 1 ≡ before 1
+        → ((j : ℕ) → j < length records
+        → Agree (slot_at L shape (head + j)) (slot_at L shape (head + j) + L.slot_sectors) image before)
+        → Agree shape.home (shape.home + shape.blocks) image before
+        → KeepsIn L shape before head records array → KeepsIn L shape image head records array
+    Keeps-same head records array zeroth first slots home k = record {
+      super = subst (IsSuper shape) (sym zeroth) k.super;
+      head_is = subst (IsHead head) (sym first) k.head_is;
+      whole = λ j below. IsWhole-same (head + j) (get_or records j []) (slots j below) (k.whole j below);
+      blocks = λ b below. with_records-same records (home_of shape image) (home_of shape before) b
+          (home (shape.home + b) (omega arith) (omega arith))
+          ∙ k.blocks b below;
+    }
+
+  -- the sectors of a slot stand in the log
+  pub slot_inside : (stamp : ℕ) → 1 ≤ shape.slots
+      → slot_at L shape stamp + L.slot_sectors ≤ 2 + L.slot_sectors * shape.slots
+  slot_inside stamp some =
+      let low : stamp % shape.slots < shape.slots = mod_below stamp shape.slots some in
+      let sectors = laws.inside 0 0 (omega arith) (laws.some_parts 0) in
+      let last = in_log L.slot_sectors (stamp % shape.slots) shape.slots (L.slot_sectors - 1) low (omega (arith, sectors)) in
+      omega (arith, last, sectors)

@@ -1,0 +1,50 @@
+-- Format 1, as a layout: a descriptor and n data places, a flush, a commit, a flush.
+use Rattle.std.specs.Prelude.{◌<◌, ◌≤◌, ℕ, ◌+◌, ◌-◌, List, [], ◌∷◌, length, map, if◌then◌else◌}
+use Rattle.std.specs.Prelude.{nat_lt}
+use Rattle.std.specs.List.{range_with_len}
+use Rattle.medium.specs.Medium.{Image}
+use Rattle.journal.specs.Spelling.{spelling, number_in, descriptor_mark, commit_mark}
+use Rattle.journal.specs.Sectors.{IsDescriptor, IsCommit}
+use Rattle.journal.specs.Record.{Entry, numbers_of, block_of, entries_in}
+use Rattle.journal.specs.Layout.{Layout}
+
+-- at this offset of a slot these bytes carry this stamp: data places carry none
+pub record Carries1 (o stamp : ℕ) (bytes : List ℕ) : Type 0 where
+  pub descriptor : o < 1 → (numbers : List ℕ) × IsDescriptor stamp numbers bytes
+  pub place : 1 ≤ o → 49 ≤ o
+  pub commit : 49 ≤ o → (count : ℕ) × IsCommit stamp count bytes
+
+unfoldable pub offset1 : ℕ → ℕ → ℕ
+offset1 n p = if nat_lt p (n + 1) then p else 49
+
+abbrev pub commit1 : ℕ → ℕ → List ℕ
+commit1 stamp n = spelling (commit_mark ∷ stamp ∷ n ∷ [])
+
+abbrev pub descriptor1 : ℕ → List ℕ → List ℕ
+descriptor1 stamp numbers = spelling (descriptor_mark ∷ stamp ∷ length numbers ∷ numbers)
+
+unfoldable pub part1 : ℕ → List Entry → ℕ → List ℕ
+part1 stamp entries p =
+    if nat_lt p 1 then descriptor1 stamp (numbers_of entries)
+    else (if nat_lt p (length entries + 1) then block_of entries (p - 1)
+    else commit1 stamp (length entries))
+
+-- the block numbers that a descriptor spells
+abbrev pub numbers_in : List ℕ → List ℕ
+numbers_in bytes = map (λ i. number_in bytes (3 + i)) (range_with_len 0 (number_in bytes 2))
+
+-- the only record that may be whole in the slot from this sector on
+abbrev pub record_in : Image → ℕ → List Entry
+record_in image at = entries_in image (at + 1) (numbers_in (image at))
+
+abbrev pub format1 : Layout
+format1 = record {
+  slot_sectors = 50;
+  most = 48;
+  parts = λ n. n + 2;
+  early = λ n. n + 1;
+  offset = offset1;
+  part = part1;
+  carries = Carries1;
+  read = record_in;
+}

@@ -1,0 +1,53 @@
+-- Format 2: ceil(n / 30) descriptors, n data places and a commit, and one flush behind them.
+use Rattle.std.specs.Prelude.{◌≡◌, ◌<◌, ◌≤◌, ℕ, ◌+◌, ◌*◌, ◌-◌, ◌/◌, ◌%◌, ◌^◌, List, ◌++◌, length}
+use Rattle.std.specs.Prelude.{drop, map, slice_range, if◌then◌else◌, nat_lt}
+use Rattle.std.specs.List.{range_with_len}
+use Rattle.byteorder.specs.Endian.{little_number}
+use Rattle.medium.specs.Medium.{Image}
+use Rattle.journal.specs.SectorsTwo.{descriptors_of, descriptor_bytes, place_bytes, commit_bytes}
+use Rattle.journal.specs.Record.{Entry, block_of}
+use Rattle.journal.specs.Layout.{Layout}
+
+-- at this offset of a slot these bytes carry this stamp
+pub record Carries2 (o stamp : ℕ) (bytes : List ℕ) : Type 0 where
+  pub most : stamp < 2 ^ 64
+  pub descriptor : o < 8 → (entries : List Entry) × (bytes ≡ descriptor_bytes stamp entries o)
+  pub place : 8 ≤ o → o < 248 → (block : List ℕ) × (bytes ≡ place_bytes stamp block)
+  pub commit : 248 ≤ o → (count : ℕ) × (bytes ≡ commit_bytes stamp count)
+
+-- where the parts stand, in the order in which they are written: descriptors, data places, commit
+unfoldable pub offset2 : ℕ → ℕ → ℕ
+offset2 n p = if nat_lt p (descriptors_of n) then p
+    else (if nat_lt p (descriptors_of n + n) then 8 + (p - descriptors_of n) else 248)
+
+unfoldable pub part2 : ℕ → List Entry → ℕ → List ℕ
+part2 stamp entries p =
+    if nat_lt p (descriptors_of (length entries)) then descriptor_bytes stamp entries p
+    else (if nat_lt p (descriptors_of (length entries) + length entries)
+    then place_bytes stamp (block_of entries (p - descriptors_of (length entries)))
+    else commit_bytes stamp (length entries))
+
+-- the i-th entry of the record that may stand in the slot from this sector on
+abbrev pub entry_in : Image → ℕ → ℕ → Entry
+entry_in image at i = (
+  little_number 8 (drop (32 + 16 * (i % 30)) (image (at + i / 30))),
+  slice_range (image (at + i / 30)) (40 + 16 * (i % 30)) (40 + 16 * (i % 30) + 8)
+      ++ drop 8 (image (at + (8 + i))),
+)
+
+-- the only record that may be whole there
+abbrev pub record_in : Image → ℕ → List Entry
+record_in image at =
+    map (entry_in image at) (range_with_len 0 (little_number 8 (drop 16 (image (at + 248)))))
+
+abbrev pub format2 : Layout
+format2 = record {
+  slot_sectors = 249;
+  most = 240;
+  parts = λ n. descriptors_of n + n + 1;
+  early = λ n. 0;
+  offset = offset2;
+  part = part2;
+  carries = Carries2;
+  read = record_in;
+}

@@ -1,0 +1,65 @@
+-- Where the parts of a medium stand: super, head, slots of the log, and blocks at home.
+use Rattle.std.specs.Prelude.{◌≤◌, ◌<◌, ℕ, ◌+◌, ◌*◌, ◌/◌}
+use Rattle.journal.specs.declared.log_format.LogFormat.{LogFormat}
+use Rattle.journal.specs.declared.log_format.LogFormat.TheVariants.{One, Two}
+
+-- a medium's format, how many blocks and how many log slots it has, and where block 0 is at home
+pub record Shape : Type 0 where
+  pub format : LogFormat
+  pub blocks : ℕ
+  pub slots : ℕ
+  pub home : ℕ
+
+-- how many blocks a record has at most
+abbrev pub limit_of : LogFormat → ℕ
+limit_of One = 48
+limit_of Two = 240
+
+-- how many sectors a slot has
+abbrev pub slot_sectors_of : LogFormat → ℕ
+slot_sectors_of One = 50
+slot_sectors_of Two = 249
+
+-- where in a slot the bytes of its record's first block stand; in format 2 all but the first 8
+abbrev pub first_data_of : LogFormat → ℕ
+first_data_of One = 1
+first_data_of Two = 8
+
+-- how many sectors more there may be between the log and home, and one
+abbrev pub gap_of : LogFormat → ℕ
+gap_of One = 1
+gap_of Two = 249
+
+-- Home begins where a log of so many slots ends. In format 2 less than a slot may lie between them,
+-- which is what a migration leaves.
+abbrev pub IsFirstHome : LogFormat → ℕ → ℕ → Type 0
+IsFirstHome format slots home =
+    (2 + slot_sectors_of format * slots ≤ home)
+    × (home < 2 + slot_sectors_of format * slots + gap_of format)
+
+-- the first sector of the blocks at home
+abbrev pub first_home : Shape → ℕ
+first_home shape = shape.home
+
+-- how many sectors the super, the head, the log and the blocks at home take
+abbrev pub sectors_of : Shape → ℕ
+sectors_of shape = first_home shape + shape.blocks
+
+-- the shape of a new medium with so many blocks and slots
+abbrev pub new_shape : LogFormat → ℕ → ℕ → Shape
+new_shape format blocks slots = record {
+  format = format;
+  blocks = blocks;
+  slots = slots;
+  home = 2 + slot_sectors_of format * slots;
+}
+
+-- The shape after a migration to format 2: the same blocks at home in the same sectors, and as many
+-- slots as lie in the log of format 1.
+abbrev pub migrated : Shape → Shape
+migrated shape = record {
+  format = Two;
+  blocks = shape.blocks;
+  slots = slot_sectors_of One * shape.slots / slot_sectors_of Two;
+  home = shape.home;
+}

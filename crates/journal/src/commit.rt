@@ -1,0 +1,62 @@
+//! The commit: the last sector of a record, which makes it whole.
+ghost use Rattle.std.specs.Prelude.{◌≡◌, ◌≤◌, ◌<◌, ◌-◌, ◌^◌, ℕ, IfSome, IsSomeAnd};
+ghost use Rattle.journal.specs.Sectors.{IsCommit};
+
+use crate::fields::{mark_number, number_at, put};
+
+/// What the last sector of a slot holds.
+#[derive(Clone, Copy, Debug, PartialEq, Eq)]
+pub struct Commit {
+    /// The stamp of the record, 1 to 2^63 - 2.
+    pub stamp: u64,
+    /// How many blocks the record has, 1 to 48.
+    pub count: u64,
+    pub ghost least: { 1 ≤ stamp },
+    pub ghost most: { stamp < 2 ^ 63 - 1 },
+    pub ghost some: { 1 ≤ count },
+    pub ghost few: { count ≤ 48 },
+}
+
+impl Commit {
+    /// The commit of a record with this stamp and so many blocks.
+    pub fn new(stamp: u64, count: u64) -> Commit
+        requires least { 1 ≤ stamp }
+        requires most { stamp < 2 ^ 63 - 1 }
+        requires some { 1 ≤ count }
+        requires few { count ≤ 48 }
+        ensures stamp { result.stamp ≡ stamp }
+        ensures count { result.count ≡ count }
+    {
+        Commit { stamp, count }
+    }
+
+    /// The bytes of the commit.
+    pub fn encode(&self) -> [u8; 512]
+        ensures { IsCommit self.now.stamp self.now.count result }
+    {
+        let mut sector = [0; 512];
+        put(&mut sector, 0, mark_number(b"RDCOMMIT"));
+        put(&mut sector, 1, self.stamp);
+        put(&mut sector, 2, self.count);
+        sector
+    }
+
+    /// The commit that these bytes spell, if they spell one.
+    pub fn decode(sector: &[u8; 512]) -> Option<Commit>
+        ensures some { IfSome result (λ commit. IsCommit commit.stamp commit.count sector.now) }
+        ensures all { (stamp count : ℕ) → IsCommit stamp count sector.now
+            → IsSomeAnd result (λ commit. (commit.stamp ≡ stamp) × (commit.count ≡ count)) }
+    {
+        let stamp = number_at(sector, 1);
+        let count = number_at(sector, 2);
+        if stamp < 1 || stamp >= (1 << 63) - 1 || count < 1 || count > 48 {
+            return None;
+        }
+        let commit = Commit { stamp, count };
+        if commit.encode() == *sector {
+            Some(commit)
+        } else {
+            None
+        }
+    }
+}

@@ -1,0 +1,68 @@
+//! The format of a log.
+
+/// How records lie in the slots of a log, and how many blocks a record has at most.
+#[derive(Clone, Copy, Debug, PartialEq, Eq)]
+pub enum LogFormat {
+    /// A descriptor, up to 48 data places and a commit, with a flush before the commit.
+    One,
+    /// Up to 8 descriptors, up to 240 data places and a commit, with one flush behind them.
+    Two,
+}
+
+impl LogFormat {
+    ghost use Rattle.std.specs.Prelude.{◌≡◌, ◌≢◌, IfSome, None};
+    ghost use Rattle.journal.specs.Places.{limit_of, slot_sectors_of, gap_of};
+    ghost use Rattle.journal.specs.Sectors.{version_of};
+
+    /// How many blocks a record has at most, which is what a batch and a transfer have at most.
+    pub fn limit(self) -> u32
+        ensures { result ≡ limit_of self }
+    {
+        match self {
+            LogFormat::One => 48,
+            LogFormat::Two => 240,
+        }
+    }
+
+    /// How many sectors a slot has.
+    pub fn slot_sectors(self) -> u64
+        ensures { result ≡ slot_sectors_of self }
+    {
+        match self {
+            LogFormat::One => 50,
+            LogFormat::Two => 249,
+        }
+    }
+
+    /// One more than the number of sectors that may lie between the log and home.
+    pub(crate) fn gap(self) -> u64
+        ensures { result ≡ gap_of self }
+    {
+        match self {
+            LogFormat::One => 1,
+            LogFormat::Two => 249,
+        }
+    }
+
+    /// The version that a super has for the format.
+    pub fn version(self) -> u64
+        ensures { result ≡ version_of self }
+    {
+        match self {
+            LogFormat::One => 1,
+            LogFormat::Two => 2,
+        }
+    }
+
+    /// The format of a super with this version, if there is one.
+    pub fn of_version(version: u64) -> Option<LogFormat>
+        ensures some { IfSome result (λ format. version ≡ version_of format) }
+        ensures none { result ≡ None → (version ≢ 1) × (version ≢ 2) }
+    {
+        match version {
+            1 => Some(LogFormat::One),
+            2 => Some(LogFormat::Two),
+            _ => None,
+        }
+    }
+}

@@ -1,0 +1,72 @@
+//! The sectors of a record, in the order in which they are written, and where they stand.
+ghost use Rattle.std.specs.Prelude.{◌≡◌, ◌≤◌, ◌<◌, ◌-◌, ◌^◌, ◌+◌, ◌*◌, length, All};
+ghost use Rattle.journal.specs.Places.{limit_of, first_data_of};
+ghost use Rattle.journal.specs.Sectors.{IsRising};
+ghost use Rattle.journal.specs.Record.{entries_of};
+ghost use Rattle.journal.specs.Formats.{layout_of};
+
+use crate::{LogFormat, Part, format_one, format_two};
+
+/// Part p of the record with this stamp and these blocks, whose bytes stand one after the other.
+pub fn part(format: LogFormat, stamp: u64, numbers: &[u64], bytes: &[u8], p: usize) -> Part
+    requires least { 1 ≤ stamp }
+    requires most { stamp < 2 ^ 63 - 1 }
+    requires some { 1 ≤ length numbers.now }
+    requires few { length numbers.now ≤ limit_of format }
+    requires rising { IsRising numbers.now }
+    requires small { All (λ b. b < 2 ^ 31) numbers.now }
+    requires size { length bytes.now ≡ 512 * length numbers.now }
+    requires inside { p < (layout_of format).parts (length numbers.now) }
+    ensures offset { result.offset ≡ (layout_of format).offset (length numbers.now) p }
+    ensures sector { result.sector
+        ≡ (layout_of format).part stamp (entries_of numbers.now bytes.now) p }
+{
+    match format {
+        LogFormat::One => format_one::part(stamp, numbers, bytes, p),
+        LogFormat::Two => format_two::part(stamp, numbers, bytes, p),
+    }
+}
+
+/// How many sectors a record of so many blocks writes.
+pub fn parts(format: LogFormat, count: usize) -> usize
+    requires { count ≤ 240 }
+    ensures { result ≡ (layout_of format).parts count }
+{
+    match format {
+        LogFormat::One => count + 2,
+        LogFormat::Two => format_two::descriptors(count) + count + 1,
+    }
+}
+
+/// How many of them are flushed before the last one is written.
+pub fn early(format: LogFormat, count: usize) -> usize
+    requires { count ≤ 240 }
+    ensures { result ≡ (layout_of format).early count }
+{
+    match format {
+        LogFormat::One => count + 1,
+        LogFormat::Two => 0,
+    }
+}
+
+/// The first sector of a slot.
+pub fn slot_place(format: LogFormat, slot: u64) -> u64
+    requires { slot < 64 }
+    ensures { result ≡ 2 + (layout_of format).slot_sectors * slot }
+{
+    2 + format.slot_sectors() * slot
+}
+
+/// The sector of a slot that holds the bytes of the i-th block of its record; in format 2 all but
+/// the first 8 of them.
+pub fn copy_place(format: LogFormat, slot: u64, i: usize) -> u64
+    requires slot { slot < 64 }
+    requires inside { i < limit_of format }
+    ensures { result ≡ 2 + (layout_of format).slot_sectors * slot + first_data_of format + i }
+{
+    let first = match format {
+        LogFormat::One => format_one::FIRST_DATA,
+        LogFormat::Two => format_two::FIRST_DATA,
+    };
+    slot_place(format, slot) + first + i as u64
+}
