@@ -1,9 +1,12 @@
+pub mod V1
+pub mod V2
 pub mod Places
 pub mod Spelling
 pub mod Sectors
 pub mod SuperFaults
 pub mod Entry
 pub mod SectorsTwo
+pub mod HomeTurns
 pub mod Values
 pub mod SectorLaws
 pub mod Record

@@ -10,7 +10,7 @@ ghost use Rattle.journal.specs.Copies.{copy_reads_of, MakesReads};
 ghost use Rattle.journal.specs.Formats.{IsWhole};
 ghost use Rattle.journal.specs.Record.{Entry, block_of};
 
-use crate::{LogFormat, Super, copy_place, slot_place};
+use crate::{LogFormat, Super, copy_place, v2};
 use medium::{Medium, MediumFault};
 
 /// Reads the i-th block of the record in this slot. At an `Err` the array may hold anything.
@@ -64,9 +64,8 @@ fn read_begin<M: Medium>(
         × LooksOnly (λ s. s ≡ 2 + 249 * slot + i / 30) (M.state m.old) (M.state m.new) }
 {
     let mut descriptor = [0; 512];
-    let place = slot_place(LogFormat::Two, slot) + (i / 30) as u64;
+    let place = v2::descriptor_place(slot, (i / v2::ENTRIES) as u64);
     m.read(place, &mut descriptor)?;
-    let from = 40 + 16 * (i % 30);
-    to[..8].copy_from_slice(&descriptor[from..from + 8]);
+    to[..8].copy_from_slice(&v2::first_bytes(&descriptor, i));
     Ok(())
 }

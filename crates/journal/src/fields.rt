@@ -2,6 +2,7 @@
 ghost use Rattle.std.specs.Prelude.{◌≡◌, ◌≤◌, ◌<◌, ◌*◌, ◌^◌, ◌+◌, ◌++◌, ◌∷◌, ◌↔◌};
 ghost use Rattle.std.specs.Prelude.{[], List, ℕ, length, All, slice_index, IsTrue};
 ghost use Rattle.journal.specs.Spelling.{spelling, number_in, mark};
+ghost use Rattle.journal.specs.Sectors.{IsRising};
 ghost use Rattle.journal.specs.SuperFaults.{HasZeroRest};
 
 use arrayvec::ArrayVec;
@@ -60,4 +61,16 @@ pub(crate) fn has_zero_rest(sector: &[u8]) -> bool
     } else {
         false
     }
+}
+
+/// Whether each number is below the next.
+pub fn are_rising(numbers: &[u64]) -> bool
+    ensures { IsTrue result ↔ IsRising numbers.now }
+{
+    for i in 1..numbers.len() {
+        if numbers[i - 1] >= numbers[i] {
+            return false;
+        }
+    }
+    true
 }

@@ -6,38 +6,33 @@
 //! bytes, the lowest byte first.
 #![tactic(auto)]
 
-mod commit;
-mod commit_two;
 mod copies;
-mod data_two;
-mod descriptor;
-mod descriptor_two;
 mod fields;
-mod format_one;
-mod format_two;
 mod head;
+mod home_turns;
 mod laws;
 mod log_format;
 mod places;
 mod record_part;
 mod record_parts;
-mod sectors_two;
 mod super_fault;
 mod super_sector;
-mod whole;
+pub mod v1;
+pub mod v2;
 
-pub use commit::Commit;
-pub use commit_two::Commit2;
 pub use copies::read_copy;
-pub use data_two::{data_sector2, is_data2};
-pub use descriptor::{Descriptor, are_rising};
-pub use descriptor_two::Descriptor2;
+pub use fields::are_rising;
 pub use head::Head;
+pub use home_turns::{HomeTurn, home_turn, turns_home};
 pub use laws::{image_laws, layout_laws};
 pub use log_format::LogFormat;
-pub use places::{commit_place, data_place, place_of, place_of2, slot_of};
+pub use places::slot_of;
 pub use record_part::Part;
 pub use record_parts::{copy_place, early, part, parts, slot_place};
 pub use super_fault::SuperFault;
 pub use super_sector::Super;
-pub use whole::whole_record;
+pub use v1::{Commit, Descriptor, commit_place, data_place, place_of, whole_record};
+pub use v2::{
+    Commit as Commit2, Descriptor as Descriptor2, data_sector as data_sector2, is_data as is_data2,
+    place_of as place_of2,
+};

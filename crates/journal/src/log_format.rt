@@ -1,4 +1,5 @@
 //! The format of a log.
+use crate::{v1, v2};
 
 /// How records lie in the slots of a log, and how many blocks a record has at most.
 #[derive(Clone, Copy, Debug, PartialEq, Eq)]
@@ -11,7 +12,7 @@ pub enum LogFormat {
 
 impl LogFormat {
     ghost use Rattle.std.specs.Prelude.{◌≡◌, ◌≢◌, IfSome, None};
-    ghost use Rattle.journal.specs.Places.{limit_of, slot_sectors_of, gap_of};
+    ghost use Rattle.journal.specs.Places.{flushes_of, limit_of, slot_sectors_of, gap_of};
     ghost use Rattle.journal.specs.Sectors.{version_of};
 
     /// How many blocks a record has at most, which is what a batch and a transfer have at most.
@@ -19,8 +20,8 @@ impl LogFormat {
         ensures { result ≡ limit_of self }
     {
         match self {
-            LogFormat::One => 48,
-            LogFormat::Two => 240,
+            LogFormat::One => v1::LIMIT,
+            LogFormat::Two => v2::LIMIT,
         }
     }
 
@@ -29,8 +30,18 @@ impl LogFormat {
         ensures { result ≡ slot_sectors_of self }
     {
         match self {
-            LogFormat::One => 50,
-            LogFormat::Two => 249,
+            LogFormat::One => v1::SLOT_SECTORS,
+            LogFormat::Two => v2::SLOT_SECTORS,
+        }
+    }
+
+    /// How many flushes make a record durable.
+    pub fn flushes(self) -> usize
+        ensures { result ≡ flushes_of self }
+    {
+        match self {
+            LogFormat::One => 2,
+            LogFormat::Two => 1,
         }
     }
 
@@ -39,8 +50,8 @@ impl LogFormat {
         ensures { result ≡ gap_of self }
     {
         match self {
-            LogFormat::One => 1,
-            LogFormat::Two => 249,
+            LogFormat::One => v1::GAP,
+            LogFormat::Two => v2::GAP,
         }
     }
 

@@ -5,7 +5,8 @@ ghost use Rattle.journal.specs.Sectors.{IsRising};
 ghost use Rattle.journal.specs.Record.{entries_of};
 ghost use Rattle.journal.specs.Formats.{layout_of};
 
-use crate::{LogFormat, Part, format_one, format_two};
+use crate::places::FIRST_SLOT;
+use crate::{LogFormat, Part, v1, v2};
 
 /// Part p of the record with this stamp and these blocks, whose bytes stand one after the other.
 pub fn part(format: LogFormat, stamp: u64, numbers: &[u64], bytes: &[u8], p: usize) -> Part
@@ -22,8 +23,8 @@ pub fn part(format: LogFormat, stamp: u64, numbers: &[u64], bytes: &[u8], p: usi
         ≡ (layout_of format).part stamp (entries_of numbers.now bytes.now) p }
 {
     match format {
-        LogFormat::One => format_one::part(stamp, numbers, bytes, p),
-        LogFormat::Two => format_two::part(stamp, numbers, bytes, p),
+        LogFormat::One => v1::part(stamp, numbers, bytes, p),
+        LogFormat::Two => v2::part(stamp, numbers, bytes, p),
     }
 }
 
@@ -33,8 +34,8 @@ pub fn parts(format: LogFormat, count: usize) -> usize
     ensures { result ≡ (layout_of format).parts count }
 {
     match format {
-        LogFormat::One => count + 2,
-        LogFormat::Two => format_two::descriptors(count) + count + 1,
+        LogFormat::One => v1::parts(count),
+        LogFormat::Two => v2::parts(count),
     }
 }
 
@@ -44,8 +45,8 @@ pub fn early(format: LogFormat, count: usize) -> usize
     ensures { result ≡ (layout_of format).early count }
 {
     match format {
-        LogFormat::One => count + 1,
-        LogFormat::Two => 0,
+        LogFormat::One => v1::early(count),
+        LogFormat::Two => v2::early(count),
     }
 }
 
@@ -54,7 +55,7 @@ pub fn slot_place(format: LogFormat, slot: u64) -> u64
     requires { slot < 64 }
     ensures { result ≡ 2 + (layout_of format).slot_sectors * slot }
 {
-    2 + format.slot_sectors() * slot
+    FIRST_SLOT + format.slot_sectors() * slot
 }
 
 /// The sector of a slot that holds the bytes of the i-th block of its record; in format 2 all but
@@ -65,8 +66,8 @@ pub fn copy_place(format: LogFormat, slot: u64, i: usize) -> u64
     ensures { result ≡ 2 + (layout_of format).slot_sectors * slot + first_data_of format + i }
 {
     let first = match format {
-        LogFormat::One => format_one::FIRST_DATA,
-        LogFormat::Two => format_two::FIRST_DATA,
+        LogFormat::One => v1::FIRST_DATA,
+        LogFormat::Two => v2::FIRST_DATA,
     };
     slot_place(format, slot) + first + i as u64
 }

@@ -9,7 +9,7 @@ use Rattle.std.proofs.lemmas.List.{length-take, length-drop, get_or-take, get_or
 use Rattle.medium.specs.Medium.{Image}
 use Rattle.journal.specs.declared.log_format.LogFormat.TheVariants.{Two}
 use Rattle.journal.specs.declared.super_sector.Super.{Super}
-use Rattle.journal.specs.declared.descriptor_two.Descriptor2.{Descriptor2}
+use Rattle.journal.specs.declared.v2.descriptor.Descriptor.{Descriptor}
 use Rattle.journal.specs.Places.{Shape, first_home, IsFirstHome}
 use Rattle.journal.specs.SectorsTwo.{descriptors_of, chunk_of, firsts_of, place_bytes, IsDescriptorTwo, IsCommitTwo}
 use Rattle.journal.specs.Values.{shape_of}
@@ -80,7 +80,7 @@ module _ {shape : Shape} {image : Image} {stamp slot : ℕ} {es : List Entry} (r
   -- descriptor j, in each image that is the same elsewhere
   module _ (now : Image) (n j : ℕ) (many : n ≡ length es) (below : j < descriptors_of n)
       (elsewhere : (x : ℕ) → ¬ IsHomeInRecord shape image stamp x → now x ≡ image x) where
-    abbrev Its : Descriptor2 → Type 0
+    abbrev Its : Descriptor → Type 0
     Its d = (d.numbers.items ≡ numbers_of (chunk_of es j)) × (d.firsts.items ≡ firsts_of (chunk_of es j))
 
     described : IsDescriptorTwo stamp n j (numbers_of (chunk_of es j)) (firsts_of (chunk_of es j)) (now (2 + 249 * slot + j))
@@ -92,10 +92,10 @@ module _ {shape : Shape} {image : Image} {stamp slot : ℕ} {es : List Entry} (r
         (sym (same ∙ ap (λ (k : ℕ). image (2 + 249 * k + j)) r.where_is))
         (descriptor_whole shape image stamp es as_whole j (omega (arith, many, below))))
 
-    module _ {o : Option Descriptor2}
+    module _ {o : Option Descriptor}
         (all : (numbers : List ℕ) (firsts : List (List ℕ)) → IsDescriptorTwo stamp n j numbers firsts (now (2 + 249 * slot + j))
         → IsSomeAnd o (λ d. (d.numbers.items ≡ numbers) × (d.firsts.items ≡ firsts))) where
-      pub named : {d : Descriptor2} → o ≡ Some d → Names es j d.numbers.items d.firsts.items
+      pub named : {d : Descriptor} → o ≡ Some d → Names es j d.numbers.items d.firsts.items
       named is =
           let both = there Its is (all (numbers_of (chunk_of es j)) (firsts_of (chunk_of es j)) described) in
           record { numbers_are = both.0; firsts_are = both.1 }

@@ -6,12 +6,12 @@ pub returns-in_err-read-clause-follows : goal.returns-in_err-read-clause-follows
 returns-in_err-read-clause-follows g c = (
   c.read.ensures.follows.0,
   one_look (λ s. s ≡ 2 + 249 * c.args.slot + c.args.i / 30) (g.M.Medium.state c.args.m.now) (g.M.Medium.state c.read.new.self)
-      (c.slot_place.result + c.args.i / 30) (omega (arith, c.slot_place.ensures)) c.read.ensures.follows.1,
+      c.descriptor_place-place.result (omega (arith, c.descriptor_place-place.ensures)) c.read.ensures.follows.1,
 )
 
 pub returns-clause-follows : goal.returns-clause-follows
 returns-clause-follows g c = (
   c.read.ensures.follows.0,
   one_look (λ s. s ≡ 2 + 249 * c.args.slot + c.args.i / 30) (g.M.Medium.state c.args.m.now) (g.M.Medium.state c.read.new.self)
-      (c.slot_place.result + c.args.i / 30) (omega (arith, c.slot_place.ensures)) c.read.ensures.follows.1,
+      c.descriptor_place-place.result (omega (arith, c.descriptor_place-place.ensures)) c.read.ensures.follows.1,
 )

@@ -1,0 +1,105 @@
+//! The descriptor: the first sector of a record, which names its blocks.
+ghost use Rattle.std.specs.Prelude.{◌≡◌, ◌≤◌, ◌<◌, ◌-◌, ◌^◌, ◌+◌, ◌*◌, ◌++◌, ◌↔◌};
+ghost use Rattle.std.specs.Prelude.{ℕ, List, length, IfSome, IsSomeAnd, IsTrue};
+ghost use Rattle.journal.specs.Spelling.{spelling};
+ghost use Rattle.journal.specs.Sectors.{AreBlockNumbers, IsDescriptor};
+
+use crate::fields::{are_rising, mark_number, number_at, numbers_at, put};
+use arrayvec::ArrayVec;
+
+/// What the first sector of a slot holds.
+#[derive(Drop)]
+pub struct Descriptor {
+    /// The stamp of the record, 1 to 2^63 - 2.
+    pub stamp: u64,
+    /// The numbers of the record's 1 to 48 blocks, strictly rising, each below 2^31.
+    pub numbers: ArrayVec<u64, 48>,
+    pub ghost least: { 1 ≤ stamp },
+    pub ghost most: { stamp < 2 ^ 63 - 1 },
+    pub ghost block_numbers: { AreBlockNumbers numbers.items },
+}
+
+impl Descriptor {
+    /// The descriptor of a record with this stamp and these blocks.
+    pub fn new(stamp: u64, numbers: &[u64]) -> Descriptor
+        requires least { 1 ≤ stamp }
+        requires most { stamp < 2 ^ 63 - 1 }
+        requires block_numbers { AreBlockNumbers numbers.now }
+        ensures stamp { result.stamp ≡ stamp }
+        ensures numbers { result.numbers.items ≡ numbers.now }
+    {
+        Descriptor {
+            stamp,
+            numbers: list_of(numbers),
+        }
+    }
+
+    /// The bytes of the descriptor.
+    pub fn encode(&self) -> [u8; 512]
+        ensures { IsDescriptor self.now.stamp self.now.numbers.items result }
+    {
+        let mut sector = [0; 512];
+        put(&mut sector, 0, mark_number(b"RDDESCR1"));
+        put(&mut sector, 1, self.stamp);
+        put(&mut sector, 2, self.numbers.len() as u64);
+        put_all(&mut sector, 3, &self.numbers);
+        sector
+    }
+
+    /// The descriptor that these bytes spell, if they spell one.
+    pub fn decode(sector: &[u8; 512]) -> Option<Descriptor>
+        ensures some { IfSome result (λ d. IsDescriptor d.stamp d.numbers.items sector.now) }
+        ensures all { (stamp : ℕ) (numbers : List ℕ) → IsDescriptor stamp numbers sector.now
+            → IsSomeAnd result (λ d. (d.stamp ≡ stamp) × (d.numbers.items ≡ numbers)) }
+    {
+        let stamp = number_at(sector, 1);
+        let count = number_at(sector, 2);
+        if stamp < 1 || stamp >= (1 << 63) - 1 || count < 1 || count > 48 {
+            return None;
+        }
+        let numbers = numbers_at(sector, count as usize);
+        if !are_block_numbers(&numbers) {
+            return None;
+        }
+        let descriptor = Descriptor { stamp, numbers };
+        if descriptor.encode() == *sector {
+            Some(descriptor)
+        } else {
+            None
+        }
+    }
+}
+
+// A list of these numbers.
+fn list_of(numbers: &[u64]) -> ArrayVec<u64, 48>
+    requires { length numbers.now ≤ 48 }
+    ensures { result.items ≡ numbers.now }
+{
+    let mut list = ArrayVec::new();
+    for number in numbers {
+        list.push(*number);
+    }
+    list
+}
+
+// Writes these numbers from the i-th on.
+fn put_all(sector: &mut [u8], i: usize, numbers: &[u64])
+    requires size { length sector.old ≡ 512 }
+    requires inside { 8 * i + 8 * length numbers.now ≤ 512 }
+    ensures { (before : List ℕ) → length before ≡ i → sector.old ≡ spelling before
+        → sector.new ≡ spelling (before ++ numbers.now) }
+{
+    for (k, number) in numbers.iter().enumerate() {
+        put(sector, i + k, *number);
+    }
+}
+
+// Whether a record may have these block numbers.
+fn are_block_numbers(numbers: &[u64]) -> bool
+    ensures { IsTrue result ↔ AreBlockNumbers numbers.now }
+{
+    !numbers.is_empty()
+        && numbers.len() <= 48
+        && are_rising(numbers)
+        && numbers.iter().all(|b| *b < 1 << 31)
+}

@@ -1,0 +1,17 @@
+//! Format 2: up to 8 descriptors, up to 240 data places and a commit, with one flush behind them.
+mod commit;
+mod data;
+mod descriptor;
+mod places;
+mod record;
+mod sectors;
+mod turns;
+
+pub use commit::Commit;
+pub use data::{data_sector, is_data};
+pub use descriptor::{Descriptor, first_bytes};
+pub(crate) use places::{COMMIT, ENTRIES, FIRST_DATA, GAP, LIMIT, SLOT_SECTORS};
+pub use places::{block_at, commit_place, data_place, descriptor_place, place_of};
+pub use record::descriptors;
+pub(crate) use record::{early, part, parts};
+pub(crate) use turns::home_turn;

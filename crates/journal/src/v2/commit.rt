@@ -1,0 +1,64 @@
+//! The commit of format 2: the last sector of a record.
+ghost use Rattle.std.specs.Prelude.{◌≡◌, ◌≤◌, ◌<◌, ◌-◌, ◌^◌, ℕ, IfSome, IsSomeAnd};
+ghost use Rattle.journal.specs.SectorsTwo.{IsCommitTwo};
+
+use crate::fields::{mark_number, number_at};
+use crate::v2::sectors::append_number;
+
+/// What the last sector of a slot of format 2 holds.
+#[derive(Clone, Copy, Debug, PartialEq, Eq)]
+pub struct Commit {
+    /// The stamp of the record, 1 to 2^63 - 2.
+    pub stamp: u64,
+    /// How many blocks the record has, 1 to 240.
+    pub count: u64,
+    pub ghost least: { 1 ≤ stamp },
+    pub ghost most: { stamp < 2 ^ 63 - 1 },
+    pub ghost some: { 1 ≤ count },
+    pub ghost few: { count ≤ 240 },
+}
+
+impl Commit {
+    /// The commit of a record with this stamp and so many blocks.
+    pub fn new(stamp: u64, count: u64) -> Commit
+        requires least { 1 ≤ stamp }
+        requires most { stamp < 2 ^ 63 - 1 }
+        requires some { 1 ≤ count }
+        requires few { count ≤ 240 }
+        ensures stamp { result.stamp ≡ stamp }
+        ensures count { result.count ≡ count }
+    {
+        Commit { stamp, count }
+    }
+
+    /// The bytes of the commit.
+    pub fn encode(&self) -> [u8; 512]
+        ensures { IsCommitTwo self.now.stamp self.now.count result }
+    {
+        let mut sector = [0; 512];
+        append_number(&mut sector, 0, mark_number(b"RDCOMMT2"));
+        append_number(&mut sector, 8, self.stamp);
+        append_number(&mut sector, 16, self.count);
+        sector
+    }
+
+    /// The commit that these bytes spell, if they spell one.
+    pub fn decode(sector: &[u8; 512]) -> Option<Commit>
+        ensures some { IfSome result (λ commit.
+            IsCommitTwo commit.stamp commit.count sector.now) }
+        ensures all { (stamp count : ℕ) → IsCommitTwo stamp count sector.now
+            → IsSomeAnd result (λ commit. (commit.stamp ≡ stamp) × (commit.count ≡ count)) }
+    {
+        let stamp = number_at(sector, 1);
+        let count = number_at(sector, 2);
+        if stamp < 1 || stamp >= (1 << 63) - 1 || count < 1 || count > 240 {
+            return None;
+        }
+        let commit = Commit { stamp, count };
+        if commit.encode() == *sector {
+            Some(commit)
+        } else {
+            None
+        }
+    }
+}

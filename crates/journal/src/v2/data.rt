@@ -1,0 +1,27 @@
+//! The data places of format 2: a block whose first 8 bytes make room for the stamp of its record.
+ghost use Rattle.std.specs.Prelude.{◌≡◌, length, IsTrue, ◌↔◌};
+ghost use Rattle.journal.specs.SectorsTwo.{place_bytes};
+
+use byteorder::{ByteOrder, LittleEndian};
+
+/// The bytes of a data place for this block.
+pub fn data_sector(stamp: u64, block: &[u8]) -> [u8; 512]
+    requires { length block.now ≡ 512 }
+    ensures { result ≡ place_bytes stamp block.now }
+{
+    let mut sector = [0; 512];
+    sector.copy_from_slice(block);
+    LittleEndian::write_u64(&mut sector, stamp);
+    sector
+}
+
+/// Whether these are the bytes of a data place with this stamp, for whatever block.
+pub fn is_data(stamp: u64, sector: &[u8; 512]) -> bool
+    ensures { IsTrue result ↔ sector.now ≡ place_bytes stamp sector.now }
+{
+    if data_sector(stamp, sector) == *sector {
+        true
+    } else {
+        false
+    }
+}

@@ -1,0 +1,227 @@
+//! The descriptors of format 2: the first sectors of a record, which name its blocks.
+ghost use Rattle.std.specs.Prelude.{◌≡◌, ◌≤◌, ◌<◌, ◌-◌, ◌^◌, ◌+◌, ◌*◌, ◌++◌, ◌↔◌};
+ghost use Rattle.std.specs.Prelude.{ℕ, List, length, take, drop, All, slice_index, get_or};
+ghost use Rattle.std.specs.Prelude.{slice_range, [], zip, min, IsTrue, IfSome, IsSomeAnd};
+ghost use Rattle.std.specs.List.{flat_map};
+ghost use Rattle.journal.specs.Sectors.{IsRising};
+ghost use Rattle.journal.specs.Spelling.{number_in};
+ghost use Rattle.journal.specs.SectorsTwo.{AreEntriesTwo, IsDescriptorTwo, entries_here};
+ghost use Rattle.journal.specs.SectorsTwo.{entry_bytes, padded};
+ghost use Rattle.journal.specs.V2.{first_bytes};
+
+use crate::fields::{are_rising, mark_number, number_at};
+use crate::v2::places::ENTRIES;
+use crate::v2::sectors::{append, append_number};
+use arrayvec::ArrayVec;
+
+/// What one of the first sectors of a slot of format 2 holds.
+#[derive(Drop)]
+pub struct Descriptor {
+    /// The stamp of the record, 1 to 2^63 - 2.
+    pub stamp: u64,
+    /// How many blocks the record has, 1 to 240.
+    pub count: u64,
+    /// Which of the record's descriptors it is: its entries begin with that of block 30 j.
+    pub index: u64,
+    /// The numbers of up to 30 blocks, strictly rising, each below 2^31.
+    pub numbers: ArrayVec<u64, 30>,
+    /// The first 8 bytes of each of them.
+    pub firsts: ArrayVec<[u8; 8], 30>,
+    pub ghost least: { 1 ≤ stamp },
+    pub ghost most: { stamp < 2 ^ 63 - 1 },
+    pub ghost entries: { AreEntriesTwo count index numbers.items firsts.items },
+}
+
+impl Descriptor {
+    /// Descriptor `index` of the record with this stamp and these blocks, whose bytes stand one
+    /// after the other.
+    pub fn new(stamp: u64, numbers: &[u64], bytes: &[u8], index: usize) -> Descriptor
+        requires least { 1 ≤ stamp }
+        requires most { stamp < 2 ^ 63 - 1 }
+        requires few { length numbers.now ≤ 240 }
+        requires rising { IsRising numbers.now }
+        requires small { All (λ b. b < 2 ^ 31) numbers.now }
+        requires size { length bytes.now ≡ 512 * length numbers.now }
+        requires used { 30 * index < length numbers.now }
+        ensures stamp { result.stamp ≡ stamp }
+        ensures count { result.count ≡ length numbers.now }
+        ensures index { result.index ≡ index }
+        ensures numbers { result.numbers.items ≡ take 30 (drop (30 * index) numbers.now) }
+        ensures firsts { (i : ℕ) → i < length result.numbers.items
+            → get_or result.firsts.items i [] ≡ slice_range bytes.now
+            (512 * (30 * index + i)) (512 * (30 * index + i) + 8) }
+    {
+        let from = ENTRIES * index;
+        let here = count_here(numbers.len(), from);
+        Descriptor {
+            stamp,
+            count: numbers.len() as u64,
+            index: index as u64,
+            numbers: list_of(&numbers[from..from + here]),
+            firsts: firsts_in(bytes, from, here),
+        }
+    }
+
+    /// The bytes of the descriptor.
+    pub fn encode(&self) -> [u8; 512]
+        ensures { IsDescriptorTwo self.now.stamp self.now.count self.now.index
+            self.now.numbers.items self.now.firsts.items result }
+    {
+        let mut sector = [0; 512];
+        append_number(&mut sector, 0, mark_number(b"RDDESCR2"));
+        append_number(&mut sector, 8, self.stamp);
+        append_number(&mut sector, 16, self.count);
+        append_number(&mut sector, 24, self.index);
+        append_entries(&mut sector, &self.numbers, &self.firsts);
+        sector
+    }
+
+    /// The descriptor that these bytes spell, if they spell one.
+    pub fn decode(sector: &[u8; 512]) -> Option<Descriptor>
+        ensures some { IfSome result (λ d. IsDescriptorTwo d.stamp d.count d.index
+            d.numbers.items d.firsts.items sector.now) }
+        ensures all { (stamp count j : ℕ) (numbers : List ℕ) (firsts : List (List ℕ))
+            → IsDescriptorTwo stamp count j numbers firsts sector.now
+            → IsSomeAnd result (λ d. (d.stamp ≡ stamp) × (d.count ≡ count) × (d.index ≡ j)
+            × (d.numbers.items ≡ numbers) × (d.firsts.items ≡ firsts)) }
+    {
+        let stamp = number_at(sector, 1);
+        let count = number_at(sector, 2);
+        let index = number_at(sector, 3);
+        if stamp < 1 || stamp >= (1 << 63) - 1 || !has_entries(count, index) {
+            return None;
+        }
+        let here = count_here(count as usize, ENTRIES * index as usize);
+        let numbers = numbers_at(sector, here);
+        if !are_small(&numbers) || !are_rising(&numbers) {
+            return None;
+        }
+        let firsts = firsts_at(sector, here);
+        let descriptor = Descriptor {
+            stamp,
+            count,
+            index,
+            numbers,
+            firsts,
+        };
+        if descriptor.encode() == *sector {
+            Some(descriptor)
+        } else {
+            None
+        }
+    }
+}
+
+// Whether a record of so many blocks may be, and has a descriptor of this index.
+fn has_entries(count: u64, index: u64) -> bool
+    ensures { IsTrue result ↔ (count ≤ 240) × (30 * index < count) }
+{
+    count <= 240 && index < 8 && ENTRIES as u64 * index < count
+}
+
+// How many entries the descriptor has whose first is this one.
+fn count_here(count: usize, from: usize) -> usize
+    requires { from < count }
+    ensures { result ≡ min 30 (count - from) }
+{
+    if count - from < ENTRIES {
+        count - from
+    } else {
+        ENTRIES
+    }
+}
+
+// Whether the numbers are all below 2^31.
+fn are_small(numbers: &[u64]) -> bool
+    ensures { IsTrue result ↔ All (λ b. b < 2 ^ 31) numbers.now }
+{
+    numbers.iter().all(|b| *b < 1 << 31)
+}
+
+// A list of these numbers.
+fn list_of(numbers: &[u64]) -> ArrayVec<u64, 30>
+    requires { length numbers.now ≤ 30 }
+    ensures { result.items ≡ numbers.now }
+{
+    let mut list = ArrayVec::new();
+    for number in numbers {
+        list.push(*number);
+    }
+    list
+}
+
+// The first 8 bytes of so many blocks from this one on.
+fn firsts_in(bytes: &[u8], from: usize, count: usize) -> ArrayVec<[u8; 8], 30>
+    requires few { count ≤ 30 }
+    requires inside { 512 * (from + count) ≤ length bytes.now }
+    ensures count { length result.items ≡ count }
+    ensures each { (i : ℕ) → i < count → get_or result.items i []
+        ≡ slice_range bytes.now (512 * (from + i)) (512 * (from + i) + 8) }
+{
+    let mut firsts = ArrayVec::new();
+    for i in 0..count {
+        let at = 512 * (from + i);
+        let mut first = [0; 8];
+        first.copy_from_slice(&bytes[at..at + 8]);
+        firsts.push(first);
+    }
+    firsts
+}
+
+// Writes these entries behind the 32 bytes of a header.
+fn append_entries(sector: &mut [u8], numbers: &[u64], firsts: &[[u8; 8]])
+    requires size { length sector.old ≡ 512 }
+    requires few { length numbers.now ≤ 30 }
+    requires each { length firsts.now ≡ length numbers.now }
+    requires sized { All (λ first. length first ≡ 8) firsts.now }
+    ensures { (before : List ℕ) → length before ≡ 32 → sector.old ≡ padded before
+        → sector.new ≡ padded (before ++ flat_map entry_bytes (zip numbers.now firsts.now)) }
+{
+    for e in 0..numbers.len() {
+        append_number(sector, 32 + 16 * e, numbers[e]);
+        append(sector, 40 + 16 * e, &firsts[e]);
+    }
+}
+
+// The numbers of so many entries.
+fn numbers_at(sector: &[u8], count: usize) -> ArrayVec<u64, 30>
+    requires size { length sector.now ≡ 512 }
+    requires few { count ≤ 30 }
+    ensures count { length result.items ≡ count }
+    ensures each { (i : ℕ) → i < count
+        → slice_index result.items i ≡ number_in sector.now (4 + 2 * i) }
+{
+    let mut numbers = ArrayVec::new();
+    for i in 0..count {
+        numbers.push(number_at(sector, 4 + 2 * i));
+    }
+    numbers
+}
+
+// The first bytes of so many entries.
+fn firsts_at(sector: &[u8], count: usize) -> ArrayVec<[u8; 8], 30>
+    requires size { length sector.now ≡ 512 }
+    requires few { count ≤ 30 }
+    ensures count { length result.items ≡ count }
+    ensures each { (i : ℕ) → i < count → get_or result.items i []
+        ≡ slice_range sector.now (40 + 16 * i) (40 + 16 * i + 8) }
+{
+    let mut firsts = ArrayVec::new();
+    for i in 0..count {
+        let at = 40 + 16 * i;
+        let mut first = [0; 8];
+        first.copy_from_slice(&sector[at..at + 8]);
+        firsts.push(first);
+    }
+    firsts
+}
+
+/// The first 8 bytes of the i-th block of a record, which this descriptor of it has.
+pub fn first_bytes(descriptor: &[u8; 512], i: usize) -> [u8; 8]
+    ensures { result ≡ first_bytes descriptor.now i }
+{
+    let at = 40 + 16 * (i % ENTRIES);
+    let mut first = [0; 8];
+    first.copy_from_slice(&descriptor[at..at + 8]);
+    first
+}

@@ -1,0 +1,66 @@
+//! The sectors of a record of format 2: descriptors, data places and a commit.
+ghost use Rattle.std.specs.Prelude.{◌≡◌, ◌≤◌, ◌<◌, ◌-◌, ◌^◌, ◌+◌, ◌*◌, ◌/◌, length, All};
+ghost use Rattle.journal.specs.Sectors.{IsRising};
+ghost use Rattle.journal.specs.SectorsTwo.{descriptors_of};
+ghost use Rattle.journal.specs.Record.{entries_of};
+ghost use Rattle.journal.specs.Format2.{format2};
+
+use crate::Part;
+use crate::v2::{COMMIT, Commit, Descriptor, ENTRIES, FIRST_DATA, data_sector};
+
+/// How many descriptors a record of so many blocks has.
+pub fn descriptors(count: usize) -> usize
+    requires { count ≤ 240 }
+    ensures { result ≡ descriptors_of count }
+{
+    count.div_ceil(ENTRIES)
+}
+
+/// How many sectors a record of so many blocks writes.
+pub(crate) fn parts(count: usize) -> usize
+    requires { count ≤ 240 }
+    ensures { result ≡ format2.parts count }
+{
+    descriptors(count) + count + 1
+}
+
+/// How many of them are flushed before the last one is written.
+pub(crate) fn early(_count: usize) -> usize
+    ensures { result ≡ 0 }
+{
+    0
+}
+
+/// Part p of a record: its descriptors, then its data places, then its commit.
+pub(crate) fn part(stamp: u64, numbers: &[u64], bytes: &[u8], p: usize) -> Part
+    requires least { 1 ≤ stamp }
+    requires most { stamp < 2 ^ 63 - 1 }
+    requires some { 1 ≤ length numbers.now }
+    requires few { length numbers.now ≤ 240 }
+    requires rising { IsRising numbers.now }
+    requires small { All (λ b. b < 2 ^ 31) numbers.now }
+    requires size { length bytes.now ≡ 512 * length numbers.now }
+    requires inside { p < format2.parts (length numbers.now) }
+    ensures offset { result.offset ≡ format2.offset (length numbers.now) p }
+    ensures sector { result.sector ≡ format2.part stamp (entries_of numbers.now bytes.now) p }
+{
+    let count = numbers.len();
+    let first = descriptors(count);
+    if p < first {
+        Part {
+            offset: p as u64,
+            sector: Descriptor::new(stamp, numbers, bytes, p).encode(),
+        }
+    } else if p < first + count {
+        let i = p - first;
+        Part {
+            offset: FIRST_DATA + i as u64,
+            sector: data_sector(stamp, &bytes[512 * i..512 * i + 512]),
+        }
+    } else {
+        Part {
+            offset: COMMIT,
+            sector: Commit::new(stamp, count as u64).encode(),
+        }
+    }
+}
