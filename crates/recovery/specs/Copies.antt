@@ -4,7 +4,7 @@ use Rattle.std.specs.Prelude.{slice_index, get_or, replicate}
 use Rattle.medium.specs.Medium.{State, Image, Sets, CutLeaves, Holds}
 use Rattle.journal.specs.declared.log_format.LogFormat.{LogFormat}
 use Rattle.journal.specs.declared.log_format.LogFormat.TheVariants.{One, Two}
-use Rattle.journal.specs.Places.{Shape, first_home, limit_of}
+use Rattle.journal.specs.Places.{Shape, first_home, limit_of, slot_sectors_of}
 use Rattle.journal.specs.Sectors.{IsHead}
 use Rattle.journal.specs.SectorsTwo.{descriptors_of}
 use Rattle.journal.specs.Record.{Entry, numbers_of, block_of, with_records, home_of}
@@ -74,7 +74,7 @@ most_calls_of Two = 489
 -- how many calls it takes at most to find out whether a record is whole
 abbrev pub most_reads_of : LogFormat → ℕ
 most_reads_of One = 2
-most_reads_of Two = 249
+most_reads_of Two = slot_sectors_of Two
 
 -- how many calls a recovery makes at most for each slot: to find its record, and to copy it home
 abbrev pub most_start_of : LogFormat → ℕ

@@ -2,7 +2,8 @@
 use Rattle.std.specs.Prelude.{ℕ, ◌+◌, ◌*◌, ◌^◌, ◌<◌, ◌≤◌, min}
 use Rattle.medium.specs.Medium.{State, Image}
 use Rattle.medium.specs.Moments.{IsQuiet}
-use Rattle.journal.specs.Places.{Shape}
+use Rattle.journal.specs.declared.log_format.LogFormat.TheVariants.{Two}
+use Rattle.journal.specs.Places.{Shape, slot_sectors_of}
 use Rattle.journal.specs.Values.{shape_of}
 use Rattle.journal.specs.Sectors.{IsHead}
 use Rattle.journal.specs.Standing.{IsCount}
@@ -33,7 +34,7 @@ pub record IsSurvey (least : ℕ) (old new : State) (found : Found) : Type 0 whe
 pub record SurveysAtMost (old new : State) : Type 0 where
   pub quiet : IsQuiet old new
   pub reads : MakesReadsAlone old new
-  pub calls : new.calls ≤ old.calls + 2 + 249 * 64
+  pub calls : new.calls ≤ old.calls + 2 + slot_sectors_of Two * 64
   pub most : (shape : Shape) → HasShape old.size shape old.content
       → new.calls ≤ old.calls + 2 + most_reads_of shape.format * shape.slots
   pub looks : LooksAtLog old new

@@ -4,7 +4,8 @@ use Rattle.medium.specs.Medium.{State, Image}
 use Rattle.medium.specs.Moments.{IsQuiet}
 use Rattle.spec.specs.Blocks.{Array}
 use Rattle.medium.specs.declared.fault.MediumFault.TheVariants as medium
-use Rattle.journal.specs.Places.{Shape}
+use Rattle.journal.specs.declared.log_format.LogFormat.TheVariants.{Two}
+use Rattle.journal.specs.Places.{Shape, slot_sectors_of}
 use Rattle.journal.specs.Values.{shape_of}
 use Rattle.journal.specs.Record.{Entry}
 use Rattle.journal.specs.Formats.{IsWhole}
@@ -39,7 +40,7 @@ pub record IsInspected (old : State) (answer : Inspection) : Type 0 where
 pub record OnlyLooks (old new : State) : Type 0 where
   pub quiet : IsQuiet old new
   pub reads : MakesReadsAlone old new
-  pub calls : new.calls ≤ old.calls + 2 + 250 * 64
+  pub calls : new.calls ≤ old.calls + 2 + (slot_sectors_of Two + 1) * 64
 
 -- Why a look is refused: the medium refused a call, or the image has this fault. A stamp for the
 -- next record is not asked for.

@@ -7,7 +7,7 @@ use Rattle.spec.specs.Blocks.{Array}
 use Rattle.medium.specs.Sent.{SendsUpTo}
 use Rattle.journal.specs.declared.log_format.LogFormat.{LogFormat}
 use Rattle.journal.specs.declared.log_format.LogFormat.TheVariants.{One, Two}
-use Rattle.journal.specs.Places.{Shape, first_home, sectors_of, migrated}
+use Rattle.journal.specs.Places.{Shape, first_home, sectors_of, slot_sectors_of, migrated}
 use Rattle.journal.specs.Sectors.{IsSuper, IsHead}
 use Rattle.journal.specs.Values.{shape_of}
 use Rattle.journal.specs.Standing.{StandsFor, IsOurs}
@@ -54,7 +54,7 @@ pub record MakingLeaves (shape : Shape) (next : ℕ) (old new : State) : Type 0 
       → LeavesOnly (IsFreshInEither shape array next) old new
   pub spares : SparesFrom (first_home shape) old new
   -- a write for each sector of the log, a flush, the head, a flush, the super and a flush
-  pub sends : SendsUpTo (50 * shape.slots + 5) old new
+  pub sends : SendsUpTo (slot_sectors_of One * shape.slots + 5) old new
   -- nothing is read
   pub looked_stays : new.looked ≡ old.looked
 
@@ -73,8 +73,8 @@ pub record IsMigratedFrom (old new : State) (answer : Recovered) : Type 0 where
   pub home : (b : ℕ) → b < shape.blocks → new.content (first_home shape + b) ≡ array b
   pub behind : (x : ℕ) → sectors_of shape ≤ x → new.content x ≡ old.content x
   pub ours : IsOurs old.size (migrated shape) new.content array (answer.next + 1)
-  pub calls : new.calls ≡ old.calls + 6 + copy_calls One stood.records + 50 * shape.slots + 5
-      + 2 * min (length stood.records + 1) shape.slots
+  pub calls : new.calls ≡ old.calls + 6 + copy_calls One stood.records
+      + slot_sectors_of One * shape.slots + 5 + 2 * min (length stood.records + 1) shape.slots
 
 -- by whether there was format 1: it has become format 2, or there was format 2 and it is recovered
 abbrev pub IsMigrationBy : Bool → State → State → Recovered → Type 0
@@ -112,7 +112,7 @@ pub record StandsInEither (old : State) (image : Image) : Type 0 where
 -- how many writes and flushes a migration makes at most: those of a recovery, and of format 1 those
 -- that make format 2 of it
 abbrev pub most_migration_sends : LogFormat → ℕ → ℕ
-most_migration_sends One slots = most_start_sends One slots + (50 * slots + 5)
+most_migration_sends One slots = most_start_sends One slots + (slot_sectors_of One * slots + 5)
 most_migration_sends Two slots = most_start_sends Two slots
 
 -- What a migration leaves at each moment of it, good or refused, and how many calls it makes.

@@ -6,6 +6,7 @@ use Rattle.journal.specs.declared.log_format.LogFormat.TheVariants.{One, Two}
 use Rattle.journal.specs.Places.{Shape}
 use Rattle.journal.specs.Sectors.{IsRising}
 use Rattle.journal.specs.SectorsTwo.{descriptors_of, place_bytes, IsDescriptorTwo, IsCommitTwo}
+use Rattle.journal.specs.V2.{first_data, commit_offset}
 use Rattle.journal.specs.Layout.{slot_at}
 use Rattle.journal.specs.Format2.{format2}
 use Rattle.journal.specs.SlotTwo.{HasDescriptors}
@@ -27,7 +28,7 @@ ReadsUpToBad good many reads =
 module _ (image : Image) (at stamp : ℕ) where
   -- the last sector is a commit of so many blocks
   abbrev pub IsCommitted : ℕ → Type 0
-  IsCommitted count = IsCommitTwo stamp count (image (at + 248))
+  IsCommitted count = IsCommitTwo stamp count (image (at + commit_offset))
 
   -- its descriptor j is there, if it has so many blocks
   abbrev pub HasDescriptor : ℕ → ℕ → Type 0
@@ -36,7 +37,7 @@ module _ (image : Image) (at stamp : ℕ) where
 
   -- the i-th data place begins with the stamp
   abbrev pub HasPlace : ℕ → Type 0
-  HasPlace i = image (at + (8 + i)) ≡ place_bytes stamp (image (at + (8 + i)))
+  HasPlace i = image (at + (first_data + i)) ≡ place_bytes stamp (image (at + (first_data + i)))
 
   -- all descriptors are there, and what they name are so many blocks of an array of this length
   abbrev pub NamesBlocks : ℕ → ℕ → Type 0

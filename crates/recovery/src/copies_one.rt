@@ -5,6 +5,7 @@ ghost use Rattle.medium.specs.Medium.{LooksOnly};
 ghost use Rattle.journal.specs.declared.log_format.LogFormat.TheVariants.{One};
 ghost use Rattle.journal.specs.Places.{first_home, sectors_of};
 ghost use Rattle.journal.specs.Sectors.{IsRising};
+ghost use Rattle.journal.specs.V1.{data_place};
 ghost use Rattle.journal.specs.Values.{shape_of};
 ghost use Rattle.journal.specs.Record.{Entry};
 ghost use Rattle.journal.specs.Formats.{IsWhole, HasWhole};
@@ -13,7 +14,8 @@ ghost use Rattle.recovery.specs.Copies.{IsHomeOf, IsHomeInRecord, IsCopied};
 
 use crate::copies::copy_sector;
 use crate::record_one::read_record;
-use journal::{Super, data_place, slot_of};
+use journal::v1::data_place;
+use journal::{Super, slot_of};
 use medium::{Medium, MediumFault};
 
 // Copies the blocks with these numbers home, from the data places of a slot.
@@ -31,7 +33,7 @@ fn copy_blocks<M: Medium>(
     requires inside { All (λ b. b < sizes.now.blocks) numbers.now }
     ensures done { OnOk result ((i : ℕ) → i < length numbers.now
         → (M.state m.new).content (first_home (shape_of sizes.now) + slice_index numbers.now i)
-        ≡ (M.state m.old).content (2 + 50 * slot + 1 + i)) }
+        ≡ (M.state m.old).content (data_place slot i)) }
     ensures copies { CopiesAllPass (IsHomeOf (shape_of sizes.now) numbers.now)
         (2 * length numbers.now) (M.state m.old) (M.state m.new) result }
     ensures follows { FollowsBy M.state M.follows (length numbers.now)

@@ -1,7 +1,7 @@
 //! The making of an image.
 ghost use Rattle.std.specs.Prelude.{◌≡◌, ◌<◌, ◌≤◌, ◌+◌, ◌*◌, OnOk, OnErr, IfErr, MatchOption};
 ghost use Rattle.journal.specs.declared.log_format.LogFormat.TheVariants.{One, Two};
-ghost use Rattle.journal.specs.Places.{new_shape, sectors_of};
+ghost use Rattle.journal.specs.Places.{new_shape, sectors_of, slot_sectors_of};
 ghost use Rattle.journal.specs.Values.{shape_of};
 ghost use Rattle.recovery.specs.Calls.{CallsUpTo};
 ghost use Rattle.spec.specs.Blocks.{Array};
@@ -90,7 +90,7 @@ pub fn format<M: Medium>(m: &mut M, blocks: u64, slots: u64) -> Result<(), Forma
         × (fault ≡ FormatFault.BadSize → m.new ≡ m.old)) }
     ensures leaves { let shape = new_shape One blocks slots in
         FormatLeaves shape (M.state m.old) (M.state m.new) }
-    ensures calls { CallsUpTo (7 + 50 * slots + blocks) (M.state m.old) (M.state m.new) result }
+    ensures calls { CallsUpTo (7 + slot_sectors_of One * slots + blocks) (M.state m.old) (M.state m.new) result }
     ensures follows { M.follows m.old m.new }
 {
     make(m, LogFormat::One, blocks, slots)
@@ -113,7 +113,7 @@ pub fn format2<M: Medium>(m: &mut M, blocks: u64, slots: u64) -> Result<(), Form
         × (fault ≡ FormatFault.BadSize → m.new ≡ m.old)) }
     ensures leaves { let shape = new_shape Two blocks slots in
         FormatLeaves shape (M.state m.old) (M.state m.new) }
-    ensures calls { CallsUpTo (7 + 249 * slots + blocks) (M.state m.old) (M.state m.new) result }
+    ensures calls { CallsUpTo (7 + slot_sectors_of Two * slots + blocks) (M.state m.old) (M.state m.new) result }
     ensures follows { M.follows m.old m.new }
 {
     make(m, LogFormat::Two, blocks, slots)

@@ -2,7 +2,7 @@
 ghost use Rattle.std.specs.Prelude.{◌≡◌, ◌≤◌, ◌<◌, ◌+◌, ◌*◌, ◌^◌};
 ghost use Rattle.std.specs.Prelude.{List, length, IfOk, IfErr, MatchOption};
 ghost use Rattle.journal.specs.declared.log_format.LogFormat.TheVariants.{Two};
-ghost use Rattle.journal.specs.Places.{sectors_of};
+ghost use Rattle.journal.specs.Places.{sectors_of, slot_sectors_of};
 ghost use Rattle.journal.specs.Values.{shape_of};
 ghost use Rattle.journal.specs.Record.{Entry};
 ghost use Rattle.journal.specs.Formats.{IsWhole, HasWhole};
@@ -74,7 +74,7 @@ fn count_waiting<M: Medium>(
 ) -> Result<ArrayVec<u64, 64>, MediumFault>
     requires fits { sectors_of (shape_of sizes.now) ≤ (M.state m.old).size }
     requires head { head < 2 ^ 63 }
-    ensures passes { ReadsPass (250 * sizes.now.slots) (M.state m.old) (M.state m.new) result }
+    ensures passes { ReadsPass ((slot_sectors_of Two + 1) * sizes.now.slots) (M.state m.old) (M.state m.new) result }
     ensures counts { IfOk result (λ waiting.
         AreCounts (shape_of sizes.now) (M.state m.old).content head waiting.items) }
     ensures follows { M.follows m.old m.new }

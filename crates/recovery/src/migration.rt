@@ -2,7 +2,8 @@
 ghost use Rattle.std.specs.Prelude.{◌<◌, ◌≤◌, ◌+◌, ◌*◌, ◌^◌, ℕ, IfOk, IfErr};
 ghost use Rattle.medium.specs.Moments.{EachCut, IsFlushed};
 ghost use Rattle.spec.specs.Blocks.{Array};
-ghost use Rattle.journal.specs.Places.{Shape, sectors_of};
+ghost use Rattle.journal.specs.declared.log_format.LogFormat.TheVariants.{One};
+ghost use Rattle.journal.specs.Places.{Shape, sectors_of, slot_sectors_of};
 ghost use Rattle.journal.specs.Values.{shape_of};
 ghost use Rattle.journal.specs.Standing.{IsOurs};
 ghost use Rattle.recovery.specs.Calls.{CallsUpTo};
@@ -60,7 +61,7 @@ fn make_two<M: Medium>(m: &mut M, found: &Recovered) -> Result<Recovered, Medium
     ensures ok { IfOk result (IsMadeOf found.now (M.state m.new)) }
     ensures leaves { MakingLeaves (shape_of found.now.sizes) found.now.next
         (M.state m.old) (M.state m.new) }
-    ensures calls { CallsUpTo (50 * found.now.sizes.slots + 5)
+    ensures calls { CallsUpTo (slot_sectors_of One * found.now.sizes.slots + 5)
         (M.state m.old) (M.state m.new) result }
     ensures cause { IfErr result (IsRefusedCall (M.state m.old) (M.state m.new)) }
     ensures follows { M.follows m.old m.new }

@@ -8,7 +8,8 @@ ghost use Rattle.journal.specs.Record.{Entry, numbers_of};
 ghost use Rattle.journal.specs.Formats.{IsWhole};
 ghost use Rattle.recovery.specs.Calls.{ReadsAllPass};
 
-use journal::{Descriptor, Super, commit_place, place_of, slot_of, whole_record};
+use journal::v1::{Descriptor, commit_place, place_of, whole_record};
+use journal::{Super, slot_of};
 use medium::{Medium, MediumFault};
 
 /// Reads the record of a stamp, if it is whole.

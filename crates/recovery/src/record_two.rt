@@ -8,6 +8,8 @@ ghost use Rattle.journal.specs.declared.log_format.LogFormat.TheVariants.{Two};
 ghost use Rattle.journal.specs.Places.{first_home, sectors_of};
 ghost use Rattle.journal.specs.Sectors.{IsRising};
 ghost use Rattle.journal.specs.SectorsTwo.{descriptors_of, IsDescriptorTwo, IsCommitTwo};
+ghost use Rattle.journal.specs.V2.{place_of, slot_end, descriptor_place, commit_place};
+ghost use Rattle.journal.specs.V2.{slot_sectors};
 ghost use Rattle.journal.specs.Values.{shape_of};
 ghost use Rattle.journal.specs.Formats.{HasWhole};
 ghost use Rattle.journal.specs.SlotTwo.{HasDescriptors, HasPlaces};
@@ -15,26 +17,11 @@ ghost use Rattle.recovery.specs.Calls.{ReadsPass, ReadsAllPass};
 ghost use Rattle.recovery.specs.Tries.{StopsAtBad, ReadsUpToBad, HasDescriptor, HasPlace, IsTryTwo};
 
 use arrayvec::ArrayVec;
-use journal::{Commit2, Descriptor2, Super, are_rising, is_data2, place_of2, slot_of};
+use journal::v2::{
+    Commit, Descriptor, commit_place, data_place, descriptor_place, descriptors, is_data,
+};
+use journal::{Super, are_rising, slot_of};
 use medium::{Medium, MediumFault};
-
-/// How many entries a descriptor has at most.
-pub(crate) const ENTRIES: u64 = 30;
-
-/// The first data place of a slot, behind the places of 8 descriptors.
-const FIRST_DATA: u64 = 8;
-
-/// The last sector of a slot, which holds the commit of its record.
-const COMMIT: u64 = 248;
-
-/// The data place of the i-th block of the record in a slot.
-pub(crate) fn data_place(slot: u64, i: u64) -> u64
-    requires slot { slot < 64 }
-    requires inside { i < 240 }
-    ensures { result ≡ 2 + 249 * slot + (8 + i) }
-{
-    place_of2(slot) + FIRST_DATA + i
-}
 
 /// Reads how many blocks the record of a stamp has, if its commit is there.
 pub(crate) fn read_count<M: Medium>(
@@ -43,18 +30,18 @@ pub(crate) fn read_count<M: Medium>(
     stamp: u64,
 ) -> Result<Option<u64>, MediumFault>
     requires slot { slot < 64 }
-    requires inside { 2 + 249 * slot + 249 ≤ (M.state m.old).size }
+    requires inside { slot_end slot ≤ (M.state m.old).size }
     ensures passes { ReadsAllPass 1 (M.state m.old) (M.state m.new) result }
     ensures some { IfOk result (λ found. IfSome found (λ count.
-        IsCommitTwo stamp count ((M.state m.old).content (2 + 249 * slot + 248)))) }
-    ensures all { (n : ℕ) → IsCommitTwo stamp n ((M.state m.old).content (2 + 249 * slot + 248))
+        IsCommitTwo stamp count ((M.state m.old).content (commit_place slot)))) }
+    ensures all { (n : ℕ) → IsCommitTwo stamp n ((M.state m.old).content (commit_place slot))
         → IfOk result (λ found. IsSomeAnd found (λ k. k ≡ n)) }
     ensures follows { M.follows m.old m.new
-        × LooksOnly (λ s. s < 2 + 249 * slot + 249) (M.state m.old) (M.state m.new) }
+        × LooksOnly (λ s. s < slot_end slot) (M.state m.old) (M.state m.new) }
 {
     let mut commit = [0; 512];
-    m.read(place_of2(slot) + COMMIT, &mut commit)?;
-    match Commit2::decode(&commit) {
+    m.read(commit_place(slot), &mut commit)?;
+    match Commit::decode(&commit) {
         Some(found) if found.stamp == stamp => Ok(Some(found.count)),
         _ => Ok(None),
     }
@@ -67,23 +54,23 @@ pub(crate) fn read_descriptor<M: Medium>(
     stamp: u64,
     count: u64,
     j: u64,
-) -> Result<Option<Descriptor2>, MediumFault>
+) -> Result<Option<Descriptor>, MediumFault>
     requires slot { slot < 64 }
     requires few { j < 8 }
-    requires inside { 2 + 249 * slot + 249 ≤ (M.state m.old).size }
+    requires inside { slot_end slot ≤ (M.state m.old).size }
     ensures passes { ReadsAllPass 1 (M.state m.old) (M.state m.new) result }
     ensures some { IfOk result (λ found. IfSome found (λ d. (d.index ≡ j)
         × IsDescriptorTwo stamp count j d.numbers.items d.firsts.items
-        ((M.state m.old).content (2 + 249 * slot + j)))) }
+        ((M.state m.old).content (descriptor_place slot j)))) }
     ensures all { (numbers : List ℕ) (firsts : List (List ℕ)) → IsDescriptorTwo stamp count j
-        numbers firsts ((M.state m.old).content (2 + 249 * slot + j)) → IfOk result (λ found.
+        numbers firsts ((M.state m.old).content (descriptor_place slot j)) → IfOk result (λ found.
         IsSomeAnd found (λ d. (d.numbers.items ≡ numbers) × (d.firsts.items ≡ firsts))) }
     ensures follows { M.follows m.old m.new
-        × LooksOnly (λ s. s < 2 + 249 * slot + 249) (M.state m.old) (M.state m.new) }
+        × LooksOnly (λ s. s < slot_end slot) (M.state m.old) (M.state m.new) }
 {
     let mut sector = [0; 512];
-    m.read(place_of2(slot) + j, &mut sector)?;
-    let Some(found) = Descriptor2::decode(&sector) else {
+    m.read(descriptor_place(slot, j), &mut sector)?;
+    let Some(found) = Descriptor::decode(&sector) else {
         return Ok(None);
     };
     if found.stamp == stamp && found.count == count && found.index == j {
@@ -102,23 +89,23 @@ fn read_numbers<M: Medium>(
 ) -> Result<Option<ArrayVec<u64, 240>>, MediumFault>
     requires slot { slot < 64 }
     requires few { count ≤ 240 }
-    requires inside { 2 + 249 * slot + 249 ≤ (M.state m.old).size }
+    requires inside { slot_end slot ≤ (M.state m.old).size }
     ensures passes { ReadsPass 8 (M.state m.old) (M.state m.new) result }
     ensures found { IfOk result (λ found. MatchOption found
         ((reads : ℕ)
-        × StopsAtBad (HasDescriptor (M.state m.old).content (2 + 249 * slot) stamp count)
+        × StopsAtBad (HasDescriptor (M.state m.old).content (place_of slot) stamp count)
         (descriptors_of count) reads × ((M.state m.new).calls ≡ (M.state m.old).calls + reads))
         (λ read. (length read.items ≡ count)
-        × HasDescriptors (M.state m.old).content (2 + 249 * slot) stamp read.items
+        × HasDescriptors (M.state m.old).content (place_of slot) stamp read.items
         × ((M.state m.new).calls ≡ (M.state m.old).calls + descriptors_of count))) }
     ensures all { (numbers : List ℕ) → length numbers ≡ count
-        → HasDescriptors (M.state m.old).content (2 + 249 * slot) stamp numbers
+        → HasDescriptors (M.state m.old).content (place_of slot) stamp numbers
         → IfOk result (λ found. IsSomeAnd found (λ read. read.items ≡ numbers)) }
     ensures follows { M.follows m.old m.new
-        × LooksOnly (λ s. s < 2 + 249 * slot + 249) (M.state m.old) (M.state m.new) }
+        × LooksOnly (λ s. s < slot_end slot) (M.state m.old) (M.state m.new) }
 {
     let mut numbers = ArrayVec::new();
-    for j in 0..count.div_ceil(ENTRIES) {
+    for j in 0..descriptors(count as usize) as u64 {
         let Some(found) = read_descriptor(m, slot, stamp, count, j)? else {
             return Ok(None);
         };
@@ -140,19 +127,19 @@ fn are_blocks(numbers: &[u64], blocks: u64) -> bool
 fn are_stamped<M: Medium>(m: &mut M, slot: u64, stamp: u64, count: u64) -> Result<bool, MediumFault>
     requires slot { slot < 64 }
     requires few { count ≤ 240 }
-    requires inside { 2 + 249 * slot + 249 ≤ (M.state m.old).size }
+    requires inside { slot_end slot ≤ (M.state m.old).size }
     ensures passes { ReadsPass count (M.state m.old) (M.state m.new) result }
     ensures stamped { IfOk result (λ good. (IsTrue good
-        ↔ HasPlaces (M.state m.old).content (2 + 249 * slot) stamp count) × (reads : ℕ)
-        × ReadsUpToBad (HasPlace (M.state m.old).content (2 + 249 * slot) stamp) count reads
+        ↔ HasPlaces (M.state m.old).content (place_of slot) stamp count) × (reads : ℕ)
+        × ReadsUpToBad (HasPlace (M.state m.old).content (place_of slot) stamp) count reads
         × ((M.state m.new).calls ≡ (M.state m.old).calls + reads)) }
     ensures follows { M.follows m.old m.new
-        × LooksOnly (λ s. s < 2 + 249 * slot + 249) (M.state m.old) (M.state m.new) }
+        × LooksOnly (λ s. s < slot_end slot) (M.state m.old) (M.state m.new) }
 {
     let mut sector = [0; 512];
     for i in 0..count {
         m.read(data_place(slot, i), &mut sector)?;
-        if !is_data2(stamp, &sector) {
+        if !is_data(stamp, &sector) {
             return Ok(false);
         }
     }
@@ -163,7 +150,7 @@ fn are_stamped<M: Medium>(m: &mut M, slot: u64, stamp: u64, count: u64) -> Resul
 pub(crate) fn is_whole<M: Medium>(m: &mut M, sizes: &Super, stamp: u64) -> Result<bool, MediumFault>
     requires format { sizes.now.format ≡ Two }
     requires fits { sectors_of (shape_of sizes.now) ≤ (M.state m.old).size }
-    ensures passes { ReadsPass 249 (M.state m.old) (M.state m.new) result }
+    ensures passes { ReadsPass slot_sectors (M.state m.old) (M.state m.new) result }
     ensures exact { OnOk result ((reads : ℕ)
         × IsTryTwo (shape_of sizes.now) (M.state m.old).content stamp reads
         × ((M.state m.new).calls ≡ (M.state m.old).calls + reads)) }

@@ -1,5 +1,5 @@
 -- How far a log's records have come, as numbers.
-use Rattle.std.specs.Prelude.{◌≡◌, ◌⊎◌, ℕ, zero, suc, ◌≤◌, ◌<◌, ◌^◌, ◌+◌, ◌*◌, ◌-◌, ◌/◌, ◌%◌, List}
+use Rattle.std.specs.Prelude.{◌≡◌, ◌⊎◌, ℕ, zero, suc, ◌≤◌, ◌<◌, ◌^◌, ◌+◌, ◌*◌, ◌-◌, List}
 use Rattle.std.specs.Prelude.{[], ◌∷◌, length, get_or, drop, sum_by, All, Bool, Option, Some, None}
 use Rattle.std.specs.Prelude.{if◌then◌else◌, nat_lt, ◌==◌}
 use Rattle.journal.specs.declared.log_format.LogFormat.{LogFormat}
@@ -8,6 +8,8 @@ use Rattle.journal.specs.Places.{Shape, limit_of}
 use Rattle.journal.specs.Sectors.{IsRising}
 use Rattle.journal.specs.Record.{Entry}
 use Rattle.journal.specs.Formats.{layout_of}
+use Rattle.journal.specs.HomeTurns.{turns_of_round, rounds_at}
+pub use Rattle.journal.specs.HomeTurns.{homed_at}
 use Rattle.redo_log.specs.Value.{LogValue, Ahead, steps_for, turns_home, retire_steps_of}
 
 -- one flush for the parts that are flushed early, none where there are none
@@ -23,17 +25,12 @@ written_at early made = if nat_lt early made then made - flush_of early else mad
 unfoldable pub flushed_at : ℕ → ℕ → ℕ
 flushed_at early made = if nat_lt early made then early else 0
 
--- How many blocks are home after so many turns. In format 2 the first of 31 turns reads a
--- descriptor.
-abbrev pub homed_at : LogFormat → ℕ → ℕ
-homed_at One turned = turned
-homed_at Two turned = turned - (turned + 30) / 31
-
 -- In format 2 a descriptor was read for the next block: these bytes are that part of the record.
 abbrev pub IsRead : LogFormat → ℕ → List Entry → ℕ → List ℕ → Type 0
 IsRead One stamp entries turned kept = Unit {0}
-IsRead Two stamp entries turned kept = 0 < turned % 31 → turned < turns_home Two (length entries)
-    → kept ≡ (layout_of Two).part stamp entries (turned / 31)
+IsRead Two stamp entries turned kept =
+    0 < turns_of_round turned → turned < turns_home Two (length entries)
+    → kept ≡ (layout_of Two).part stamp entries (rounds_at turned)
 
 -- how many steps are left, where perhaps a record is under way
 abbrev pub steps_at : LogFormat → ℕ → Option ℕ → ℕ

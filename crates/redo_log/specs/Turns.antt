@@ -1,6 +1,6 @@
 -- The turns that retire a durable record.
-use Rattle.std.specs.Prelude.{◌≡◌, ℕ, ◌+◌, ◌*◌, ◌/◌, ◌%◌, ◌<◌, List, [], ◌∷◌, ◌++◌, length, drop}
-use Rattle.std.specs.Prelude.{slice_index, slice_range, Option, Some, None, Result, OnOk}
+use Rattle.std.specs.Prelude.{◌≡◌, ℕ, ◌+◌, ◌<◌, List, [], ◌∷◌, ◌++◌, length, drop}
+use Rattle.std.specs.Prelude.{slice_index, Option, Some, None, Result, OnOk}
 use Rattle.medium.specs.Medium.{State, Stays, Holds, Only}
 use Rattle.medium.specs.Moments.{IsQuiet, SparesFrom}
 use Rattle.medium.specs.declared.fault.MediumFault.{MediumFault}
@@ -10,6 +10,8 @@ use Rattle.journal.specs.Places.{Shape, first_home, first_data_of}
 use Rattle.journal.specs.Spelling.{spelling, head_mark}
 use Rattle.journal.specs.Layout.{slot_at}
 use Rattle.journal.specs.Formats.{layout_of}
+use Rattle.journal.specs.V2.{first_bytes}
+use Rattle.journal.specs.HomeTurns.{turns_of_round, rounds_at}
 use Rattle.redo_log.specs.Value.{turns_home}
 use Rattle.redo_log.specs.Stages.{homed_at}
 use Rattle.redo_log.specs.Calls.{WritesOnly}
@@ -127,11 +129,12 @@ IsHomeTurn One shape stamp numbers kept turned turn =
     (first_home shape + slice_index numbers turned) None turn
 IsHomeTurn Two shape stamp numbers kept turned turn =
     let i = homed_at Two turned in
-    (turned % 31 ≡ 0 → IsLoadOf (slot_at (layout_of Two) shape stamp + turned / 31) turn)
-    × (0 < turned % 31
+    (turns_of_round turned ≡ 0
+    → IsLoadOf (slot_at (layout_of Two) shape stamp + rounds_at turned) turn)
+    × (0 < turns_of_round turned
     → IsCopyOf (slot_at (layout_of Two) shape stamp + first_data_of Two + i)
     (first_home shape + slice_index numbers i)
-    (Some (slice_range kept (40 + 16 * (i % 30)) (40 + 16 * (i % 30) + 8))) turn)
+    (Some (first_bytes kept i)) turn)
 
 -- The next turn of a record with this stamp: its blocks go home, a flush, the head with the next
 -- stamp.

@@ -6,6 +6,8 @@ use Rattle.journal.specs.declared.log_format.LogFormat.{LogFormat}
 use Rattle.journal.specs.declared.log_format.LogFormat.TheVariants.{One, Two}
 use Rattle.journal.specs.Places.{Shape, limit_of}
 use Rattle.journal.specs.SectorsTwo.{descriptors_of}
+use Rattle.journal.specs.HomeTurns.{turns_of_round}
+pub use Rattle.journal.specs.HomeTurns.{turns_home}
 use Rattle.redo_log.specs.declared.progress.Progress.{Progress}
 use Rattle.redo_log.specs.declared.progress.Progress.TheVariants.{More, Durable}
 
@@ -78,11 +80,6 @@ abbrev pub most_steps : LogFormat → ℕ
 most_steps One = 52
 most_steps Two = 250
 
--- how many turns bring so many blocks home: in format 2 one more for each descriptor
-abbrev pub turns_home : LogFormat → ℕ → ℕ
-turns_home One count = count
-turns_home Two count = descriptors_of count + count
-
 -- how many retire steps a record of these blocks needs; none where there is no record
 abbrev pub retire_steps_of : LogFormat → List ℕ → ℕ
 retire_steps_of format [] = 0
@@ -90,8 +87,8 @@ retire_steps_of format (n ∷ numbers) = turns_home format (length (n ∷ number
 
 -- no record needs more retire steps
 abbrev pub most_retire_steps : LogFormat → ℕ
-most_retire_steps One = 50
-most_retire_steps Two = 250
+most_retire_steps One = turns_home One (limit_of One) + 2
+most_retire_steps Two = turns_home Two (limit_of Two) + 2
 
 -- a record of these blocks is begun, and takes the next stamp
 abbrev pub begun : List ℕ → LogValue → LogValue
@@ -123,10 +120,10 @@ abbrev pub of_oldest : LogValue → ℕ
 of_oldest log = log.retire_steps_left - behind_oldest log
 
 -- How many calls it takes after so many turns to bring the next block home: it is read and written.
--- In format 2 the first of 31 turns reads a descriptor, by one call.
+-- In format 2 the first turn of a round reads a descriptor, by one call.
 abbrev pub home_calls : LogFormat → ℕ → ℕ
 home_calls One turned = 2
-home_calls Two turned = if turned % 31 == 0 then 1 else 2
+home_calls Two turned = if turns_of_round turned == 0 then 1 else 2
 
 -- How many calls the next retire step of a record makes that is home after so many turns, where so
 -- many steps are left: the last one writes the head and flushes it, the one before it flushes.

@@ -9,10 +9,9 @@ ghost use Rattle.redo_log.specs.Held.{View, HoldsView, view_retired};
 ghost use Rattle.redo_log.specs.Steps.{AnswersStep, PassesStep, CountsStep, LeavesLog};
 
 use crate::index::drop_slot;
-use crate::stage::turns_home;
 use crate::turn::next_turn;
 use crate::{Log, LogFault};
-use journal::{Head, slot_of};
+use journal::{Head, slot_of, turns_home};
 use medium::Medium;
 
 impl Log {

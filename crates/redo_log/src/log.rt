@@ -7,11 +7,11 @@ ghost use Rattle.medium.specs.Moments.{EachCut};
 
 use crate::call::make_next;
 use crate::index::{Copied, drop_slot, enter_record, newest};
-use crate::stage::{steps_for, turns_home};
+use crate::stage::steps_for;
 use crate::turn::next_turn;
 use crate::{LogFault, Progress};
 use arrayvec::ArrayVec;
-use journal::{Super, read_copy, slot_of};
+use journal::{Super, read_copy, slot_of, turns_home};
 use medium::{Medium, MediumFault};
 use std::alloc::Global;
 use std::collections::VecDeque;

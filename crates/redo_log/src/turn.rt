@@ -1,5 +1,5 @@
 //! The turns that retire a durable record, one after the other.
-ghost use Rattle.std.specs.Prelude.{◌≡◌, ℕ, ◌≤◌, ◌<◌, ◌+◌, ◌*◌, length, slice_index, slice_range};
+ghost use Rattle.std.specs.Prelude.{◌≡◌, ℕ, ◌≤◌, ◌<◌, ◌+◌, ◌*◌, length, slice_index};
 ghost use Rattle.std.specs.Prelude.{OnOk, is_ok, if◌then◌else◌};
 ghost use Rattle.medium.specs.Medium.{Holds, Only, LooksOnly};
 ghost use Rattle.medium.specs.Moments.{SparesFrom};
@@ -14,8 +14,7 @@ ghost use Rattle.redo_log.specs.Turns.{begun_with, kept_by, calls_of, sends_of, 
 ghost use Rattle.redo_log.specs.Turns.{IsInside, MakesTurn, ReadsBefore};
 ghost use Rattle.redo_log.specs.Turns.{IsCopyOf, IsHomeTurn, IsNextTurn};
 
-use crate::stage::turns_home;
-use journal::{Head, LogFormat, Super, copy_place, slot_of, slot_place};
+use journal::{Head, HomeTurn, Super, copy_place, home_turn, slot_of, slot_place, turns_home, v2};
 use medium::{Medium, MediumFault};
 
 /// One medium call or two.
@@ -122,7 +121,7 @@ pub(crate) fn next_turn(
 {
     let home = turns_home(sizes.format, numbers.len());
     if turned < home {
-        return home_turn(sizes, stamp, numbers, kept, turned);
+        return turn_home(sizes, stamp, numbers, kept, turned);
     }
     if turned == home {
         Turn::Flush
@@ -132,7 +131,7 @@ pub(crate) fn next_turn(
 }
 
 // The next turn of a record whose blocks are not all home.
-fn home_turn(sizes: &Super, stamp: u64, numbers: &[u64], kept: &[u8; 512], turned: usize) -> Turn
+fn turn_home(sizes: &Super, stamp: u64, numbers: &[u64], kept: &[u8; 512], turned: usize) -> Turn
     requires record { IsRecord (shape_of sizes.now) stamp numbers.now }
     requires turned { turned < turns_home sizes.now.format (length numbers.now) }
     ensures next { IsHomeTurn sizes.now.format (shape_of sizes.now) stamp numbers.now kept.now
@@ -140,28 +139,14 @@ fn home_turn(sizes: &Super, stamp: u64, numbers: &[u64], kept: &[u8; 512], turne
     ensures inside { IsInside (sectors_of (shape_of sizes.now)) result }
     ensures reads { ReadsBefore (first_home (shape_of sizes.now)) result }
 {
-    match sizes.format {
-        LogFormat::One => copy_turn(sizes, stamp, numbers, turned, None),
-        LogFormat::Two if turned % 31 == 0 => {
+    match home_turn(sizes.format, turned) {
+        HomeTurn::Read(j) => {
             let slot = slot_of(stamp, sizes.slots);
-            Turn::Load(slot_place(sizes.format, slot) + (turned / 31) as u64)
+            Turn::Load(slot_place(sizes.format, slot) + j as u64)
         }
-        LogFormat::Two => {
-            let entry = turned % 31 - 1;
-            let i = 30 * (turned / 31) + entry;
-            copy_turn(sizes, stamp, numbers, i, Some(first_bytes(kept, entry)))
-        }
+        HomeTurn::Whole(i) => copy_turn(sizes, stamp, numbers, i, None),
+        HomeTurn::Begun(i) => copy_turn(sizes, stamp, numbers, i, Some(v2::first_bytes(kept, i))),
     }
-}
-
-// The first bytes of a block, which stand in this entry of a descriptor.
-fn first_bytes(descriptor: &[u8; 512], entry: usize) -> [u8; 8]
-    requires { entry < 30 }
-    ensures { result ≡ slice_range descriptor.now (40 + 16 * entry) (48 + 16 * entry) }
-{
-    let mut bytes = [0; 8];
-    bytes.copy_from_slice(&descriptor[40 + 16 * entry..48 + 16 * entry]);
-    bytes
 }
 
 // Copies the i-th block of a record home, with these bytes in front, if there are any.

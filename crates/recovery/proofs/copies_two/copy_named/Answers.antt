@@ -41,7 +41,8 @@ loop-e-preserved g c =
     let inv = c.loop-e.invariant in
     let inside : c.loop-e.e < length c.args.descriptor.now.numbers.items = omega (arith, c.loop-e-test.true, c.len-e-end.ensures.value) in
     let at : ℕ = 2 + 249 * c.args.slot in
-    let from : c.data_place.result ≡ 2 + 249 * c.args.slot + (8 + (30 * c.args.descriptor.now.index + c.loop-e.e)) = c.data_place.ensures in
+    let from : c.named_place.result ≡ 2 + 249 * c.args.slot + (8 + (30 * c.args.descriptor.now.index + c.loop-e.e)) =
+    c.named_place.ensures in
     let to : c.home_of.result ≡ first_home shape + get_or ns e 0 =
     c.home_of.ensures ∙ ap (λ (l : List ℕ). first_home shape + get_or l e 0) c.deref.ensures.0 in
     let entries = c.args.descriptor.now.entries in
@@ -57,9 +58,9 @@ loop-e-preserved g c =
             ap (λ (i : ℕ). new.content (first_home shape + get_or ns i 0)) same
             ∙ ap new.content (sym to)
             ∙ c.in_ok-copy_sector.ensures.done
-            ∙ ap (λ (l : List (List ℕ)). get_or l e [] ++ drop (length (get_or l e [])) (mid.content c.data_place.result))
+            ∙ ap (λ (l : List (List ℕ)). get_or l e [] ++ drop (length (get_or l e [])) (mid.content c.named_place.result))
             c.deref-in-loop-e.ensures.0
-            ∙ ap (λ (n : ℕ). get_or fs e [] ++ drop n (mid.content c.data_place.result)) eight
+            ∙ ap (λ (n : ℕ). get_or fs e [] ++ drop n (mid.content c.named_place.result)) eight
             ∙ ap (λ (l : List ℕ). get_or fs e [] ++ drop 8 l) place
             ∙ ap (λ (i : ℕ). get_or fs i [] ++ drop 8 (old.content (at + (8 + (30 * j + i))))) (sym same)
         | inr other ↦
@@ -76,7 +77,7 @@ loop-e-preserved g c =
       follows = g.met.M.Medium.follows_through c.args.m.now c.loop-e.m c.copy_sector.new.m inv.follows
           c.copy_sector.ensures.follows.follows;
       looks = looks_joined (λ s. s < first_home shape) old mid new inv.looks
-          (look_below (first_home shape) mid new c.data_place.result (omega (arith, from, log, few, many, inside))
+          (look_below (first_home shape) mid new c.named_place.result (omega (arith, from, log, few, many, inside))
           c.copy_sector.ensures.follows.looks);
     }
 
@@ -100,7 +101,8 @@ returns-in_err-copy_sector-clause-follows g c =
     let shape = shape_of c.args.sizes.now in
     let inv = c.loop-e.invariant in
     let inside : c.loop-e.e < length c.args.descriptor.now.numbers.items = omega (arith, c.loop-e-test.true, c.len-e-end.ensures.value) in
-    let from : c.data_place.result ≡ 2 + 249 * c.args.slot + (8 + (30 * c.args.descriptor.now.index + c.loop-e.e)) = c.data_place.ensures in
+    let from : c.named_place.result ≡ 2 + 249 * c.args.slot + (8 + (30 * c.args.descriptor.now.index + c.loop-e.e)) =
+    c.named_place.ensures in
     let few = c.args.descriptor.now.entries.few in
     let many = c.args.descriptor.now.entries.many in
     let log = c.requires.log in
@@ -109,6 +111,6 @@ returns-in_err-copy_sector-clause-follows g c =
           c.copy_sector.ensures.follows.follows;
       sent = search rules;
       looks = looks_joined (λ s. s < first_home shape) old mid new inv.looks
-          (look_below (first_home shape) mid new c.data_place.result (omega (arith, from, log, few, many, inside))
+          (look_below (first_home shape) mid new c.named_place.result (omega (arith, from, log, few, many, inside))
           c.copy_sector.ensures.follows.looks);
     }

@@ -36,7 +36,7 @@ returns-in_err-descriptor-clause-copies g c =
     record {
       elsewhere = λ x not. passes.quiet.content_stays x ∙ inv.elsewhere x not;
       moments = copies_joined P P P old mid read sound (λ x h. h) (λ x h. h) inv.within (quiet_within P mid read sound passes.quiet);
-      calls = omega (arith, inv.calls, passes.calls, few, c.loop-j-test.true, c.div_ceil-j-end.ensures);
+      calls = omega (arith, inv.calls, passes.calls, few, c.loop-j-test.true, c.descriptors-j-end.ensures);
       cause = search rules;
     }
 
@@ -47,7 +47,7 @@ returns-in_default-2-clause-done g c entries whole =
     let mid = g.M.Medium.state c.loop-j.m in
     let r = stands c.args.sizes.now old.content c.args.stamp c.slot_of-slot.result c.requires.format c.slot_of-slot.ensures entries whole in
     absurd (not_named r mid.content c.in-Some.count c.loop-j.j (counted r c.in_ok-count.ensures.all c.in-Some.is)
-    (omega (arith, c.loop-j-test.true, c.div_ceil-j-end.ensures)) c.loop-j.invariant.elsewhere c.in_ok-descriptor.ensures.all
+    (omega (arith, c.loop-j-test.true, c.descriptors-j-end.ensures)) c.loop-j.invariant.elsewhere c.in_ok-descriptor.ensures.all
     c.in_default-2.is)
 
 pub returns-in_default-2-clause-copies : goal.returns-in_default-2-clause-copies
@@ -66,7 +66,7 @@ returns-in_default-2-clause-copies g c =
     record {
       elsewhere = λ x not. passes.quiet.content_stays x ∙ inv.elsewhere x not;
       moments = copies_joined P P P old mid read sound (λ x h. h) (λ x h. h) inv.within (quiet_within P mid read sound passes.quiet);
-      calls = omega (arith, inv.calls, passes.calls, few, c.loop-j-test.true, c.div_ceil-j-end.ensures);
+      calls = omega (arith, inv.calls, passes.calls, few, c.loop-j-test.true, c.descriptors-j-end.ensures);
       cause = search rules;
     }
 
@@ -77,7 +77,7 @@ copy_named-requires-clause-inside g c =
     let r = stands c.args.sizes.now old.content c.args.stamp c.slot_of-slot.result c.requires.format c.slot_of-slot.ensures
     c.requires.whole.0 c.requires.whole.1 in
     let names = named r mid.content c.in-Some.count c.loop-j.j (counted r c.in_ok-count.ensures.all c.in-Some.is)
-    (omega (arith, c.loop-j-test.true, c.div_ceil-j-end.ensures)) c.loop-j.invariant.elsewhere c.in_ok-descriptor.ensures.all
+    (omega (arith, c.loop-j-test.true, c.descriptors-j-end.ensures)) c.loop-j.invariant.elsewhere c.in_ok-descriptor.ensures.all
     c.in-Some-2.is in
     inside_named r names
 
@@ -93,7 +93,7 @@ returns-in_err-copy_named-clause-copies g c =
     let inv = c.loop-j.invariant in
     let r = stands c.args.sizes.now old.content c.args.stamp c.slot_of-slot.result c.requires.format where_is whole.0 whole.1 in
     let count = counted r c.in_ok-count.ensures.all c.in-Some.is in
-    let names = named r mid.content c.in-Some.count c.loop-j.j count (omega (arith, c.loop-j-test.true, c.div_ceil-j-end.ensures))
+    let names = named r mid.content c.in-Some.count c.loop-j.j count (omega (arith, c.loop-j-test.true, c.descriptors-j-end.ensures))
     inv.elsewhere c.in_ok-descriptor.ensures.all c.in-Some-2.is in
     let sound = g.met.M.Medium.sound c.loop-j.m in
     let P : ℕ → Type 0 = IsHomeInRecord (shape_of c.args.sizes.now) old.content c.args.stamp in
@@ -108,7 +108,7 @@ returns-in_err-copy_named-clause-copies g c =
       elsewhere = λ x not. copies.elsewhere x (λ h. not (home_named r names x h)) ∙ passes.quiet.content_stays x ∙ inv.elsewhere x not;
       moments = copies_joined P (IsHomeOf shape c.in-Some-2.descriptor.numbers.items) P old read (g.M.Medium.state c.copy_named.new.m)
           (g.met.M.Medium.sound c.read_descriptor.new.m) (λ x h. h) (home_named r names) before copies.moments;
-      calls = omega (arith, inv.calls, passes.calls, copies.calls, few, past, c.div_ceil-j-end.ensures, count, length_named r names);
+      calls = omega (arith, inv.calls, passes.calls, copies.calls, few, past, c.descriptors-j-end.ensures, count, length_named r names);
       cause = search rules;
     }
 
@@ -119,7 +119,7 @@ loop-j-preserved g c =
     let r = stands c.args.sizes.now old.content c.args.stamp c.slot_of-slot.result c.requires.format c.slot_of-slot.ensures
     c.requires.whole.0 c.requires.whole.1 in
     let names = named r mid.content c.in-Some.count c.loop-j.j (counted r c.in_ok-count.ensures.all c.in-Some.is)
-    (omega (arith, c.loop-j-test.true, c.div_ceil-j-end.ensures)) c.loop-j.invariant.elsewhere c.in_ok-descriptor.ensures.all
+    (omega (arith, c.loop-j-test.true, c.descriptors-j-end.ensures)) c.loop-j.invariant.elsewhere c.in_ok-descriptor.ensures.all
     c.in-Some-2.is in
     let shape = shape_of c.args.sizes.now in
     let read = g.M.Medium.state c.read_descriptor.new.m in
@@ -145,7 +145,7 @@ loop-j-preserved g c =
           let v = stands c.args.sizes.now old.content c.args.stamp c.slot_of-slot.result c.requires.format c.slot_of-slot.ensures entries
           whole in
           let its = named v mid.content c.in-Some.count c.loop-j.j (counted v c.in_ok-count.ensures.all c.in-Some.is)
-          (omega (arith, c.loop-j-test.true, c.div_ceil-j-end.ensures)) c.loop-j.invariant.elsewhere c.in_ok-descriptor.ensures.all
+          (omega (arith, c.loop-j-test.true, c.descriptors-j-end.ensures)) c.loop-j.invariant.elsewhere c.in_ok-descriptor.ensures.all
           c.in-Some-2.is in
           elim (cases_lt i (30 * j)) [
             | inl less ↦
@@ -197,8 +197,8 @@ returns-clause-done g c entries whole =
     let two : calls_of shape.format (length entries) ≡ 1 + descriptors_of (length entries) + 2 * length entries =
     ap (λ f. calls_of f (length entries)) c.requires.format in
     record {
-      home = λ i inside. inv.copied entries whole i inside (omega (arith, count, inside, past, c.div_ceil-j-end.ensures));
-      exact = omega (arith, count, inv.calls, past, c.div_ceil-j-end.ensures, c.loop-j.auto.j-end, two);
+      home = λ i inside. inv.copied entries whole i inside (omega (arith, count, inside, past, c.descriptors-j-end.ensures));
+      exact = omega (arith, count, inv.calls, past, c.descriptors-j-end.ensures, c.loop-j.auto.j-end, two);
     }
 
 pub returns-in_err-count-clause-follows : goal.returns-in_err-count-clause-follows

@@ -17,8 +17,8 @@ returns-in_err-read-clause-follows g c =
           (omega (arith, c.data_place.ensures, c.requires.few, c.loop-i-test.true)) c.read.ensures.follows.1),
     )
 
-pub returns-then-not-is_data2-clause-follows : goal.returns-then-not-is_data2-clause-follows
-returns-then-not-is_data2-clause-follows g c =
+pub returns-then-not-is_data-clause-follows : goal.returns-then-not-is_data-clause-follows
+returns-then-not-is_data-clause-follows g c =
     let mid = g.M.Medium.state c.loop-i.m in
     let new = g.M.Medium.state c.read.new.self in
     let inv = c.loop-i.invariant in (
@@ -28,8 +28,8 @@ returns-then-not-is_data2-clause-follows g c =
           (omega (arith, c.data_place.ensures, c.requires.few, c.loop-i-test.true)) c.read.ensures.follows.1),
     )
 
-pub returns-then-not-is_data2-clause-stamped : goal.returns-then-not-is_data2-clause-stamped
-returns-then-not-is_data2-clause-stamped g c =
+pub returns-then-not-is_data-clause-stamped : goal.returns-then-not-is_data-clause-stamped
+returns-then-not-is_data-clause-stamped g c =
     let inv = c.loop-i.invariant in
     let i = c.loop-i.i in
     let old = g.M.Medium.state c.args.m.now in
@@ -39,8 +39,8 @@ returns-then-not-is_data2-clause-stamped g c =
     c.in_ok-read.ensures.ok ∙ inv.quiet.content_stays c.data_place.result ∙ ap (λ (n : ℕ). old.content n) where_is in
     let bad : ¬ HasPlace old.content begin c.args.stamp i =
     λ has.
-    let is = c.is_data2.ensures.1 (subst (λ (bytes : List ℕ). bytes ≡ place_bytes c.args.stamp bytes) (sym here) has) in
-    untrue (sym c.if-not-is_data2.true ∙ is) in (
+    let is = c.is_data.ensures.1 (subst (λ (bytes : List ℕ). bytes ≡ place_bytes c.args.stamp bytes) (sym here) has) in
+    untrue (sym c.if-not-is_data.true ∙ is) in (
       (untrue, λ all. absurd (bad (all i c.loop-i-test.true))),
       i + 1,
       inr (record { first = i; inside = c.loop-i-test.true; before = inv.stamped; bad = bad; reads_are = refl }),

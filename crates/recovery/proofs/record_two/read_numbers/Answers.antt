@@ -13,7 +13,7 @@ returns-in_default-clause-all g c numbers long has =
     let s = c.args.stamp in
     let j = c.loop-j.j in
     let at : ℕ = 2 + 249 * c.args.slot in
-    let here : j < descriptors_of (length numbers) = omega (arith, c.div_ceil-j-end.ensures, c.loop-j-test.true, long) in
+    let here : j < descriptors_of (length numbers) = omega (arith, c.descriptors-j-end.ensures, c.loop-j-test.true, long) in
     let ns : List ℕ = take 30 (drop (30 * j) numbers) in
     let fs = (has j here).0 in
     let same = c.loop-j.invariant.quiet.content_stays (at + j) in
@@ -41,7 +41,7 @@ loop-j-preserved g c =
     let is = subst (λ (bytes : List ℕ). IsDescriptorTwo s n j d.numbers.items d.firsts.items bytes) same some.1 in
     let more : c.try_extend_from_slice.new.self.items ≡ ns ++ d.numbers.items =
     c.in-Ok.ensures.ok ∙ ap (λ (l : List ℕ). ns ++ l) c.deref.ensures.0 in
-    let full : length ns ≡ 30 * j = omega (arith, inv.long, below, c.div_ceil-j-end.ensures) in
+    let full : length ns ≡ 30 * j = omega (arith, inv.long, below, c.descriptors-j-end.ensures) in
     record {
       quiet = quiet_joined old mid new inv.quiet c.read_descriptor.ensures.passes.quiet;
       reads = λ kind other. c.read_descriptor.ensures.passes.reads kind other ∙ inv.reads kind other;
@@ -52,7 +52,7 @@ loop-j-preserved g c =
           (k : ℕ) → k < j + 1 → (fs : List (List ℕ)) × IsDescriptorTwo s n k (take 30 (drop (30 * k) l)) fs (old.content (at + k)))
           (sym more) (described_more j ns d.numbers.items full old.content at s n d.firsts.items is inv.described);
       all = λ numbers long has.
-          let here : j < descriptors_of (length numbers) = omega (arith, c.div_ceil-j-end.ensures, below, long) in
+          let here : j < descriptors_of (length numbers) = omega (arith, c.descriptors-j-end.ensures, below, long) in
           let part : List ℕ = take 30 (drop (30 * j) numbers) in
           let fs = (has j here).0 in
           let there = subst (λ (k : ℕ). IsDescriptorTwo s k j part fs (mid.content (at + j))) long
@@ -76,17 +76,17 @@ returns-clause-found g c =
     let inv = c.loop-j.invariant in
     let n = c.args.count in
     let over = c.loop-j-test.false in
-    let long : length c.loop-j.numbers.items ≡ c.args.count = omega (arith, inv.long, over, c.div_ceil-j-end.ensures) in (
+    let long : length c.loop-j.numbers.items ≡ c.args.count = omega (arith, inv.long, over, c.descriptors-j-end.ensures) in (
       long,
       λ j below.
-          let was = inv.described j (omega (arith, below, long, over, c.div_ceil-j-end.ensures)) in (
+          let was = inv.described j (omega (arith, below, long, over, c.descriptors-j-end.ensures)) in (
             was.0,
             subst
                 (λ (k : ℕ). IsDescriptorTwo c.args.stamp k j (take 30 (drop (30 * j) c.loop-j.numbers.items)) was.0
                 ((g.M.Medium.state c.args.m.now).content (2 + 249 * c.args.slot + j)))
                 (sym long) was.1,
           ),
-      omega (arith, inv.calls, over, c.div_ceil-j-end.ensures, c.loop-j.auto.j-end),
+      omega (arith, inv.calls, over, c.descriptors-j-end.ensures, c.loop-j.auto.j-end),
     )
 
 pub returns-in_err-found-clause-follows : goal.returns-in_err-found-clause-follows
@@ -116,7 +116,7 @@ returns-in_default-clause-found g c =
       j + 1,
       record {
         first = j;
-        inside = omega (arith, c.div_ceil-j-end.ensures, c.loop-j-test.true);
+        inside = omega (arith, c.descriptors-j-end.ensures, c.loop-j-test.true);
         before = λ k below. let d = inv.described k below in (take 30 (drop (30 * k) c.loop-j.numbers.items), d.0, d.1);
         bad = λ has.
             let there = subst (λ (bytes : List ℕ). IsDescriptorTwo s n j has.0 has.1 bytes) (sym same) has.2 in
