@@ -90,7 +90,8 @@ pub fn format<M: Medium>(m: &mut M, blocks: u64, slots: u64) -> Result<(), Forma
         × (fault ≡ FormatFault.BadSize → m.new ≡ m.old)) }
     ensures leaves { let shape = new_shape One blocks slots in
         FormatLeaves shape (M.state m.old) (M.state m.new) }
-    ensures calls { CallsUpTo (7 + slot_sectors_of One * slots + blocks) (M.state m.old) (M.state m.new) result }
+    ensures calls { CallsUpTo (7 + slot_sectors_of One * slots + blocks)
+        (M.state m.old) (M.state m.new) result }
     ensures follows { M.follows m.old m.new }
 {
     make(m, LogFormat::One, blocks, slots)
@@ -113,7 +114,8 @@ pub fn format2<M: Medium>(m: &mut M, blocks: u64, slots: u64) -> Result<(), Form
         × (fault ≡ FormatFault.BadSize → m.new ≡ m.old)) }
     ensures leaves { let shape = new_shape Two blocks slots in
         FormatLeaves shape (M.state m.old) (M.state m.new) }
-    ensures calls { CallsUpTo (7 + slot_sectors_of Two * slots + blocks) (M.state m.old) (M.state m.new) result }
+    ensures calls { CallsUpTo (7 + slot_sectors_of Two * slots + blocks)
+        (M.state m.old) (M.state m.new) result }
     ensures follows { M.follows m.old m.new }
 {
     make(m, LogFormat::Two, blocks, slots)

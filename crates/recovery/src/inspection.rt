@@ -74,7 +74,8 @@ fn count_waiting<M: Medium>(
 ) -> Result<ArrayVec<u64, 64>, MediumFault>
     requires fits { sectors_of (shape_of sizes.now) ≤ (M.state m.old).size }
     requires head { head < 2 ^ 63 }
-    ensures passes { ReadsPass ((slot_sectors_of Two + 1) * sizes.now.slots) (M.state m.old) (M.state m.new) result }
+    ensures passes { ReadsPass ((slot_sectors_of Two + 1) * sizes.now.slots)
+        (M.state m.old) (M.state m.new) result }
     ensures counts { IfOk result (λ waiting.
         AreCounts (shape_of sizes.now) (M.state m.old).content head waiting.items) }
     ensures follows { M.follows m.old m.new }
