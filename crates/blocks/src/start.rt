@@ -13,7 +13,7 @@ ghost use Rattle.blocks.specs.Started.{RefusesStart};
 
 use crate::{StartError, Store};
 use cache::{Batch, Frozen};
-use journal::{LogFormat, Super};
+use journal::Super;
 use medium::Medium;
 use recovery::{Recovered, StartFault, recover};
 use redo_log::Log;
@@ -125,8 +125,5 @@ impl<M: Medium> Store<M> {
 fn may_go_ahead(sizes: &Super) -> bool
     ensures { result ≡ may_go_ahead (shape_of sizes.now) }
 {
-    match sizes.format {
-        LogFormat::One => false,
-        LogFormat::Two => 3 <= sizes.slots,
-    }
+    sizes.format.flushes() == 1 && 3 <= sizes.slots
 }
