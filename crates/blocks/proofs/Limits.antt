@@ -6,7 +6,7 @@ use Rattle.journal.specs.declared.log_format.LogFormat.TheVariants.{One, Two}
 use Rattle.journal.specs.declared.super_sector.Super.{Super}
 use Rattle.blocks.specs.StoreValue.{Cached, layout_of, blocks_of, slots_of, transfer_limit, batch_steps, steps_for, waiting, HasLimits}
 use Rattle.redo_log.specs.Value.{most_steps, most_retire_steps}
-use Rattle.blocks.specs.Kept.{IsKept}
+use Rattle.blocks.specs.Kept.{Invariant}
 use Rattle.blocks.proofs.Fitting.{steps_for_most}
 
 -- no format has a lower limit, or a higher one
@@ -30,7 +30,7 @@ few One slots steps left frozen active a b c d = omega (arith, a, b, c, d)
 few Two slots steps left frozen active a b c d = omega (arith, a, b, c, d)
 
 -- the limits of a store
-pub has_limits : (size : ℕ) (sizes : Super) (s : Cached) (writing : Bool) → IsKept size sizes s writing → HasLimits s
+pub has_limits : (size : ℕ) (sizes : Super) (s : Cached) (writing : Bool) → Invariant size sizes s writing → HasLimits s
 has_limits size sizes s writing kept =
     let format : LogFormat = (layout_of s).format in
     let blocks : blocks_of s ≡ sizes.blocks = ap (λ (shape : Shape). shape.blocks) kept.shape in

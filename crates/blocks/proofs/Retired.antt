@@ -10,7 +10,7 @@ use Rattle.journal.specs.declared.super_sector.Super.{Super}
 use Rattle.redo_log.specs.Value.{LogValue, IsRetireStepped, behind_oldest, died, most_steps, most_retire_steps, next_calls, next_sends}
 use Rattle.redo_log.specs.Flushes.{next_turn_flushes}
 use Rattle.blocks.specs.Background.{IsRetiring}
-use Rattle.blocks.specs.Kept.{IsBatchOf, IsKept}
+use Rattle.blocks.specs.Kept.{IsBatchOf, Invariant}
 use Rattle.blocks.specs.StoreValue.{Cached}
 
 -- what a retire step leaves of a log
@@ -64,7 +64,7 @@ retained old new none some = go old.waiting refl
 
 -- what was true of the store's fields is so still
 pub still_kept : (before after : ℕ) (sizes : Super) (s : Cached) (log' : LogValue) (writing : Bool) → after ≡ before → s.log.steps_left ≡ 0
-    → Retained s.log log' → IsKept before sizes s writing → IsKept after sizes (record s { log = log' }) writing
+    → Retained s.log log' → Invariant before sizes s writing → Invariant after sizes (record s { log = log' }) writing
 still_kept before after sizes s log' writing same idle r k = record {
   shape = r.shape ∙ k.shape;
   fits = omega (arith, k.fits, ap (λ (shape : Shape). sectors_of shape) r.shape, same);
@@ -85,9 +85,9 @@ still_kept before after sizes s log' writing same idle r k = record {
 
 -- and where the log died
 pub died_kept : (before after : ℕ) (sizes : Super) (s : Cached) (log' : LogValue) (writing : Bool) → after ≡ before → log' ≡ died s.log
-    → IsKept before sizes s writing → IsKept after sizes (record s { log = log' }) writing
+    → Invariant before sizes s writing → Invariant after sizes (record s { log = log' }) writing
 died_kept before after sizes s log' writing same is k =
-    subst (λ (l : LogValue). IsKept after sizes (record s { log = l }) writing) (sym is) (record {
+    subst (λ (l : LogValue). Invariant after sizes (record s { log = l }) writing) (sym is) (record {
       shape = k.shape;
       fits = omega (arith, k.fits, same);
       active = k.active;

@@ -21,7 +21,7 @@ use Rattle.redo_log.specs.Value.{idle_from}
 use Rattle.redo_log.proofs.Handing.{idle_holds}
 use Rattle.cache.specs.Entries.{Entries}
 use Rattle.spec.specs.Book.{opened}
-use Rattle.blocks.specs.Kept.{IsBatchOf, IsKept}
+use Rattle.blocks.specs.Kept.{IsBatchOf, Invariant}
 use Rattle.blocks.specs.StoreValue.{Cached, FitsBook}
 use Rattle.blocks.specs.Started.{IsStarted}
 use Rattle.blocks.proofs.Opening.{serves, opens_on}
@@ -44,7 +44,7 @@ started shape next = record { log = idle_from shape next; active = empty_batch s
 
 -- it is kept as every store is
 pub started_kept : (size : ℕ) (sizes : Super) (next : ℕ) → sectors_of (shape_of sizes) ≤ size
-    → IsKept size sizes (started (shape_of sizes) next) false
+    → Invariant size sizes (started (shape_of sizes) next) false
 started_kept size sizes next fits = record {
   shape = refl;
   fits = fits;

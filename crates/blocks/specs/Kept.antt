@@ -17,7 +17,7 @@ pub record IsBatchOf (shape : Shape) (batch : Entries) : Type 0 where
 
 -- the log and the batches of a store over a medium of so many sectors, with these sizes, and
 -- whether a record is under way
-pub record IsKept (size : ℕ) (sizes : Super) (cached : Cached) (writing : Bool) : Type 0 where
+pub record Invariant (size : ℕ) (sizes : Super) (cached : Cached) (writing : Bool) : Type 0 where
   pub shape : cached.log.shape ≡ shape_of sizes
   pub fits : sectors_of cached.log.shape ≤ size
   pub active : IsBatchOf cached.log.shape cached.active

@@ -109,8 +109,8 @@ impl<M: Medium> Store<M> {
         ensures log { IsTrue result → self.now.cached.log.waiting ≡ [] }
     {
         self.log.is_retired()
-            && self.active.lacks(address, count)
-            && self.frozen.lacks(address, count)
+            && self.active.is_disjoint(address, count)
+            && self.frozen.is_disjoint(address, count)
     }
 
     // Reads blocks that are at home alone.

@@ -37,7 +37,7 @@ impl<M: Medium> Model for Store<M> {
 
     ghost Value = { StoreValue M };
 
-    ghost use Rattle.blocks.specs.Kept.{IsKept};
+    ghost use Rattle.blocks.specs.Kept.{Invariant};
 
     ghost view = { λ s. record {
       medium = s.medium;
@@ -45,7 +45,7 @@ impl<M: Medium> Model for Store<M> {
       goes_ahead = s.goes_ahead;
     } };
 
-    ghost invariant = { λ s. IsKept (M.state s.medium).size s.sizes
+    ghost invariant = { λ s. Invariant (M.state s.medium).size s.sizes
         (record { log = s.log; active = s.active; frozen = s.frozen }) s.writing };
 }
 

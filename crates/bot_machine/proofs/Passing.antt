@@ -4,7 +4,7 @@ use Rattle.medium.specs.Medium.{State}
 use Rattle.medium.proofs.Looking.{no_looks}
 use Rattle.scsi_unit.specs.Reading.{first_home_of}
 use Rattle.scsi_unit.specs.UnitValue.{UnitValue, unit_limit, intention_of}
-use Rattle.bot_machine.specs.declared.wire.Wire.{Wire}
+use Rattle.bot_machine.specs.declared.bulk_state.BulkState.{BulkState}
 use Rattle.bot_machine.specs.Refinement.{IsInPhase}
 use Rattle.bot_machine.specs.Reading.{LooksBesides}
 use Rattle.bot_machine.specs.Serving.{HandsOn}
@@ -16,7 +16,7 @@ none_besides At m unit = no_looks (λ s. (s < first_home_of unit) ⊎ At s) m m 
 
 -- nothing was done to the unit
 pub unit_stays : {M : Type 0} (state : M → State) (Follows : M → M → Type 0) (At : ℕ → Type 0) (unit : UnitValue M)
-    (from to : Wire)
+    (from to : BulkState)
     → ((m : M) → Follows m m) → IsInPhase (unit_limit unit) (intention_of unit) to.phase → to.size ≡ from.size
     → HandsOn state Follows At unit unit from to
 unit_stays state Follows At unit from to itself phase size = record {

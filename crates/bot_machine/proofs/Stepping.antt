@@ -18,9 +18,9 @@ use Rattle.spec.specs.declared.event.Event.{Event}
 use Rattle.spec.specs.declared.event.Event.TheVariants as event
 use Rattle.spec.specs.declared.event.Answer.{Answer}
 use Rattle.spec.specs.declared.event.Answer.TheVariants as answer
-use Rattle.bot_machine.specs.declared.wire.Taking.{Taking}
-use Rattle.bot_machine.specs.declared.wire.Phase.{Phase}
-use Rattle.bot_machine.specs.declared.wire.Phase.TheVariants.{Command, DataOut, DataIn, Status}
+use Rattle.bot_machine.specs.declared.bulk_state.Taking.{Taking}
+use Rattle.bot_machine.specs.declared.bulk_state.Phase.{Phase}
+use Rattle.bot_machine.specs.declared.bulk_state.Phase.TheVariants.{Command, DataOut, DataIn, Status}
 use Rattle.spec.specs.Requests.{Request, mass_storage_reset, get_max_lun, clear_halt, get_status}
 use Rattle.spec.specs.Exchange.{Script, finished, taking, sending, Line, laid_out, set_halt, in_answer, after_packet, after_in}
 use Rattle.spec.specs.Exchange.{after_request}
@@ -29,7 +29,7 @@ use Rattle.spec.specs.UnitConversation.{Intends, write_of_packet, on_line}
 use Rattle.bot_machine.specs.Acts.{PacketCarriesOut}
 use Rattle.bot_machine.specs.Disk.{DiskValue, FitsDisk, Proceeds, Tells, IsStep, Elapses, TakesFew}
 use Rattle.spec.specs.declared.intent.Intent.TheVariants as intent
-use Rattle.bot_machine.specs.Refinement.{taking_of, left_of, halt_of, IsInPhase, IsKept}
+use Rattle.bot_machine.specs.Refinement.{taking_of, left_of, halt_of, IsInPhase, Invariant}
 use Rattle.spec.specs.Packets.{packets_of}
 use Rattle.bot_machine.specs.Reading.{LooksBesides, LooksIn, ReadsAt, WrapperReadsAt}
 use Rattle.bot_machine.specs.Serving.{BeginsOn, TakesOn, RestsOn, SparesOn}
@@ -294,6 +294,6 @@ still_in_phase limit old new steady steady_in Status h = tt
 
 -- what is kept with one limit is kept with another that is the same
 pub kept_as : (old new : ℕ) (intention : List ℕ → Intention) (phase : Phase) (taken staging : List ℕ) → new ≡ old
-    → IsKept old intention phase taken staging → IsKept new intention phase taken staging
+    → Invariant old intention phase taken staging → Invariant new intention phase taken staging
 kept_as old new intention phase taken staging same kept =
-    subst (λ (n : ℕ). IsKept n intention phase taken staging) (sym same) kept
+    subst (λ (n : ℕ). Invariant n intention phase taken staging) (sym same) kept

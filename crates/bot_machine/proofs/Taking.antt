@@ -1,8 +1,8 @@
 -- The data that is being taken.
 use Rattle.std.proofs.Common.{◌≡◌, ap}
-use Rattle.bot_machine.specs.declared.wire.Taking.{Taking}
-use Rattle.bot_machine.specs.declared.wire.Phase.{Phase}
-use Rattle.bot_machine.specs.declared.wire.Phase.TheVariants.{Command, DataOut, DataIn, Status}
+use Rattle.bot_machine.specs.declared.bulk_state.Taking.{Taking}
+use Rattle.bot_machine.specs.declared.bulk_state.Phase.{Phase}
+use Rattle.bot_machine.specs.declared.bulk_state.Phase.TheVariants.{Command, DataOut, DataIn, Status}
 
 -- what is being taken in a phase, or else this
 abbrev taken_in : Taking → Phase → Taking

@@ -14,10 +14,10 @@ use Rattle.bot_machine.specs.declared.request.ControlRequest.{ControlRequest}
 use Rattle.bot_machine.specs.declared.request.ControlRequest.TheVariants.{MassStorageReset}
 use Rattle.bot_machine.specs.declared.request.ControlRequest.TheVariants.{GetMaxLun, ClearHalt}
 use Rattle.bot_machine.specs.declared.request.ControlRequest.TheVariants.{GetStatus}
-use Rattle.bot_machine.specs.declared.wire.Taking.{Taking}
-use Rattle.bot_machine.specs.declared.wire.Phase.{Phase}
-use Rattle.bot_machine.specs.declared.wire.Phase.TheVariants.{Command, DataOut, DataIn, Status}
-use Rattle.bot_machine.specs.declared.wire.Wire.{Wire}
+use Rattle.bot_machine.specs.declared.bulk_state.Taking.{Taking}
+use Rattle.bot_machine.specs.declared.bulk_state.Phase.{Phase}
+use Rattle.bot_machine.specs.declared.bulk_state.Phase.TheVariants.{Command, DataOut, DataIn, Status}
+use Rattle.bot_machine.specs.declared.bulk_state.BulkState.{BulkState}
 use Rattle.spec.specs.Packets.{bytes_of, packets_of}
 use Rattle.spec.specs.Requests.{Request, mass_storage_reset, get_max_lun, clear_halt, get_status}
 use Rattle.spec.specs.Exchange.{Script, Line, finished, taking, sending, Moment, at_once}
@@ -43,7 +43,7 @@ left_of size (DataIn from to halt) taken staging status =
 left_of size Status taken staging status = sending [] None status
 
 -- the line, but for what is left of the exchange
-abbrev pub line_with : Wire → Script → Line
+abbrev pub line_with : BulkState → Script → Line
 line_with wire left = record {
   packet_size = bytes_of wire.size;
   in_halted = wire.in_halted;
@@ -52,7 +52,7 @@ line_with wire left = record {
   left = left;
 }
 
-abbrev pub line_of : Wire → List ℕ → List ℕ → Line
+abbrev pub line_of : BulkState → List ℕ → List ℕ → Line
 line_of wire taken staging =
     line_with wire (left_of (bytes_of wire.size) wire.phase taken staging wire.status)
 
@@ -81,7 +81,7 @@ IsInPhase limit intention (DataIn from to halt) = (from < to) × (to ≤ 512 * l
 IsInPhase limit intention Status = ⊤
 
 -- what holds of the fields of every disk
-pub record IsKept (limit : ℕ) (intention : List ℕ → Intention) (phase : Phase)
+pub record Invariant (limit : ℕ) (intention : List ℕ → Intention) (phase : Phase)
     (taken staging : List ℕ) : Type 0 where
   pub taken_room : length taken ≡ 512 * limit
   pub staging_room : length staging ≡ 512 * limit

@@ -13,9 +13,9 @@ use Rattle.scsi_unit.specs.Calls.{IsBounded}
 use Rattle.scsi_unit.specs.Serving.{has_refused, IsSparing}
 use Rattle.scsi_unit.specs.UnitValue.{UnitValue, unit_limit, state_of, FitsUnit, intention_of}
 use Rattle.bot_machine.specs.declared.exchange.Exchange.{Exchange}
-use Rattle.bot_machine.specs.declared.wire.Taking.{Taking}
-use Rattle.bot_machine.specs.declared.wire.Phase.TheVariants.{DataOut}
-use Rattle.bot_machine.specs.declared.wire.Wire.{Wire}
+use Rattle.bot_machine.specs.declared.bulk_state.Taking.{Taking}
+use Rattle.bot_machine.specs.declared.bulk_state.Phase.TheVariants.{DataOut}
+use Rattle.bot_machine.specs.declared.bulk_state.BulkState.{BulkState}
 use Rattle.spec.specs.Packets.{bytes_of}
 use Rattle.spec.specs.Exchange.{Line, Script}
 use Rattle.spec.specs.Conversation.{IsCarriedOut, OpensExchange, Locks, Takes}
@@ -84,7 +84,7 @@ SparesOn most before after old new to left packet = (book : Book) → FitsUnit b
 
 -- A packet takes data, of which the first bytes of this buffer came already: by the rules, and the
 -- unit rests where no command is carried out, and makes few calls where one is.
-pub record TakesData {M : Type 0} (before after : State) (old new : UnitValue M) (from : Wire)
+pub record TakesData {M : Type 0} (before after : State) (old new : UnitValue M) (from : BulkState)
     (to : Line) (taken packet : List ℕ) : Type 0 where
   pub takes : (pending : Taking) → from.phase ≡ DataOut pending → (left : Script)
       → TakesOn before after old new (line_with from left) to pending taken packet
@@ -97,7 +97,7 @@ pub record TakesData {M : Type 0} (before after : State) (old new : UnitValue M)
 -- packet as they were, and the medium, which comes after what it was by few calls, and of which no
 -- home sector is read but such as this holds of.
 pub record HandsOn {M : Type 0} (state : M → State) (Follows : M → M → Type 0) (At : ℕ → Type 0)
-    (old new : UnitValue M) (from to : Wire) : Type 0 where
+    (old new : UnitValue M) (from to : BulkState) : Type 0 where
   pub phase : IsInPhase (unit_limit new) (intention_of new) to.phase
   pub limit : unit_limit new ≡ unit_limit old
   pub size : to.size ≡ from.size

@@ -19,10 +19,10 @@ ghost use Rattle.spec.specs.declared.event.Event.TheVariants as event;
 ghost use Rattle.spec.specs.declared.event.Answer.TheVariants as answer;
 ghost use Rattle.bot_machine.specs.contracts.disk.Disk.{the_row};
 
+use crate::bulk_state::{BulkState, Phase};
 use crate::event::{InAnswer, OutAnswer, SetupAnswer};
 use crate::request::{ControlRequest, read_request};
 use crate::serve::{open, take_data};
-use crate::wire::{Phase, Wire};
 use inlet::Inlet;
 use medium::{Medium, Outlet, Switch};
 use scsi_unit::Unit;
@@ -32,7 +32,7 @@ use std::marker::Model;
 #[derive(Drop)]
 pub struct Disk<M: Medium> {
     pub(crate) unit: Unit<M>,
-    pub(crate) wire: Wire,
+    pub(crate) wire: BulkState,
     // The intended bytes that came of the data being taken.
     pub(crate) taken: Vec<u8>,
     // The bytes that are sent.
@@ -45,7 +45,7 @@ impl<M: Medium> Model for Disk<M> {
     ghost Value = { DiskValue M };
 
     ghost use Rattle.scsi_unit.specs.UnitValue.{unit_limit, intention_of};
-    ghost use Rattle.bot_machine.specs.Refinement.{line_of, IsKept};
+    ghost use Rattle.bot_machine.specs.Refinement.{line_of, Invariant};
 
     ghost view = { λ d. record {
       line = line_of d.wire d.taken.items d.staging.items;
@@ -53,7 +53,7 @@ impl<M: Medium> Model for Disk<M> {
     } };
 
     ghost invariant = { λ d.
-        IsKept (unit_limit d.unit) (intention_of d.unit) d.wire.phase
+        Invariant (unit_limit d.unit) (intention_of d.unit) d.wire.phase
         d.taken.items d.staging.items };
 }
 

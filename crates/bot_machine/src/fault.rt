@@ -6,8 +6,8 @@ ghost use Rattle.bot_machine.specs.Faulting.{is_good, taken_back, owes_good, fau
 ghost use Rattle.bot_machine.specs.Faulting.{faulted_over, faulted_disk, TurnsGoodAlone};
 ghost use Rattle.bot_machine.specs.Refinement.{line_of};
 
+use crate::bulk_state::{BulkState, Phase};
 use crate::disk::Disk;
-use crate::wire::{Phase, Wire};
 use medium::Medium;
 use wrappers::Status;
 
@@ -31,7 +31,7 @@ impl<M: Medium> Disk<M> {
     }
 }
 
-impl Wire {
+impl BulkState {
     /// Takes back a good status that is still to be sent. Whether there was one.
     fn take_back(&mut self) -> bool
         ensures line { (taken staging : List ℕ)

@@ -3,6 +3,7 @@
 #![tactic(auto)]
 
 mod answers;
+mod bulk_state;
 mod disk;
 mod event;
 mod exchange;
@@ -17,7 +18,6 @@ mod run;
 mod serve;
 mod stage;
 mod start;
-mod wire;
 
 pub use answers::Answers;
 pub use disk::Disk;

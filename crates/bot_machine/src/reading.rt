@@ -5,10 +5,10 @@ ghost use Rattle.scsi_unit.specs.UnitValue.{unit_limit};
 ghost use Rattle.bot_machine.specs.Reading.{sectors_in, sectors_for, ReadsHome, ReadsNoHome};
 ghost use Rattle.bot_machine.specs.Reading.{WrapperReads, WrapperReadsNone};
 
+use crate::bulk_state::Phase;
 use crate::disk::Disk;
 use crate::exchange::Exchange;
 use crate::serve::read_exchange;
-use crate::wire::Phase;
 use medium::Medium;
 use scsi_unit::{HomeSectors, Unit};
 use wrappers::Case;

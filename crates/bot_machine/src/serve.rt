@@ -18,8 +18,8 @@ ghost use Rattle.scsi_unit.specs.Reading.{IsOneOf};
 ghost use Rattle.bot_machine.specs.Reading.{sectors_for, WrapperReadsAt};
 ghost use Rattle.spec.specs.declared.intent.Intent.TheVariants as intent;
 
+use crate::bulk_state::{BulkState, Phase, Taking};
 use crate::exchange::{Exchange, When, after_failure, size_sent, way_of_intent, when_carried_out};
-use crate::wire::{Phase, Taking, Wire};
 use medium::Medium;
 use scsi_unit::{Intent, Unit};
 use std::mem;
@@ -28,7 +28,7 @@ use wrappers::{Status, case_of, read_cbw, write_csw};
 // Carries out the command of an exchange over the bytes taken, and lays out what is sent.
 fn carry_out<M: Medium>(
     unit: &mut Unit<M>,
-    wire: &mut Wire,
+    wire: &mut BulkState,
     staging: &mut [u8],
     exchange: &Exchange,
     bytes: &[u8],
@@ -81,7 +81,7 @@ pub(crate) fn read_exchange<M: Medium>(unit: &Unit<M>, packet: &[u8]) -> Option<
 #[tactic(auto, using(crate::proofs::ReadAtOnce::waits_to_send_none, crate::proofs::Passing::none_besides))]
 pub(crate) fn open<M: Medium>(
     unit: &mut Unit<M>,
-    wire: &mut Wire,
+    wire: &mut BulkState,
     staging: &mut [u8],
     packet: &[u8],
 )
@@ -122,7 +122,7 @@ pub(crate) fn open<M: Medium>(
 #[tactic(auto, using(crate::proofs::Passing::none_besides))]
 pub(crate) fn take_data<M: Medium>(
     unit: &mut Unit<M>,
-    wire: &mut Wire,
+    wire: &mut BulkState,
     taken: &mut [u8],
     staging: &mut [u8],
     packet: &[u8],
@@ -170,7 +170,7 @@ fn take_more(pending: &mut Taking, taken: &mut [u8], packet: &[u8], most: u32)
 #[inline(never)]
 fn end_data<M: Medium>(
     unit: &mut Unit<M>,
-    wire: &mut Wire,
+    wire: &mut BulkState,
     taken: &mut [u8],
     staging: &mut [u8],
     packet: &[u8],

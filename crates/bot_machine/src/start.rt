@@ -7,8 +7,8 @@ ghost use Rattle.bot_machine.specs.Opening.{IsOpened, IsNotOpened, StartLeaves, 
 ghost use Rattle.bot_machine.specs.Opening.{StartsDisk, RefusesDisk};
 ghost use Rattle.spec.specs.declared.packet_size.PacketSize.TheVariants.{High512};
 
+use crate::bulk_state::BulkState;
 use crate::disk::Disk;
-use crate::wire::Wire;
 use medium::Medium;
 use scsi_unit::{Identity, Retiring, StartError, StartFault, Unit};
 use spec::PacketSize;
@@ -112,7 +112,7 @@ impl<M: Medium> Disk<M> {
         };
         Ok(Disk {
             unit,
-            wire: Wire::at_rest(size),
+            wire: BulkState::at_rest(size),
             taken,
             staging,
         })

@@ -8,7 +8,7 @@ use Rattle.cache.specs.Entries.{PutsBehind}
 use Rattle.cache.specs.Index.{no_entry, numbers_of, places_of, entries_of}
 use Rattle.cache.specs.Order.{gathered, ArePlaces}
 use Rattle.cache.specs.Places.{joined, ArePaired}
-use Rattle.cache.specs.View.{view_of, IsKept}
+use Rattle.cache.specs.View.{view_of, Invariant}
 use Rattle.cache.specs.declared.entry.Entry.{Entry}
 use Rattle.cache.specs.declared.index.Index.{Index}
 use Rattle.cache.specs.declared.parts.Parts.{Parts}
@@ -177,10 +177,10 @@ pub record AreLaidBehind (old : Parts) (index : Index) (cells : List Entry) (row
   pub row_stays : length row ≡ old.room
 
 module _ (old new : Parts) (cells : List Entry) (row : List (List ℕ)) (number count : ℕ) (bytes : List ℕ)
-    (laid : AreLaidBehind old new.index cells row number count bytes) (kept : IsKept old)
+    (laid : AreLaidBehind old new.index cells row number count bytes) (kept : Invariant old)
     (cells_are : new.index.cells.items ≡ cells) (row_is : new.row.items ≡ row)
     (room_stays : new.room ≡ old.room) (reserved : vec_capacity new.numbers ≡ vec_capacity old.numbers) where
-  pub kept_after : IsKept new
+  pub kept_after : Invariant new
   kept_after =
       let put = laid.put in
       record {

@@ -6,7 +6,7 @@ use Rattle.cache.specs.Index.{numbers_of, places_of, entries_of}
 use Rattle.cache.specs.Order.{gathered}
 use Rattle.cache.specs.Places.{joined, ArePaired, PutsEntry}
 use Rattle.cache.specs.Blocks.{absent}
-use Rattle.cache.specs.View.{view_of, IsKept}
+use Rattle.cache.specs.View.{view_of, Invariant}
 use Rattle.cache.proofs.Swaps.{length-gathered}
 use Rattle.cache.specs.declared.parts.Parts.{Parts}
 
@@ -46,9 +46,9 @@ put_one old new number block same fits put = record {
 }
 
 -- there are as many places as numbers
-pub as_many : (parts : Parts) → IsKept parts → length (places_of (entries_of parts.index)) ≡ length (numbers_of (entries_of parts.index))
+pub as_many : (parts : Parts) → Invariant parts → length (places_of (entries_of parts.index)) ≡ length (numbers_of (entries_of parts.index))
 as_many parts kept = sym (length-gathered (places_of (entries_of parts.index)) parts.row.items) ∙ kept.paired.alike
 
 -- the places are in the row
-pub have_room : (parts : Parts) → IsKept parts → length (places_of (entries_of parts.index)) ≤ length parts.row.items
+pub have_room : (parts : Parts) → Invariant parts → length (places_of (entries_of parts.index)) ≤ length parts.row.items
 have_room parts kept = omega (arith, as_many parts kept, kept.within, kept.whole_row)

@@ -13,7 +13,7 @@ view_of parts = record {
   bytes = joined (gathered (places_of (entries_of parts.index)) parts.row.items);
 }
 
-pub record IsKept (parts : Parts) : Type 0 where
+pub record Invariant (parts : Parts) : Type 0 where
   pub paired : ArePaired (numbers_of (entries_of parts.index))
       (gathered (places_of (entries_of parts.index)) parts.row.items)
   pub placed : ArePlaces (places_of (entries_of parts.index))
@@ -26,6 +26,6 @@ pub record IsKept (parts : Parts) : Type 0 where
 
 -- the blocks lie in the order of their numbers, which are told
 pub record IsArranged (parts : Parts) : Type 0 where
-  pub kept : IsKept parts
+  pub kept : Invariant parts
   pub in_order : AreInOrder (places_of (entries_of parts.index))
   pub told : parts.numbers.items ≡ numbers_of (entries_of parts.index)

@@ -28,11 +28,11 @@ impl Model for Batch {
 
     ghost Value = { Entries };
 
-    ghost use Rattle.cache.specs.View.{view_of, IsKept};
+    ghost use Rattle.cache.specs.View.{view_of, Invariant};
 
     ghost view = { λ batch. view_of batch.parts };
 
-    ghost invariant = { λ batch. IsKept batch.parts };
+    ghost invariant = { λ batch. Invariant batch.parts };
 }
 
 impl Batch {
@@ -101,7 +101,7 @@ impl Batch {
     /// Whether none of so many blocks from the address on is there. The range ends at 2^31 or
     /// before.
     #[inline]
-    pub fn lacks(&self, address: u64, count: usize) -> bool
+    pub fn is_disjoint(&self, address: u64, count: usize) -> bool
         requires { address + count ≤ 2 ^ 31 }
         ensures { IsTrue result ↔ (unlisted self.now.numbers address count ≡ count) }
     {

@@ -4,7 +4,7 @@ ghost use Rattle.std.specs.Prelude.{IsTrue, IfOk, IsErrOf, IfSome, IsNone};
 ghost use Rattle.cache.specs.Blocks.{unlisted};
 ghost use Rattle.cache.specs.Entries.{IsWellFormed, map_of};
 ghost use Rattle.cache.specs.Places.{HasPlace};
-ghost use Rattle.cache.specs.View.{view_of, IsKept, IsArranged};
+ghost use Rattle.cache.specs.View.{view_of, Invariant, IsArranged};
 
 use crate::BatchError;
 use crate::parts::Parts;
@@ -83,7 +83,7 @@ impl Frozen {
     /// Whether none of so many blocks from the address on is there. The range ends at 2^31 or
     /// before.
     #[inline]
-    pub fn lacks(&self, address: u64, count: usize) -> bool
+    pub fn is_disjoint(&self, address: u64, count: usize) -> bool
         requires { address + count ≤ 2 ^ 31 }
         ensures { IsTrue result ↔ (unlisted self.now.numbers address count ≡ count) }
     {
@@ -124,7 +124,7 @@ impl Frozen {
         requires { IsArranged parts.old }
         ensures took { self.new ≡ view_of parts.old }
         ensures gave { view_of parts.new ≡ self.old }
-        ensures kept { IsKept parts.new }
+        ensures kept { Invariant parts.new }
     {
         mem::swap(&mut self.parts, parts);
     }

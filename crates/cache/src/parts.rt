@@ -6,7 +6,7 @@ ghost use Rattle.cache.specs.Blocks.{absent};
 ghost use Rattle.cache.specs.Entries.{PutsBehind, PutsBlock, map_of};
 ghost use Rattle.cache.specs.Index.{numbers_of, entries_of};
 ghost use Rattle.cache.specs.Places.{HasPlace};
-ghost use Rattle.cache.specs.View.{view_of, IsKept, IsArranged};
+ghost use Rattle.cache.specs.View.{view_of, Invariant, IsArranged};
 
 use crate::BatchError;
 use crate::append::{write_blocks, write_entries};
@@ -57,7 +57,7 @@ impl Parts {
 
     /// The 512 bytes of a block, where it is there.
     pub(crate) fn get(&self, block: u64) -> Option<&[u8]>
-        requires { IsKept self.now }
+        requires { Invariant self.now }
         ensures some { IfSome result (λ bytes. map_of (view_of self.now) block ≡ Some bytes.now) }
         ensures size { IfSome result (λ bytes. length bytes.now ≡ 512) }
         ensures none { IsNone result ↔ (map_of (view_of self.now) block ≡ None) }
@@ -69,7 +69,7 @@ impl Parts {
     /// The same where the block's place is known, which becomes the place of the next block.
     #[inline]
     pub(crate) fn get_at(&self, place: &mut usize, block: u64) -> Option<&[u8]>
-        requires kept { IsKept self.now }
+        requires kept { Invariant self.now }
         requires place { HasPlace (numbers_of (entries_of self.now.index)) block place.old }
         ensures some { IfSome result (λ bytes. map_of (view_of self.now) block ≡ Some bytes.now) }
         ensures size { IfSome result (λ bytes. length bytes.now ≡ 512) }
@@ -87,12 +87,12 @@ impl Parts {
 
     /// Puts one block where the place of its number is known.
     pub(crate) fn put(&mut self, place: usize, number: u32, block: &[u8])
-        requires kept { IsKept self.old }
+        requires kept { Invariant self.old }
         requires place { HasPlace (numbers_of (entries_of self.old.index)) number place }
         requires size { length block.now ≡ 512 }
         requires room { length (numbers_of (entries_of self.old.index))
             + absent (numbers_of (entries_of self.old.index)) number ≤ self.old.room }
-        ensures kept { IsKept self.new }
+        ensures kept { Invariant self.new }
         ensures put { PutsBlock number block.now (view_of self.old) (view_of self.new) }
         ensures next { HasPlace (numbers_of (entries_of self.new.index)) (number + 1) (place + 1) }
     {
@@ -102,14 +102,14 @@ impl Parts {
     /// Puts whole blocks at the numbers from this one on, where all others are smaller.
     #[inline]
     pub(crate) fn append(&mut self, number: u32, bytes: &[u8])
-        requires kept { IsKept self.old }
+        requires kept { Invariant self.old }
         requires behind { HasPlace (numbers_of (entries_of self.old.index)) number
             (length (numbers_of (entries_of self.old.index))) }
         requires whole { length bytes.now % 512 ≡ 0 }
         requires small { number + length bytes.now / 512 ≤ 2 ^ 31 }
         requires room { length (numbers_of (entries_of self.old.index)) + length bytes.now / 512
             ≤ self.old.room }
-        ensures kept { IsKept self.new }
+        ensures kept { Invariant self.new }
         ensures appends { PutsBehind number (length bytes.now / 512) bytes.now
             (view_of self.old) (view_of self.new) }
     {
@@ -123,7 +123,7 @@ impl Parts {
 
     /// Puts the blocks into the order of their numbers, and tells these.
     pub(crate) fn arrange(&mut self)
-        requires { IsKept self.old }
+        requires { Invariant self.old }
         ensures arranged { IsArranged self.new }
         ensures value { view_of self.new ≡ view_of self.old }
     {
@@ -140,7 +140,7 @@ impl Parts {
 
     /// Forgets all blocks. The room stays.
     pub(crate) fn clear(&mut self)
-        requires { IsKept self.old }
+        requires { Invariant self.old }
         ensures arranged { IsArranged self.new }
         ensures value { view_of self.new ≡ record (view_of self.old) { numbers = []; bytes = [] } }
     {

@@ -29,7 +29,7 @@ pub(crate) enum Subject {
 
 /// A forced write of so many blocks.
 #[derive(Clone, Copy, Debug)]
-struct Stroke {
+struct TestWrite {
     address: u32,
     count: u32,
 }
@@ -67,7 +67,7 @@ impl Subject {
     }
 
     // The forced writes, each in a life of its own that ends in a cut.
-    fn strokes(self) -> [Stroke; 2] {
+    fn strokes(self) -> [TestWrite; 2] {
         match self {
             Subject::Full => [blocks_at(1, 3), blocks_at(2, 2)],
             Subject::Long => [blocks_at(0, 48), blocks_at(5, 48)],
@@ -144,7 +144,7 @@ impl Subject {
     }
 }
 
-impl Stroke {
+impl TestWrite {
     // Its write, each block of another byte than the one before.
     fn write(self, alloc: Global, first: u8) -> Result<Write, AllocError> {
         let mut blocks = Vec::new(alloc);
@@ -160,6 +160,6 @@ impl Stroke {
     }
 }
 
-fn blocks_at(address: u32, count: u32) -> Stroke {
-    Stroke { address, count }
+fn blocks_at(address: u32, count: u32) -> TestWrite {
+    TestWrite { address, count }
 }

@@ -66,7 +66,7 @@ pub fn command<R: Files<File = File> + AllocGlobal, O: Write, E: Write + IsTermi
         × IsRefusedFor (O.contents out.old) (O.contents out.new) result.file result.raw
         (map (λ word. word.now) words.now) refusal }
 {
-    match obey(rt, words, out, err) {
+    match dispatch(rt, words, out, err) {
         Ok(left) => Ended {
             status: 0,
             file: left.file,
@@ -81,7 +81,7 @@ pub fn command<R: Files<File = File> + AllocGlobal, O: Write, E: Write + IsTermi
 }
 
 // Does what the words ask for.
-fn obey<R: Files<File = File> + AllocGlobal, O: Write, E: Write + IsTerminal>(
+fn dispatch<R: Files<File = File> + AllocGlobal, O: Write, E: Write + IsTerminal>(
     rt: &R,
     words: &[&str],
     out: &mut O,

@@ -4,7 +4,7 @@ use Rattle.std.specs.Prelude.{replicate, fold}
 use Rattle.spec.specs.declared.event.Event.{Event}
 use Rattle.spec.specs.declared.event.Event.TheVariants.{In, Tick}
 use Rattle.judging.specs.declared.command.Command.{Command}
-use Rattle.judging.specs.declared.worked.Stroke.{Stroke}
+use Rattle.judging.specs.declared.worked.TestWrite.{TestWrite}
 use Rattle.judging.specs.Commands.{packet_out, wrapper_of, write_command}
 
 -- the events so far, the tag of the last command, and how many steps in the background come between
@@ -66,13 +66,13 @@ pub record Working : Type 0 where
   pub byte : ℕ
 
 -- a write more, whose blocks are full of the next byte
-abbrev pub with_stroke : Working → Stroke → Working
+abbrev pub with_stroke : Working → TestWrite → Working
 with_stroke working stroke =
     let byte = (working.byte + 1) % 256 in
     let blocks = replicate stroke.count (replicate 512 byte) in
     record { sent = with_write working.sent stroke.address blocks stroke.forced; byte = byte }
 
 -- these writes more, the first full of the byte 1, the second of 2 and so on
-abbrev pub with_strokes : Sent → List Stroke → Sent
+abbrev pub with_strokes : Sent → List TestWrite → Sent
 with_strokes sent strokes =
     (fold with_stroke (record { sent = sent; byte = 0 }) strokes).sent

@@ -23,4 +23,4 @@ pub use playing::{Played, disk_identity, hear, play};
 pub use power::{copied, cut};
 pub use reading::{blocks_of, served};
 pub use shape::{Format, Shape};
-pub use worked::{STROKES, Stroke};
+pub use worked::{STROKES, TestWrite};

@@ -11,42 +11,42 @@ use std::alloc::{AllocError, Global};
 
 /// A WRITE of so many blocks to the addresses from this one on, with FUA where it is forced.
 #[derive(Clone, Copy, Debug, PartialEq, Eq)]
-pub struct Stroke {
+pub struct TestWrite {
     pub address: u32,
     pub count: u32,
     pub forced: bool,
 }
 
 /// The five writes of the worked life, on a disk of 16 blocks or more.
-pub const STROKES: [Stroke; 5] = [
-    Stroke {
+pub const STROKES: [TestWrite; 5] = [
+    TestWrite {
         address: 0,
         count: 2,
         forced: false,
     },
-    Stroke {
+    TestWrite {
         address: 1,
         count: 3,
         forced: true,
     },
-    Stroke {
+    TestWrite {
         address: 5,
         count: 1,
         forced: false,
     },
-    Stroke {
+    TestWrite {
         address: 4,
         count: 1,
         forced: true,
     },
-    Stroke {
+    TestWrite {
         address: 2,
         count: 2,
         forced: false,
     },
 ];
 
-impl Stroke {
+impl TestWrite {
     /// The write whose blocks are full of this byte.
     ///
     /// # Errors
@@ -86,7 +86,7 @@ impl Host {
     }
 
     // These writes, the first full of the byte 1, the second of 2 and so on.
-    fn strokes(&mut self, alloc: Global, strokes: &[Stroke]) -> Result<(), Finding>
+    fn strokes(&mut self, alloc: Global, strokes: &[TestWrite]) -> Result<(), Finding>
         ensures { OnOk result (self.new ≡ with_strokes self.old strokes.now) }
     {
         let mut byte = 0u8;

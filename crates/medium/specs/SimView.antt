@@ -20,6 +20,6 @@ view_of m = record {
   refused = tally_of m.refused;
 }
 
-pub record IsKept (m : Inside) : Type 0 where
+pub record Invariant (m : Inside) : Type 0 where
   pub well_formed : IsWellFormed (view_of m)
   pub reserved : m.room ≤ vec_capacity m.writes

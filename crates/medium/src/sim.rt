@@ -48,11 +48,11 @@ impl Model for SimMedium {
 
     ghost Value = { Sim };
 
-    ghost use Rattle.medium.specs.SimView.{view_of, IsKept};
+    ghost use Rattle.medium.specs.SimView.{view_of, Invariant};
 
     ghost view = { view_of };
 
-    ghost invariant = { IsKept };
+    ghost invariant = { Invariant };
 }
 
 impl SimMedium {

@@ -7,7 +7,7 @@ use Rattle.medium.specs.Writes.{sector_of}
 use Rattle.mirror.specs.Device.{put, durable, carried_out, after}
 use Rattle.mirror.specs.Story.{Told, given, is_whole, are_whole, gave}
 use Rattle.mirror.specs.Mirror.{device_of}
-use Rattle.mirror.specs.MirrorView.{view_of, IsKept}
+use Rattle.mirror.specs.MirrorView.{view_of, Invariant}
 use Rattle.mirror.specs.declared.call.DeviceCall.{DeviceCall}
 use Rattle.mirror.specs.declared.mirror.MirrorMedium.TheInside.{Inside}
 use Rattle.mirror.proofs.Asked.{given_none, given_some, whole_more, given_content}
@@ -37,10 +37,10 @@ module _ (old new : Told) (quiet : IsQuiet old new) where
   same_content s = ap (λ (bytes : List ℕ). (after (durable bytes) (given new.asked)).content s) quiet.opening
       ∙ ap (λ (calls : List DeviceCall). (after (durable old.opening) calls).content s) same_given
 
-module _ (m n : Inside) (kept : IsKept m) (outbox : n.outbox ≡ m.outbox) (room : n.room ≡ m.room) (sectors : n.sectors ≡ m.sectors)
+module _ (m n : Inside) (kept : Invariant m) (outbox : n.outbox ≡ m.outbox) (room : n.room ≡ m.room) (sectors : n.sectors ≡ m.sectors)
     (quiet : IsQuiet m.story.told n.story.told) where
   -- a call that gave nothing keeps it
-  pub kept_quiet : IsKept n
+  pub kept_quiet : Invariant n
   kept_quiet =
       let was = kept.well_formed in
       let same = same_given m.story.told n.story.told quiet in record {
@@ -56,7 +56,7 @@ module _ (m n : Inside) (kept : IsKept m) (outbox : n.outbox ≡ m.outbox) (room
         reserved = omega (arith, ap (λ q. deque_capacity q) outbox, room, kept.reserved);
       }
 
-module _ (m n : Inside) (kept : IsKept m) (call : DeviceCall) (told : n.story.told ≡ gave m.story.told call)
+module _ (m n : Inside) (kept : Invariant m) (call : DeviceCall) (told : n.story.told ≡ gave m.story.told call)
     (outbox : n.outbox.items ≡ m.outbox.items ++ call ∷ []) (capacity : deque_capacity n.outbox ≡ deque_capacity m.outbox)
     (room : n.room ≡ m.room) (fits : length m.outbox.items < m.room) (whole : is_whole call ≡ true)
     (content : (s : ℕ) → sector_of n.sectors.bytes.items s ≡ (carried_out (device_of m.story.told) call).content s)
@@ -71,7 +71,7 @@ module _ (m n : Inside) (kept : IsKept m) (call : DeviceCall) (told : n.story.to
   taken = ap (λ (t : Told). t.taken) told
 
   -- a call that is given keeps it
-  pub kept_given : IsKept n
+  pub kept_given : Invariant n
   kept_given =
       let was = kept.well_formed in record {
         well_formed = record {

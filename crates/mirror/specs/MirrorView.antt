@@ -8,7 +8,7 @@ use Rattle.mirror.specs.declared.mirror.MirrorMedium.TheInside.{Inside}
 abbrev pub view_of : Inside → Mirror
 view_of m = record { story = m.story.told; outbox = m.outbox.items; room = m.room }
 
-pub record IsKept (m : Inside) : Type 0 where
+pub record Invariant (m : Inside) : Type 0 where
   pub well_formed : IsWellFormed (view_of m)
   -- the bytes are what the device holds when it has carried out all
   pub mirrors : (s : ℕ) → sector_of m.sectors.bytes.items s ≡ (device_of m.story.told).content s

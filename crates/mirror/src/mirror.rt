@@ -47,11 +47,11 @@ impl Model for MirrorMedium {
 
     ghost Value = { Mirror };
 
-    ghost use Rattle.mirror.specs.MirrorView.{view_of, IsKept};
+    ghost use Rattle.mirror.specs.MirrorView.{view_of, Invariant};
 
     ghost view = { view_of };
 
-    ghost invariant = { IsKept };
+    ghost invariant = { Invariant };
 }
 
 impl MirrorMedium {

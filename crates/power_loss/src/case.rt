@@ -1,6 +1,6 @@
 //! The lives that are cut, and in which a call of the medium is refused.
 use bot_machine::{Event, Life, Retiring};
-use judging::{Command, Direction, Finding, Format, Host, STROKES, Shape, Stroke};
+use judging::{Command, Direction, Finding, Format, Host, STROKES, Shape, TestWrite};
 use medium::Kept;
 use std::alloc::Global;
 use std::fmt;
@@ -158,8 +158,8 @@ fn force_life(alloc: Global, host: &mut Host) -> Result<(), Finding> {
 }
 
 // A write of so many blocks to this address, with FUA.
-fn forced(address: u32, count: u32) -> Stroke {
-    Stroke {
+fn forced(address: u32, count: u32) -> TestWrite {
+    TestWrite {
         address,
         count,
         forced: true,
@@ -167,7 +167,7 @@ fn forced(address: u32, count: u32) -> Stroke {
 }
 
 // A write whose blocks are full of this byte.
-fn write(alloc: Global, host: &mut Host, stroke: Stroke, byte: u8) -> Result<(), Finding> {
+fn write(alloc: Global, host: &mut Host, stroke: TestWrite, byte: u8) -> Result<(), Finding> {
     let write = stroke.filled(alloc, byte)?;
     host.write(&write, stroke.forced)
 }

@@ -9,7 +9,7 @@ use crate::fault::Fault;
 use crate::image::{hearing_over, tell};
 use abstract_disk::{Array, Hearing};
 use bot_machine::{Answer, Event, Retiring, StartFault};
-use judging::{Finding, Format, Host, Player, Shape, Stroke, copied, hear, served};
+use judging::{Finding, Format, Host, Player, Shape, TestWrite, copied, hear, served};
 use medium::{SimError, SimMedium};
 use std::alloc::{AllocError, Global};
 use std::io;
@@ -124,7 +124,7 @@ fn send_writes(alloc: Global, host: &mut Host) -> Result<(), Finding> {
 }
 
 fn send_write(alloc: Global, host: &mut Host, address: u8) -> Result<(), Finding> {
-    let stroke = Stroke {
+    let stroke = TestWrite {
         address: u32::from(address),
         count: u32::from(COUNT),
         forced: true,

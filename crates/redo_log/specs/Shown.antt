@@ -23,7 +23,7 @@ shown log = value_at (ahead_in log) (shape_of log.sizes) log.head (lists_of log.
     log.turned log.kept log.under_way.items log.made log.dead
 
 -- what is true of the fields of every log
-pub record IsKept (log : Inside) : Type 0 where
+pub record Invariant (log : Inside) : Type 0 where
   pub least : 1 ≤ log.head
   pub most : log.head + length log.waiting.items + begun_at log.made < 2 ^ 63
   pub room : log.sizes.slots ≤ deque_capacity log.waiting

@@ -51,11 +51,11 @@ impl Model for Log {
 
     ghost Value = { LogValue };
 
-    ghost use Rattle.redo_log.specs.Shown.{shown, IsKept};
+    ghost use Rattle.redo_log.specs.Shown.{shown, Invariant};
 
     ghost view = { shown };
 
-    ghost invariant = { IsKept };
+    ghost invariant = { Invariant };
 }
 
 impl Log {

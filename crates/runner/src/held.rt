@@ -11,19 +11,19 @@ pub(crate) const LONGEST_SCRIPT_LINE: usize = 1100;
 /// The line that is being read, as far as it is there, without memory of its own. Of a comment only
 /// a first part is held.
 #[derive(Drop)]
-pub(crate) struct HeldLine {
+pub(crate) struct LineBuffer {
     bytes: ArrayVec<u8, LONGEST_SCRIPT_LINE>,
     // Its number, counted from 1.
     number: u64,
 }
 
-impl HeldLine {
+impl LineBuffer {
     /// Nothing of the first line.
-    pub(crate) fn new() -> HeldLine
+    pub(crate) fn new() -> LineBuffer
         ensures bytes { result.bytes.items ≡ [] }
         ensures number { result.number ≡ 1 }
     {
-        HeldLine {
+        LineBuffer {
             bytes: ArrayVec::new(),
             number: 1,
         }

@@ -55,7 +55,7 @@ pub fn command<R: Files<File = File> + AllocGlobal, O: Write, E: Write>(
         × IsRefusedFor (O.contents out.old) (O.contents out.new) result.medium
         (map (λ word. word.now) words.now) refusal }
 {
-    match obey(rt, words, out) {
+    match dispatch(rt, words, out) {
         Ok(medium) => Ended { status: 0, medium },
         Err(stopped) => Ended {
             status: tell(stopped.refusal, err),
@@ -144,7 +144,7 @@ fn tell<E: Write>(refusal: Refusal, err: &mut E) -> u8
 
 // Does what the words ask for. Its callees keep frames of their own, so that the stack has room for
 // one of them and not for all.
-fn obey<R: Files<File = File> + AllocGlobal, O: Write>(
+fn dispatch<R: Files<File = File> + AllocGlobal, O: Write>(
     rt: &R,
     words: &[&str],
     out: &mut O,

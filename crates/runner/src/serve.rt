@@ -9,7 +9,7 @@ ghost use Rattle.runner.specs.Served.{IsLineEnd, IsUnended, IsStopped, IsStopped
 ghost use Rattle.runner.specs.Served.{MayAskInTurn, StopsIn};
 ghost use Rattle.runner.specs.Line.{IsScriptLine};
 
-use crate::held::HeldLine;
+use crate::held::LineBuffer;
 use crate::line::{ScriptKind, read_line};
 use crate::parts::separator_at;
 use crate::play::play_asked;
@@ -130,7 +130,7 @@ pub fn serve_player<P: Player, S: LineSource<W>, W: Write>(
         (S.left source.new)) }
 {
     let size = player.longest_packet();
-    let mut line = HeldLine::new();
+    let mut line = LineBuffer::new();
     let mut chunk = [0; 4096];
     'reads: for _ in 0..u64::MAX {
         match source.read_behind(out, &mut chunk) {
@@ -148,7 +148,7 @@ fn serve_bytes<P: Player, W: Write>(
     player: &mut P,
     size: PacketSize,
     bytes: &[u8],
-    line: &mut HeldLine,
+    line: &mut LineBuffer,
     out: &mut W,
 ) -> Result<(), ServeFault>
     requires packets { P.most player.old ≡ bytes_of size }
@@ -185,7 +185,7 @@ fn line_end(bytes: &[u8]) -> Option<usize>
 fn answer_line<P: Player, W: Write>(
     player: &mut P,
     size: PacketSize,
-    line: &HeldLine,
+    line: &LineBuffer,
     out: &mut W,
 ) -> Result<(), ServeFault>
     requires packets { P.most player.old ≡ bytes_of size }

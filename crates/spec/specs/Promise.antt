@@ -43,8 +43,8 @@ module _ {Image : Type 0} (Holds : ℕ → Image → Array → ℕ → Type 0) w
   FoundAt (runs conversation) image = MayFind conversation.unit.book image
   FoundAt (off remains) image = FoundWith remains.book remains.in_progress image
 
--- An image stands for blocks and a next stamp. It is ours where it does so and was written by lives
--- alone, so that a later write is never taken for an earlier one.
+-- An image stands for blocks and a next stamp. It is ours where, besides, nothing that lies on it
+-- could be taken for a write that was not made: so it is once a format wrote it.
 module _ {Image : Type 0} (StandsFor IsOurs : ℕ → Image → Array → ℕ → Type 0) where
   -- A first life opens with this book on a medium with this content, of which a loss of power may
   -- leave these images. Where the book says so, each of them is ours.

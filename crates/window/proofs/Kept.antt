@@ -14,15 +14,15 @@ use Rattle.mirror.proofs.Asked.{given_some, whole_more, given_content}
 use Rattle.mirror.proofs.Kept.{IsQuiet, same_given, same_content}
 use Rattle.window.specs.Seen.{Seen, begun, gave, shown, opened, filled, agrees, reborn}
 use Rattle.window.specs.Window.{Window, mirror_of}
-use Rattle.window.specs.WindowView.{view_of, IsKept}
+use Rattle.window.specs.WindowView.{view_of, Invariant}
 use Rattle.window.specs.declared.window.WindowMedium.TheInside.{Inside}
 use Rattle.window.proofs.Shown.{agrees_if, length_of_nothings, agrees_means, overlaid_there, overlaid_below, front, AreWhole, reborn_length}
 use Rattle.window.proofs.Shown.{reborn_given, reborn_content}
 
-module _ (m n : Inside) (kept : IsKept m) (outbox : n.outbox ≡ m.outbox) (room : n.room ≡ m.room) (near : n.near ≡ m.near)
+module _ (m n : Inside) (kept : Invariant m) (outbox : n.outbox ≡ m.outbox) (room : n.room ≡ m.room) (near : n.near ≡ m.near)
     (pane : n.pane ≡ m.pane) (size : n.size ≡ m.size) (quiet : IsQuiet m.story.seen.told n.story.seen.told) where
   -- a call that gave nothing keeps it
-  pub kept_quiet : IsKept n
+  pub kept_quiet : Invariant n
   kept_quiet =
       let was = kept.well_formed in
       let same = same_given m.story.seen.told n.story.seen.told quiet in record {
@@ -51,7 +51,7 @@ module _ (m n : Inside) (kept : IsKept m) (outbox : n.outbox ≡ m.outbox) (room
         reserved = omega (arith, ap (λ q. deque_capacity q) outbox, room, kept.reserved);
       }
 
-module _ (m n : Inside) (kept : IsKept m) (call : DeviceCall) (seen : n.story.seen ≡ gave m.story.seen call)
+module _ (m n : Inside) (kept : Invariant m) (call : DeviceCall) (seen : n.story.seen ≡ gave m.story.seen call)
     (outbox : n.outbox.items ≡ m.outbox.items ++ call ∷ []) (capacity : deque_capacity n.outbox ≡ deque_capacity m.outbox)
     (room : n.room ≡ m.room) (fits : length m.outbox.items < m.room) (whole : is_whole call ≡ true) (size : n.size ≡ m.size)
     (near : (s : ℕ) → s < length m.near.bytes.items / 512
@@ -77,7 +77,7 @@ module _ (m n : Inside) (kept : IsKept m) (call : DeviceCall) (seen : n.story.se
   same s = sym (given_content (mirror_of (view_of m)) call s) ∙ sym (ap (λ (t : Told). (device_of t).content s) told)
 
   -- a call that is given keeps it
-  pub kept_given : IsKept n
+  pub kept_given : Invariant n
   kept_given =
       let was = kept.well_formed in record {
         well_formed = record {
@@ -106,13 +106,13 @@ module _ (m n : Inside) (kept : IsKept m) (call : DeviceCall) (seen : n.story.se
       }
 
 -- sectors of the device that lie in memory have 512 bytes
-pub sized : (m : Inside) → IsKept m → AreWhole (length m.story.seen.told.opening / 512) (device_of m.story.seen.told).content
+pub sized : (m : Inside) → Invariant m → AreWhole (length m.story.seen.told.opening / 512) (device_of m.story.seen.told).content
 sized m kept s lt =
     let was = mirror_of (view_of m) in
     (is_sound was).sized s ((device_of was.story).content s)
     (omega (arith, lt, size_whole was.story kept.well_formed.mirror.whole_writes)) ((is_sound was).holds_content s)
 
-module _ (m n : Inside) (kept : IsKept m) (outbox : n.outbox ≡ m.outbox) (room : n.room ≡ m.room) (near : n.near ≡ m.near)
+module _ (m n : Inside) (kept : Invariant m) (outbox : n.outbox ≡ m.outbox) (room : n.room ≡ m.room) (near : n.near ≡ m.near)
     (size : n.size ≡ m.size) (empty : m.outbox.items ≡ [])
     (seen : n.story.seen ≡ shown m.story.seen n.pane.from n.pane.held n.pane.sectors.bytes.items)
     (fits : 512 * n.pane.held ≤ length n.pane.sectors.bytes.items) (inside : n.pane.from + n.pane.held ≤ m.size)
@@ -143,7 +143,7 @@ module _ (m n : Inside) (kept : IsKept m) (outbox : n.outbox ≡ m.outbox) (room
       (sent : given told.asked ≡ told.taken ++ m.outbox.items) (all : are_whole (given told.asked) ≡ true)
       (nears : (s : ℕ) → s < length m.near.bytes.items / 512 → (device_of told).content s ≡ (device_of old).content s)
       (panes : (i : ℕ) → i < count → sector_of bytes i ≡ (device_of told).content (first + i)) where
-    kept_as : IsKept n
+    kept_as : Invariant n
     kept_as =
         let was = kept.well_formed in
         let same_opening = ap (λ (t : Told). length t.opening) is in record {
@@ -190,7 +190,7 @@ module _ (m n : Inside) (kept : IsKept m) (outbox : n.outbox ≡ m.outbox) (room
         ∙ ap (λ (t : Seen). (device_of t.told).content (first + i)) (sym (anew unlike))
   ]
 
-  pub kept_shown : IsKept n
+  pub kept_shown : Invariant n
   kept_shown = elim (cases_Bool (agrees (device_of old).content first count bytes)) [
     | inl alike ↦ kept_as old (ap (λ (t : Seen). t.told) (as_thought alike)) refl kept.well_formed.mirror.all_sent
         kept.well_formed.mirror.whole_writes (λ s lt. refl) (agrees_means (device_of old).content first count bytes alike)
@@ -205,7 +205,7 @@ module _ (m n : Inside) (kept : IsKept m) (outbox : n.outbox ≡ m.outbox) (room
         (omega (arith, kept.size_is, inside, lt)) ∙ overlaid_there (device_of old).content first count bytes i lt))
   ]
 
-module _ (m n : Inside) (kept : IsKept m) (still : IsKept n) (size : n.size ≡ m.size) where
+module _ (m n : Inside) (kept : Invariant m) (still : Invariant n) (size : n.size ≡ m.size) where
   -- the device has as many sectors
   pub same_size : size_of n.story.seen.told ≡ size_of m.story.seen.told
   same_size = size_whole n.story.seen.told still.well_formed.mirror.whole_writes
@@ -237,7 +237,7 @@ opened_front size near holds s lt =
 -- no bytes are shown yet
 pub kept_fresh : (n : Inside) (holds : List ℕ) → n.story.seen ≡ begun n.size n.near.bytes.items holds → n.outbox.items ≡ []
     → n.pane.from ≡ 0 → n.pane.held ≡ 0 → n.room ≤ deque_capacity n.outbox
-    → 0 < length n.near.bytes.items → length n.near.bytes.items % 512 ≡ 0 → length n.near.bytes.items ≤ 512 * n.size → IsKept n
+    → 0 < length n.near.bytes.items → length n.near.bytes.items % 512 ≡ 0 → length n.near.bytes.items ≤ 512 * n.size → Invariant n
 kept_fresh n holds seen empty from held reserved some whole le =
     let long : length n.story.seen.told.opening ≡ 512 * n.size =
     ap (λ (t : Seen). length t.told.opening) seen ∙ opened_length n.size n.near.bytes.items holds le in record {

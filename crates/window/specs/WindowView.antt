@@ -17,7 +17,7 @@ view_of m = record {
   span = length m.pane.sectors.bytes.items / 512;
 }
 
-pub record IsKept (m : Inside) : Type 0 where
+pub record Invariant (m : Inside) : Type 0 where
   pub well_formed : IsWellFormed (view_of m)
   -- the first sectors are as the device holds them when it has carried out all
   pub mirrors : (s : ℕ) → s < length m.near.bytes.items / 512

@@ -51,11 +51,11 @@ impl Model for WindowMedium {
 
     ghost Value = { Window };
 
-    ghost use Rattle.window.specs.WindowView.{view_of, IsKept};
+    ghost use Rattle.window.specs.WindowView.{view_of, Invariant};
 
     ghost view = { view_of };
 
-    ghost invariant = { IsKept };
+    ghost invariant = { Invariant };
 }
 
 impl WindowMedium {

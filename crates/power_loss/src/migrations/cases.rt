@@ -23,7 +23,7 @@ pub(crate) enum Case {
 
 /// A write, and how many steps in the background come after it.
 #[derive(Clone, Copy, Debug)]
-struct Stroke {
+struct TestWrite {
     address: u32,
     count: u32,
     forced: bool,
@@ -78,7 +78,7 @@ impl Case {
 }
 
 // The writes of two lives on a disk of 16 blocks.
-fn few_blocks() -> [[Stroke; 4]; 2] {
+fn few_blocks() -> [[TestWrite; 4]; 2] {
     let first = [
         plain(0, 2, 0),
         forced(1, 3, 0),
@@ -95,7 +95,7 @@ fn few_blocks() -> [[Stroke; 4]; 2] {
 }
 
 // The writes of two lives on a disk of 1000 blocks.
-fn many_blocks() -> [[Stroke; 4]; 2] {
+fn many_blocks() -> [[TestWrite; 4]; 2] {
     let first = [
         plain(0, 48, 9),
         forced(100, 48, 0),
@@ -111,8 +111,8 @@ fn many_blocks() -> [[Stroke; 4]; 2] {
     [first, second]
 }
 
-fn plain(address: u32, count: u32, ticks: u32) -> Stroke {
-    Stroke {
+fn plain(address: u32, count: u32, ticks: u32) -> TestWrite {
+    TestWrite {
         address,
         count,
         forced: false,
@@ -120,8 +120,8 @@ fn plain(address: u32, count: u32, ticks: u32) -> Stroke {
     }
 }
 
-fn forced(address: u32, count: u32, ticks: u32) -> Stroke {
-    Stroke {
+fn forced(address: u32, count: u32, ticks: u32) -> TestWrite {
+    TestWrite {
         address,
         count,
         forced: true,
@@ -130,25 +130,25 @@ fn forced(address: u32, count: u32, ticks: u32) -> Stroke {
 }
 
 // The events of these writes. The blocks of the first are full of this byte and those behind it.
-fn written(alloc: Global, strokes: &[Stroke], seed: u8) -> Result<Vec<Event>, Finding> {
+fn written(alloc: Global, strokes: &[TestWrite], seed: u8) -> Result<Vec<Event>, Finding> {
     let mut host = Host::new(alloc);
     send(alloc, &mut host, strokes, seed)?;
     Ok(host.into_events())
 }
 
 // The events of these writes, and of a SYNCHRONIZE CACHE behind them.
-fn synchronized(alloc: Global, strokes: &[Stroke], seed: u8) -> Result<Vec<Event>, Finding> {
+fn synchronized(alloc: Global, strokes: &[TestWrite], seed: u8) -> Result<Vec<Event>, Finding> {
     let mut host = Host::new(alloc);
     send_all(alloc, &mut host, strokes, seed)?;
     Ok(host.into_events())
 }
 
-fn send_all(alloc: Global, host: &mut Host, strokes: &[Stroke], seed: u8) -> Result<(), Finding> {
+fn send_all(alloc: Global, host: &mut Host, strokes: &[TestWrite], seed: u8) -> Result<(), Finding> {
     send(alloc, host, strokes, seed)?;
     host.synchronize()
 }
 
-fn send(alloc: Global, host: &mut Host, strokes: &[Stroke], seed: u8) -> Result<(), Finding> {
+fn send(alloc: Global, host: &mut Host, strokes: &[TestWrite], seed: u8) -> Result<(), Finding> {
     host.request_sense()?;
     let mut seed = seed;
     for stroke in strokes {
@@ -159,7 +159,7 @@ fn send(alloc: Global, host: &mut Host, strokes: &[Stroke], seed: u8) -> Result<
     Ok(())
 }
 
-fn send_write(alloc: Global, host: &mut Host, stroke: Stroke, seed: u8) -> Result<(), Finding> {
+fn send_write(alloc: Global, host: &mut Host, stroke: TestWrite, seed: u8) -> Result<(), Finding> {
     let write = Write {
         address: stroke.address,
         blocks: contents(alloc, seed, stroke.count)?,

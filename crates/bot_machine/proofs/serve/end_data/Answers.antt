@@ -3,7 +3,7 @@ use Rattle.scsi_unit.specs.UnitValue.{unit_limit, intention_of}
 use Rattle.bot_machine.specs.Refinement.{IsTaking}
 use Rattle.bot_machine.proofs.ReadAtOnce.{log_alone}
 use Rattle.std.proofs.lemmas.Bool.{cases_lt}
-use Rattle.bot_machine.specs.declared.wire.Taking.{Taking}
+use Rattle.bot_machine.specs.declared.bulk_state.Taking.{Taking}
 use Rattle.spec.specs.Packets.{bytes_of}
 use Rattle.bot_machine.proofs.Filling.{last_packet, other_packet}
 use Rattle.bot_machine.proofs.Packets.{packets_of-none}

@@ -1,8 +1,8 @@
 use Rattle.std.proofs.Common.{ℕ, ◌≡◌, ◌<◌, ◌-◌, ◌++◌, inl, length, take, refl, sym, arith, ap, ◌∙◌}
 use Rattle.spec.specs.Cases.{size_of_way}
-use Rattle.bot_machine.specs.declared.wire.Taking.{Taking}
-use Rattle.bot_machine.specs.declared.wire.Phase.{Phase}
-use Rattle.bot_machine.specs.declared.wire.Phase.TheVariants.{DataOut}
+use Rattle.bot_machine.specs.declared.bulk_state.Taking.{Taking}
+use Rattle.bot_machine.specs.declared.bulk_state.Phase.{Phase}
+use Rattle.bot_machine.specs.declared.bulk_state.Phase.TheVariants.{DataOut}
 use Rattle.spec.specs.Exchange.{taking}
 use Rattle.bot_machine.specs.Refinement.{line_with}
 use Rattle.spec.specs.Packets.{bytes_of}

@@ -16,7 +16,7 @@ pub returns-in-Ok-clause-other_words : goal.returns-in-Ok-clause-other_words
 returns-in-Ok-clause-other_words g c not =
     let contents = g.O.Write.contents in
     let words = map (λ word. word.now) c.args.words.now in
-    absurd (not (asked_for (contents c.args.out.now) (contents c.obey.new.out) c.in-Ok.medium words c.in-Ok.ensures.done))
+    absurd (not (asked_for (contents c.args.out.now) (contents c.dispatch.new.out) c.in-Ok.medium words c.in-Ok.ensures.done))
 
 pub returns-in-Err-clause-done : goal.returns-in-Err-clause-done
 returns-in-Err-clause-done g c zero = absurd (some_status c.in-Err.stopped.refusal (sym c.tell.ensures ∙ zero))
@@ -26,7 +26,7 @@ returns-in-Err-clause-words g c two =
     let contents = g.O.Write.contents in
     let words = map (λ word. word.now) c.args.words.now in
     let stopped = c.in-Err.stopped in
-    no_line_at_two (contents c.args.out.now) (contents c.obey.new.out) stopped.medium words stopped.refusal c.in-Err.ensures.refused
+    no_line_at_two (contents c.args.out.now) (contents c.dispatch.new.out) stopped.medium words stopped.refusal c.in-Err.ensures.refused
     (sym c.tell.ensures ∙ two)
 
 pub returns-in-Err-clause-other_words : goal.returns-in-Err-clause-other_words
@@ -34,5 +34,5 @@ returns-in-Err-clause-other_words g c never =
     let contents = g.O.Write.contents in
     let words = map (λ word. word.now) c.args.words.now in
     rw c.tell.ensures
-    (two_or_five (contents c.args.out.now) (contents c.obey.new.out) c.in-Err.stopped.medium words c.in-Err.stopped.refusal
+    (two_or_five (contents c.args.out.now) (contents c.dispatch.new.out) c.in-Err.stopped.medium words c.in-Err.stopped.refusal
     c.in-Err.ensures.refused never)

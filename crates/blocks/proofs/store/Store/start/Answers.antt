@@ -2,7 +2,7 @@ use Rattle.std.proofs.Common.{◌≤◌, inl, inr, sym, subst, arith, false}
 use Rattle.blocks.specs.Started.{IsStarted}
 use Rattle.journal.specs.Places.{sectors_of}
 use Rattle.journal.specs.Values.{shape_of}
-use Rattle.blocks.specs.Kept.{IsKept}
+use Rattle.blocks.specs.Kept.{Invariant}
 use Rattle.blocks.proofs.Starting.{starts, started_kept}
 use Rattle.blocks.proofs.store.Store.start.Goals as goal
 
@@ -27,5 +27,5 @@ invariant_of-result g c =
     let after = g.M.Medium.state c.recover.new.m in
     let fits : sectors_of (shape_of c.in-Ok.recovered.sizes) ≤ (g.M.Medium.state c.recover.new.m).size =
     omega (arith, c.in-Ok.ensures.ok.stood.fits, c.recover.ensures.leaves.moments.size_stays) in
-    subst (λ p. IsKept after.size sizes (record { log = p.log; active = p.active; frozen = p.frozen }) false)
+    subst (λ p. Invariant after.size sizes (record { log = p.log; active = p.active; frozen = p.frozen }) false)
     (sym c.in-Ok-new.ensures.ok) (started_kept after.size sizes c.in-Ok.recovered.next fits)

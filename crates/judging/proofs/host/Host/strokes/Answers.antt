@@ -1,12 +1,12 @@
 use Rattle.std.proofs.Common.{◌∙◌, ◌+◌, ◌%◌, ℕ, List, ap, sym, get_or, false}
 use Rattle.std.proofs.lemmas.List.Sums.{fold_more}
-use Rattle.judging.specs.declared.worked.Stroke.{Stroke}
+use Rattle.judging.specs.declared.worked.TestWrite.{TestWrite}
 use Rattle.judging.specs.Sent.{Sent, Working, with_write, with_stroke}
 use Rattle.judging.proofs.host.Host.strokes.Goals as goal
 
 pub loop-stroke-preserved : goal.loop-stroke-preserved
 loop-stroke-preserved c =
-    let none : Stroke = record { address = 0; count = 0; forced = false } in
+    let none : TestWrite = record { address = 0; count = 0; forced = false } in
     let i = c.loop-stroke.stroke-index in
     let strokes = c.args.strokes.now in
     let stroke = get_or strokes i none in

@@ -1,7 +1,7 @@
 use Rattle.std.proofs.Common.{◌∙◌, [], ◌∷◌, replicate}
 use Rattle.std.proofs.lemmas.List.{replicate_more}
 use Rattle.std.proofs.lemmas.Slice.{pushed}
-use Rattle.judging.proofs.worked.Stroke.filled.Goals as goal
+use Rattle.judging.proofs.worked.TestWrite.filled.Goals as goal
 
 pub loop-made-preserved : goal.loop-made-preserved
 loop-made-preserved c =

@@ -2,7 +2,7 @@ use Rattle.std.proofs.Common.{arith}
 use Rattle.bot_machine.specs.Refinement.{line_with}
 use Rattle.bot_machine.proofs.Sending.{laid_out-front, laid_out-none}
 use Rattle.bot_machine.proofs.Sizes.{some_bytes}
-use Rattle.bot_machine.proofs.wire.Wire.lay_out.Goals as goal
+use Rattle.bot_machine.proofs.bulk_state.BulkState.lay_out.Goals as goal
 
 pub returns-then-size-gt0-clause-line : goal.returns-then-size-gt0-clause-line
 returns-then-size-gt0-clause-line c = λ taken staging left room.

@@ -5,7 +5,7 @@ use Rattle.std.proofs.lemmas.List.{length-take}
 use Rattle.std.proofs.lemmas.List.{take-append-drop}
 use Rattle.runner.specs.Served.{StandsFor, IsTooLong}
 use Rattle.runner.proofs.LineEnds.{first_is}
-use Rattle.runner.proofs.held.HeldLine.hold.Goals as goal
+use Rattle.runner.proofs.held.LineBuffer.hold.Goals as goal
 
 ok_where : {T E P : Type 0} (r : Result T E) → IsOk r → OnOk r P → P
 ok_where (Ok x) good holds = holds

@@ -3,7 +3,7 @@ use Rattle.std.proofs.lemmas.Bool.Decides.{nat_tests}
 use Rattle.cache.specs.Blocks.{IsRising, unlisted}
 use Rattle.cache.specs.Entries.{Entries}
 use Rattle.cache.proofs.Neighbours.{between_places}
-use Rattle.cache.proofs.batch.Batch.lacks.Goals as goal
+use Rattle.cache.proofs.batch.Batch.is_disjoint.Goals as goal
 
 missing : (c : goal.After-place_of-2)
     → unlisted c.args.self.now.numbers c.args.address c.args.count + c.place_of-2.result ≡ c.args.count + c.place_of.result

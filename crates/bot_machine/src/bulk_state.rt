@@ -36,7 +36,7 @@ pub(crate) enum Phase {
 
 // The state of the line to the host.
 #[derive(Drop)]
-pub(crate) struct Wire {
+pub(crate) struct BulkState {
     pub(crate) size: PacketSize,
     pub(crate) in_halted: bool,
     pub(crate) out_halted: bool,
@@ -53,15 +53,15 @@ fn is_some_halt(halt: Option<Endpoint>) -> bool
     halt.is_some()
 }
 
-impl Wire {
+impl BulkState {
     /// Nothing is halted, and a command wrapper is expected.
-    pub(crate) fn at_rest(size: PacketSize) -> Wire
+    pub(crate) fn at_rest(size: PacketSize) -> BulkState
         ensures line { (taken staging : List ℕ)
             → line_of result taken staging ≡ at_rest (bytes_of size) }
         ensures phase { (limit : ℕ) (intention : List ℕ → Intention)
             → IsInPhase limit intention result.phase }
     {
-        Wire {
+        BulkState {
             size,
             in_halted: false,
             out_halted: false,

@@ -1,6 +1,6 @@
 use Rattle.std.proofs.Common.{inl, inr}
 use Rattle.runner.proofs.Options.{if_ok, if_err}
-use Rattle.runner.proofs.program.obey.Goals as goal
+use Rattle.runner.proofs.program.dispatch.Goals as goal
 
 pub returns-in-Format-clause-done : goal.returns-in-Format-clause-done
 returns-in-Format-clause-done g c =
