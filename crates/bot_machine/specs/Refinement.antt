@@ -16,7 +16,8 @@ use Rattle.bot_machine.specs.declared.request.ControlRequest.TheVariants.{GetMax
 use Rattle.bot_machine.specs.declared.request.ControlRequest.TheVariants.{GetStatus}
 use Rattle.bot_machine.specs.declared.bulk_state.Taking.{Taking}
 use Rattle.bot_machine.specs.declared.bulk_state.Phase.{Phase}
-use Rattle.bot_machine.specs.declared.bulk_state.Phase.TheVariants.{Command, DataOut, DataIn, Status}
+use Rattle.bot_machine.specs.declared.bulk_state.Phase.TheVariants.{Command, DataOut, DataIn}
+use Rattle.bot_machine.specs.declared.bulk_state.Phase.TheVariants.{Status}
 use Rattle.bot_machine.specs.declared.bulk_state.BulkState.{BulkState}
 use Rattle.spec.specs.Packets.{bytes_of, packets_of}
 use Rattle.spec.specs.Requests.{Request, mass_storage_reset, get_max_lun, clear_halt, get_status}

@@ -60,35 +60,35 @@ may_refuse book fewer counted failures start.LogTooSmall le h = h
 module _ (most : ℕ) (medium : Sim) (rest : IsAtRest medium) (unfused : medium.power.fuse ≡ None)
     (fits : (limit : ℕ) (book : Book) → OpensOn (state_of medium) book → HasLimit (state_of medium).size limit (state_of medium).content
     → FitsLives (first_over most medium) (first_standing limit book)) where
-  module _ (actions : List Action) (answers : List Answer) (new : LivesValue) (acted : Acted (first_over most medium) actions answers new)
-    where
-      kept_from : (limit : ℕ) (book : Book) → OpensOn (state_of medium) book → HasLimit (state_of medium).size limit (state_of medium).content
-          → AreKept (StandsForSome (state_of medium).size) (StandsAs (state_of medium).size) (HasLimit (state_of medium).size)
-          (presented (device most)) limit book actions answers acted.goes_on.refusals
-          (CutLeaves (state_of (medium_in new.stage)).may_leave)
-      kept_from limit book opens has =
-          let g = acted.goes_on.goes (first_standing limit book) (fits limit book opens has) in
-          record {
-            last = g.there;
-            run = subst (λ (i : Device). LivesRun (presented i) (first_standing limit book) actions answers acted.goes_on.refusals g.there)
-                acted.goes_on.device_stays g.run;
-            limited = λ ours image cut. subst (λ (n : ℕ). HasLimit n limit image) acted.goes_on.size_stays
-                (subst (λ (n : ℕ). LeavesLimit n new.stage) (g.limit_stays ours) (g.fits.limited (g.ours ∙ ours)) image cut);
-            found = λ ours image cut. subst (λ (n : ℕ). FoundAt n g.there.place image) acted.goes_on.size_stays
-                (g.fits.found (g.ours ∙ ours) image cut);
-          }
+  module _ (actions : List Action) (answers : List Answer) (new : LivesValue)
+      (acted : Acted (first_over most medium) actions answers new) where
+    kept_from : (limit : ℕ) (book : Book) → OpensOn (state_of medium) book → HasLimit (state_of medium).size limit (state_of medium).content
+        → AreKept (StandsForSome (state_of medium).size) (StandsAs (state_of medium).size) (HasLimit (state_of medium).size)
+        (presented (device most)) limit book actions answers acted.goes_on.refusals
+        (CutLeaves (state_of (medium_in new.stage)).may_leave)
+    kept_from limit book opens has =
+        let g = acted.goes_on.goes (first_standing limit book) (fits limit book opens has) in
+        record {
+          last = g.there;
+          run = subst (λ (i : Device). LivesRun (presented i) (first_standing limit book) actions answers acted.goes_on.refusals g.there)
+              acted.goes_on.device_stays g.run;
+          limited = λ ours image cut. subst (λ (n : ℕ). HasLimit n limit image) acted.goes_on.size_stays
+              (subst (λ (n : ℕ). LeavesLimit n new.stage) (g.limit_stays ours) (g.fits.limited (g.ours ∙ ours)) image cut);
+          found = λ ours image cut. subst (λ (n : ℕ). FoundAt n g.there.place image) acted.goes_on.size_stays
+              (g.fits.found (g.ours ∙ ours) image cut);
+        }
 
-      keep : KeepsPromise medium (device most) actions answers (medium_in new.stage)
-      keep = record { refusals = acted.goes_on.refusals; few = acted.goes_on.refused; lives = kept_from }
+    keep : KeepsPromise medium (device most) actions answers (medium_in new.stage)
+    keep = record { refusals = acted.goes_on.refusals; few = acted.goes_on.refused; lives = kept_from }
 
-      moved : AreMoved most medium (medium_in new.stage) actions answers keep.refusals
-      unfolding keep
-      moved = record {
-        fits = acted.fits false (λ _. (unfused, rest.on));
-        stage = new.stage;
-        moves = acted.goes_on.moves;
-        left = refl;
-      }
+    moved : AreMoved most medium (medium_in new.stage) actions answers keep.refusals
+    unfolding keep
+    moved = record {
+      fits = acted.fits false (λ _. (unfused, rest.on));
+      stage = new.stage;
+      moves = acted.goes_on.moves;
+      left = refl;
+    }
 
   module _ (actions : List Action) (answers : List Answer) (mid new : LivesValue) (fault : StartFault)
       (acted : Acted (first_over most medium) actions answers mid) (refused : LivesRefuseStart mid fault new) where

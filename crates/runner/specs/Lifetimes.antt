@@ -86,10 +86,10 @@ fused_after fused (starts ∷ actions) = fused_after fused actions
 fused_after fused (cuts keeps ∷ actions) = fused_after false actions
 fused_after fused (plays event ∷ actions) = fused_after fused actions
 
--- Actions of a disk with packets of at most so many bytes, over a medium in memory, and the answers:
--- they move the disk and its medium one after another, and leave this medium. A fuse, a failure and
--- a cut do exactly what they say, an event is one step of the disk, and each step in the background
--- is one. The truth values say in which of them the medium refused a call.
+-- Actions of a disk with packets of at most so many bytes, over a medium in memory, and their
+-- answers. They move the disk and its medium one after another, and leave this medium. A fuse, a
+-- failure and a cut do exactly what they say, an event is one step of the disk, and each step in
+-- the background is one. The truth values say in which of them the medium refused a call.
 pub record AreMoved (most : ℕ) (before after : Sim) (actions : List Action)
     (answers : List Answer) (refusals : List Bool) : Type 0 where
   pub fits : AnswersFit false actions answers
