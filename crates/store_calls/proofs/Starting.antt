@@ -12,7 +12,7 @@ use Rattle.recovery.specs.declared.start_fault.StartFault.TheVariants as fault
 use Rattle.blocks.specs.Ahead.{may_go_ahead}
 use Rattle.blocks.specs.Started.{IsStarted, IsStartCause, StartLeaves, LeavesMedium}
 use Rattle.blocks.specs.StoreValue.{layout_of}
-use Rattle.blocks.proofs.Opening.{finds, is_cause_for}
+use Rattle.blocks.proofs.Opening.{each_ours, finds, is_cause_for}
 use Rattle.store_calls.specs.Stores.{Store}
 use Rattle.store_calls.specs.Rooms.{CoversParts, HoldsImageLog, HoldsLog, IsRoomy}
 use Rattle.store_calls.specs.Starts.{Begins, EndsIn}
@@ -24,7 +24,7 @@ start_leaves first after medium = record {
   cuts = medium.cuts;
   after_flush = medium.after_flush;
   finds = λ book on ours flushed. finds (state_of first) (state_of after) (is_sound after) medium.moments.moments.size_stays book on
-      flushed (medium.cuts (on.ours ours));
+      flushed (medium.cuts (each_ours (state_of first) book on ours));
   bounded = medium.moments;
 }
 
