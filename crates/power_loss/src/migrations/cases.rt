@@ -143,7 +143,12 @@ fn synchronized(alloc: Global, strokes: &[TestWrite], seed: u8) -> Result<Vec<Ev
     Ok(host.into_events())
 }
 
-fn send_all(alloc: Global, host: &mut Host, strokes: &[TestWrite], seed: u8) -> Result<(), Finding> {
+fn send_all(
+    alloc: Global,
+    host: &mut Host,
+    strokes: &[TestWrite],
+    seed: u8,
+) -> Result<(), Finding> {
     send(alloc, host, strokes, seed)?;
     host.synchronize()
 }
