@@ -88,6 +88,7 @@ module _ (most : ℕ) (medium : Sim) (rest : IsAtRest medium) (unfused : medium.
       stage = new.stage;
       moves = acted.goes_on.moves;
       left = refl;
+      size_stays = acted.goes_on.size_stays;
     }
 
   module _ (actions : List Action) (answers : List Answer) (mid new : LivesValue) (fault : StartFault)
@@ -146,6 +147,7 @@ module _ (most : ℕ) (medium : Sim) (rest : IsAtRest medium) (unfused : medium.
           rests = subst (λ (s : Stage). s ≡ Rests (medium_in s)) same refl;
           start = subst (λ (s : Stage). IsRefusedStart (medium_in s) fault (medium_in new.stage)) same stop.start;
           refused = refused_for;
+          size_stays = size_stays;
         }
 
   module _ (left was now : Option (List ℕ)) (script : List ℕ) (read : IsRead left script) where

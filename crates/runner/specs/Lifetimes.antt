@@ -2,7 +2,7 @@
 use Rattle.std.specs.Prelude.{◌≡◌, ℕ, Bool, true, false, List, [], ◌∷◌, ◌++◌, flat_map}
 use Rattle.std.specs.Prelude.{◌==◌}
 use Rattle.std.specs.List.{list_any}
-use Rattle.medium.specs.Sim.{Sim}
+use Rattle.medium.specs.Sim.{Sim, state_of}
 use Rattle.bot_machine.specs.StartFaults.{StartFault}
 use Rattle.spec.specs.declared.event.Event.{Event}
 use Rattle.spec.specs.declared.event.Answer.{Answer}
@@ -96,6 +96,7 @@ pub record AreMoved (most : ℕ) (before after : Sim) (actions : List Action)
   pub stage : Stage
   pub moves : MovesBy (device most) (Rests before) actions answers refusals stage
   pub left : medium_in stage ≡ after
+  pub size_stays : (state_of after).size ≡ (state_of before).size
 
 -- Lives that keep the promise up to a start: no disk ran, and the start was refused with this fault
 -- for a cause, though power did not go in it.
@@ -109,3 +110,4 @@ pub record AreStopped (most : ℕ) (before after : Sim) (actions : List Action)
   pub rests : moved.stage ≡ Rests mid
   pub start : IsRefusedStart mid fault after
   pub refused : IsRefusedFor before (device most) actions answers fault after kept
+  pub size_stays : (state_of after).size ≡ (state_of before).size
