@@ -32,6 +32,12 @@ pub record HasPlace (numbers : List ℕ) (number place : ℕ) : Type 0 where
   pub before : (k : ℕ) → k < place → slice_index numbers k < number
   pub here : place < length numbers → number ≤ slice_index numbers place
 
+-- a block of 512 bytes may be put at a number whose place is known: there is room for it
+pub record CanPutBlock (numbers : List ℕ) (most number at : ℕ) (block : List ℕ) : Type 0 where
+  pub place : HasPlace numbers number at
+  pub size : length block ≡ 512
+  pub room : length numbers + absent numbers number ≤ most
+
 -- one block was put at its number: in place of the one that was there, or as one more
 pub record PutsEntry (number : ℕ) (block : List ℕ) (old_numbers new_numbers : List ℕ)
     (old_blocks new_blocks : List (List ℕ)) : Type 0 where

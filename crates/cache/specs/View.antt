@@ -24,8 +24,18 @@ pub record Invariant (parts : Parts) : Type 0 where
   pub narrow : parts.room ≤ 2 ^ 16
   pub whole_row : length parts.row.items ≡ parts.room
 
+-- parts are kept, and their blocks have become others in this way
+pub record Becomes (How : Entries → Entries → Type 0) (old new : Parts) : Type 0 where
+  pub kept : Invariant new
+  pub puts : How (view_of old) (view_of new)
+
 -- the blocks lie in the order of their numbers, which are told
 pub record IsArranged (parts : Parts) : Type 0 where
   pub kept : Invariant parts
   pub in_order : AreInOrder (places_of (entries_of parts.index))
   pub told : parts.numbers.items ≡ numbers_of (entries_of parts.index)
+
+-- they lie so, and are those of this batch
+pub record AreArranged (batch : Entries) (parts : Parts) : Type 0 where
+  pub arranged : IsArranged parts
+  pub value : view_of parts ≡ batch

@@ -1,11 +1,11 @@
 //! A bounded map from block numbers to blocks.
-ghost use Rattle.std.specs.Prelude.{◌≡◌, ◌⊎◌, ◌↔◌, ◌+◌, ◌*◌, ◌/◌, ◌%◌, ◌^◌, ◌<◌, ◌≤◌};
-ghost use Rattle.std.specs.Prelude.{ℕ, [], length, slice_index};
-ghost use Rattle.std.specs.Prelude.{Some, None, IsTrue, IfOk, IfErr, IsErrOf, IfSome, IsNone};
-ghost use Rattle.cache.specs.Blocks.{IsRising, with_range, InRange, Listed, absent, unlisted};
+ghost use Rattle.std.specs.Prelude.{◌≡◌, ◌↔◌, ◌+◌, ◌/◌, ◌^◌, ◌<◌, ◌≤◌};
+ghost use Rattle.std.specs.Prelude.{[], length, slice_index, IsTrue, IfOk, IfErr};
+ghost use Rattle.cache.specs.Blocks.{IsRising, unlisted};
 ghost use Rattle.cache.specs.Digits.{GrowsWithinDigits};
-ghost use Rattle.cache.specs.Entries.{IsWellFormed, Fits, PutsBlock, map_of};
-ghost use Rattle.cache.specs.Places.{HasPlace, StandsAt, WouldStandAt};
+ghost use Rattle.cache.specs.Entries.{MakesBatch, GetsBlock, GetsNext, Fits, CanPut, PutsBlock};
+ghost use Rattle.cache.specs.Entries.{PutsOver, PutsRange};
+ghost use Rattle.cache.specs.Places.{HasPlace, StandsAt, WouldStandAt, CanPutBlock};
 
 use crate::counter::Steps;
 use crate::entry::BLOCK;
@@ -42,9 +42,7 @@ impl Batch {
     /// `TooLarge` where the room is for more than 65,536 blocks, and else `NoMemory` alone: a
     /// growth was refused.
     pub fn new(alloc: Global, room: usize) -> Result<Batch, BatchError>
-        ensures empty { IfOk result
-            (λ batch. batch ≡ record { room = room; numbers = []; bytes = [] }) }
-        ensures large { IsErrOf result BatchError.TooLarge ↔ 65536 < room }
+        ensures { MakesBatch room result }
     {
         Ok(Batch {
             parts: Parts::new(alloc, room)?,
@@ -91,9 +89,7 @@ impl Batch {
 
     /// The 512 bytes of a block, where it is there.
     pub fn get(&self, block: u64) -> Option<&[u8]>
-        ensures some { IfSome result (λ bytes. map_of self.now block ≡ Some bytes.now) }
-        ensures size { IfSome result (λ bytes. length bytes.now ≡ 512) }
-        ensures none { IsNone result ↔ (map_of self.now block ≡ None) }
+        ensures { GetsBlock self.now block result }
     {
         self.parts.get(block)
     }
@@ -122,10 +118,7 @@ impl Batch {
     #[inline]
     pub fn get_at(&self, place: &mut usize, block: u64) -> Option<&[u8]>
         requires { HasPlace self.now.numbers block place.old }
-        ensures some { IfSome result (λ bytes. map_of self.now block ≡ Some bytes.now) }
-        ensures size { IfSome result (λ bytes. length bytes.now ≡ 512) }
-        ensures none { IsNone result ↔ (map_of self.now block ≡ None) }
-        ensures next { HasPlace self.now.numbers (block + 1) place.new }
+        ensures { GetsNext self.now block result place.new }
     {
         self.parts.get_at(place, block)
     }
@@ -151,18 +144,8 @@ impl Batch {
     // Each way is short for one block, and many calls are for one.
     #[inline(always)]
     pub fn put(&mut self, address: u64, bytes: &[u8])
-        requires some { 512 ≤ length bytes.now }
-        requires whole { length bytes.now % 512 ≡ 0 }
-        requires range { address + length bytes.now / 512 ≤ 2 ^ 31 }
-        requires fits { Fits self.old address (length bytes.now / 512) }
-        ensures map { (b : ℕ) → map_of self.new b
-            ≡ with_range (map_of self.old) address (length bytes.now / 512) bytes.now b }
-        ensures members { (n : ℕ) → Listed self.new.numbers n
-            ↔ (Listed self.old.numbers n ⊎ InRange address (length bytes.now / 512) n) }
-        ensures count { length self.new.numbers ≡ length self.old.numbers
-            + unlisted self.old.numbers address (length bytes.now / 512) }
-        ensures room_stays { self.new.room ≡ self.old.room }
-        ensures well_formed { IsWellFormed self.new }
+        requires { CanPut self.old address (length bytes.now) }
+        ensures { PutsRange address bytes.now self.old self.new }
     {
         let entries = self.parts.index.entries();
         let place = place_of(entries, address);
@@ -193,19 +176,9 @@ impl Batch {
     // The same where the place of the address is known, block by block.
     #[inline(always)]
     fn put_among(&mut self, place: usize, address: u64, bytes: &[u8])
-        requires some { 512 ≤ length bytes.now }
-        requires whole { length bytes.now % 512 ≡ 0 }
-        requires range { address + length bytes.now / 512 ≤ 2 ^ 31 }
+        requires can { CanPut self.old address (length bytes.now) }
         requires place { HasPlace self.old.numbers address place }
-        requires fits { Fits self.old address (length bytes.now / 512) }
-        ensures map { (b : ℕ) → map_of self.new b
-            ≡ with_range (map_of self.old) address (length bytes.now / 512) bytes.now b }
-        ensures members { (n : ℕ) → Listed self.new.numbers n
-            ↔ (Listed self.old.numbers n ⊎ InRange address (length bytes.now / 512) n) }
-        ensures count { length self.new.numbers ≡ length self.old.numbers
-            + unlisted self.old.numbers address (length bytes.now / 512) }
-        ensures room_stays { self.new.room ≡ self.old.room }
-        ensures well_formed { IsWellFormed self.new }
+        ensures { PutsOver address (length bytes.now / 512) bytes.now self.old self.new }
     {
         let mut place = place;
         for i in 0..bytes.len() / BLOCK {
@@ -218,9 +191,7 @@ impl Batch {
     // number.
     fn put_block(&mut self, place: usize, number: u64, block: &[u8]) -> usize
         requires small { number < 2 ^ 31 }
-        requires place { HasPlace self.old.numbers number place }
-        requires size { length block.now ≡ 512 }
-        requires room { length self.old.numbers + absent self.old.numbers number ≤ self.old.room }
+        requires can { CanPutBlock self.old.numbers self.old.room number place block.now }
         ensures put { PutsBlock number block.now self.old self.new }
         ensures next { HasPlace self.new.numbers (number + 1) result }
     {

@@ -1,8 +1,7 @@
 //! A batch whose blocks lie in the order of their numbers.
-ghost use Rattle.std.specs.Prelude.{◌≡◌, ◌↔◌, ◌+◌, ◌^◌, ◌<◌, ◌≤◌, [], length, Some, None};
-ghost use Rattle.std.specs.Prelude.{IsTrue, IfOk, IsErrOf, IfSome, IsNone};
+ghost use Rattle.std.specs.Prelude.{◌≡◌, ◌↔◌, ◌+◌, ◌^◌, ◌≤◌, [], IsTrue};
 ghost use Rattle.cache.specs.Blocks.{unlisted};
-ghost use Rattle.cache.specs.Entries.{IsWellFormed, map_of};
+ghost use Rattle.cache.specs.Entries.{MakesBatch, GetsBlock, GetsNext, IsPartOf};
 ghost use Rattle.cache.specs.Places.{HasPlace};
 ghost use Rattle.cache.specs.View.{view_of, Invariant, IsArranged};
 
@@ -39,9 +38,7 @@ impl Frozen {
     /// `TooLarge` where the room is for more than 65,536 blocks, and else `NoMemory` alone: a
     /// growth was refused.
     pub fn new(alloc: Global, room: usize) -> Result<Frozen, BatchError>
-        ensures empty { IfOk result
-            (λ batch. batch ≡ record { room = room; numbers = []; bytes = [] }) }
-        ensures large { IsErrOf result BatchError.TooLarge ↔ 65536 < room }
+        ensures { MakesBatch room result }
     {
         Ok(Frozen {
             parts: Parts::new(alloc, room)?,
@@ -57,25 +54,21 @@ impl Frozen {
 
     /// The numbers of the blocks, which rise.
     pub fn numbers(&self) -> &[u64]
-        ensures value { result.now ≡ self.now.numbers }
-        ensures well_formed { IsWellFormed self.now }
+        ensures { IsPartOf self.now self.now.numbers result.now }
     {
         &self.parts.numbers
     }
 
     /// The blocks in the order of their numbers, 512 bytes each.
     pub fn bytes(&self) -> &[u8]
-        ensures value { result.now ≡ self.now.bytes }
-        ensures well_formed { IsWellFormed self.now }
+        ensures { IsPartOf self.now self.now.bytes result.now }
     {
         self.parts.row[..self.parts.numbers.len()].as_flattened()
     }
 
     /// The 512 bytes of a block, where it is there.
     pub fn get(&self, block: u64) -> Option<&[u8]>
-        ensures some { IfSome result (λ bytes. map_of self.now block ≡ Some bytes.now) }
-        ensures size { IfSome result (λ bytes. length bytes.now ≡ 512) }
-        ensures none { IsNone result ↔ (map_of self.now block ≡ None) }
+        ensures { GetsBlock self.now block result }
     {
         self.parts.get(block)
     }
@@ -104,10 +97,7 @@ impl Frozen {
     #[inline]
     pub fn get_at(&self, place: &mut usize, block: u64) -> Option<&[u8]>
         requires { HasPlace self.now.numbers block place.old }
-        ensures some { IfSome result (λ bytes. map_of self.now block ≡ Some bytes.now) }
-        ensures size { IfSome result (λ bytes. length bytes.now ≡ 512) }
-        ensures none { IsNone result ↔ (map_of self.now block ≡ None) }
-        ensures next { HasPlace self.now.numbers (block + 1) place.new }
+        ensures { GetsNext self.now block result place.new }
     {
         self.parts.get_at(place, block)
     }

@@ -1,12 +1,10 @@
 //! What a batch is made of, in whichever order its blocks lie.
-ghost use Rattle.std.specs.Prelude.{◌≡◌, ◌↔◌, ◌+◌, ◌/◌, ◌%◌, ◌^◌, ◌<◌, ◌≤◌, [], length, Some, None};
-ghost use Rattle.std.specs.Prelude.{vec_capacity};
-ghost use Rattle.std.specs.Prelude.{IfOk, IfSome, IsErrOf, IsNone};
-ghost use Rattle.cache.specs.Blocks.{absent};
-ghost use Rattle.cache.specs.Entries.{PutsBehind, PutsBlock, map_of};
+ghost use Rattle.std.specs.Prelude.{◌≡◌, ◌↔◌, ◌+◌, ◌/◌, ◌^◌, ◌<◌, ◌≤◌, [], length};
+ghost use Rattle.std.specs.Prelude.{vec_capacity, IfOk, IsErrOf};
+ghost use Rattle.cache.specs.Entries.{GetsBlock, GetsNext, PutsBehind, PutsBlock};
 ghost use Rattle.cache.specs.Index.{numbers_of, entries_of};
-ghost use Rattle.cache.specs.Places.{HasPlace};
-ghost use Rattle.cache.specs.View.{view_of, Invariant, IsArranged};
+ghost use Rattle.cache.specs.Places.{HasPlace, CanPutBlock};
+ghost use Rattle.cache.specs.View.{view_of, Invariant, Becomes, AreArranged};
 
 use crate::BatchError;
 use crate::append::{write_blocks, write_entries};
@@ -37,9 +35,8 @@ impl Parts {
     /// No blocks, with room for so many.
     pub(crate) fn new(alloc: Global, room: usize) -> Result<Parts, BatchError>
         ensures large { IsErrOf result BatchError.TooLarge ↔ 65536 < room }
-        ensures arranged { IfOk result IsArranged }
-        ensures value { IfOk result
-            (λ parts. view_of parts ≡ record { room = room; numbers = []; bytes = [] }) }
+        ensures empty { IfOk result
+            (AreArranged (record { room = room; numbers = []; bytes = [] })) }
     {
         if room > MOST_ROOM {
             return Err(BatchError::TooLarge);
@@ -58,9 +55,7 @@ impl Parts {
     /// The 512 bytes of a block, where it is there.
     pub(crate) fn get(&self, block: u64) -> Option<&[u8]>
         requires { Invariant self.now }
-        ensures some { IfSome result (λ bytes. map_of (view_of self.now) block ≡ Some bytes.now) }
-        ensures size { IfSome result (λ bytes. length bytes.now ≡ 512) }
-        ensures none { IsNone result ↔ (map_of (view_of self.now) block ≡ None) }
+        ensures { GetsBlock (view_of self.now) block result }
     {
         let mut place = place_of(self.index.entries(), block);
         self.get_at(&mut place, block)
@@ -71,10 +66,7 @@ impl Parts {
     pub(crate) fn get_at(&self, place: &mut usize, block: u64) -> Option<&[u8]>
         requires kept { Invariant self.now }
         requires place { HasPlace (numbers_of (entries_of self.now.index)) block place.old }
-        ensures some { IfSome result (λ bytes. map_of (view_of self.now) block ≡ Some bytes.now) }
-        ensures size { IfSome result (λ bytes. length bytes.now ≡ 512) }
-        ensures none { IsNone result ↔ (map_of (view_of self.now) block ≡ None) }
-        ensures next { HasPlace (numbers_of (entries_of self.now.index)) (block + 1) place.new }
+        ensures { GetsNext (view_of self.now) block result place.new }
     {
         let entries = self.index.entries();
         let at = *place;
@@ -88,12 +80,9 @@ impl Parts {
     /// Puts one block where the place of its number is known.
     pub(crate) fn put(&mut self, place: usize, number: u32, block: &[u8])
         requires kept { Invariant self.old }
-        requires place { HasPlace (numbers_of (entries_of self.old.index)) number place }
-        requires size { length block.now ≡ 512 }
-        requires room { length (numbers_of (entries_of self.old.index))
-            + absent (numbers_of (entries_of self.old.index)) number ≤ self.old.room }
-        ensures kept { Invariant self.new }
-        ensures put { PutsBlock number block.now (view_of self.old) (view_of self.new) }
+        requires can { CanPutBlock (numbers_of (entries_of self.old.index)) self.old.room
+            number place block.now }
+        ensures put { Becomes (PutsBlock number block.now) self.old self.new }
         ensures next { HasPlace (numbers_of (entries_of self.new.index)) (number + 1) (place + 1) }
     {
         put_entry(&mut self.index, &mut self.row, place, number, block);
@@ -105,13 +94,11 @@ impl Parts {
         requires kept { Invariant self.old }
         requires behind { HasPlace (numbers_of (entries_of self.old.index)) number
             (length (numbers_of (entries_of self.old.index))) }
-        requires whole { length bytes.now % 512 ≡ 0 }
         requires small { number + length bytes.now / 512 ≤ 2 ^ 31 }
         requires room { length (numbers_of (entries_of self.old.index)) + length bytes.now / 512
             ≤ self.old.room }
-        ensures kept { Invariant self.new }
-        ensures appends { PutsBehind number (length bytes.now / 512) bytes.now
-            (view_of self.old) (view_of self.new) }
+        ensures { Becomes (PutsBehind number (length bytes.now / 512) bytes.now)
+            self.old self.new }
     {
         let first = self.index.entries().len();
         let count = bytes.len() / BLOCK;
@@ -124,8 +111,7 @@ impl Parts {
     /// Puts the blocks into the order of their numbers, and tells these.
     pub(crate) fn arrange(&mut self)
         requires { Invariant self.old }
-        ensures arranged { IsArranged self.new }
-        ensures value { view_of self.new ≡ view_of self.old }
+        ensures { AreArranged (view_of self.old) self.new }
     {
         let (start, end) = (self.index.start, self.index.end);
         arrange_cells(
@@ -141,8 +127,7 @@ impl Parts {
     /// Forgets all blocks. The room stays.
     pub(crate) fn clear(&mut self)
         requires { Invariant self.old }
-        ensures arranged { IsArranged self.new }
-        ensures value { view_of self.new ≡ record (view_of self.old) { numbers = []; bytes = [] } }
+        ensures { AreArranged (record (view_of self.old) { numbers = []; bytes = [] }) self.new }
     {
         self.index.clear(self.room);
         self.numbers.clear();

@@ -1,15 +1,19 @@
-use Rattle.std.proofs.Common.{◌≡◌, ℕ, ◌+◌, ◌-◌, ◌*◌, ◌/◌, length, take, drop, ap, ◌∙◌, arith}
+use Rattle.std.proofs.Common.{◌≡◌, ℕ, ◌+◌, ◌-◌, ◌*◌, ◌/◌, length, take, drop, ap, ◌∙◌, arith, rules}
 use Rattle.cache.specs.Blocks.{unlisted}
 use Rattle.cache.specs.Entries.{map_of}
-use Rattle.cache.proofs.Ranges.{unlisted_first, absent_after, one_more, block_at_is, members}
+use Rattle.cache.proofs.Ranges.{unlisted_first, absent_after, one_more, block_at_is}
 use Rattle.cache.proofs.batch.Batch.put_among.Goals as goal
 
-pub put_block-place-requires-clause-room : goal.put_block-place-requires-clause-room
-put_block-place-requires-clause-room c =
+pub put_block-place-requires-clause-can : goal.put_block-place-requires-clause-can
+put_block-place-requires-clause-can c =
     let first = unlisted_first c.args.self.now.numbers (c.args.address + c.loop-i.i) (length c.args.bytes.now / 512 - c.loop-i.i)
     (length c.args.bytes.now / 512 - (c.loop-i.i + 1)) (omega arith) in
     let kept = absent_after c.args.self.now c.loop-i.self c.args.address c.loop-i.i c.args.bytes.now c.loop-i.invariant.map in
-    omega (arith, first, kept, c.loop-i.invariant.count, c.loop-i.invariant.room, c.requires.fits)
+    record {
+      place = search rules;
+      size = search rules;
+      room = omega (arith, first, kept, c.loop-i.invariant.count, c.loop-i.invariant.room, c.requires.can.fits);
+    }
 
 pub loop-i-preserved : goal.loop-i-preserved
 loop-i-preserved c =
@@ -29,8 +33,3 @@ loop-i-preserved c =
       well_formed = λ _. c.put_block-place.ensures.put.well_formed;
       place = rw next at c.put_block-place.ensures.next;
     }
-
-pub returns-clause-members : goal.returns-clause-members
-returns-clause-members c =
-    let all : c.loop-i.i ≡ length c.args.bytes.now / 512 = omega arith in
-    rw (← all) (members c.args.self.now c.loop-i.self c.args.address c.loop-i.i c.args.bytes.now c.loop-i.invariant.map)

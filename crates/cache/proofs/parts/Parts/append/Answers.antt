@@ -106,12 +106,10 @@ cells_are c =
 row_is : (c : goal.After-self-3-1) → (parts_after c).row.items ≡ c.write_blocks.new.row
 row_is c = with_items_is c.args.self.now.row c.write_blocks.new.row (c.write_blocks.auto.row ∙ c.deref_mut.ensures.len)
 
-pub returns-clause-kept : goal.returns-clause-kept
-returns-clause-kept c =
-    kept_after c.args.self.now (parts_after c) c.write_entries.new.cells c.write_blocks.new.row c.args.number (count_of c)
-    c.args.bytes.now (laid c) c.requires.kept (cells_are c) (row_is c) refl refl
-
-pub returns-clause-appends : goal.returns-clause-appends
-returns-clause-appends c =
-    appends_after c.args.self.now (parts_after c) c.write_entries.new.cells c.write_blocks.new.row c.args.number (count_of c)
-    c.args.bytes.now (laid c) c.requires.kept (cells_are c) (row_is c) refl refl
+pub returns : goal.returns
+returns c = record {
+  kept = kept_after c.args.self.now (parts_after c) c.write_entries.new.cells c.write_blocks.new.row c.args.number (count_of c)
+      c.args.bytes.now (laid c) c.requires.kept (cells_are c) (row_is c) refl refl;
+  puts = appends_after c.args.self.now (parts_after c) c.write_entries.new.cells c.write_blocks.new.row c.args.number (count_of c)
+      c.args.bytes.now (laid c) c.requires.kept (cells_are c) (row_is c) refl refl;
+}

@@ -1,4 +1,4 @@
-use Rattle.std.proofs.Common.{◌≡◌, ◌<◌, ◌≤◌, arith, ℕ, List, [], get_or, Some, ap, sym, ◌∙◌, refl, length}
+use Rattle.std.proofs.Common.{◌≡◌, ◌<◌, ◌≤◌, arith, rules, ℕ, List, [], get_or, Some, ap, sym, ◌∙◌, refl, length}
 use Rattle.std.proofs.lemmas.List.{get_or_read}
 use Rattle.cache.specs.Index.{numbers_of, places_of, entries_of}
 use Rattle.cache.specs.Order.{gathered}
@@ -22,8 +22,8 @@ stands entries read number place at same has inside is here =
     let value = ap (λ (l : List Entry). get_or (numbers_of l) place 0) same in
     stands_there (numbers_of entries) number place has (omega (arith, inside, count, long)) (omega (arith, is, here, value))
 
-pub returns-then-number_of-block-clause-some : goal.returns-then-number_of-block-clause-some
-returns-then-number_of-block-clause-some c =
+pub returns-then-number_of-block : goal.returns-then-number_of-block
+returns-then-number_of-block c =
     let parts = c.args.self.now in
     let entries : List Entry = entries_of parts.index in
     let places : List ℕ = places_of entries in
@@ -37,21 +37,13 @@ returns-then-number_of-block-clause-some c =
     let below : get_or places c.args.place.now 0 < length places = c.requires.kept.placed.inside c.args.place.now inside in
     let room : length places ≤ length row = have_room parts c.requires.kept in
     let within : c.row_place.result < length row = omega (arith, at, below, room) in
-    found (numbers_of entries) (gathered places row) c.args.block c.args.place.now [] c.requires.kept.paired there
+    let some = found (numbers_of entries) (gathered places row) c.args.block c.args.place.now [] c.requires.kept.paired there
     ∙ ap (λ (x : List ℕ). Some x) (gathered_at places row c.args.place.now inside ∙ ap (λ (j : ℕ). get_or row j []) (sym at)
-    ∙ sym (get_or_read row c.row_place.result c.index.result.now within c.index.ensures []))
-
-pub returns-then-number_of-block-clause-none : goal.returns-then-number_of-block-clause-none
-returns-then-number_of-block-clause-none c =
-    let some = returns-then-number_of-block-clause-some c in
-    (λ e. cc, λ e. cc)
-
-pub returns-then-number_of-block-clause-next : goal.returns-then-number_of-block-clause-next
-returns-then-number_of-block-clause-next c =
-    let numbers : List ℕ = numbers_of (entries_of c.args.self.now.index) in
-    next_place numbers c.args.block c.args.place.now c.requires.kept.paired.rising
-    (stands (entries_of c.args.self.now.index) c.entries-entries.result.now c.args.block c.args.place.now c.number_of.result
-    c.entries-entries.ensures c.requires.place c.if-at-entries.true c.number_of.ensures c.if-number_of-block.true)
+    ∙ sym (get_or_read row c.row_place.result c.index.result.now within c.index.ensures [])) in
+    record {
+      gets = record { some = some; size = search rules; none = (λ e. cc, λ e. cc) };
+      next = next_place (numbers_of entries) c.args.block c.args.place.now c.requires.kept.paired.rising there;
+    }
 
 would : (c : goal.Joined-else-at-entries) → WouldStandAt (numbers_of (entries_of c.args.self.now.index)) c.args.block c.args.place.now
 would c =
@@ -68,13 +60,18 @@ would c =
       | else-at-entries-via-else-at-entries w ↦ absurd (omega (arith, lt, count, w.if-at-entries.false, long))
     ])
 
-pub returns-clause-none : goal.returns-clause-none
-returns-clause-none c =
-    let parts = c.args.self.now in (
-      λ e. missing (numbers_of (entries_of parts.index)) (joined (gathered (places_of (entries_of parts.index)) parts.row.items))
-          c.args.block c.args.place.now (would c),
-      λ e. refl,
-    )
-
-pub returns-clause-next : goal.returns-clause-next
-returns-clause-next c = same_place (numbers_of (entries_of c.args.self.now.index)) c.args.block c.args.place.now (would c)
+pub returns : goal.returns
+returns c =
+    let parts = c.args.self.now in
+    record {
+      gets = record {
+        some = search rules;
+        size = search rules;
+        none = (
+          λ e. missing (numbers_of (entries_of parts.index)) (joined (gathered (places_of (entries_of parts.index)) parts.row.items))
+              c.args.block c.args.place.now (would c),
+          λ e. refl,
+        );
+      };
+      next = same_place (numbers_of (entries_of parts.index)) c.args.block c.args.place.now (would c);
+    }
