@@ -1,5 +1,5 @@
 -- Blocks in the order of their arrival, and the place of each number's block in the row.
-use Rattle.std.specs.Prelude.{◌≡◌, ◌<◌, ℕ, suc, ◌+◌, List, [], ◌∷◌, length, map}
+use Rattle.std.specs.Prelude.{◌≡◌, ◌≢◌, ◌<◌, ◌≤◌, ℕ, suc, ◌+◌, List, [], ◌∷◌, length, map}
 use Rattle.std.specs.Prelude.{slice_index, slice_index_or, if◌then◌else◌, ◌==◌}
 
 -- the blocks at these places of the row, in the order of the places
@@ -11,6 +11,16 @@ pub record ArePlaces (places : List ℕ) : Type 0 where
   pub inside : (i : ℕ) → i < length places → slice_index places i < length places
   pub distinct : (i j : ℕ) → i < length places → j < length places
       → slice_index places i ≡ slice_index places j → i ≡ j
+
+-- the places are those of blocks of this row
+pub record ArePlacesOf (row : List (List ℕ)) (places : List ℕ) : Type 0 where
+  pub are : ArePlaces places
+  pub room : length places ≤ length row
+
+-- there is an i-th place, and it is not its own
+pub record IsAstray (i : ℕ) (places : List ℕ) : Type 0 where
+  pub inside : i < length places
+  pub astray : slice_index places i ≢ i
 
 -- the i-th place is its own now, and so is each one that was
 pub record IsOwnAt (i : ℕ) (old new : List ℕ) : Type 0 where

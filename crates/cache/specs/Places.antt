@@ -1,7 +1,8 @@
 -- Numbers that rise beside blocks in the same order, and the place of a number among them.
-use Rattle.std.specs.Prelude.{◌≡◌, ◌<◌, ◌≤◌, ℕ, ◌+◌, List, length, slice_index}
+use Rattle.std.specs.Prelude.{◌≡◌, ◌⊎◌, ◌<◌, ◌≤◌, ℕ, ◌+◌, ◌-◌, List, length, slice_index}
 use Rattle.std.specs.List.{All, flat_map}
 use Rattle.cache.specs.Blocks.{blocks_of, with_block, IsRising, absent}
+use Rattle.cache.specs.Digits.{GrowsWithinDigits}
 
 -- blocks one after the other
 abbrev pub joined : List (List ℕ) → List ℕ
@@ -31,6 +32,25 @@ pub record HasPlace (numbers : List ℕ) (number place : ℕ) : Type 0 where
   pub inside : place ≤ length numbers
   pub before : (k : ℕ) → k < place → slice_index numbers k < number
   pub here : place < length numbers → number ≤ slice_index numbers place
+
+-- a number is read at its place, which is one step
+pub record ReadsNumber (numbers : List ℕ) (at number old new : ℕ) : Type 0 where
+  pub value : number ≡ slice_index numbers at
+  pub step : new ≡ old + 1
+
+-- a number's place is found, in as many steps at most as their count has binary digits
+pub record FindsPlace (numbers : List ℕ) (number at old new : ℕ) : Type 0 where
+  pub place : HasPlace numbers number at
+  pub few : GrowsWithinDigits (length numbers) old new
+
+-- Numbers at the front are skipped: so many, if there are some and the last of them is smaller, in
+-- one step, and else none.
+pub record Skips (numbers : List ℕ) (spare number skipped old new : ℕ) : Type 0 where
+  pub cases : (skipped ≡ spare) ⊎ ((skipped ≡ 0) × (number ≤ slice_index numbers (spare - 1)))
+  pub before : (k : ℕ) → k < skipped → slice_index numbers k < number
+  pub grows : old ≤ new
+  pub few : new ≤ old + 1
+  pub none : spare ≡ 0 → new ≡ old
 
 -- a block of 512 bytes may be put at a number whose place is known: there is room for it
 pub record CanPutBlock (numbers : List ℕ) (most number at : ℕ) (block : List ℕ) : Type 0 where

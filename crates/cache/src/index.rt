@@ -1,8 +1,8 @@
 //! An index that grows at both ends.
-ghost use Rattle.std.specs.Prelude.{◌≡◌, ◌⊎◌, ◌+◌, ◌-◌, ◌*◌, ◌<◌, ◌≤◌, [], length, slice_set};
+ghost use Rattle.std.specs.Prelude.{◌≡◌, ◌+◌, ◌-◌, ◌*◌, ◌<◌, ◌≤◌, [], length, slice_set};
 ghost use Rattle.std.specs.Prelude.{slice_range, IfOk};
 ghost use Rattle.std.specs.List.{insert};
-ghost use Rattle.cache.specs.Index.{entries_of, IsCentred};
+ghost use Rattle.cache.specs.Index.{entries_of, IsCentred, CanInsert, GrowsByOne};
 
 use crate::entry::Entry;
 use std::alloc::{AllocError, Global};
@@ -56,14 +56,9 @@ impl Index {
 
     /// Inserts an entry at this place among the others.
     pub(crate) fn insert(&mut self, at: usize, entry: Entry)
-        requires ordered { self.old.start ≤ self.old.end }
-        requires place { at ≤ self.old.end - self.old.start }
-        requires before { 0 < self.old.start }
-        requires behind { self.old.end < length self.old.cells.items }
+        requires { CanInsert self.old at }
         ensures entries { entries_of self.new ≡ insert (entries_of self.old) at entry }
-        ensures ends { ((self.new.start ≡ self.old.start) × (self.new.end ≡ self.old.end + 1))
-            ⊎ ((self.new.start + 1 ≡ self.old.start) × (self.new.end ≡ self.old.end)) }
-        ensures wide { length self.new.cells.items ≡ length self.old.cells.items }
+        ensures grows { GrowsByOne self.old self.new }
     {
         let count = self.end - self.start;
         if at < count - at {

@@ -7,7 +7,7 @@ use Rattle.cache.proofs.Cycles.{hole_among, next_inside, goes_on, one_more}
 use Rattle.cache.proofs.arrange.turn_cycle.Goals as goal
 
 among : (c : goal.In-loop-hole) → c.loop-hole.hole < length (places_of c.loop-hole.entries)
-among c = hole_among _ _ _ _ _ _ _ c.loop-hole.invariant.turning (omega (arith, c.requires.inside, c.loop-hole.invariant.turning.as_long))
+among c = hole_among _ _ _ _ _ _ _ c.loop-hole.invariant.turning (omega (arith, c.requires.astray.inside, c.loop-hole.invariant.turning.as_long))
 
 pub row_place-next-requires : goal.row_place-next-requires
 row_place-next-requires c =
@@ -19,16 +19,16 @@ pub move_block-requires-clause-to : goal.move_block-requires-clause-to
 move_block-requires-clause-to c =
     let turning = c.loop-hole.invariant.turning in
     let lt : c.loop-hole.hole < length (places_of c.loop-hole.entries) =
-    hole_among _ _ _ _ _ _ _ turning (omega (arith, c.requires.inside, turning.as_long)) in
-    omega (arith, lt, c.requires.room, turning.as_long, turning.as_wide)
+    hole_among _ _ _ _ _ _ _ turning (omega (arith, c.requires.astray.inside, turning.as_long)) in
+    omega (arith, lt, c.requires.places.room, turning.as_long, turning.as_wide)
 
 pub move_block-requires-clause-from : goal.move_block-requires-clause-from
 move_block-requires-clause-from c =
     let turning = c.loop-hole.invariant.turning in
     let places : List ℕ = places_of c.loop-hole.entries in
     let next : ℕ = c.row_place-next.result in
-    let inside : c.args.i < length places = omega (arith, c.requires.inside, turning.as_long) in
-    let room : length places ≤ length c.loop-hole.row = omega (arith, c.requires.room, turning.as_long, turning.as_wide) in
+    let inside : c.args.i < length places = omega (arith, c.requires.astray.inside, turning.as_long) in
+    let room : length places ≤ length c.loop-hole.row = omega (arith, c.requires.places.room, turning.as_long, turning.as_wide) in
     let lt : next < length places = next_inside _ _ _ _ _ _ next _ (get_or c.loop-hole.row next []) turning inside room
     c.loop-hole-test.true c.row_place-next.ensures refl in
     omega (arith, lt, room)
@@ -37,7 +37,7 @@ pub set_row_place-requires : goal.set_row_place-requires
 set_row_place-requires c =
     let turning = c.loop-hole.invariant.turning in
     let lt : c.loop-hole.hole < length (places_of c.loop-hole.entries) =
-    hole_among _ _ _ _ _ _ _ turning (omega (arith, c.requires.inside, turning.as_long)) in
+    hole_among _ _ _ _ _ _ _ turning (omega (arith, c.requires.astray.inside, turning.as_long)) in
     let long = length-places c.loop-hole.entries in
     omega (arith, lt, long)
 
@@ -46,8 +46,8 @@ loop-hole-smaller c =
     let turning = c.loop-hole.invariant.turning in
     let places : List ℕ = places_of c.loop-hole.entries in
     let next : ℕ = c.row_place-next.result in
-    let inside : c.args.i < length places = omega (arith, c.requires.inside, turning.as_long) in
-    let room : length places ≤ length c.loop-hole.row = omega (arith, c.requires.room, turning.as_long, turning.as_wide) in
+    let inside : c.args.i < length places = omega (arith, c.requires.astray.inside, turning.as_long) in
+    let room : length places ≤ length c.loop-hole.row = omega (arith, c.requires.places.room, turning.as_long, turning.as_wide) in
     let more = one_more _ _ _ _ _ _ next _ (get_or c.loop-hole.row next []) turning inside room c.loop-hole-test.true
     c.row_place-next.ensures refl in
     let most : away c.args.i next ≤ 1 = away_most c.args.i next in
@@ -61,8 +61,8 @@ loop-hole-preserved c =
     let turning = c.loop-hole.invariant.turning in
     let places : List ℕ = places_of c.loop-hole.entries in
     let next : ℕ = c.row_place-next.result in
-    let inside : c.args.i < length places = omega (arith, c.requires.inside, turning.as_long) in
-    let room : length places ≤ length c.loop-hole.row = omega (arith, c.requires.room, turning.as_long, turning.as_wide) in
+    let inside : c.args.i < length places = omega (arith, c.requires.astray.inside, turning.as_long) in
+    let room : length places ≤ length c.loop-hole.row = omega (arith, c.requires.places.room, turning.as_long, turning.as_wide) in
     let more = one_more _ _ _ _ _ _ next _ (get_or c.loop-hole.row next []) turning inside room c.loop-hole-test.true
     c.row_place-next.ensures refl in
     let most : away c.args.i c.loop-hole.hole ≤ 1 = away_most c.args.i c.loop-hole.hole in

@@ -1,4 +1,4 @@
-use Rattle.std.proofs.Common.{◌≡◌, ℕ, ◌-◌, ◌^◌, ◌<◌, ◌≤◌, List, suc, arith}
+use Rattle.std.proofs.Common.{◌≡◌, ℕ, ◌-◌, ◌^◌, ◌<◌, ◌≤◌, List, suc, arith, rules}
 use Rattle.cache.specs.Index.{numbers_of}
 use Rattle.cache.proofs.Columns.{length-numbers}
 use Rattle.cache.proofs.Powers.{power_in_word, begins, lower, upper, within_power}
@@ -43,5 +43,8 @@ loop-half-preserved c =
       }
     ]
 
-pub returns-clause-few : goal.returns-clause-few
-returns-clause-few c = within_power _ _ _ _ _ _ c.loop-half.invariant.grows c.loop-half.invariant.halving
+pub returns : goal.returns
+returns c = record {
+  place = search rules;
+  few = within_power _ _ _ _ _ _ c.loop-half.invariant.grows c.loop-half.invariant.halving;
+}
