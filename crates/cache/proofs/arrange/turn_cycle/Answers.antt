@@ -7,7 +7,9 @@ use Rattle.cache.proofs.Cycles.{hole_among, next_inside, goes_on, one_more}
 use Rattle.cache.proofs.arrange.turn_cycle.Goals as goal
 
 among : (c : goal.In-loop-hole) → c.loop-hole.hole < length (places_of c.loop-hole.entries)
-among c = hole_among _ _ _ _ _ _ _ c.loop-hole.invariant.turning (omega (arith, c.requires.astray.inside, c.loop-hole.invariant.turning.as_long))
+among c =
+    let turning = c.loop-hole.invariant.turning in
+    hole_among _ _ _ _ _ _ _ turning (omega (arith, c.requires.astray.inside, turning.as_long))
 
 pub row_place-next-requires : goal.row_place-next-requires
 row_place-next-requires c =
