@@ -1,6 +1,6 @@
 -- The order of the background work: what one step of it does.
 use Rattle.std.specs.Prelude.{◌≡◌, ◌⊎◌, ◌+◌, ◌-◌, ◌^◌, ◌≤◌, ◌<◌, true, false, [], length}
-use Rattle.std.specs.Prelude.{Result, Ok}
+use Rattle.std.specs.Prelude.{Result, Ok, OnOk}
 use Rattle.medium.specs.Medium.{State}
 use Rattle.medium.specs.Moments.{IsUnchanged}
 use Rattle.medium.specs.Sent.{SendsUpTo}
@@ -12,7 +12,9 @@ use Rattle.redo_log.specs.Flushes.{next_step_flushes, next_turn_flushes}
 use Rattle.redo_log.specs.declared.progress.Progress.{Progress}
 use Rattle.redo_log.specs.declared.progress.Progress.TheVariants.{More, Durable}
 use Rattle.blocks.specs.declared.fault.StoreFault.{StoreFault}
-use Rattle.blocks.specs.StoreValue.{Cached, StoreValue, is_dead, unwritten, steps_left}
+use Rattle.blocks.specs.StoreValue.{Cached, StoreValue, is_dead, active_of, unwritten, steps_left}
+use Rattle.blocks.specs.Turns.{IsTurn}
+use Rattle.blocks.specs.Passing.{PassesOn, KeepsMedium, TellsLife, MayEmpty}
 
 -- The medium refused one call, and the log is dead. The batches are as they were.
 pub record HasDied (before after : State) (old new : Cached) : Type 0 where
@@ -126,3 +128,51 @@ pub record CountsDown {M : Type 0} (old new : StoreValue M) : Type 0 where
   pub left : LeavesFewer old.cached new.cached
   pub rests : steps_left old.cached ≡ 0 → new ≡ old
   pub dead : is_dead old.cached ≡ true → new ≡ old
+
+-- the active batch becomes the frozen one
+pub record Freezes {M : Type 0} (state : M → State) (old new : StoreValue M) : Type 0 where
+  pub keeps : KeepsMedium state IsTurn old new
+  pub swapped : new.cached ≡ record old.cached {
+    active = old.cached.frozen;
+    frozen = old.cached.active;
+  }
+
+-- the record of the frozen batch is begun, and where it is, some of its steps are left
+pub record Begins {M : Type 0} (state : M → State) (result : Result (Unit {0}) StoreFault)
+    (old new : StoreValue M) : Type 0 where
+  pub keeps : KeepsMedium state IsTurn old new
+  pub begins : BeginsFrozen old.cached new.cached
+  pub answer : TellsLife result new.cached
+  pub begun : OnOk result (0 < new.cached.log.steps_left)
+
+-- the record of the next batch is begun, which leaves fewer steps
+pub record BeginsNext {M : Type 0} (state : M → State) (old new : StoreValue M) : Type 0 where
+  pub keeps : KeepsMedium state IsTurn old new
+  pub beginning : IsBeginning (state old.medium) (state new.medium) old.cached new.cached
+  pub falls : is_dead new.cached ≡ false → steps_left new.cached < steps_left old.cached
+  pub active : MayEmpty (active_of old.cached) (active_of new.cached)
+
+-- one step of the record under way is made, and told
+pub record StepsOn {M : Type 0} (state : M → State) (Follows : M → M → Type 0)
+    (result : Result Progress StoreFault) (old new : StoreValue M) : Type 0 where
+  pub passes : PassesOn state Follows IsTurn 1 1 old new
+  pub record_step : IsRecordStep (state old.medium) (state new.medium) old.cached new.cached
+  pub answer : TellsLife result new.cached
+  pub tells : TellsProgress result new.cached
+  pub writes : WritesOn old.cached new.cached
+
+-- one step of retiring is made, and told
+pub record RetiresOn {M : Type 0} (state : M → State) (Follows : M → M → Type 0)
+    (result : Result (Unit {0}) StoreFault) (old new : StoreValue M) : Type 0 where
+  pub passes : PassesOn state Follows IsTurn 2 2 old new
+  pub retiring : IsRetiring (state old.medium) (state new.medium) old.cached new.cached
+  pub answer : TellsLife result new.cached
+  pub counts : CountsRetired old new
+
+-- one background step of a live store is made
+pub record WorksOn {M : Type 0} (state : M → State) (Follows : M → M → Type 0)
+    (old new : StoreValue M) : Type 0 where
+  pub passes : PassesOn state Follows IsTurn 2 2 old new
+  pub order : IsBackgroundStep (state old.medium) (state new.medium) old.cached new.cached
+  pub left : LeavesFewer old.cached new.cached
+  pub active : MayEmpty (active_of old.cached) (active_of new.cached)

@@ -6,8 +6,9 @@ use Rattle.medium.specs.declared.fault.MediumFault.TheVariants.{Flush}
 use Rattle.redo_log.specs.Value.{LogValue, IsSentHome, next_calls, next_sends, pass_calls}
 use Rattle.blocks.specs.declared.fault.StoreFault.{StoreFault}
 use Rattle.blocks.specs.Ahead.{counted, past, IsBut}
-use Rattle.blocks.specs.Passing.{TellsLife}
-use Rattle.blocks.specs.StoreValue.{Cached, is_dead, steps_left}
+use Rattle.blocks.specs.Passing.{PassesPaid, KeepsMedium, TellsLife}
+use Rattle.blocks.specs.StoreValue.{Cached, StoreValue, is_dead, steps_left}
+use Rattle.blocks.specs.Turns.{IsTurn}
 
 -- so much is known of each of them: both batches stay, and no step is left of a record
 pub record StaysIdle (old new : Cached) : Type 0 where
@@ -52,3 +53,23 @@ pub record GoesAhead (result : Result (Unit {0}) StoreFault) (is : LogValue) (co
   pub stays : StaysIdle old new
   pub head : new.log.head ≤ old.log.head + most
   pub answer : TellsLife result new
+
+-- a flush is counted, which leaves the medium and the life of the store as they are
+pub record SettlesFlush {M : Type 0} (state : M → State) (old new : StoreValue M) : Type 0 where
+  pub keeps : KeepsMedium state IsTurn old new
+  pub counts : CountsFlush old.cached new.cached
+  pub life : is_dead new.cached ≡ is_dead old.cached
+
+-- the head goes past, and that is told
+pub record GoesPast {M : Type 0} (state : M → State) (Follows : M → M → Type 0)
+    (result : Result (Unit {0}) StoreFault) (old new : StoreValue M) : Type 0 where
+  pub passes : PassesPaid state Follows 1 old new
+  pub passing : PassesHead (state old.medium) (state new.medium) old.cached new.cached
+  pub answer : TellsLife result new.cached
+
+-- one block more goes home, and that is told
+pub record GoesHome {M : Type 0} (state : M → State) (Follows : M → M → Type 0)
+    (result : Result (Unit {0}) StoreFault) (old new : StoreValue M) : Type 0 where
+  pub passes : PassesPaid state Follows 2 old new
+  pub brings : BringsHome (state old.medium) (state new.medium) old.cached new.cached
+  pub answer : TellsLife result new.cached

@@ -3,12 +3,11 @@ ghost use Rattle.std.specs.Prelude.{◌≡◌, ◌+◌, false};
 ghost use Rattle.journal.specs.Places.{limit_of};
 ghost use Rattle.redo_log.specs.Value.{IsAway};
 ghost use Rattle.blocks.specs.StoreValue.{layout_of, is_dead};
-ghost use Rattle.blocks.specs.Turns.{IsTurn};
-ghost use Rattle.blocks.specs.Passing.{PassesPaid, KeepsMedium, TellsLife};
+ghost use Rattle.blocks.specs.Passing.{PassesPaid};
 ghost use Rattle.blocks.specs.Ahead.{gone_home, going_calls, passed, passed_calls};
 ghost use Rattle.blocks.specs.Ahead.{sent_home, sent_calls};
 ghost use Rattle.blocks.specs.Retiring.{HasSlots};
-ghost use Rattle.blocks.specs.Going.{CountsFlush, PassesHead, BringsHome, GoesAhead};
+ghost use Rattle.blocks.specs.Going.{SettlesFlush, GoesPast, GoesHome, GoesAhead};
 
 use crate::{Store, StoreFault};
 use medium::Medium;
@@ -18,9 +17,7 @@ impl<M: Medium> Store<M> {
     // it.
     fn count_flush(&mut self)
         requires idle { self.old.cached.log.steps_left ≡ 0 }
-        ensures keeps { KeepsMedium M.state IsTurn self.old self.new }
-        ensures counts { CountsFlush self.old.cached self.new.cached }
-        ensures life { is_dead self.new.cached ≡ is_dead self.old.cached }
+        ensures { SettlesFlush M.state self.old self.new }
     {
         let _ = self.log.settle();
     }
@@ -29,10 +26,7 @@ impl<M: Medium> Store<M> {
     fn pass_head(&mut self) -> Result<(), StoreFault>
         requires live { is_dead self.old.cached ≡ false }
         requires idle { self.old.cached.log.steps_left ≡ 0 }
-        ensures passes { PassesPaid M.state M.follows 1 self.old self.new }
-        ensures passing { PassesHead (M.state self.old.medium) (M.state self.new.medium)
-            self.old.cached self.new.cached }
-        ensures answer { TellsLife result self.new.cached }
+        ensures { GoesPast M.state M.follows result self.old self.new }
     {
         // The log says here that it owes no step where no record waits.
         let _ = self.log.is_retired();
@@ -47,10 +41,7 @@ impl<M: Medium> Store<M> {
         requires live { is_dead self.old.cached ≡ false }
         requires idle { self.old.cached.log.steps_left ≡ 0 }
         requires away { IsAway self.old.cached.log }
-        ensures passes { PassesPaid M.state M.follows 2 self.old self.new }
-        ensures brings { BringsHome (M.state self.old.medium) (M.state self.new.medium)
-            self.old.cached self.new.cached }
-        ensures answer { TellsLife result self.new.cached }
+        ensures { GoesHome M.state M.follows result self.old self.new }
     {
         match self.log.home_ahead(&mut self.medium) {
             Ok(()) => Ok(()),

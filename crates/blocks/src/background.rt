@@ -1,12 +1,11 @@
 //! The background work, one step at a time.
-ghost use Rattle.std.specs.Prelude.{◌≡◌, ◌<◌, false, [], length, OnOk};
+ghost use Rattle.std.specs.Prelude.{◌≡◌, ◌<◌, false, [], length};
 ghost use Rattle.redo_log.specs.Value.{HasRoom};
-ghost use Rattle.blocks.specs.StoreValue.{is_dead, active_of, unwritten, steps_left};
+ghost use Rattle.blocks.specs.StoreValue.{is_dead, active_of, unwritten};
 ghost use Rattle.blocks.specs.Turns.{IsTurn};
-ghost use Rattle.blocks.specs.Passing.{PassesOn, KeepsMedium, TellsLife, MayEmpty};
-ghost use Rattle.blocks.specs.Background.{IsRecordStep, IsBeginning, IsRetiring, IsBackgroundStep};
-ghost use Rattle.blocks.specs.Background.{BeginsFrozen, TellsProgress, WritesOn, CountsRetired};
-ghost use Rattle.blocks.specs.Background.{LeavesFewer, CountsDown};
+ghost use Rattle.blocks.specs.Passing.{PassesOn, MayEmpty};
+ghost use Rattle.blocks.specs.Background.{IsBackgroundStep, CountsDown, WorksOn, BeginsNext};
+ghost use Rattle.blocks.specs.Background.{Freezes, Begins, StepsOn, RetiresOn};
 
 use crate::{Store, StoreFault};
 use medium::Medium;
@@ -35,11 +34,7 @@ impl<M: Medium> Store<M> {
     #[inline(never)]
     fn work(&mut self)
         requires live { is_dead self.old.cached ≡ false }
-        ensures passes { PassesOn M.state M.follows IsTurn 2 2 self.old self.new }
-        ensures order { IsBackgroundStep (M.state self.old.medium) (M.state self.new.medium)
-            self.old.cached self.new.cached }
-        ensures left { LeavesFewer self.old.cached self.new.cached }
-        ensures active { MayEmpty (active_of self.old.cached) (active_of self.new.cached) }
+        ensures { WorksOn M.state M.follows self.old self.new }
     {
         if self.writing {
             let _ = self.step();
@@ -57,12 +52,7 @@ impl<M: Medium> Store<M> {
         requires live { is_dead self.old.cached ≡ false }
         requires room { HasRoom self.old.cached.log }
         requires some { 0 < unwritten self.old.cached }
-        ensures keeps { KeepsMedium M.state IsTurn self.old self.new }
-        ensures beginning { IsBeginning (M.state self.old.medium) (M.state self.new.medium)
-            self.old.cached self.new.cached }
-        ensures falls { is_dead self.new.cached ≡ false
-            → steps_left self.new.cached < steps_left self.old.cached }
-        ensures active { MayEmpty (active_of self.old.cached) (active_of self.new.cached) }
+        ensures { BeginsNext M.state self.old self.new }
     {
         if self.frozen.is_empty() {
             self.freeze();
@@ -76,11 +66,7 @@ impl<M: Medium> Store<M> {
         requires live { is_dead self.old.cached ≡ false }
         requires idle { self.old.cached.log.steps_left ≡ 0 }
         requires empty { self.old.cached.frozen.numbers ≡ [] }
-        ensures keeps { KeepsMedium M.state IsTurn self.old self.new }
-        ensures swapped { self.new.cached ≡ record self.old.cached {
-          active = self.old.cached.frozen;
-          frozen = self.old.cached.active;
-        } }
+        ensures { Freezes M.state self.old self.new }
     {
         self.active.freeze(&mut self.frozen);
     }
@@ -90,10 +76,7 @@ impl<M: Medium> Store<M> {
         requires live { is_dead self.old.cached ≡ false }
         requires room { HasRoom self.old.cached.log }
         requires some { 0 < length self.old.cached.frozen.numbers }
-        ensures keeps { KeepsMedium M.state IsTurn self.old self.new }
-        ensures begins { BeginsFrozen self.old.cached self.new.cached }
-        ensures answer { TellsLife result self.new.cached }
-        ensures begun { OnOk result (0 < self.new.cached.log.steps_left) }
+        ensures { Begins M.state result self.old self.new }
     {
         match self.log.begin(self.frozen.numbers(), self.frozen.bytes()) {
             Ok(()) => {
@@ -108,12 +91,7 @@ impl<M: Medium> Store<M> {
     pub(crate) fn step(&mut self) -> Result<Progress, StoreFault>
         requires live { is_dead self.old.cached ≡ false }
         requires under_way { 0 < self.old.cached.log.steps_left }
-        ensures passes { PassesOn M.state M.follows IsTurn 1 1 self.old self.new }
-        ensures record_step { IsRecordStep (M.state self.old.medium) (M.state self.new.medium)
-            self.old.cached self.new.cached }
-        ensures answer { TellsLife result self.new.cached }
-        ensures tells { TellsProgress result self.new.cached }
-        ensures writes { WritesOn self.old.cached self.new.cached }
+        ensures { StepsOn M.state M.follows result self.old self.new }
     {
         let numbers = self.frozen.numbers();
         match self
@@ -134,11 +112,7 @@ impl<M: Medium> Store<M> {
     pub(crate) fn retire(&mut self) -> Result<(), StoreFault>
         requires live { is_dead self.old.cached ≡ false }
         requires idle { self.old.cached.log.steps_left ≡ 0 }
-        ensures passes { PassesOn M.state M.follows IsTurn 2 2 self.old self.new }
-        ensures retiring { IsRetiring (M.state self.old.medium) (M.state self.new.medium)
-            self.old.cached self.new.cached }
-        ensures answer { TellsLife result self.new.cached }
-        ensures counts { CountsRetired self.old self.new }
+        ensures { RetiresOn M.state M.follows result self.old self.new }
     {
         match self.log.retire_step(&mut self.medium) {
             Ok(()) => Ok(()),

@@ -10,6 +10,6 @@ returns-clause-keeps g c = record {
       let count = length c.args.bytes.now / 512 in
       rw (← c.self.view_is)
       (appends_write (g.M.Medium.state m) (g.met.M.Medium.sound m) _ c.put.new.self
-      c.args.address c.args.bytes.now count c.put.ensures.map);
+      c.args.address c.args.bytes.now count c.put.ensures.over.map);
   medium = search rules;
 }

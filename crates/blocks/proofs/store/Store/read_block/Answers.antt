@@ -12,8 +12,8 @@ same_map old new b found same is = subst (λ (batch : Entries). map_of batch b �
 
 pub returns-in-Ok-clause-ok : goal.returns-in-Ok-clause-ok
 returns-in-Ok-clause-ok g c book fits =
-    let active = same_map _ _ c.args.block None (ap (λ v. v.cached.active) c.self.view_is) (c.in_default.ensures.none.0 refl) in
-    let frozen = same_map _ _ c.args.block None (ap (λ v. v.cached.frozen) c.self.view_is) (c.in_default-older.ensures.none.0 refl) in
+    let active = same_map _ _ c.args.block None (ap (λ v. v.cached.active) c.self.view_is) (c.in_default.ensures.gets.none.0 refl) in
+    let frozen = same_map _ _ c.args.block None (ap (λ v. v.cached.frozen) c.self.view_is) (c.in_default-older.ensures.gets.none.0 refl) in
     c.in-Ok.ensures.ok book fits
     ∙ durable_is (g.M.Medium.state c.args.self.now.medium) c.args.self.now.cached book fits c.args.block c.requires.inside active frozen
 
@@ -24,7 +24,7 @@ returns-in-Some-clause-cost g c = record {
   none_sent = search rules;
   exactly =
       let same = ap (λ v. v.cached.active) c.self.view_is in
-      let there = same_map _ _ c.args.block (Some c.in-Some.bytes.now) same c.in-Some.ensures.some in
+      let there = same_map _ _ c.args.block (Some c.in-Some.bytes.now) same c.in-Some.ensures.gets.some in
       omega (arith, reads_active c.args.self.now.cached c.args.block c.in-Some.bytes.now there);
 }
 
@@ -35,7 +35,7 @@ returns-in-Some-older-clause-cost g c = record {
   none_sent = search rules;
   exactly =
       let same = ap (λ v. v.cached.frozen) c.self.view_is in
-      let there = same_map _ _ c.args.block (Some c.in-Some-older.bytes.now) same c.in-Some-older.ensures.some in
+      let there = same_map _ _ c.args.block (Some c.in-Some-older.bytes.now) same c.in-Some-older.ensures.gets.some in
       omega (arith, reads_frozen c.args.self.now.cached c.args.block c.in-Some-older.bytes.now there);
 }
 
@@ -44,13 +44,13 @@ returns-in-Ok-clause-cost g c = record {
   calls = omega (arith, c.read_durable.ensures.cost.calls);
   none_sent = omega (arith, c.read_durable.ensures.cost.none_sent);
   reads =
-      let active = same_map _ _ c.args.block None (ap (λ v. v.cached.active) c.self.view_is) (c.in_default.ensures.none.0 refl) in
-      let frozen = same_map _ _ c.args.block None (ap (λ v. v.cached.frozen) c.self.view_is) (c.in_default-older.ensures.none.0 refl) in
+      let active = same_map _ _ c.args.block None (ap (λ v. v.cached.active) c.self.view_is) (c.in_default.ensures.gets.none.0 refl) in
+      let frozen = same_map _ _ c.args.block None (ap (λ v. v.cached.frozen) c.self.view_is) (c.in_default-older.ensures.gets.none.0 refl) in
       let log = ap (λ v. durable_reads v.cached.log c.args.block) c.self.view_is in
       omega (arith, log, c.read_durable.ensures.cost.reads, reads_copy c.args.self.now.cached c.args.block active frozen);
   exactly =
-      let active = same_map _ _ c.args.block None (ap (λ v. v.cached.active) c.self.view_is) (c.in_default.ensures.none.0 refl) in
-      let frozen = same_map _ _ c.args.block None (ap (λ v. v.cached.frozen) c.self.view_is) (c.in_default-older.ensures.none.0 refl) in
+      let active = same_map _ _ c.args.block None (ap (λ v. v.cached.active) c.self.view_is) (c.in_default.ensures.gets.none.0 refl) in
+      let frozen = same_map _ _ c.args.block None (ap (λ v. v.cached.frozen) c.self.view_is) (c.in_default-older.ensures.gets.none.0 refl) in
       let log = ap (λ v. durable_reads v.cached.log c.args.block) c.self.view_is in
       omega (arith, log, c.in-Ok.ensures.cost.exactly, reads_copy c.args.self.now.cached c.args.block active frozen);
 }
@@ -60,8 +60,8 @@ returns-in-Err-clause-cost g c = record {
   calls = omega (arith, c.read_durable.ensures.cost.calls);
   none_sent = omega (arith, c.read_durable.ensures.cost.none_sent);
   reads =
-      let active = same_map _ _ c.args.block None (ap (λ v. v.cached.active) c.self.view_is) (c.in_default.ensures.none.0 refl) in
-      let frozen = same_map _ _ c.args.block None (ap (λ v. v.cached.frozen) c.self.view_is) (c.in_default-older.ensures.none.0 refl) in
+      let active = same_map _ _ c.args.block None (ap (λ v. v.cached.active) c.self.view_is) (c.in_default.ensures.gets.none.0 refl) in
+      let frozen = same_map _ _ c.args.block None (ap (λ v. v.cached.frozen) c.self.view_is) (c.in_default-older.ensures.gets.none.0 refl) in
       let log = ap (λ v. durable_reads v.cached.log c.args.block) c.self.view_is in
       omega (arith, log, c.read_durable.ensures.cost.reads, reads_copy c.args.self.now.cached c.args.block active frozen);
   exactly = search rules;

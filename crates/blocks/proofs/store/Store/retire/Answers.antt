@@ -22,60 +22,62 @@ invariant_of-self g c =
           c.self.invariant
     ]
 
-pub returns-clause-retiring : goal.returns-clause-retiring
-returns-clause-retiring g c =
-    let i = c.self.inside in
-    let before = g.M.Medium.state i.medium in
-    let after = g.M.Medium.state c.retire_step.new.m in
-    let live = ap (λ v. v.cached.log.dead) c.self.view_is ∙ c.requires.live in
-    elim c.match-retire_step.branch [
-      | in-Ok w ↦
-          rw (← c.self.view_is)
-          (is_retiring before after _ c.retire_step.new.self
-          (λ none. (
-            (w.in-Ok.ensures.none none).1,
-            subst (λ m. IsUnchanged (g.M.Medium.state c.self.inside.medium) (g.M.Medium.state m))
-                (sym (w.in-Ok.ensures.none none).2) (unchanged before),
-          ))
-          w.in-Ok.ensures.passes.calls.two w.in-Ok.ensures.passes.calls.exact w.in-Ok.ensures.passes.calls.sent
-          w.in-Ok.ensures.passes.calls.flushed.exact live
-          w.in-Ok.ensures.passes.failures w.in-Ok.ensures.answers.ok)
-      | in-Err w ↦ rw (← c.self.view_is)
-          (is_dying before after _ c.retire_step.new.self (λ none. absurd (false≢true (w.in-Err.ensures.none none).0))
-          w.in-Err.ensures.passes.calls.two w.in-Err.ensures.passes.calls.sent w.in-Err.ensures.passes.calls.flushed.most
-          w.in-Err.ensures.passes.failures
-          w.in-Err.ensures.answers.err)
-    ]
-
-pub returns-clause-passes : goal.returns-clause-passes
-returns-clause-passes g c = record {
-  policy = search rules;
-  turn =
-      let before = g.M.Medium.state c.self.inside.medium in
+pub returns : goal.returns
+returns g c = record {
+  passes = record {
+    policy = search rules;
+    turn =
+        let before = g.M.Medium.state c.self.inside.medium in
+        let after = g.M.Medium.state c.retire_step.new.m in
+        elim c.match-retire_step.branch [
+          | in-Ok w ↦
+              rw (← c.self.view_is)
+              (retires before after _ c.retire_step.new.self (λ none. (w.in-Ok.ensures.none none).1) w.in-Ok.ensures.answers.ok
+              (omega (arith, w.in-Ok.ensures.passes.failures)) w.in-Ok.ensures.passes.size w.in-Ok.ensures.holds
+              w.in-Ok.ensures.leaves.cuts w.in-Ok.ensures.leaves.spares)
+          | in-Err w ↦
+              rw (← c.self.view_is)
+              (dies before after _ c.retire_step.new.self w.in-Err.ensures.answers.err (omega (arith, w.in-Err.ensures.passes.failures))
+              w.in-Err.ensures.passes.size (λ book f. w.in-Err.ensures.holds f.view f.holds) w.in-Err.ensures.leaves.cuts
+              w.in-Err.ensures.leaves.spares)
+        ];
+    calls = search rules;
+    sent =
+        let few = few_next c.self.inside.log in
+        elim c.match-retire_step.branch [
+          | in-Ok w ↦ rw (← c.self.view_is) (omega (arith, w.in-Ok.ensures.passes.calls.sent, few))
+          | in-Err w ↦ rw (← c.self.view_is) (omega (arith, w.in-Err.ensures.passes.calls.sent, few))
+        ];
+    none_refused = search rules;
+    follows = search rules;
+    looks = elim c.match-retire_step.branch [
+      | in-Ok w ↦ rw (← c.self.view_is) w.in-Ok.ensures.leaves.looks
+      | in-Err w ↦ rw (← c.self.view_is) w.in-Err.ensures.leaves.looks
+    ];
+  };
+  retiring =
+      let i = c.self.inside in
+      let before = g.M.Medium.state i.medium in
       let after = g.M.Medium.state c.retire_step.new.m in
+      let live = ap (λ v. v.cached.log.dead) c.self.view_is ∙ c.requires.live in
       elim c.match-retire_step.branch [
         | in-Ok w ↦
             rw (← c.self.view_is)
-            (retires before after _ c.retire_step.new.self (λ none. (w.in-Ok.ensures.none none).1) w.in-Ok.ensures.answers.ok
-            (omega (arith, w.in-Ok.ensures.passes.failures)) w.in-Ok.ensures.passes.size w.in-Ok.ensures.holds
-            w.in-Ok.ensures.leaves.cuts w.in-Ok.ensures.leaves.spares)
-        | in-Err w ↦
-            rw (← c.self.view_is)
-            (dies before after _ c.retire_step.new.self w.in-Err.ensures.answers.err (omega (arith, w.in-Err.ensures.passes.failures))
-            w.in-Err.ensures.passes.size (λ book f. w.in-Err.ensures.holds f.view f.holds) w.in-Err.ensures.leaves.cuts
-            w.in-Err.ensures.leaves.spares)
+            (is_retiring before after _ c.retire_step.new.self
+            (λ none. (
+              (w.in-Ok.ensures.none none).1,
+              subst (λ m. IsUnchanged (g.M.Medium.state c.self.inside.medium) (g.M.Medium.state m))
+                  (sym (w.in-Ok.ensures.none none).2) (unchanged before),
+            ))
+            w.in-Ok.ensures.passes.calls.two w.in-Ok.ensures.passes.calls.exact w.in-Ok.ensures.passes.calls.sent
+            w.in-Ok.ensures.passes.calls.flushed.exact live
+            w.in-Ok.ensures.passes.failures w.in-Ok.ensures.answers.ok)
+        | in-Err w ↦ rw (← c.self.view_is)
+            (is_dying before after _ c.retire_step.new.self (λ none. absurd (false≢true (w.in-Err.ensures.none none).0))
+            w.in-Err.ensures.passes.calls.two w.in-Err.ensures.passes.calls.sent w.in-Err.ensures.passes.calls.flushed.most
+            w.in-Err.ensures.passes.failures
+            w.in-Err.ensures.answers.err)
       ];
-  calls = search rules;
-  sent =
-      let few = few_next c.self.inside.log in
-      elim c.match-retire_step.branch [
-        | in-Ok w ↦ rw (← c.self.view_is) (omega (arith, w.in-Ok.ensures.passes.calls.sent, few))
-        | in-Err w ↦ rw (← c.self.view_is) (omega (arith, w.in-Err.ensures.passes.calls.sent, few))
-      ];
-  none_refused = search rules;
-  follows = search rules;
-  looks = elim c.match-retire_step.branch [
-    | in-Ok w ↦ rw (← c.self.view_is) w.in-Ok.ensures.leaves.looks
-    | in-Err w ↦ rw (← c.self.view_is) w.in-Err.ensures.leaves.looks
-  ];
+  answer = search rules;
+  counts = search rules;
 }
