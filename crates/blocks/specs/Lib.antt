@@ -11,6 +11,7 @@ pub mod Limit
 pub mod Looks
 pub mod Opening
 pub mod Passing
+pub mod Reads
 pub mod Retiring
 pub mod Sent
 pub mod Settled

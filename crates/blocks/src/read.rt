@@ -1,16 +1,13 @@
 //! How blocks are read.
-ghost use Rattle.std.specs.Prelude.{◌≡◌, ◌<◌, ◌+◌, ◌*◌, ◌/◌, ◌^◌, ◌≤◌, false, None, [], IsTrue};
-ghost use Rattle.std.specs.Prelude.{length, OnOk, IfErr, OnErr};
-ghost use Rattle.cache.specs.Blocks.{unlisted};
-ghost use Rattle.cache.specs.Entries.{map_of};
-ghost use Rattle.cache.specs.Places.{HasPlace};
-ghost use Rattle.medium.specs.declared.fault.MediumFault.TheVariants as medium_fault;
+ghost use Rattle.std.specs.Prelude.{◌≡◌, ◌+◌, ◌*◌, ◌/◌, ◌^◌, ◌≤◌, false, length, IsTrue, OnOk};
 ghost use Rattle.spec.specs.Book.{Book, array_of, blocks_at};
 ghost use Rattle.blocks.specs.Book.{IsTransfer};
 ghost use Rattle.blocks.specs.StoreValue.{blocks_of, transfer_limit, is_dead, FitsBook};
-ghost use Rattle.blocks.specs.Turns.{IsTurn, IsReadCause};
+ghost use Rattle.blocks.specs.Turns.{IsTurn};
 ghost use Rattle.blocks.specs.Passing.{KeepsStore, RefusesRead};
-ghost use Rattle.blocks.specs.Calls.{durable_reads, block_reads, reads_of, CostsReads};
+ghost use Rattle.blocks.specs.Calls.{reads_of, CostsReads};
+ghost use Rattle.blocks.specs.Reads.{IsReadable, HasPlaces, IsAtHome, AreAtHome};
+ghost use Rattle.blocks.specs.Reads.{ReadsBlock, ReadsNext, ReadsBlocks, ReadsDurable};
 
 use crate::{Store, StoreFault};
 use cache::BLOCK;
@@ -64,20 +61,11 @@ impl<M: Medium> Store<M> {
         frozen: &mut usize,
         to: &mut [u8],
     ) -> Result<(), StoreFault>
-        requires live { is_dead self.old.cached ≡ false }
-        requires inside { block < blocks_of self.old.cached }
-        requires active { HasPlace self.old.cached.active.numbers block active.old }
-        requires frozen { HasPlace self.old.cached.frozen.numbers block frozen.old }
+        requires readable { IsReadable self.old.cached block }
+        requires places { HasPlaces self.old.cached block active.old frozen.old }
         requires size { length to.old ≡ 512 }
-        ensures ok { (book : Book) → FitsBook (M.state self.old.medium) self.old.cached book
-            → OnOk result (to.new ≡ array_of book block) }
-        ensures err { IfErr result (λ fault. IsReadCause (M.state self.old.medium)
-            (M.state self.new.medium) self.old.cached fault) }
-        ensures keeps { KeepsStore M.state M.follows block 1 self.old self.new }
-        ensures cost { CostsReads result 2 (block_reads self.old.cached block)
-            (M.state self.old.medium) (M.state self.new.medium) }
-        ensures next { (HasPlace self.old.cached.active.numbers (block + 1) active.new)
-            × (HasPlace self.old.cached.frozen.numbers (block + 1) frozen.new) }
+        ensures { ReadsNext M.state M.follows result block to.new active.new frozen.new
+            self.old self.new }
     {
         let older = self.frozen.get_at(frozen, block);
         if let Some(bytes) = self.active.get_at(active, block) {
@@ -102,11 +90,7 @@ impl<M: Medium> Store<M> {
     #[inline]
     fn are_at_home(&self, address: u64, count: usize) -> bool
         requires { address + count ≤ 2 ^ 31 }
-        ensures active { IsTrue result
-            → unlisted self.now.cached.active.numbers address count ≡ count }
-        ensures frozen { IsTrue result
-            → unlisted self.now.cached.frozen.numbers address count ≡ count }
-        ensures log { IsTrue result → self.now.cached.log.waiting ≡ [] }
+        ensures { IsTrue result → AreAtHome self.now.cached address count }
     {
         self.log.is_retired()
             && self.active.is_disjoint(address, count)
@@ -118,23 +102,10 @@ impl<M: Medium> Store<M> {
         requires live { is_dead self.old.cached ≡ false }
         requires range { IsTransfer (transfer_limit self.old.cached) (blocks_of self.old.cached)
             address (length to.old) }
-        requires active { unlisted self.old.cached.active.numbers address (length to.old / 512)
-            ≡ length to.old / 512 }
-        requires frozen { unlisted self.old.cached.frozen.numbers address (length to.old / 512)
-            ≡ length to.old / 512 }
-        requires log { self.old.cached.log.waiting ≡ [] }
+        requires home { AreAtHome self.old.cached address (length to.old / 512) }
         requires small { address + length to.old / 512 ≤ 2 ^ 31 }
-        ensures ok { (book : Book) → FitsBook (M.state self.old.medium) self.old.cached book
-            → OnOk result (to.new ≡ blocks_at (array_of book) address (length to.old / 512)) }
-        ensures err { IfErr result (λ fault. IsReadCause (M.state self.old.medium)
-            (M.state self.new.medium) self.old.cached fault) }
-        ensures keeps { KeepsStore M.state M.follows address (length to.old / 512)
+        ensures { ReadsBlocks M.state M.follows result address (length to.old / 512) to.new
             self.old self.new }
-        ensures turn { IsTurn (M.state self.old.medium) (M.state self.new.medium)
-            self.old.cached self.new.cached }
-        ensures cost { CostsReads result (2 * (length to.old / 512))
-            (reads_of self.old.cached address (length to.old / 512))
-            (M.state self.old.medium) (M.state self.new.medium) }
     {
         for i in 0..to.len() / BLOCK {
             let at = i * BLOCK;
@@ -146,19 +117,10 @@ impl<M: Medium> Store<M> {
     // Reads one block that is at home alone.
     #[inline]
     fn read_home_block(&mut self, block: u64, to: &mut [u8]) -> Result<(), StoreFault>
-        requires live { is_dead self.old.cached ≡ false }
-        requires inside { block < blocks_of self.old.cached }
-        requires active { map_of self.old.cached.active block ≡ None }
-        requires frozen { map_of self.old.cached.frozen block ≡ None }
-        requires log { self.old.cached.log.waiting ≡ [] }
+        requires readable { IsReadable self.old.cached block }
+        requires home { IsAtHome self.old.cached block }
         requires size { length to.old ≡ 512 }
-        ensures ok { (book : Book) → FitsBook (M.state self.old.medium) self.old.cached book
-            → OnOk result (to.new ≡ array_of book block) }
-        ensures err { IfErr result (λ fault. IsReadCause (M.state self.old.medium)
-            (M.state self.new.medium) self.old.cached fault) }
-        ensures keeps { KeepsStore M.state M.follows block 1 self.old self.new }
-        ensures cost { CostsReads result 2 (block_reads self.old.cached block)
-            (M.state self.old.medium) (M.state self.new.medium) }
+        ensures { ReadsBlock M.state M.follows result block to.new self.old self.new }
     {
         let Some(to) = to.as_mut_array() else {
             unreachable!()
@@ -171,18 +133,8 @@ impl<M: Medium> Store<M> {
 
     // Reads the newest logged copy of a block, or the block at home where there is none.
     fn read_durable(&mut self, block: u64, to: &mut [u8; BLOCK]) -> Result<(), MediumFault>
-        requires live { is_dead self.old.cached ≡ false }
-        requires inside { block < blocks_of self.old.cached }
-        ensures ok { (book : Book)
-            → (fits : FitsBook (M.state self.old.medium) self.old.cached book)
-            → OnOk result (to.new ≡ fits.view.array block) }
-        ensures err { OnErr result (((M.state self.old.medium).failures
-            < (M.state self.new.medium).failures)
-            × ((M.state self.old.medium).refused medium_fault.Read
-            < (M.state self.new.medium).refused medium_fault.Read)) }
-        ensures keeps { KeepsStore M.state M.follows block 1 self.old self.new }
-        ensures cost { CostsReads result 2 (durable_reads self.old.cached.log block)
-            (M.state self.old.medium) (M.state self.new.medium) }
+        requires { IsReadable self.old.cached block }
+        ensures { ReadsDurable M.state M.follows result block to.new self.old self.new }
     {
         match self.log.find(block) {
             Some((slot, place)) => self.log.read_copy(&mut self.medium, slot, place, to),

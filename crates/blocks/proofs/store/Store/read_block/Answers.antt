@@ -10,99 +10,125 @@ use Rattle.blocks.proofs.store.Store.read_block.Goals as goal
 same_map : (old new : Entries) (b : ℕ) (found : Option (List ℕ)) → old ≡ new → map_of old b ≡ found → map_of new b ≡ found
 same_map old new b found same is = subst (λ (batch : Entries). map_of batch b ≡ found) same is
 
-pub returns-in-Ok-clause-ok : goal.returns-in-Ok-clause-ok
-returns-in-Ok-clause-ok g c book fits =
-    let active = same_map _ _ c.args.block None (ap (λ v. v.cached.active) c.self.view_is) (c.in_default.ensures.gets.none.0 refl) in
-    let frozen = same_map _ _ c.args.block None (ap (λ v. v.cached.frozen) c.self.view_is) (c.in_default-older.ensures.gets.none.0 refl) in
-    c.in-Ok.ensures.ok book fits
-    ∙ durable_is (g.M.Medium.state c.args.self.now.medium) c.args.self.now.cached book fits c.args.block c.requires.inside active frozen
-
-pub returns-in-Some-clause-cost : goal.returns-in-Some-clause-cost
-returns-in-Some-clause-cost g c = record {
-  calls = search rules;
-  reads = search rules;
-  none_sent = search rules;
-  exactly =
-      let same = ap (λ v. v.cached.active) c.self.view_is in
-      let there = same_map _ _ c.args.block (Some c.in-Some.bytes.now) same c.in-Some.ensures.gets.some in
-      omega (arith, reads_active c.args.self.now.cached c.args.block c.in-Some.bytes.now there);
+pub returns-in-Ok : goal.returns-in-Ok
+returns-in-Ok g c = record {
+  reads = record {
+    ok = λ book fits.
+        let none = c.in_default.ensures.gets.none.0 refl in
+        let active = same_map _ _ c.args.block None (ap (λ v. v.cached.active) c.self.view_is) none in
+        let none = c.in_default-older.ensures.gets.none.0 refl in
+        let frozen = same_map _ _ c.args.block None (ap (λ v. v.cached.frozen) c.self.view_is) none in
+        c.in-Ok.ensures.ok book fits
+        ∙ durable_is (g.M.Medium.state c.args.self.now.medium) c.args.self.now.cached book fits c.args.block c.requires.readable.inside
+        active frozen;
+    err = search rules;
+    keeps = record {
+      policy = search rules;
+      stays = search rules;
+      quiet = search rules;
+      follows = search rules;
+      looks = c.read_durable.ensures.keeps.looks;
+    };
+    cost = record {
+      calls = omega (arith, c.read_durable.ensures.cost.calls);
+      none_sent = omega (arith, c.read_durable.ensures.cost.none_sent);
+      reads =
+          let none = c.in_default.ensures.gets.none.0 refl in
+          let active = same_map _ _ c.args.block None (ap (λ v. v.cached.active) c.self.view_is) none in
+          let none = c.in_default-older.ensures.gets.none.0 refl in
+          let frozen = same_map _ _ c.args.block None (ap (λ v. v.cached.frozen) c.self.view_is) none in
+          let log = ap (λ v. durable_reads v.cached.log c.args.block) c.self.view_is in
+          omega (arith, log, c.read_durable.ensures.cost.reads, reads_copy c.args.self.now.cached c.args.block active frozen);
+      exactly =
+          let none = c.in_default.ensures.gets.none.0 refl in
+          let active = same_map _ _ c.args.block None (ap (λ v. v.cached.active) c.self.view_is) none in
+          let none = c.in_default-older.ensures.gets.none.0 refl in
+          let frozen = same_map _ _ c.args.block None (ap (λ v. v.cached.frozen) c.self.view_is) none in
+          let log = ap (λ v. durable_reads v.cached.log c.args.block) c.self.view_is in
+          omega (arith, log, c.in-Ok.ensures.cost.exactly, reads_copy c.args.self.now.cached c.args.block active frozen);
+    };
+  };
+  next = search rules;
 }
 
-pub returns-in-Some-older-clause-cost : goal.returns-in-Some-older-clause-cost
-returns-in-Some-older-clause-cost g c = record {
-  calls = search rules;
-  reads = search rules;
-  none_sent = search rules;
-  exactly =
-      let same = ap (λ v. v.cached.frozen) c.self.view_is in
-      let there = same_map _ _ c.args.block (Some c.in-Some-older.bytes.now) same c.in-Some-older.ensures.gets.some in
-      omega (arith, reads_frozen c.args.self.now.cached c.args.block c.in-Some-older.bytes.now there);
+pub returns-in-Some : goal.returns-in-Some
+returns-in-Some g c = record {
+  reads = record {
+    ok = search rules;
+    err = search rules;
+    keeps = record {
+      policy = search rules;
+      stays = search rules;
+      quiet = search rules;
+      follows = search rules;
+      looks = rw (← c.self.view_is) (none_read (g.M.Medium.state c.self.inside.medium) (g.M.Medium.state c.self.inside.medium)
+          (record { log = c.self.inside.log; active = c.self.inside.active; frozen = c.self.inside.frozen }) c.args.block 1
+          (λ i. (g.M.Medium.state c.self.inside.medium).looked));
+    };
+    cost = record {
+      calls = search rules;
+      reads = search rules;
+      none_sent = search rules;
+      exactly =
+          let same = ap (λ v. v.cached.active) c.self.view_is in
+          let there = same_map _ _ c.args.block (Some c.in-Some.bytes.now) same c.in-Some.ensures.gets.some in
+          omega (arith, reads_active c.args.self.now.cached c.args.block c.in-Some.bytes.now there);
+    };
+  };
+  next = search rules;
 }
 
-pub returns-in-Ok-clause-cost : goal.returns-in-Ok-clause-cost
-returns-in-Ok-clause-cost g c = record {
-  calls = omega (arith, c.read_durable.ensures.cost.calls);
-  none_sent = omega (arith, c.read_durable.ensures.cost.none_sent);
-  reads =
-      let active = same_map _ _ c.args.block None (ap (λ v. v.cached.active) c.self.view_is) (c.in_default.ensures.gets.none.0 refl) in
-      let frozen = same_map _ _ c.args.block None (ap (λ v. v.cached.frozen) c.self.view_is) (c.in_default-older.ensures.gets.none.0 refl) in
-      let log = ap (λ v. durable_reads v.cached.log c.args.block) c.self.view_is in
-      omega (arith, log, c.read_durable.ensures.cost.reads, reads_copy c.args.self.now.cached c.args.block active frozen);
-  exactly =
-      let active = same_map _ _ c.args.block None (ap (λ v. v.cached.active) c.self.view_is) (c.in_default.ensures.gets.none.0 refl) in
-      let frozen = same_map _ _ c.args.block None (ap (λ v. v.cached.frozen) c.self.view_is) (c.in_default-older.ensures.gets.none.0 refl) in
-      let log = ap (λ v. durable_reads v.cached.log c.args.block) c.self.view_is in
-      omega (arith, log, c.in-Ok.ensures.cost.exactly, reads_copy c.args.self.now.cached c.args.block active frozen);
+pub returns-in-Some-older : goal.returns-in-Some-older
+returns-in-Some-older g c = record {
+  reads = record {
+    ok = search rules;
+    err = search rules;
+    keeps = record {
+      policy = search rules;
+      stays = search rules;
+      quiet = search rules;
+      follows = search rules;
+      looks = rw (← c.self.view_is) (none_read (g.M.Medium.state c.self.inside.medium) (g.M.Medium.state c.self.inside.medium)
+          (record { log = c.self.inside.log; active = c.self.inside.active; frozen = c.self.inside.frozen }) c.args.block 1
+          (λ i. (g.M.Medium.state c.self.inside.medium).looked));
+    };
+    cost = record {
+      calls = search rules;
+      reads = search rules;
+      none_sent = search rules;
+      exactly =
+          let same = ap (λ v. v.cached.frozen) c.self.view_is in
+          let there = same_map _ _ c.args.block (Some c.in-Some-older.bytes.now) same c.in-Some-older.ensures.gets.some in
+          omega (arith, reads_frozen c.args.self.now.cached c.args.block c.in-Some-older.bytes.now there);
+    };
+  };
+  next = search rules;
 }
 
-pub returns-in-Err-clause-cost : goal.returns-in-Err-clause-cost
-returns-in-Err-clause-cost g c = record {
-  calls = omega (arith, c.read_durable.ensures.cost.calls);
-  none_sent = omega (arith, c.read_durable.ensures.cost.none_sent);
-  reads =
-      let active = same_map _ _ c.args.block None (ap (λ v. v.cached.active) c.self.view_is) (c.in_default.ensures.gets.none.0 refl) in
-      let frozen = same_map _ _ c.args.block None (ap (λ v. v.cached.frozen) c.self.view_is) (c.in_default-older.ensures.gets.none.0 refl) in
-      let log = ap (λ v. durable_reads v.cached.log c.args.block) c.self.view_is in
-      omega (arith, log, c.read_durable.ensures.cost.reads, reads_copy c.args.self.now.cached c.args.block active frozen);
-  exactly = search rules;
-}
-
-pub returns-in-Some-clause-keeps : goal.returns-in-Some-clause-keeps
-returns-in-Some-clause-keeps g c = record {
-  policy = search rules;
-  stays = search rules;
-  quiet = search rules;
-  follows = search rules;
-  looks = rw (← c.self.view_is) (none_read (g.M.Medium.state c.self.inside.medium) (g.M.Medium.state c.self.inside.medium)
-      (record { log = c.self.inside.log; active = c.self.inside.active; frozen = c.self.inside.frozen }) c.args.block 1
-      (λ i. (g.M.Medium.state c.self.inside.medium).looked));
-}
-
-pub returns-in-Some-older-clause-keeps : goal.returns-in-Some-older-clause-keeps
-returns-in-Some-older-clause-keeps g c = record {
-  policy = search rules;
-  stays = search rules;
-  quiet = search rules;
-  follows = search rules;
-  looks = rw (← c.self.view_is) (none_read (g.M.Medium.state c.self.inside.medium) (g.M.Medium.state c.self.inside.medium)
-      (record { log = c.self.inside.log; active = c.self.inside.active; frozen = c.self.inside.frozen }) c.args.block 1
-      (λ i. (g.M.Medium.state c.self.inside.medium).looked));
-}
-
-pub returns-in-Ok-clause-keeps : goal.returns-in-Ok-clause-keeps
-returns-in-Ok-clause-keeps g c = record {
-  policy = search rules;
-  stays = search rules;
-  quiet = search rules;
-  follows = search rules;
-  looks = c.read_durable.ensures.keeps.looks;
-}
-
-pub returns-in-Err-clause-keeps : goal.returns-in-Err-clause-keeps
-returns-in-Err-clause-keeps g c = record {
-  policy = search rules;
-  stays = search rules;
-  quiet = search rules;
-  follows = search rules;
-  looks = c.read_durable.ensures.keeps.looks;
+pub returns-in-Err : goal.returns-in-Err
+returns-in-Err g c = record {
+  reads = record {
+    ok = search rules;
+    err = search rules;
+    keeps = record {
+      policy = search rules;
+      stays = search rules;
+      quiet = search rules;
+      follows = search rules;
+      looks = c.read_durable.ensures.keeps.looks;
+    };
+    cost = record {
+      calls = omega (arith, c.read_durable.ensures.cost.calls);
+      none_sent = omega (arith, c.read_durable.ensures.cost.none_sent);
+      reads =
+          let none = c.in_default.ensures.gets.none.0 refl in
+          let active = same_map _ _ c.args.block None (ap (λ v. v.cached.active) c.self.view_is) none in
+          let none = c.in_default-older.ensures.gets.none.0 refl in
+          let frozen = same_map _ _ c.args.block None (ap (λ v. v.cached.frozen) c.self.view_is) none in
+          let log = ap (λ v. durable_reads v.cached.log c.args.block) c.self.view_is in
+          omega (arith, log, c.read_durable.ensures.cost.reads, reads_copy c.args.self.now.cached c.args.block active frozen);
+      exactly = search rules;
+    };
+  };
+  next = search rules;
 }

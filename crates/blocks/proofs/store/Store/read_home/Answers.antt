@@ -2,13 +2,15 @@ use Rattle.std.proofs.Common.{◌≡◌, ◌≤◌, ◌<◌, ◌+◌, ◌-◌, �
 use Rattle.std.proofs.Common.{◌∙◌, ap, arith, subst, sym, refl}
 use Rattle.std.specs.Prelude.{if◌then◌else◌, is_some}
 use Rattle.std.proofs.lemmas.Bool.{false≢true}
+use Rattle.std.proofs.lemmas.List.{take_all}
 use Rattle.cache.specs.Blocks.{is_listed, absent, unlisted}
 use Rattle.cache.specs.Entries.{Entries, map_of}
 use Rattle.cache.proofs.Arrays.{unlisted_most}
 use Rattle.cache.proofs.Maps.{listed_is}
 use Rattle.medium.proofs.Moments.{quiet_joined}
-use Rattle.spec.specs.Book.{array_of}
+use Rattle.spec.specs.Book.{array_of, blocks_at}
 use Rattle.blocks.specs.StoreValue.{Cached, FitsBook}
+use Rattle.blocks.specs.Reads.{IsAtHome}
 use Rattle.blocks.specs.Turns.{IsTurn}
 use Rattle.blocks.proofs.Turning.{quiet_turn}
 use Rattle.blocks.proofs.Reading.{put_block}
@@ -49,34 +51,82 @@ none_at batch address count i all lt =
     nothing (map_of batch (address + i))
     (sym (listed_is batch.numbers batch.bytes (address + i)) ∙ unlisted_at batch.numbers address count i all lt)
 
-pub read_home_block-requires-clause-active : goal.read_home_block-requires-clause-active
-read_home_block-requires-clause-active g c =
-    subst (λ (s : Cached). map_of s.active (c.args.address + c.loop-i.i) ≡ None) (sym c.loop-i.invariant.stays)
-    (none_at c.args.self.now.cached.active c.args.address (length c.args.to.now / 512) c.loop-i.i
-    c.requires.active (omega (arith, c.loop-i-test.true)))
+pub read_home_block-requires-clause-home : goal.read_home_block-requires-clause-home
+read_home_block-requires-clause-home g c =
+    let s = c.args.self.now.cached in
+    let count = length c.args.to.now / 512 in
+    let home = c.requires.home in
+    subst (λ (s : Cached). IsAtHome s (c.args.address + c.loop-i.i)) (sym c.loop-i.invariant.stays) (record {
+      active = none_at s.active c.args.address count c.loop-i.i home.active (omega (arith, c.loop-i-test.true));
+      frozen = none_at s.frozen c.args.address count c.loop-i.i home.frozen (omega (arith, c.loop-i-test.true));
+      log = home.log;
+    })
 
-pub read_home_block-requires-clause-frozen : goal.read_home_block-requires-clause-frozen
-read_home_block-requires-clause-frozen g c =
-    subst (λ (s : Cached). map_of s.frozen (c.args.address + c.loop-i.i) ≡ None) (sym c.loop-i.invariant.stays)
-    (none_at c.args.self.now.cached.frozen c.args.address (length c.args.to.now / 512) c.loop-i.i
-    c.requires.frozen (omega (arith, c.loop-i-test.true)))
+pub returns-in_err-read_home_block : goal.returns-in_err-read_home_block
+returns-in_err-read_home_block g c = record {
+  ok = search rules;
+  err = search rules;
+  keeps = record {
+    policy = search rules;
+    stays = search rules;
+    quiet = quiet_joined _ _ _ c.loop-i.invariant.quiet c.read_home_block.ensures.keeps.quiet;
+    follows = g.met.M.Medium.follows_through _ _ _ c.loop-i.invariant.follows c.read_home_block.ensures.keeps.follows;
+    looks =
+        fewer_read (g.M.Medium.state c.args.self.now.medium) (g.M.Medium.state c.read_home_block.new.self.medium) c.args.self.now.cached
+        c.args.address (c.loop-i.i + 1) (length c.args.to.now / 512) (omega (arith, c.loop-i-test.true))
+        (one_more (g.M.Medium.state c.args.self.now.medium) (g.M.Medium.state c.loop-i.self.medium)
+        (g.M.Medium.state c.read_home_block.new.self.medium) c.args.self.now.cached c.loop-i.self.cached c.args.address c.loop-i.i
+        c.loop-i.invariant.stays c.loop-i.invariant.looks c.read_home_block.ensures.keeps.looks);
+  };
+  turn =
+      let before = g.M.Medium.state c.args.self.now.medium in
+      let mid = g.M.Medium.state c.loop-i.self.medium in
+      let after = g.M.Medium.state c.read_home_block.new.self.medium in
+      let stays = c.read_home_block.ensures.keeps.stays ∙ c.loop-i.invariant.stays in
+      let quiet = quiet_joined before mid after c.loop-i.invariant.quiet c.read_home_block.ensures.keeps.quiet in
+      let turn = quiet_turn before after c.args.self.now.cached (g.met.M.Medium.sound c.args.self.now.medium) quiet in
+      subst (IsTurn before after c.args.self.now.cached) (sym stays) turn;
+  cost = record {
+    calls = search rules;
+    none_sent = omega (arith, c.loop-i.invariant.none_sent, c.read_home_block.ensures.cost.none_sent);
+    reads =
+        let same = ap (λ (s : Cached). block_reads s (c.args.address + c.loop-i.i)) c.loop-i.invariant.stays in
+        let more : c.loop-i.i + 1 ≤ length c.args.to.now / 512 = omega (arith, c.loop-i-test.true) in
+        omega (
+          arith,
+          c.loop-i.invariant.reads,
+          c.read_home_block.ensures.cost.reads,
+          same,
+          reads_more c.args.self.now.cached c.args.address c.loop-i.i,
+          reads_within c.args.self.now.cached c.args.address (c.loop-i.i + 1) (length c.args.to.now / 512) more,
+        );
+    exactly = search rules;
+  };
+}
 
-pub returns-in_err-read_home_block-clause-turn : goal.returns-in_err-read_home_block-clause-turn
-returns-in_err-read_home_block-clause-turn g c =
-    let before = g.M.Medium.state c.args.self.now.medium in
-    let mid = g.M.Medium.state c.loop-i.self.medium in
-    let after = g.M.Medium.state c.read_home_block.new.self.medium in
-    let stays = c.read_home_block.ensures.keeps.stays ∙ c.loop-i.invariant.stays in
-    let quiet = quiet_joined before mid after c.loop-i.invariant.quiet c.read_home_block.ensures.keeps.quiet in
-    let turn = quiet_turn before after c.args.self.now.cached (g.met.M.Medium.sound c.args.self.now.medium) quiet in
-    subst (IsTurn before after c.args.self.now.cached) (sym stays) turn
-
-pub returns-clause-turn : goal.returns-clause-turn
-returns-clause-turn g c =
-    let before = g.M.Medium.state c.args.self.now.medium in
-    let after = g.M.Medium.state c.loop-i.self.medium in
-    subst (IsTurn before after c.args.self.now.cached) (sym c.loop-i.invariant.stays)
-    (quiet_turn before after c.args.self.now.cached (g.met.M.Medium.sound c.args.self.now.medium) c.loop-i.invariant.quiet)
+pub returns : goal.returns
+returns g c = record {
+  ok = λ book fits.
+      let all : c.loop-i.i ≡ length c.args.to.now / 512 = omega arith in
+      let long : length c.loop-i.to ≤ 512 * c.loop-i.i = omega (arith, c.loop-i.auto.to, all, c.requires.range.whole) in
+      sym (take_all (512 * c.loop-i.i) c.loop-i.to long)
+      ∙ (c.loop-i.invariant.so_far book fits ∙ ap (λ (n : ℕ). blocks_at (array_of book) c.args.address n) all);
+  err = search rules;
+  keeps = record {
+    policy = search rules;
+    stays = search rules;
+    quiet = search rules;
+    follows = search rules;
+    looks = fewer_read (g.M.Medium.state c.args.self.now.medium) (g.M.Medium.state c.loop-i.self.medium) c.args.self.now.cached
+        c.args.address c.loop-i.i (length c.args.to.now / 512) (omega arith) c.loop-i.invariant.looks;
+  };
+  turn =
+      let before = g.M.Medium.state c.args.self.now.medium in
+      let after = g.M.Medium.state c.loop-i.self.medium in
+      subst (IsTurn before after c.args.self.now.cached) (sym c.loop-i.invariant.stays)
+      (quiet_turn before after c.args.self.now.cached (g.met.M.Medium.sound c.args.self.now.medium) c.loop-i.invariant.quiet);
+  cost = search rules;
+}
 
 pub loop-i-preserved : goal.loop-i-preserved
 loop-i-preserved g c =
@@ -106,45 +156,3 @@ loop-i-preserved g c =
           (omega (arith, c.loop-i-test.true, c.loop-i.auto.to)) c.read_home_block.auto.to (c.loop-i.invariant.so_far book fits)
           (c.in_ok-read_home_block.ensures.ok book here);
     }
-
-pub returns-in_err-read_home_block-clause-cost : goal.returns-in_err-read_home_block-clause-cost
-returns-in_err-read_home_block-clause-cost g c = record {
-  calls = search rules;
-  none_sent = omega (arith, c.loop-i.invariant.none_sent, c.read_home_block.ensures.cost.none_sent);
-  reads =
-      let same = ap (λ (s : Cached). block_reads s (c.args.address + c.loop-i.i)) c.loop-i.invariant.stays in
-      let more : c.loop-i.i + 1 ≤ length c.args.to.now / 512 = omega (arith, c.loop-i-test.true) in
-      omega (
-        arith,
-        c.loop-i.invariant.reads,
-        c.read_home_block.ensures.cost.reads,
-        same,
-        reads_more c.args.self.now.cached c.args.address c.loop-i.i,
-        reads_within c.args.self.now.cached c.args.address (c.loop-i.i + 1) (length c.args.to.now / 512) more,
-      );
-  exactly = search rules;
-}
-
-pub returns-in_err-read_home_block-clause-keeps : goal.returns-in_err-read_home_block-clause-keeps
-returns-in_err-read_home_block-clause-keeps g c = record {
-  policy = search rules;
-  stays = search rules;
-  quiet = quiet_joined _ _ _ c.loop-i.invariant.quiet c.read_home_block.ensures.keeps.quiet;
-  follows = g.met.M.Medium.follows_through _ _ _ c.loop-i.invariant.follows c.read_home_block.ensures.keeps.follows;
-  looks =
-      fewer_read (g.M.Medium.state c.args.self.now.medium) (g.M.Medium.state c.read_home_block.new.self.medium) c.args.self.now.cached
-      c.args.address (c.loop-i.i + 1) (length c.args.to.now / 512) (omega (arith, c.loop-i-test.true))
-      (one_more (g.M.Medium.state c.args.self.now.medium) (g.M.Medium.state c.loop-i.self.medium)
-      (g.M.Medium.state c.read_home_block.new.self.medium) c.args.self.now.cached c.loop-i.self.cached c.args.address c.loop-i.i
-      c.loop-i.invariant.stays c.loop-i.invariant.looks c.read_home_block.ensures.keeps.looks);
-}
-
-pub returns-clause-keeps : goal.returns-clause-keeps
-returns-clause-keeps g c = record {
-  policy = search rules;
-  stays = search rules;
-  quiet = search rules;
-  follows = search rules;
-  looks = fewer_read (g.M.Medium.state c.args.self.now.medium) (g.M.Medium.state c.loop-i.self.medium) c.args.self.now.cached
-      c.args.address c.loop-i.i (length c.args.to.now / 512) (omega arith) c.loop-i.invariant.looks;
-}

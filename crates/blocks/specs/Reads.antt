@@ -1,0 +1,82 @@
+-- What the calls of a store do that read blocks for a caller.
+use Rattle.std.specs.Prelude.{◌≡◌, ◌<◌, ◌+◌, ◌*◌, ℕ, false, List, [], None}
+use Rattle.std.specs.Prelude.{Result, OnOk, OnErr, IfErr}
+use Rattle.medium.specs.Medium.{State}
+use Rattle.medium.specs.declared.fault.MediumFault.{MediumFault}
+use Rattle.medium.specs.declared.fault.MediumFault.TheVariants.{Read}
+use Rattle.cache.specs.Blocks.{unlisted}
+use Rattle.cache.specs.Entries.{map_of}
+use Rattle.cache.specs.Places.{HasPlace}
+use Rattle.spec.specs.Book.{Book, array_of, blocks_at}
+use Rattle.blocks.specs.declared.fault.StoreFault.{StoreFault}
+use Rattle.blocks.specs.Calls.{durable_reads, block_reads, reads_of, CostsReads}
+use Rattle.blocks.specs.Passing.{KeepsStore}
+use Rattle.blocks.specs.StoreValue.{Cached, StoreValue, blocks_of, is_dead, FitsBook}
+use Rattle.blocks.specs.Turns.{IsTurn, IsReadCause}
+
+-- the store is live, and has this block
+pub record IsReadable (s : Cached) (block : ℕ) : Type 0 where
+  pub live : is_dead s ≡ false
+  pub inside : block < blocks_of s
+
+-- the block's places among the numbers of both batches
+pub record HasPlaces (s : Cached) (block first second : ℕ) : Type 0 where
+  pub active : HasPlace s.active.numbers block first
+  pub frozen : HasPlace s.frozen.numbers block second
+
+-- the block is at home alone: no batch has it, and no record waits to be retired
+pub record IsAtHome (s : Cached) (block : ℕ) : Type 0 where
+  pub active : map_of s.active block ≡ None
+  pub frozen : map_of s.frozen block ≡ None
+  pub log : s.log.waiting ≡ []
+
+-- so are so many blocks from an address on
+pub record AreAtHome (s : Cached) (address count : ℕ) : Type 0 where
+  pub active : unlisted s.active.numbers address count ≡ count
+  pub frozen : unlisted s.frozen.numbers address count ≡ count
+  pub log : s.log.waiting ≡ []
+
+-- One block is read: good, it is the newest; refused, there is a cause. The store stays, and the
+-- cost is told.
+pub record ReadsBlock {M : Type 0} (state : M → State) (Follows : M → M → Type 0)
+    (result : Result (Unit {0}) StoreFault) (block : ℕ) (bytes : List ℕ) (old new : StoreValue M)
+    : Type 0 where
+  pub ok : (book : Book) → FitsBook (state old.medium) old.cached book
+      → OnOk result (bytes ≡ array_of book block)
+  pub err : IfErr result (λ fault. IsReadCause (state old.medium) (state new.medium)
+      old.cached fault)
+  pub keeps : KeepsStore state Follows block 1 old new
+  pub cost : CostsReads result 2 (block_reads old.cached block)
+      (state old.medium) (state new.medium)
+
+-- the same, and the places are those of the next block
+pub record ReadsNext {M : Type 0} (state : M → State) (Follows : M → M → Type 0)
+    (result : Result (Unit {0}) StoreFault) (block : ℕ) (bytes : List ℕ) (first second : ℕ)
+    (old new : StoreValue M) : Type 0 where
+  pub reads : ReadsBlock state Follows result block bytes old new
+  pub next : HasPlaces old.cached (block + 1) first second
+
+-- so many blocks from an address on are read, as each of them is
+pub record ReadsBlocks {M : Type 0} (state : M → State) (Follows : M → M → Type 0)
+    (result : Result (Unit {0}) StoreFault) (address count : ℕ) (bytes : List ℕ)
+    (old new : StoreValue M) : Type 0 where
+  pub ok : (book : Book) → FitsBook (state old.medium) old.cached book
+      → OnOk result (bytes ≡ blocks_at (array_of book) address count)
+  pub err : IfErr result (λ fault. IsReadCause (state old.medium) (state new.medium)
+      old.cached fault)
+  pub keeps : KeepsStore state Follows address count old new
+  pub turn : IsTurn (state old.medium) (state new.medium) old.cached new.cached
+  pub cost : CostsReads result (2 * count) (reads_of old.cached address count)
+      (state old.medium) (state new.medium)
+
+-- a block that no batch has is read, as what the log and the medium hold of it
+pub record ReadsDurable {M : Type 0} (state : M → State) (Follows : M → M → Type 0)
+    (result : Result (Unit {0}) MediumFault) (block : ℕ) (bytes : List ℕ) (old new : StoreValue M)
+    : Type 0 where
+  pub ok : (book : Book) → (fits : FitsBook (state old.medium) old.cached book)
+      → OnOk result (bytes ≡ fits.view.array block)
+  pub err : OnErr result (((state old.medium).failures < (state new.medium).failures)
+      × ((state old.medium).refused Read < (state new.medium).refused Read))
+  pub keeps : KeepsStore state Follows block 1 old new
+  pub cost : CostsReads result 2 (durable_reads old.cached.log block)
+      (state old.medium) (state new.medium)
