@@ -1,6 +1,6 @@
 -- What is durable after a call of a store that writes its batches out, and which records it retires
 -- for that.
-use Rattle.std.specs.Prelude.{◌≡◌, ◌+◌, ◌≤◌, ◌<◌, true, [], length, Bool, Result, OnOk, All}
+use Rattle.std.specs.Prelude.{◌≡◌, ◌+◌, ◌≤◌, ◌<◌, true, [], length, Bool, false, Result, OnOk, All}
 use Rattle.medium.specs.Medium.{State}
 use Rattle.medium.specs.declared.fault.MediumFault.TheVariants.{Flush}
 use Rattle.journal.specs.declared.log_format.LogFormat.TheVariants.{Two}
@@ -8,12 +8,12 @@ use Rattle.redo_log.specs.Value.{HasRoom, most_retire_sends}
 use Rattle.blocks.specs.declared.fault.StoreFault.{StoreFault}
 use Rattle.blocks.specs.StoreValue.{Cached, StoreValue, layout_of, active_of, unwritten, wants}
 use Rattle.blocks.specs.StoreValue.{steps_left}
-use Rattle.blocks.specs.Passing.{MayEmpty, PassesPaid, TellsLife}
+use Rattle.blocks.specs.Passing.{MayEmpty, PassesPaid, TellsLife, Answers}
 use Rattle.blocks.specs.Retiring.{RetiresForRoom, finished, made_ready, written_out, IsLog, IsRoomy}
 use Rattle.blocks.specs.Retiring.{HasSlots, with_spare, to_begin, record_calls, calls_from}
-use Rattle.blocks.specs.Retiring.{both_calls, ready_calls}
+use Rattle.blocks.specs.Retiring.{both_calls, ready_calls, room_calls}
 use Rattle.blocks.specs.Steady.{IsSteady, IsFilling, IsFuller, steady_calls}
-use Rattle.blocks.specs.Flushing.{room_flushes, both_flushes}
+use Rattle.blocks.specs.Flushing.{left_flushes, room_flushes, both_flushes}
 
 -- what a call of a store answers that gives nothing
 abbrev pub Answer : Type 0
@@ -28,6 +28,18 @@ pub record WritesOut (result : Answer) (old new : Cached) : Type 0 where
   pub head : new.log.head ≡ old.log.head
   pub active : new.active ≡ old.active
 
+-- The record under way is written out, by exactly the calls of its steps, and the flushes of these,
+-- and that is told.
+pub record WritesRecord {M : Type 0} (state : M → State) (Follows : M → M → Type 0)
+    (result : Answer) (old new : StoreValue M) : Type 0 where
+  pub passes : PassesPaid state Follows old.cached.log.steps_left old new
+  pub answer : TellsLife result new.cached
+  pub batch : WritesOut result old.cached new.cached
+  pub exactly : OnOk result ((state new.medium).calls
+      ≡ (state old.medium).calls + old.cached.log.steps_left)
+  pub flushes : OnOk result ((state new.medium).made Flush
+      ≡ (state old.medium).made Flush + left_flushes old.cached.log)
+
 -- Where Ok the log has room: nothing is retired for it but the oldest record, and that only where
 -- there was none, or where the store goes ahead. Both batches stay.
 pub record MakesRoom {M : Type 0} (ahead : Bool) (result : Answer) (old new : StoreValue M)
@@ -38,6 +50,17 @@ pub record MakesRoom {M : Type 0} (ahead : Bool) (result : Answer) (old new : St
   pub quiet : IsRoomy ahead old.cached.log → new.medium ≡ old.medium
   pub active : new.cached.active ≡ old.cached.active
   pub frozen : new.cached.frozen ≡ old.cached.frozen
+
+-- Room is made by retiring alone, by exactly the calls and the flushes for that, and that is told.
+pub record RetiresRoom {M : Type 0} (state : M → State) (Follows : M → M → Type 0)
+    (result : Answer) (old new : StoreValue M) : Type 0 where
+  pub passes : PassesPaid state Follows (most_retire_sends (layout_of old.cached).format) old new
+  pub answer : TellsLife result new.cached
+  pub room : MakesRoom false result old new
+  pub cost : OnOk result ((state new.medium).calls
+      ≡ (state old.medium).calls + room_calls old.cached.log)
+  pub flushes : OnOk result ((state new.medium).made Flush
+      ≡ (state old.medium).made Flush + room_flushes old.cached.log)
 
 -- The same as the store's policy says, by exactly the calls and the flushes for that, with all that
 -- a turn promises.
@@ -56,6 +79,7 @@ pub record MakesReady {M : Type 0} (state : M → State) (Follows : M → M → 
 -- Where Ok the frozen batch is durable and empty. Where it was empty nothing happens, and else the
 -- record that was written waits. The active batch stays.
 pub record FinishesFrozen {M : Type 0} (result : Answer) (old new : StoreValue M) : Type 0 where
+  pub answers : Answers result old new
   pub done : OnOk result ((new.cached.log.steps_left ≡ 0) × (new.cached.frozen.numbers ≡ []))
   pub rests : old.cached.frozen.numbers ≡ [] → new ≡ old
   pub waits : 0 < length old.cached.frozen.numbers

@@ -1,15 +1,14 @@
 //! How accepted writes are made durable.
 ghost use Rattle.std.specs.Prelude.{◌≡◌, ◌<◌, ◌+◌, ◌*◌, false, OnOk};
 ghost use Rattle.medium.specs.declared.fault.MediumFault.TheVariants.{Flush};
-ghost use Rattle.redo_log.specs.Value.{most_retire_sends};
 ghost use Rattle.spec.specs.Book.{Book, promised};
-ghost use Rattle.blocks.specs.StoreValue.{layout_of, is_dead, FitsBook};
+ghost use Rattle.blocks.specs.StoreValue.{is_dead, FitsBook};
 ghost use Rattle.blocks.specs.Sent.{batch_sends};
-ghost use Rattle.blocks.specs.Passing.{PassesPaid, TellsLife, Answers};
-ghost use Rattle.blocks.specs.Finishing.{WritesOut, MakesRoom, MakesReady, FinishesFrozen};
+ghost use Rattle.blocks.specs.Passing.{PassesPaid, Answers};
+ghost use Rattle.blocks.specs.Finishing.{WritesRecord, RetiresRoom, MakesReady, FinishesFrozen};
 ghost use Rattle.blocks.specs.Finishing.{FinishesBoth, CostsSync};
-ghost use Rattle.blocks.specs.Retiring.{room_calls, finish_calls};
-ghost use Rattle.blocks.specs.Flushing.{left_flushes, room_flushes, finish_flushes};
+ghost use Rattle.blocks.specs.Retiring.{finish_calls};
+ghost use Rattle.blocks.specs.Flushing.{finish_flushes};
 
 use crate::{Store, StoreFault};
 use medium::Medium;
@@ -43,7 +42,6 @@ impl<M: Medium> Store<M> {
     pub(crate) fn finish(&mut self) -> Result<(), StoreFault>
         ensures passes { PassesPaid M.state M.follows
             (batch_sends self.old.cached) self.old self.new }
-        ensures answers { Answers result self.old self.new }
         ensures batch { FinishesFrozen result self.old self.new }
         ensures cost { OnOk result ((M.state self.new.medium).calls
             ≡ (M.state self.old.medium).calls
@@ -71,14 +69,7 @@ impl<M: Medium> Store<M> {
     fn write_out(&mut self) -> Result<(), StoreFault>
         requires live { is_dead self.old.cached ≡ false }
         requires under_way { 0 < self.old.cached.log.steps_left }
-        ensures passes { PassesPaid M.state M.follows
-            self.old.cached.log.steps_left self.old self.new }
-        ensures answer { TellsLife result self.new.cached }
-        ensures batch { WritesOut result self.old.cached self.new.cached }
-        ensures exactly { OnOk result ((M.state self.new.medium).calls
-            ≡ (M.state self.old.medium).calls + self.old.cached.log.steps_left) }
-        ensures flushes { OnOk result ((M.state self.new.medium).made Flush
-            ≡ (M.state self.old.medium).made Flush + left_flushes self.old.cached.log) }
+        ensures { WritesRecord M.state M.follows result self.old self.new }
     {
         while let Progress::More = self.step()? {}
         Ok(())
@@ -103,14 +94,7 @@ impl<M: Medium> Store<M> {
     fn make_room(&mut self) -> Result<(), StoreFault>
         requires live { is_dead self.old.cached ≡ false }
         requires idle { self.old.cached.log.steps_left ≡ 0 }
-        ensures passes { PassesPaid M.state M.follows
-            (most_retire_sends (layout_of self.old.cached).format) self.old self.new }
-        ensures answer { TellsLife result self.new.cached }
-        ensures room { MakesRoom false result self.old self.new }
-        ensures cost { OnOk result ((M.state self.new.medium).calls
-            ≡ (M.state self.old.medium).calls + room_calls self.old.cached.log) }
-        ensures flushes { OnOk result ((M.state self.new.medium).made Flush
-            ≡ (M.state self.old.medium).made Flush + room_flushes self.old.cached.log) }
+        ensures { RetiresRoom M.state M.follows result self.old self.new }
     {
         // The log says here how many writes and flushes retire its oldest record at most.
         let _few = self.log.has_room();

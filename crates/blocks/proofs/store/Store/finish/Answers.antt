@@ -35,6 +35,7 @@ returns-then-is_dead-clause-passes g c = record {
 
 pub returns-then-self-clause-batch : goal.returns-then-self-clause-batch
 returns-then-self-clause-batch g c = record {
+  answers = search rules;
   done = search rules;
   rests = λ none.
       let live : is_dead c.args.self.now.cached ≡ false = sym c.is_dead.ensures ∙ c.if-is_dead.false in
@@ -115,6 +116,7 @@ returns-clause-passes g c = record {
 
 pub returns-then-is_empty-clause-batch : goal.returns-then-is_empty-clause-batch
 returns-then-is_empty-clause-batch g c = record {
+  answers = search rules;
   done = search rules;
   rests = search rules;
   waits = search rules;
@@ -162,6 +164,7 @@ returns-clause-batch g c =
     c.in_ok-make_ready.ensures.ready.room.made (written ∙ ap (λ (log : LogValue). written_out log) begun_is))
     c.write_out-2.ensures.batch.written in
     record {
+      answers = search rules;
       done = search rules;
       rests = search rules;
       waits = search rules;
@@ -243,6 +246,7 @@ returns-clause-cost g c =
 
 pub returns-in_err-begin-clause-batch : goal.returns-in_err-begin-clause-batch
 returns-in_err-begin-clause-batch g c = record {
+  answers = search rules;
   done = search rules;
   rests = search rules;
   waits = search rules;

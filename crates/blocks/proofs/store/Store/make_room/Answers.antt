@@ -113,111 +113,111 @@ loop-self-preserved g c =
           c.loop-self.invariant.turn.goes_on.layout_stays c.loop-self.invariant.looks c.retire.ensures.passes.looks;
     }
 
-pub returns-in_err-retire-clause-passes : goal.returns-in_err-retire-clause-passes
-returns-in_err-retire-clause-passes g c = record {
-  policy = search rules;
-  turn = turns _ _ _ _ _ _ c.loop-self.invariant.turn c.retire.ensures.passes.turn;
-  paid =
-      let refused : c.has_room.result ≡ false = c.loop-self-test.true in
-      let here = c.self-in-loop-self.inside in
-      let left = must_retire (record { log = here.log; active = here.active; frozen = here.frozen }) c.has_room.result refused
-      c.has_room.ensures.full c.has_room.ensures.always (rw (← c.self-in-loop-self.view_is) at c.loop-self.invariant.idle) in
-      pays_both _ _ _ _ _ _ c.loop-self.invariant.paid c.loop-self.invariant.live
-      (pays_step (g.M.Medium.state c.loop-self.self.medium) (g.M.Medium.state c.retire.new.self.medium) c.loop-self.self.cached
-      c.retire.new.self.cached (rw (← c.self-in-loop-self.view_is) left.1) c.retire.ensures.passes.calls
-      (c.retire.ensures.counts.falls (rw (← c.self-in-loop-self.view_is) left.0)));
-  sent =
-      let refused : c.has_room.result ≡ false = c.loop-self-test.true in
-      let full : HasRoom c.self-in-loop-self.inside.log → ⊥ = λ room. false≢true (sym refused ∙ c.has_room.ensures.room.1 room) in
-      let kept = c.self-in-loop-self.invariant in
-      let live = rw (← c.self-in-loop-self.view_is) at c.loop-self.invariant.live in
-      let idle = rw (← c.self-in-loop-self.view_is) at c.loop-self.invariant.idle in
-      let under_way = kept.none_under_way live idle in
-      let log_is = ap (λ v. v.cached.log) c.self-in-loop-self.view_is in
-      let next = ap (λ (l : LogValue). next_sends l) log_is in
-      let all = sends_refused c.args.self.now.cached.log c.self-in-loop-self.inside.log (sent (g.M.Medium.state c.args.self.now.medium))
-      (sent (g.M.Medium.state c.loop-self.self.medium)) (sent (g.M.Medium.state c.retire.new.self.medium)) full under_way idle
-      (rw (← c.self-in-loop-self.view_is) at c.loop-self.invariant.one) (omega (arith, c.retire.ensures.retiring.sent, next))
-      (subst (λ (l : LogValue). SendsOldest c.args.self.now.cached.log l (sent (g.M.Medium.state c.args.self.now.medium))
-      (sent (g.M.Medium.state c.loop-self.self.medium))) (sym log_is) c.loop-self.invariant.sends) in
-      let few = subst (λ (log : LogValue). sends_of_oldest log ≤ most_retire_sends log.shape.format) (ap (λ v. v.cached.log) c.self.view_is)
-      c.has_room-few.ensures.few in
-      omega (arith, all, few);
-  none_refused = search rules;
-  follows = g.met.M.Medium.follows_through _ _ _ c.loop-self.invariant.follows c.retire.ensures.passes.follows;
-  looks = looks_on (g.M.Medium.state c.args.self.now.medium) (g.M.Medium.state c.loop-self.self.medium)
-      (g.M.Medium.state c.retire.new.self.medium) c.args.self.now.cached c.loop-self.self.cached
-      c.loop-self.invariant.turn.goes_on.layout_stays c.loop-self.invariant.looks c.retire.ensures.passes.looks;
-}
-
-pub returns-clause-passes : goal.returns-clause-passes
-returns-clause-passes g c = record {
-  policy = search rules;
-  turn = c.loop-self.invariant.turn;
-  paid = c.loop-self.invariant.paid;
-  sent =
-      let all = sends_room c.args.self.now.cached.log c.loop-self.self.cached.log (sent (g.M.Medium.state c.args.self.now.medium))
-      (sent (g.M.Medium.state c.loop-self.self.medium)) c.loop-self.invariant.sends in
-      let few = subst (λ (log : LogValue). sends_of_oldest log ≤ most_retire_sends log.shape.format) (ap (λ v. v.cached.log) c.self.view_is)
-      c.has_room-few.ensures.few in
-      omega (arith, all, few);
-  none_refused = λ live. c.loop-self.invariant.none_refused;
-  follows = c.loop-self.invariant.follows;
-  looks = c.loop-self.invariant.looks;
-}
-
-pub returns-in_err-retire-clause-room : goal.returns-in_err-retire-clause-room
-returns-in_err-retire-clause-room g c = record {
-  retires =
-      let died = c.retire.ensures.retiring.dies c.in_err-retire.ensures.answer.1 in
-      let head = ap (λ (s : Cached). s.log.head) died.is in
-      let one = most_one c.args.self.now.cached.log c.loop-self.self.cached.log c.loop-self.invariant.one in
-      record {
-        one = omega (arith, head, one);
-        roomy = λ room. head ∙ ap (λ (l : LogValue). l.head) (c.loop-self.invariant.stays room);
-      };
-  room = search rules;
-  made = search rules;
-  quiet = λ room.
-      let refused : c.has_room.result ≡ false = c.loop-self-test.true in
-      let full : HasRoom c.self-in-loop-self.inside.log → ⊥ = λ still. false≢true (sym refused ∙ c.has_room.ensures.room.1 still) in
-      let log_is = sym (c.loop-self.invariant.stays room) ∙ sym (ap (λ v. v.cached.log) c.self-in-loop-self.view_is) in
-      absurd (full (subst (λ (log : LogValue). HasRoom log) log_is room));
-  active = search rules;
-  frozen = search rules;
-}
-
-pub returns-clause-room : goal.returns-clause-room
-returns-clause-room g c = record {
-  retires = record {
-    one = most_one c.args.self.now.cached.log c.loop-self.self.cached.log c.loop-self.invariant.one;
-    roomy = λ room. ap (λ (l : LogValue). l.head) (c.loop-self.invariant.stays room);
+pub returns-in_err-retire : goal.returns-in_err-retire
+returns-in_err-retire g c = record {
+  passes = record {
+    policy = search rules;
+    turn = turns _ _ _ _ _ _ c.loop-self.invariant.turn c.retire.ensures.passes.turn;
+    paid =
+        let refused : c.has_room.result ≡ false = c.loop-self-test.true in
+        let here = c.self-in-loop-self.inside in
+        let left = must_retire (record { log = here.log; active = here.active; frozen = here.frozen }) c.has_room.result refused
+        c.has_room.ensures.full c.has_room.ensures.always (rw (← c.self-in-loop-self.view_is) at c.loop-self.invariant.idle) in
+        pays_both _ _ _ _ _ _ c.loop-self.invariant.paid c.loop-self.invariant.live
+        (pays_step (g.M.Medium.state c.loop-self.self.medium) (g.M.Medium.state c.retire.new.self.medium) c.loop-self.self.cached
+        c.retire.new.self.cached (rw (← c.self-in-loop-self.view_is) left.1) c.retire.ensures.passes.calls
+        (c.retire.ensures.counts.falls (rw (← c.self-in-loop-self.view_is) left.0)));
+    sent =
+        let refused : c.has_room.result ≡ false = c.loop-self-test.true in
+        let full : HasRoom c.self-in-loop-self.inside.log → ⊥ = λ room. false≢true (sym refused ∙ c.has_room.ensures.room.1 room) in
+        let kept = c.self-in-loop-self.invariant in
+        let live = rw (← c.self-in-loop-self.view_is) at c.loop-self.invariant.live in
+        let idle = rw (← c.self-in-loop-self.view_is) at c.loop-self.invariant.idle in
+        let under_way = kept.none_under_way live idle in
+        let log_is = ap (λ v. v.cached.log) c.self-in-loop-self.view_is in
+        let next = ap (λ (l : LogValue). next_sends l) log_is in
+        let all = sends_refused c.args.self.now.cached.log c.self-in-loop-self.inside.log (sent (g.M.Medium.state c.args.self.now.medium))
+        (sent (g.M.Medium.state c.loop-self.self.medium)) (sent (g.M.Medium.state c.retire.new.self.medium)) full under_way idle
+        (rw (← c.self-in-loop-self.view_is) at c.loop-self.invariant.one) (omega (arith, c.retire.ensures.retiring.sent, next))
+        (subst (λ (l : LogValue). SendsOldest c.args.self.now.cached.log l (sent (g.M.Medium.state c.args.self.now.medium))
+        (sent (g.M.Medium.state c.loop-self.self.medium))) (sym log_is) c.loop-self.invariant.sends) in
+        let few = subst (λ (log : LogValue). sends_of_oldest log ≤ most_retire_sends log.shape.format) (ap (λ v. v.cached.log) c.self.view_is)
+        c.has_room-few.ensures.few in
+        omega (arith, all, few);
+    none_refused = search rules;
+    follows = g.met.M.Medium.follows_through _ _ _ c.loop-self.invariant.follows c.retire.ensures.passes.follows;
+    looks = looks_on (g.M.Medium.state c.args.self.now.medium) (g.M.Medium.state c.loop-self.self.medium)
+        (g.M.Medium.state c.retire.new.self.medium) c.args.self.now.cached c.loop-self.self.cached
+        c.loop-self.invariant.turn.goes_on.layout_stays c.loop-self.invariant.looks c.retire.ensures.passes.looks;
   };
-  room = search rules;
-  made =
+  answer = search rules;
+  room = record {
+    retires =
+        let died = c.retire.ensures.retiring.dies c.in_err-retire.ensures.answer.1 in
+        let head = ap (λ (s : Cached). s.log.head) died.is in
+        let one = most_one c.args.self.now.cached.log c.loop-self.self.cached.log c.loop-self.invariant.one in
+        record {
+          one = omega (arith, head, one);
+          roomy = λ room. head ∙ ap (λ (l : LogValue). l.head) (c.loop-self.invariant.stays room);
+        };
+    room = search rules;
+    made = search rules;
+    quiet = λ room.
+        let refused : c.has_room.result ≡ false = c.loop-self-test.true in
+        let full : HasRoom c.self-in-loop-self.inside.log → ⊥ = λ still. false≢true (sym refused ∙ c.has_room.ensures.room.1 still) in
+        let log_is = sym (c.loop-self.invariant.stays room) ∙ sym (ap (λ v. v.cached.log) c.self-in-loop-self.view_is) in
+        absurd (full (subst (λ (log : LogValue). HasRoom log) log_is room));
+    active = search rules;
+    frozen = search rules;
+  };
+  cost = search rules;
+  flushes = search rules;
+}
+
+pub returns : goal.returns
+returns g c = record {
+  passes = record {
+    policy = search rules;
+    turn = c.loop-self.invariant.turn;
+    paid = c.loop-self.invariant.paid;
+    sent =
+        let all = sends_room c.args.self.now.cached.log c.loop-self.self.cached.log (sent (g.M.Medium.state c.args.self.now.medium))
+        (sent (g.M.Medium.state c.loop-self.self.medium)) c.loop-self.invariant.sends in
+        let few = subst (λ (log : LogValue). sends_of_oldest log ≤ most_retire_sends log.shape.format) (ap (λ v. v.cached.log) c.self.view_is)
+        c.has_room-few.ensures.few in
+        omega (arith, all, few);
+    none_refused = λ live. c.loop-self.invariant.none_refused;
+    follows = c.loop-self.invariant.follows;
+    looks = c.loop-self.invariant.looks;
+  };
+  answer = search rules;
+  room = record {
+    retires = record {
+      one = most_one c.args.self.now.cached.log c.loop-self.self.cached.log c.loop-self.invariant.one;
+      roomy = λ room. ap (λ (l : LogValue). l.head) (c.loop-self.invariant.stays room);
+    };
+    room = search rules;
+    made =
+        let log_is = ap (λ v. v.cached.log) c.self-in-loop-self.view_is in
+        let room : HasRoom c.loop-self.self.cached.log =
+        subst (λ (log : LogValue). HasRoom log) log_is (c.has_room.ensures.room.0 c.loop-self-test.false) in
+        room_is_made c.args.self.now.cached.log c.loop-self.self.cached.log c.loop-self.invariant.stays room c.loop-self.invariant.retires;
+    quiet = search rules;
+    active = search rules;
+    frozen = search rules;
+  };
+  cost =
       let log_is = ap (λ v. v.cached.log) c.self-in-loop-self.view_is in
       let room : HasRoom c.loop-self.self.cached.log =
       subst (λ (log : LogValue). HasRoom log) log_is (c.has_room.ensures.room.0 c.loop-self-test.false) in
-      room_is_made c.args.self.now.cached.log c.loop-self.self.cached.log c.loop-self.invariant.stays room c.loop-self.invariant.retires;
-  quiet = search rules;
-  active = search rules;
-  frozen = search rules;
+      costs_room c.args.self.now.cached.log c.loop-self.self.cached.log (g.M.Medium.state c.args.self.now.medium).calls
+      (g.M.Medium.state c.loop-self.self.medium).calls c.loop-self.invariant.stays
+      (λ had. ap (λ m. (g.M.Medium.state m).calls) (c.loop-self.invariant.quiet had)) room c.loop-self.invariant.costs;
+  flushes =
+      let log_is = ap (λ v. v.cached.log) c.self-in-loop-self.view_is in
+      let room : HasRoom c.loop-self.self.cached.log =
+      subst (λ (log : LogValue). HasRoom log) log_is (c.has_room.ensures.room.0 c.loop-self-test.false) in
+      flushes_room c.args.self.now.cached.log c.loop-self.self.cached.log ((g.M.Medium.state c.args.self.now.medium).made Flush)
+      ((g.M.Medium.state c.loop-self.self.medium).made Flush) c.loop-self.invariant.stays
+      (λ had. ap (λ m. (g.M.Medium.state m).made Flush) (c.loop-self.invariant.quiet had)) room c.loop-self.invariant.flushes;
 }
-
-pub returns-clause-cost : goal.returns-clause-cost
-returns-clause-cost g c =
-    let log_is = ap (λ v. v.cached.log) c.self-in-loop-self.view_is in
-    let room : HasRoom c.loop-self.self.cached.log =
-    subst (λ (log : LogValue). HasRoom log) log_is (c.has_room.ensures.room.0 c.loop-self-test.false) in
-    costs_room c.args.self.now.cached.log c.loop-self.self.cached.log (g.M.Medium.state c.args.self.now.medium).calls
-    (g.M.Medium.state c.loop-self.self.medium).calls c.loop-self.invariant.stays
-    (λ had. ap (λ m. (g.M.Medium.state m).calls) (c.loop-self.invariant.quiet had)) room c.loop-self.invariant.costs
-
-pub returns-clause-flushes : goal.returns-clause-flushes
-returns-clause-flushes g c =
-    let log_is = ap (λ v. v.cached.log) c.self-in-loop-self.view_is in
-    let room : HasRoom c.loop-self.self.cached.log =
-    subst (λ (log : LogValue). HasRoom log) log_is (c.has_room.ensures.room.0 c.loop-self-test.false) in
-    flushes_room c.args.self.now.cached.log c.loop-self.self.cached.log ((g.M.Medium.state c.args.self.now.medium).made Flush)
-    ((g.M.Medium.state c.loop-self.self.medium).made Flush) c.loop-self.invariant.stays
-    (λ had. ap (λ m. (g.M.Medium.state m).made Flush) (c.loop-self.invariant.quiet had)) room c.loop-self.invariant.flushes

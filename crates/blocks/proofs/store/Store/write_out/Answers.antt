@@ -27,17 +27,23 @@ loop-init g c = record {
       (λ i. (g.M.Medium.state c.args.self.now.medium).looked);
 }
 
-pub returns-in_err-step-clause-passes : goal.returns-in_err-step-clause-passes
-returns-in_err-step-clause-passes g c = record {
-  policy = search rules;
-  turn = turns _ _ _ _ _ _ c.loop.invariant.turn c.step.ensures.passes.turn;
-  paid = search rules;
-  sent = omega (arith, c.loop.invariant.sends, c.step.ensures.passes.sent, c.loop.invariant.under_way);
-  none_refused = search rules;
-  follows = search rules;
-  looks = looks_on (g.M.Medium.state c.args.self.now.medium) (g.M.Medium.state c.loop.self.medium) (g.M.Medium.state c.step.new.self.medium)
-      c.args.self.now.cached c.loop.self.cached c.loop.invariant.turn.goes_on.layout_stays c.loop.invariant.looks
-      c.step.ensures.passes.looks;
+pub returns-in_err-step : goal.returns-in_err-step
+returns-in_err-step g c = record {
+  passes = record {
+    policy = search rules;
+    turn = turns _ _ _ _ _ _ c.loop.invariant.turn c.step.ensures.passes.turn;
+    paid = search rules;
+    sent = omega (arith, c.loop.invariant.sends, c.step.ensures.passes.sent, c.loop.invariant.under_way);
+    none_refused = search rules;
+    follows = search rules;
+    looks = looks_on (g.M.Medium.state c.args.self.now.medium) (g.M.Medium.state c.loop.self.medium) (g.M.Medium.state c.step.new.self.medium)
+        c.args.self.now.cached c.loop.self.cached c.loop.invariant.turn.goes_on.layout_stays c.loop.invariant.looks
+        c.step.ensures.passes.looks;
+  };
+  answer = search rules;
+  batch = search rules;
+  exactly = search rules;
+  flushes = search rules;
 }
 
 pub loop-preserved : goal.loop-preserved
@@ -76,41 +82,38 @@ loop-preserved g c = record {
       c.step.ensures.passes.looks;
 }
 
-pub returns-clause-passes : goal.returns-clause-passes
-returns-clause-passes g c = record {
-  policy = search rules;
-  turn = turns _ _ _ _ _ _ c.loop.invariant.turn c.step.ensures.passes.turn;
-  paid = search rules;
-  sent = omega (arith, c.loop.invariant.sends, c.step.ensures.passes.sent, c.loop.invariant.under_way);
-  none_refused = search rules;
-  follows = search rules;
-  looks = looks_on (g.M.Medium.state c.args.self.now.medium) (g.M.Medium.state c.loop.self.medium) (g.M.Medium.state c.step.new.self.medium)
-      c.args.self.now.cached c.loop.self.cached c.loop.invariant.turn.goes_on.layout_stays c.loop.invariant.looks
-      c.step.ensures.passes.looks;
-}
-
-pub returns-clause-batch : goal.returns-clause-batch
-returns-clause-batch g c = record {
-  done = search rules;
-  written =
+pub returns : goal.returns
+returns g c = record {
+  passes = record {
+    policy = search rules;
+    turn = turns _ _ _ _ _ _ c.loop.invariant.turn c.step.ensures.passes.turn;
+    paid = search rules;
+    sent = omega (arith, c.loop.invariant.sends, c.step.ensures.passes.sent, c.loop.invariant.under_way);
+    none_refused = search rules;
+    follows = search rules;
+    looks = looks_on (g.M.Medium.state c.args.self.now.medium) (g.M.Medium.state c.loop.self.medium) (g.M.Medium.state c.step.new.self.medium)
+        c.args.self.now.cached c.loop.self.cached c.loop.invariant.turn.goes_on.layout_stays c.loop.invariant.looks
+        c.step.ensures.passes.looks;
+  };
+  answer = search rules;
+  batch = record {
+    done = search rules;
+    written =
+        let gone = c.step.ensures.record_step.live c.in_ok-step.ensures.answer in
+        writes_last c.args.self.now.cached.log c.loop.self.cached.log c.step.new.self.cached.log gone.1 gone.2.log
+        (c.step.ensures.tells.durable (c.in_ok-step.was ∙ ap Ok c.in_default.is)).0 c.loop.invariant.so_far;
+    waits = search rules;
+    head = search rules;
+    active = search rules;
+  };
+  exactly =
       let gone = c.step.ensures.record_step.live c.in_ok-step.ensures.answer in
-      writes_last c.args.self.now.cached.log c.loop.self.cached.log c.step.new.self.cached.log gone.1 gone.2.log
-      (c.step.ensures.tells.durable (c.in_ok-step.was ∙ ap Ok c.in_default.is)).0 c.loop.invariant.so_far;
-  waits = search rules;
-  head = search rules;
-  active = search rules;
+      let less = one_less gone.1 c.loop.self.cached.log c.step.new.self.cached.log gone.2.log in
+      let none = (c.step.ensures.tells.durable (c.in_ok-step.was ∙ ap Ok c.in_default.is)).0 in
+      omega (arith, less, none, c.step.ensures.record_step.one_call, c.loop.invariant.exactly);
+  flushes =
+      let gone = c.step.ensures.record_step.live c.in_ok-step.ensures.answer in
+      let less = flushes_step gone.1 c.loop.self.cached.log c.step.new.self.cached.log c.loop.invariant.under_way gone.2.log in
+      let none = flushes_done c.step.new.self.cached.log (c.step.ensures.tells.durable (c.in_ok-step.was ∙ ap Ok c.in_default.is)).0 in
+      omega (arith, less, none, c.step.ensures.record_step.flushed, c.loop.invariant.flushes);
 }
-
-pub returns-clause-exactly : goal.returns-clause-exactly
-returns-clause-exactly g c =
-    let gone = c.step.ensures.record_step.live c.in_ok-step.ensures.answer in
-    let less = one_less gone.1 c.loop.self.cached.log c.step.new.self.cached.log gone.2.log in
-    let none = (c.step.ensures.tells.durable (c.in_ok-step.was ∙ ap Ok c.in_default.is)).0 in
-    omega (arith, less, none, c.step.ensures.record_step.one_call, c.loop.invariant.exactly)
-
-pub returns-clause-flushes : goal.returns-clause-flushes
-returns-clause-flushes g c =
-    let gone = c.step.ensures.record_step.live c.in_ok-step.ensures.answer in
-    let less = flushes_step gone.1 c.loop.self.cached.log c.step.new.self.cached.log c.loop.invariant.under_way gone.2.log in
-    let none = flushes_done c.step.new.self.cached.log (c.step.ensures.tells.durable (c.in_ok-step.was ∙ ap Ok c.in_default.is)).0 in
-    omega (arith, less, none, c.step.ensures.record_step.flushed, c.loop.invariant.flushes)
