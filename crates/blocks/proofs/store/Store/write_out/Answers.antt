@@ -36,8 +36,8 @@ returns-in_err-step g c = record {
     sent = omega (arith, c.loop.invariant.sends, c.step.ensures.passes.sent, c.loop.invariant.under_way);
     none_refused = search rules;
     follows = search rules;
-    looks = looks_on (g.M.Medium.state c.args.self.now.medium) (g.M.Medium.state c.loop.self.medium) (g.M.Medium.state c.step.new.self.medium)
-        c.args.self.now.cached c.loop.self.cached c.loop.invariant.turn.goes_on.layout_stays c.loop.invariant.looks
+    looks = looks_on (g.M.Medium.state c.args.self.now.medium) (g.M.Medium.state c.loop.self.medium)
+        (g.M.Medium.state c.step.new.self.medium) c.args.self.now.cached c.loop.self.cached c.loop.invariant.turn.goes_on.layout_stays c.loop.invariant.looks
         c.step.ensures.passes.looks;
   };
   answer = search rules;
@@ -91,8 +91,8 @@ returns g c = record {
     sent = omega (arith, c.loop.invariant.sends, c.step.ensures.passes.sent, c.loop.invariant.under_way);
     none_refused = search rules;
     follows = search rules;
-    looks = looks_on (g.M.Medium.state c.args.self.now.medium) (g.M.Medium.state c.loop.self.medium) (g.M.Medium.state c.step.new.self.medium)
-        c.args.self.now.cached c.loop.self.cached c.loop.invariant.turn.goes_on.layout_stays c.loop.invariant.looks
+    looks = looks_on (g.M.Medium.state c.args.self.now.medium) (g.M.Medium.state c.loop.self.medium)
+        (g.M.Medium.state c.step.new.self.medium) c.args.self.now.cached c.loop.self.cached c.loop.invariant.turn.goes_on.layout_stays c.loop.invariant.looks
         c.step.ensures.passes.looks;
   };
   answer = search rules;
