@@ -142,7 +142,8 @@ returns-in_err-retire g c = record {
         (subst (λ (l : LogValue). SendsOldest c.args.self.now.cached.log l (sent (g.M.Medium.state c.args.self.now.medium))
         (sent (g.M.Medium.state c.loop-self.self.medium))) (sym log_is) c.loop-self.invariant.sends) in
         let entry_is = ap (λ v. v.cached.log) c.self.view_is in
-        let few = subst (λ (log : LogValue). sends_of_oldest log ≤ most_retire_sends log.shape.format) entry_is c.has_room-few.ensures.few in
+        let most = c.has_room-few.ensures.few in
+        let few = subst (λ (log : LogValue). sends_of_oldest log ≤ most_retire_sends log.shape.format) entry_is most in
         omega (arith, all, few);
     none_refused = search rules;
     follows = g.met.M.Medium.follows_through _ _ _ c.loop-self.invariant.follows c.retire.ensures.passes.follows;
@@ -184,7 +185,8 @@ returns g c = record {
         let all = sends_room c.args.self.now.cached.log c.loop-self.self.cached.log (sent (g.M.Medium.state c.args.self.now.medium))
         (sent (g.M.Medium.state c.loop-self.self.medium)) c.loop-self.invariant.sends in
         let entry_is = ap (λ v. v.cached.log) c.self.view_is in
-        let few = subst (λ (log : LogValue). sends_of_oldest log ≤ most_retire_sends log.shape.format) entry_is c.has_room-few.ensures.few in
+        let most = c.has_room-few.ensures.few in
+        let few = subst (λ (log : LogValue). sends_of_oldest log ≤ most_retire_sends log.shape.format) entry_is most in
         omega (arith, all, few);
     none_refused = λ live. c.loop-self.invariant.none_refused;
     follows = c.loop-self.invariant.follows;

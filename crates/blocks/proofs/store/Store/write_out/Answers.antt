@@ -37,8 +37,8 @@ returns-in_err-step g c = record {
     none_refused = search rules;
     follows = search rules;
     looks = looks_on (g.M.Medium.state c.args.self.now.medium) (g.M.Medium.state c.loop.self.medium)
-        (g.M.Medium.state c.step.new.self.medium) c.args.self.now.cached c.loop.self.cached c.loop.invariant.turn.goes_on.layout_stays c.loop.invariant.looks
-        c.step.ensures.passes.looks;
+        (g.M.Medium.state c.step.new.self.medium) c.args.self.now.cached c.loop.self.cached
+        c.loop.invariant.turn.goes_on.layout_stays c.loop.invariant.looks c.step.ensures.passes.looks;
   };
   answer = search rules;
   batch = search rules;
@@ -92,8 +92,8 @@ returns g c = record {
     none_refused = search rules;
     follows = search rules;
     looks = looks_on (g.M.Medium.state c.args.self.now.medium) (g.M.Medium.state c.loop.self.medium)
-        (g.M.Medium.state c.step.new.self.medium) c.args.self.now.cached c.loop.self.cached c.loop.invariant.turn.goes_on.layout_stays c.loop.invariant.looks
-        c.step.ensures.passes.looks;
+        (g.M.Medium.state c.step.new.self.medium) c.args.self.now.cached c.loop.self.cached
+        c.loop.invariant.turn.goes_on.layout_stays c.loop.invariant.looks c.step.ensures.passes.looks;
   };
   answer = search rules;
   batch = record {
