@@ -1,6 +1,8 @@
 -- The index of a log: where the newest logged copy of each block stands.
 use Rattle.std.specs.Prelude.{◌≡◌, ℕ, ◌+◌, ◌%◌, ◌<◌, ◌≤◌, List, [], ◌∷◌, length, get_or, Option}
-use Rattle.std.specs.Prelude.{Some, None, if◌then◌else◌, ◌==◌}
+use Rattle.std.specs.Prelude.{Some, None, if◌then◌else◌, ◌==◌, ◌^◌, All, Vec, take, vec_capacity}
+use Rattle.std.specs.List.{remove_range}
+use Rattle.journal.specs.Sectors.{IsRising}
 use Rattle.redo_log.specs.declared.index.Copied.{Copied}
 
 -- for each block a slot and a place, where there is a copy
@@ -54,3 +56,34 @@ pub record IsGapFor (index : List Copied) (block i : ℕ) : Type 0 where
 pub record IsIndex (slots stamp : ℕ) (records : List (List ℕ)) (index : List Copied) : Type 0 where
   pub sorted : IsSorted index
   pub looks : (block : ℕ) → look index block ≡ copies_of slots stamp records no_copies block
+
+-- a record has as many block numbers as fit one, which rise and fit an entry
+pub record AreEntered (numbers : List ℕ) : Type 0 where
+  pub few : length numbers ≤ 240
+  pub rising : IsRising numbers
+  pub below : All (λ b. b < 2 ^ 31) numbers
+
+-- so many entries are there behind the others, in the same room
+pub record IsWidened {Z : Type 0} (count : ℕ) (old new : Vec Copied Z) : Type 0 where
+  pub kept : take (length old.items) new.items ≡ old.items
+  pub longer : length new.items ≡ length old.items + count
+  pub capacity : vec_capacity new ≡ vec_capacity old
+
+-- the entries are these, in the same room
+pub record ComesToHave {Z : Type 0} (entries : List Copied) (old new : Vec Copied Z) : Type 0 where
+  pub items : new.items ≡ entries
+  pub capacity : vec_capacity new ≡ vec_capacity old
+
+-- the entries are sorted and name these copies, in the same room
+pub record ComesToName {Z : Type 0} (copies : Copies) (old new : Vec Copied Z) : Type 0 where
+  pub sorted : IsSorted new.items
+  pub looks : (block : ℕ) → look new.items block ≡ copies block
+  pub capacity : vec_capacity new ≡ vec_capacity old
+
+-- outside the gap from one place to another the entries are sorted and name these copies
+pub record IsMerged (copies : Copies) (old new : List Copied) (from to : ℕ) : Type 0 where
+  pub same_length : length new ≡ length old
+  pub start_le_end : from ≤ to
+  pub in_bounds : to ≤ length new
+  pub sorted : IsSorted (remove_range new from to)
+  pub looks : (block : ℕ) → look (remove_range new from to) block ≡ copies block

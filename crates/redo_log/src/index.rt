@@ -1,10 +1,10 @@
 //! Where the newest logged copy of each block stands: entries that are sorted by block.
-ghost use Rattle.std.specs.Prelude.{◌≡◌, ℕ, ◌+◌, ◌^◌, ◌<◌, ◌≤◌, length, take, vec_capacity};
-ghost use Rattle.std.specs.Prelude.{All, IfOk, IfErr};
+ghost use Rattle.std.specs.Prelude.{◌≡◌, ◌+◌, ◌<◌, ◌≤◌, length, take, vec_capacity};
+ghost use Rattle.std.specs.Prelude.{IfOk, IfErr};
 ghost use Rattle.std.specs.List.{remove_range};
-ghost use Rattle.journal.specs.Sectors.{IsRising};
 ghost use Rattle.redo_log.specs.Index.{look, with_copies, outside, block_at};
-ghost use Rattle.redo_log.specs.Index.{IsSorted, IsGapFor};
+ghost use Rattle.redo_log.specs.Index.{IsSorted, IsGapFor, AreEntered, IsWidened, IsMerged};
+ghost use Rattle.redo_log.specs.Index.{ComesToHave, ComesToName};
 
 /// The newest logged copy of a block, in 8 bytes: blocks are below 2^31, slots below 64 and
 /// places below 240.
@@ -38,9 +38,7 @@ pub(crate) fn newest(index: &[Copied], block: u64) -> Option<(u64, usize)>
 // Makes room for so many entries behind the others.
 fn widen(index: &mut Vec<Copied>, count: usize)
     requires { length index.old.items + count ≤ vec_capacity index.old }
-    ensures kept { take (length index.old.items) index.new.items ≡ index.old.items }
-    ensures length { length index.new.items ≡ length index.old.items + count }
-    ensures capacity { vec_capacity index.new ≡ vec_capacity index.old }
+    ensures { IsWidened count index.old index.new }
 {
     for _ in 0..count {
         index.push_reserved(Copied {
@@ -58,15 +56,9 @@ fn widen(index: &mut Vec<Copied>, count: usize)
 fn merge(index: &mut [Copied], kept: usize, slot: u8, numbers: &[u64]) -> (usize, usize)
     requires room { length index.old ≡ kept + length numbers.now }
     requires sorted { IsSorted (take kept index.old) }
-    requires few { length numbers.now ≤ 240 }
-    requires rising { IsRising numbers.now }
-    requires below { All (λ b. b < 2 ^ 31) numbers.now }
-    ensures length { length index.new ≡ length index.old }
-    ensures start_le_end { result.0 ≤ result.1 }
-    ensures in_bounds { result.1 ≤ length index.new }
-    ensures sorted { IsSorted (remove_range index.new result.0 result.1) }
-    ensures looks { (block : ℕ) → look (remove_range index.new result.0 result.1) block
-        ≡ with_copies slot 0 numbers.now (look (take kept index.old)) block }
+    requires numbers { AreEntered numbers.now }
+    ensures { IsMerged (with_copies slot 0 numbers.now (look (take kept index.old))) index.old
+        index.new result.0 result.1 }
 {
     let (mut left, mut place, mut to) = (kept, numbers.len(), index.len());
     while place > 0 {
@@ -92,8 +84,7 @@ fn merge(index: &mut [Copied], kept: usize, slot: u8, numbers: &[u64]) -> (usize
 fn close(index: &mut Vec<Copied>, from: usize, to: usize)
     requires start_le_end { from ≤ to }
     requires in_bounds { to ≤ length index.old.items }
-    ensures items { index.new.items ≡ remove_range index.old.items from to }
-    ensures capacity { vec_capacity index.new ≡ vec_capacity index.old }
+    ensures { ComesToHave (remove_range index.old.items from to) index.old index.new }
 {
     if from < to {
         let left = index.len() - (to - from);
@@ -107,14 +98,10 @@ fn close(index: &mut Vec<Copied>, from: usize, to: usize)
 pub(crate) fn enter_record(index: &mut Vec<Copied>, slot: u64, numbers: &[u64])
     requires sorted { IsSorted index.old.items }
     requires slot { slot < 64 }
-    requires few { length numbers.now ≤ 240 }
-    requires rising { IsRising numbers.now }
-    requires below { All (λ b. b < 2 ^ 31) numbers.now }
+    requires numbers { AreEntered numbers.now }
     requires fits { length index.old.items + length numbers.now ≤ vec_capacity index.old }
-    ensures sorted { IsSorted index.new.items }
-    ensures looks { (block : ℕ) → look index.new.items block
-        ≡ with_copies slot 0 numbers.now (look index.old.items) block }
-    ensures capacity { vec_capacity index.new ≡ vec_capacity index.old }
+    ensures { ComesToName (with_copies slot 0 numbers.now (look index.old.items)) index.old
+        index.new }
 {
     let kept = index.len();
     widen(index, numbers.len());
@@ -124,11 +111,9 @@ pub(crate) fn enter_record(index: &mut Vec<Copied>, slot: u64, numbers: &[u64])
 
 /// Drops the copies that stand in a slot.
 pub(crate) fn drop_slot(index: &mut Vec<Copied>, slot: u64)
-    requires sorted { IsSorted index.old.items }
-    ensures sorted { IsSorted index.new.items }
-    ensures looks { (block : ℕ) → look index.new.items block
-        ≡ outside slot (look index.old.items block) }
-    ensures capacity { vec_capacity index.new ≡ vec_capacity index.old }
+    requires { IsSorted index.old.items }
+    ensures { ComesToName (λ block. outside slot (look index.old.items block)) index.old
+        index.new }
 {
     index.retain(|copied| copied.slot as u64 != slot);
 }

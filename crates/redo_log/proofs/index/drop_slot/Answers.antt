@@ -6,14 +6,13 @@ use Rattle.redo_log.specs.Index.{look, IsSorted}
 use Rattle.redo_log.proofs.Indexing.{is_outside, sorted_filter, look_filter}
 use Rattle.redo_log.proofs.index.drop_slot.Goals as goal
 
-pub returns-clause-sorted : goal.returns-clause-sorted
-returns-clause-sorted c =
+pub returns : goal.returns
+returns c =
     let kept = filter_same _ (is_outside c.args.slot) _ (λ x b g called. (grind (arith, nat_tests, called), search rules)) _ _
     c.retain.ensures.filtered in
-    subst IsSorted (sym kept) (sorted_filter c.args.slot c.args.index.now.items c.requires.sorted)
-
-pub returns-clause-looks : goal.returns-clause-looks
-returns-clause-looks c b =
-    let kept = filter_same _ (is_outside c.args.slot) _ (λ x b g called. (grind (arith, nat_tests, called), search rules)) _ _
-    c.retain.ensures.filtered in
-    ap (λ (l : List Copied). look l b) kept ∙ look_filter c.args.slot c.args.index.now.items c.requires.sorted b
+    record {
+      sorted = subst IsSorted (sym kept) (sorted_filter c.args.slot c.args.index.now.items c.requires);
+      looks = λ b.
+          ap (λ (l : List Copied). look l b) kept ∙ look_filter c.args.slot c.args.index.now.items c.requires b;
+      capacity = search rules;
+    }

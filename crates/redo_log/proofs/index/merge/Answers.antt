@@ -1,4 +1,4 @@
-use Rattle.std.proofs.Common.{◌≡◌, ◌<◌, ◌≤◌, ◌-◌, ℕ, get_or, take, refl, ◌∙◌, ap, subst, arith}
+use Rattle.std.proofs.Common.{◌≡◌, ◌<◌, ◌≤◌, ◌-◌, ℕ, get_or, take, refl, ◌∙◌, ap, subst, arith, rules}
 use Rattle.redo_log.specs.Index.{block_at}
 use Rattle.redo_log.proofs.Merging.{IsLeft, IsMerging, entry_moves, number_enters, left_all, left_less, merging_ends}
 use Rattle.redo_log.proofs.index.merge.Goals.{else-left-gt0-via-then-left-gt0+else-index-left, else-left-gt0-via-else-left-gt0}
@@ -9,7 +9,7 @@ use Rattle.redo_log.proofs.index.merge.Goals as goal
 pub loop-place-preserved-then-index-left : goal.loop-place-preserved-then-index-left
 loop-place-preserved-then-index-left c =
     let l = c.loop-place in
-    entry_moves (take c.args.kept c.args.index.now) c.args.slot c.args.numbers.now c.requires.sorted c.requires.rising l.left (l.left - 1)
+    entry_moves (take c.args.kept c.args.index.now) c.args.slot c.args.numbers.now c.requires.sorted c.requires.numbers.rising l.left (l.left - 1)
     l.place l.to (l.to - 1) l.index (omega (arith, c.if-left-gt0.true)) (omega (arith, c.loop-place-test.true, l.invariant.room))
     (λ some. omega (arith, c.if-index-left.true)) l.invariant
 
@@ -24,32 +24,32 @@ loop-place-preserved c =
     ] in
     let stays : IsLeft old block l.left c.if-left-gt0-2.left = elim c.if-left-gt0-2.branch [
       | then-left-gt0-2+then-index-left-2 w ↦
-          left_less old c.args.slot c.args.numbers.now c.requires.sorted c.requires.rising l.left c.if-left-gt0-2.left l.index block
+          left_less old c.args.slot c.args.numbers.now c.requires.sorted c.requires.numbers.rising l.left c.if-left-gt0-2.left l.index block
           l.invariant.entries l.invariant.front (omega (arith, w.left-is, w.if-left-gt0-2.true))
           (ap (block_at l.index) w.left-is ∙ w.if-index-left-2.true)
       | else-left-gt0-2 w ↦
-          left_all old c.args.slot c.args.numbers.now c.requires.sorted c.requires.rising l.left c.if-left-gt0-2.left l.index block
+          left_all old c.args.slot c.args.numbers.now c.requires.sorted c.requires.numbers.rising l.left c.if-left-gt0-2.left l.index block
           l.invariant.entries l.invariant.front (omega (arith, w.left-is)) (λ some. elim w.else-left-gt0-2.branch [
             | else-left-gt0-2-via-then-left-gt0-2+else-index-left-2 v ↦ omega (arith, v.if-index-left-2.false, low some)
             | else-left-gt0-2-via-else-left-gt0-2 v ↦ absurd (omega (arith, some, v.if-left-gt0-2.false))
           ])
     ] in
-    number_enters old c.args.slot c.args.numbers.now c.requires.sorted c.requires.rising l.left c.if-left-gt0-2.left l.place (l.place - 1)
+    number_enters old c.args.slot c.args.numbers.now c.requires.sorted c.requires.numbers.rising l.left c.if-left-gt0-2.left l.place (l.place - 1)
     l.to (l.to - 1) l.index (record { block = block; slot = c.args.slot; place = l.place - 1 }) (omega (arith, c.loop-place-test.true))
     (omega (arith, c.loop-place-test.true, l.invariant.room)) refl refl refl stays l.invariant
 
-pub returns-clause-sorted : goal.returns-clause-sorted
-returns-clause-sorted c =
+pub returns : goal.returns
+returns c =
     let l = c.loop-place in
     let none : l.place ≡ 0 = omega (arith, c.loop-place-test.false) in
-    (merging_ends (take c.args.kept c.args.index.now) c.args.slot c.args.numbers.now c.requires.sorted c.requires.rising l.left l.to l.index
+    let ends = merging_ends (take c.args.kept c.args.index.now) c.args.slot c.args.numbers.now c.requires.sorted c.requires.numbers.rising
+    l.left l.to l.index
     (subst (λ (n : ℕ). IsMerging (take c.args.kept c.args.index.now) c.args.slot c.args.numbers.now l.left n l.to l.index) none
-    l.invariant)).sorted
-
-pub returns-clause-looks : goal.returns-clause-looks
-returns-clause-looks c =
-    let l = c.loop-place in
-    let none : l.place ≡ 0 = omega (arith, c.loop-place-test.false) in
-    (merging_ends (take c.args.kept c.args.index.now) c.args.slot c.args.numbers.now c.requires.sorted c.requires.rising l.left l.to l.index
-    (subst (λ (n : ℕ). IsMerging (take c.args.kept c.args.index.now) c.args.slot c.args.numbers.now l.left n l.to l.index) none
-    l.invariant)).looks
+    l.invariant) in
+    record {
+      same_length = search rules;
+      start_le_end = search rules;
+      in_bounds = search rules;
+      sorted = ends.sorted;
+      looks = ends.looks;
+    }

@@ -212,11 +212,12 @@ numbers_inside : (shape : Shape) (waiting : List (List ℕ)) (turned : ℕ) (und
 numbers_inside shape waiting turned under_way numbers made m ring is same =
     subst (AreInside shape) (sym same) ((subst (λ (o : Option ℕ). IsUnderWay shape under_way o) is ring.record_under_way).0)
 
-pub enter_record-requires-clause-rising : goal.enter_record-requires-clause-rising
-enter_record-requires-clause-rising g c =
+pub enter_record-requires-clause-numbers : goal.enter_record-requires-clause-numbers
+enter_record-requires-clause-numbers g c =
     let i = c.self.inside in
-    (numbers_inside (shape_of i.sizes) (lists_of i.waiting.items) i.turned i.under_way.items c.args.numbers.now i.made c.in-Some.made
-    c.self.invariant.ring c.in-Some.is (c.requires.numbers ∙ ap (λ (v : LogValue). v.under_way) (sym c.self.view_is))).rising
+    let inside = numbers_inside (shape_of i.sizes) (lists_of i.waiting.items) i.turned i.under_way.items c.args.numbers.now i.made
+    c.in-Some.made c.self.invariant.ring c.in-Some.is (c.requires.numbers ∙ ap (λ (v : LogValue). v.under_way) (sym c.self.view_is)) in
+    record { few = search rules; rising = inside.rising; below = search rules }
 
 pub enter_record-requires-clause-fits : goal.enter_record-requires-clause-fits
 enter_record-requires-clause-fits g c =
