@@ -6,7 +6,7 @@ use Rattle.medium.specs.Moments.{IsQuiet, SparesFrom}
 use Rattle.medium.specs.declared.fault.MediumFault.{MediumFault}
 use Rattle.journal.specs.declared.log_format.LogFormat.{LogFormat}
 use Rattle.journal.specs.declared.log_format.LogFormat.TheVariants.{One, Two}
-use Rattle.journal.specs.Places.{Shape, first_home, first_data_of}
+use Rattle.journal.specs.Places.{Shape, first_home, first_data_of, sectors_of}
 use Rattle.journal.specs.Spelling.{spelling, head_mark}
 use Rattle.journal.specs.Layout.{slot_at}
 use Rattle.journal.specs.Formats.{layout_of}
@@ -63,6 +63,13 @@ pub record MakesTurn (turn : Turn) (result : Result (Unit {0}) MediumFault) (old
   pub done : OnOk result (IsTurned turn old new)
   pub adds : MayTurn turn old new
   pub spares : (first : ℕ) → IsInside first turn → SparesFrom first old new
+
+-- The calls do this where they are good. They write to no sector but this one, and these bytes.
+pub record WritesSector (place : ℕ) (bytes : List ℕ) (Done : Type 0)
+    (result : Result (Unit {0}) MediumFault) (old new : State) : Type 0 where
+  pub done : OnOk result Done
+  pub adds : WritesOnly place bytes old new
+  pub spares : (first : ℕ) → place < first → SparesFrom first old new
 
 -- how many calls it makes: one to read or to flush, two to copy, and two for the head
 abbrev pub calls_of : Turn → ℕ
@@ -144,3 +151,10 @@ pub record IsNextTurn (shape : Shape) (stamp : ℕ) (numbers kept : List ℕ) (t
       → IsHomeTurn shape.format shape stamp numbers kept turned turn
   pub flush : turned ≡ turns_home shape.format (length numbers) → IsFlushTurn turn
   pub head : turned ≡ turns_home shape.format (length numbers) + 1 → IsHeadTurn (stamp + 1) turn
+
+-- The turn is the one that this says. It reads and writes no sector behind the image, and reads
+-- none at home.
+pub record StaysInImage (Is : Type 0) (shape : Shape) (turn : Turn) : Type 0 where
+  pub next : Is
+  pub inside : IsInside (sectors_of shape) turn
+  pub reads : ReadsBefore (first_home shape) turn

@@ -1,17 +1,16 @@
 //! The turns that retire a durable record, one after the other.
 ghost use Rattle.std.specs.Prelude.{◌≡◌, ℕ, ◌≤◌, ◌<◌, ◌+◌, ◌*◌, length, slice_index};
-ghost use Rattle.std.specs.Prelude.{OnOk, is_ok, if◌then◌else◌};
+ghost use Rattle.std.specs.Prelude.{is_ok, if◌then◌else◌};
 ghost use Rattle.medium.specs.Medium.{Holds, Only, LooksOnly};
-ghost use Rattle.medium.specs.Moments.{SparesFrom};
-ghost use Rattle.journal.specs.Places.{first_home, sectors_of, first_data_of};
+ghost use Rattle.journal.specs.Places.{first_data_of};
 ghost use Rattle.journal.specs.Values.{shape_of};
 ghost use Rattle.journal.specs.Layout.{slot_at};
 ghost use Rattle.journal.specs.Formats.{layout_of};
 ghost use Rattle.redo_log.specs.Value.{turns_home};
 ghost use Rattle.redo_log.specs.Stages.{IsRecord};
-ghost use Rattle.redo_log.specs.Calls.{CallsUpTo, WritesOnly};
+ghost use Rattle.redo_log.specs.Calls.{CallsUpTo};
 ghost use Rattle.redo_log.specs.Turns.{begun_with, kept_by, calls_of, sends_of, flushes_of};
-ghost use Rattle.redo_log.specs.Turns.{IsInside, MakesTurn, ReadsBefore};
+ghost use Rattle.redo_log.specs.Turns.{IsInside, MakesTurn, ReadsBefore, WritesSector, StaysInImage};
 ghost use Rattle.redo_log.specs.Turns.{IsCopyOf, IsHomeTurn, IsNextTurn};
 
 use journal::{Head, HomeTurn, Super, copy_place, home_turn, slot_of, slot_place, turns_home, v2};
@@ -63,13 +62,10 @@ fn copy_sector<M: Medium>(
 ) -> Result<(), MediumFault>
     requires from_inside { from < (M.state m.old).size }
     requires to_inside { to < (M.state m.old).size }
-    ensures done { OnOk result (Holds to (begun_with first.now ((M.state m.old).content from))
-        (M.state m.old).content (M.state m.new).content) }
-    ensures adds { WritesOnly to (begun_with first.now ((M.state m.old).content from))
-        (M.state m.old) (M.state m.new) }
+    ensures writes { let bytes = begun_with first.now ((M.state m.old).content from) in
+        WritesSector to bytes (Holds to bytes (M.state m.old).content (M.state m.new).content)
+        result (M.state m.old) (M.state m.new) }
     ensures counts { CallsUpTo 2 1 0 result (M.state m.old) (M.state m.new) }
-    ensures spares { (first : ℕ) → to < first
-        → SparesFrom first (M.state m.old) (M.state m.new) }
     ensures follows { M.follows m.old m.new
         × LooksOnly (λ s. s ≡ from) (M.state m.old) (M.state m.new) }
 {
@@ -91,13 +87,11 @@ fn put_first(sector: &mut [u8; 512], first: &Option<[u8; 8]>)
 // Writes a sector and flushes it.
 fn write_through<M: Medium>(m: &mut M, place: u64, sector: &[u8; 512]) -> Result<(), MediumFault>
     requires { place < (M.state m.old).size }
-    ensures done { OnOk result
+    ensures writes { WritesSector place sector.now
         (Holds place sector.now (M.state m.old).content (M.state m.new).content
-        × Only (M.state m.new).content (M.state m.new).may_leave) }
-    ensures adds { WritesOnly place sector.now (M.state m.old) (M.state m.new) }
+        × Only (M.state m.new).content (M.state m.new).may_leave)
+        result (M.state m.old) (M.state m.new) }
     ensures counts { CallsUpTo 2 2 1 result (M.state m.old) (M.state m.new) }
-    ensures spares { (first : ℕ) → place < first
-        → SparesFrom first (M.state m.old) (M.state m.new) }
     ensures follows { M.follows m.old m.new
         × ((M.state m.new).looked ≡ (M.state m.old).looked) }
 {
@@ -115,9 +109,9 @@ pub(crate) fn next_turn(
 ) -> Turn
     requires record { IsRecord (shape_of sizes.now) stamp numbers.now }
     requires turned { turned < turns_home sizes.now.format (length numbers.now) + 2 }
-    ensures next { IsNextTurn (shape_of sizes.now) stamp numbers.now kept.now turned result }
-    ensures inside { IsInside (sectors_of (shape_of sizes.now)) result }
-    ensures reads { ReadsBefore (first_home (shape_of sizes.now)) result }
+    ensures { StaysInImage
+        (IsNextTurn (shape_of sizes.now) stamp numbers.now kept.now turned result)
+        (shape_of sizes.now) result }
 {
     let home = turns_home(sizes.format, numbers.len());
     if turned < home {
@@ -134,10 +128,8 @@ pub(crate) fn next_turn(
 fn turn_home(sizes: &Super, stamp: u64, numbers: &[u64], kept: &[u8; 512], turned: usize) -> Turn
     requires record { IsRecord (shape_of sizes.now) stamp numbers.now }
     requires turned { turned < turns_home sizes.now.format (length numbers.now) }
-    ensures next { IsHomeTurn sizes.now.format (shape_of sizes.now) stamp numbers.now kept.now
-        turned result }
-    ensures inside { IsInside (sectors_of (shape_of sizes.now)) result }
-    ensures reads { ReadsBefore (first_home (shape_of sizes.now)) result }
+    ensures { StaysInImage (IsHomeTurn sizes.now.format (shape_of sizes.now) stamp numbers.now
+        kept.now turned result) (shape_of sizes.now) result }
 {
     match home_turn(sizes.format, turned) {
         HomeTurn::Read(j) => {
@@ -153,11 +145,9 @@ fn turn_home(sizes: &Super, stamp: u64, numbers: &[u64], kept: &[u8; 512], turne
 fn copy_turn(sizes: &Super, stamp: u64, numbers: &[u64], i: usize, first: Option<[u8; 8]>) -> Turn
     requires record { IsRecord (shape_of sizes.now) stamp numbers.now }
     requires inside { i < length numbers.now }
-    ensures copies { IsCopyOf (slot_at (layout_of sizes.now.format) (shape_of sizes.now) stamp
-        + first_data_of sizes.now.format + i)
-        (sizes.now.home + slice_index numbers.now i) first result }
-    ensures inside { IsInside (sectors_of (shape_of sizes.now)) result }
-    ensures reads { ReadsBefore (first_home (shape_of sizes.now)) result }
+    ensures { StaysInImage (IsCopyOf (slot_at (layout_of sizes.now.format) (shape_of sizes.now)
+        stamp + first_data_of sizes.now.format + i)
+        (sizes.now.home + slice_index numbers.now i) first result) (shape_of sizes.now) result }
 {
     let from = copy_place(sizes.format, slot_of(stamp, sizes.slots), i);
     Turn::Copy(from, sizes.home_of(numbers[i]), first)

@@ -1,18 +1,22 @@
-use Rattle.std.proofs.Common.{◌≡◌, ℕ, List, ◌∙◌, ap}
+use Rattle.std.proofs.Common.{◌≡◌, ℕ, List, ◌∙◌, ap, rules}
 use Rattle.medium.proofs.Looking.{write_looks, looks_joined}
 use Rattle.redo_log.specs.Turns.{begun_with}
 use Rattle.redo_log.proofs.Adding.{quiet_write}
 use Rattle.redo_log.proofs.turn.copy_sector.Goals as goal
 
-pub returns-clause-adds : goal.returns-clause-adds
-returns-clause-adds g c =
+pub returns-clause-writes : goal.returns-clause-writes
+returns-clause-writes g c =
     let old = g.M.Medium.state c.args.m.now in
     let mid = g.M.Medium.state c.read.new.self in
     let new = g.M.Medium.state c.write.new.self in
-    quiet_write c.args.to (begun_with c.args.first.now (old.content c.args.from)) c.put_first.new.sector old mid new
-    (g.met.M.Medium.sound c.args.m.now)
-    (c.put_first.ensures ∙ ap (λ (l : List ℕ). begun_with c.args.first.now l) c.in_ok-read.ensures.ok) c.read.ensures.passes
-    c.read.ensures.sets c.write.ensures.passes c.write.ensures.sets
+    record {
+      done = search rules;
+      adds = quiet_write c.args.to (begun_with c.args.first.now (old.content c.args.from)) c.put_first.new.sector old mid new
+          (g.met.M.Medium.sound c.args.m.now)
+          (c.put_first.ensures ∙ ap (λ (l : List ℕ). begun_with c.args.first.now l) c.in_ok-read.ensures.ok) c.read.ensures.passes
+          c.read.ensures.sets c.write.ensures.passes c.write.ensures.sets;
+      spares = search rules;
+    }
 
 pub returns-clause-follows : goal.returns-clause-follows
 returns-clause-follows g c =

@@ -1,14 +1,18 @@
-use Rattle.std.proofs.Common.{◌∙◌}
+use Rattle.std.proofs.Common.{◌∙◌, rules}
 use Rattle.redo_log.proofs.Adding.{write_quiet}
 use Rattle.redo_log.proofs.turn.write_through.Goals as goal
 
-pub returns-clause-adds : goal.returns-clause-adds
-returns-clause-adds g c =
+pub returns-clause-writes : goal.returns-clause-writes
+returns-clause-writes g c =
     let old = g.M.Medium.state c.args.m.now in
     let mid = g.M.Medium.state c.write.new.self in
     let new = g.M.Medium.state c.flush.new.self in
-    write_quiet c.args.place c.args.sector.now old mid new (g.met.M.Medium.sound c.args.m.now) c.write.ensures.passes c.write.ensures.sets
-    c.flush.ensures.passes c.flush.ensures.sets
+    record {
+      done = search rules;
+      adds = write_quiet c.args.place c.args.sector.now old mid new (g.met.M.Medium.sound c.args.m.now) c.write.ensures.passes
+          c.write.ensures.sets c.flush.ensures.passes c.flush.ensures.sets;
+      spares = search rules;
+    }
 
 pub returns-in_err-write-clause-follows : goal.returns-in_err-write-clause-follows
 returns-in_err-write-clause-follows g c = (c.write.ensures.follows, c.write.ensures.passes.looked_stays (λ e. cc e))

@@ -9,9 +9,9 @@ returns-in-Copy-clause-makes g c =
     let old = g.M.Medium.state c.args.m.now in
     let new = g.M.Medium.state c.copy_sector.new.m in
     subst (λ (t : Turn). MakesTurn t c.copy_sector.result old new) (sym c.in-Copy.is) (record {
-      done = c.copy_sector.ensures.done;
-      adds = c.copy_sector.ensures.adds;
-      spares = λ first inside. c.copy_sector.ensures.spares first inside.1;
+      done = c.copy_sector.ensures.writes.done;
+      adds = c.copy_sector.ensures.writes.adds;
+      spares = λ first inside. c.copy_sector.ensures.writes.spares first inside.1;
     })
 
 pub returns-in_err-read-in-Load-clause-follows : goal.returns-in_err-read-in-Load-clause-follows
