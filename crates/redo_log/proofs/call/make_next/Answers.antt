@@ -43,25 +43,28 @@ write_part-requires-clause-inside g c =
     ((layout_of c.args.sizes.now.format).parts (length c.args.numbers.now)) c.parts.ensures c.if-is_flush_due.false
     (λ all. c.is_flush_due.ensures.1 (inr all))
 
-pub returns-then-is_flush_due-clause-makes : goal.returns-then-is_flush_due-clause-makes
-returns-then-is_flush_due-clause-makes g c =
+pub returns-then-is_flush_due : goal.returns-then-is_flush_due
+returns-then-is_flush_due g c =
     let L = layout_of c.args.sizes.now.format in
     let due = due_here L (length c.args.numbers.now) c.args.made c.early-early.result c.parts.result c.written_at-written.result
     c.early-early.ensures c.parts.ensures c.written_at-written.ensures (c.is_flush_due.ensures.0 c.if-is_flush_due.true) in
     record {
-      call = Flush;
-      next = (
-        λ _. tt,
-        λ not.
-            absurd (not (subst (λ (k : ℕ). IsFlushDue L k c.args.made) (sym (length_of_batch c.args.numbers.now c.args.bytes.now)) due)),
-      );
-      inside = tt;
-      makes = flush_makes (g.M.Medium.state c.args.m.now) (g.M.Medium.state c.flush.new.self) c.flush.result
-          (g.met.M.Medium.sound c.args.m.now) c.flush.ensures.ok c.flush.ensures.content c.flush.ensures.sets c.flush.ensures.passes;
+      makes = record {
+        call = Flush;
+        next = (
+          λ _. tt,
+          λ not.
+              absurd (not (subst (λ (k : ℕ). IsFlushDue L k c.args.made) (sym (length_of_batch c.args.numbers.now c.args.bytes.now)) due)),
+        );
+        inside = tt;
+        makes = flush_makes (g.M.Medium.state c.args.m.now) (g.M.Medium.state c.flush.new.self) c.flush.result
+            (g.met.M.Medium.sound c.args.m.now) c.flush.ensures.ok c.flush.ensures.content c.flush.ensures.sets c.flush.ensures.passes;
+      };
+      follows = c.flush.ensures.follows;
     }
 
-pub returns-clause-makes : goal.returns-clause-makes
-returns-clause-makes g c =
+pub returns : goal.returns
+returns g c =
     let L = layout_of c.args.sizes.now.format in
     let shape = shape_of c.args.sizes.now in
     let E = entries_of c.args.numbers.now c.args.bytes.now in
@@ -78,19 +81,22 @@ returns-clause-makes g c =
     → (part_at L shape c.args.stamp n w ≡ part_at L shape c.args.stamp k (written_at (L.early k) c.args.made))
     × (L.part c.args.stamp E w ≡ L.part c.args.stamp E (written_at (L.early k) c.args.made))) in
     record {
-      call = Write (part_at L shape c.args.stamp n w) (L.part c.args.stamp E w);
-      next = subst P (sym (length_of_batch c.args.numbers.now c.args.bytes.now)) (
-        λ due. not_true c.is_flush_due.result c.if-is_flush_due.false
-            (c.is_flush_due.ensures.1 (due_there L (length c.args.numbers.now) c.args.made c.early-early.result c.parts.result
-            c.written_at-written.result c.early-early.ensures c.parts.ensures c.written_at-written.ensures due)),
-        λ not. (
-          ap (λ (x : ℕ). part_at L shape c.args.stamp (length c.args.numbers.now) x) w_is,
-          ap (λ (x : ℕ). L.part c.args.stamp E x) w_is,
-        ),
-      );
-      inside = before_home shape (sizes_sized c.args.sizes.now) c.args.stamp
-          (L.offset (length c.args.numbers.now) c.written_at-written.result)
-          ((laws_of c.args.sizes.now.format).inside (length c.args.numbers.now) c.written_at-written.result
-          (omega (arith, few, most_is c.args.sizes.now.format)) small);
-      makes = c.write_part.ensures.makes;
+      makes = record {
+        call = Write (part_at L shape c.args.stamp n w) (L.part c.args.stamp E w);
+        next = subst P (sym (length_of_batch c.args.numbers.now c.args.bytes.now)) (
+          λ due. not_true c.is_flush_due.result c.if-is_flush_due.false
+              (c.is_flush_due.ensures.1 (due_there L (length c.args.numbers.now) c.args.made c.early-early.result c.parts.result
+              c.written_at-written.result c.early-early.ensures c.parts.ensures c.written_at-written.ensures due)),
+          λ not. (
+            ap (λ (x : ℕ). part_at L shape c.args.stamp (length c.args.numbers.now) x) w_is,
+            ap (λ (x : ℕ). L.part c.args.stamp E x) w_is,
+          ),
+        );
+        inside = before_home shape (sizes_sized c.args.sizes.now) c.args.stamp
+            (L.offset (length c.args.numbers.now) c.written_at-written.result)
+            ((laws_of c.args.sizes.now.format).inside (length c.args.numbers.now) c.written_at-written.result
+            (omega (arith, few, most_is c.args.sizes.now.format)) small);
+        makes = c.write_part.ensures.makes;
+      };
+      follows = c.write_part.ensures.follows;
     }

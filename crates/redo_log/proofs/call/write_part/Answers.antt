@@ -30,14 +30,16 @@ place_inside sizes stamp n p o first slot few below o_is first_is slot_is =
 index_is : (p parts all n : ℕ) → parts ≡ all → n + 1 ≤ all → parts - 1 - n ≤ p → p + 1 + n ≡ all + (p - (parts - 1 - n))
 index_is p parts all n is more first = omega (arith, is, more, first)
 
-pub returns-then-p-first-clause-makes : goal.returns-then-p-first-clause-makes
-returns-then-p-first-clause-makes g c =
-    block_makes (shape_of c.args.sizes.now) c.args.stamp c.args.numbers.now c.args.bytes.now
-    (c.args.p - (c.parts.result - 1 - length c.args.numbers.now)) c.args.p c.slot_of-slot.result c.copy_place-place.result
-    (g.M.Medium.state c.args.m.now) (g.M.Medium.state c.write_block.new.m) c.write_block.result c.if-p-first.true
-    (index_is c.args.p c.parts.result ((layout_of c.args.sizes.now.format).parts (length c.args.numbers.now)) (length c.args.numbers.now)
-    c.parts.ensures (parts_more c.args.sizes.now.format (length c.args.numbers.now)) c.if-first-p.true)
-    c.slot_of-slot.ensures c.copy_place-place.ensures c.write_block.ensures.makes
+pub returns-then-p-first : goal.returns-then-p-first
+returns-then-p-first g c = record {
+  makes = block_makes (shape_of c.args.sizes.now) c.args.stamp c.args.numbers.now c.args.bytes.now
+      (c.args.p - (c.parts.result - 1 - length c.args.numbers.now)) c.args.p c.slot_of-slot.result c.copy_place-place.result
+      (g.M.Medium.state c.args.m.now) (g.M.Medium.state c.write_block.new.m) c.write_block.result c.if-p-first.true
+      (index_is c.args.p c.parts.result ((layout_of c.args.sizes.now.format).parts (length c.args.numbers.now))
+      (length c.args.numbers.now) c.parts.ensures (parts_more c.args.sizes.now.format (length c.args.numbers.now)) c.if-first-p.true)
+      c.slot_of-slot.ensures c.copy_place-place.ensures c.write_block.ensures.makes;
+  follows = c.write_block.ensures.follows;
+}
 
 pub overflow_add-slot_place : goal.overflow_add-slot_place
 overflow_add-slot_place g c =
