@@ -2,9 +2,11 @@
 use Rattle.std.specs.Prelude.{◌+◌, ◌≡◌, ℕ, ◌/◌, ◌%◌, ◌<◌, ◌≤◌, Bool, true, List, [], ◌∷◌, ◌++◌}
 use Rattle.std.specs.Prelude.{length}
 use Rattle.std.specs.Prelude.{take}
-use Rattle.std.specs.Prelude.{Option, Some, None, if◌then◌else◌, nat_lt}
+use Rattle.std.specs.Prelude.{Option, Some, None, if◌then◌else◌, nat_lt, Result, is_ok, OnOk, OnErr}
 use Rattle.medium.specs.Medium.{State, Image, CutLeaves}
+use Rattle.medium.specs.Moments.{IsFlushed}
 use Rattle.medium.specs.Tally.{of_kind, of_all}
+use Rattle.medium.specs.declared.fault.MediumFault.{MediumFault}
 use Rattle.mirror.specs.Device.{Device, durable, after}
 use Rattle.mirror.specs.Story as story
 use Rattle.mirror.specs.Story.{Told, given, are_whole}
@@ -129,3 +131,27 @@ pub record IsWellFormed (m : Mirror) : Type 0 where
   pub whole_writes : are_whole (given m.story.asked) ≡ true
   pub all_sent : given m.story.asked ≡ sent m
   pub held : length m.outbox ≤ m.room
+
+-- a medium of these bytes was asked nothing yet, and a cut of it leaves them
+pub record IsFresh (bytes : List ℕ) (room : ℕ) (m : Mirror) : Type 0 where
+  pub value : m ≡ fresh bytes room
+  pub flushed : IsFlushed (state_of m)
+
+-- the first call is taken out of what waits, and answered
+pub record TakesFirst (result : Option DeviceCall) (old new : Mirror) : Type 0 where
+  pub first : result ≡ first_of old.outbox
+  pub rest : new ≡ without_first old
+
+-- so many calls wait, and what that says of all calls of a medium that follow
+pub record AreWaiting (count : ℕ) (old : Mirror) : Type 0 where
+  pub is : count ≡ length old.outbox
+  pub most : count ≤ old.room
+  pub device : (new : Mirror) → ComesAfter old new → CoversDevice old new
+  pub room : (new : Mirror) → ComesAfter old new → HasRoomFor old new
+
+-- the device is to carry this call out, where there is room for it, and else it is refused
+pub record Sends (call : DeviceCall) (result : Result (Unit {0}) MediumFault) (old new : Mirror)
+    : Type 0 where
+  pub exact : OnOk result (new ≡ gives old call)
+  pub refused : OnErr result (new ≡ refuses old call)
+  pub happens : is_ok result ≡ fits old

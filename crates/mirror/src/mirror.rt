@@ -1,11 +1,8 @@
 //! A medium in memory, and an outbox for the device behind it.
-ghost use Rattle.std.specs.Prelude.{◌≡◌, ◌≢◌, ◌⊎◌, ◌+◌, ◌≤◌, ◌%◌, ◌↔◌, ℕ, [], length};
+ghost use Rattle.std.specs.Prelude.{◌≡◌, ◌≢◌, ◌⊎◌, ◌+◌, ◌%◌, ◌↔◌, ℕ, [], length};
 ghost use Rattle.std.specs.Prelude.{IfOk, IsErrOf};
-ghost use Rattle.medium.specs.Moments.{IsFlushed};
 ghost use Rattle.medium.specs.Writes.{sector_of};
-ghost use Rattle.mirror.specs.Mirror.{HasRoomFor};
-ghost use Rattle.mirror.specs.Mirror.{Mirror, state_of, fresh, first_of, without_first, ComesAfter};
-ghost use Rattle.mirror.specs.Mirror.{CoversDevice};
+ghost use Rattle.mirror.specs.Mirror.{state_of, first_of, IsFresh, TakesFirst, AreWaiting};
 
 use crate::call::{DeviceCall, SectorWrite};
 use crate::sectors::{SECTOR, Sectors};
@@ -32,8 +29,7 @@ pub enum MirrorError {
 /// outbox has no room, and change nothing then. After `new` no call takes memory.
 ///
 /// What a cut may leave is what it may leave of a device that has carried out all that was sent,
-/// and
-/// the moments are those of the device on its way there.
+/// and the moments are those of the device on its way there.
 #[derive(Drop)]
 pub struct MirrorMedium {
     sectors: Sectors,
@@ -62,8 +58,7 @@ impl MirrorMedium {
     /// `BadLength` where the length is 0 or no multiple of 512, and otherwise `NoMemory` where the
     /// room could not be had.
     pub fn new(alloc: Global, bytes: Vec<u8>, room: usize) -> Result<MirrorMedium, MirrorError>
-        ensures ok { IfOk result (λ m. m ≡ fresh bytes.items room) }
-        ensures flushed { IfOk result (λ m. IsFlushed (state_of m)) }
+        ensures ok { IfOk result (IsFresh bytes.items room) }
         ensures length { IsErrOf result MirrorError.BadLength
             ↔ ((length bytes.items ≡ 0) ⊎ (length bytes.items % 512 ≢ 0)) }
     {
@@ -86,8 +81,7 @@ impl MirrorMedium {
     /// Takes the first call out of the outbox. It is no call of a medium: content, moments and what
     /// a cut may leave stay.
     pub fn take(&mut self) -> Option<DeviceCall>
-        ensures first { result ≡ first_of self.old.outbox }
-        ensures rest { self.new ≡ without_first self.old }
+        ensures { TakesFirst result self.old self.new }
     {
         let call = self.outbox.pop_front()?;
         self.story = self.story.took(&call);
@@ -104,15 +98,11 @@ impl MirrorMedium {
     /// How many calls wait in the outbox.
     ///
     /// Whatever calls of a medium are made from here on: a device that has carried out what was
-    /// sent
-    /// until now, and any first part of what is sent from now on, is in a state that the medium was
-    /// in since. What a loss of power leaves of it is said by the clauses on every moment. And none
-    /// of these calls is refused, as long as they have room beside what waits now.
+    /// sent until now, and any first part of what is sent from now on, is in a state that the medium
+    /// was in since. What a loss of power leaves of it is said by the clauses on every moment. And
+    /// none of these calls is refused, as long as they have room beside what waits now.
     pub fn waiting(&self) -> usize
-        ensures is { result ≡ length self.now.outbox }
-        ensures most { result ≤ self.now.room }
-        ensures device { (new : Mirror) → ComesAfter self.now new → CoversDevice self.now new }
-        ensures room { (new : Mirror) → ComesAfter self.now new → HasRoomFor self.now new }
+        ensures { AreWaiting result self.now }
     {
         self.outbox.len()
     }
@@ -142,10 +132,10 @@ impl MirrorMedium {
 }
 
 impl Medium for MirrorMedium {
-    ghost use Rattle.std.specs.Prelude.{◌≡◌, ◌⊎◌, ◌<◌, IsOk, is_ok, OnOk, OnErr};
+    ghost use Rattle.std.specs.Prelude.{◌≡◌, ◌⊎◌, ◌<◌, IsOk, OnOk, OnErr};
     ghost use Rattle.medium.specs.Medium.{Stays, Holds, Within, Gains, Only, Passes, LooksOnly};
     ghost use Rattle.medium.specs.declared.fault.MediumFault.TheVariants.{Read, Write, Flush};
-    ghost use Rattle.mirror.specs.Mirror.{state_of, fits, reads, gives, refuses, ComesAfter};
+    ghost use Rattle.mirror.specs.Mirror.{state_of, reads, ComesAfter, Sends};
     ghost use Rattle.mirror.specs.MirrorLaws.{is_sound, comes_after_itself, comes_after_through};
     ghost use Rattle.mirror.specs.declared.call.DeviceCall.TheVariants as call;
 
@@ -181,11 +171,8 @@ impl Medium for MirrorMedium {
 
     fn write(&mut self, sector: u64, from: &[u8; 512]) -> Result<(), MediumFault>
         requires { sector < (state_of self.old).size }
-        ensures exact { OnOk result (self.new
-            ≡ gives self.old (call.Write (record { sector = sector; block = from.now }))) }
-        ensures refused { OnErr result (self.new
-            ≡ refuses self.old (call.Write (record { sector = sector; block = from.now }))) }
-        ensures happens { is_ok result ≡ fits self.old }
+        ensures sends { Sends (call.Write (record { sector = sector; block = from.now })) result
+            self.old self.new }
         ensures ok { OnOk result
             (Holds sector from.now (state_of self.old).content (state_of self.new).content) }
         ensures err { OnErr result (Stays (state_of self.old).content (state_of self.new).content
@@ -210,9 +197,7 @@ impl Medium for MirrorMedium {
     }
 
     fn flush(&mut self) -> Result<(), MediumFault>
-        ensures exact { OnOk result (self.new ≡ gives self.old call.Flush) }
-        ensures refused { OnErr result (self.new ≡ refuses self.old call.Flush) }
-        ensures happens { is_ok result ≡ fits self.old }
+        ensures sends { Sends call.Flush result self.old self.new }
         ensures ok { OnOk result (Only (state_of self.old).content (state_of self.new).may_leave) }
         ensures content { Stays (state_of self.old).content (state_of self.new).content }
         ensures sets { Within (state_of self.new).may_leave (state_of self.old).may_leave }

@@ -1,14 +1,10 @@
-use Rattle.std.proofs.Common.{List, Option, length, length-append, inl, inr, ap, subst, arith}
+use Rattle.std.proofs.Common.{List, Option, length, length-append, inl, inr, ap, subst, arith, rules}
 use Rattle.std.proofs.lemmas.Bool.{cases_lt}
 use Rattle.medium.specs.Tally.{of_all}
 use Rattle.mirror.specs.declared.call.DeviceCall.{DeviceCall}
 use Rattle.mirror.specs.Mirror.{Mirror, ComesAfter, CoversDevice, HasRoomFor}
 use Rattle.mirror.proofs.Devices.{covers}
 use Rattle.mirror.proofs.mirror.MirrorMedium.waiting.Goals as goal
-
-pub returns-clause-device : goal.returns-clause-device
-returns-clause-device c = subst (λ (m : Mirror). (new : Mirror) → ComesAfter m new → CoversDevice m new) c.self.view_is
-    (λ new follows. covers _ new c.self.invariant.well_formed.all_sent follows)
 
 room_for : (old new : Mirror) → ComesAfter old new → HasRoomFor old new
 room_for old new follows few = elim (cases_lt (of_all old.story.refused) (of_all new.story.refused)) [
@@ -24,5 +20,11 @@ room_for old new follows few = elim (cases_lt (of_all old.story.refused) (of_all
   | inr none ↦ omega (arith, none, follows.failures_stay)
 ]
 
-pub returns-clause-room : goal.returns-clause-room
-returns-clause-room c = room_for c.args.self.now
+pub returns : goal.returns
+returns c = record {
+  is = search rules;
+  most = search rules;
+  device = subst (λ (m : Mirror). (new : Mirror) → ComesAfter m new → CoversDevice m new) c.self.view_is
+      (λ new follows. covers _ new c.self.invariant.well_formed.all_sent follows);
+  room = room_for c.args.self.now;
+}
