@@ -11,4 +11,4 @@ mod story;
 pub use call::{DeviceCall, SectorWrite};
 pub use laws::device_laws;
 pub use mirror::{MirrorError, MirrorMedium};
-pub use sectors::put as put_sector;
+pub use sectors::{SECTOR, Sectors, put as put_sector};

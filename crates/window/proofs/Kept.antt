@@ -1,19 +1,19 @@
 -- How a medium that reads on demand stays kept, call by call.
-use Rattle.std.proofs.Common.{◌≡◌, ◌⊎◌, ◌≤◌, ◌<◌, inl, inr, ℕ, ◌+◌, ◌-◌, ◌*◌, ◌/◌, ◌%◌, true, false, List, [], ◌∷◌, ◌++◌, length, take}
-use Rattle.std.proofs.Common.{replicate, None, refl, sym, ◌∙◌, ap, subst, arith}
-use Rattle.std.proofs.Common.{length-append, append_assoc, deque_capacity, if◌then◌else◌}
+use Rattle.std.proofs.Common.{◌≡◌, ◌⊎◌, ◌≤◌, ◌<◌, inl, inr, ℕ, ◌+◌, ◌-◌, ◌*◌, ◌/◌, ◌%◌, true, false, List, [], ◌∷◌, ◌++◌, length}
+use Rattle.std.proofs.Common.{replicate, refl, sym, ◌∙◌, ap, subst, arith}
+use Rattle.std.proofs.Common.{length-append, append_assoc, deque_capacity}
 use Rattle.std.proofs.lemmas.Bool.{cases_Bool}
 use Rattle.std.proofs.lemmas.List.{length-take, length-replicate}
 use Rattle.medium.specs.Writes.{sector_of}
 use Rattle.mirror.specs.Device.{carried_out}
 use Rattle.mirror.specs.Story.{Told, given, is_whole, are_whole}
-use Rattle.mirror.specs.Mirror.{Mirror, device_of, size_of}
+use Rattle.mirror.specs.Mirror.{device_of, size_of}
 use Rattle.mirror.specs.MirrorLaws.{is_sound, size_whole}
 use Rattle.mirror.specs.declared.call.DeviceCall.{DeviceCall}
 use Rattle.mirror.proofs.Asked.{given_some, whole_more, given_content}
 use Rattle.mirror.proofs.Kept.{IsQuiet, same_given, same_content}
 use Rattle.window.specs.Seen.{Seen, begun, gave, shown, opened, filled, agrees, reborn}
-use Rattle.window.specs.Window.{Window, mirror_of}
+use Rattle.window.specs.Window.{mirror_of}
 use Rattle.window.specs.WindowView.{view_of, Invariant}
 use Rattle.window.specs.declared.window.WindowMedium.TheInside.{Inside}
 use Rattle.window.proofs.Shown.{agrees_if, length_of_nothings, agrees_means, overlaid_there, overlaid_below, front, AreWhole, reborn_length}

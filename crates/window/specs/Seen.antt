@@ -4,7 +4,7 @@ use Rattle.std.specs.Prelude.{◌++◌}
 use Rattle.std.specs.Prelude.{length, take, replicate, Option, None, if◌then◌else◌, ◌==◌, ◌&&◌}
 use Rattle.std.specs.Prelude.{nat_lt, nat_le}
 use Rattle.medium.specs.Medium.{Image}
-use Rattle.medium.specs.Tally.{Tally, one_more}
+use Rattle.medium.specs.Tally.{one_more}
 use Rattle.medium.specs.Writes.{sector_of}
 use Rattle.medium.specs.declared.fault.MediumFault.TheVariants as fault
 use Rattle.mirror.specs.Story as story

@@ -10,11 +10,10 @@ ghost use Rattle.window.specs.Window.{CoversDevice, IsServed, IsShown, is_in_sig
 use crate::holds::DeviceHolds;
 use crate::look::Look;
 use crate::pane::{Pane, keep, load};
-use crate::sectors::{SECTOR, Sectors};
 use crate::story::{Opening, Story};
 use inlet::Inlet;
 use medium::{Medium, MediumFault, Outlet};
-use mirror::{DeviceCall, SectorWrite};
+use mirror::{DeviceCall, SECTOR, SectorWrite, Sectors};
 use std::alloc::Global;
 use std::collections::VecDeque;
 use std::marker::Model;

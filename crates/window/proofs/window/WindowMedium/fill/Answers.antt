@@ -1,4 +1,4 @@
-use Rattle.std.proofs.Common.{rules, ◌≡◌, ◌+◌, ◌/◌, ℕ, List, length, refl, sym, ◌∙◌, ap, arith}
+use Rattle.std.proofs.Common.{rules, ◌+◌, ◌/◌, ℕ, List, length, refl, sym, ◌∙◌, ap, arith}
 use Rattle.medium.specs.Writes.{sector_of}
 use Rattle.mirror.specs.Mirror.{device_of, size_of}
 use Rattle.window.specs.Window.{Window, moved}

@@ -50,14 +50,15 @@ invariant_of-self-2 c =
     (omega (arith, c.self.inside.outbox.ok.0)) (rw c.told-from refl) refl
     (c.keep.ensures.near (device_of c.self.inside.story.seen.told).content c.self.invariant.mirrors)
     (c.keep.ensures.pane (device_of c.self.inside.story.seen.told).content c.self.invariant.pane)
-    c.keep.ensures.lengths.0 c.keep.ensures.lengths.1 c.keep.ensures.place.0 c.keep.ensures.place.1
+    c.keep.ensures.stays.0 c.keep.ensures.stays.1.room c.keep.ensures.stays.1.from c.keep.ensures.stays.1.held
 
 pub returns-clause-ok : goal.returns-clause-ok
 returns-clause-ok c =
     holds_given (mirror_of c.args.self.now) _ c.args.sector c.args.from.now
     (ap mirror_of (given_on (Write (record { sector = c.args.sector; block = c.args.from.now })) _ c.args.self.now _
     c.gave-self-inside.ensures c.push_back_reserved.ensures.items refl
-    (ap (λ k. k / 512) c.keep.ensures.lengths.0) c.keep.ensures.place.0 c.keep.ensures.place.1 (ap (λ k. k / 512) c.keep.ensures.lengths.1)
+    (ap (λ k. k / 512) c.keep.ensures.stays.0) c.keep.ensures.stays.1.from c.keep.ensures.stays.1.held
+    (ap (λ k. k / 512) c.keep.ensures.stays.1.room)
     c.self.view_is))
 
 pub returns-clause-sets : goal.returns-clause-sets
@@ -65,7 +66,8 @@ returns-clause-sets c =
     sets_given (mirror_of c.args.self.now) _ (Write (record { sector = c.args.sector; block = c.args.from.now }))
     (ap mirror_of (given_on (Write (record { sector = c.args.sector; block = c.args.from.now })) _ c.args.self.now _
     c.gave-self-inside.ensures c.push_back_reserved.ensures.items refl
-    (ap (λ k. k / 512) c.keep.ensures.lengths.0) c.keep.ensures.place.0 c.keep.ensures.place.1 (ap (λ k. k / 512) c.keep.ensures.lengths.1)
+    (ap (λ k. k / 512) c.keep.ensures.stays.0) c.keep.ensures.stays.1.from c.keep.ensures.stays.1.held
+    (ap (λ k. k / 512) c.keep.ensures.stays.1.room)
     c.self.view_is))
 
 pub returns-clause-passes : goal.returns-clause-passes
@@ -73,7 +75,8 @@ returns-clause-passes c =
     passes_given c.args.self.now _ (Write (record { sector = c.args.sector; block = c.args.from.now }))
     (given_on (Write (record { sector = c.args.sector; block = c.args.from.now })) _ c.args.self.now _
     c.gave-self-inside.ensures c.push_back_reserved.ensures.items refl
-    (ap (λ k. k / 512) c.keep.ensures.lengths.0) c.keep.ensures.place.0 c.keep.ensures.place.1 (ap (λ k. k / 512) c.keep.ensures.lengths.1)
+    (ap (λ k. k / 512) c.keep.ensures.stays.0) c.keep.ensures.stays.1.from c.keep.ensures.stays.1.held
+    (ap (λ k. k / 512) c.keep.ensures.stays.1.room)
     c.self.view_is)
     (subst (λ (w : Window). are_whole (given w.seen.told.asked) ≡ true) c.self.view_is c.self.invariant.well_formed.mirror.whole_writes)
     (rw c.told-from refl)
@@ -83,5 +86,6 @@ returns-clause-follows c =
     follows_given c.args.self.now _ (Write (record { sector = c.args.sector; block = c.args.from.now }))
     (given_on (Write (record { sector = c.args.sector; block = c.args.from.now })) _ c.args.self.now _ c.gave-self-inside.ensures
     c.push_back_reserved.ensures.items refl
-    (ap (λ k. k / 512) c.keep.ensures.lengths.0) c.keep.ensures.place.0 c.keep.ensures.place.1 (ap (λ k. k / 512) c.keep.ensures.lengths.1)
+    (ap (λ k. k / 512) c.keep.ensures.stays.0) c.keep.ensures.stays.1.from c.keep.ensures.stays.1.held
+    (ap (λ k. k / 512) c.keep.ensures.stays.1.room)
     c.self.view_is)
