@@ -98,9 +98,9 @@ impl MirrorMedium {
     /// How many calls wait in the outbox.
     ///
     /// Whatever calls of a medium are made from here on: a device that has carried out what was
-    /// sent until now, and any first part of what is sent from now on, is in a state that the medium
-    /// was in since. What a loss of power leaves of it is said by the clauses on every moment. And
-    /// none of these calls is refused, as long as they have room beside what waits now.
+    /// sent until now, and any first part of what is sent from now on, is in a state that the
+    /// medium was in since. What a loss of power leaves of it is said by the clauses on every
+    /// moment. And none of these calls is refused, as long as they have room beside what waits now.
     pub fn waiting(&self) -> usize
         ensures { AreWaiting result self.now }
     {
@@ -155,8 +155,7 @@ impl Medium for MirrorMedium {
 
     fn read(&mut self, sector: u64, to: &mut [u8; 512]) -> Result<(), MediumFault>
         requires { sector < (state_of self.old).size }
-        ensures exact { self.new ≡ reads self.old }
-        ensures happens { IsOk result }
+        ensures exact { IsOk result × (self.new ≡ reads self.old) }
         ensures ok { OnOk result (to.new ≡ (state_of self.old).content sector) }
         ensures content { Stays (state_of self.old).content (state_of self.new).content }
         ensures sets { Within (state_of self.new).may_leave (state_of self.old).may_leave }
