@@ -1,16 +1,22 @@
 -- What a call of a log answers, and what it leaves of its medium.
-use Rattle.std.specs.Prelude.{◌≡◌, ℕ, ◌+◌, ◌<◌, ◌≤◌, true, if◌then◌else◌, Result, is_ok}
-use Rattle.std.specs.Prelude.{IfOk, IfErr, OnOk, OnErr}
+use Rattle.std.specs.Prelude.{◌≡◌, ℕ, ◌+◌, ◌-◌, ◌*◌, ◌^◌, ◌<◌, ◌≤◌, ◌↔◌, Bool, true, false}
+use Rattle.std.specs.Prelude.{List, [], IsTrue}
+use Rattle.std.specs.Prelude.{if◌then◌else◌, Result, Ok, is_ok}
+use Rattle.std.specs.Prelude.{IsOk, IfOk, IfErr, OnOk, OnErr, MatchResult}
 use Rattle.medium.specs.Medium.{State, LooksOnly}
-use Rattle.medium.specs.Moments.{LeavesOnly, SparesFrom, IsQuiet}
+use Rattle.medium.specs.Moments.{EachCut, LeavesOnly, SparesFrom, IsQuiet}
 use Rattle.medium.specs.Sent.{SendsUpTo}
 use Rattle.medium.specs.declared.fault.MediumFault.TheVariants.{Flush}
 use Rattle.journal.specs.Places.{first_home, sectors_of}
+use Rattle.journal.specs.Record.{Entry}
 use Rattle.redo_log.specs.declared.fault.LogFault.{LogFault}
-use Rattle.redo_log.specs.declared.fault.LogFault.TheVariants.{Medium}
-use Rattle.redo_log.specs.Value.{LogValue, died}
-use Rattle.redo_log.specs.Held.{View, HoldsView, MayLeave}
-use Rattle.redo_log.specs.Flushes.{FlushesUpTo}
+use Rattle.redo_log.specs.declared.fault.LogFault.TheVariants.{Medium, StampsUsedUp}
+use Rattle.redo_log.specs.declared.progress.Progress.{Progress}
+use Rattle.redo_log.specs.declared.progress.Progress.TheVariants.{Durable}
+use Rattle.redo_log.specs.Value.{LogValue, died, begun, most_steps, most_retire_steps, IsStepped}
+use Rattle.redo_log.specs.Value.{Owes}
+use Rattle.redo_log.specs.Held.{View, HoldsView, MayLeave, HasDurable, with_record, view_stepped}
+use Rattle.redo_log.specs.Flushes.{FlushesUpTo, next_step_flushes}
 
 -- a step that answers Ok did this, and else the medium refused a call, and the log is dead
 pub record AnswersStep {X : Type 0} (Done : X → Type 0) (result : Result X LogFault)
@@ -55,11 +61,63 @@ pub record LeavesLog (log : LogValue) (old new : State) : Type 0 where
   -- no sector at home or behind is read
   pub looks : LooksOnly (λ s. s < first_home log.shape) old new
 
--- a call writes nothing: the medium holds what it held of this log, and a cut leaves no more
-pub record KeepsLog (log : LogValue) (old new : State) : Type 0 where
-  pub quiet : IsQuiet old new
-  pub holds : (view : View) → HoldsView log old view → HoldsView log new view
-  pub cuts : (view : View) → HoldsView log old view → view.ours ≡ true
-      → LeavesOnly (MayLeave old.size log view) old new
+-- A call writes nothing: the medium holds what it held of this log, and a cut leaves no more. The
+-- medium comes after what it was, by calls alone.
+pub record KeepsLog {M : Type 0} (state : M → State) (Follows : M → M → Type 0) (log : LogValue)
+    (old new : M) : Type 0 where
+  pub quiet : IsQuiet (state old) (state new)
+  pub holds : (view : View) → HoldsView log (state old) view → HoldsView log (state new) view
+  pub cuts : (view : View) → HoldsView log (state old) view → view.ours ≡ true
+      → LeavesOnly (MayLeave (state old).size log view) (state old) (state new)
   -- no sector at home or behind is read
-  pub looks : LooksOnly (λ s. s < first_home log.shape) old new
+  pub looks : LooksOnly (λ s. s < first_home log.shape) (state old) (state new)
+  pub follows : Follows old new
+
+-- a log that is alive, on a medium that has all of its sectors
+pub record IsOn (log : LogValue) (m : State) : Type 0 where
+  pub live : log.dead ≡ false
+  pub fits : sectors_of log.shape ≤ m.size
+
+-- A call makes the next turn of the log's oldest record, or where there is none nothing. A view is
+-- afterwards as this function has it.
+pub record MakesTurns {M : Type 0} (state : M → State) (Follows : M → M → Type 0)
+    (None Done Counted : Type 0) (after : View → View) (result : Result (Unit {0}) LogFault)
+    (old new : LogValue) (m n : M) : Type 0 where
+  pub none : None → IsOk result × (new ≡ old) × (n ≡ m)
+  pub answers : AnswersStep (λ _. Done) result old new
+  pub passes : PassesStep state Follows Counted result m n
+  pub holds : (view : View) → HoldsView old (state m) view
+      → MatchResult result (λ _. HoldsView new (state n) (after view))
+      (λ _. HoldsView new (state n) view)
+  pub leaves : LeavesLog old (state m) (state n)
+
+-- A call makes the next step of the record under way, which is one of these entries.
+pub record MakesStep {M : Type 0} (state : M → State) (Follows : M → M → Type 0)
+    (entries : List Entry) (result : Result Progress LogFault) (old new : LogValue) (m n : M)
+    : Type 0 where
+  pub answers : AnswersStep (λ progress. IsStepped progress old new) result old new
+  pub passes : PassesStep state Follows (CountsOne (next_step_flushes old) (state m) (state n))
+      result m n
+  pub holds : (view : View) → HoldsView old (state m) view → view.under_way ≡ entries
+      → MatchResult result (λ progress. HoldsView new (state n) (view_stepped progress view))
+      (λ _. HoldsView new (state n) view)
+  -- told durable, the record is whole in every image that a cut may leave
+  pub durable : (view : View) → HoldsView old (state m) view → view.under_way ≡ entries
+      → view.ours ≡ true → result ≡ Ok Durable
+      → EachCut (HasDurable (state n).size new (with_record view)) (state n)
+  pub leaves : LeavesLog old (state m) (state n)
+
+-- A record of these blocks is begun, which takes so few steps at most, or no stamp is left for it.
+pub record BeginsRecord (numbers : List ℕ) (result : Result (Unit {0}) LogFault)
+    (old new : LogValue) : Type 0 where
+  pub ok : OnOk result ((old.next < 2 ^ 63 - 1) × (new ≡ begun numbers old))
+  pub err : IfErr result (λ fault. (fault ≡ StampsUsedUp) × (old.next ≡ 2 ^ 63 - 1)
+      × (new ≡ died old))
+  pub short : OnOk result ((0 < new.steps_left) × (new.steps_left ≤ most_steps old.shape.format))
+  pub few : OnOk result
+      (new.retire_steps_left ≤ most_retire_steps old.shape.format * old.shape.slots)
+
+-- It is told whether no durable record waits, and what is owed to those that do.
+pub record TellsRetired (told : Bool) (log : LogValue) : Type 0 where
+  pub none : IsTrue told ↔ (log.waiting ≡ [])
+  pub owes : Owes log

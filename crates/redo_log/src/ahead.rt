@@ -1,12 +1,11 @@
 //! What a log does ahead of a flush, which that of a later record covers.
 ghost use Rattle.std.specs.Prelude.{◌≡◌, ◌+◌, ◌-◌, ◌*◌, ◌<◌, ◌≤◌, ◌↔◌, if◌then◌else◌};
 ghost use Rattle.std.specs.Prelude.{false, length};
-ghost use Rattle.std.specs.Prelude.{IsTrue, IsOk, MatchResult};
-ghost use Rattle.journal.specs.Places.{sectors_of};
+ghost use Rattle.std.specs.Prelude.{IsTrue};
 ghost use Rattle.redo_log.specs.Value.{next_sends, IsAway, IsSentHome, ahead_calls};
 ghost use Rattle.redo_log.specs.Value.{IsCovered, settled, CanPass, pass_calls, IsRetireStepped};
-ghost use Rattle.redo_log.specs.Held.{View, HoldsView, view_retired};
-ghost use Rattle.redo_log.specs.Steps.{AnswersStep, PassesStep, CountsStep, LeavesLog};
+ghost use Rattle.redo_log.specs.Held.{view_retired};
+ghost use Rattle.redo_log.specs.Steps.{CountsStep, IsOn, MakesTurns};
 
 use crate::index::drop_slot;
 use crate::turn::next_turn;
@@ -34,17 +33,11 @@ impl Log {
     ///
     /// `Medium` where the medium refused a call. The log is dead then.
     pub fn home_ahead<M: Medium>(&mut self, m: &mut M) -> Result<(), LogFault>
-        requires live { self.old.dead ≡ false }
-        requires fits { sectors_of self.old.shape ≤ (M.state m.old).size }
-        ensures none { ¬ IsAway self.old → IsOk result × (self.new ≡ self.old) × (m.new ≡ m.old) }
-        ensures answers { AnswersStep (λ _. IsAway self.old → IsSentHome self.old self.new) result
-            self.old self.new }
-        ensures passes { PassesStep M.state M.follows (CountsStep (ahead_calls self.old)
-            (next_sends self.old) 0 result
-            (M.state m.old) (M.state m.new)) result m.old m.new }
-        ensures holds { (view : View) → HoldsView self.old (M.state m.old) view
-            → HoldsView self.new (M.state m.new) view }
-        ensures leaves { LeavesLog self.old (M.state m.old) (M.state m.new) }
+        requires { IsOn self.old (M.state m.old) }
+        ensures { MakesTurns M.state M.follows (¬ IsAway self.old)
+            (IsAway self.old → IsSentHome self.old self.new)
+            (CountsStep (ahead_calls self.old) (next_sends self.old) 0 result
+            (M.state m.old) (M.state m.new)) (λ view. view) result self.old self.new m.old m.new }
     {
         let Some(record) = self.waiting.front() else {
             return Ok(());
@@ -120,19 +113,12 @@ impl Log {
     ///
     /// `Medium` where the medium refused the call. The log is dead then.
     pub fn head_ahead<M: Medium>(&mut self, m: &mut M) -> Result<(), LogFault>
-        requires live { self.old.dead ≡ false }
-        requires fits { sectors_of self.old.shape ≤ (M.state m.old).size }
-        ensures none { ¬ CanPass self.old → IsOk result × (self.new ≡ self.old) × (m.new ≡ m.old) }
-        ensures answers { AnswersStep (λ _. CanPass self.old → IsRetireStepped self.old self.new)
-            result self.old self.new }
-        ensures passes { PassesStep M.state M.follows (CountsStep (pass_calls self.old)
-            (pass_calls self.old) 0 result (M.state m.old) (M.state m.new)) result m.old m.new }
-        ensures holds { (view : View) → HoldsView self.old (M.state m.old) view
-            → MatchResult result
-            (λ _. HoldsView self.new (M.state m.new)
-            (view_retired (self.new.head - self.old.head) view))
-            (λ _. HoldsView self.new (M.state m.new) view) }
-        ensures leaves { LeavesLog self.old (M.state m.old) (M.state m.new) }
+        requires { IsOn self.old (M.state m.old) }
+        ensures { MakesTurns M.state M.follows (¬ CanPass self.old)
+            (CanPass self.old → IsRetireStepped self.old self.new)
+            (CountsStep (pass_calls self.old) (pass_calls self.old) 0 result
+            (M.state m.old) (M.state m.new)) (view_retired (self.new.head - self.old.head))
+            result self.old self.new m.old m.new }
     {
         if !self.can_pass() {
             return Ok(());

@@ -1,9 +1,7 @@
 //! A redo log and its records.
 ghost use Rattle.std.specs.Prelude.{◌≡◌, ℕ, ◌+◌, ◌-◌, ◌*◌, ◌^◌, ◌<◌, ◌≤◌, ◌↔◌, true, false, []};
 ghost use Rattle.std.specs.Prelude.{length, if◌then◌else◌};
-ghost use Rattle.std.specs.Prelude.{IsTrue, IsOk};
-ghost use Rattle.std.specs.Prelude.{OnOk, IfOk, IfErr, MatchResult, MatchOption};
-ghost use Rattle.medium.specs.Moments.{EachCut};
+ghost use Rattle.std.specs.Prelude.{IsTrue, OnOk, IfOk, IfErr, MatchOption};
 
 use crate::call::make_next;
 use crate::index::{Copied, drop_slot, enter_record, newest};
@@ -59,20 +57,16 @@ impl Model for Log {
 }
 
 impl Log {
-    ghost use Rattle.journal.specs.Places.{sectors_of};
     ghost use Rattle.journal.specs.Values.{shape_of};
     ghost use Rattle.redo_log.specs.Value.{HasRoom, Owes, HasNoCopy, IsNewestCopy, idle_from};
     ghost use Rattle.journal.specs.Copies.{copy_reads_of, MakesReads};
-    ghost use Rattle.redo_log.specs.Value.{begun, died, most_steps, most_retire_steps};
-    ghost use Rattle.redo_log.specs.Value.{IsStepped, IsRetireStepped, next_calls, next_sends};
+    ghost use Rattle.redo_log.specs.Value.{IsRetireStepped, next_calls, next_sends};
     ghost use Rattle.redo_log.specs.Value.{sends_of_oldest, most_retire_sends};
     ghost use Rattle.redo_log.specs.Batch.{IsBatch, entries_of};
-    ghost use Rattle.redo_log.specs.Held.{View, HoldsView, HasDurable};
-    ghost use Rattle.redo_log.specs.Held.{with_record, view_stepped, view_retired};
-    ghost use Rattle.redo_log.specs.Steps.{AnswersStep, PassesStep, CountsOne, CountsStep};
-    ghost use Rattle.redo_log.specs.Steps.{LeavesLog, KeepsLog};
-    ghost use Rattle.redo_log.specs.Flushes.{next_step_flushes, next_turn_flushes};
-    ghost use Rattle.redo_log.specs.declared.progress.Progress.TheVariants.{Durable};
+    ghost use Rattle.redo_log.specs.Held.{View, HoldsView, view_retired};
+    ghost use Rattle.redo_log.specs.Steps.{IsOn, BeginsRecord, MakesStep, MakesTurns, KeepsLog};
+    ghost use Rattle.redo_log.specs.Steps.{CountsStep, TellsRetired};
+    ghost use Rattle.redo_log.specs.Flushes.{next_turn_flushes};
 
     /// A log without records on a medium with this super. Its first record takes the stamp `next`.
     /// The memory for the records' block numbers and for their index is taken here, and none later.
@@ -129,8 +123,7 @@ impl Log {
 
     /// Whether no durable record waits to be retired.
     pub fn is_retired(&self) -> bool
-        ensures none { IsTrue result ↔ (self.now.waiting ≡ []) }
-        ensures owes { Owes self.now }
+        ensures { TellsRetired result self.now }
     {
         self.waiting.is_empty()
     }
@@ -145,14 +138,7 @@ impl Log {
         requires live { self.old.dead ≡ false }
         requires room { HasRoom self.old }
         requires batch { IsBatch self.old.shape numbers.now bytes.now }
-        ensures ok { OnOk result ((self.old.next < 2 ^ 63 - 1)
-            × (self.new ≡ begun numbers.now self.old)) }
-        ensures err { IfErr result (λ fault. (fault ≡ LogFault.StampsUsedUp)
-            × (self.old.next ≡ 2 ^ 63 - 1) × (self.new ≡ died self.old)) }
-        ensures short { OnOk result ((0 < self.new.steps_left)
-            × (self.new.steps_left ≤ most_steps self.old.shape.format)) }
-        ensures few { OnOk result (self.new.retire_steps_left
-            ≤ most_retire_steps self.old.shape.format * self.old.shape.slots) }
+        ensures { BeginsRecord numbers.now result self.old self.new }
     {
         // The bytes are written by the steps.
         let _ = bytes;
@@ -178,28 +164,12 @@ impl Log {
         numbers: &[u64],
         bytes: &[u8],
     ) -> Result<Progress, LogFault>
-        requires live { self.old.dead ≡ false }
+        requires on { IsOn self.old (M.state m.old) }
         requires under_way { 0 < self.old.steps_left }
         requires numbers { numbers.now ≡ self.old.under_way }
         requires bytes { length bytes.now ≡ 512 * length numbers.now }
-        requires fits { sectors_of self.old.shape ≤ (M.state m.old).size }
-        ensures answers { AnswersStep (λ progress. IsStepped progress self.old self.new) result
-            self.old self.new }
-        ensures passes { PassesStep M.state M.follows
-            (CountsOne (next_step_flushes self.old) (M.state m.old) (M.state m.new))
-            result m.old m.new }
-        ensures holds { (view : View) → HoldsView self.old (M.state m.old) view
-            → view.under_way ≡ entries_of numbers.now bytes.now
-            → MatchResult result
-            (λ progress. HoldsView self.new (M.state m.new) (view_stepped progress view))
-            (λ _. HoldsView self.new (M.state m.new) view) }
-        // Told durable, the record is whole in every image that a cut may leave.
-        ensures durable { (view : View) → HoldsView self.old (M.state m.old) view
-            → view.under_way ≡ entries_of numbers.now bytes.now → view.ours ≡ true
-            → result ≡ Ok Durable
-            → EachCut (HasDurable (M.state m.new).size self.new (with_record view))
-            (M.state m.new) }
-        ensures leaves { LeavesLog self.old (M.state m.old) (M.state m.new) }
+        ensures { MakesStep M.state M.follows (entries_of numbers.now bytes.now) result
+            self.old self.new m.old m.new }
     {
         let Some(made) = self.made else {
             unreachable!()
@@ -227,22 +197,13 @@ impl Log {
     ///
     /// `Medium` where the medium refused a call. The log is dead then.
     pub fn retire_step<M: Medium>(&mut self, m: &mut M) -> Result<(), LogFault>
-        requires live { self.old.dead ≡ false }
-        requires fits { sectors_of self.old.shape ≤ (M.state m.old).size }
-        ensures none { self.old.waiting ≡ []
-            → IsOk result × (self.new ≡ self.old) × (m.new ≡ m.old) }
-        ensures answers { AnswersStep (λ _. 0 < length self.old.waiting
-            → IsRetireStepped self.old self.new) result self.old self.new }
+        requires { IsOn self.old (M.state m.old) }
         // One call reads a descriptor or flushes, two copy a block or write the head and flush it.
-        ensures passes { PassesStep M.state M.follows (CountsStep (next_calls self.old)
-            (next_sends self.old) (next_turn_flushes self.old) result
-            (M.state m.old) (M.state m.new)) result m.old m.new }
-        ensures holds { (view : View) → HoldsView self.old (M.state m.old) view
-            → MatchResult result
-            (λ _. HoldsView self.new (M.state m.new)
-            (view_retired (self.new.head - self.old.head) view))
-            (λ _. HoldsView self.new (M.state m.new) view) }
-        ensures leaves { LeavesLog self.old (M.state m.old) (M.state m.new) }
+        ensures { MakesTurns M.state M.follows (self.old.waiting ≡ [])
+            (0 < length self.old.waiting → IsRetireStepped self.old self.new)
+            (CountsStep (next_calls self.old) (next_sends self.old) (next_turn_flushes self.old)
+            result (M.state m.old) (M.state m.new)) (view_retired (self.new.head - self.old.head))
+            result self.old self.new m.old m.new }
     {
         let Some(oldest) = self.waiting.front() else {
             return Ok(());
@@ -288,15 +249,13 @@ impl Log {
         place: usize,
         to: &mut [u8; 512],
     ) -> Result<(), MediumFault>
-        requires live { self.now.dead ≡ false }
+        requires on { IsOn self.now (M.state m.old) }
         requires copy { (block : ℕ) × IsNewestCopy self.now block slot place }
-        requires fits { sectors_of self.now.shape ≤ (M.state m.old).size }
         ensures ok { (view : View) (block : ℕ) → HoldsView self.now (M.state m.old) view
             → IsNewestCopy self.now block slot place → OnOk result (to.new ≡ view.array block) }
         ensures passes { MakesReads (copy_reads_of self.now.shape.format) result
             (M.state m.old) (M.state m.new) }
-        ensures keeps { KeepsLog self.now (M.state m.old) (M.state m.new) }
-        ensures follows { M.follows m.old m.new }
+        ensures keeps { KeepsLog M.state M.follows self.now m.old m.new }
     {
         prove!(slot < self.sizes.slots && place < self.sizes.format.limit() as usize);
         read_copy(m, &self.sizes, slot, place, to)

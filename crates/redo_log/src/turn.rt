@@ -10,7 +10,8 @@ ghost use Rattle.redo_log.specs.Value.{turns_home};
 ghost use Rattle.redo_log.specs.Stages.{IsRecord};
 ghost use Rattle.redo_log.specs.Calls.{CallsUpTo};
 ghost use Rattle.redo_log.specs.Turns.{begun_with, kept_by, calls_of, sends_of, flushes_of};
-ghost use Rattle.redo_log.specs.Turns.{IsInside, MakesTurn, ReadsBefore, WritesSector, StaysInImage};
+ghost use Rattle.redo_log.specs.Turns.{IsInside, MakesTurn, ReadsBefore, WritesSector};
+ghost use Rattle.redo_log.specs.Turns.{StaysInImage};
 ghost use Rattle.redo_log.specs.Turns.{IsCopyOf, IsHomeTurn, IsNextTurn};
 
 use journal::{Head, HomeTurn, Super, copy_place, home_turn, slot_of, slot_place, turns_home, v2};

@@ -9,7 +9,8 @@ use Rattle.redo_log.proofs.index.merge.Goals as goal
 pub loop-place-preserved-then-index-left : goal.loop-place-preserved-then-index-left
 loop-place-preserved-then-index-left c =
     let l = c.loop-place in
-    entry_moves (take c.args.kept c.args.index.now) c.args.slot c.args.numbers.now c.requires.sorted c.requires.numbers.rising l.left (l.left - 1)
+    entry_moves (take c.args.kept c.args.index.now) c.args.slot c.args.numbers.now c.requires.sorted c.requires.numbers.rising l.left
+    (l.left - 1)
     l.place l.to (l.to - 1) l.index (omega (arith, c.if-left-gt0.true)) (omega (arith, c.loop-place-test.true, l.invariant.room))
     (λ some. omega (arith, c.if-index-left.true)) l.invariant
 
@@ -34,7 +35,8 @@ loop-place-preserved c =
             | else-left-gt0-2-via-else-left-gt0-2 v ↦ absurd (omega (arith, some, v.if-left-gt0-2.false))
           ])
     ] in
-    number_enters old c.args.slot c.args.numbers.now c.requires.sorted c.requires.numbers.rising l.left c.if-left-gt0-2.left l.place (l.place - 1)
+    number_enters old c.args.slot c.args.numbers.now c.requires.sorted c.requires.numbers.rising l.left c.if-left-gt0-2.left l.place
+    (l.place - 1)
     l.to (l.to - 1) l.index (record { block = block; slot = c.args.slot; place = l.place - 1 }) (omega (arith, c.loop-place-test.true))
     (omega (arith, c.loop-place-test.true, l.invariant.room)) refl refl refl stays l.invariant
 

@@ -23,6 +23,7 @@ use Rattle.redo_log.proofs.Covering.{ahead_retired}
 use Rattle.redo_log.proofs.Ringing.{ring_retired, retired_last}
 use Rattle.redo_log.proofs.Closing.{on_ok_here, dead_held, sizes_sized}
 use Rattle.redo_log.proofs.Leading.{first_of, leads_cuts, leads_held}
+use Rattle.std.proofs.lemmas.Grind.{common_steps}
 use Rattle.redo_log.proofs.log.Log.head_ahead.Goals as goal
 
 -- as many lists as records
@@ -39,61 +40,63 @@ head_below : (sizes : Super) (log : LogValue) → shape_of sizes ≡ log.shape �
 head_below sizes log same =
     subst (λ (s : Shape). 1 < sectors_of s) same (let sized = sizes_sized sizes in omega (arith, sized.behind))
 
-pub returns-then-not-can_pass-clause-leaves : goal.returns-then-not-can_pass-clause-leaves
-returns-then-not-can_pass-clause-leaves g c = record {
-  cuts = λ view holds ours.
-      started (MayLeave (g.M.Medium.state c.args.m.now).size c.args.self.now view) (g.M.Medium.state c.args.m.now)
-      (g.met.M.Medium.sound c.args.m.now) (holds.leaves ours);
-  moments =
-      started (λ _. Unit {0}) (g.M.Medium.state c.args.m.now) (g.met.M.Medium.sound c.args.m.now) (λ image cut. tt);
-  spares = search rules;
-  looks = no_looks (λ s. s < first_home c.args.self.now.shape) (g.M.Medium.state c.args.m.now) (g.M.Medium.state c.args.m.now)
-      (λ i. (g.M.Medium.state c.args.m.now).looked);
+pub returns-then-not-can_pass : goal.returns-then-not-can_pass
+returns-then-not-can_pass g c = record {
+  none = search rules;
+  answers = search rules;
+  passes = search rules;
+  holds = search rules;
+  leaves = record {
+    cuts = λ view holds ours.
+        started (MayLeave (g.M.Medium.state c.args.m.now).size c.args.self.now view) (g.M.Medium.state c.args.m.now)
+        (g.met.M.Medium.sound c.args.m.now) (holds.leaves ours);
+    moments =
+        started (λ _. Unit {0}) (g.M.Medium.state c.args.m.now) (g.met.M.Medium.sound c.args.m.now) (λ image cut. tt);
+    spares = search rules;
+    looks = no_looks (λ s. s < first_home c.args.self.now.shape) (g.M.Medium.state c.args.m.now) (g.M.Medium.state c.args.m.now)
+        (λ i. (g.M.Medium.state c.args.m.now).looked);
+  };
 }
 
-pub returns-then-is_err-clause-leaves : goal.returns-then-is_err-clause-leaves
-returns-then-is_err-clause-leaves g c =
-    let i = c.self.inside in
-    let old = g.M.Medium.state c.args.m.now in
-    let new = g.M.Medium.state c.write.new.self in
-    let sound = g.met.M.Medium.sound c.args.m.now in
-    record {
-      cuts = λ view holds ours.
-          let can : CanPass c.args.self.now = search rules in
-          leads_cuts (ahead_in i) (shape_of i.sizes) (sizes_sized i.sizes) i.head (lists_of i.waiting.items) i.turned i.kept
-          i.under_way.items i.made i.dead c.args.self.now c.self.view_is c.requires.live c.self.invariant.ring c.self.invariant.ahead_is
-          c.self.invariant.least (omega (arith, c.self.invariant.most, many i.waiting.items)) can old new sound c.new.result
-          c.new.ensures view holds (subst (λ (b : List ℕ). WritesOnly 1 b old new) c.encode.ensures.spelled
-          (one_write 1 c.encode.result old new sound c.write.ensures.passes c.write.ensures.sets)) ours;
-      moments = one_call (λ _. Unit {0}) old new sound c.write.ensures.passes (λ image cut. tt) (λ image cut. tt);
-      spares = spared_write (sectors_of c.args.self.now.shape) old new 1 c.encode.result sound
-          (head_below i.sizes c.args.self.now (ap (λ (v : LogValue). v.shape) c.self.view_is))
-          c.write.ensures.passes c.write.ensures.sets
-          (on_err_here c.write.result (sym c.is_err.ensures.value ∙ c.if-is_err.true) c.write.ensures.err);
-      looks = no_looks (λ s. s < first_home c.args.self.now.shape) old new (c.write.ensures.passes.looked_stays (λ e. cc e));
-    }
-
-pub returns-clause-leaves : goal.returns-clause-leaves
-returns-clause-leaves g c =
-    let i = c.self.inside in
-    let old = g.M.Medium.state c.args.m.now in
-    let new = g.M.Medium.state c.write.new.self in
-    let sound = g.met.M.Medium.sound c.args.m.now in
-    record {
-      cuts = λ view holds ours.
-          let can : CanPass c.args.self.now = search rules in
-          leads_cuts (ahead_in i) (shape_of i.sizes) (sizes_sized i.sizes) i.head (lists_of i.waiting.items) i.turned i.kept
-          i.under_way.items i.made i.dead c.args.self.now c.self.view_is c.requires.live c.self.invariant.ring c.self.invariant.ahead_is
-          c.self.invariant.least (omega (arith, c.self.invariant.most, many i.waiting.items)) can old new sound c.new.result
-          c.new.ensures view holds (subst (λ (b : List ℕ). WritesOnly 1 b old new) c.encode.ensures.spelled
-          (one_write 1 c.encode.result old new sound c.write.ensures.passes c.write.ensures.sets)) ours;
-      moments = one_call (λ _. Unit {0}) old new sound c.write.ensures.passes (λ image cut. tt) (λ image cut. tt);
-      spares = spared_write (sectors_of c.args.self.now.shape) old new 1 c.encode.result sound
-          (head_below i.sizes c.args.self.now (ap (λ (v : LogValue). v.shape) c.self.view_is))
-          c.write.ensures.passes c.write.ensures.sets
-          (inr (on_ok_here c.write.result (sym c.is_err.ensures.value ∙ c.if-is_err.false) c.write.ensures.ok));
-      looks = no_looks (λ s. s < first_home c.args.self.now.shape) old new (c.write.ensures.passes.looked_stays (λ e. cc e));
-    }
+pub returns-then-is_err : goal.returns-then-is_err
+returns-then-is_err g c = record {
+  none = search rules;
+  answers = search rules;
+  passes = search rules;
+  holds = λ view holds.
+      let i = c.self.inside in
+      let can : CanPass c.args.self.now = search rules in
+      let old = g.M.Medium.state c.args.m.now in
+      let new = g.M.Medium.state c.write.new.self in
+      let sound = g.met.M.Medium.sound c.args.m.now in
+      let cuts = leads_cuts (ahead_in i) (shape_of i.sizes) (sizes_sized i.sizes) i.head (lists_of i.waiting.items) i.turned i.kept
+      i.under_way.items i.made i.dead c.args.self.now c.self.view_is c.requires.live c.self.invariant.ring c.self.invariant.ahead_is
+      c.self.invariant.least (omega (arith, c.self.invariant.most, many i.waiting.items)) can old new sound c.new.result
+      c.new.ensures view holds (subst (λ (b : List ℕ). WritesOnly 1 b old new) c.encode.ensures.spelled
+      (one_write 1 c.encode.result old new sound c.write.ensures.passes c.write.ensures.sets)) in
+      subst (λ (v : LogValue). HoldsView (died v) new view) (sym c.self.view_is)
+      (dead_held c.args.self.now view old new (g.met.M.Medium.sound c.write.new.self) holds c.write.ensures.passes.size_stays cuts);
+  leaves =
+      let i = c.self.inside in
+      let old = g.M.Medium.state c.args.m.now in
+      let new = g.M.Medium.state c.write.new.self in
+      let sound = g.met.M.Medium.sound c.args.m.now in
+      record {
+        cuts = λ view holds ours.
+            let can : CanPass c.args.self.now = search rules in
+            leads_cuts (ahead_in i) (shape_of i.sizes) (sizes_sized i.sizes) i.head (lists_of i.waiting.items) i.turned i.kept
+            i.under_way.items i.made i.dead c.args.self.now c.self.view_is c.requires.live c.self.invariant.ring c.self.invariant.ahead_is
+            c.self.invariant.least (omega (arith, c.self.invariant.most, many i.waiting.items)) can old new sound c.new.result
+            c.new.ensures view holds (subst (λ (b : List ℕ). WritesOnly 1 b old new) c.encode.ensures.spelled
+            (one_write 1 c.encode.result old new sound c.write.ensures.passes c.write.ensures.sets)) ours;
+        moments = one_call (λ _. Unit {0}) old new sound c.write.ensures.passes (λ image cut. tt) (λ image cut. tt);
+        spares = spared_write (sectors_of c.args.self.now.shape) old new 1 c.encode.result sound
+            (head_below i.sizes c.args.self.now (ap (λ (v : LogValue). v.shape) c.self.view_is))
+            c.write.ensures.passes c.write.ensures.sets
+            (on_err_here c.write.result (sym c.is_err.ensures.value ∙ c.if-is_err.true) c.write.ensures.err);
+        looks = no_looks (λ s. s < first_home c.args.self.now.shape) old new (c.write.ensures.passes.looked_stays (λ e. cc e));
+      };
+}
 
 -- without the first record there are the others
 drop_lists : (records : List (ArrayVec ℕ)) → drop 1 (lists_of records) ≡ lists_of (drop 1 records)
@@ -103,21 +106,6 @@ drop_lists (r ∷ records) = refl
 rest_is : (records : List (ArrayVec ℕ)) (numbers : List ℕ) (newer : List (List ℕ)) → lists_of records ≡ numbers ∷ newer
     → newer ≡ lists_of (drop 1 records)
 rest_is records numbers newer is = sym (ap (λ (l : List (List ℕ)). drop 1 l) is) ∙ drop_lists records
-
-pub returns-then-is_err-clause-holds : goal.returns-then-is_err-clause-holds
-returns-then-is_err-clause-holds g c view holds =
-    let i = c.self.inside in
-    let can : CanPass c.args.self.now = search rules in
-    let old = g.M.Medium.state c.args.m.now in
-    let new = g.M.Medium.state c.write.new.self in
-    let sound = g.met.M.Medium.sound c.args.m.now in
-    let cuts = leads_cuts (ahead_in i) (shape_of i.sizes) (sizes_sized i.sizes) i.head (lists_of i.waiting.items) i.turned i.kept
-    i.under_way.items i.made i.dead c.args.self.now c.self.view_is c.requires.live c.self.invariant.ring c.self.invariant.ahead_is
-    c.self.invariant.least (omega (arith, c.self.invariant.most, many i.waiting.items)) can old new sound c.new.result
-    c.new.ensures view holds (subst (λ (b : List ℕ). WritesOnly 1 b old new) c.encode.ensures.spelled
-    (one_write 1 c.encode.result old new sound c.write.ensures.passes c.write.ensures.sets)) in
-    subst (λ (v : LogValue). HoldsView (died v) new view) (sym c.self.view_is)
-    (dead_held c.args.self.now view old new (g.met.M.Medium.sound c.write.new.self) holds c.write.ensures.passes.size_stays cuts)
 
 pub invariant_of-self-2 : goal.invariant_of-self-2
 invariant_of-self-2 g c =
@@ -153,53 +141,76 @@ invariant_of-self-2 g c =
           i.turned 0 c.self.invariant.ahead_is;
     }
 
-pub returns-clause-answers : goal.returns-clause-answers
-returns-clause-answers g c = record {
-  ok = λ can.
+pub returns : goal.returns
+returns g c = record {
+  none = search rules;
+  answers = record {
+    ok = λ can.
+        let i = c.self.inside in
+        let first = first_of (ahead_in i) (shape_of i.sizes) i.head (lists_of i.waiting.items) i.turned i.kept i.under_way.items i.made
+        i.dead
+        c.args.self.now c.self.view_is can.flushed in
+        let waits : lists_of i.waiting.items ≡ first.numbers ∷ lists_of (drop 1 i.waiting.items) =
+        first.waits ∙ ap (λ (l : List (List ℕ)). first.numbers ∷ l) (rest_is i.waiting.items first.numbers first.newer first.waits) in
+        let each : All (AreInside (shape_of i.sizes)) (lists_of (drop 1 i.waiting.items)) = λ j d below.
+        (subst (λ (l : List (List ℕ)). All (AreInside (shape_of i.sizes)) l) waits c.self.invariant.ring.each) (suc j) d (omega arith) in
+        let last = retired_last (ahead_in i) (shape_of i.sizes) i.head first.numbers (lists_of (drop 1 i.waiting.items))
+        i.turned i.kept i.under_way.items i.made i.dead each first.last in
+        subst
+        (λ (v : LogValue). IsRetireStepped v
+        (value_at (ahead_in i) (shape_of i.sizes) (i.head + 1) (lists_of c.pop_front.new.self.items) 0 (replicate 512 0) i.under_way.items
+        i.made
+        i.dead))
+        c.self.view_is
+        (subst
+        (λ (l : List (ArrayVec ℕ)). IsRetireStepped
+        (value_at (ahead_in i) (shape_of i.sizes) i.head (lists_of i.waiting.items) i.turned i.kept i.under_way.items i.made i.dead)
+        (value_at (ahead_in i) (shape_of i.sizes) (i.head + 1) (lists_of l) 0 (replicate 512 0) i.under_way.items i.made i.dead))
+        (sym c.pop_front.ensures.rest)
+        (subst
+        (λ (l : List (List ℕ)). IsRetireStepped
+        (value_at (ahead_in i) (shape_of i.sizes) i.head l i.turned i.kept i.under_way.items i.made i.dead)
+        (value_at (ahead_in i) (shape_of i.sizes) (i.head + 1) (lists_of (drop 1 i.waiting.items)) 0 (replicate 512 0) i.under_way.items
+        i.made i.dead))
+        (sym waits) last));
+    err = search rules;
+    fault = search rules;
+  };
+  passes = grind (arith, common_steps);
+  holds = λ view holds.
       let i = c.self.inside in
-      let first = first_of (ahead_in i) (shape_of i.sizes) i.head (lists_of i.waiting.items) i.turned i.kept i.under_way.items i.made i.dead
-      c.args.self.now c.self.view_is can.flushed in
-      let waits : lists_of i.waiting.items ≡ first.numbers ∷ lists_of (drop 1 i.waiting.items) =
-      first.waits ∙ ap (λ (l : List (List ℕ)). first.numbers ∷ l) (rest_is i.waiting.items first.numbers first.newer first.waits) in
-      let each : All (AreInside (shape_of i.sizes)) (lists_of (drop 1 i.waiting.items)) = λ j d below.
-      (subst (λ (l : List (List ℕ)). All (AreInside (shape_of i.sizes)) l) waits c.self.invariant.ring.each) (suc j) d (omega arith) in
-      let last = retired_last (ahead_in i) (shape_of i.sizes) i.head first.numbers (lists_of (drop 1 i.waiting.items))
-      i.turned i.kept i.under_way.items i.made i.dead each first.last in
-      subst
-      (λ (v : LogValue). IsRetireStepped v
-      (value_at (ahead_in i) (shape_of i.sizes) (i.head + 1) (lists_of c.pop_front.new.self.items) 0 (replicate 512 0) i.under_way.items
-      i.made
-      i.dead))
-      c.self.view_is
-      (subst
-      (λ (l : List (ArrayVec ℕ)). IsRetireStepped
-      (value_at (ahead_in i) (shape_of i.sizes) i.head (lists_of i.waiting.items) i.turned i.kept i.under_way.items i.made i.dead)
-      (value_at (ahead_in i) (shape_of i.sizes) (i.head + 1) (lists_of l) 0 (replicate 512 0) i.under_way.items i.made i.dead))
-      (sym c.pop_front.ensures.rest)
-      (subst
-      (λ (l : List (List ℕ)). IsRetireStepped
-      (value_at (ahead_in i) (shape_of i.sizes) i.head l i.turned i.kept i.under_way.items i.made i.dead)
-      (value_at (ahead_in i) (shape_of i.sizes) (i.head + 1) (lists_of (drop 1 i.waiting.items)) 0 (replicate 512 0) i.under_way.items
-      i.made i.dead))
-      (sym waits) last));
-  err = search rules;
-  fault = search rules;
+      let can : CanPass c.args.self.now = search rules in
+      let old = g.M.Medium.state c.args.m.now in
+      let new = g.M.Medium.state c.write.new.self in
+      let sound = g.met.M.Medium.sound c.args.m.now in
+      leads_held (ahead_in i) (shape_of i.sizes) (sizes_sized i.sizes) i.head (lists_of i.waiting.items) i.turned i.kept
+      i.under_way.items i.made i.dead c.args.self.now c.self.view_is c.requires.live c.self.invariant.ring c.self.invariant.ahead_is
+      c.self.invariant.least (omega (arith, c.self.invariant.most, many i.waiting.items)) can old new sound c.new.result
+      c.new.ensures view holds (subst (λ (b : List ℕ). WritesOnly 1 b old new) c.encode.ensures.spelled
+      (one_write 1 c.encode.result old new sound c.write.ensures.passes c.write.ensures.sets))
+      (lists_of c.pop_front.new.self.items)
+      (ap (λ (l : List (ArrayVec ℕ)). lists_of l) c.pop_front.ensures.rest ∙ sym (drop_lists i.waiting.items))
+      c.write.ensures.passes.size_stays
+      (subst (λ (b : List ℕ). Holds 1 b old.content new.content) c.encode.ensures.spelled
+      (on_ok_here c.write.result (sym c.is_err.ensures.value ∙ c.if-is_err.false) c.write.ensures.ok));
+  leaves =
+      let i = c.self.inside in
+      let old = g.M.Medium.state c.args.m.now in
+      let new = g.M.Medium.state c.write.new.self in
+      let sound = g.met.M.Medium.sound c.args.m.now in
+      record {
+        cuts = λ view holds ours.
+            let can : CanPass c.args.self.now = search rules in
+            leads_cuts (ahead_in i) (shape_of i.sizes) (sizes_sized i.sizes) i.head (lists_of i.waiting.items) i.turned i.kept
+            i.under_way.items i.made i.dead c.args.self.now c.self.view_is c.requires.live c.self.invariant.ring c.self.invariant.ahead_is
+            c.self.invariant.least (omega (arith, c.self.invariant.most, many i.waiting.items)) can old new sound c.new.result
+            c.new.ensures view holds (subst (λ (b : List ℕ). WritesOnly 1 b old new) c.encode.ensures.spelled
+            (one_write 1 c.encode.result old new sound c.write.ensures.passes c.write.ensures.sets)) ours;
+        moments = one_call (λ _. Unit {0}) old new sound c.write.ensures.passes (λ image cut. tt) (λ image cut. tt);
+        spares = spared_write (sectors_of c.args.self.now.shape) old new 1 c.encode.result sound
+            (head_below i.sizes c.args.self.now (ap (λ (v : LogValue). v.shape) c.self.view_is))
+            c.write.ensures.passes c.write.ensures.sets
+            (inr (on_ok_here c.write.result (sym c.is_err.ensures.value ∙ c.if-is_err.false) c.write.ensures.ok));
+        looks = no_looks (λ s. s < first_home c.args.self.now.shape) old new (c.write.ensures.passes.looked_stays (λ e. cc e));
+      };
 }
-
-pub returns-clause-holds : goal.returns-clause-holds
-returns-clause-holds g c view holds =
-    let i = c.self.inside in
-    let can : CanPass c.args.self.now = search rules in
-    let old = g.M.Medium.state c.args.m.now in
-    let new = g.M.Medium.state c.write.new.self in
-    let sound = g.met.M.Medium.sound c.args.m.now in
-    leads_held (ahead_in i) (shape_of i.sizes) (sizes_sized i.sizes) i.head (lists_of i.waiting.items) i.turned i.kept
-    i.under_way.items i.made i.dead c.args.self.now c.self.view_is c.requires.live c.self.invariant.ring c.self.invariant.ahead_is
-    c.self.invariant.least (omega (arith, c.self.invariant.most, many i.waiting.items)) can old new sound c.new.result
-    c.new.ensures view holds (subst (λ (b : List ℕ). WritesOnly 1 b old new) c.encode.ensures.spelled
-    (one_write 1 c.encode.result old new sound c.write.ensures.passes c.write.ensures.sets))
-    (lists_of c.pop_front.new.self.items)
-    (ap (λ (l : List (ArrayVec ℕ)). lists_of l) c.pop_front.ensures.rest ∙ sym (drop_lists i.waiting.items))
-    c.write.ensures.passes.size_stays
-    (subst (λ (b : List ℕ). Holds 1 b old.content new.content) c.encode.ensures.spelled
-    (on_ok_here c.write.result (sym c.is_err.ensures.value ∙ c.if-is_err.false) c.write.ensures.ok))

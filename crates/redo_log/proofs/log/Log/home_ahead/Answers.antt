@@ -19,6 +19,7 @@ use Rattle.redo_log.proofs.Flushing.{home_flushes}
 use Rattle.redo_log.proofs.Sending.{turn_sent, step_sends}
 use Rattle.redo_log.proofs.Sighting.{turn_looks}
 use Rattle.redo_log.proofs.Sparing.{turn_spares}
+use Rattle.std.proofs.lemmas.Grind.{common_steps}
 use Rattle.redo_log.proofs.log.Log.home_ahead.Goals as goal
 
 -- as many lists as records
@@ -44,136 +45,53 @@ next_turn-turn-requires-clause-record g c =
     (subst (λ (l : List (List ℕ)). All (AreInside (shape_of i.sizes)) l) waits c.self.invariant.ring.each) 0 [] (omega arith) in
     record { least = c.self.invariant.least; most = omega (arith, some, c.self.invariant.most); numbers_are = numbers }
 
-pub returns-in_default-clause-leaves : goal.returns-in_default-clause-leaves
-returns-in_default-clause-leaves g c = record {
-  cuts = λ view holds ours.
-      started (MayLeave (g.M.Medium.state c.args.m.now).size c.args.self.now view) (g.M.Medium.state c.args.m.now)
-      (g.met.M.Medium.sound c.args.m.now) (holds.leaves ours);
-  moments =
-      started (λ _. Unit {0}) (g.M.Medium.state c.args.m.now) (g.met.M.Medium.sound c.args.m.now) (λ image cut. tt);
-  spares = search rules;
-  looks = no_looks (λ s. s < first_home c.args.self.now.shape) (g.M.Medium.state c.args.m.now) (g.M.Medium.state c.args.m.now)
-      (λ i. (g.M.Medium.state c.args.m.now).looked);
+pub returns-in_default : goal.returns-in_default
+returns-in_default g c = record {
+  none = search rules;
+  answers = grind (arith, common_steps);
+  passes = grind (arith, common_steps);
+  holds = search rules;
+  leaves = record {
+    cuts = λ view holds ours.
+        started (MayLeave (g.M.Medium.state c.args.m.now).size c.args.self.now view) (g.M.Medium.state c.args.m.now)
+        (g.met.M.Medium.sound c.args.m.now) (holds.leaves ours);
+    moments =
+        started (λ _. Unit {0}) (g.M.Medium.state c.args.m.now) (g.met.M.Medium.sound c.args.m.now) (λ image cut. tt);
+    spares = search rules;
+    looks = no_looks (λ s. s < first_home c.args.self.now.shape) (g.M.Medium.state c.args.m.now) (g.M.Medium.state c.args.m.now)
+        (λ i. (g.M.Medium.state c.args.m.now).looked);
+  };
 }
 
-pub returns-then-turns-self-clause-leaves : goal.returns-then-turns-self-clause-leaves
-returns-then-turns-self-clause-leaves g c = record {
-  cuts = λ view holds ours.
-      started (MayLeave (g.M.Medium.state c.args.m.now).size c.args.self.now view) (g.M.Medium.state c.args.m.now)
-      (g.met.M.Medium.sound c.args.m.now) (holds.leaves ours);
-  moments =
-      started (λ _. Unit {0}) (g.M.Medium.state c.args.m.now) (g.met.M.Medium.sound c.args.m.now) (λ image cut. tt);
-  spares = search rules;
-  looks = no_looks (λ s. s < first_home c.args.self.now.shape) (g.M.Medium.state c.args.m.now) (g.M.Medium.state c.args.m.now)
-      (λ i. (g.M.Medium.state c.args.m.now).looked);
-}
-
-pub returns-then-refused-clause-holds : goal.returns-then-refused-clause-holds
-returns-then-refused-clause-holds g c view holds =
-    let i = c.self.inside in
-    let some : 0 < length i.waiting.items = search rules in
-    let waits = waits_is i.waiting.items c.in-Some.record.now c.as_slice-numbers.result.now some c.in-Some.ensures.lookup
-    c.as_slice-numbers.ensures.value in
-    let dead = turn_dead (ahead_in i) (shape_of i.sizes) (sizes_sized i.sizes) i.head (lists_of i.waiting.items) i.turned i.kept
-    i.under_way.items i.made
-    i.dead c.args.self.now c.self.view_is c.requires.live c.self.invariant.ring c.self.invariant.ahead_is c.self.invariant.least
-    (omega (arith, c.self.invariant.most, many i.waiting.items)) c.as_slice-numbers.result.now (lists_of (drop 1 i.waiting.items)) waits
-    (g.M.Medium.state c.args.m.now) (g.M.Medium.state c.make.new.m) (g.met.M.Medium.sound c.args.m.now) c.next_turn-turn.result
-    c.next_turn-turn.ensures.next c.make.ensures.makes.adds view holds c.make.ensures.counts.size (g.met.M.Medium.sound c.make.new.m) in
-    let keeps = kept_is _ false c.make.new.kept (kept_by c.next_turn-turn.result (g.M.Medium.state c.args.m.now) i.kept) i.kept
-    c.make.ensures.keeps (err_here c.make.result (sym c.is_err-refused.ensures.value ∙ c.if-refused.true)) in
-    subst
-    (λ (k : List ℕ). HoldsView
-    (died (value_at (ahead_in i) (shape_of i.sizes) i.head (lists_of i.waiting.items) i.turned k i.under_way.items i.made i.dead))
-    (g.M.Medium.state c.make.new.m) view)
-    (sym keeps) (subst (λ (v : LogValue). HoldsView (died v) (g.M.Medium.state c.make.new.m) view) (sym c.self.view_is) dead)
-
-pub returns-then-refused-clause-leaves : goal.returns-then-refused-clause-leaves
-returns-then-refused-clause-leaves g c = record {
-  cuts = λ view holds ours.
+pub returns-then-turns-self : goal.returns-then-turns-self
+returns-then-turns-self g c = record {
+  none = search rules;
+  answers =
       let i = c.self.inside in
       let some : 0 < length i.waiting.items = search rules in
-      let waits = waits_is i.waiting.items c.in-Some.record.now c.as_slice-numbers.result.now some c.in-Some.ensures.lookup
-      c.as_slice-numbers.ensures.value in
-      turn_cuts (ahead_in i) (shape_of i.sizes) (sizes_sized i.sizes) i.head (lists_of i.waiting.items) i.turned i.kept i.under_way.items
-      i.made i.dead
-      c.args.self.now c.self.view_is c.requires.live c.self.invariant.ring c.self.invariant.ahead_is c.self.invariant.least
-      (omega (arith, c.self.invariant.most, many i.waiting.items)) c.as_slice-numbers.result.now (lists_of (drop 1 i.waiting.items)) waits
-      (g.M.Medium.state c.args.m.now) (g.M.Medium.state c.make.new.m) (g.met.M.Medium.sound c.args.m.now) c.next_turn-turn.result
-      c.next_turn-turn.ensures.next c.make.ensures.makes.adds view holds ours;
-  moments =
-      turn_moments c.next_turn-turn.result (g.M.Medium.state c.args.m.now) (g.M.Medium.state c.make.new.m)
-      (g.met.M.Medium.sound c.args.m.now) c.make.ensures.makes.adds;
-  spares =
-      turn_spares (shape_of c.self.inside.sizes) c.args.self.now (g.M.Medium.state c.args.m.now) (g.M.Medium.state c.make.new.m)
-      (ap (λ (v : LogValue). v.shape) c.self.view_is) c.next_turn-turn.result c.next_turn-turn.ensures.inside c.make.ensures.makes.spares;
-  looks =
-      turn_looks (shape_of c.self.inside.sizes) c.args.self.now (g.M.Medium.state c.args.m.now) (g.M.Medium.state c.make.new.m)
-      (ap (λ (v : LogValue). v.shape) c.self.view_is) c.next_turn-turn.result c.next_turn-turn.ensures.reads c.make.ensures.follows.1;
+      let front = front_is i.waiting.items c.in-Some.record.now some c.in-Some.ensures.lookup in
+      let turns : c.turns_home-turns.result ≡ turns_home i.sizes.format (length c.in-Some.record.now.items) =
+      c.turns_home-turns.ensures ∙ ap (λ (n : ℕ). turns_home i.sizes.format n) c.len.ensures.value in
+      let left = left_is c.args.self.now (ahead_in i) (shape_of i.sizes) i.head (lists_of i.waiting.items) i.turned i.kept i.under_way.items
+      i.made i.dead c.in-Some.record.now.items (lists_of (drop 1 i.waiting.items)) c.self.view_is front in
+      let home : of_oldest c.args.self.now ≤ 2 = omega (arith, left, turns, c.if-turns-self.true) in
+      record { ok = λ away. absurd (omega (arith, home, away)); err = search rules; fault = search rules };
+  passes = grind (arith, common_steps);
+  holds = search rules;
+  leaves = record {
+    cuts = λ view holds ours.
+        started (MayLeave (g.M.Medium.state c.args.m.now).size c.args.self.now view) (g.M.Medium.state c.args.m.now)
+        (g.met.M.Medium.sound c.args.m.now) (holds.leaves ours);
+    moments =
+        started (λ _. Unit {0}) (g.M.Medium.state c.args.m.now) (g.met.M.Medium.sound c.args.m.now) (λ image cut. tt);
+    spares = search rules;
+    looks = no_looks (λ s. s < first_home c.args.self.now.shape) (g.M.Medium.state c.args.m.now) (g.M.Medium.state c.args.m.now)
+        (λ i. (g.M.Medium.state c.args.m.now).looked);
+  };
 }
 
-pub returns-then-self-turns-clause-leaves : goal.returns-then-self-turns-clause-leaves
-returns-then-self-turns-clause-leaves g c = record {
-  cuts = λ view holds ours.
-      let i = c.self.inside in
-      let some : 0 < length i.waiting.items = search rules in
-      let waits = waits_is i.waiting.items c.in-Some.record.now c.as_slice-numbers.result.now some c.in-Some.ensures.lookup
-      c.as_slice-numbers.ensures.value in
-      turn_cuts (ahead_in i) (shape_of i.sizes) (sizes_sized i.sizes) i.head (lists_of i.waiting.items) i.turned i.kept i.under_way.items
-      i.made i.dead
-      c.args.self.now c.self.view_is c.requires.live c.self.invariant.ring c.self.invariant.ahead_is c.self.invariant.least
-      (omega (arith, c.self.invariant.most, many i.waiting.items)) c.as_slice-numbers.result.now (lists_of (drop 1 i.waiting.items)) waits
-      (g.M.Medium.state c.args.m.now) (g.M.Medium.state c.make.new.m) (g.met.M.Medium.sound c.args.m.now) c.next_turn-turn.result
-      c.next_turn-turn.ensures.next c.make.ensures.makes.adds view holds ours;
-  moments =
-      turn_moments c.next_turn-turn.result (g.M.Medium.state c.args.m.now) (g.M.Medium.state c.make.new.m)
-      (g.met.M.Medium.sound c.args.m.now) c.make.ensures.makes.adds;
-  spares =
-      turn_spares (shape_of c.self.inside.sizes) c.args.self.now (g.M.Medium.state c.args.m.now) (g.M.Medium.state c.make.new.m)
-      (ap (λ (v : LogValue). v.shape) c.self.view_is) c.next_turn-turn.result c.next_turn-turn.ensures.inside c.make.ensures.makes.spares;
-  looks =
-      turn_looks (shape_of c.self.inside.sizes) c.args.self.now (g.M.Medium.state c.args.m.now) (g.M.Medium.state c.make.new.m)
-      (ap (λ (v : LogValue). v.shape) c.self.view_is) c.next_turn-turn.result c.next_turn-turn.ensures.reads c.make.ensures.follows.1;
-}
-
-pub returns-clause-leaves : goal.returns-clause-leaves
-returns-clause-leaves g c = record {
-  cuts = λ view holds ours.
-      let i = c.self.inside in
-      let some : 0 < length i.waiting.items = search rules in
-      let waits = waits_is i.waiting.items c.in-Some.record.now c.as_slice-numbers.result.now some c.in-Some.ensures.lookup
-      c.as_slice-numbers.ensures.value in
-      turn_cuts (ahead_in i) (shape_of i.sizes) (sizes_sized i.sizes) i.head (lists_of i.waiting.items) i.turned i.kept i.under_way.items
-      i.made i.dead
-      c.args.self.now c.self.view_is c.requires.live c.self.invariant.ring c.self.invariant.ahead_is c.self.invariant.least
-      (omega (arith, c.self.invariant.most, many i.waiting.items)) c.as_slice-numbers.result.now (lists_of (drop 1 i.waiting.items)) waits
-      (g.M.Medium.state c.args.m.now) (g.M.Medium.state c.make.new.m) (g.met.M.Medium.sound c.args.m.now) c.next_turn-turn.result
-      c.next_turn-turn.ensures.next c.make.ensures.makes.adds view holds ours;
-  moments =
-      turn_moments c.next_turn-turn.result (g.M.Medium.state c.args.m.now) (g.M.Medium.state c.make.new.m)
-      (g.met.M.Medium.sound c.args.m.now) c.make.ensures.makes.adds;
-  spares =
-      turn_spares (shape_of c.self.inside.sizes) c.args.self.now (g.M.Medium.state c.args.m.now) (g.M.Medium.state c.make.new.m)
-      (ap (λ (v : LogValue). v.shape) c.self.view_is) c.next_turn-turn.result c.next_turn-turn.ensures.inside c.make.ensures.makes.spares;
-  looks =
-      turn_looks (shape_of c.self.inside.sizes) c.args.self.now (g.M.Medium.state c.args.m.now) (g.M.Medium.state c.make.new.m)
-      (ap (λ (v : LogValue). v.shape) c.self.view_is) c.next_turn-turn.result c.next_turn-turn.ensures.reads c.make.ensures.follows.1;
-}
-
-pub returns-then-turns-self-clause-answers : goal.returns-then-turns-self-clause-answers
-returns-then-turns-self-clause-answers g c =
-    let i = c.self.inside in
-    let some : 0 < length i.waiting.items = search rules in
-    let front = front_is i.waiting.items c.in-Some.record.now some c.in-Some.ensures.lookup in
-    let turns : c.turns_home-turns.result ≡ turns_home i.sizes.format (length c.in-Some.record.now.items) =
-    c.turns_home-turns.ensures ∙ ap (λ (n : ℕ). turns_home i.sizes.format n) c.len.ensures.value in
-    let left = left_is c.args.self.now (ahead_in i) (shape_of i.sizes) i.head (lists_of i.waiting.items) i.turned i.kept i.under_way.items
-    i.made i.dead c.in-Some.record.now.items (lists_of (drop 1 i.waiting.items)) c.self.view_is front in
-    let home : of_oldest c.args.self.now ≤ 2 = omega (arith, left, turns, c.if-turns-self.true) in
-    record { ok = λ away. absurd (omega (arith, home, away)); err = search rules; fault = search rules }
-
-pub returns-then-refused-clause-none : goal.returns-then-refused-clause-none
-returns-then-refused-clause-none g c =
+pub returns-then-refused : goal.returns-then-refused
+returns-then-refused g c =
     let i = c.self.inside in
     let some : 0 < length i.waiting.items = search rules in
     let waits = waits_is i.waiting.items c.in-Some.record.now c.as_slice-numbers.result.now some c.in-Some.ensures.lookup
@@ -185,130 +103,78 @@ returns-then-refused-clause-none g c =
     let left = left_is c.args.self.now (ahead_in i) (shape_of i.sizes) i.head (lists_of i.waiting.items) i.turned i.kept i.under_way.items
     i.made i.dead c.as_slice-numbers.result.now (lists_of (drop 1 i.waiting.items)) c.self.view_is waits in
     let away : 2 < of_oldest c.args.self.now = omega (arith, left, turns, c.if-turns-self.false) in
-    λ home. absurd (home away)
-
-pub returns-then-self-turns-clause-none : goal.returns-then-self-turns-clause-none
-returns-then-self-turns-clause-none g c =
-    let i = c.self.inside in
-    let some : 0 < length i.waiting.items = search rules in
-    let waits = waits_is i.waiting.items c.in-Some.record.now c.as_slice-numbers.result.now some c.in-Some.ensures.lookup
-    c.as_slice-numbers.ensures.value in
-    let long : length c.in-Some.record.now.items ≡ length c.as_slice-numbers.result.now =
-    ap (λ (l : List ℕ). length l) (sym c.as_slice-numbers.ensures.value) in
-    let turns : c.turns_home-turns.result ≡ turns_home i.sizes.format (length c.as_slice-numbers.result.now) =
-    c.turns_home-turns.ensures ∙ ap (λ (n : ℕ). turns_home i.sizes.format n) (c.len.ensures.value ∙ long) in
-    let left = left_is c.args.self.now (ahead_in i) (shape_of i.sizes) i.head (lists_of i.waiting.items) i.turned i.kept i.under_way.items
-    i.made i.dead c.as_slice-numbers.result.now (lists_of (drop 1 i.waiting.items)) c.self.view_is waits in
-    let away : 2 < of_oldest c.args.self.now = omega (arith, left, turns, c.if-turns-self.false) in
-    λ home. absurd (home away)
-
-pub returns-clause-none : goal.returns-clause-none
-returns-clause-none g c =
-    let i = c.self.inside in
-    let some : 0 < length i.waiting.items = search rules in
-    let waits = waits_is i.waiting.items c.in-Some.record.now c.as_slice-numbers.result.now some c.in-Some.ensures.lookup
-    c.as_slice-numbers.ensures.value in
-    let long : length c.in-Some.record.now.items ≡ length c.as_slice-numbers.result.now =
-    ap (λ (l : List ℕ). length l) (sym c.as_slice-numbers.ensures.value) in
-    let turns : c.turns_home-turns.result ≡ turns_home i.sizes.format (length c.as_slice-numbers.result.now) =
-    c.turns_home-turns.ensures ∙ ap (λ (n : ℕ). turns_home i.sizes.format n) (c.len.ensures.value ∙ long) in
-    let left = left_is c.args.self.now (ahead_in i) (shape_of i.sizes) i.head (lists_of i.waiting.items) i.turned i.kept i.under_way.items
-    i.made i.dead c.as_slice-numbers.result.now (lists_of (drop 1 i.waiting.items)) c.self.view_is waits in
-    let away : 2 < of_oldest c.args.self.now = omega (arith, left, turns, c.if-turns-self.false) in
-    λ home. absurd (home away)
-
-pub returns-then-self-turns-clause-holds : goal.returns-then-self-turns-clause-holds
-returns-then-self-turns-clause-holds g c view holds =
-    let i = c.self.inside in
-    let some : 0 < length i.waiting.items = search rules in
-    let waits = waits_is i.waiting.items c.in-Some.record.now c.as_slice-numbers.result.now some c.in-Some.ensures.lookup
-    c.as_slice-numbers.ensures.value in
-    let long : length c.in-Some.record.now.items ≡ length c.as_slice-numbers.result.now =
-    ap (λ (l : List ℕ). length l) (sym c.as_slice-numbers.ensures.value) in
-    let turns : c.turns_home-turns.result ≡ turns_home i.sizes.format (length c.as_slice-numbers.result.now) =
-    c.turns_home-turns.ensures ∙ ap (λ (n : ℕ). turns_home i.sizes.format n) (c.len.ensures.value ∙ long) in
-    let left = left_is c.args.self.now (ahead_in i) (shape_of i.sizes) i.head (lists_of i.waiting.items) i.turned i.kept i.under_way.items
-    i.made i.dead c.as_slice-numbers.result.now (lists_of (drop 1 i.waiting.items)) c.self.view_is waits in
-    let away : 2 < of_oldest c.args.self.now = omega (arith, left, turns, c.if-turns-self.false) in
-    turn_sent_more (ahead_in i) (shape_of i.sizes) (sizes_sized i.sizes) i.head (lists_of i.waiting.items) i.turned i.kept
-    i.under_way.items i.made i.dead
-    c.args.self.now c.self.view_is c.requires.live c.self.invariant.ring c.self.invariant.ahead_is c.self.invariant.least
-    (omega (arith, c.self.invariant.most, many i.waiting.items)) c.as_slice-numbers.result.now (lists_of (drop 1 i.waiting.items)) waits
-    (g.M.Medium.state c.args.m.now) (g.M.Medium.state c.make.new.m) (g.met.M.Medium.sound c.args.m.now) c.next_turn-turn.result
-    c.next_turn-turn.ensures.next c.make.ensures.makes.adds view holds c.make.ensures.counts.size
-    (on_ok_here c.make.result (sym c.is_err-refused.ensures.value ∙ c.if-refused.false) c.make.ensures.makes.done) c.make.new.kept
-    (kept_is _ true c.make.new.kept (kept_by c.next_turn-turn.result (g.M.Medium.state c.args.m.now) i.kept) i.kept c.make.ensures.keeps
-    (ok_here c.make.result (sym c.is_err-refused.ensures.value ∙ c.if-refused.false)))
-    (omega (arith, turns, c.if-self-turns.true))
-
-pub returns-clause-holds : goal.returns-clause-holds
-returns-clause-holds g c view holds =
-    let i = c.self.inside in
-    let some : 0 < length i.waiting.items = search rules in
-    let waits = waits_is i.waiting.items c.in-Some.record.now c.as_slice-numbers.result.now some c.in-Some.ensures.lookup
-    c.as_slice-numbers.ensures.value in
-    let long : length c.in-Some.record.now.items ≡ length c.as_slice-numbers.result.now =
-    ap (λ (l : List ℕ). length l) (sym c.as_slice-numbers.ensures.value) in
-    let turns : c.turns_home-turns.result ≡ turns_home i.sizes.format (length c.as_slice-numbers.result.now) =
-    c.turns_home-turns.ensures ∙ ap (λ (n : ℕ). turns_home i.sizes.format n) (c.len.ensures.value ∙ long) in
-    let left = left_is c.args.self.now (ahead_in i) (shape_of i.sizes) i.head (lists_of i.waiting.items) i.turned i.kept i.under_way.items
-    i.made i.dead c.as_slice-numbers.result.now (lists_of (drop 1 i.waiting.items)) c.self.view_is waits in
-    let away : 2 < of_oldest c.args.self.now = omega (arith, left, turns, c.if-turns-self.false) in
-    turn_sent_last (ahead_in i) (shape_of i.sizes) (sizes_sized i.sizes) i.head (lists_of i.waiting.items) i.turned i.kept
-    i.under_way.items i.made i.dead
-    c.args.self.now c.self.view_is c.requires.live c.self.invariant.ring c.self.invariant.ahead_is c.self.invariant.least
-    (omega (arith, c.self.invariant.most, many i.waiting.items)) c.as_slice-numbers.result.now (lists_of (drop 1 i.waiting.items)) waits
-    (g.M.Medium.state c.args.m.now) (g.M.Medium.state c.make.new.m) (g.met.M.Medium.sound c.args.m.now) c.next_turn-turn.result
-    c.next_turn-turn.ensures.next c.make.ensures.makes.adds view holds c.make.ensures.counts.size
-    (on_ok_here c.make.result (sym c.is_err-refused.ensures.value ∙ c.if-refused.false) c.make.ensures.makes.done) c.make.new.kept
-    (kept_is _ true c.make.new.kept (kept_by c.next_turn-turn.result (g.M.Medium.state c.args.m.now) i.kept) i.kept c.make.ensures.keeps
-    (ok_here c.make.result (sym c.is_err-refused.ensures.value ∙ c.if-refused.false)))
-    (i.head + c.len-2.result) (omega (arith, c.len-2.ensures, many i.waiting.items))
-    (omega (arith, turns, c.if-self-turns.false, c.if-turns-self.false))
-
-pub returns-then-refused-clause-passes : goal.returns-then-refused-clause-passes
-returns-then-refused-clause-passes g c =
-    let i = c.self.inside in
-    let some : 0 < length i.waiting.items = search rules in
-    let waits = waits_is i.waiting.items c.in-Some.record.now c.as_slice-numbers.result.now some c.in-Some.ensures.lookup
-    c.as_slice-numbers.ensures.value in
-    let long : length c.in-Some.record.now.items ≡ length c.as_slice-numbers.result.now =
-    ap (λ (l : List ℕ). length l) (sym c.as_slice-numbers.ensures.value) in
-    let turns : c.turns_home-turns.result ≡ turns_home i.sizes.format (length c.as_slice-numbers.result.now) =
-    c.turns_home-turns.ensures ∙ ap (λ (n : ℕ). turns_home i.sizes.format n) (c.len.ensures.value ∙ long) in
-    let left = left_is c.args.self.now (ahead_in i) (shape_of i.sizes) i.head (lists_of i.waiting.items) i.turned i.kept i.under_way.items
-    i.made i.dead c.as_slice-numbers.result.now (lists_of (drop 1 i.waiting.items)) c.self.view_is waits in
-    let away : 2 < of_oldest c.args.self.now = omega (arith, left, turns, c.if-turns-self.false) in
-    let oldest : i.turned < turns_home i.sizes.format (length c.as_slice-numbers.result.now) + 2 =
-    (subst (λ (l : List (List ℕ)). IsRing (shape_of i.sizes) l i.turned i.under_way.items i.made) waits c.self.invariant.ring).oldest in
-    let costs = turn_costs (shape_of i.sizes) i.head c.as_slice-numbers.result.now i.kept i.turned c.next_turn-turn.result
-    c.next_turn-turn.ensures.next oldest
-    ∙ (step_costs c.args.self.now (ahead_in i) (shape_of i.sizes) i.head (lists_of i.waiting.items) i.turned i.kept i.under_way.items
-    i.made i.dead c.as_slice-numbers.result.now (lists_of (drop 1 i.waiting.items)) c.self.view_is waits
-    ∙ sym (away_calls c.args.self.now away)) in
-    let few = turn_refused c.next_turn-turn.result _ _ _ costs c.make.ensures.counts.calls in
-    let sends = turn_sent (shape_of i.sizes) i.head c.as_slice-numbers.result.now i.kept i.turned c.next_turn-turn.result
-    c.next_turn-turn.ensures.next oldest
-    ∙ step_sends c.args.self.now (ahead_in i) (shape_of i.sizes) i.head (lists_of i.waiting.items) i.turned i.kept i.under_way.items i.made
-    i.dead c.as_slice-numbers.result.now (lists_of (drop 1 i.waiting.items)) c.self.view_is waits in
-    let none = home_flushes i.sizes.format (shape_of i.sizes) i.head c.as_slice-numbers.result.now i.kept i.turned c.next_turn-turn.result
-    (c.next_turn-turn.ensures.next.home (omega (arith, turns, c.if-turns-self.false))) in
-    let counted = c.make.ensures.counts.flushed in
     record {
-      calls = record {
-        two = few.0;
-        most = few.1;
-        exact = search rules;
-        sent = omega (arith, c.make.ensures.counts.sent, sends);
-        flushed = record { later = counted.later; most = omega (arith, counted.most, none); exact = search rules };
+      none =
+          λ home. absurd (home away);
+      answers = search rules;
+      passes =
+          let oldest : i.turned < turns_home i.sizes.format (length c.as_slice-numbers.result.now) + 2 =
+          (subst (λ (l : List (List ℕ)). IsRing (shape_of i.sizes) l i.turned i.under_way.items i.made) waits c.self.invariant.ring).oldest
+          in
+          let costs = turn_costs (shape_of i.sizes) i.head c.as_slice-numbers.result.now i.kept i.turned c.next_turn-turn.result
+          c.next_turn-turn.ensures.next oldest
+          ∙ (step_costs c.args.self.now (ahead_in i) (shape_of i.sizes) i.head (lists_of i.waiting.items) i.turned i.kept i.under_way.items
+          i.made i.dead c.as_slice-numbers.result.now (lists_of (drop 1 i.waiting.items)) c.self.view_is waits
+          ∙ sym (away_calls c.args.self.now away)) in
+          let few = turn_refused c.next_turn-turn.result _ _ _ costs c.make.ensures.counts.calls in
+          let sends = turn_sent (shape_of i.sizes) i.head c.as_slice-numbers.result.now i.kept i.turned c.next_turn-turn.result
+          c.next_turn-turn.ensures.next oldest
+          ∙ step_sends c.args.self.now (ahead_in i) (shape_of i.sizes) i.head (lists_of i.waiting.items) i.turned i.kept i.under_way.items
+          i.made
+          i.dead c.as_slice-numbers.result.now (lists_of (drop 1 i.waiting.items)) c.self.view_is waits in
+          let none = home_flushes i.sizes.format (shape_of i.sizes) i.head c.as_slice-numbers.result.now i.kept i.turned
+          c.next_turn-turn.result (c.next_turn-turn.ensures.next.home (omega (arith, turns, c.if-turns-self.false))) in
+          let counted = c.make.ensures.counts.flushed in
+          record {
+            calls = record {
+              two = few.0;
+              most = few.1;
+              exact = search rules;
+              sent = omega (arith, c.make.ensures.counts.sent, sends);
+              flushed = record { later = counted.later; most = omega (arith, counted.most, none); exact = search rules };
+            };
+            failures = search rules;
+            size = search rules;
+            follows = search rules;
+          };
+      holds = λ view holds.
+          let dead = turn_dead (ahead_in i) (shape_of i.sizes) (sizes_sized i.sizes) i.head (lists_of i.waiting.items) i.turned i.kept
+          i.under_way.items i.made
+          i.dead c.args.self.now c.self.view_is c.requires.live c.self.invariant.ring c.self.invariant.ahead_is c.self.invariant.least
+          (omega (arith, c.self.invariant.most, many i.waiting.items)) c.as_slice-numbers.result.now (lists_of (drop 1 i.waiting.items))
+          waits (g.M.Medium.state c.args.m.now) (g.M.Medium.state c.make.new.m) (g.met.M.Medium.sound c.args.m.now) c.next_turn-turn.result
+          c.next_turn-turn.ensures.next c.make.ensures.makes.adds view holds c.make.ensures.counts.size (g.met.M.Medium.sound c.make.new.m)
+          in
+          let keeps = kept_is _ false c.make.new.kept (kept_by c.next_turn-turn.result (g.M.Medium.state c.args.m.now) i.kept) i.kept
+          c.make.ensures.keeps (err_here c.make.result (sym c.is_err-refused.ensures.value ∙ c.if-refused.true)) in
+          subst
+          (λ (k : List ℕ). HoldsView
+          (died (value_at (ahead_in i) (shape_of i.sizes) i.head (lists_of i.waiting.items) i.turned k i.under_way.items i.made i.dead))
+          (g.M.Medium.state c.make.new.m) view)
+          (sym keeps) (subst (λ (v : LogValue). HoldsView (died v) (g.M.Medium.state c.make.new.m) view) (sym c.self.view_is) dead);
+      leaves = record {
+        cuts = λ view holds ours.
+            turn_cuts (ahead_in i) (shape_of i.sizes) (sizes_sized i.sizes) i.head (lists_of i.waiting.items) i.turned i.kept
+            i.under_way.items i.made i.dead
+            c.args.self.now c.self.view_is c.requires.live c.self.invariant.ring c.self.invariant.ahead_is c.self.invariant.least
+            (omega (arith, c.self.invariant.most, many i.waiting.items)) c.as_slice-numbers.result.now (lists_of (drop 1 i.waiting.items))
+            waits (g.M.Medium.state c.args.m.now) (g.M.Medium.state c.make.new.m) (g.met.M.Medium.sound c.args.m.now)
+            c.next_turn-turn.result c.next_turn-turn.ensures.next c.make.ensures.makes.adds view holds ours;
+        moments =
+            turn_moments c.next_turn-turn.result (g.M.Medium.state c.args.m.now) (g.M.Medium.state c.make.new.m)
+            (g.met.M.Medium.sound c.args.m.now) c.make.ensures.makes.adds;
+        spares =
+            turn_spares (shape_of c.self.inside.sizes) c.args.self.now (g.M.Medium.state c.args.m.now) (g.M.Medium.state c.make.new.m)
+            (ap (λ (v : LogValue). v.shape) c.self.view_is) c.next_turn-turn.result c.next_turn-turn.ensures.inside
+            c.make.ensures.makes.spares;
+        looks =
+            turn_looks (shape_of c.self.inside.sizes) c.args.self.now (g.M.Medium.state c.args.m.now) (g.M.Medium.state c.make.new.m)
+            (ap (λ (v : LogValue). v.shape) c.self.view_is) c.next_turn-turn.result c.next_turn-turn.ensures.reads c.make.ensures.follows.1;
       };
-      failures = search rules;
-      size = search rules;
-      follows = search rules;
     }
 
-pub returns-then-self-turns-clause-passes : goal.returns-then-self-turns-clause-passes
-returns-then-self-turns-clause-passes g c =
+pub returns-then-self-turns : goal.returns-then-self-turns
+returns-then-self-turns g c =
     let i = c.self.inside in
     let some : 0 < length i.waiting.items = search rules in
     let waits = waits_is i.waiting.items c.in-Some.record.now c.as_slice-numbers.result.now some c.in-Some.ensures.lookup
@@ -320,41 +186,79 @@ returns-then-self-turns-clause-passes g c =
     let left = left_is c.args.self.now (ahead_in i) (shape_of i.sizes) i.head (lists_of i.waiting.items) i.turned i.kept i.under_way.items
     i.made i.dead c.as_slice-numbers.result.now (lists_of (drop 1 i.waiting.items)) c.self.view_is waits in
     let away : 2 < of_oldest c.args.self.now = omega (arith, left, turns, c.if-turns-self.false) in
-    let oldest : i.turned < turns_home i.sizes.format (length c.as_slice-numbers.result.now) + 2 =
-    (subst (λ (l : List (List ℕ)). IsRing (shape_of i.sizes) l i.turned i.under_way.items i.made) waits c.self.invariant.ring).oldest in
-    let costs = turn_costs (shape_of i.sizes) i.head c.as_slice-numbers.result.now i.kept i.turned c.next_turn-turn.result
-    c.next_turn-turn.ensures.next oldest
-    ∙ (step_costs c.args.self.now (ahead_in i) (shape_of i.sizes) i.head (lists_of i.waiting.items) i.turned i.kept i.under_way.items
-    i.made i.dead c.as_slice-numbers.result.now (lists_of (drop 1 i.waiting.items)) c.self.view_is waits
-    ∙ sym (away_calls c.args.self.now away)) in
-    let few = turn_refused c.next_turn-turn.result _ _ _ costs c.make.ensures.counts.calls in
-    let sends = turn_sent (shape_of i.sizes) i.head c.as_slice-numbers.result.now i.kept i.turned c.next_turn-turn.result
-    c.next_turn-turn.ensures.next oldest
-    ∙ step_sends c.args.self.now (ahead_in i) (shape_of i.sizes) i.head (lists_of i.waiting.items) i.turned i.kept i.under_way.items i.made
-    i.dead c.as_slice-numbers.result.now (lists_of (drop 1 i.waiting.items)) c.self.view_is waits in
-    let made = on_ok_here c.make.result (sym c.is_err-refused.ensures.value ∙ c.if-refused.false) c.make.ensures.counts.exact in
-    let none = home_flushes i.sizes.format (shape_of i.sizes) i.head c.as_slice-numbers.result.now i.kept i.turned c.next_turn-turn.result
-    (c.next_turn-turn.ensures.next.home (omega (arith, turns, c.if-turns-self.false))) in
-    let counted = c.make.ensures.counts.flushed in
     record {
-      calls = record {
-        two = few.0;
-        most = few.1;
-        exact = omega (arith, made, costs);
-        sent = omega (arith, c.make.ensures.counts.sent, sends);
-        flushed = record {
-          later = counted.later;
-          most = omega (arith, counted.most, none);
-          exact = omega (arith, counted.later, counted.most, none);
-        };
+      none =
+          λ home. absurd (home away);
+      answers = grind (arith, common_steps);
+      passes =
+          let oldest : i.turned < turns_home i.sizes.format (length c.as_slice-numbers.result.now) + 2 =
+          (subst (λ (l : List (List ℕ)). IsRing (shape_of i.sizes) l i.turned i.under_way.items i.made) waits c.self.invariant.ring).oldest
+          in
+          let costs = turn_costs (shape_of i.sizes) i.head c.as_slice-numbers.result.now i.kept i.turned c.next_turn-turn.result
+          c.next_turn-turn.ensures.next oldest
+          ∙ (step_costs c.args.self.now (ahead_in i) (shape_of i.sizes) i.head (lists_of i.waiting.items) i.turned i.kept i.under_way.items
+          i.made i.dead c.as_slice-numbers.result.now (lists_of (drop 1 i.waiting.items)) c.self.view_is waits
+          ∙ sym (away_calls c.args.self.now away)) in
+          let few = turn_refused c.next_turn-turn.result _ _ _ costs c.make.ensures.counts.calls in
+          let sends = turn_sent (shape_of i.sizes) i.head c.as_slice-numbers.result.now i.kept i.turned c.next_turn-turn.result
+          c.next_turn-turn.ensures.next oldest
+          ∙ step_sends c.args.self.now (ahead_in i) (shape_of i.sizes) i.head (lists_of i.waiting.items) i.turned i.kept i.under_way.items
+          i.made
+          i.dead c.as_slice-numbers.result.now (lists_of (drop 1 i.waiting.items)) c.self.view_is waits in
+          let made = on_ok_here c.make.result (sym c.is_err-refused.ensures.value ∙ c.if-refused.false) c.make.ensures.counts.exact in
+          let none = home_flushes i.sizes.format (shape_of i.sizes) i.head c.as_slice-numbers.result.now i.kept i.turned
+          c.next_turn-turn.result (c.next_turn-turn.ensures.next.home (omega (arith, turns, c.if-turns-self.false))) in
+          let counted = c.make.ensures.counts.flushed in
+          record {
+            calls = record {
+              two = few.0;
+              most = few.1;
+              exact = omega (arith, made, costs);
+              sent = omega (arith, c.make.ensures.counts.sent, sends);
+              flushed = record {
+                later = counted.later;
+                most = omega (arith, counted.most, none);
+                exact = omega (arith, counted.later, counted.most, none);
+              };
+            };
+            failures = search rules;
+            size = search rules;
+            follows = search rules;
+          };
+      holds = λ view holds.
+          turn_sent_more (ahead_in i) (shape_of i.sizes) (sizes_sized i.sizes) i.head (lists_of i.waiting.items) i.turned i.kept
+          i.under_way.items i.made i.dead
+          c.args.self.now c.self.view_is c.requires.live c.self.invariant.ring c.self.invariant.ahead_is c.self.invariant.least
+          (omega (arith, c.self.invariant.most, many i.waiting.items)) c.as_slice-numbers.result.now (lists_of (drop 1 i.waiting.items))
+          waits (g.M.Medium.state c.args.m.now) (g.M.Medium.state c.make.new.m) (g.met.M.Medium.sound c.args.m.now) c.next_turn-turn.result
+          c.next_turn-turn.ensures.next c.make.ensures.makes.adds view holds c.make.ensures.counts.size
+          (on_ok_here c.make.result (sym c.is_err-refused.ensures.value ∙ c.if-refused.false) c.make.ensures.makes.done) c.make.new.kept
+          (kept_is _ true c.make.new.kept (kept_by c.next_turn-turn.result (g.M.Medium.state c.args.m.now) i.kept) i.kept
+          c.make.ensures.keeps (ok_here c.make.result (sym c.is_err-refused.ensures.value ∙ c.if-refused.false)))
+          (omega (arith, turns, c.if-self-turns.true));
+      leaves = record {
+        cuts = λ view holds ours.
+            turn_cuts (ahead_in i) (shape_of i.sizes) (sizes_sized i.sizes) i.head (lists_of i.waiting.items) i.turned i.kept
+            i.under_way.items i.made i.dead
+            c.args.self.now c.self.view_is c.requires.live c.self.invariant.ring c.self.invariant.ahead_is c.self.invariant.least
+            (omega (arith, c.self.invariant.most, many i.waiting.items)) c.as_slice-numbers.result.now (lists_of (drop 1 i.waiting.items))
+            waits (g.M.Medium.state c.args.m.now) (g.M.Medium.state c.make.new.m) (g.met.M.Medium.sound c.args.m.now)
+            c.next_turn-turn.result c.next_turn-turn.ensures.next c.make.ensures.makes.adds view holds ours;
+        moments =
+            turn_moments c.next_turn-turn.result (g.M.Medium.state c.args.m.now) (g.M.Medium.state c.make.new.m)
+            (g.met.M.Medium.sound c.args.m.now) c.make.ensures.makes.adds;
+        spares =
+            turn_spares (shape_of c.self.inside.sizes) c.args.self.now (g.M.Medium.state c.args.m.now) (g.M.Medium.state c.make.new.m)
+            (ap (λ (v : LogValue). v.shape) c.self.view_is) c.next_turn-turn.result c.next_turn-turn.ensures.inside
+            c.make.ensures.makes.spares;
+        looks =
+            turn_looks (shape_of c.self.inside.sizes) c.args.self.now (g.M.Medium.state c.args.m.now) (g.M.Medium.state c.make.new.m)
+            (ap (λ (v : LogValue). v.shape) c.self.view_is) c.next_turn-turn.result c.next_turn-turn.ensures.reads c.make.ensures.follows.1;
       };
-      failures = search rules;
-      size = search rules;
-      follows = search rules;
     }
 
-pub returns-clause-passes : goal.returns-clause-passes
-returns-clause-passes g c =
+pub returns : goal.returns
+returns g c =
     let i = c.self.inside in
     let some : 0 < length i.waiting.items = search rules in
     let waits = waits_is i.waiting.items c.in-Some.record.now c.as_slice-numbers.result.now some c.in-Some.ensures.lookup
@@ -366,35 +270,74 @@ returns-clause-passes g c =
     let left = left_is c.args.self.now (ahead_in i) (shape_of i.sizes) i.head (lists_of i.waiting.items) i.turned i.kept i.under_way.items
     i.made i.dead c.as_slice-numbers.result.now (lists_of (drop 1 i.waiting.items)) c.self.view_is waits in
     let away : 2 < of_oldest c.args.self.now = omega (arith, left, turns, c.if-turns-self.false) in
-    let oldest : i.turned < turns_home i.sizes.format (length c.as_slice-numbers.result.now) + 2 =
-    (subst (λ (l : List (List ℕ)). IsRing (shape_of i.sizes) l i.turned i.under_way.items i.made) waits c.self.invariant.ring).oldest in
-    let costs = turn_costs (shape_of i.sizes) i.head c.as_slice-numbers.result.now i.kept i.turned c.next_turn-turn.result
-    c.next_turn-turn.ensures.next oldest
-    ∙ (step_costs c.args.self.now (ahead_in i) (shape_of i.sizes) i.head (lists_of i.waiting.items) i.turned i.kept i.under_way.items
-    i.made i.dead c.as_slice-numbers.result.now (lists_of (drop 1 i.waiting.items)) c.self.view_is waits
-    ∙ sym (away_calls c.args.self.now away)) in
-    let few = turn_refused c.next_turn-turn.result _ _ _ costs c.make.ensures.counts.calls in
-    let sends = turn_sent (shape_of i.sizes) i.head c.as_slice-numbers.result.now i.kept i.turned c.next_turn-turn.result
-    c.next_turn-turn.ensures.next oldest
-    ∙ step_sends c.args.self.now (ahead_in i) (shape_of i.sizes) i.head (lists_of i.waiting.items) i.turned i.kept i.under_way.items i.made
-    i.dead c.as_slice-numbers.result.now (lists_of (drop 1 i.waiting.items)) c.self.view_is waits in
-    let made = on_ok_here c.make.result (sym c.is_err-refused.ensures.value ∙ c.if-refused.false) c.make.ensures.counts.exact in
-    let none = home_flushes i.sizes.format (shape_of i.sizes) i.head c.as_slice-numbers.result.now i.kept i.turned c.next_turn-turn.result
-    (c.next_turn-turn.ensures.next.home (omega (arith, turns, c.if-turns-self.false))) in
-    let counted = c.make.ensures.counts.flushed in
     record {
-      calls = record {
-        two = few.0;
-        most = few.1;
-        exact = omega (arith, made, costs);
-        sent = omega (arith, c.make.ensures.counts.sent, sends);
-        flushed = record {
-          later = counted.later;
-          most = omega (arith, counted.most, none);
-          exact = omega (arith, counted.later, counted.most, none);
-        };
+      none =
+          λ home. absurd (home away);
+      answers = grind (arith, common_steps);
+      passes =
+          let oldest : i.turned < turns_home i.sizes.format (length c.as_slice-numbers.result.now) + 2 =
+          (subst (λ (l : List (List ℕ)). IsRing (shape_of i.sizes) l i.turned i.under_way.items i.made) waits c.self.invariant.ring).oldest
+          in
+          let costs = turn_costs (shape_of i.sizes) i.head c.as_slice-numbers.result.now i.kept i.turned c.next_turn-turn.result
+          c.next_turn-turn.ensures.next oldest
+          ∙ (step_costs c.args.self.now (ahead_in i) (shape_of i.sizes) i.head (lists_of i.waiting.items) i.turned i.kept i.under_way.items
+          i.made i.dead c.as_slice-numbers.result.now (lists_of (drop 1 i.waiting.items)) c.self.view_is waits
+          ∙ sym (away_calls c.args.self.now away)) in
+          let few = turn_refused c.next_turn-turn.result _ _ _ costs c.make.ensures.counts.calls in
+          let sends = turn_sent (shape_of i.sizes) i.head c.as_slice-numbers.result.now i.kept i.turned c.next_turn-turn.result
+          c.next_turn-turn.ensures.next oldest
+          ∙ step_sends c.args.self.now (ahead_in i) (shape_of i.sizes) i.head (lists_of i.waiting.items) i.turned i.kept i.under_way.items
+          i.made
+          i.dead c.as_slice-numbers.result.now (lists_of (drop 1 i.waiting.items)) c.self.view_is waits in
+          let made = on_ok_here c.make.result (sym c.is_err-refused.ensures.value ∙ c.if-refused.false) c.make.ensures.counts.exact in
+          let none = home_flushes i.sizes.format (shape_of i.sizes) i.head c.as_slice-numbers.result.now i.kept i.turned
+          c.next_turn-turn.result (c.next_turn-turn.ensures.next.home (omega (arith, turns, c.if-turns-self.false))) in
+          let counted = c.make.ensures.counts.flushed in
+          record {
+            calls = record {
+              two = few.0;
+              most = few.1;
+              exact = omega (arith, made, costs);
+              sent = omega (arith, c.make.ensures.counts.sent, sends);
+              flushed = record {
+                later = counted.later;
+                most = omega (arith, counted.most, none);
+                exact = omega (arith, counted.later, counted.most, none);
+              };
+            };
+            failures = search rules;
+            size = search rules;
+            follows = search rules;
+          };
+      holds = λ view holds.
+          turn_sent_last (ahead_in i) (shape_of i.sizes) (sizes_sized i.sizes) i.head (lists_of i.waiting.items) i.turned i.kept
+          i.under_way.items i.made i.dead
+          c.args.self.now c.self.view_is c.requires.live c.self.invariant.ring c.self.invariant.ahead_is c.self.invariant.least
+          (omega (arith, c.self.invariant.most, many i.waiting.items)) c.as_slice-numbers.result.now (lists_of (drop 1 i.waiting.items))
+          waits (g.M.Medium.state c.args.m.now) (g.M.Medium.state c.make.new.m) (g.met.M.Medium.sound c.args.m.now) c.next_turn-turn.result
+          c.next_turn-turn.ensures.next c.make.ensures.makes.adds view holds c.make.ensures.counts.size
+          (on_ok_here c.make.result (sym c.is_err-refused.ensures.value ∙ c.if-refused.false) c.make.ensures.makes.done) c.make.new.kept
+          (kept_is _ true c.make.new.kept (kept_by c.next_turn-turn.result (g.M.Medium.state c.args.m.now) i.kept) i.kept
+          c.make.ensures.keeps (ok_here c.make.result (sym c.is_err-refused.ensures.value ∙ c.if-refused.false)))
+          (i.head + c.len-2.result) (omega (arith, c.len-2.ensures, many i.waiting.items))
+          (omega (arith, turns, c.if-self-turns.false, c.if-turns-self.false));
+      leaves = record {
+        cuts = λ view holds ours.
+            turn_cuts (ahead_in i) (shape_of i.sizes) (sizes_sized i.sizes) i.head (lists_of i.waiting.items) i.turned i.kept
+            i.under_way.items i.made i.dead
+            c.args.self.now c.self.view_is c.requires.live c.self.invariant.ring c.self.invariant.ahead_is c.self.invariant.least
+            (omega (arith, c.self.invariant.most, many i.waiting.items)) c.as_slice-numbers.result.now (lists_of (drop 1 i.waiting.items))
+            waits (g.M.Medium.state c.args.m.now) (g.M.Medium.state c.make.new.m) (g.met.M.Medium.sound c.args.m.now)
+            c.next_turn-turn.result c.next_turn-turn.ensures.next c.make.ensures.makes.adds view holds ours;
+        moments =
+            turn_moments c.next_turn-turn.result (g.M.Medium.state c.args.m.now) (g.M.Medium.state c.make.new.m)
+            (g.met.M.Medium.sound c.args.m.now) c.make.ensures.makes.adds;
+        spares =
+            turn_spares (shape_of c.self.inside.sizes) c.args.self.now (g.M.Medium.state c.args.m.now) (g.M.Medium.state c.make.new.m)
+            (ap (λ (v : LogValue). v.shape) c.self.view_is) c.next_turn-turn.result c.next_turn-turn.ensures.inside
+            c.make.ensures.makes.spares;
+        looks =
+            turn_looks (shape_of c.self.inside.sizes) c.args.self.now (g.M.Medium.state c.args.m.now) (g.M.Medium.state c.make.new.m)
+            (ap (λ (v : LogValue). v.shape) c.self.view_is) c.next_turn-turn.result c.next_turn-turn.ensures.reads c.make.ensures.follows.1;
       };
-      failures = search rules;
-      size = search rules;
-      follows = search rules;
     }

@@ -26,7 +26,7 @@ returns-clause-ok g c view block holds copy =
     let most = c.self.invariant.most in
     let there = copy_read (ahead_in i) (shape_of i.sizes) (sizes_sized i.sizes) i.head (lists_of i.waiting.items) i.turned i.kept
     i.under_way.items
-    i.made i.dead c.args.self.now c.self.view_is c.requires.live c.self.invariant.ring c.self.invariant.ahead_is c.self.invariant.least
+    i.made i.dead c.args.self.now c.self.view_is c.requires.on.live c.self.invariant.ring c.self.invariant.ahead_is c.self.invariant.least
     (omega (arith, c.self.invariant.most, many i.waiting.items)) old view holds block c.args.slot c.args.place copy in
     on_ok_weaker c.read_copy.result (λ read. read ∙ there.2)
     (c.read_copy.ensures.ok (c.args.self.now.head + copy.age) (get_or view.records copy.age [])
@@ -46,4 +46,5 @@ returns-clause-keeps g c = record {
   looks =
       shape_looks (shape_of c.self.inside.sizes) c.args.self.now (g.M.Medium.state c.args.m.now) (g.M.Medium.state c.read_copy.new.m)
       (ap (λ (v : LogValue). v.shape) c.self.view_is) c.read_copy.ensures.follows.1;
+  follows = c.read_copy.ensures.follows.0;
 }

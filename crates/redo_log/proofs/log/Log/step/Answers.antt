@@ -17,108 +17,122 @@ use Rattle.redo_log.proofs.Closing.{on_ok_here, sizes_sized, step_cuts, step_dea
 use Rattle.redo_log.proofs.Closing.{step_flushed}
 use Rattle.redo_log.proofs.Sighting.{call_looks}
 use Rattle.redo_log.proofs.Sparing.{call_spares}
+use Rattle.std.proofs.lemmas.Grind.{common_steps}
 use Rattle.redo_log.proofs.log.Log.step.Goals as goal
 
 -- as many lists as records
 many : (records : List (ArrayVec ℕ)) → length (lists_of records) ≡ length records
 many records = let f : ArrayVec ℕ → List ℕ = λ r. r.items in length-map records f
 
-pub returns-then-is_err-clause-holds : goal.returns-then-is_err-clause-holds
-returns-then-is_err-clause-holds g c view holds entries =
-    let i = c.self.inside in
-    let dead = step_dead (ahead_in i) (shape_of i.sizes) (sizes_sized i.sizes) i.head (lists_of i.waiting.items) i.turned i.kept
-    i.under_way.items i.made
-    i.dead c.args.self.now c.self.view_is c.requires.live c.self.invariant.ring c.self.invariant.ahead_is c.self.invariant.least
-    (omega (arith, c.self.invariant.most, many i.waiting.items)) c.args.numbers.now c.args.bytes.now c.in-Some.made c.in-Some.is
-    c.requires.numbers c.requires.bytes (i.head + c.len.result) (omega (arith, c.len.ensures, many i.waiting.items))
-    (g.M.Medium.state c.args.m.now) (g.M.Medium.state c.make_next.new.m) (g.met.M.Medium.sound c.args.m.now) c.make_next.ensures.makes.call
-    c.make_next.result c.make_next.ensures.makes.makes.passes c.make_next.ensures.makes.next c.make_next.ensures.makes.makes.adds
-    view holds
-    (g.met.M.Medium.sound c.make_next.new.m) in
-    subst (λ (v : LogValue). HoldsView (died v) (g.M.Medium.state c.make_next.new.m) view) (sym c.self.view_is) dead
-
-pub returns-then-is_err-clause-leaves : goal.returns-then-is_err-clause-leaves
-returns-then-is_err-clause-leaves g c = record {
-  cuts = λ view holds ours.
+pub returns-then-is_err : goal.returns-then-is_err
+returns-then-is_err g c = record {
+  answers = search rules;
+  passes =
       let i = c.self.inside in
-      step_cuts (ahead_in i) (shape_of i.sizes) (sizes_sized i.sizes) i.head (lists_of i.waiting.items) i.turned i.kept i.under_way.items
-      i.made i.dead
-      c.args.self.now c.self.view_is c.requires.live c.self.invariant.ring c.self.invariant.ahead_is c.self.invariant.least
+      let flushed = step_flushed (ahead_in i) (shape_of i.sizes) (sizes_sized i.sizes) i.head (lists_of i.waiting.items) i.turned i.kept
+      i.under_way.items i.made i.dead c.args.self.now c.self.view_is c.requires.on.live c.self.invariant.ring c.self.invariant.ahead_is
+      c.self.invariant.least
+      (omega (arith, c.self.invariant.most, many i.waiting.items)) c.args.numbers.now c.args.bytes.now c.in-Some.made c.in-Some.is
+      c.requires.numbers c.requires.bytes (i.head + c.len.result) (omega (arith, c.len.ensures, many i.waiting.items))
+      (g.M.Medium.state c.args.m.now) (g.M.Medium.state c.make_next.new.m) c.make_next.ensures.makes.call c.make_next.result
+      c.make_next.ensures.makes.makes.passes c.make_next.ensures.makes.next in
+      record {
+        calls = record { one = search rules; sent = search rules; flushed = flushed };
+        failures = search rules;
+        size = search rules;
+        follows = search rules;
+      };
+  holds = λ view holds entries.
+      let i = c.self.inside in
+      let dead = step_dead (ahead_in i) (shape_of i.sizes) (sizes_sized i.sizes) i.head (lists_of i.waiting.items) i.turned i.kept
+      i.under_way.items i.made
+      i.dead c.args.self.now c.self.view_is c.requires.on.live c.self.invariant.ring c.self.invariant.ahead_is c.self.invariant.least
       (omega (arith, c.self.invariant.most, many i.waiting.items)) c.args.numbers.now c.args.bytes.now c.in-Some.made c.in-Some.is
       c.requires.numbers c.requires.bytes (i.head + c.len.result) (omega (arith, c.len.ensures, many i.waiting.items))
       (g.M.Medium.state c.args.m.now) (g.M.Medium.state c.make_next.new.m) (g.met.M.Medium.sound c.args.m.now)
-      c.make_next.ensures.makes.call c.make_next.result c.make_next.ensures.makes.makes.passes c.make_next.ensures.makes.next
-      c.make_next.ensures.makes.makes.adds view holds ours;
-  moments =
-      one_call (λ _. Unit {0}) (g.M.Medium.state c.args.m.now) (g.M.Medium.state c.make_next.new.m) (g.met.M.Medium.sound c.args.m.now)
-      c.make_next.ensures.makes.makes.passes (λ image cut. tt) (λ image cut. tt);
-  spares =
-      call_spares (shape_of c.self.inside.sizes) c.args.self.now (g.M.Medium.state c.args.m.now) (g.M.Medium.state c.make_next.new.m)
-      (ap (λ (v : LogValue). v.shape) c.self.view_is) c.make_next.ensures.makes.call c.make_next.ensures.makes.inside
-      c.make_next.ensures.makes.makes.spares;
-  looks = call_looks c.args.self.now (g.M.Medium.state c.args.m.now) (g.M.Medium.state c.make_next.new.m)
-      c.make_next.ensures.makes.call c.make_next.ensures.makes.makes.passes;
+      c.make_next.ensures.makes.call
+      c.make_next.result c.make_next.ensures.makes.makes.passes c.make_next.ensures.makes.next c.make_next.ensures.makes.makes.adds
+      view holds
+      (g.met.M.Medium.sound c.make_next.new.m) in
+      subst (λ (v : LogValue). HoldsView (died v) (g.M.Medium.state c.make_next.new.m) view) (sym c.self.view_is) dead;
+  durable = search rules;
+  leaves = record {
+    cuts = λ view holds ours.
+        let i = c.self.inside in
+        step_cuts (ahead_in i) (shape_of i.sizes) (sizes_sized i.sizes) i.head (lists_of i.waiting.items) i.turned i.kept i.under_way.items
+        i.made i.dead
+        c.args.self.now c.self.view_is c.requires.on.live c.self.invariant.ring c.self.invariant.ahead_is c.self.invariant.least
+        (omega (arith, c.self.invariant.most, many i.waiting.items)) c.args.numbers.now c.args.bytes.now c.in-Some.made c.in-Some.is
+        c.requires.numbers c.requires.bytes (i.head + c.len.result) (omega (arith, c.len.ensures, many i.waiting.items))
+        (g.M.Medium.state c.args.m.now) (g.M.Medium.state c.make_next.new.m) (g.met.M.Medium.sound c.args.m.now)
+        c.make_next.ensures.makes.call c.make_next.result c.make_next.ensures.makes.makes.passes c.make_next.ensures.makes.next
+        c.make_next.ensures.makes.makes.adds view holds ours;
+    moments =
+        one_call (λ _. Unit {0}) (g.M.Medium.state c.args.m.now) (g.M.Medium.state c.make_next.new.m) (g.met.M.Medium.sound c.args.m.now)
+        c.make_next.ensures.makes.makes.passes (λ image cut. tt) (λ image cut. tt);
+    spares =
+        call_spares (shape_of c.self.inside.sizes) c.args.self.now (g.M.Medium.state c.args.m.now) (g.M.Medium.state c.make_next.new.m)
+        (ap (λ (v : LogValue). v.shape) c.self.view_is) c.make_next.ensures.makes.call c.make_next.ensures.makes.inside
+        c.make_next.ensures.makes.makes.spares;
+    looks = call_looks c.args.self.now (g.M.Medium.state c.args.m.now) (g.M.Medium.state c.make_next.new.m)
+        c.make_next.ensures.makes.call c.make_next.ensures.makes.makes.passes;
+  };
 }
 
-pub returns-then-made-steps_for-clause-leaves : goal.returns-then-made-steps_for-clause-leaves
-returns-then-made-steps_for-clause-leaves g c = record {
-  cuts = λ view holds ours.
+pub returns-then-made-steps_for : goal.returns-then-made-steps_for
+returns-then-made-steps_for g c = record {
+  answers = search rules;
+  passes =
       let i = c.self.inside in
-      step_cuts (ahead_in i) (shape_of i.sizes) (sizes_sized i.sizes) i.head (lists_of i.waiting.items) i.turned i.kept i.under_way.items
+      let flushed = step_flushed (ahead_in i) (shape_of i.sizes) (sizes_sized i.sizes) i.head (lists_of i.waiting.items) i.turned i.kept
+      i.under_way.items i.made i.dead c.args.self.now c.self.view_is c.requires.on.live c.self.invariant.ring c.self.invariant.ahead_is
+      c.self.invariant.least
+      (omega (arith, c.self.invariant.most, many i.waiting.items)) c.args.numbers.now c.args.bytes.now c.in-Some.made c.in-Some.is
+      c.requires.numbers c.requires.bytes (i.head + c.len.result) (omega (arith, c.len.ensures, many i.waiting.items))
+      (g.M.Medium.state c.args.m.now) (g.M.Medium.state c.make_next.new.m) c.make_next.ensures.makes.call c.make_next.result
+      c.make_next.ensures.makes.makes.passes c.make_next.ensures.makes.next in
+      record {
+        calls = record { one = search rules; sent = search rules; flushed = flushed };
+        failures = search rules;
+        size = search rules;
+        follows = search rules;
+      };
+  holds = λ view holds entries.
+      let i = c.self.inside in
+      step_goes_on (ahead_in i) (shape_of i.sizes) (sizes_sized i.sizes) i.head (lists_of i.waiting.items) i.turned i.kept i.under_way.items
       i.made i.dead
-      c.args.self.now c.self.view_is c.requires.live c.self.invariant.ring c.self.invariant.ahead_is c.self.invariant.least
+      c.args.self.now c.self.view_is c.requires.on.live c.self.invariant.ring c.self.invariant.ahead_is c.self.invariant.least
       (omega (arith, c.self.invariant.most, many i.waiting.items)) c.args.numbers.now c.args.bytes.now c.in-Some.made c.in-Some.is
       c.requires.numbers c.requires.bytes (i.head + c.len.result) (omega (arith, c.len.ensures, many i.waiting.items))
       (g.M.Medium.state c.args.m.now) (g.M.Medium.state c.make_next.new.m) (g.met.M.Medium.sound c.args.m.now)
-      c.make_next.ensures.makes.call c.make_next.result c.make_next.ensures.makes.makes.passes c.make_next.ensures.makes.next
-      c.make_next.ensures.makes.makes.adds view holds ours;
-  moments =
-      one_call (λ _. Unit {0}) (g.M.Medium.state c.args.m.now) (g.M.Medium.state c.make_next.new.m) (g.met.M.Medium.sound c.args.m.now)
-      c.make_next.ensures.makes.makes.passes (λ image cut. tt) (λ image cut. tt);
-  spares =
-      call_spares (shape_of c.self.inside.sizes) c.args.self.now (g.M.Medium.state c.args.m.now) (g.M.Medium.state c.make_next.new.m)
-      (ap (λ (v : LogValue). v.shape) c.self.view_is) c.make_next.ensures.makes.call c.make_next.ensures.makes.inside
-      c.make_next.ensures.makes.makes.spares;
-  looks = call_looks c.args.self.now (g.M.Medium.state c.args.m.now) (g.M.Medium.state c.make_next.new.m)
-      c.make_next.ensures.makes.call c.make_next.ensures.makes.makes.passes;
+      c.make_next.ensures.makes.call
+      c.make_next.result c.make_next.ensures.makes.makes.passes c.make_next.ensures.makes.next c.make_next.ensures.makes.makes.adds
+      view holds entries
+      (on_ok_here c.make_next.result (sym c.is_err.ensures.value ∙ c.if-is_err.false) c.make_next.ensures.makes.makes.done)
+      (omega (arith, c.if-made-steps_for.true, c.steps_for.ensures));
+  durable = search rules;
+  leaves = record {
+    cuts = λ view holds ours.
+        let i = c.self.inside in
+        step_cuts (ahead_in i) (shape_of i.sizes) (sizes_sized i.sizes) i.head (lists_of i.waiting.items) i.turned i.kept i.under_way.items
+        i.made i.dead
+        c.args.self.now c.self.view_is c.requires.on.live c.self.invariant.ring c.self.invariant.ahead_is c.self.invariant.least
+        (omega (arith, c.self.invariant.most, many i.waiting.items)) c.args.numbers.now c.args.bytes.now c.in-Some.made c.in-Some.is
+        c.requires.numbers c.requires.bytes (i.head + c.len.result) (omega (arith, c.len.ensures, many i.waiting.items))
+        (g.M.Medium.state c.args.m.now) (g.M.Medium.state c.make_next.new.m) (g.met.M.Medium.sound c.args.m.now)
+        c.make_next.ensures.makes.call c.make_next.result c.make_next.ensures.makes.makes.passes c.make_next.ensures.makes.next
+        c.make_next.ensures.makes.makes.adds view holds ours;
+    moments =
+        one_call (λ _. Unit {0}) (g.M.Medium.state c.args.m.now) (g.M.Medium.state c.make_next.new.m) (g.met.M.Medium.sound c.args.m.now)
+        c.make_next.ensures.makes.makes.passes (λ image cut. tt) (λ image cut. tt);
+    spares =
+        call_spares (shape_of c.self.inside.sizes) c.args.self.now (g.M.Medium.state c.args.m.now) (g.M.Medium.state c.make_next.new.m)
+        (ap (λ (v : LogValue). v.shape) c.self.view_is) c.make_next.ensures.makes.call c.make_next.ensures.makes.inside
+        c.make_next.ensures.makes.makes.spares;
+    looks = call_looks c.args.self.now (g.M.Medium.state c.args.m.now) (g.M.Medium.state c.make_next.new.m)
+        c.make_next.ensures.makes.call c.make_next.ensures.makes.makes.passes;
+  };
 }
-
-pub returns-clause-leaves : goal.returns-clause-leaves
-returns-clause-leaves g c = record {
-  cuts = λ view holds ours.
-      let i = c.self.inside in
-      step_cuts (ahead_in i) (shape_of i.sizes) (sizes_sized i.sizes) i.head (lists_of i.waiting.items) i.turned i.kept i.under_way.items
-      i.made i.dead
-      c.args.self.now c.self.view_is c.requires.live c.self.invariant.ring c.self.invariant.ahead_is c.self.invariant.least
-      (omega (arith, c.self.invariant.most, many i.waiting.items)) c.args.numbers.now c.args.bytes.now c.in-Some.made c.in-Some.is
-      c.requires.numbers c.requires.bytes (i.head + c.len.result) (omega (arith, c.len.ensures, many i.waiting.items))
-      (g.M.Medium.state c.args.m.now) (g.M.Medium.state c.make_next.new.m) (g.met.M.Medium.sound c.args.m.now)
-      c.make_next.ensures.makes.call c.make_next.result c.make_next.ensures.makes.makes.passes c.make_next.ensures.makes.next
-      c.make_next.ensures.makes.makes.adds view holds ours;
-  moments =
-      one_call (λ _. Unit {0}) (g.M.Medium.state c.args.m.now) (g.M.Medium.state c.make_next.new.m) (g.met.M.Medium.sound c.args.m.now)
-      c.make_next.ensures.makes.makes.passes (λ image cut. tt) (λ image cut. tt);
-  spares =
-      call_spares (shape_of c.self.inside.sizes) c.args.self.now (g.M.Medium.state c.args.m.now) (g.M.Medium.state c.make_next.new.m)
-      (ap (λ (v : LogValue). v.shape) c.self.view_is) c.make_next.ensures.makes.call c.make_next.ensures.makes.inside
-      c.make_next.ensures.makes.makes.spares;
-  looks = call_looks c.args.self.now (g.M.Medium.state c.args.m.now) (g.M.Medium.state c.make_next.new.m)
-      c.make_next.ensures.makes.call c.make_next.ensures.makes.makes.passes;
-}
-
-pub returns-then-made-steps_for-clause-holds : goal.returns-then-made-steps_for-clause-holds
-returns-then-made-steps_for-clause-holds g c view holds entries =
-    let i = c.self.inside in
-    step_goes_on (ahead_in i) (shape_of i.sizes) (sizes_sized i.sizes) i.head (lists_of i.waiting.items) i.turned i.kept i.under_way.items
-    i.made i.dead
-    c.args.self.now c.self.view_is c.requires.live c.self.invariant.ring c.self.invariant.ahead_is c.self.invariant.least
-    (omega (arith, c.self.invariant.most, many i.waiting.items)) c.args.numbers.now c.args.bytes.now c.in-Some.made c.in-Some.is
-    c.requires.numbers c.requires.bytes (i.head + c.len.result) (omega (arith, c.len.ensures, many i.waiting.items))
-    (g.M.Medium.state c.args.m.now) (g.M.Medium.state c.make_next.new.m) (g.met.M.Medium.sound c.args.m.now) c.make_next.ensures.makes.call
-    c.make_next.result c.make_next.ensures.makes.makes.passes c.make_next.ensures.makes.next c.make_next.ensures.makes.makes.adds
-    view holds entries
-    (on_ok_here c.make_next.result (sym c.is_err.ensures.value ∙ c.if-is_err.false) c.make_next.ensures.makes.makes.done)
-    (omega (arith, c.if-made-steps_for.true, c.steps_for.ensures))
 
 -- the durable records after the last step
 after_is : (records after : List (ArrayVec ℕ)) (old taken : ArrayVec ℕ) → after ≡ records ++ taken ∷ [] → taken ≡ old
@@ -126,46 +140,6 @@ after_is : (records after : List (ArrayVec ℕ)) (old taken : ArrayVec ℕ) → 
 after_is records after old taken is same =
     ap (λ (l : List (ArrayVec ℕ)). lists_of l) is
     ∙ (lists_more records taken ∙ ap (λ (x : ArrayVec ℕ). lists_of records ++ x.items ∷ []) same)
-
-pub returns-clause-holds : goal.returns-clause-holds
-returns-clause-holds g c view holds entries =
-    let i = c.self.inside in
-    let new = g.M.Medium.state c.make_next.new.m in
-    let waiting = after_is i.waiting.items c.push_back_reserved.new.self.items i.under_way c.take.result c.push_back_reserved.ensures.items
-    c.take.ensures.value in
-    let after = step_durable (ahead_in i) (shape_of i.sizes) (sizes_sized i.sizes) i.head (lists_of i.waiting.items) i.turned i.kept
-    i.under_way.items
-    i.made i.dead c.args.self.now c.self.view_is c.requires.live c.self.invariant.ring c.self.invariant.ahead_is c.self.invariant.least
-    (omega (arith, c.self.invariant.most, many i.waiting.items)) c.args.numbers.now c.args.bytes.now c.in-Some.made c.in-Some.is
-    c.requires.numbers c.requires.bytes (i.head + c.len.result) (omega (arith, c.len.ensures, many i.waiting.items))
-    (g.M.Medium.state c.args.m.now) (g.M.Medium.state c.make_next.new.m) (g.met.M.Medium.sound c.args.m.now) c.make_next.ensures.makes.call
-    c.make_next.result c.make_next.ensures.makes.makes.passes c.make_next.ensures.makes.next c.make_next.ensures.makes.makes.adds
-    view holds entries
-    (on_ok_here c.make_next.result (sym c.is_err.ensures.value ∙ c.if-is_err.false) c.make_next.ensures.makes.makes.done)
-    (omega (arith, c.if-made-steps_for.false, c.steps_for.ensures)) in
-    subst
-    (λ (l : List ℕ). HoldsView
-    (value_at (ahead_in i) (shape_of i.sizes) i.head (lists_of c.push_back_reserved.new.self.items) i.turned i.kept l None i.dead) new
-    (with_record view))
-    (sym c.take.ensures.after)
-    (subst
-    (λ (l : List (List ℕ)). HoldsView (value_at (ahead_in i) (shape_of i.sizes) i.head l i.turned i.kept [] None i.dead) new
-    (with_record view))
-    (sym waiting) after)
-
-pub returns-clause-durable : goal.returns-clause-durable
-returns-clause-durable g c view holds entries ours answers =
-    let i = c.self.inside in
-    step_whole (ahead_in i) (shape_of i.sizes) (sizes_sized i.sizes) i.head (lists_of i.waiting.items) i.turned i.kept i.under_way.items
-    i.made i.dead
-    c.args.self.now c.self.view_is c.requires.live c.self.invariant.ring c.self.invariant.ahead_is c.self.invariant.least
-    (omega (arith, c.self.invariant.most, many i.waiting.items)) c.args.numbers.now c.args.bytes.now c.in-Some.made c.in-Some.is
-    c.requires.numbers c.requires.bytes (i.head + c.len.result) (omega (arith, c.len.ensures, many i.waiting.items))
-    (g.M.Medium.state c.args.m.now) (g.M.Medium.state c.make_next.new.m) (g.met.M.Medium.sound c.args.m.now) c.make_next.ensures.makes.call
-    c.make_next.result c.make_next.ensures.makes.makes.passes c.make_next.ensures.makes.next c.make_next.ensures.makes.makes.adds
-    view holds entries
-    (on_ok_here c.make_next.result (sym c.is_err.ensures.value ∙ c.if-is_err.false) c.make_next.ensures.makes.makes.done)
-    (omega (arith, c.if-made-steps_for.false, c.steps_for.ensures)) ours
 
 pub invariant_of-self-2 : goal.invariant_of-self-2
 invariant_of-self-2 g c =
@@ -229,53 +203,82 @@ enter_record-requires-clause-fits g c =
     (omega (arith, c.self.invariant.ring.fits, one)) (λ age below. (c.self.invariant.ring.each age [] below).few) (vec_capacity i.index)
     (length c.args.numbers.now) inside.few c.self.invariant.index_room
 
-pub returns-then-is_err-clause-passes : goal.returns-then-is_err-clause-passes
-returns-then-is_err-clause-passes g c =
-    let i = c.self.inside in
-    let flushed = step_flushed (ahead_in i) (shape_of i.sizes) (sizes_sized i.sizes) i.head (lists_of i.waiting.items) i.turned i.kept
-    i.under_way.items i.made i.dead c.args.self.now c.self.view_is c.requires.live c.self.invariant.ring c.self.invariant.ahead_is
-    c.self.invariant.least
-    (omega (arith, c.self.invariant.most, many i.waiting.items)) c.args.numbers.now c.args.bytes.now c.in-Some.made c.in-Some.is
-    c.requires.numbers c.requires.bytes (i.head + c.len.result) (omega (arith, c.len.ensures, many i.waiting.items))
-    (g.M.Medium.state c.args.m.now) (g.M.Medium.state c.make_next.new.m) c.make_next.ensures.makes.call c.make_next.result
-    c.make_next.ensures.makes.makes.passes c.make_next.ensures.makes.next in
-    record {
-      calls = record { one = search rules; sent = search rules; flushed = flushed };
-      failures = search rules;
-      size = search rules;
-      follows = search rules;
-    }
-
-pub returns-then-made-steps_for-clause-passes : goal.returns-then-made-steps_for-clause-passes
-returns-then-made-steps_for-clause-passes g c =
-    let i = c.self.inside in
-    let flushed = step_flushed (ahead_in i) (shape_of i.sizes) (sizes_sized i.sizes) i.head (lists_of i.waiting.items) i.turned i.kept
-    i.under_way.items i.made i.dead c.args.self.now c.self.view_is c.requires.live c.self.invariant.ring c.self.invariant.ahead_is
-    c.self.invariant.least
-    (omega (arith, c.self.invariant.most, many i.waiting.items)) c.args.numbers.now c.args.bytes.now c.in-Some.made c.in-Some.is
-    c.requires.numbers c.requires.bytes (i.head + c.len.result) (omega (arith, c.len.ensures, many i.waiting.items))
-    (g.M.Medium.state c.args.m.now) (g.M.Medium.state c.make_next.new.m) c.make_next.ensures.makes.call c.make_next.result
-    c.make_next.ensures.makes.makes.passes c.make_next.ensures.makes.next in
-    record {
-      calls = record { one = search rules; sent = search rules; flushed = flushed };
-      failures = search rules;
-      size = search rules;
-      follows = search rules;
-    }
-
-pub returns-clause-passes : goal.returns-clause-passes
-returns-clause-passes g c =
-    let i = c.self.inside in
-    let flushed = step_flushed (ahead_in i) (shape_of i.sizes) (sizes_sized i.sizes) i.head (lists_of i.waiting.items) i.turned i.kept
-    i.under_way.items i.made i.dead c.args.self.now c.self.view_is c.requires.live c.self.invariant.ring c.self.invariant.ahead_is
-    c.self.invariant.least
-    (omega (arith, c.self.invariant.most, many i.waiting.items)) c.args.numbers.now c.args.bytes.now c.in-Some.made c.in-Some.is
-    c.requires.numbers c.requires.bytes (i.head + c.len.result) (omega (arith, c.len.ensures, many i.waiting.items))
-    (g.M.Medium.state c.args.m.now) (g.M.Medium.state c.make_next.new.m) c.make_next.ensures.makes.call c.make_next.result
-    c.make_next.ensures.makes.makes.passes c.make_next.ensures.makes.next in
-    record {
-      calls = record { one = search rules; sent = search rules; flushed = flushed };
-      failures = search rules;
-      size = search rules;
-      follows = search rules;
-    }
+pub returns : goal.returns
+returns g c = record {
+  answers = grind (arith, common_steps);
+  passes =
+      let i = c.self.inside in
+      let flushed = step_flushed (ahead_in i) (shape_of i.sizes) (sizes_sized i.sizes) i.head (lists_of i.waiting.items) i.turned i.kept
+      i.under_way.items i.made i.dead c.args.self.now c.self.view_is c.requires.on.live c.self.invariant.ring c.self.invariant.ahead_is
+      c.self.invariant.least
+      (omega (arith, c.self.invariant.most, many i.waiting.items)) c.args.numbers.now c.args.bytes.now c.in-Some.made c.in-Some.is
+      c.requires.numbers c.requires.bytes (i.head + c.len.result) (omega (arith, c.len.ensures, many i.waiting.items))
+      (g.M.Medium.state c.args.m.now) (g.M.Medium.state c.make_next.new.m) c.make_next.ensures.makes.call c.make_next.result
+      c.make_next.ensures.makes.makes.passes c.make_next.ensures.makes.next in
+      record {
+        calls = record { one = search rules; sent = search rules; flushed = flushed };
+        failures = search rules;
+        size = search rules;
+        follows = search rules;
+      };
+  holds = λ view holds entries.
+      let i = c.self.inside in
+      let new = g.M.Medium.state c.make_next.new.m in
+      let waiting = after_is i.waiting.items c.push_back_reserved.new.self.items i.under_way c.take.result
+      c.push_back_reserved.ensures.items
+      c.take.ensures.value in
+      let after = step_durable (ahead_in i) (shape_of i.sizes) (sizes_sized i.sizes) i.head (lists_of i.waiting.items) i.turned i.kept
+      i.under_way.items
+      i.made i.dead c.args.self.now c.self.view_is c.requires.on.live c.self.invariant.ring c.self.invariant.ahead_is c.self.invariant.least
+      (omega (arith, c.self.invariant.most, many i.waiting.items)) c.args.numbers.now c.args.bytes.now c.in-Some.made c.in-Some.is
+      c.requires.numbers c.requires.bytes (i.head + c.len.result) (omega (arith, c.len.ensures, many i.waiting.items))
+      (g.M.Medium.state c.args.m.now) (g.M.Medium.state c.make_next.new.m) (g.met.M.Medium.sound c.args.m.now)
+      c.make_next.ensures.makes.call
+      c.make_next.result c.make_next.ensures.makes.makes.passes c.make_next.ensures.makes.next c.make_next.ensures.makes.makes.adds
+      view holds entries
+      (on_ok_here c.make_next.result (sym c.is_err.ensures.value ∙ c.if-is_err.false) c.make_next.ensures.makes.makes.done)
+      (omega (arith, c.if-made-steps_for.false, c.steps_for.ensures)) in
+      subst
+      (λ (l : List ℕ). HoldsView
+      (value_at (ahead_in i) (shape_of i.sizes) i.head (lists_of c.push_back_reserved.new.self.items) i.turned i.kept l None i.dead) new
+      (with_record view))
+      (sym c.take.ensures.after)
+      (subst
+      (λ (l : List (List ℕ)). HoldsView (value_at (ahead_in i) (shape_of i.sizes) i.head l i.turned i.kept [] None i.dead) new
+      (with_record view))
+      (sym waiting) after);
+  durable = λ view holds entries ours answers.
+      let i = c.self.inside in
+      step_whole (ahead_in i) (shape_of i.sizes) (sizes_sized i.sizes) i.head (lists_of i.waiting.items) i.turned i.kept i.under_way.items
+      i.made i.dead
+      c.args.self.now c.self.view_is c.requires.on.live c.self.invariant.ring c.self.invariant.ahead_is c.self.invariant.least
+      (omega (arith, c.self.invariant.most, many i.waiting.items)) c.args.numbers.now c.args.bytes.now c.in-Some.made c.in-Some.is
+      c.requires.numbers c.requires.bytes (i.head + c.len.result) (omega (arith, c.len.ensures, many i.waiting.items))
+      (g.M.Medium.state c.args.m.now) (g.M.Medium.state c.make_next.new.m) (g.met.M.Medium.sound c.args.m.now)
+      c.make_next.ensures.makes.call
+      c.make_next.result c.make_next.ensures.makes.makes.passes c.make_next.ensures.makes.next c.make_next.ensures.makes.makes.adds
+      view holds entries
+      (on_ok_here c.make_next.result (sym c.is_err.ensures.value ∙ c.if-is_err.false) c.make_next.ensures.makes.makes.done)
+      (omega (arith, c.if-made-steps_for.false, c.steps_for.ensures)) ours;
+  leaves = record {
+    cuts = λ view holds ours.
+        let i = c.self.inside in
+        step_cuts (ahead_in i) (shape_of i.sizes) (sizes_sized i.sizes) i.head (lists_of i.waiting.items) i.turned i.kept i.under_way.items
+        i.made i.dead
+        c.args.self.now c.self.view_is c.requires.on.live c.self.invariant.ring c.self.invariant.ahead_is c.self.invariant.least
+        (omega (arith, c.self.invariant.most, many i.waiting.items)) c.args.numbers.now c.args.bytes.now c.in-Some.made c.in-Some.is
+        c.requires.numbers c.requires.bytes (i.head + c.len.result) (omega (arith, c.len.ensures, many i.waiting.items))
+        (g.M.Medium.state c.args.m.now) (g.M.Medium.state c.make_next.new.m) (g.met.M.Medium.sound c.args.m.now)
+        c.make_next.ensures.makes.call c.make_next.result c.make_next.ensures.makes.makes.passes c.make_next.ensures.makes.next
+        c.make_next.ensures.makes.makes.adds view holds ours;
+    moments =
+        one_call (λ _. Unit {0}) (g.M.Medium.state c.args.m.now) (g.M.Medium.state c.make_next.new.m) (g.met.M.Medium.sound c.args.m.now)
+        c.make_next.ensures.makes.makes.passes (λ image cut. tt) (λ image cut. tt);
+    spares =
+        call_spares (shape_of c.self.inside.sizes) c.args.self.now (g.M.Medium.state c.args.m.now) (g.M.Medium.state c.make_next.new.m)
+        (ap (λ (v : LogValue). v.shape) c.self.view_is) c.make_next.ensures.makes.call c.make_next.ensures.makes.inside
+        c.make_next.ensures.makes.makes.spares;
+    looks = call_looks c.args.self.now (g.M.Medium.state c.args.m.now) (g.M.Medium.state c.make_next.new.m)
+        c.make_next.ensures.makes.call c.make_next.ensures.makes.makes.passes;
+  };
+}
