@@ -18,6 +18,7 @@ pub mod Disk
 pub mod Faulting
 pub mod Opening
 pub mod Refinement
+pub mod Wire
 pub mod Serving
 pub mod Striking
 pub mod Transfers

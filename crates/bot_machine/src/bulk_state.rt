@@ -1,12 +1,13 @@
 //! The line to the host: halts, the lock, and what is left of the exchange.
-ghost use Rattle.std.specs.Prelude.{◌≡◌, ◌≢◌, ◌≤◌, ◌<◌, ◌*◌, ℕ, List, Some, true, take, length};
+ghost use Rattle.std.specs.Prelude.{◌≡◌, ◌≢◌, ◌<◌, ℕ, List, Some, true};
 ghost use Rattle.wrappers.specs.Cases.{IsPossible};
 ghost use Rattle.spec.specs.Rules.{Intention};
-ghost use Rattle.spec.specs.Exchange.{Script, after_request, at_rest, laid_out, set_halt, halted};
+ghost use Rattle.spec.specs.Exchange.{after_request, at_rest, set_halt, halted};
 ghost use Rattle.spec.specs.Exchange.{outcome_for, status_for};
-ghost use Rattle.spec.specs.Packets.{bytes_of, packets_of};
+ghost use Rattle.spec.specs.Packets.{bytes_of};
 ghost use Rattle.spec.specs.Requests.{clear_halt};
-ghost use Rattle.bot_machine.specs.Refinement.{halt_of, line_of, line_with, IsInPhase};
+ghost use Rattle.bot_machine.specs.Refinement.{halt_of, line_of, IsInPhase};
+ghost use Rattle.bot_machine.specs.Wire.{ChangesLine, LaysOut};
 
 use crate::exchange::Exchange;
 use spec::PacketSize;
@@ -86,10 +87,7 @@ impl BulkState {
 
     // Halts an endpoint.
     fn halt(&mut self, endpoint: Endpoint)
-        ensures line { (taken staging : List ℕ) → line_of self.new taken staging
-            ≡ set_halt endpoint true (line_of self.old taken staging) }
-        ensures phase { self.new.phase ≡ self.old.phase }
-        ensures size { self.new.size ≡ self.old.size }
+        ensures { ChangesLine self.old (set_halt endpoint true) self.new }
     {
         match endpoint {
             Endpoint::In => self.in_halted = true,
@@ -99,9 +97,7 @@ impl BulkState {
 
     /// Ends the halt of an endpoint, unless both are locked.
     pub(crate) fn clear_halt(&mut self, endpoint: Endpoint)
-        ensures line { (taken staging : List ℕ) → line_of self.new taken staging
-            ≡ after_request (clear_halt endpoint) (line_of self.old taken staging) }
-        ensures phase { self.new.phase ≡ self.old.phase }
+        ensures { ChangesLine self.old (after_request (clear_halt endpoint)) self.new }
     {
         if self.locked {
             return;
@@ -127,13 +123,7 @@ impl BulkState {
     /// status wrapper.
     pub(crate) fn lay_out(&mut self, size: usize, halt: Option<Endpoint>, status: [u8; 13])
         requires halts_in { 0 < size → halt ≢ Some Endpoint.Out }
-        ensures line { (taken staging : List ℕ) (left : Script) → size ≤ length staging
-            → line_of self.new taken staging
-            ≡ laid_out (packets_of (bytes_of self.old.size) (take size staging)) halt status
-            (line_with self.old left) }
-        ensures size { self.new.size ≡ self.old.size }
-        ensures phase { (limit : ℕ) (intention : List ℕ → Intention) → size ≤ 512 * limit
-            → IsInPhase limit intention self.new.phase }
+        ensures { LaysOut self.old size halt status self.new }
     {
         self.status = status;
         if size > 0 {
@@ -157,15 +147,9 @@ impl BulkState {
         requires halts_in { 0 < size
             → (outcome_for case exchange.now.command exchange.now.intended).halt
             ≢ Some Endpoint.Out }
-        ensures line { (taken staging : List ℕ) (left : Script) → size ≤ length staging
-            → line_of self.new taken staging
-            ≡ laid_out (packets_of (bytes_of self.old.size) (take size staging))
+        ensures { LaysOut self.old size
             (outcome_for case exchange.now.command exchange.now.intended).halt
-            (status_for case exchange.now.command exchange.now.intended status)
-            (line_with self.old left) }
-        ensures size { self.new.size ≡ self.old.size }
-        ensures phase { (limit : ℕ) (intention : List ℕ → Intention) → size ≤ 512 * limit
-            → IsInPhase limit intention self.new.phase }
+            (status_for case exchange.now.command exchange.now.intended status) self.new }
     {
         let told = outcome(case, exchange.command.host, exchange.intended);
         let status = write_csw(exchange.command.tag, told.residue, status);

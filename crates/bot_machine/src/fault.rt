@@ -5,6 +5,7 @@ ghost use Rattle.bot_machine.specs.Disk.{FitsDisk, over};
 ghost use Rattle.bot_machine.specs.Faulting.{is_good, taken_back, owes_good, faulted_line};
 ghost use Rattle.bot_machine.specs.Faulting.{faulted_over, faulted_disk, TurnsGoodAlone};
 ghost use Rattle.bot_machine.specs.Refinement.{line_of};
+ghost use Rattle.bot_machine.specs.Wire.{ChangesLine};
 
 use crate::bulk_state::{BulkState, Phase};
 use crate::disk::Disk;
@@ -15,10 +16,10 @@ use wrappers::Status;
 const STATUS_AT: usize = 12;
 
 impl<M: Medium> Disk<M> {
-    /// Faults the disk: the device behind its medium refused a call that it had taken. Commands that
-    /// need the medium fail from then on, and no event makes a call of it. A good status that is not
-    /// yet sent turns into that of a command that failed, with a write error behind it for REQUEST
-    /// SENSE; packets of data before it are sent as they are.
+    /// Faults the disk: the device behind its medium refused a call that it had taken. Commands
+    /// that need the medium fail from then on, and no event makes a call of it. A good status that
+    /// is not yet sent turns into that of a command that failed, with a write error behind it for
+    /// REQUEST SENSE; packets of data before it are sent as they are.
     pub fn fault(&mut self)
         ensures disk { self.new ≡ faulted_disk self.old }
         ensures by_rules { (book : Book) → over self.new book ≡ faulted_over (over self.old book) }
@@ -34,11 +35,9 @@ impl<M: Medium> Disk<M> {
 impl BulkState {
     /// Takes back a good status that is still to be sent. Whether there was one.
     fn take_back(&mut self) -> bool
-        ensures line { (taken staging : List ℕ)
-            → line_of self.new taken staging ≡ faulted_line (line_of self.old taken staging) }
+        ensures line { ChangesLine self.old faulted_line self.new }
         ensures good { (taken staging : List ℕ)
             → result ≡ owes_good (line_of self.old taken staging).left }
-        ensures phase { self.new.phase ≡ self.old.phase }
     {
         match self.phase {
             Phase::Command | Phase::DataOut(_) => false,

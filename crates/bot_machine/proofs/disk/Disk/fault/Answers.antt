@@ -8,7 +8,7 @@ pub invariant_of-self : goal.invariant_of-self
 invariant_of-self g c =
     let steady = c.fault.ensures.steady in
     let d = c.self.inside in
-    rw c.take_back-was_good.ensures.phase
+    rw c.take_back-was_good.ensures.line.phase
     (kept_as _ _ _ d.wire.phase d.taken.items d.staging.items
     (ap (λ (u : UnitValue g.row.M.Denot). unit_limit u) c.fault.ensures.unit) (record {
       taken_room = c.self.invariant.taken_room;

@@ -1,0 +1,26 @@
+-- What the parts of an event do to the line to the host.
+use Rattle.std.specs.Prelude.{◌≡◌, ◌≤◌, ◌*◌, ℕ, List, take, length, Option}
+use Rattle.spec.specs.declared.case.Endpoint.{Endpoint}
+use Rattle.spec.specs.Rules.{Intention}
+use Rattle.spec.specs.Packets.{bytes_of, packets_of}
+use Rattle.spec.specs.Exchange.{Line, Script, laid_out}
+use Rattle.bot_machine.specs.declared.bulk_state.BulkState.{BulkState}
+use Rattle.bot_machine.specs.Refinement.{line_of, line_with, IsInPhase}
+
+-- The line changes so, whatever was taken and is sent. The phase and the size of a packet stay.
+pub record ChangesLine (old : BulkState) (change : Line → Line) (new : BulkState) : Type 0 where
+  pub line : (taken staging : List ℕ)
+      → line_of new taken staging ≡ change (line_of old taken staging)
+  pub phase : new.phase ≡ old.phase
+  pub size : new.size ≡ old.size
+
+-- So many bytes of the staging buffer are laid out, a halt after them, and the status wrapper.
+pub record LaysOut (old : BulkState) (sent : ℕ) (halt : Option Endpoint) (status : List ℕ)
+    (new : BulkState) : Type 0 where
+  pub line : (taken staging : List ℕ) (left : Script) → sent ≤ length staging
+      → line_of new taken staging
+      ≡ laid_out (packets_of (bytes_of old.size) (take sent staging)) halt status
+      (line_with old left)
+  pub size : new.size ≡ old.size
+  pub phase : (limit : ℕ) (intention : List ℕ → Intention) → sent ≤ 512 * limit
+      → IsInPhase limit intention new.phase
