@@ -19,7 +19,7 @@ use Rattle.spec.specs.Conversation.{refused_events}
 use Rattle.bot_machine.specs.Opening.{IsNotOpened}
 use Rattle.spec.specs.Lives.{Action, Standing, LivesRun}
 use Rattle.bot_machine.specs.LivesValue.{LivesValue, medium_in, state_in, IsAtRest, OpensOn, HasLimit, LeavesLimit, FitsLives, LivesGoOn}
-use Rattle.bot_machine.specs.LivesValue.{LivesStopAt, LivesStop, FoundAt, MayRefuse}
+use Rattle.bot_machine.specs.LivesValue.{LivesStopAt, LivesStop, FoundAt}
 use Rattle.spec.specs.Promise.{first_standing, AreKept, AreKeptUpTo}
 use Rattle.scsi_unit.specs.Books.{StandsAs, MayFind}
 use Rattle.scsi_unit.specs.Starting.{StandsForSome}

@@ -8,6 +8,7 @@ use Rattle.bot_machine.specs.declared.bulk_state.BulkState.{BulkState}
 use Rattle.bot_machine.specs.Refinement.{IsInPhase}
 use Rattle.bot_machine.specs.Reading.{LooksBesides}
 use Rattle.bot_machine.specs.Serving.{HandsOn}
+use Rattle.bot_machine.proofs.ReadAtOnce.{waits_to_send_none}
 use Rattle.bot_machine.proofs.Stepping.{no_time, no_calls}
 
 -- no read was made
@@ -28,3 +29,6 @@ unit_stays state Follows At unit from to itself phase size = record {
   elapses = no_time (state unit.store.medium);
   follows = itself unit.store.medium;
 }
+
+-- a command that waits for its data sends none, and no read was made
+pub ruleset nothing_read = (waits_to_send_none, none_besides)

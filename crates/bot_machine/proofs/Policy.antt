@@ -7,10 +7,9 @@ use Rattle.spec.specs.declared.event.Event.{Event}
 use Rattle.spec.specs.declared.event.Answer.{Answer}
 use Rattle.bot_machine.specs.declared.stage.Stage.{Stage}
 use Rattle.bot_machine.specs.declared.stage.Stage.TheVariants.{Rests, Runs}
-use Rattle.bot_machine.specs.Device.{presented, Device, Retiring}
+use Rattle.bot_machine.specs.Device.{Device, Retiring}
 use Rattle.bot_machine.specs.Disk.{DiskValue}
-use Rattle.spec.specs.Lives.{Action, arms, fails, starts, plays, cuts, Place, before_first, between, runs, off, Standing, LifeBegins}
-use Rattle.spec.specs.Lives.{StartsAt, LivesStep}
+use Rattle.spec.specs.Lives.{Action, arms, fails, starts, plays, cuts}
 use Rattle.bot_machine.specs.Moving.{FuseMoves, FailureMoves, StartsIn, StartMoves, EventMovesIn, EventMoves, CutMoves, Does}
 use Rattle.bot_machine.specs.Policy.{StageRetires, KeepsPolicy, PolicyIsUnseen}
 

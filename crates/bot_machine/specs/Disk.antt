@@ -8,7 +8,7 @@ use Rattle.spec.specs.declared.status.Status.TheVariants.{Passed, Failed}
 use Rattle.spec.specs.StatusWrapper.{status_wrapper}
 use Rattle.spec.specs.Blocks.{Write}
 use Rattle.medium.specs.Medium.{State, Image}
-use Rattle.medium.specs.Moments.{LeavesOnly, EachCut}
+use Rattle.medium.specs.Moments.{LeavesOnly, EachCut, IsUnchanged}
 use Rattle.medium.specs.Sent.{SendsUpTo}
 use Rattle.spec.specs.Sense.{Sense}
 use Rattle.scsi_unit.specs.Background.{is_dead}
@@ -23,7 +23,7 @@ use Rattle.spec.specs.declared.event.Event.{Event}
 use Rattle.spec.specs.declared.event.Answer.{Answer}
 pub use Rattle.bot_machine.specs.DiskValue.{DiskValue}
 use Rattle.spec.specs.Exchange.{Line, finished, sending}
-use Rattle.spec.specs.Conversation.{Conversation, refused_events}
+use Rattle.spec.specs.Conversation.{Conversation, refused_events, SetupStep}
 use Rattle.bot_machine.specs.Turns.{ByTurns, marks_in}
 use Rattle.spec.specs.UnitConversation.{Intends, write_of_event, UnitRun, UnitStep, on_line}
 use Rattle.bot_machine.specs.Acts.{EventCarriesOut, Acts}
@@ -169,3 +169,25 @@ IsRearmed old new = new ≡ record old {
     store = record old.unit.store { medium = new.unit.store.medium };
   };
 }
+
+-- the medium is armed so: nothing else of the disk changes, and it fits what it fitted before
+pub record ArmsDisk {M : Type 0} (state : M → State) (Arms : M → M → Type 0)
+    (old new : DiskValue M) : Type 0 where
+  pub armed : Arms old.unit.store.medium new.unit.store.medium
+  pub unchanged : IsUnchanged (state old.unit.store.medium) (state new.unit.store.medium)
+  pub others : IsRearmed old new
+  pub fits : (book : Book) → FitsDisk (state old.unit.store.medium) old book
+      → FitsDisk (state new.unit.store.medium) new book
+
+-- a setup packet is answered by the rules, and changes the line alone
+pub record AnswersSetup {M : Type 0} (packet : List ℕ) (old : DiskValue M) (answer : Answer)
+    (new : DiskValue M) : Type 0 where
+  pub request : SetupStep packet old.line answer new.line
+  pub others : new ≡ record old { line = new.line }
+
+-- events were played on a disk, and its medium comes after what it was, by calls alone
+pub record PlaysEvents {M : Type 0} (state : M → State) (Follows : M → M → Type 0)
+    (old : DiskValue M) (events : List Event) (answers : List Answer) (new : DiskValue M)
+    : Type 0 where
+  pub run : IsRun state old events answers new
+  pub follows : Follows old.unit.store.medium new.unit.store.medium

@@ -1,24 +1,22 @@
 -- Whole lives, told at once.
-use Rattle.std.specs.Prelude.{◌≡◌, ℕ, ◌+◌, ◌≤◌, Bool, true, false, List, [], ◌∷◌, ◌++◌, map, length}
+use Rattle.std.specs.Prelude.{◌≡◌, ℕ, ◌+◌, Bool, true, false, List, [], ◌∷◌, ◌++◌, map, length}
 use Rattle.std.specs.Prelude.{sum_by, Option, None, Some}
-use Rattle.medium.specs.Moments.{EachCut}
 use Rattle.medium.specs.Sim.{Sim, state_of}
 use Rattle.medium.specs.Writes.{keeps}
 use Rattle.scsi_unit.specs.StartFaults.{StartFault}
 use Rattle.spec.specs.Book.{Book}
-use Rattle.scsi_unit.specs.Books.{MayFind, StandsAs}
+use Rattle.scsi_unit.specs.Books.{StandsAs}
 use Rattle.spec.specs.declared.event.Answer.{Answer}
 use Rattle.bot_machine.specs.declared.life.Life.{Life}
 use Rattle.bot_machine.specs.Answers.{Room}
 use Rattle.bot_machine.specs.Device.{presented, Device}
 use Rattle.spec.specs.Conversation.{refused_events}
 use Rattle.bot_machine.specs.Opening.{IsNotOpened}
-use Rattle.spec.specs.Lives.{Action, arms, starts, plays, cuts, before_first, Standing, Opens}
-use Rattle.spec.specs.Lives.{LivesRun}
+use Rattle.spec.specs.Lives.{Action, arms, starts, plays, cuts}
 use Rattle.bot_machine.specs.declared.stage.Stage.TheVariants.{Rests}
 use Rattle.bot_machine.specs.Moving.{MovesBy, IsRefusedStart}
-use Rattle.bot_machine.specs.LivesValue.{LivesValue, LivesGoOn, IsAtRest, OpensOn, HasLimit}
-use Rattle.bot_machine.specs.LivesValue.{FitsLives, LeavesLimit, FoundAt, MayRefuse}
+use Rattle.bot_machine.specs.LivesValue.{LivesValue, LivesGoOn, LivesStop, IsAtRest, OpensOn}
+use Rattle.bot_machine.specs.LivesValue.{HasLimit, FitsLives, MayRefuse, state_in}
 use Rattle.medium.specs.Medium.{CutLeaves}
 use Rattle.scsi_unit.specs.Starting.{StandsForSome}
 use Rattle.spec.specs.Promise.{first_standing, IsKept, IsKeptUpTo}
@@ -54,6 +52,11 @@ StandsFirst medium lives = (limit : ℕ) (book : Book) → IsAtRest medium → m
     → HasLimit (state_of medium).size limit (state_of medium).content
     → FitsLives lives (first_standing limit book)
 
+-- lives of this device over a medium, none of which has been yet
+pub record AreNew (device : Device) (medium : Sim) (lives : LivesValue) : Type 0 where
+  pub value : lives ≡ record { device = device; stage = Rests medium }
+  pub first : StandsFirst medium lives
+
 -- Actions of a disk over a medium in memory, and their answers, keep the promise, by what its
 -- images stand for and what a cut may leave of it.
 abbrev pub KeepsPromise : Sim → Device → List Action → List Answer → Sim → Type 0
@@ -79,6 +82,13 @@ pub record AppendsFor (before after : LivesValue) (old new : Room) (actions : Li
   pub appends : Appends told old new
   pub one_each : length told ≡ events
   pub goes_on : LivesGoOn before actions told after
+
+-- a life did not begin, since its start was refused with this fault, and nothing was answered
+pub record IsNotLived (before after : LivesValue) (old new : Room) (life : Life)
+    (fault : StartFault) : Type 0 where
+  pub stops : LivesStop before (armed_by life.fuse) [] fault after
+  pub cause : IsNotOpened (state_in before.stage) (state_in after.stage) fault
+  pub unanswered : new ≡ old
 
 -- The promise of lives over a medium in memory.
 abbrev pub KeepPromise : Sim → Device → List Life → List Answer → Sim → Type 0

@@ -1,8 +1,9 @@
 -- Lives of a disk over a medium in memory, and where they stand.
-use Rattle.std.specs.Prelude.{◌≡◌, ℕ, ◌+◌, ◌^◌, ◌≤◌, ◌<◌, ⊤, Bool, true, false, List, [], None}
+use Rattle.std.specs.Prelude.{◌≡◌, ◌↔◌, ℕ, ◌+◌, ◌^◌, ◌≤◌, ◌<◌, ⊤, Bool, true, false, List, [], ◌∷◌}
+use Rattle.std.specs.Prelude.{None, Result, OnOk, IfErr}
 use Rattle.medium.specs.Medium.{Image}
 use Rattle.medium.specs.Moments.{EachCut}
-use Rattle.medium.specs.Sim.{Sim, state_of}
+use Rattle.medium.specs.Sim.{Sim, state_of, ComesAfter}
 use Rattle.scsi_unit.specs.StartFaults.{StartFault, NoMemory, Read, Write, Flush, BadSuper}
 use Rattle.scsi_unit.specs.StartFaults.{BadVersion, BadSize, BadHead, StampsUsedUp, LogTooSmall}
 use Rattle.scsi_unit.specs.Starting.{Stands}
@@ -13,10 +14,11 @@ use Rattle.bot_machine.specs.Moving.{MovesBy, IsRefusedStart}
 -- a first life over a medium opens with a book as its unit does
 pub use Rattle.scsi_unit.specs.Starting.{OpensOn}
 use Rattle.spec.specs.Book.{Book}
-use Rattle.scsi_unit.specs.Books.{StandsAs, MayFind, FoundWith}
+use Rattle.scsi_unit.specs.Books.{StandsAs, MayFind}
 use Rattle.spec.specs.Rules.{UnitState}
 use Rattle.spec.specs.declared.event.Event.{Event}
 use Rattle.spec.specs.declared.event.Answer.{Answer}
+use Rattle.spec.specs.declared.event.Answer.TheVariants.{Off}
 use Rattle.bot_machine.specs.declared.stage.Stage.{Stage}
 use Rattle.bot_machine.specs.declared.stage.Stage.TheVariants.{Rests, Runs}
 use Rattle.spec.specs.Conversation.{Conversation, refused_events}
@@ -25,6 +27,7 @@ use Rattle.bot_machine.specs.Fitting.{IsWithin}
 use Rattle.bot_machine.specs.Disk.{DiskValue, over, FitsDisk}
 use Rattle.bot_machine.specs.Opening.{IsNotOpened}
 use Rattle.spec.specs.Lives.{Action, Place, before_first, between, runs, off, Standing, Opens}
+use Rattle.spec.specs.Lives.{starts}
 use Rattle.spec.specs.Lives.{LivesRun}
 use Rattle.spec.specs.Promise as promise
 
@@ -192,3 +195,18 @@ pub record LivesRefuseStart (before : LivesValue) (fault : StartFault) (after : 
     : Type 0 where
   pub stops : LivesStop before [] [] fault after
   pub cause : IsNotOpened (state_in before.stage) (state_in after.stage) fault
+
+-- A disk is started where none ran and the power is on: lives go on by it, or the start is refused.
+pub record LifeBegins (before : LivesValue) (result : Result (Unit {0}) StartFault)
+    (after : LivesValue) : Type 0 where
+  pub ok : OnOk result (LivesGoOn before (starts ∷ []) [] after)
+  pub begun : OnOk result (HasBegun before.stage after.stage)
+  pub err : IfErr result (λ fault. LivesRefuseStart before fault after)
+  pub follows : ComesAfter (medium_in before.stage) (medium_in after.stage)
+
+-- what an event leaves that was answered so: the answer is that of a disk without power just where
+-- the power is off
+pub record StageAnswers (before : Stage) (answer : Answer) (after : Stage) : Type 0 where
+  pub started : HasStarted after
+  pub off : (answer ≡ Off) ↔ ((medium_in after).power.off ≡ true)
+  pub follows : ComesAfter (medium_in before) (medium_in after)

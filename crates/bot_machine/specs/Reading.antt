@@ -1,17 +1,18 @@
 -- Which home sectors an event reads, and which sectors its reads name.
-use Rattle.std.specs.Prelude.{◌≡◌, ◌⊎◌, ◌<◌, ℕ, List, Option, Some, None, false}
+use Rattle.std.specs.Prelude.{◌≡◌, ◌⊎◌, ◌<◌, ℕ, List, Option, Some, None, IfSome, false}
 use Rattle.medium.specs.Medium.{State, LooksOnly}
 use Rattle.spec.specs.declared.wrapper.Cbw.{Cbw}
 use Rattle.spec.specs.declared.case.Case.{Case}
 use Rattle.spec.specs.declared.case.Case.TheVariants.{C5, C6}
 use Rattle.spec.specs.Cases.{IsCase}
 use Rattle.spec.specs.CommandWrapper.{SpellsCommand}
-use Rattle.scsi_unit.specs.Reading.{first_home_of, home_sectors_of, read_of, IsOneOf}
+use Rattle.scsi_unit.specs.Reading.{first_home_of, home_sectors_of, read_of, IsOneOf, AreHome}
 use Rattle.scsi_unit.specs.Serving.{command_for}
-use Rattle.scsi_unit.specs.UnitValue.{UnitValue, intention_of}
+use Rattle.scsi_unit.specs.UnitValue.{UnitValue, unit_limit, intention_of}
 use Rattle.scsi_unit.specs.declared.reading.HomeSectors.{HomeSectors}
 use Rattle.spec.specs.declared.event.Event.{Event}
 use Rattle.spec.specs.declared.event.Event.TheVariants as happens
+use Rattle.bot_machine.specs.declared.exchange.Exchange.{Exchange}
 use Rattle.bot_machine.specs.DiskValue.{DiskValue}
 use Rattle.spec.specs.Exchange.{finished}
 use Rattle.spec.specs.UnitConversation.{way_of}
@@ -25,6 +26,13 @@ abbrev pub sectors_in : Case → Option HomeSectors → Option HomeSectors
 sectors_in C5 wanted = wanted
 sectors_in C6 wanted = wanted
 sectors_in case wanted = None
+
+-- the home sectors of the blocks that an exchange reads at once, all of them on the medium
+pub record ExchangeReads {M : Type 0} (m : State) (unit : UnitValue M) (exchange : Exchange)
+    (wanted : Option HomeSectors) : Type 0 where
+  pub is : wanted
+      ≡ sectors_in exchange.case (sectors_for unit exchange.command.block.items)
+  pub bounds : IfSome wanted (λ home. AreHome (unit_limit unit) m.size home.first home.count)
 
 -- The packet spells a command wrapper whose command reads the blocks at these home sectors at once.
 pub record WrapperReads {M : Type 0} (unit : UnitValue M) (packet : List ℕ) (wanted : HomeSectors)

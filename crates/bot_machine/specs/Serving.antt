@@ -4,7 +4,8 @@ use Rattle.spec.specs.declared.wrapper.Cbw.{Cbw}
 use Rattle.spec.specs.declared.case.Case.{Case}
 use Rattle.spec.specs.declared.way.Way.TheVariants as ways
 use Rattle.spec.specs.CommandWrapper.{SpellsCommand}
-use Rattle.spec.specs.Cases.{IsCase}
+use Rattle.spec.specs.Cases.{IsCase, size_of_way}
+use Rattle.spec.specs.declared.intent.Intent.TheVariants as intent
 use Rattle.medium.specs.Medium.{State}
 use Rattle.spec.specs.Sense.{Sense}
 use Rattle.spec.specs.Book.{Book}
@@ -14,7 +15,7 @@ use Rattle.scsi_unit.specs.Serving.{has_refused, IsSparing}
 use Rattle.scsi_unit.specs.UnitValue.{UnitValue, unit_limit, state_of, FitsUnit, intention_of}
 use Rattle.bot_machine.specs.declared.exchange.Exchange.{Exchange}
 use Rattle.bot_machine.specs.declared.bulk_state.Taking.{Taking}
-use Rattle.bot_machine.specs.declared.bulk_state.Phase.TheVariants.{DataOut}
+use Rattle.bot_machine.specs.declared.bulk_state.Phase.TheVariants.{Command, DataOut}
 use Rattle.bot_machine.specs.declared.bulk_state.BulkState.{BulkState}
 use Rattle.spec.specs.Packets.{bytes_of}
 use Rattle.spec.specs.Exchange.{Line, Script}
@@ -105,3 +106,41 @@ pub record HandsOn {M : Type 0} (state : M → State) (Follows : M → M → Typ
   pub looks : LooksBesides At (state old.store.medium) (state new.store.medium) old
   pub elapses : Elapses (state old.store.medium) (state new.store.medium)
   pub follows : Follows old.store.medium new.store.medium
+
+-- what a part of an event that takes the last data, or data of a wrong size, does and passes on
+pub record EndsData {M : Type 0} (state : M → State) (Follows : M → M → Type 0)
+    (old new : UnitValue M) (from to : BulkState) (line : Line) (taken packet : List ℕ)
+    : Type 0 where
+  pub serves : TakesData (state old.store.medium) (state new.store.medium) old new from line taken
+      packet
+  pub passes : HandsOn state Follows (λ _. ⊥) old new from to
+
+-- ---- what these parts ask for
+
+-- The command of an exchange may be carried out over these bytes: what the unit intends is still
+-- what it intended when the wrapper came.
+pub record CanCarryOut {M : Type 0} (unit : UnitValue M) (exchange : Exchange) (bytes : List ℕ)
+    : Type 0 where
+  pub is_case : IsCase exchange.case exchange.command.host exchange.intended
+  pub some_block : 0 < length exchange.command.block.items
+  pub sends : (n : ℕ) → exchange.intended ≡ ways.In n
+      → intention_of unit exchange.command.block.items ≡ intent.In n
+  pub takes : (n : ℕ) → intention_of unit exchange.command.block.items ≡ intent.Out n
+      → length bytes ≡ n
+
+-- a command wrapper is expected, and there is room for the data of a transfer
+pub record AwaitsWrapper (limit : ℕ) (wire : BulkState) (staging : List ℕ) : Type 0 where
+  pub expected : wire.phase ≡ Command
+  pub room : length staging ≡ 512 * limit
+
+-- a packet of the greatest size comes, behind which more data is due
+pub record HasMoreDue (pending : Taking) (taken packet : List ℕ) (most : ℕ) : Type 0 where
+  pub whole : length packet ≡ most
+  pub more : most < pending.due
+  pub before : pending.filled ≤ size_of_way pending.exchange.intended
+  pub room : size_of_way pending.exchange.intended ≤ length taken
+
+-- both buffers have room for the data of a transfer
+pub record HaveRoom (limit : ℕ) (taken staging : List ℕ) : Type 0 where
+  pub taken_room : length taken ≡ 512 * limit
+  pub staging_room : length staging ≡ 512 * limit

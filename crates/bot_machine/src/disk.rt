@@ -14,7 +14,8 @@ ghost use Rattle.scsi_unit.specs.UnitValue.{unit_limit};
 ghost use Rattle.spec.specs.Exchange.{in_answer, after_in};
 ghost use Rattle.bot_machine.specs.Answers.{answer_to_out, answer_to_in, answer_to_setup, IsPacket};
 ghost use Rattle.spec.specs.Conversation.{SetupStep};
-ghost use Rattle.bot_machine.specs.Disk.{FitsDisk, IsStep, IsRearmed};
+ghost use Rattle.bot_machine.specs.Disk.{FitsDisk, IsStep, IsRearmed, ArmsDisk};
+ghost use Rattle.bot_machine.specs.Disk.{AnswersSetup};
 ghost use Rattle.spec.specs.declared.event.Event.TheVariants as event;
 ghost use Rattle.spec.specs.declared.event.Answer.TheVariants as answer;
 ghost use Rattle.bot_machine.specs.contracts.disk.Disk.{the_row};
@@ -76,8 +77,8 @@ impl<M: Medium> Disk<M> {
     }
 
     /// Whether no step in the background is left: each accepted write is durable and at home then,
-    /// and none waits. Of a faulted disk it is not told. As long as nothing is written it comes true
-    /// after a bounded number of steps, unless one of them faults the disk.
+    /// and none waits. Of a faulted disk it is not told. As long as nothing is written it comes
+    /// true after a bounded number of steps, unless one of them faults the disk.
     pub fn is_settled(&self) -> bool
         ensures steps { IsTrue result ↔ ((is_dead self.now.unit.store.cached ≡ false)
             × (steps_left self.now.unit.store.cached ≡ 0)) }
@@ -198,8 +199,7 @@ impl<M: Medium> Disk<M> {
 
     // Answers a setup packet.
     fn answer_request(&mut self, packet: [u8; 8]) -> SetupAnswer
-        ensures request { SetupStep packet self.old.line (answer_to_setup result) self.new.line }
-        ensures others { self.new ≡ record self.old { line = self.new.line } }
+        ensures { AnswersSetup packet self.old (answer_to_setup result) self.new }
     {
         match read_request(packet) {
             None => SetupAnswer::Stall,
@@ -235,12 +235,7 @@ impl<M: Medium> Disk<M> {
 impl<M: Switch> Disk<M> {
     /// Arms a fuse of the medium: the next `writes` writes and flushes still happen.
     pub fn fuse(&mut self, writes: u64)
-        ensures fused { M.fused writes self.old.unit.store.medium self.new.unit.store.medium }
-        ensures unchanged { IsUnchanged (M.state self.old.unit.store.medium)
-            (M.state self.new.unit.store.medium) }
-        ensures others { IsRearmed self.old self.new }
-        ensures fits { (book : Book) → FitsDisk (M.state self.old.unit.store.medium) self.old book
-            → FitsDisk (M.state self.new.unit.store.medium) self.new book }
+        ensures { ArmsDisk M.state (M.fused writes) self.old self.new }
     {
         self.unit.fuse(writes);
     }
@@ -248,13 +243,8 @@ impl<M: Switch> Disk<M> {
     /// Arms a failure of one call of the medium: the one with this number from now, counted from 1.
     pub fn fail(&mut self, call: u64)
         requires { 0 < call }
-        ensures failing { M.failing call self.old.unit.store.medium self.new.unit.store.medium }
-        ensures follows { M.follows self.old.unit.store.medium self.new.unit.store.medium }
-        ensures unchanged { IsUnchanged (M.state self.old.unit.store.medium)
-            (M.state self.new.unit.store.medium) }
-        ensures others { IsRearmed self.old self.new }
-        ensures fits { (book : Book) → FitsDisk (M.state self.old.unit.store.medium) self.old book
-            → FitsDisk (M.state self.new.unit.store.medium) self.new book }
+        ensures { ArmsDisk M.state (λ old new. M.failing call old new × M.follows old new)
+            self.old self.new }
     {
         self.unit.fail(call);
     }

@@ -1,6 +1,6 @@
 //! Whole lives of a disk, one after the other.
-ghost use Rattle.std.specs.Prelude.{◌≡◌, ◌≤◌, ◌+◌, [], ◌∷◌, ◌++◌, None, List, length, map, OnOk};
-ghost use Rattle.std.specs.Prelude.{OnErr, IfOk, IfErr, MatchOption};
+ghost use Rattle.std.specs.Prelude.{◌≡◌, ◌≤◌, ◌+◌, [], None, List, length, map, OnOk, IfOk, IfErr};
+ghost use Rattle.std.specs.Prelude.{MatchOption};
 ghost use Rattle.medium.specs.Sim.{IsFused};
 ghost use Rattle.spec.specs.declared.event.Answer.{Answer};
 ghost use Rattle.spec.specs.Lives.{plays};
@@ -8,11 +8,11 @@ ghost use Rattle.bot_machine.specs.Device.{device_by, device_of};
 ghost use Rattle.bot_machine.specs.Fitting.{AreWithin, LivesAreWithin};
 ghost use Rattle.spec.specs.Packets.{bytes_of};
 ghost use Rattle.spec.specs.declared.packet_size.PacketSize.TheVariants.{High512};
-ghost use Rattle.bot_machine.specs.Opening.{IsNotOpened};
-ghost use Rattle.bot_machine.specs.LivesValue.{medium_in, state_in, HasStarted, IsAtRest};
-ghost use Rattle.bot_machine.specs.LivesValue.{LivesGoOn, LivesStop, RestsAlone};
+ghost use Rattle.bot_machine.specs.LivesValue.{medium_in, HasStarted, IsAtRest};
+ghost use Rattle.bot_machine.specs.LivesValue.{LivesGoOn, RestsAlone};
 ghost use Rattle.bot_machine.specs.Lifetimes.{actions_of, armed_by, events_in, Appends, AppendsFor};
 ghost use Rattle.bot_machine.specs.Lifetimes.{KeepPromise, KeepPromiseUpTo, AreLived, AreLivedUpTo};
+ghost use Rattle.bot_machine.specs.Lifetimes.{IsNotLived};
 
 use crate::answers::Answers;
 use crate::life::Life;
@@ -40,14 +40,16 @@ pub fn run_lives(
     ensures promise { IfOk result (λ after. (told : List Answer)
         × Appends told answers.old answers.new
         × KeepPromise medium (device_of identity High512) lives.now told after) }
-    ensures moves { IfOk result (λ after. (told : List Answer) × Appends told answers.old answers.new
+    ensures moves { IfOk result (λ after. (told : List Answer)
+        × Appends told answers.old answers.new
         × AreLived medium (device_of identity High512) lives.now told after) }
     ensures promise_until { IfErr result (λ error. (told : List Answer)
         × Appends told answers.old answers.new
         × KeepPromiseUpTo medium (device_of identity High512) lives.now told error.medium) }
     ensures moves_until { IfErr result (λ error. (told : List Answer)
         × Appends told answers.old answers.new
-        × AreLivedUpTo medium (device_of identity High512) lives.now told error.fault error.medium) }
+        × AreLivedUpTo medium (device_of identity High512) lives.now told error.fault
+        error.medium) }
 {
     run_lives_with(alloc, medium, identity, PacketSize::High512, lives, answers)
 }
@@ -73,7 +75,8 @@ pub fn run_lives_with(
     ensures promise { IfOk result (λ after. (told : List Answer)
         × Appends told answers.old answers.new
         × KeepPromise medium (device_of identity size) lives.now told after) }
-    ensures moves { IfOk result (λ after. (told : List Answer) × Appends told answers.old answers.new
+    ensures moves { IfOk result (λ after. (told : List Answer)
+        × Appends told answers.old answers.new
         × AreLived medium (device_of identity size) lives.now told after) }
     ensures promise_until { IfErr result (λ error. (told : List Answer)
         × Appends told answers.old answers.new
@@ -93,12 +96,12 @@ pub fn run_lives_with(
     )
 }
 
-/// Lives a disk's lives with packets of this size, which no packet of the events exceeds, and appends
-/// an answer to each event. The clause `promise` says what a host may rely on, by `spec` alone, and
-/// `moves` what the same actions do to the disk and its medium. In each life a disk that retires as is asked here is started on the
-/// medium that the one before has left, its events come, and the power is cut. Where a fuse lets the
-/// power go, in the start or in an event, every answer from there on is `Off`. Memory is taken by the
-/// starts alone.
+/// Lives a disk's lives with packets of this size, which no packet of the events exceeds, and
+/// appends an answer to each event. The clause `promise` says what a host may rely on, by `spec`
+/// alone, and `moves` what the same actions do to the disk and its medium. In each life a disk that
+/// retires as is asked here is started on the medium that the one before has left, its events come,
+/// and the power is cut. Where a fuse lets the power go, in the start or in an event, every answer
+/// from there on is `Off`. Memory is taken by the starts alone.
 ///
 /// # Errors
 ///
@@ -120,7 +123,8 @@ pub fn run_lives_by(
     ensures promise { IfOk result (λ after. (told : List Answer)
         × Appends told answers.old answers.new
         × KeepPromise medium (device_by identity size retiring) lives.now told after) }
-    ensures moves { IfOk result (λ after. (told : List Answer) × Appends told answers.old answers.new
+    ensures moves { IfOk result (λ after. (told : List Answer)
+        × Appends told answers.old answers.new
         × AreLived medium (device_by identity size retiring) lives.now told after) }
     ensures promise_until { IfErr result (λ error. (told : List Answer)
         × Appends told answers.old answers.new
@@ -154,10 +158,8 @@ fn live(
     ensures ok { OnOk result (AppendsFor run.old run.new answers.old answers.new
         (actions_of life.now) (length life.now.events.items)) }
     ensures ended { OnOk result (RestsAlone run.new) }
-    ensures err { IfErr result (λ fault. LivesStop run.old (armed_by life.now.fuse) [] fault run.new) }
-    ensures cause { IfErr result (λ fault.
-        IsNotOpened (state_in run.old.stage) (state_in run.new.stage) fault) }
-    ensures unanswered { OnErr result (answers.new ≡ answers.old) }
+    ensures err { IfErr result (λ fault.
+        IsNotLived run.old run.new answers.old answers.new life.now fault) }
 {
     arm(run, life.fuse);
     run.start(alloc)?;

@@ -6,7 +6,7 @@ ghost use Rattle.medium.specs.Writes.{keeps};
 ghost use Rattle.spec.specs.Book.{Book};
 ghost use Rattle.spec.specs.Lives.{starts, plays, cuts, arms, fails};
 ghost use Rattle.spec.specs.Promise.{first_standing};
-ghost use Rattle.bot_machine.specs.Lifetimes.{StandsFirst};
+ghost use Rattle.bot_machine.specs.Lifetimes.{AreNew, StandsFirst};
 ghost use Rattle.bot_machine.specs.Device.{device_by, device_of};
 ghost use Rattle.bot_machine.specs.Fitting.{IsWithin};
 ghost use Rattle.spec.specs.declared.packet_size.PacketSize.TheVariants.{High512};
@@ -19,8 +19,8 @@ use std::alloc::Global;
 use std::marker::Model;
 
 /// Lives of a disk over a medium in memory, call by call. In a life a disk is started, events come
-/// to it, and the power is cut. A fuse that was armed may let the power go before, in the start or in
-/// an event: every answer from that event on is `Off`.
+/// to it, and the power is cut. A fuse that was armed may let the power go before, in the start or
+/// in an event: every answer from that event on is `Off`.
 #[derive(Drop)]
 pub struct Lives {
     identity: Identity,
@@ -54,19 +54,12 @@ impl Model for Lives {
 impl Lives {
     ghost use Rattle.bot_machine.specs.LivesValue.{medium_in, HasStarted, HasBegun, IsAtRest};
     ghost use Rattle.bot_machine.specs.LivesValue.{OpensOn, HasLimit, FitsLives, LivesGoOn};
-    ghost use Rattle.bot_machine.specs.LivesValue.{LivesRefuseStart};
+    ghost use Rattle.bot_machine.specs.LivesValue.{LivesRefuseStart, LifeBegins, StageAnswers};
     ghost use Rattle.bot_machine.specs.declared.stage.Stage.TheVariants.{Rests};
 
     /// No life has been yet, and packets have at most 512 bytes (high speed): see `new_with`.
     pub fn new(medium: SimMedium, identity: Identity) -> Lives
-        ensures value { result ≡ record {
-          device = device_of identity High512;
-          stage = Rests medium;
-        } }
-        ensures first { (limit : ℕ) (book : Book) → IsAtRest medium → medium.power.fuse ≡ None
-            → OpensOn (state_of medium) book
-            → HasLimit (state_of medium).size limit (state_of medium).content
-            → FitsLives result (first_standing limit book) }
+        ensures { AreNew (device_of identity High512) medium result }
     {
         Lives::new_with(medium, identity, PacketSize::High512)
     }
@@ -87,8 +80,8 @@ impl Lives {
 
     /// No life has been yet. Packets are of this size, and the disks retire as is asked here.
     ///
-    /// Where the power of the medium is on, nothing is unflushed and no fuse is armed, the first life
-    /// opens with the blocks for which the contents stand, and has their limit.
+    /// Where the power of the medium is on, nothing is unflushed and no fuse is armed, the first
+    /// life opens with the blocks for which the contents stand, and has their limit.
     pub fn new_by(
         medium: SimMedium,
         identity: Identity,
@@ -127,8 +120,8 @@ impl Lives {
         stage::into_medium(stage.unwrap())
     }
 
-    /// Arms a fuse for the rest of this life: so many writes and flushes happen, and at the next the
-    /// power goes. No disk is started.
+    /// Arms a fuse for the rest of this life: so many writes and flushes happen, and at the next
+    /// the power goes. No disk is started.
     pub fn fuse(&mut self, writes: u64)
         ensures goes_on { LivesGoOn self.old (arms writes ∷ []) [] self.new }
         ensures fused { IsFused writes (medium_in self.old.stage) (medium_in self.new.stage) }
@@ -138,8 +131,8 @@ impl Lives {
         }
     }
 
-    /// Arms a failure of one call of the medium: the one with this number from now on, counted from 1,
-    /// is refused once, unless a cut comes first. No disk is started.
+    /// Arms a failure of one call of the medium: the one with this number from now on, counted from
+    /// 1, is refused once, unless a cut comes first. No disk is started.
     pub fn fail(&mut self, call: u64)
         requires { 0 < call }
         ensures goes_on { LivesGoOn self.old (fails call ∷ []) [] self.new }
@@ -156,10 +149,7 @@ impl Lives {
     ///
     /// The fault with which the start was refused, where the power is still on. No disk runs then.
     pub fn start(&mut self, alloc: Global) -> Result<(), StartFault>
-        ensures ok { OnOk result (LivesGoOn self.old (starts ∷ []) [] self.new) }
-        ensures begun { OnOk result (HasBegun self.old.stage self.new.stage) }
-        ensures err { IfErr result (λ fault. LivesRefuseStart self.old fault self.new) }
-        ensures follows { ComesAfter (medium_in self.old.stage) (medium_in self.new.stage) }
+        ensures { LifeBegins self.old result self.new }
     {
         let stage = self.stage.take().unwrap();
         match stage::start(alloc, stage, self.identity, self.size, self.retiring) {
@@ -199,9 +189,7 @@ impl Lives {
         requires started { HasStarted self.old.stage }
         requires within { IsWithin self.old.device.packet_size event.now }
         ensures goes_on { LivesGoOn self.old (plays event.now ∷ []) (result ∷ []) self.new }
-        ensures started { HasStarted self.new.stage }
-        ensures off { (result ≡ Answer.Off) ↔ ((medium_in self.new.stage).power.off ≡ true) }
-        ensures follows { ComesAfter (medium_in self.old.stage) (medium_in self.new.stage) }
+        ensures plays { StageAnswers self.old.stage result self.new.stage }
     {
         match &mut self.stage {
             Some(stage) => stage::play(stage, event),
@@ -209,8 +197,8 @@ impl Lives {
         }
     }
 
-    /// Cuts the power, and turns it on again: of the unflushed writes of the medium the kept ones are
-    /// applied, and fuse and failure are disarmed. No disk runs then.
+    /// Cuts the power, and turns it on again: of the unflushed writes of the medium the kept ones
+    /// are applied, and fuse and failure are disarmed. No disk runs then.
     pub fn cut(&mut self, kept: &Kept)
         ensures goes_on { LivesGoOn self.old (cuts (keeps kept.now) ∷ []) [] self.new }
         ensures exact { IsCut (keeps kept.now) (medium_in self.old.stage)

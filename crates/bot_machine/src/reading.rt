@@ -2,8 +2,8 @@
 ghost use Rattle.std.specs.Prelude.{◌≡◌, ◌<◌, ◌≤◌, IfSome, MatchOption, Some, length};
 ghost use Rattle.scsi_unit.specs.Reading.{AreHome};
 ghost use Rattle.scsi_unit.specs.UnitValue.{unit_limit};
-ghost use Rattle.bot_machine.specs.Reading.{sectors_in, sectors_for, ReadsHome, ReadsNoHome};
-ghost use Rattle.bot_machine.specs.Reading.{WrapperReads, WrapperReadsNone};
+ghost use Rattle.bot_machine.specs.Reading.{sectors_in, ReadsHome, ReadsNoHome};
+ghost use Rattle.bot_machine.specs.Reading.{ExchangeReads, WrapperReads, WrapperReadsNone};
 
 use crate::bulk_state::Phase;
 use crate::disk::Disk;
@@ -41,10 +41,7 @@ fn wrapper_reads<M: Medium>(unit: &Unit<M>, packet: &[u8]) -> Option<HomeSectors
 // The home sectors of the blocks that an exchange reads at once.
 fn exchange_reads<M: Medium>(unit: &Unit<M>, exchange: &Exchange) -> Option<HomeSectors>
     requires { 0 < length exchange.now.command.block.items }
-    ensures is { result
-        ≡ sectors_in exchange.now.case (sectors_for unit.now exchange.now.command.block.items) }
-    ensures bounds { IfSome result (λ wanted. AreHome (unit_limit unit.now)
-        (M.state unit.now.store.medium).size wanted.first wanted.count) }
+    ensures { ExchangeReads (M.state unit.now.store.medium) unit.now exchange.now result }
 {
     sectors_in(
         exchange.case,

@@ -1,6 +1,6 @@
 //! Events played on a disk.
 ghost use Rattle.std.specs.Prelude.{◌≡◌, ◌≢◌, ◌≤◌, ◌+◌, ◌++◌, List, length};
-ghost use Rattle.bot_machine.specs.Disk.{IsStep, IsRun};
+ghost use Rattle.bot_machine.specs.Disk.{IsStep, PlaysEvents};
 ghost use Rattle.bot_machine.specs.Fitting.{IsWithin, AreWithin};
 ghost use Rattle.spec.specs.declared.event.Answer.{Answer};
 ghost use Rattle.spec.specs.declared.event.Answer.TheVariants as answer;
@@ -41,10 +41,9 @@ pub fn answer_to<M: Medium>(disk: &mut Disk<M>, event: &Event) -> Answer
 pub fn run_events<M: Medium>(disk: &mut Disk<M>, events: &[Event], answers: &mut Answers)
     requires within { AreWithin disk.old.line.packet_size events.now }
     requires room { length answers.old.list + length events.now ≤ answers.old.room }
-    ensures run { (told : List Answer)
+    ensures { (told : List Answer)
         × (answers.new ≡ record answers.old { list = answers.old.list ++ told })
-        × IsRun M.state disk.old events.now told disk.new }
-    ensures follows { M.follows disk.old.unit.store.medium disk.new.unit.store.medium }
+        × PlaysEvents M.state M.follows disk.old events.now told disk.new }
 {
     for event in events {
         answers.push(answer_to(disk, event));

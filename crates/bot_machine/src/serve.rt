@@ -1,9 +1,8 @@
 //! What the disk does with a packet to Bulk-Out.
-ghost use Rattle.std.specs.Prelude.{◌≡◌, ◌≤◌, ◌<◌, ◌+◌, ◌-◌, ◌*◌, ◌++◌, ℕ, List, Result};
+ghost use Rattle.std.specs.Prelude.{◌≡◌, ◌≤◌, ◌+◌, ◌-◌, ◌*◌, ◌++◌, ℕ, List, Result};
 ghost use Rattle.std.specs.Prelude.{MatchOption, length, min, take};
-ghost use Rattle.spec.specs.Cases.{IsCase, size_of_way};
+ghost use Rattle.spec.specs.Cases.{size_of_way};
 ghost use Rattle.spec.specs.CommandWrapper.{SpellsNone};
-ghost use Rattle.spec.specs.declared.way.Way.TheVariants as ways;
 ghost use Rattle.spec.specs.Sense.{Sense};
 ghost use Rattle.scsi_unit.specs.Calls.{IsBounded};
 ghost use Rattle.scsi_unit.specs.Serving.{IsSparing};
@@ -13,10 +12,10 @@ ghost use Rattle.spec.specs.Exchange.{Script, finished};
 ghost use Rattle.bot_machine.specs.Refinement.{IsTaking, line_of, line_with};
 ghost use Rattle.spec.specs.Packets.{bytes_of};
 ghost use Rattle.bot_machine.specs.Serving.{IsBegun, CarriesOutOn, BeginsOn, RestsOn, SparesOn};
-ghost use Rattle.bot_machine.specs.Serving.{TakesData, HandsOn};
+ghost use Rattle.bot_machine.specs.Serving.{TakesData, HandsOn, EndsData, CanCarryOut, HaveRoom};
+ghost use Rattle.bot_machine.specs.Serving.{AwaitsWrapper, HasMoreDue};
 ghost use Rattle.scsi_unit.specs.Reading.{IsOneOf};
 ghost use Rattle.bot_machine.specs.Reading.{sectors_for, WrapperReadsAt};
-ghost use Rattle.spec.specs.declared.intent.Intent.TheVariants as intent;
 
 use crate::bulk_state::{BulkState, Phase, Taking};
 use crate::exchange::{Exchange, When, after_failure, size_sent, way_of_intent, when_carried_out};
@@ -33,12 +32,7 @@ fn carry_out<M: Medium>(
     exchange: &Exchange,
     bytes: &[u8],
 )
-    requires is_case { IsCase exchange.now.case exchange.now.command.host exchange.now.intended }
-    requires some_block { 0 < length exchange.now.command.block.items }
-    requires sends { (n : ℕ) → exchange.now.intended ≡ ways.In n
-        → intention_of unit.old exchange.now.command.block.items ≡ intent.In n }
-    requires takes { (n : ℕ) → intention_of unit.old exchange.now.command.block.items
-        ≡ intent.Out n → length bytes.now ≡ n }
+    requires can { CanCarryOut unit.old exchange.now bytes.now }
     requires room { length staging.old ≡ 512 * unit_limit unit.old }
     ensures carried_out { (taken : List ℕ) (left : Script) → CarriesOutOn
         (M.state unit.old.store.medium) (M.state unit.new.store.medium) unit.old unit.new
@@ -78,20 +72,19 @@ pub(crate) fn read_exchange<M: Medium>(unit: &Unit<M>, packet: &[u8]) -> Option<
 /// Takes a packet where a command wrapper is expected. It stands apart, so that the code that runs
 /// for a packet of data is short.
 #[inline(never)]
-#[tactic(auto, using(crate::proofs::ReadAtOnce::waits_to_send_none, crate::proofs::Passing::none_besides))]
+#[tactic(auto, using(crate::proofs::Passing::nothing_read))]
 pub(crate) fn open<M: Medium>(
     unit: &mut Unit<M>,
     wire: &mut BulkState,
     staging: &mut [u8],
     packet: &[u8],
 )
-    requires expected { wire.old.phase ≡ Phase.Command }
-    requires room { length staging.old ≡ 512 * unit_limit unit.old }
+    requires { AwaitsWrapper (unit_limit unit.old) wire.old staging.old }
     ensures opens { (taken : List ℕ) → BeginsOn
         (M.state unit.old.store.medium) (M.state unit.new.store.medium) unit.old unit.new
         (line_of wire.old taken staging.old) (line_of wire.new taken staging.new) packet.now }
-    ensures rests { RestsOn (bytes_of wire.old.size) (M.state unit.old.store.medium) unit.old unit.new
-        finished packet.now }
+    ensures rests { RestsOn (bytes_of wire.old.size) (M.state unit.old.store.medium)
+        unit.old unit.new finished packet.now }
     ensures spares { (taken : List ℕ) → SparesOn (bytes_of wire.old.size)
         (M.state unit.old.store.medium) (M.state unit.new.store.medium) unit.old unit.new
         (line_of wire.new taken staging.new) finished packet.now }
@@ -116,9 +109,9 @@ pub(crate) fn open<M: Medium>(
     }
 }
 
-/// Takes a packet where data is expected. The intended bytes that came already are the first ones of
-/// `taken`. Where more data is due behind the packet, what is pending changes in its place, since a
-/// long transfer is made of such packets.
+/// Takes a packet where data is expected. The intended bytes that came already are the first ones
+/// of `taken`. Where more data is due behind the packet, what is pending changes in its place,
+/// since a long transfer is made of such packets.
 #[tactic(auto, using(crate::proofs::Passing::none_besides))]
 pub(crate) fn take_data<M: Medium>(
     unit: &mut Unit<M>,
@@ -127,8 +120,7 @@ pub(crate) fn take_data<M: Medium>(
     staging: &mut [u8],
     packet: &[u8],
 )
-    requires taken { length taken.old ≡ 512 * unit_limit unit.old }
-    requires room { length staging.old ≡ 512 * unit_limit unit.old }
+    requires room { HaveRoom (unit_limit unit.old) taken.old staging.old }
     requires taking { (pending : Taking) × (wire.old.phase ≡ Phase.DataOut pending)
         × IsTaking (unit_limit unit.old) (intention_of unit.old) pending }
     ensures serves { TakesData (M.state unit.old.store.medium) (M.state unit.new.store.medium)
@@ -148,10 +140,7 @@ pub(crate) fn take_data<M: Medium>(
 
 // Takes a packet of the greatest size, behind which more data is due.
 fn take_more(pending: &mut Taking, taken: &mut [u8], packet: &[u8], most: u32)
-    requires whole { length packet.now ≡ most }
-    requires more { most < pending.old.due }
-    requires before { pending.old.filled ≤ size_of_way pending.old.exchange.intended }
-    requires room { size_of_way pending.old.exchange.intended ≤ length taken.old }
+    requires { HasMoreDue pending.old taken.old packet.now most }
     ensures exchange { pending.new.exchange ≡ pending.old.exchange }
     ensures due { pending.new.due ≡ pending.old.due - most }
     ensures filled { pending.new.filled ≡ min (size_of_way pending.old.exchange.intended)
@@ -175,15 +164,13 @@ fn end_data<M: Medium>(
     staging: &mut [u8],
     packet: &[u8],
 )
-    requires taken { length taken.old ≡ 512 * unit_limit unit.old }
-    requires room { length staging.old ≡ 512 * unit_limit unit.old }
+    requires room { HaveRoom (unit_limit unit.old) taken.old staging.old }
     requires taking { (pending : Taking) × (wire.old.phase ≡ Phase.DataOut pending)
         × IsTaking (unit_limit unit.old) (intention_of unit.old) pending }
     requires ends { (pending : Taking) → wire.old.phase ≡ Phase.DataOut pending
         → length packet.now ≡ bytes_of wire.old.size → pending.due ≤ bytes_of wire.old.size }
-    ensures serves { TakesData (M.state unit.old.store.medium) (M.state unit.new.store.medium)
-        unit.old unit.new wire.old (line_of wire.new taken.new staging.new) taken.old packet.now }
-    ensures passes { HandsOn M.state M.follows (λ _. ⊥) unit.old unit.new wire.old wire.new }
+    ensures { EndsData M.state M.follows unit.old unit.new wire.old wire.new
+        (line_of wire.new taken.new staging.new) taken.old packet.now }
 {
     let Phase::DataOut(pending) = mem::replace(&mut wire.phase, Phase::Command) else {
         unreachable!()

@@ -6,7 +6,7 @@ ghost use Rattle.bot_machine.specs.Device.{Device, device_by};
 ghost use Rattle.bot_machine.specs.Fitting.{IsWithin};
 ghost use Rattle.spec.specs.Lives.{starts, plays, cuts, arms, fails};
 ghost use Rattle.bot_machine.specs.LivesValue.{medium_in, HasStarted, TakesEvent, HasBegun};
-ghost use Rattle.bot_machine.specs.LivesValue.{LivesGoOn, LivesRefuseStart};
+ghost use Rattle.bot_machine.specs.LivesValue.{LivesGoOn, LivesRefuseStart, StageAnswers};
 ghost use Rattle.bot_machine.specs.declared.stage.Stage.TheVariants.{Rests, Runs};
 
 use crate::disk::Disk;
@@ -115,9 +115,7 @@ pub(crate) fn play(stage: &mut Stage, event: &Event) -> Answer
     ensures goes_on { (device : Device) → LivesGoOn
         (record { device = device; stage = stage.old }) (plays event.now ∷ []) (result ∷ [])
         (record { device = device; stage = stage.new }) }
-    ensures started { HasStarted stage.new }
-    ensures off { (result ≡ Answer.Off) ↔ ((medium_in stage.new).power.off ≡ true) }
-    ensures follows { ComesAfter (medium_in stage.old) (medium_in stage.new) }
+    ensures plays { StageAnswers stage.old result stage.new }
 {
     match stage {
         Stage::Rests(_) => Answer::Off,

@@ -15,31 +15,18 @@ use spec::PacketSize;
 use std::alloc::Global;
 
 impl<M: Medium> Disk<M> {
-    /// Starts a disk on a medium, for packets of at most 512 bytes (high speed): see `start_with`.
+    /// Starts a disk on a medium, for packets of at most 512 bytes (high speed), one that retires
+    /// late: see `start_by`.
     ///
     /// # Errors
     ///
-    /// Those of `start_with`.
+    /// Those of `start_by`.
     pub fn start(alloc: Global, medium: M, identity: Identity) -> Result<Disk<M>, StartError<M>>
-        ensures ok { IfOk result (λ disk. IsOpened
-            (M.state medium) (M.state disk.unit.store.medium) (device_of identity High512) disk) }
-        ensures err { IfErr result (λ error.
-            IsNotOpened (M.state medium) (M.state error.medium) error.fault) }
-        ensures leaves { MatchResult result
-            (λ disk. StartLeaves (M.state medium) (M.state disk.unit.store.medium))
-            (λ error. StartLeaves (M.state medium) (M.state error.medium)) }
-        ensures limit { (limit : ℕ) → EachCut (IsOursForSome (M.state medium).size) (M.state medium)
-            → EachCut (HasLimit (M.state medium).size limit) (M.state medium)
-            → MatchResult result
-            (λ disk. LeavesOnly (HasLimit (M.state medium).size limit)
-            (M.state medium) (M.state disk.unit.store.medium))
-            (λ error. LeavesOnly (HasLimit (M.state medium).size limit)
-            (M.state medium) (M.state error.medium)) }
-        ensures medium { MatchResult result
-            (λ disk. LeavesMedium M.state M.follows medium disk.unit.store.medium)
-            (λ error. LeavesMedium M.state M.follows medium error.medium) }
+        ensures { MatchResult result
+            (λ disk. StartsDisk M.state M.follows medium (device_of identity High512) disk)
+            (λ error. RefusesDisk M.state M.follows medium error.medium error.fault) }
     {
-        Disk::start_with(alloc, medium, identity, PacketSize::High512)
+        Disk::start_by(alloc, medium, identity, PacketSize::High512, Retiring::Late)
     }
 
     /// Starts a disk on a medium, for packets of this size, one that retires late: see `start_by`.

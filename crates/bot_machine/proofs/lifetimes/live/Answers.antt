@@ -1,4 +1,4 @@
-use Rattle.std.proofs.Common.{map, length}
+use Rattle.std.proofs.Common.{map, length, refl}
 use Rattle.std.proofs.lemmas.Result.{err_from_is_err_and}
 use Rattle.medium.specs.Writes.{keeps}
 use Rattle.spec.specs.Lives.{plays, cuts}
@@ -11,15 +11,13 @@ use Rattle.bot_machine.proofs.lifetimes.live.Goals as goal
 pub returns-in_err-start-clause-err : goal.returns-in_err-start-clause-err
 returns-in_err-start-clause-err c =
     let p = err_from_is_err_and c.from_residual.result c.from_residual.ensures.1 in
-    rw (p.1, p.2)
-    (no_life c.args.run.now c.arm.new.run c.start.new.self (armed_by c.args.life.now.fuse) c.in_err-start.field-0.0
-    c.arm.ensures.goes_on c.in_err-start.ensures.err.stops)
-
-pub returns-in_err-start-clause-cause : goal.returns-in_err-start-clause-cause
-returns-in_err-start-clause-cause c =
-    let p = err_from_is_err_and c.from_residual.result c.from_residual.ensures.1 in
-    rw (p.1, p.2) (not_for_a_fuse c.args.life.now.fuse c.args.run.now c.arm.new.run (state_in c.start.new.self.stage)
-    c.in_err-start.field-0.0 c.arm.ensures.fused c.in_err-start.ensures.err.cause)
+    rw (p.1, p.2) (record {
+      stops = no_life c.args.run.now c.arm.new.run c.start.new.self (armed_by c.args.life.now.fuse) c.in_err-start.field-0.0
+          c.arm.ensures.goes_on c.in_err-start.ensures.err.stops;
+      cause = not_for_a_fuse c.args.life.now.fuse c.args.run.now c.arm.new.run (state_in c.start.new.self.stage)
+          c.in_err-start.field-0.0 c.arm.ensures.fused c.in_err-start.ensures.err.cause;
+      unanswered = refl;
+    })
 
 pub returns-clause-ok : goal.returns-clause-ok
 returns-clause-ok c =

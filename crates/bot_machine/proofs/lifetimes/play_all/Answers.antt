@@ -15,5 +15,5 @@ loop-event-preserved c =
       run = rw same (appends_on c.args.run.now c.loop-event.run c.play.new.self c.args.answers.now c.loop-event.answers c.push.new.self
           (map plays (take i events)) (plays event ∷ []) i 1 c.loop-event.invariant.run
           (record { told = c.play.result ∷ []; appends = c.push.ensures; one_each = refl; goes_on = c.play.ensures.goes_on }));
-      started = c.play.ensures.started;
+      started = c.play.ensures.plays.started;
     }

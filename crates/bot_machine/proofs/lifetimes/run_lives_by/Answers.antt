@@ -50,12 +50,12 @@ returns-in-Err-clause-moves_until c =
     let lived = c.loop-life.invariant.run in
     let ended = c.loop-life.invariant.ended in (
       lived.told,
-      c.in-Err.ensures.unanswered ∙ lived.appends,
+      c.in-Err.ensures.err.unanswered ∙ lived.appends,
       rw c.into_medium.ensures
           (lived_up_to c.args.medium (device_by c.args.identity c.args.size c.args.retiring) c.requires.rests c.requires.unfused
           c.loop-life.run c.live.new.run lived.told lives (take i lives) (drop (suc i) lives) life c.in-Err.fault
           (apart lives i life c.loop-life-test.true c.life-item.is) lived.goes_on lived.one_each ended.rests ended.unfused
-          ended.alone c.in-Err.ensures.cause c.in-Err.ensures.err),
+          ended.alone c.in-Err.ensures.err.cause c.in-Err.ensures.err.stops),
     )
 
 pub loop-life-preserved : goal.loop-life-preserved

@@ -1,5 +1,5 @@
 use Rattle.std.proofs.Common.{◌++◌, ◌∷◌, [], length, take, refl, sym, ap, ◌∙◌, arith, append_assoc, length-append}
-use Rattle.std.proofs.lemmas.List.{take_more, append-nil}
+use Rattle.std.proofs.lemmas.List.{take_all, take_more, append-nil}
 use Rattle.bot_machine.specs.Answers.{Room}
 use Rattle.bot_machine.proofs.Runs.{IsRun-more, no_run}
 use Rattle.bot_machine.proofs.run.run_events.Goals as goal
@@ -61,3 +61,9 @@ loop-event-preserved g c =
       );
       room = ap (λ (x : Room). x.room) c.push.ensures ∙ c.loop-event.invariant.room;
     }
+
+pub returns : goal.returns
+returns g c =
+    let i = c.loop-event.event-index in
+    let run = rw (take_all i c.args.events.now c.loop-event-test.false) at c.loop-event.invariant.run in
+    (run.0, run.1, record { run = run.2; follows = c.loop-event.invariant.follows })

@@ -21,7 +21,7 @@ returns-in-Ok-clause-carried_out g c = λ taken left book fits.
       effect = line.1;
       moved = λ n intended.
           let size = rw c.as_slice.ensures.value at c.in-Ok.ensures.sends.sent in
-          omega (arith, size n (c.requires.sends n intended), c.in-Ok.ensures.sends.most, length-take c.in-Ok.size out);
+          omega (arith, size n (c.requires.can.sends n intended), c.in-Ok.ensures.sends.most, length-take c.in-Ok.size out);
       after = rw (c.size_sent-size.ensures.is, ← sent_in-size _ (some_bytes c.args.wire.now.size) c.args.exchange.now.case c.in-Ok.size out)
           at (c.tell.ensures.line taken out left (omega (arith, c.in-Ok.ensures.sends.most)));
     })

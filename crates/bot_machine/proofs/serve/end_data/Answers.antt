@@ -13,83 +13,83 @@ use Rattle.bot_machine.proofs.Passing.{unit_stays}
 use Rattle.bot_machine.proofs.Taking.{one_taking}
 use Rattle.bot_machine.proofs.serve.end_data.Goals as goal
 
-pub returns-then-packet-min-clause-serves : goal.returns-then-packet-min-clause-serves
-returns-then-packet-min-clause-serves g c =
-    let d = c.in-DataOut.pending in
-    let unit = c.args.unit.now in
-    let most : ℕ = bytes_of c.args.wire.now.size in
-    let other : length c.args.packet.now ≡ d.due → most < d.due = λ whole. omega arith in
-    record {
-      takes = λ pending is left book fits.
-          let same : d ≡ pending = one_taking d pending (c.in-DataOut.ensures.value ∙ is) in
-          rw (← same)
-          (staying_so _ unit _ _ book (g.met.M.Medium.sound unit.store.medium) fits
-          (other_packet most (length c.args.packet.now) d.due _ _ other) (inr (inr (record {
-            size = let s : length c.args.packet.now ≢ min most d.due = omega arith in s;
-            unit = refl;
-            after = rw (c.write_csw-status.ensures, packets_of-none most (some_bytes c.args.wire.now.size))
-                at (c.lay_out.ensures.line c.args.taken.now c.args.staging.now left (omega arith));
-          }))));
-      rests = λ pending is book fits none. refl;
-      spares = λ pending is book fits block taken carries.
-          let due = ap (λ (t : Taking). t.due) (one_taking d pending (c.in-DataOut.ensures.value ∙ is)) in
-          let size = carries.size in
-          let last = carries.last in
-          let more = other (omega (arith, due, size)) in
-          absurd (omega (arith, more, due, last));
-    }
+pub returns-then-packet-min : goal.returns-then-packet-min
+returns-then-packet-min g c = record {
+  serves =
+      let d = c.in-DataOut.pending in
+      let unit = c.args.unit.now in
+      let most : ℕ = bytes_of c.args.wire.now.size in
+      let other : length c.args.packet.now ≡ d.due → most < d.due = λ whole. omega arith in
+      record {
+        takes = λ pending is left book fits.
+            let same : d ≡ pending = one_taking d pending (c.in-DataOut.ensures.value ∙ is) in
+            rw (← same)
+            (staying_so _ unit _ _ book (g.met.M.Medium.sound unit.store.medium) fits
+            (other_packet most (length c.args.packet.now) d.due _ _ other) (inr (inr (record {
+              size = let s : length c.args.packet.now ≢ min most d.due = omega arith in s;
+              unit = refl;
+              after = rw (c.write_csw-status.ensures, packets_of-none most (some_bytes c.args.wire.now.size))
+                  at (c.lay_out.ensures.line c.args.taken.now c.args.staging.now left (omega arith));
+            }))));
+        rests = λ pending is book fits none. refl;
+        spares = λ pending is book fits block taken carries.
+            let due = ap (λ (t : Taking). t.due) (one_taking d pending (c.in-DataOut.ensures.value ∙ is)) in
+            let size = carries.size in
+            let last = carries.last in
+            let more = other (omega (arith, due, size)) in
+            absurd (omega (arith, more, due, last));
+      };
+  passes =
+      unit_stays _ _ _ c.args.unit.now c.args.wire.now c.lay_out.new.self g.met.M.Medium.follows_itself
+      (c.lay_out.ensures.phase _ _ (omega arith)) c.lay_out.ensures.size;
+}
 
-pub returns-then-packet-min-clause-passes : goal.returns-then-packet-min-clause-passes
-returns-then-packet-min-clause-passes g c =
-    unit_stays _ _ _ c.args.unit.now c.args.wire.now c.lay_out.new.self g.met.M.Medium.follows_itself
-    (c.lay_out.ensures.phase _ _ (omega arith)) c.lay_out.ensures.size
-
-pub returns-clause-serves : goal.returns-clause-serves
-returns-clause-serves g c =
-    let d = c.in-DataOut.pending in
-    let most : ℕ = bytes_of c.args.wire.now.size in
-    let bytes = rw c.size.ensures at c.fill.ensures.bytes in
-    let ends = c.requires.ends d (sym c.in-DataOut.ensures.value) in
-    let last : d.due ≤ most = elim (cases_lt most d.due) [
-      | inl h ↦ ends (omega (arith, h, c.if-packet-min.false, c.min.ensures, c.bytes-most.ensures))
-      | inr h ↦ h
-    ] in
-    let whole : length c.args.packet.now ≡ d.due = omega (arith, last, c.if-packet-min.false, c.min.ensures, c.bytes-most.ensures) in
-    record {
-      takes = λ pending is left book fits.
-          let same : d ≡ pending = one_taking d pending (c.in-DataOut.ensures.value ∙ is) in
-          rw (← same) (proceeding_so _ _ _ _ _ _ _ _ book
-          (rw bytes at (c.carry_out.ensures.carried_out c.fill.new.buffer left book fits))
-          (last_packet most (length c.args.packet.now) d.due _ _ whole last)
-          (λ later moves. inr (inl (record {
-            size = whole;
-            last = last;
-            carried_out = moves;
-          }))));
-      rests = λ pending is book fits none.
-          let same : d ≡ pending = one_taking d pending (c.in-DataOut.ensures.value ∙ is) in
-          absurd ((rw (← same) at none) _ _ (record { size = whole; last = last; block_is = refl; taken_is = refl }));
-      spares = λ pending is book fits block taken carries.
-          let same : d ≡ pending = one_taking d pending (c.in-DataOut.ensures.value ∙ is) in
-          let spared = rw bytes at c.carry_out.ensures.spares in
-          let last_one = rw (← same) at carries in
-          rw (last_one.block_is, last_one.taken_is) (spared.0, spared.1, spared.2, spared.3 c.fill.new.buffer);
-    }
-
-pub returns-clause-passes : goal.returns-clause-passes
-returns-clause-passes g c =
-    let p = c.carry_out.ensures.passes in
-    let d = c.in-DataOut.pending in
-    let unit = c.args.unit.now in
-    let pending = c.requires.taking.0 in
-    let same : d ≡ pending = one_taking d pending (c.in-DataOut.ensures.value ∙ c.requires.taking.1) in
-    let taking = subst (λ (t : Taking). IsTaking (unit_limit unit) (intention_of unit) t) (sym same) c.requires.taking.2 in
-    record {
-      phase = p.phase;
-      limit = p.limit;
-      size = p.size;
-      few = p.few;
-      looks = log_alone _ _ unit d.exchange.command.block.items taking.sends_none p.looks;
-      elapses = p.elapses;
-      follows = p.follows;
-    }
+pub returns : goal.returns
+returns g c = record {
+  serves =
+      let d = c.in-DataOut.pending in
+      let most : ℕ = bytes_of c.args.wire.now.size in
+      let bytes = rw c.size.ensures at c.fill.ensures.bytes in
+      let ends = c.requires.ends d (sym c.in-DataOut.ensures.value) in
+      let last : d.due ≤ most = elim (cases_lt most d.due) [
+        | inl h ↦ ends (omega (arith, h, c.if-packet-min.false, c.min.ensures, c.bytes-most.ensures))
+        | inr h ↦ h
+      ] in
+      let whole : length c.args.packet.now ≡ d.due = omega (arith, last, c.if-packet-min.false, c.min.ensures, c.bytes-most.ensures) in
+      record {
+        takes = λ pending is left book fits.
+            let same : d ≡ pending = one_taking d pending (c.in-DataOut.ensures.value ∙ is) in
+            rw (← same) (proceeding_so _ _ _ _ _ _ _ _ book
+            (rw bytes at (c.carry_out.ensures.carried_out c.fill.new.buffer left book fits))
+            (last_packet most (length c.args.packet.now) d.due _ _ whole last)
+            (λ later moves. inr (inl (record {
+              size = whole;
+              last = last;
+              carried_out = moves;
+            }))));
+        rests = λ pending is book fits none.
+            let same : d ≡ pending = one_taking d pending (c.in-DataOut.ensures.value ∙ is) in
+            absurd ((rw (← same) at none) _ _ (record { size = whole; last = last; block_is = refl; taken_is = refl }));
+        spares = λ pending is book fits block taken carries.
+            let same : d ≡ pending = one_taking d pending (c.in-DataOut.ensures.value ∙ is) in
+            let spared = rw bytes at c.carry_out.ensures.spares in
+            let last_one = rw (← same) at carries in
+            rw (last_one.block_is, last_one.taken_is) (spared.0, spared.1, spared.2, spared.3 c.fill.new.buffer);
+      };
+  passes =
+      let p = c.carry_out.ensures.passes in
+      let d = c.in-DataOut.pending in
+      let unit = c.args.unit.now in
+      let pending = c.requires.taking.0 in
+      let same : d ≡ pending = one_taking d pending (c.in-DataOut.ensures.value ∙ c.requires.taking.1) in
+      let taking = subst (λ (t : Taking). IsTaking (unit_limit unit) (intention_of unit) t) (sym same) c.requires.taking.2 in
+      record {
+        phase = p.phase;
+        limit = p.limit;
+        size = p.size;
+        few = p.few;
+        looks = log_alone _ _ unit d.exchange.command.block.items taking.sends_none p.looks;
+        elapses = p.elapses;
+        follows = p.follows;
+      };
+}

@@ -8,4 +8,4 @@ returns-in-Rests-clause-goes_on c = λ device.
 pub returns-in-Runs-clause-goes_on : goal.returns-in-Runs-clause-goes_on
 returns-in-Runs-clause-goes_on c = λ device.
     rw c.in-Runs.is
-    (fails_disk device c.args.call c.in-Runs.disk c.fail-in-Runs.new.self c.fail-in-Runs.ensures.failing c.fail-in-Runs.ensures.others)
+    (fails_disk device c.args.call c.in-Runs.disk c.fail-in-Runs.new.self c.fail-in-Runs.ensures.armed.0 c.fail-in-Runs.ensures.others)

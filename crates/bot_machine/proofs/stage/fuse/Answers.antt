@@ -8,4 +8,4 @@ returns-in-Rests-clause-goes_on c = λ device.
 pub returns-in-Runs-clause-goes_on : goal.returns-in-Runs-clause-goes_on
 returns-in-Runs-clause-goes_on c = λ device.
     rw c.in-Runs.is
-    (arms_disk device c.args.writes c.in-Runs.disk c.fuse-in-Runs.new.self c.fuse-in-Runs.ensures.fused c.fuse-in-Runs.ensures.others)
+    (arms_disk device c.args.writes c.in-Runs.disk c.fuse-in-Runs.new.self c.fuse-in-Runs.ensures.armed c.fuse-in-Runs.ensures.others)

@@ -13,12 +13,12 @@ returns-clause-ok c =
 
 pub returns-clause-begun : goal.returns-clause-begun
 returns-clause-begun c = record {
-  started = c.play.ensures.started;
+  started = c.play.ensures.plays.started;
   stood = λ m was on. c.in_ok-start.ensures.begun.stood m was
-      (on_before (medium_in c.start.new.self.stage) (medium_in c.play.new.self.stage) c.play.ensures.follows on);
+      (on_before (medium_in c.start.new.self.stage) (medium_in c.play.new.self.stage) c.play.ensures.plays.follows on);
 }
 
 pub returns-clause-follows : goal.returns-clause-follows
 returns-clause-follows c =
     comes_after_through (medium_in c.args.self.now.stage) (medium_in c.start.new.self.stage) (medium_in c.play.new.self.stage)
-    c.in_ok-start.ensures.follows c.play.ensures.follows
+    c.in_ok-start.ensures.follows c.play.ensures.plays.follows
