@@ -13,7 +13,7 @@ use Rattle.spec.specs.declared.command.Command.{Command}
 use Rattle.spec.specs.declared.command.Command.TheVariants as command
 use Rattle.spec.specs.declared.command.Transfer.{Transfer}
 use Rattle.spec.specs.Rules.{moves_blocks, forces_reading, clears, selected_by, Intention}
-use Rattle.scsi_unit.specs.UnitValue.{UnitValue, unit_limit}
+use Rattle.scsi_unit.specs.UnitValue.{UnitValue, unit_limit, intention_of}
 use Rattle.scsi_unit.specs.Serving.{command_for}
 use Rattle.scsi_unit.specs.Reading.{read_of, LooksToRead}
 use Rattle.spec.specs.declared.intent.Intent.TheVariants as intent
@@ -103,3 +103,18 @@ pub record MakesFew {M : Type 0} (before after : State) (block taken : List ℕ)
 pub record SendsAsMeant (intention : Intention) (limit : ℕ) (result : Result ℕ Sense) : Type 0 where
   pub sent : (n : ℕ) → intention ≡ intent.In n → IfOk result (λ sent. sent ≡ n)
   pub most : IfOk result (λ sent. sent ≤ 512 * limit)
+
+-- the same, and the medium comes after what it was, by calls alone
+pub record SendsOver {M : Type 0} (Follows : M → M → Type 0) (intention : Intention)
+    (limit : ℕ) (result : Result ℕ Sense) (old new : M) : Type 0 where
+  pub sends : SendsAsMeant intention limit result
+  pub follows : Follows old new
+
+-- What carrying out a command block passes on: how many calls it made, how many bytes it sends, and
+-- the medium, which comes after what it was.
+pub record PassesOn {M : Type 0} (state : M → State) (Follows : M → M → Type 0)
+    (block taken : List ℕ) (old : UnitValue M) (result : Result ℕ Sense) (new : UnitValue M)
+    : Type 0 where
+  pub calls : MakesFew (state old.store.medium) (state new.store.medium) block taken old
+  pub sends : SendsAsMeant (intention_of old block) (unit_limit old) result
+  pub follows : Follows old.store.medium new.store.medium

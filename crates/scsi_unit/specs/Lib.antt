@@ -9,6 +9,7 @@ pub mod Laws
 pub mod Costs
 pub mod Serving
 pub mod Calls
+pub mod Asking
 pub mod Performing
 pub mod StoreCalls
 pub mod Reading

@@ -1,6 +1,6 @@
 -- What the unit's calls of the store do to its batches, its log and its medium.
 use Rattle.std.specs.Prelude.{◌≡◌, ◌⊎◌, ℕ, ◌+◌, ◌*◌, ◌<◌, ◌≤◌, Bool, true, false, List, take}
-use Rattle.std.specs.Prelude.{Result, OnOk, IfErr, MatchResult, is_ok, if◌then◌else◌}
+use Rattle.std.specs.Prelude.{Result, OnOk, IfOk, IfErr, MatchResult, is_ok, if◌then◌else◌}
 use Rattle.medium.specs.Medium.{State}
 use Rattle.blocks.specs.Background.{IsBackgroundStep}
 use Rattle.spec.specs.Book.{Book, array_of, blocks_at, promised, write_of}
@@ -10,7 +10,7 @@ use Rattle.medium.specs.Sent.{SendsUpTo}
 use Rattle.blocks.specs.Passing.{MayEmpty}
 use Rattle.blocks.specs.Sent.{batch_sends}
 use Rattle.blocks.specs.StoreValue.{Cached, StoreValue, transfer_limit, is_dead, active_of}
-use Rattle.blocks.specs.StoreValue.{batch_steps, steps_left, FitsBook, TakesRange}
+use Rattle.blocks.specs.StoreValue.{batch_steps, steps_left, FitsBook, FitsBeside, TakesRange}
 use Rattle.blocks.specs.Turns.{IsTurn, IsWriteTurn}
 use Rattle.spec.specs.Sense.{Sense}
 use Rattle.spec.specs.SenseCodes.{unrecovered_read_error, write_error}
@@ -84,3 +84,29 @@ pub record StepsBehind (before after : State) (old new : Cached) : Type 0 where
   pub left : is_dead new ≡ false
       → (steps_left new < steps_left old) ⊎ (steps_left old ≡ 0)
   pub active : MayEmpty (active_of old) (active_of new)
+
+-- What each call of the store passes on: where it is not wanted it does nothing and is good; ..
+pub record PassesDurable {M : Type 0} (Follows : M → M → Type 0) (wanted : Bool)
+    (old new : StoreValue M) (result : Result (Unit {0}) Sense) : Type 0 where
+  pub unwanted : wanted ≡ false → (new ≡ old) × (is_ok result ≡ true)
+  pub follows : ComesAfter Follows old new
+
+-- .. a good read gives all of its blocks; ..
+pub record PassesRead {M : Type 0} (Follows : M → M → Type 0) (transfer : Transfer)
+    (old new : StoreValue M) (result : Result ℕ Sense) : Type 0 where
+  pub sent : IfOk result (λ sent. sent ≡ 512 * transfer.count)
+  pub follows : ComesAfter Follows old new
+
+-- .. and a write that fits beside the active batch makes no call, and is good.
+pub record PassesWrite {M : Type 0} (Follows : M → M → Type 0) (transfer : Transfer)
+    (old new : StoreValue M) (result : Result (Unit {0}) Sense) : Type 0 where
+  pub quiet : FitsBeside (transfer_limit old.cached) (active_of old.cached) transfer.address
+      transfer.count
+      → (new.medium ≡ old.medium) × (is_ok result ≡ true)
+  pub follows : ComesAfter Follows old new
+
+-- a READ sends all of its blocks where it is good, and the medium comes after what it was
+pub record SendsRead {M : Type 0} (Follows : M → M → Type 0) (transfer : Transfer)
+    (old new : M) (result : Result ℕ Sense) : Type 0 where
+  pub sent : IfOk result (λ sent. sent ≡ 512 * transfer.count)
+  pub follows : Follows old new

@@ -1,6 +1,7 @@
 -- A logical unit over its store.
-use Rattle.std.specs.Prelude.{ℕ, Bool, List, take, Result, Ok, Err}
+use Rattle.std.specs.Prelude.{◌≡◌, ◌≤◌, ℕ, Bool, List, take, Result, Ok, Err}
 use Rattle.medium.specs.Medium.{State}
+use Rattle.medium.specs.Moments.{IsUnchanged}
 use Rattle.spec.specs.Waiting.{Waiting}
 use Rattle.spec.specs.Sense.{Sense}
 use Rattle.spec.specs.Identification.{Identification}
@@ -18,6 +19,12 @@ pub record UnitValue (M : Type 0) : Type 0 where
 -- the most blocks of one READ or WRITE of a unit
 abbrev pub unit_limit : {M : Type 0} → UnitValue M → ℕ
 unit_limit unit = transfer_limit unit.store.cached
+
+-- how many blocks a unit tells that one READ or WRITE moves at most
+pub record TellsLimit {M : Type 0} (unit : UnitValue M) (limit : ℕ) : Type 0 where
+  pub is : limit ≡ unit_limit unit
+  pub least : 48 ≤ limit
+  pub most : limit ≤ 240
 
 -- the state of a unit, with a book of its life; it is faulted where its store is dead
 abbrev pub state_of : {M : Type 0} → UnitValue M → Book → UnitState
@@ -44,3 +51,12 @@ intention_of unit block =
 abbrev pub answer_of : Result ℕ Sense → List ℕ → Result (List ℕ) Sense
 answer_of (Ok sent) out = Ok (take sent out)
 answer_of (Err sense) out = Err sense
+
+-- the medium is armed so: nothing else of the unit changes, and it fits what it fitted before
+pub record ArmsUnit {M : Type 0} (state : M → State) (Arms : M → M → Type 0)
+    (old new : UnitValue M) : Type 0 where
+  pub armed : Arms old.store.medium new.store.medium
+  pub unchanged : IsUnchanged (state old.store.medium) (state new.store.medium)
+  pub others : new ≡ record old { store = record old.store { medium = new.store.medium } }
+  pub fits : (book : Book) → FitsUnit (state old.store.medium) old book
+      → FitsUnit (state new.store.medium) new book

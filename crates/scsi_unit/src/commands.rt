@@ -1,19 +1,18 @@
 //! Commands, each by its own function.
-ghost use Rattle.std.specs.Prelude.{◌≡◌, ◌<◌, ◌≤◌, ◌+◌, ◌*◌, ◌&&◌, ℕ, List, false, [], length};
+ghost use Rattle.std.specs.Prelude.{◌≡◌, ◌≤◌, ◌*◌, ℕ, List, [], length};
 ghost use Rattle.std.specs.Prelude.{take, min, unwrap_or, IfOk, Ok};
-ghost use Rattle.blocks.specs.StoreValue.{blocks_of, is_dead};
 ghost use Rattle.spec.specs.FixedSense.{fixed_sense};
 ghost use Rattle.spec.specs.Waiting.{reported, after_report};
-ghost use Rattle.cdb.specs.Supported.{IsSupported, HasModePage};
+ghost use Rattle.cdb.specs.Supported.{HasModePage};
 ghost use Rattle.spec.specs.Inquiry.{inquiry_data, inquiry_size};
 ghost use Rattle.spec.specs.ModePage.{mode_data};
-ghost use Rattle.spec.specs.declared.intent.Intent.TheVariants as intent;
 ghost use Rattle.spec.specs.Capacity.{capacity_10, capacity_16};
-ghost use Rattle.spec.specs.Rules.{needs_medium, moves};
+ghost use Rattle.spec.specs.Rules.{moves};
 ghost use Rattle.scsi_unit.specs.UnitValue.{unit_limit, intention_of, answer_of};
 ghost use Rattle.scsi_unit.specs.Serving.{command_for};
 ghost use Rattle.scsi_unit.specs.Reading.{read_of};
-ghost use Rattle.scsi_unit.specs.Calls.{calls_of, MakesAtMost, MakesFew, SendsAsMeant};
+ghost use Rattle.scsi_unit.specs.Asking.{CanCarryOut, CanPerform};
+ghost use Rattle.scsi_unit.specs.Calls.{calls_of, MakesAtMost, MakesFew, SendsOver};
 ghost use Rattle.scsi_unit.specs.Performing.{Performs, Spares, silent};
 
 use crate::Unit;
@@ -77,10 +76,7 @@ impl<M: Medium> Unit<M> {
         taken: &[u8],
         out: &mut [u8],
     ) -> Result<usize, Sense>
-        requires some { 0 < length block.now }
-        requires taken { (n : ℕ) → intention_of self.old block.now ≡ intent.Out n
-            → length taken.now ≡ n }
-        requires room { length out.old ≡ 512 * unit_limit self.old }
+        requires { CanCarryOut self.old block.now taken.now out.old }
         ensures performs { Performs (M.state self.old.store.medium)
             (M.state self.new.store.medium) (command_for self.old block.now) taken.now self.old
             (answer_of result out.new) self.new }
@@ -89,9 +85,8 @@ impl<M: Medium> Unit<M> {
             (answer_of result out.new) self.new }
         ensures calls { MakesFew (M.state self.old.store.medium)
             (M.state self.new.store.medium) block.now taken.now self.old }
-        ensures sends { SendsAsMeant (intention_of self.old block.now) (unit_limit self.old)
-            result }
-        ensures follows { M.follows self.old.store.medium self.new.store.medium }
+        ensures sends { SendsOver M.follows (intention_of self.old block.now) (unit_limit self.old)
+            result self.old.store.medium self.new.store.medium }
     {
         let command = self.command(block)?;
         self.perform(command, taken, out)
@@ -100,11 +95,7 @@ impl<M: Medium> Unit<M> {
     // Performs a command.
     #[tactic(auto, using(crate::proofs::Looking::no_calls))]
     fn perform(&mut self, command: Command, taken: &[u8], out: &mut [u8]) -> Result<usize, Sense>
-        requires served { (is_dead self.old.store.cached && needs_medium command) ≡ false }
-        requires supported { IsSupported (blocks_of self.old.store.cached) (unit_limit self.old)
-            command }
-        requires taken { (n : ℕ) → moves command ≡ intent.Out n → length taken.now ≡ n }
-        requires room { length out.old ≡ 512 * unit_limit self.old }
+        requires { CanPerform self.old command taken.now out.old }
         ensures performs { Performs (M.state self.old.store.medium)
             (M.state self.new.store.medium) (Ok command) taken.now self.old
             (answer_of result out.new) self.new }
@@ -113,9 +104,10 @@ impl<M: Medium> Unit<M> {
             (answer_of result out.new) self.new }
         ensures bounded { MakesAtMost
             (calls_of command taken.now self.old.write_cache self.old.store.cached)
-            (read_of (Ok command)) (M.state self.old.store.medium) (M.state self.new.store.medium) self.old }
-        ensures sends { SendsAsMeant (moves command) (unit_limit self.old) result }
-        ensures follows { M.follows self.old.store.medium self.new.store.medium }
+            (read_of (Ok command)) (M.state self.old.store.medium)
+            (M.state self.new.store.medium) self.old }
+        ensures sends { SendsOver M.follows (moves command) (unit_limit self.old) result
+            self.old.store.medium self.new.store.medium }
     {
         match command {
             Command::TestUnitReady => Ok(0),

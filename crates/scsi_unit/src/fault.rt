@@ -9,10 +9,10 @@ use medium::Medium;
 use sense::Sense;
 
 impl<M: Medium> Unit<M> {
-    /// Faults the unit: the device behind its medium refused a call that it had taken. Commands that
-    /// need the medium fail from then on with an internal target failure, and none makes a call of
-    /// it. Where a good status is taken back that was not yet sent, a write error is kept for
-    /// REQUEST SENSE, as of a command that failed.
+    /// Faults the unit: the device behind its medium refused a call that it had taken. Commands
+    /// that need the medium fail from then on with an internal target failure, and none makes a
+    /// call of it. Where a good status is taken back that was not yet sent, a write error is kept
+    /// for REQUEST SENSE, as of a command that failed.
     pub fn fault(&mut self, taken_back: bool)
         ensures unit { self.new ≡ faulted_unit taken_back self.old }
         ensures by_rules { (book : Book) → state_of self.new book

@@ -1,14 +1,15 @@
 //! The commands that use the store.
-ghost use Rattle.std.specs.Prelude.{◌≡◌, ◌≤◌, ◌+◌, ◌*◌, ℕ, false, List, length, None, Ok, IfOk};
-ghost use Rattle.blocks.specs.StoreValue.{blocks_of, is_dead};
-ghost use Rattle.cdb.specs.Supported.{IsWithin};
+ghost use Rattle.std.specs.Prelude.{◌≡◌, ℕ, false, List, None, Ok};
+ghost use Rattle.blocks.specs.StoreValue.{is_dead};
 ghost use Rattle.spec.specs.declared.command.BlockRange.{BlockRange};
 ghost use Rattle.spec.specs.declared.command.Command.TheVariants as command;
-ghost use Rattle.scsi_unit.specs.UnitValue.{unit_limit, answer_of};
+ghost use Rattle.scsi_unit.specs.UnitValue.{answer_of};
+ghost use Rattle.scsi_unit.specs.Asking.{CanRead, CanWrite, CanSelect};
 ghost use Rattle.scsi_unit.specs.Calls.{calls_of_sync, calls_of_read, calls_of_write, calls_of};
 ghost use Rattle.scsi_unit.specs.Calls.{MakesAtMost};
 ghost use Rattle.scsi_unit.specs.Performing.{Performs, Spares, silent};
 ghost use Rattle.scsi_unit.specs.Reading.{some_read};
+ghost use Rattle.scsi_unit.specs.StoreCalls.{SendsRead};
 
 use crate::Unit;
 use crate::store_calls::{make_durable, read_blocks, write_blocks};
@@ -21,10 +22,7 @@ impl<M: Medium> Unit<M> {
     /// READ: with FUA all accepted writes are made durable first.
     #[tactic(auto, using(crate::proofs::Looking::no_calls))]
     pub(crate) fn read(&mut self, transfer: Transfer, out: &mut [u8]) -> Result<usize, Sense>
-        requires live { is_dead self.old.store.cached ≡ false }
-        requires within { IsWithin (blocks_of self.old.store.cached) (unit_limit self.old)
-            transfer }
-        requires room { length out.old ≡ 512 * unit_limit self.old }
+        requires { CanRead self.old transfer out.old }
         ensures performs { (taken : List ℕ) → Performs (M.state self.old.store.medium)
             (M.state self.new.store.medium) (Ok (command.Read10 transfer)) taken self.old
             (answer_of result out.new) self.new }
@@ -34,8 +32,8 @@ impl<M: Medium> Unit<M> {
         ensures bounded { MakesAtMost (calls_of_read transfer self.old.store.cached)
             (some_read transfer) (M.state self.old.store.medium) (M.state self.new.store.medium)
             self.old }
-        ensures sent { IfOk result (λ sent. sent ≡ 512 * transfer.count) }
-        ensures follows { M.follows self.old.store.medium self.new.store.medium }
+        ensures sends { SendsRead M.follows transfer self.old.store.medium self.new.store.medium
+            result }
     {
         if transfer.count == 0 {
             return Ok(0);
@@ -47,10 +45,7 @@ impl<M: Medium> Unit<M> {
     /// WRITE: with FUA, or without the write cache, all accepted writes are made durable.
     #[tactic(auto, using(crate::proofs::Looking::no_calls))]
     pub(crate) fn write(&mut self, transfer: Transfer, taken: &[u8]) -> Result<(), Sense>
-        requires live { is_dead self.old.store.cached ≡ false }
-        requires within { IsWithin (blocks_of self.old.store.cached) (unit_limit self.old)
-            transfer }
-        requires taken { 512 * transfer.count ≤ length taken.now }
+        requires { CanWrite self.old transfer taken.now }
         ensures performs { Performs (M.state self.old.store.medium)
             (M.state self.new.store.medium) (Ok (command.Write10 transfer)) taken.now self.old
             (silent result) self.new }
@@ -89,8 +84,7 @@ impl<M: Medium> Unit<M> {
     /// MODE SELECT: WCE goes from 1 to 0 when all accepted writes are durable.
     #[tactic(auto, using(crate::proofs::Looking::no_calls))]
     pub(crate) fn select(&mut self, list_len: u8, taken: &[u8]) -> Result<(), Sense>
-        requires live { is_dead self.old.store.cached ≡ false }
-        requires taken { list_len ≤ length taken.now }
+        requires { CanSelect self.old list_len taken.now }
         ensures performs { Performs (M.state self.old.store.medium)
             (M.state self.new.store.medium) (Ok (command.ModeSelect list_len)) taken.now self.old
             (silent result) self.new }

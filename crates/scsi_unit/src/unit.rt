@@ -1,6 +1,6 @@
 //! A unit over its store.
-ghost use Rattle.std.specs.Prelude.{◌≡◌, ◌<◌, ◌≤◌, ◌+◌, ◌*◌, ◌/◌, ℕ, List, None, false, true};
-ghost use Rattle.std.specs.Prelude.{length, ◌↔◌, IfOk, IsTrue};
+ghost use Rattle.std.specs.Prelude.{◌≡◌, ◌<◌, ◌≤◌, ◌*◌, ◌/◌, ℕ, List, None, false, true, length};
+ghost use Rattle.std.specs.Prelude.{◌↔◌, IsTrue};
 ghost use Rattle.inlet.specs.Inlet.{AreHeld};
 ghost use Rattle.medium.specs.Moments.{EachCut, IsUnchanged};
 ghost use Rattle.spec.specs.Book.{Book};
@@ -9,11 +9,12 @@ ghost use Rattle.blocks.specs.Settled.{IsSettled};
 ghost use Rattle.blocks.specs.StoreValue.{is_dead, steps_left, HasLimits, FitsBook};
 ghost use Rattle.spec.specs.Rules.{opened_unit, intention};
 ghost use Rattle.scsi_unit.specs.UnitValue.{unit_limit, state_of, intention_of, answer_of};
-ghost use Rattle.scsi_unit.specs.UnitValue.{FitsUnit};
+ghost use Rattle.scsi_unit.specs.UnitValue.{FitsUnit, TellsLimit, ArmsUnit};
 ghost use Rattle.spec.specs.declared.intent.Intent.TheVariants as intent;
 ghost use Rattle.blocks.specs.Limit.{HasLimit};
+ghost use Rattle.scsi_unit.specs.Asking.{CanCarryOut};
 ghost use Rattle.scsi_unit.specs.Serving.{Serves, IsSparing, TicksOver};
-ghost use Rattle.scsi_unit.specs.Calls.{MakesFew, SendsAsMeant};
+ghost use Rattle.scsi_unit.specs.Calls.{PassesOn};
 ghost use Rattle.scsi_unit.specs.Performing.{settled_kept};
 
 use crate::Intent;
@@ -71,9 +72,7 @@ impl<M: Medium> Unit<M> {
 
     /// How many blocks one READ or WRITE moves at most. No call changes it.
     pub fn limit(&self) -> u32
-        ensures is { result ≡ unit_limit self.now }
-        ensures least { 48 ≤ result }
-        ensures most { result ≤ 240 }
+        ensures { TellsLimit self.now result }
     {
         self.store.limit()
     }
@@ -103,20 +102,13 @@ impl<M: Medium> Unit<M> {
     ///
     /// The sense with which the command fails, which is kept for REQUEST SENSE.
     pub fn carry_out(&mut self, block: &[u8], taken: &[u8], out: &mut [u8]) -> Result<usize, Sense>
-        requires some { 0 < length block.now }
-        requires taken { (n : ℕ) → intention_of self.old block.now ≡ intent.Out n
-            → length taken.now ≡ n }
-        requires room { length out.old ≡ 512 * unit_limit self.old }
+        requires { CanCarryOut self.old block.now taken.now out.old }
         ensures serves { Serves (M.state self.old.store.medium) (M.state self.new.store.medium)
             block.now taken.now self.old (answer_of result out.new) self.new }
         ensures sparing { IsSparing (M.state self.old.store.medium)
             (M.state self.new.store.medium) block.now taken.now self.old
             (answer_of result out.new) self.new }
-        ensures calls { MakesFew (M.state self.old.store.medium)
-            (M.state self.new.store.medium) block.now taken.now self.old }
-        ensures sends { SendsAsMeant (intention_of self.old block.now) (unit_limit self.old)
-            result }
-        ensures follows { M.follows self.old.store.medium self.new.store.medium }
+        ensures passes { PassesOn M.state M.follows block.now taken.now self.old result self.new }
     {
         let answer = self.perform_block(block, taken, out);
         settle(&mut self.kept, &answer);
@@ -180,14 +172,7 @@ impl<M: Medium> Unit<M> {
 impl<M: Switch> Unit<M> {
     /// Arms a fuse of the medium.
     pub fn fuse(&mut self, writes: u64)
-        ensures fused { M.fused writes self.old.store.medium self.new.store.medium }
-        ensures unchanged { IsUnchanged (M.state self.old.store.medium)
-            (M.state self.new.store.medium) }
-        ensures others { self.new ≡ record self.old {
-          store = record self.old.store { medium = self.new.store.medium };
-        } }
-        ensures fits { (book : Book) → FitsUnit (M.state self.old.store.medium) self.old book
-            → FitsUnit (M.state self.new.store.medium) self.new book }
+        ensures { ArmsUnit M.state (M.fused writes) self.old self.new }
     {
         self.store.fuse(writes);
     }
@@ -195,15 +180,8 @@ impl<M: Switch> Unit<M> {
     /// Arms a failure of one call of the medium.
     pub fn fail(&mut self, call: u64)
         requires { 0 < call }
-        ensures failing { M.failing call self.old.store.medium self.new.store.medium }
-        ensures follows { M.follows self.old.store.medium self.new.store.medium }
-        ensures unchanged { IsUnchanged (M.state self.old.store.medium)
-            (M.state self.new.store.medium) }
-        ensures others { self.new ≡ record self.old {
-          store = record self.old.store { medium = self.new.store.medium };
-        } }
-        ensures fits { (book : Book) → FitsUnit (M.state self.old.store.medium) self.old book
-            → FitsUnit (M.state self.new.store.medium) self.new book }
+        ensures { ArmsUnit M.state (λ old new. M.failing call old new × M.follows old new)
+            self.old self.new }
     {
         self.store.fail(call);
     }
@@ -212,14 +190,7 @@ impl<M: Switch> Unit<M> {
 impl<M: Outlet> Unit<M> {
     /// Lets go of the call that the medium's device is to carry out next, if there is one.
     pub fn give(&mut self)
-        ensures given { M.given self.old.store.medium self.new.store.medium }
-        ensures unchanged { IsUnchanged (M.state self.old.store.medium)
-            (M.state self.new.store.medium) }
-        ensures others { self.new ≡ record self.old {
-          store = record self.old.store { medium = self.new.store.medium };
-        } }
-        ensures fits { (book : Book) → FitsUnit (M.state self.old.store.medium) self.old book
-            → FitsUnit (M.state self.new.store.medium) self.new book }
+        ensures { ArmsUnit M.state M.given self.old self.new }
     {
         self.store.give();
     }

@@ -20,10 +20,10 @@ returns-in-Ok-clause-carried_out g c = λ taken left book fits.
       answer = Ok (take c.in-Ok.size out);
       effect = line.1;
       moved = λ n intended.
-          let size = rw c.as_slice.ensures.value at c.in-Ok.ensures.sends.sent in
-          omega (arith, size n (c.requires.can.sends n intended), c.in-Ok.ensures.sends.most, length-take c.in-Ok.size out);
+          let size = rw c.as_slice.ensures.value at c.in-Ok.ensures.passes.sends.sent in
+          omega (arith, size n (c.requires.can.sends n intended), c.in-Ok.ensures.passes.sends.most, length-take c.in-Ok.size out);
       after = rw (c.size_sent-size.ensures.is, ← sent_in-size _ (some_bytes c.args.wire.now.size) c.args.exchange.now.case c.in-Ok.size out)
-          at (c.tell.ensures.line taken out left (omega (arith, c.in-Ok.ensures.sends.most)));
+          at (c.tell.ensures.line taken out left (omega (arith, c.in-Ok.ensures.passes.sends.most)));
     })
     line.2 (ours_stay _ _ _ _ _ _ line.1)
     (rw c.as_slice.ensures.value at (c.in-Ok.ensures.serves.cuts book fits))
@@ -33,9 +33,9 @@ returns-in-Ok-clause-spares g c =
     let out = c.carry_out.new.out in (
       Ok (take c.in-Ok.size out),
       rw c.as_slice.ensures.value at c.in-Ok.ensures.sparing,
-      rw c.as_slice.ensures.value at c.in-Ok.ensures.calls.bounded,
+      rw c.as_slice.ensures.value at c.in-Ok.ensures.passes.calls.bounded,
       (λ taken. tells (Ok (take c.in-Ok.size out)) _ _ _ _ _ (line_with c.args.wire.now finished)
-          (c.tell.ensures.line taken out finished (omega (arith, c.in-Ok.ensures.sends.most)))),
+          (c.tell.ensures.line taken out finished (omega (arith, c.in-Ok.ensures.passes.sends.most)))),
     )
 
 pub returns-in-Ok-clause-passes : goal.returns-in-Ok-clause-passes
@@ -43,19 +43,19 @@ returns-in-Ok-clause-passes g c =
     let serves = c.in-Ok.ensures.serves in
     let stays = serves.limit_stays in
     record {
-      phase = c.tell.ensures.phase _ _ (omega (arith, stays, c.in-Ok.ensures.sends.most));
+      phase = c.tell.ensures.phase _ _ (omega (arith, stays, c.in-Ok.ensures.passes.sends.most));
       limit = stays;
       size = c.tell.ensures.size;
       few = record {
-        calls = c.in-Ok.ensures.calls.few;
-        sent = c.in-Ok.ensures.calls.sent;
+        calls = c.in-Ok.ensures.passes.calls.few;
+        sent = c.in-Ok.ensures.passes.calls.sent;
         layout_stays = serves.layout_stays;
         policy_stays = serves.policy_stays;
         faulted = faulted_rests g.M.Medium.state _ _ _ _ _ c.in-Ok.ensures.sparing;
       };
-      looks = rw c.as_slice.ensures.value at c.in-Ok.ensures.calls.looks;
+      looks = rw c.as_slice.ensures.value at c.in-Ok.ensures.passes.calls.looks;
       elapses = record { failures_stay = serves.failures_stay; size_stays = serves.size_stays };
-      follows = c.in-Ok.ensures.follows;
+      follows = c.in-Ok.ensures.passes.follows;
     }
 
 pub returns-in-Err-clause-carried_out : goal.returns-in-Err-clause-carried_out
@@ -77,7 +77,7 @@ returns-in-Err-clause-spares g c =
     let out = c.carry_out.new.out in (
       Err c.in-Err.field-0,
       rw c.as_slice.ensures.value at c.in-Err.ensures.sparing,
-      rw c.as_slice.ensures.value at c.in-Err.ensures.calls.bounded,
+      rw c.as_slice.ensures.value at c.in-Err.ensures.passes.calls.bounded,
       (λ taken. tells (Err c.in-Err.field-0) _ _ _ _ _ (line_with c.args.wire.now finished)
           (c.tell-in-Err.ensures.line taken out finished (omega arith))),
     )
@@ -90,13 +90,13 @@ returns-in-Err-clause-passes g c =
       limit = serves.limit_stays;
       size = c.tell-in-Err.ensures.size;
       few = record {
-        calls = c.in-Err.ensures.calls.few;
-        sent = c.in-Err.ensures.calls.sent;
+        calls = c.in-Err.ensures.passes.calls.few;
+        sent = c.in-Err.ensures.passes.calls.sent;
         layout_stays = serves.layout_stays;
         policy_stays = serves.policy_stays;
         faulted = faulted_rests g.M.Medium.state _ _ _ _ _ c.in-Err.ensures.sparing;
       };
-      looks = rw c.as_slice.ensures.value at c.in-Err.ensures.calls.looks;
+      looks = rw c.as_slice.ensures.value at c.in-Err.ensures.passes.calls.looks;
       elapses = record { failures_stay = serves.failures_stay; size_stays = serves.size_stays };
-      follows = c.in-Err.ensures.follows;
+      follows = c.in-Err.ensures.passes.follows;
     }

@@ -1,4 +1,4 @@
-use Rattle.std.proofs.Common.{◌≡◌, ◌*◌, ℕ, List, [], Ok, refl, subst, sym, ◌∙◌, ap, length, take}
+use Rattle.std.proofs.Common.{◌≡◌, ◌*◌, ℕ, Bool, true, false, List, [], Ok, refl, subst, sym, ◌∙◌, ap, length, take}
 use Rattle.spec.specs.declared.command.Command.{Command}
 use Rattle.spec.specs.declared.command.Command.TheVariants as command
 use Rattle.spec.specs.declared.intent.Intent.TheVariants as intent
@@ -6,27 +6,55 @@ use Rattle.spec.specs.Rules.{moves, gives}
 use Rattle.scsi_unit.specs.UnitValue.{UnitValue, state_of, answer_of}
 use Rattle.spec.specs.Capacity.{capacity_10, capacity_16}
 use Rattle.spec.specs.ModePage.{mode_data}
-use Rattle.blocks.specs.StoreValue.{blocks_of}
+use Rattle.std.specs.Prelude.{◌&&◌}
+use Rattle.blocks.specs.StoreValue.{blocks_of, is_dead}
 use Rattle.scsi_unit.specs.Performing.{Performs, Spares, silent}
 use Rattle.scsi_unit.proofs.Performing.{takes_enough, sends_data, reports_sense, reads_16, writes_16, synchronizes_16, answer_at}
 use Rattle.scsi_unit.proofs.Performing.{take-capacity_10, performs_silently, spares_silently}
 use Rattle.scsi_unit.proofs.Sparing.{spares_reading_16, spares_writing_16, spares_synchronizing_16}
 use Rattle.scsi_unit.proofs.unit.Unit.perform.Goals as goal
 
-pub select-requires-clause-taken : goal.select-requires-clause-taken
-select-requires-clause-taken g c =
-    takes_enough c.in-ModeSelect.length c.args.taken.now
-    (subst (λ (cmd : Command). (n : ℕ) → moves cmd ≡ intent.Out n → length c.args.taken.now ≡ n) c.in-ModeSelect.is c.requires.taken)
+-- a command that needs the medium and is served finds it live
+served_live : (dead : Bool) → (dead && true) ≡ false → dead ≡ false
+served_live true served = served
+served_live false served = refl
 
-pub write-requires-clause-taken : goal.write-requires-clause-taken
-write-requires-clause-taken g c =
-    takes_enough (512 * c.in-Write10.transfer.count) c.args.taken.now
-    (subst (λ (cmd : Command). (n : ℕ) → moves cmd ≡ intent.Out n → length c.args.taken.now ≡ n) c.in-Write10.is c.requires.taken)
+pub read-requires : goal.read-requires
+read-requires g c = record {
+  live = served_live (is_dead c.args.self.now.store.cached) (rw c.in-Read10.is at c.requires.served);
+  within = rw c.in-Read10.is at c.requires.supported;
+  room = c.requires.room;
+}
 
-pub write-requires-in-Write16-clause-taken : goal.write-requires-in-Write16-clause-taken
-write-requires-in-Write16-clause-taken g c =
-    takes_enough (512 * c.in-Write16.transfer.count) c.args.taken.now
-    (subst (λ (cmd : Command). (n : ℕ) → moves cmd ≡ intent.Out n → length c.args.taken.now ≡ n) c.in-Write16.is c.requires.taken)
+pub read-requires-in-Read16 : goal.read-requires-in-Read16
+read-requires-in-Read16 g c = record {
+  live = served_live (is_dead c.args.self.now.store.cached) (rw c.in-Read16.is at c.requires.served);
+  within = rw c.in-Read16.is at c.requires.supported;
+  room = c.requires.room;
+}
+
+pub select-requires : goal.select-requires
+select-requires g c = record {
+  live = served_live (is_dead c.args.self.now.store.cached) (rw c.in-ModeSelect.is at c.requires.served);
+  taken_all = takes_enough c.in-ModeSelect.length c.args.taken.now
+      (subst (λ (cmd : Command). (n : ℕ) → moves cmd ≡ intent.Out n → length c.args.taken.now ≡ n) c.in-ModeSelect.is c.requires.taken_all);
+}
+
+pub write-requires : goal.write-requires
+write-requires g c = record {
+  live = served_live (is_dead c.args.self.now.store.cached) (rw c.in-Write10.is at c.requires.served);
+  within = rw c.in-Write10.is at c.requires.supported;
+  taken_all = takes_enough (512 * c.in-Write10.transfer.count) c.args.taken.now
+      (subst (λ (cmd : Command). (n : ℕ) → moves cmd ≡ intent.Out n → length c.args.taken.now ≡ n) c.in-Write10.is c.requires.taken_all);
+}
+
+pub write-requires-in-Write16 : goal.write-requires-in-Write16
+write-requires-in-Write16 g c = record {
+  live = served_live (is_dead c.args.self.now.store.cached) (rw c.in-Write16.is at c.requires.served);
+  within = rw c.in-Write16.is at c.requires.supported;
+  taken_all = takes_enough (512 * c.in-Write16.transfer.count) c.args.taken.now
+      (subst (λ (cmd : Command). (n : ℕ) → moves cmd ≡ intent.Out n → length c.args.taken.now ≡ n) c.in-Write16.is c.requires.taken_all);
+}
 
 pub returns-in-TestUnitReady-clause-performs : goal.returns-in-TestUnitReady-clause-performs
 returns-in-TestUnitReady-clause-performs g c =

@@ -1,5 +1,6 @@
 use Rattle.std.proofs.Common.{sym, ◌∙◌}
-use Rattle.std.proofs.lemmas.Result.{err_from_is_err_and}
+use Rattle.std.proofs.lemmas.Result.{err_from_is_err_and, IfOk-at_ok}
+use Rattle.cdb.specs.Supported.{IsSupported}
 use Rattle.blocks.specs.StoreValue.{blocks_of, is_dead}
 use Rattle.scsi_unit.specs.UnitValue.{unit_limit}
 use Rattle.scsi_unit.specs.Calls.{most_calls}
@@ -17,27 +18,33 @@ returns-in_err-command-clause-performs g c =
     (refuses (g.M.Medium.state unit.store.medium) (g.met.M.Medium.sound unit.store.medium) unit _ c.args.taken.now
     c.in_err-command.field-0.0 told)
 
-pub perform-requires-clause-served : goal.perform-requires-clause-served
-perform-requires-clause-served g c =
+pub perform-requires : goal.perform-requires
+perform-requires g c =
     let unit = c.args.self.now in
-    (passed_by (blocks_of unit.store.cached) (unit_limit unit) unit.kept.attention (is_dead unit.store.cached) c.args.block.now
-    c.in_ok-command.command (sym c.command.ensures.value ∙ c.in_ok-command.was)).1
-
-pub perform-requires-clause-taken : goal.perform-requires-clause-taken
-perform-requires-clause-taken g c n out =
-    let unit = c.args.self.now in
-    c.requires.taken n
-    (intention_of_command (blocks_of unit.store.cached) (unit_limit unit) unit.kept.attention (is_dead unit.store.cached)
-    c.args.block.now c.in_ok-command.command (sym c.command.ensures.value ∙ c.in_ok-command.was) ∙ out)
+    let cached = unit.store.cached in
+    let is = sym c.command.ensures.value ∙ c.in_ok-command.was in
+    let attention = unit.kept.attention in
+    let block = c.args.block.now in
+    let command = c.in_ok-command.command in
+    record {
+      served = (passed_by (blocks_of cached) (unit_limit unit) attention (is_dead cached) block command is).1;
+      supported = IfOk-at_ok (IsSupported (blocks_of cached) (unit_limit unit)) c.in_ok-command.was c.command.ensures.supported;
+      taken_all = λ n out. c.requires.taken_all n
+          (intention_of_command (blocks_of cached) (unit_limit unit) attention (is_dead cached) block command is ∙ out);
+      room = c.requires.room;
+    }
 
 pub returns-clause-sends : goal.returns-clause-sends
 returns-clause-sends g c =
     let unit = c.args.self.now in
     record {
-      sent = λ n is_in. c.perform.ensures.sends.sent n
-          (sym (intention_of_command (blocks_of unit.store.cached) (unit_limit unit) unit.kept.attention (is_dead unit.store.cached)
-          c.args.block.now c.in_ok-command.command (sym c.command.ensures.value ∙ c.in_ok-command.was)) ∙ is_in);
-      most = c.perform.ensures.sends.most;
+      sends = record {
+        sent = λ n is_in. c.perform.ensures.sends.sends.sent n
+            (sym (intention_of_command (blocks_of unit.store.cached) (unit_limit unit) unit.kept.attention (is_dead unit.store.cached)
+            c.args.block.now c.in_ok-command.command (sym c.command.ensures.value ∙ c.in_ok-command.was)) ∙ is_in);
+        most = c.perform.ensures.sends.sends.most;
+      };
+      follows = c.perform.ensures.sends.follows;
     }
 
 pub returns-clause-calls : goal.returns-clause-calls

@@ -31,7 +31,7 @@ returns-in_err-make_durable-clause-performs g c taken =
     subst P c.self.view_is
     (rw (p.1, p.2)
     (durable_error (state i.store.medium) (state last.medium) seen last c.make_durable.ensures.makes.turn c.args.transfer.fua
-    c.make_durable.result sense c.in_err-make_durable.was c.make_durable.ensures.unwanted c.make_durable.ensures.makes.answer live
+    c.make_durable.result sense c.in_err-make_durable.was c.make_durable.ensures.passes.unwanted c.make_durable.ensures.makes.answer live
     (command.Read10 c.args.transfer) taken refl
     (forces_as c.args.transfer (moves_some c.args.transfer c.if-transfer-eq0.false))))
 
@@ -50,7 +50,8 @@ returns-clause-performs g c taken =
     (reads_blocks_of (state i.store.medium) (state half.medium) (state last.medium) seen half last live c.make_durable.ensures.makes.turn
     c.read_blocks.ensures.reads.turn c.args.transfer.fua c.make_durable.result c.in_ok-make_durable.field-0 c.in_ok-make_durable.was
     c.make_durable.ensures.makes.ok c.make_durable.ensures.makes.answer c.read_blocks.ensures.reads.stays c.args.transfer taken moves refl
-    c.read_blocks.result c.read_blocks.new.out c.read_blocks.ensures.reads.ok c.read_blocks.ensures.sent c.read_blocks.ensures.reads.err)
+    c.read_blocks.result c.read_blocks.new.out c.read_blocks.ensures.reads.ok c.read_blocks.ensures.passes.sent
+    c.read_blocks.ensures.reads.err)
 
 pub returns-in_err-make_durable-clause-bounded : goal.returns-in_err-make_durable-clause-bounded
 returns-in_err-make_durable-clause-bounded g c =
@@ -81,7 +82,7 @@ returns-clause-bounded g c =
     (record {
       calls = read_ends c.args.transfer i.store.cached half.cached (state i.store.medium).calls (state half.medium).calls
           (state last.medium).calls (moves_some c.args.transfer c.if-transfer-eq0.false) c.make_durable.ensures.makes.calls
-          (λ plain. ap (λ (s : StoreValue g.row.M.Denot). s.cached) (c.make_durable.ensures.unwanted plain).0)
+          (λ plain. ap (λ (s : StoreValue g.row.M.Denot). s.cached) (c.make_durable.ensures.passes.unwanted plain).0)
           c.make_durable.ensures.makes.turn.goes_on.layout_stays c.read_blocks.ensures.reads.calls;
       sent = omega (arith, c.make_durable.ensures.makes.sent, c.read_blocks.ensures.reads.sent);
       looks = read_looked (state i.store.medium) (state half.medium) (state last.medium) seen half.cached c.args.transfer

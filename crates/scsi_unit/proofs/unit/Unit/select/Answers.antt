@@ -49,7 +49,7 @@ returns-in_err-make_durable-clause-performs g c =
     subst P c.self.view_is
     (rw (p.1, p.2)
     (durable_error (state i.store.medium) (state last.medium) seen last c.make_durable.ensures.makes.turn c.if-self.clears
-    c.make_durable.result c.in_err-make_durable.field-0.0 c.in_err-make_durable.was c.make_durable.ensures.unwanted
+    c.make_durable.result c.in_err-make_durable.field-0.0 c.in_err-make_durable.was c.make_durable.ensures.passes.unwanted
     c.make_durable.ensures.makes.answer live (command.ModeSelect c.args.list_len) c.args.taken.now refl
     (clears_as c.args.list_len c.args.taken.now i.write_cache c.in_ok-enabled.enabled chosen ∙ sym wanted)))
 

@@ -129,7 +129,7 @@ returns-clause-spares g c = record {
       let made = subst (λ (b : Bool). OnOk done (IsFinished half.goes_ahead b half.cached last.cached)) wanted
       c.make_durable.ensures.makes.log in
       let finished = subst (λ (b : Bool). OnOk done (IsFinished b durable half.cached last.cached))
-      c.write_blocks.ensures.follows.policy made in
+      c.write_blocks.ensures.passes.follows.policy made in
       let P = λ (u : UnitValue g.row.M.Denot). is_ok (silent done) ≡ true
       → LogAfter u.store.goes_ahead (Ok (command.Write10 c.args.transfer)) c.args.taken.now u.write_cache u.store.cached last.cached in
       subst P c.self.view_is
@@ -153,18 +153,18 @@ returns-clause-spares g c = record {
       let made = subst (λ (b : Bool). OnOk done (CostsFinishing half.goes_ahead b (state half.medium) (state last.medium) half.cached))
       wanted c.make_durable.ensures.makes.cost in
       let costs = subst (λ (b : Bool). OnOk done (CostsFinishing b durable (state half.medium) (state last.medium) half.cached))
-      c.write_blocks.ensures.follows.policy made in
+      c.write_blocks.ensures.passes.follows.policy made in
       let P = λ (u : UnitValue g.row.M.Denot). is_ok (silent done) ≡ true
       → CostsAfter u.store.goes_ahead (Ok (command.Write10 c.args.transfer)) c.args.taken.now u.write_cache (state u.store.medium)
       (state last.medium) u.store.cached in
       subst P c.self.view_is
       (λ good. write_costs i.store.goes_ahead durable c.args.transfer (state i.store.medium) (state half.medium) (state last.medium)
       i.store.cached half.cached (moves_some c.args.transfer c.if-transfer-eq0.false)
-      (λ fits. ap state (c.write_blocks.ensures.quiet fits).0)
+      (λ fits. ap state (c.write_blocks.ensures.passes.quiet fits).0)
       (OnOk-at c.write_blocks.result c.in_ok-write_blocks.field-0 c.in_ok-write_blocks.was wrote.batches)
       (OnOk-at c.write_blocks.result c.in_ok-write_blocks.field-0 c.in_ok-write_blocks.was wrote.active)
       (silent_ok done (CostsFinishing i.store.goes_ahead durable (state half.medium) (state last.medium) half.cached) good costs));
   policy =
       subst (λ (u : UnitValue g.row.M.Denot). c.make_durable.new.store.goes_ahead ≡ u.store.goes_ahead) c.self.view_is
-      (c.make_durable.ensures.follows.policy ∙ c.write_blocks.ensures.follows.policy);
+      (c.make_durable.ensures.passes.follows.policy ∙ c.write_blocks.ensures.passes.follows.policy);
 }

@@ -1,0 +1,50 @@
+-- What the parts of carrying out a command ask for.
+use Rattle.std.specs.Prelude.{◌≡◌, ◌<◌, ◌≤◌, ◌*◌, ◌&&◌, ℕ, false, List, length}
+use Rattle.blocks.specs.StoreValue.{Cached, blocks_of, transfer_limit, is_dead}
+use Rattle.cdb.specs.Supported.{IsSupported, IsWithin}
+use Rattle.spec.specs.declared.command.Command.{Command}
+use Rattle.spec.specs.declared.command.Transfer.{Transfer}
+use Rattle.spec.specs.declared.intent.Intent.TheVariants as intent
+use Rattle.spec.specs.Rules.{needs_medium, moves}
+use Rattle.scsi_unit.specs.UnitValue.{UnitValue, unit_limit, intention_of}
+
+-- a command block, the bytes taken for it, as many as it intends to take, and room for a transfer
+pub record CanCarryOut {M : Type 0} (unit : UnitValue M) (block taken out : List ℕ)
+    : Type 0 where
+  pub some : 0 < length block
+  pub taken_all : (n : ℕ) → intention_of unit block ≡ intent.Out n → length taken ≡ n
+  pub room : length out ≡ 512 * unit_limit unit
+
+-- a command that the unit does not refuse, the bytes taken for it, and room for a transfer
+pub record CanPerform {M : Type 0} (unit : UnitValue M) (command : Command)
+    (taken out : List ℕ) : Type 0 where
+  pub served : (is_dead unit.store.cached && needs_medium command) ≡ false
+  pub supported : IsSupported (blocks_of unit.store.cached) (unit_limit unit) command
+  pub taken_all : (n : ℕ) → moves command ≡ intent.Out n → length taken ≡ n
+  pub room : length out ≡ 512 * unit_limit unit
+
+-- a READ that the unit does not refuse, and room for a transfer
+pub record CanRead {M : Type 0} (unit : UnitValue M) (transfer : Transfer) (out : List ℕ)
+    : Type 0 where
+  pub live : is_dead unit.store.cached ≡ false
+  pub within : IsWithin (blocks_of unit.store.cached) (unit_limit unit) transfer
+  pub room : length out ≡ 512 * unit_limit unit
+
+-- a WRITE that the unit does not refuse, and its blocks
+pub record CanWrite {M : Type 0} (unit : UnitValue M) (transfer : Transfer) (taken : List ℕ)
+    : Type 0 where
+  pub live : is_dead unit.store.cached ≡ false
+  pub within : IsWithin (blocks_of unit.store.cached) (unit_limit unit) transfer
+  pub taken_all : 512 * transfer.count ≤ length taken
+
+-- a MODE SELECT that the unit does not refuse, and its parameter list of this length
+pub record CanSelect {M : Type 0} (unit : UnitValue M) (size : ℕ) (taken : List ℕ)
+    : Type 0 where
+  pub live : is_dead unit.store.cached ≡ false
+  pub taken_all : size ≤ length taken
+
+-- a transfer of some blocks of a store that is not dead
+pub record CanTransfer (cached : Cached) (transfer : Transfer) : Type 0 where
+  pub live : is_dead cached ≡ false
+  pub some : 0 < transfer.count
+  pub within : IsWithin (blocks_of cached) (transfer_limit cached) transfer
