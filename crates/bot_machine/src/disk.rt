@@ -10,7 +10,7 @@ ghost use Rattle.scsi_unit.specs.Books.{MayFind};
 ghost use Rattle.scsi_unit.specs.Background.{IsSettled, HasLimits, is_dead, steps_left};
 ghost use Rattle.scsi_unit.specs.Serving.{TicksOver};
 ghost use Rattle.scsi_unit.specs.Starting.{HasLimit};
-ghost use Rattle.scsi_unit.specs.UnitValue.{unit_limit};
+ghost use Rattle.scsi_unit.specs.UnitValue.{unit_limit, TellsLimit};
 ghost use Rattle.spec.specs.Exchange.{in_answer, after_in};
 ghost use Rattle.bot_machine.specs.Answers.{answer_to_out, answer_to_in, answer_to_setup, IsPacket};
 ghost use Rattle.spec.specs.Conversation.{SetupStep};
@@ -61,9 +61,7 @@ impl<M: Medium> Model for Disk<M> {
 impl<M: Medium> Disk<M> {
     /// How many blocks one READ or WRITE moves at most. The image tells it, and no call changes it.
     pub fn limit(&self) -> u32
-        ensures is { result ≡ unit_limit self.now.unit }
-        ensures least { 48 ≤ result }
-        ensures most { result ≤ 240 }
+        ensures { TellsLimit self.now.unit result }
     {
         self.unit.limit()
     }
