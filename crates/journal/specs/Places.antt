@@ -27,6 +27,12 @@ abbrev pub flushes_of : LogFormat → ℕ
 flushes_of One = 2
 flushes_of Two = 1
 
+-- How many calls a record of the most blocks takes: its sectors with their flushes, and then its
+-- blocks home, the head, and a flush before and behind it. That is 103 in format 1 and 493 in
+-- format 2.
+abbrev pub record_calls_of : LogFormat → ℕ
+record_calls_of format = slot_sectors_of format + flushes_of format + (limit_of format + 3)
+
 -- where in a slot the bytes of its record's first block stand; in format 2 all but the first 8
 abbrev pub first_data_of : LogFormat → ℕ
 first_data_of One = v1.first_data

@@ -13,6 +13,7 @@ pub enum LogFormat {
 impl LogFormat {
     ghost use Rattle.std.specs.Prelude.{◌≡◌, ◌≢◌, IfSome, None};
     ghost use Rattle.journal.specs.Places.{flushes_of, limit_of, slot_sectors_of, gap_of};
+    ghost use Rattle.journal.specs.Places.{record_calls_of};
     ghost use Rattle.journal.specs.Sectors.{version_of};
 
     /// How many blocks a record has at most, which is what a batch and a transfer have at most.
@@ -43,6 +44,15 @@ impl LogFormat {
             LogFormat::One => 2,
             LogFormat::Two => 1,
         }
+    }
+
+    /// How many calls a record of the most blocks takes: its sectors with their flushes, and then
+    /// its blocks home, the head, and a flush before and behind it.
+    pub fn record_calls(self) -> u64
+        ensures { result ≡ record_calls_of self }
+    {
+        let sent = self.slot_sectors() + self.flushes() as u64;
+        sent + u64::from(self.limit()) + 3
     }
 
     /// One more than the number of sectors that may lie between the log and home.
