@@ -26,7 +26,7 @@ use crate::refusal::Refusal;
 use device_file::{
     CopyFault, DeviceFile, FirstSectors, Meter, Run, SystemFile, carry_moved, copy_sectors,
 };
-use journal::{LogFormat, Super};
+use journal::Super;
 use recovery::recover;
 use std::alloc::Global;
 use std::fs::{File, Files};
@@ -161,17 +161,14 @@ pub fn recover_in_window(
     }
 }
 
-// How many calls an outbox has to have room for, over an image with such a super.
-fn room_to_recover(sizes: &Option<Super>) -> usize
+/// How many calls a recovery of an image with such a super takes room for.
+pub(crate) fn room_to_recover(sizes: &Option<Super>) -> usize
     ensures { result ≡ recovery_room sizes.now }
 {
     let Some(sizes) = sizes else {
         return 1;
     };
-    let room = match sizes.format {
-        LogFormat::One => 48 * sizes.slots + 4,
-        LogFormat::Two => 240 * sizes.slots + 4,
-    };
+    let room = u64::from(sizes.format.limit()) * sizes.slots + 4;
     room as usize
 }
 

@@ -5,6 +5,7 @@ ghost use Rattle.images.specs.Migrating.{migration_room, migration_text};
 ghost use Rattle.images.specs.Program.{IsMigration, IsMigrationRefused};
 
 use crate::ended::{LeftFile, Stopped};
+use crate::exporting::room_to_recover;
 use crate::opening::{Access, open_image, window_over};
 use crate::output::write_out;
 use crate::refusal::Refusal;
@@ -74,18 +75,18 @@ pub(crate) fn migrate_file<D: DeviceFile>(
     }
 }
 
-// How many calls an outbox has to have room for, over an image with such a super.
+// How many calls an outbox has to have room for, over an image with such a super. Behind the
+// recovery one of format 1 is made one of format 2.
 fn room_to_migrate(sizes: &Option<Super>) -> usize
     ensures { result ≡ migration_room sizes.now }
 {
-    let Some(sizes) = sizes else {
-        return 1;
-    };
-    let room = match sizes.format {
-        LogFormat::One => 98 * sizes.slots + 9,
-        LogFormat::Two => 240 * sizes.slots + 4,
-    };
-    room as usize
+    let to_recover = room_to_recover(sizes);
+    match sizes {
+        Some(sizes) if sizes.format != LogFormat::Two => {
+            to_recover + (sizes.format.slot_sectors() * sizes.slots + 5) as usize
+        }
+        _ => to_recover,
+    }
 }
 
 // What is told of an image that is of format 2 now.
