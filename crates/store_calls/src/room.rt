@@ -12,10 +12,7 @@ pub fn room_for(format: LogFormat, slots: u64) -> u64
     requires { slots ≤ 64 }
     ensures { result ≡ room_of format slots }
 {
-    match format {
-        LogFormat::One => (48 * slots + 4).max(309),
-        LogFormat::Two => (240 * slots + 4).max(1_479),
-    }
+    (u64::from(format.limit()) * slots + 4).max(3 * format.record_calls())
 }
 
 /// Whether these first sectors begin with the super of an image for which an outbox has too little
