@@ -120,9 +120,11 @@ pub rest_stops : (c : List DeviceCall) (a b e : Told) (u v : List DeviceCall) �
 rest_stops c a b e u v f g =
     subst (λ (l : List DeviceCall). PutsSome l a e u) (append-nil c) (stops_through c [] a b e u v f g)
 
+pub rest_takes : (c : List DeviceCall) (a b e : Told) (v : List DeviceCall) → Puts c a b [] v → Puts [] b e v [] → Puts c a e [] []
+rest_takes c a b e v f g = subst (λ (l : List DeviceCall). Puts l a e [] []) (append-nil c) (puts_through c [] a b e [] v [] f g)
+
 pub rest_puts : (c : List DeviceCall) (a b e : Told) (v : List DeviceCall) → Puts c a b [] v → Puts [] b e v [] → e ≡ asked_for c a
-rest_puts c a b e v f g =
-    puts_all c a e (subst (λ (l : List DeviceCall). Puts l a e [] []) (append-nil c) (puts_through c [] a b e [] v [] f g))
+rest_puts c a b e v f g = puts_all c a e (rest_takes c a b e v f g)
 
 -- what the writes of a first part of the sectors are of those of all
 pub sectors_first : (first i n : ℕ) (bytes : List ℕ) → i ≤ n
@@ -209,9 +211,3 @@ moved_stops first count all gone rest call a b e v split f g =
           ∙ append_assoc some.part some.rest (moved_calls first count rest);
       told_is = some.told_is;
     }
-
-pub moved_left : (calls : List DeviceCall) (a b e : Told) (v : List DeviceCall) → Puts calls a b [] v → PutsSome [] b e v
-    → IsAskedInPart calls a e
-moved_left calls a b e v f g =
-    let some = rest_stops calls a b e [] v f g in
-    record { part = some.part; rest = some.rest; parts = some.parts; told_is = some.told_is }

@@ -1,7 +1,10 @@
 -- What a file was asked to carry out.
 use Rattle.std.specs.Prelude.{◌≡◌, ◌⊎◌, ℕ, ◌+◌, Bool, List, [], ◌∷◌, ◌++◌, length, if◌then◌else◌}
+use Rattle.std.specs.Prelude.{Result, IfErr, is_ok}
 use Rattle.mirror.specs.declared.call.DeviceCall.{DeviceCall}
 use Rattle.mirror.specs.declared.call.DeviceCall.TheVariants.{Write}
+use Rattle.device_file.specs.declared.fault.FileCall.{FileCall}
+use Rattle.device_file.specs.declared.fault.FileFault.{FileFault}
 
 pub record Told : Type 0 where
   -- what it was asked to carry out since it was opened, in order, good or refused
@@ -23,6 +26,14 @@ refused t = record t { refusals = t.refusals + 1 }
 -- it was asked for them at once, and carried them out or refused
 abbrev pub answered : Bool → List DeviceCall → Told → Told
 answered good calls t = if good then asked_for calls t else refused (asked_for calls t)
+
+-- A file was asked for these calls at once; a refusal names a call of this kind. It is as large as
+-- before.
+pub record AsksFor {D : Type 0} (told : D → Told) (sectors : D → ℕ) (calls : List DeviceCall)
+    (kind : FileCall) (old new : D) (result : Result (Unit {0}) FileFault) : Type 0 where
+  pub asked : told new ≡ answered (is_ok result) calls (told old)
+  pub size : sectors new ≡ sectors old
+  pub named : IfErr result (λ fault. fault.call ≡ kind)
 
 -- the writes of these blocks to neighbouring sectors, from this one on
 abbrev pub writes_of : ℕ → List (List ℕ) → List DeviceCall

@@ -1,6 +1,6 @@
 -- Blocks that were read of one file, and that another was asked to write.
-use Rattle.std.specs.Prelude.{◌≡◌, ◌≤◌, ℕ, ◌+◌, ◌-◌, Bool, List, [], ◌∷◌, ◌++◌, length}
-use Rattle.std.specs.Prelude.{if◌then◌else◌, ◌==◌}
+use Rattle.std.specs.Prelude.{◌≡◌, ◌≤◌, ◌<◌, ℕ, ◌+◌, ◌-◌, ◌^◌, Bool, List, [], ◌∷◌, ◌++◌, length}
+use Rattle.std.specs.Prelude.{if◌then◌else◌, ◌==◌, Result, OnOk, OnErr, IfErr}
 use Rattle.std.specs.List.{list_all}
 use Rattle.mirror.specs.declared.call.DeviceCall.{DeviceCall}
 use Rattle.mirror.specs.declared.call.DeviceCall.TheVariants.{Write, Flush}
@@ -9,6 +9,8 @@ use Rattle.device_file.specs.Asked.{Told, asked_for, refused, writes_of}
 use Rattle.device_file.specs.Reads.{AreReadFrom}
 use Rattle.device_file.specs.declared.copying.CopyFault.{CopyFault}
 use Rattle.device_file.specs.declared.copying.CopyFault.TheVariants as fault
+use Rattle.device_file.specs.declared.fault.FileCall.TheVariants as call
+use Rattle.device_file.specs.declared.fault.FileFault.{FileFault}
 use Rattle.device_file.specs.declared.run.Run.{Run}
 
 -- whether a block is zeros
@@ -59,11 +61,18 @@ pub record PutsSome (calls : List DeviceCall) (old new : Told) (waited : List De
   pub told_is : new ≡ refused (asked_for part old)
 
 -- a first part of these calls was asked for; the last of it was refused
-pub record IsAskedInPart (calls : List DeviceCall) (old new : Told) : Type 0 where
-  pub part : List DeviceCall
-  pub rest : List DeviceCall
-  pub parts : calls ≡ part ++ rest
-  pub told_is : new ≡ refused (asked_for part old)
+abbrev pub IsAskedInPart : List DeviceCall → Told → Told → Type 0
+IsAskedInPart calls old new = PutsSome calls old new []
+
+-- A file was to take these calls behind those that waited: it was asked for a first part, and the
+-- others wait; or it refused a write, the last of such a part. It is as large as before.
+pub record TakesCalls {D : Type 0} (told : D → Told) (sectors : D → ℕ) (calls : List DeviceCall)
+    (old new : D) (waited waits : List DeviceCall) (result : Result (Unit {0}) FileFault)
+    : Type 0 where
+  pub ok : OnOk result (Puts calls (told old) (told new) waited waits)
+  pub err : OnErr result (PutsSome calls (told old) (told new) waited)
+  pub size : sectors new ≡ sectors old
+  pub named : IfErr result (λ fault. fault.call ≡ call.Write)
 
 -- So many blocks were read of a file, from a sector on, and the other was asked to write those of
 -- them that are no zeros to its own sectors, in order; it carried all of that out.
@@ -99,6 +108,22 @@ pub record IsCopiedFrom (holds : ℕ → List ℕ → Type 0) (first count at : 
   pub rest : List DeviceCall
   pub parts : waited ++ some_writes at blocks ≡ part ++ rest
   pub told_is : new ≡ asked_until why part old
+
+-- So many sectors were to be copied to a file of which writes waited: they were read, and it took
+-- their writes; or a file refused a call. The file written is as large as before.
+pub record TakesCopies {D : Type 0} (told : D → Told) (sectors : D → ℕ)
+    (holds : ℕ → List ℕ → Type 0) (first count at : ℕ) (old new : D)
+    (waited waits : List DeviceCall) (result : Result (Unit {0}) CopyFault) : Type 0 where
+  pub ok : OnOk result (IsCopying holds first count at (told old) (told new) waited waits)
+  pub err : IfErr result (IsCopiedFrom holds first count at (told old) (told new) waited)
+  pub size : sectors new ≡ sectors old
+
+-- So many sectors can be copied by reads of so many bytes: they have numbers in both files, and a
+-- read gives a sector at least.
+pub record CanCopy (first count at bytes : ℕ) : Type 0 where
+  pub reads : first + count < 2 ^ 64
+  pub writes : at + count < 2 ^ 64
+  pub room : 512 ≤ bytes
 
 -- nothing waited
 abbrev pub IsCopiedInPart : (ℕ → List ℕ → Type 0) → ℕ → ℕ → ℕ → Told → Told → CopyFault → Type 0

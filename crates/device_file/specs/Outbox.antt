@@ -1,10 +1,13 @@
 -- An outbox of which a first part was taken out.
-use Rattle.std.specs.Prelude.{◌≡◌, ◌+◌, Bool, List, [], ◌∷◌, ◌++◌, if◌then◌else◌}
+use Rattle.std.specs.Prelude.{◌≡◌, ◌⊎◌, ℕ, ◌+◌, Bool, List, [], ◌∷◌, ◌++◌, if◌then◌else◌}
+use Rattle.std.specs.Prelude.{Result, OnOk, IfErr, is_ok}
 use Rattle.mirror.specs.Story.{Told}
 use Rattle.mirror.specs.declared.call.DeviceCall.{DeviceCall}
 use Rattle.mirror.specs.declared.call.DeviceCall.TheVariants.{Write, Flush}
 use Rattle.window.specs.Window.{Window}
 use Rattle.device_file.specs.Asked as file
+use Rattle.device_file.specs.declared.fault.FileCall.TheVariants as call
+use Rattle.device_file.specs.declared.fault.FileFault.{FileFault}
 
 abbrev pub with_taken : List DeviceCall → Told → Told
 with_taken part t = record t { taken = t.taken ++ part }
@@ -27,6 +30,14 @@ pub record IsCarriedOut (good : Bool) (was is : file.Told) (old new : Window) : 
   pub lets_go : LetsGo part old new
   pub asked : is.asked ≡ was.asked ++ part
   pub refusals : is.refusals ≡ (if good then was.refusals else was.refusals + 1)
+
+-- A file was to carry out all that waits. It is as large as before.
+pub record CarriesOut {D : Type 0} (told : D → file.Told) (sectors : D → ℕ) (was is : D)
+    (old new : Window) (result : Result (Unit {0}) FileFault) : Type 0 where
+  pub carried : IsCarriedOut (is_ok result) (told was) (told is) old new
+  pub all : OnOk result (new.outbox ≡ [])
+  pub size : sectors is ≡ sectors was
+  pub named : IfErr result (λ fault. (fault.call ≡ call.Write) ⊎ (fault.call ≡ call.Sync))
 
 -- a write waits first
 abbrev pub Begins : List DeviceCall → Type 0

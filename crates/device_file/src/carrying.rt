@@ -1,9 +1,8 @@
 //! The carrying out of an outbox by a file.
-ghost use Rattle.std.specs.Prelude.{◌≡◌, ◌⊎◌, ◌<◌, [], ◌∷◌, ◌++◌, length, Some, IfErr, OnOk, is_ok};
-ghost use Rattle.mirror.specs.Mirror.{first_of};
+ghost use Rattle.std.specs.Prelude.{◌<◌, [], ◌∷◌, length};
 ghost use Rattle.mirror.specs.declared.call.DeviceCall.TheVariants.{Write};
-ghost use Rattle.device_file.specs.Asked.{answered, writes_of};
-ghost use Rattle.device_file.specs.Outbox.{LetsGo, IsCarriedOut, Begins};
+ghost use Rattle.device_file.specs.Asked.{AsksFor, writes_of};
+ghost use Rattle.device_file.specs.Outbox.{LetsGo, CarriesOut, Begins};
 
 use crate::fault::{FileCall, FileFault};
 use crate::file::DeviceFile;
@@ -21,12 +20,7 @@ pub fn carry_out<D: DeviceFile>(
     file: &mut D,
     run: &mut Run,
 ) -> Result<(), FileFault>
-    ensures carried { IsCarriedOut (is_ok result) (D.told file.old) (D.told file.new)
-        window.old window.new }
-    ensures all { OnOk result (window.new.outbox ≡ []) }
-    ensures size { D.size file.new ≡ D.size file.old }
-    ensures named { IfErr result
-        (λ fault. (fault.call ≡ FileCall.Write) ⊎ (fault.call ≡ FileCall.Sync)) }
+    ensures { CarriesOut D.told D.size file.old file.new window.old window.new result }
 {
     while let Some(call) = window.first() {
         match call {
@@ -72,10 +66,8 @@ pub fn write_sector<D: DeviceFile>(
     sector: u64,
     block: &[u8; 512],
 ) -> Result<(), FileFault>
-    ensures asked { D.told file.new ≡ answered (is_ok result)
-        (Write (record { sector = sector; block = block.now }) ∷ []) (D.told file.old) }
-    ensures size { D.size file.new ≡ D.size file.old }
-    ensures named { IfErr result (λ fault. fault.call ≡ FileCall.Write) }
+    ensures { AsksFor D.told D.size (Write (record { sector = sector; block = block.now }) ∷ [])
+        FileCall.Write file.old file.new result }
 {
     run.clear();
     let _taken = run.take(&SectorWrite {

@@ -1,7 +1,7 @@
 //! Sectors of one file that are copied to another.
-ghost use Rattle.std.specs.Prelude.{◌≡◌, ◌+◌, ◌/◌, ◌<◌, ◌≤◌, ◌^◌, [], length, OnOk, IfErr};
-ghost use Rattle.device_file.specs.Copied.{IsCopied, IsCopiedFrom, IsCopiedInPart};
-ghost use Rattle.device_file.specs.Copied.{IsCopying, waiting_in};
+ghost use Rattle.std.specs.Prelude.{◌≡◌, ◌+◌, ◌/◌, ◌<◌, ◌^◌, [], length, OnOk, IfErr};
+ghost use Rattle.device_file.specs.Copied.{CanCopy, IsCopied, IsCopiedInPart, TakesCopies};
+ghost use Rattle.device_file.specs.Copied.{waiting_in};
 
 use crate::fault::FileFault;
 use crate::file::DeviceFile;
@@ -38,9 +38,7 @@ pub fn copy_sectors<S: DeviceFile, D: DeviceFile, M: Meter>(
     bytes: &mut [u8],
     meter: &mut M,
 ) -> Result<(), CopyFault>
-    requires reads { first + count < 2 ^ 64 }
-    requires writes { at + count < 2 ^ 64 }
-    requires room { 512 ≤ length bytes.old }
+    requires { CanCopy first count at (length bytes.old) }
     ensures ok { OnOk result (IsCopied (S.holds from.now) first count at (D.told to.old)
         (D.told to.new)) }
     ensures err { IfErr result (IsCopiedInPart (S.holds from.now) first count at (D.told to.old)
@@ -67,14 +65,9 @@ fn copy_runs<S: DeviceFile, D: DeviceFile, M: Meter>(
     bytes: &mut [u8],
     meter: &mut M,
 ) -> Result<(), CopyFault>
-    requires reads { first + count < 2 ^ 64 }
-    requires writes { at + count < 2 ^ 64 }
-    requires room { 512 ≤ length bytes.old }
-    ensures ok { OnOk result (IsCopying (S.holds from.now) first count at (D.told to.old)
-        (D.told to.new) [] (waiting_in run.new)) }
-    ensures err { IfErr result (IsCopiedInPart (S.holds from.now) first count at (D.told to.old)
-        (D.told to.new)) }
-    ensures size { D.size to.new ≡ D.size to.old }
+    requires { CanCopy first count at (length bytes.old) }
+    ensures { TakesCopies D.told D.size (S.holds from.now) first count at to.old to.new []
+        (waiting_in run.new) result }
 {
     run.clear();
     let most = (bytes.len() / SECTOR) as u64;
@@ -101,11 +94,8 @@ fn copy_run<S: DeviceFile, D: DeviceFile>(
     bytes: &mut [u8],
 ) -> Result<(), CopyFault>
     requires { at + length bytes.old / 512 < 2 ^ 64 }
-    ensures ok { OnOk result (IsCopying (S.holds from.now) first (length bytes.old / 512) at
-        (D.told to.old) (D.told to.new) (waiting_in run.old) (waiting_in run.new)) }
-    ensures err { IfErr result (IsCopiedFrom (S.holds from.now) first (length bytes.old / 512) at
-        (D.told to.old) (D.told to.new) (waiting_in run.old)) }
-    ensures size { D.size to.new ≡ D.size to.old }
+    ensures { TakesCopies D.told D.size (S.holds from.now) first (length bytes.old / 512) at
+        to.old to.new (waiting_in run.old) (waiting_in run.new) result }
 {
     match from.read(first, bytes) {
         Err(fault) => Err(CopyFault::From(fault)),

@@ -1,8 +1,8 @@
 //! What is asked of a device that is a file.
-ghost use Rattle.std.specs.Prelude.{◌≡◌, ◌/◌, ℕ, List, [], ◌∷◌, IfErr, OnOk, OnErr, is_ok, length};
+ghost use Rattle.std.specs.Prelude.{◌≡◌, ◌/◌, ℕ, List, [], ◌∷◌, IfErr, OnOk, OnErr, length};
 ghost use Rattle.mirror.specs.declared.call.DeviceCall.TheVariants.{Flush};
 ghost use Rattle.device_file.specs.Reads.{AreRead};
-ghost use Rattle.device_file.specs.Asked.{Told, answered, writes_of};
+ghost use Rattle.device_file.specs.Asked.{Told, AsksFor, writes_of};
 
 use crate::fault::{FileCall, FileFault};
 use crate::run::Run;
@@ -45,10 +45,8 @@ pub trait DeviceFile {
     /// The file refused the call; the cause is the system's. It counts as asked, and any part of
     /// the sectors may be written.
     fn write(&mut self, run: &Run) -> Result<(), FileFault>
-        ensures asked { told self.new ≡ answered (is_ok result)
-            (writes_of run.now.first run.now.blocks.items) (told self.old) }
-        ensures size { size self.new ≡ size self.old }
-        ensures named { IfErr result (λ fault. fault.call ≡ FileCall.Write) };
+        ensures { AsksFor told size (writes_of run.now.first run.now.blocks.items) FileCall.Write
+            self.old self.new result };
 
     /// Waits until all that was written before is durable.
     ///
@@ -57,7 +55,5 @@ pub trait DeviceFile {
     /// The file refused the call; the cause is the system's. It counts as asked, and what was
     /// written may be durable or not.
     fn sync(&mut self) -> Result<(), FileFault>
-        ensures asked { told self.new ≡ answered (is_ok result) (Flush ∷ []) (told self.old) }
-        ensures size { size self.new ≡ size self.old }
-        ensures named { IfErr result (λ fault. fault.call ≡ FileCall.Sync) };
+        ensures { AsksFor told size (Flush ∷ []) FileCall.Sync self.old self.new result };
 }

@@ -1,10 +1,8 @@
 //! Writes that wait in an outbox, carried out on another file than the window's.
-ghost use Rattle.std.specs.Prelude.{◌≡◌, ◌+◌, ◌<◌, ◌^◌, [], length, OnOk, OnErr, IfErr};
-ghost use Rattle.device_file.specs.Asked.{asked_for};
-ghost use Rattle.device_file.specs.Copied.{IsAskedInPart, Puts, PutsSome};
-ghost use Rattle.device_file.specs.Copied.{moved_call, moved_calls, waiting_in};
+ghost use Rattle.std.specs.Prelude.{[]};
+ghost use Rattle.device_file.specs.Copied.{TakesCalls, moved_call, moved_calls, waiting_in};
 
-use crate::fault::{FileCall, FileFault};
+use crate::fault::FileFault;
 use crate::file::DeviceFile;
 use crate::putting::{put_block, put_rest};
 use crate::run::Run;
@@ -25,12 +23,8 @@ pub fn carry_moved<D: DeviceFile>(
     file: &mut D,
     run: &mut Run,
 ) -> Result<(), FileFault>
-    ensures ok { OnOk result (D.told file.new
-        ≡ asked_for (moved_calls first count window.old.outbox) (D.told file.old)) }
-    ensures err { OnErr result (IsAskedInPart (moved_calls first count window.old.outbox)
-        (D.told file.old) (D.told file.new)) }
-    ensures size { D.size file.new ≡ D.size file.old }
-    ensures named { IfErr result (λ fault. fault.call ≡ FileCall.Write) }
+    ensures { TakesCalls D.told D.size (moved_calls first count window.old.outbox) file.old
+        file.new [] [] result }
 {
     match move_all(window, first, count, file, run) {
         Err(fault) => Err(fault),
@@ -49,12 +43,8 @@ fn move_all<D: DeviceFile>(
     file: &mut D,
     run: &mut Run,
 ) -> Result<(), FileFault>
-    ensures ok { OnOk result (Puts (moved_calls first count window.old.outbox)
-        (D.told file.old) (D.told file.new) [] (waiting_in run.new)) }
-    ensures err { OnErr result (IsAskedInPart (moved_calls first count window.old.outbox)
-        (D.told file.old) (D.told file.new)) }
-    ensures size { D.size file.new ≡ D.size file.old }
-    ensures named { IfErr result (λ fault. fault.call ≡ FileCall.Write) }
+    ensures { TakesCalls D.told D.size (moved_calls first count window.old.outbox) file.old
+        file.new [] (waiting_in run.new) result }
 {
     run.clear();
     while let Some(call) = window.first() {
@@ -75,12 +65,8 @@ fn move_call<D: DeviceFile>(
     file: &mut D,
     run: &mut Run,
 ) -> Result<(), FileFault>
-    ensures ok { OnOk result (Puts (moved_call first count call.now) (D.told file.old)
-        (D.told file.new) (waiting_in run.old) (waiting_in run.new)) }
-    ensures err { OnErr result (PutsSome (moved_call first count call.now) (D.told file.old)
-        (D.told file.new) (waiting_in run.old)) }
-    ensures size { D.size file.new ≡ D.size file.old }
-    ensures named { IfErr result (λ fault. fault.call ≡ FileCall.Write) }
+    ensures { TakesCalls D.told D.size (moved_call first count call.now) file.old file.new
+        (waiting_in run.old) (waiting_in run.new) result }
 {
     let DeviceCall::Write(write) = call else {
         return Ok(());

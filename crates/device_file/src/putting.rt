@@ -1,12 +1,12 @@
 //! Blocks that a file is asked to write, neighbouring ones by one write.
 ghost use Rattle.std.specs.Prelude.{◌≡◌, ◌+◌, ◌*◌, ◌/◌, ◌<◌, ◌≤◌, ◌^◌, ◌∷◌};
-ghost use Rattle.std.specs.Prelude.{[], length, OnOk, IfErr, OnErr};
+ghost use Rattle.std.specs.Prelude.{[], length};
 ghost use Rattle.medium.specs.Writes.{sector_of};
 ghost use Rattle.mirror.specs.declared.call.DeviceCall.TheVariants.{Write};
 ghost use Rattle.device_file.specs.Reads.{sectors_in};
-ghost use Rattle.device_file.specs.Copied.{Puts, PutsSome, is_zeros, some_writes, waiting_in};
+ghost use Rattle.device_file.specs.Copied.{TakesCalls, is_zeros, some_writes, waiting_in};
 
-use crate::fault::{FileCall, FileFault};
+use crate::fault::FileFault;
 use crate::file::DeviceFile;
 use crate::run::Run;
 use mirror::SectorWrite;
@@ -24,12 +24,8 @@ pub(crate) fn put_block<D: DeviceFile>(
     run: &mut Run,
     write: &SectorWrite,
 ) -> Result<(), FileFault>
-    ensures ok { OnOk result (Puts (Write write.now ∷ []) (D.told file.old) (D.told file.new)
-        (waiting_in run.old) (waiting_in run.new)) }
-    ensures err { OnErr result (PutsSome (Write write.now ∷ []) (D.told file.old) (D.told file.new)
-        (waiting_in run.old)) }
-    ensures size { D.size file.new ≡ D.size file.old }
-    ensures named { IfErr result (λ fault. fault.call ≡ FileCall.Write) }
+    ensures { TakesCalls D.told D.size (Write write.now ∷ []) file.old file.new
+        (waiting_in run.old) (waiting_in run.new) result }
 {
     if run.take(write) {
         return Ok(());
@@ -46,11 +42,7 @@ pub(crate) fn put_block<D: DeviceFile>(
 ///
 /// The file refused that write.
 pub(crate) fn put_rest<D: DeviceFile>(file: &mut D, run: &mut Run) -> Result<(), FileFault>
-    ensures ok { OnOk result (Puts [] (D.told file.old) (D.told file.new) (waiting_in run.old) []) }
-    ensures err { OnErr result (PutsSome [] (D.told file.old) (D.told file.new)
-        (waiting_in run.old)) }
-    ensures size { D.size file.new ≡ D.size file.old }
-    ensures named { IfErr result (λ fault. fault.call ≡ FileCall.Write) }
+    ensures { TakesCalls D.told D.size [] file.old file.new (waiting_in run.old) [] result }
 {
     if run.is_empty() {
         return Ok(());
@@ -70,14 +62,9 @@ pub(crate) fn put_sectors<D: DeviceFile>(
     bytes: &[u8],
 ) -> Result<(), FileFault>
     requires { first + length bytes.now / 512 < 2 ^ 64 }
-    ensures ok { OnOk result
-        (Puts (some_writes first (sectors_in (length bytes.now / 512) bytes.now))
-        (D.told file.old) (D.told file.new) (waiting_in run.old) (waiting_in run.new)) }
-    ensures err { OnErr result
-        (PutsSome (some_writes first (sectors_in (length bytes.now / 512) bytes.now))
-        (D.told file.old) (D.told file.new) (waiting_in run.old)) }
-    ensures size { D.size file.new ≡ D.size file.old }
-    ensures named { IfErr result (λ fault. fault.call ≡ FileCall.Write) }
+    ensures { TakesCalls D.told D.size
+        (some_writes first (sectors_in (length bytes.now / 512) bytes.now)) file.old file.new
+        (waiting_in run.old) (waiting_in run.new) result }
 {
     'sectors: for i in 0..bytes.len() / SECTOR {
         let write = SectorWrite {

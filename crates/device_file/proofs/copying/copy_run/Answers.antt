@@ -3,14 +3,20 @@ use Rattle.device_file.specs.Copied.{waiting_in}
 use Rattle.device_file.proofs.Copies.{copying_run, copied_run}
 use Rattle.device_file.proofs.copying.copy_run.Goals as goal
 
-pub returns-in-Ok-put_sectors-clause-ok : goal.returns-in-Ok-put_sectors-clause-ok
-returns-in-Ok-put_sectors-clause-ok g c =
-    copying_run (g.S.DeviceFile.holds c.args.from.now) c.args.first c.args.at (length c.args.bytes.now / 512) c.read.new.to
+pub returns-in-Ok-put_sectors : goal.returns-in-Ok-put_sectors
+returns-in-Ok-put_sectors g c = record {
+  ok = copying_run (g.S.DeviceFile.holds c.args.from.now) c.args.first c.args.at (length c.args.bytes.now / 512) c.read.new.to
     (g.D.DeviceFile.told c.args.to.now) (g.D.DeviceFile.told c.put_sectors.new.file) (waiting_in c.args.run.now)
-    (waiting_in c.put_sectors.new.run) (omega arith) c.in-Ok.ensures.read c.in-Ok-put_sectors.ensures.ok
+    (waiting_in c.put_sectors.new.run) (omega arith) c.in-Ok.ensures.read c.in-Ok-put_sectors.ensures.ok;
+  err = tt;
+  size = c.in-Ok-put_sectors.ensures.size;
+}
 
-pub returns-in-Err-put_sectors-clause-err : goal.returns-in-Err-put_sectors-clause-err
-returns-in-Err-put_sectors-clause-err g c =
-    copied_run (g.S.DeviceFile.holds c.args.from.now) c.args.first c.args.at (length c.args.bytes.now / 512) c.read.new.to
+pub returns-in-Err-put_sectors : goal.returns-in-Err-put_sectors
+returns-in-Err-put_sectors g c = record {
+  ok = tt;
+  err = copied_run (g.S.DeviceFile.holds c.args.from.now) c.args.first c.args.at (length c.args.bytes.now / 512) c.read.new.to
     (g.D.DeviceFile.told c.args.to.now) (g.D.DeviceFile.told c.put_sectors.new.file) (waiting_in c.args.run.now)
-    c.in-Err-put_sectors.fault (omega arith) c.in-Ok.ensures.read c.in-Err-put_sectors.ensures.err
+    c.in-Err-put_sectors.fault (omega arith) c.in-Ok.ensures.read c.in-Err-put_sectors.ensures.err;
+  size = c.in-Err-put_sectors.ensures.size;
+}

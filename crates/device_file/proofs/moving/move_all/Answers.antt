@@ -6,13 +6,19 @@ use Rattle.device_file.proofs.Letting.{without}
 use Rattle.device_file.proofs.Puts.{first_is, moved_more, moved_stops}
 use Rattle.device_file.proofs.moving.move_all.Goals as goal
 
-pub returns-in-Err-clause-err : goal.returns-in-Err-clause-err
-returns-in-Err-clause-err g c =
+pub returns-in-Err : goal.returns-in-Err
+returns-in-Err g c =
     let gone = c.loop-call.invariant.gone in
     let (rest, is) = first_is c.loop-call.window.outbox c.in-Some.call (sym c.first.ensures ∙ c.in-Some.is) in
-    moved_stops c.args.first c.args.count c.args.window.now.outbox gone rest c.in-Some.call (g.D.DeviceFile.told c.args.file.now)
-    (g.D.DeviceFile.told c.loop-call.file) (g.D.DeviceFile.told c.move_call.new.file) (waiting_in c.loop-call.run)
-    (c.loop-call.invariant.split ∙ ap (λ (l : List DeviceCall). gone ++ l) is) c.loop-call.invariant.puts c.in-Err.ensures.err
+    record {
+      ok = tt;
+      err = moved_stops c.args.first c.args.count c.args.window.now.outbox gone rest c.in-Some.call
+          (g.D.DeviceFile.told c.args.file.now) (g.D.DeviceFile.told c.loop-call.file) (g.D.DeviceFile.told c.move_call.new.file)
+          (waiting_in c.loop-call.run) (c.loop-call.invariant.split ∙ ap (λ (l : List DeviceCall). gone ++ l) is)
+          c.loop-call.invariant.puts c.in-Err.ensures.err;
+      size = c.in-Err.ensures.size ∙ c.loop-call.invariant.size;
+      named = c.in-Err.ensures.named;
+    }
 
 pub loop-call-preserved : goal.loop-call-preserved
 loop-call-preserved g c =

@@ -16,16 +16,21 @@ left_out : (sector : ℕ) (block there : List ℕ) → block ≡ there → is_ze
 left_out sector block there same zeros =
     sym (some_write_none sector block zeros) ∙ ap (λ (b : List ℕ). some_write sector b) same
 
-pub returns-in-Err-clause-err : goal.returns-in-Err-clause-err
-returns-in-Err-clause-err g c =
+pub returns-in-Err : goal.returns-in-Err
+returns-in-Err g c =
     let told = g.D.DeviceFile.told in
     let same = written (c.args.first + c.sectors.i) c.block_at.result (sector_of c.args.bytes.now c.sectors.i) c.block_at.ensures
     (sym c.has_zeros_alone.ensures ∙ c.if-not-has_zeros_alone.true) in
-    one_stops c.args.first c.sectors.i (length c.args.bytes.now / 512) c.args.bytes.now (told c.args.file.now)
-    (told c.sectors.file) (told c.put_block.new.file) (waiting_in c.args.run.now) (waiting_in c.sectors.run) (omega arith)
-    c.sectors.invariant.puts
-    (subst (λ (l : List DeviceCall). PutsSome l (told c.sectors.file) (told c.put_block.new.file) (waiting_in c.sectors.run)) same
-    c.in-Err.ensures.err)
+    record {
+      ok = tt;
+      err = one_stops c.args.first c.sectors.i (length c.args.bytes.now / 512) c.args.bytes.now (told c.args.file.now)
+          (told c.sectors.file) (told c.put_block.new.file) (waiting_in c.args.run.now) (waiting_in c.sectors.run) (omega arith)
+          c.sectors.invariant.puts
+          (subst (λ (l : List DeviceCall). PutsSome l (told c.sectors.file) (told c.put_block.new.file) (waiting_in c.sectors.run)) same
+          c.in-Err.ensures.err);
+      size = c.in-Err.ensures.size ∙ c.sectors.invariant.size;
+      named = c.in-Err.ensures.named;
+    }
 
 pub sectors-preserved : goal.sectors-preserved
 sectors-preserved g c =
