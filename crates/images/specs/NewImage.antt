@@ -1,6 +1,6 @@
 -- A new image in a file of zeros.
-use Rattle.std.specs.Prelude.{◌≡◌, ℕ, ◌+◌, ◌≤◌, ◌<◌, Bool, true, false, List, [], ◌∷◌, ◌++◌}
-use Rattle.std.specs.Prelude.{length, take, replicate, if◌then◌else◌}
+use Rattle.std.specs.Prelude.{◌≡◌, ◌⊎◌, ℕ, ◌+◌, ◌≤◌, ◌<◌, Bool, true, false, List, [], ◌∷◌, ◌++◌}
+use Rattle.std.specs.Prelude.{length, take, replicate, if◌then◌else◌, Result, IfErr, is_ok}
 use Rattle.medium.specs.Medium.{Image, CutLeaves, Only}
 use Rattle.mirror.specs.Device.{Device, after}
 use Rattle.mirror.specs.declared.call.DeviceCall.{DeviceCall}
@@ -10,6 +10,8 @@ use Rattle.journal.specs.Sectors.{IsSuper, IsHead}
 use Rattle.journal.specs.Standing.{IsOurs}
 use Rattle.recovery.specs.Formatted.{IsNoneOrNew}
 use Rattle.device_file.specs.Asked.{Told}
+use Rattle.device_file.specs.declared.fault.FileCall.TheVariants as call
+use Rattle.device_file.specs.declared.fault.FileFault.{FileFault}
 
 -- A file that was just made or emptied holds zeros. A cut may leave anything of it until it is
 -- synchronised.
@@ -39,6 +41,13 @@ pub record IsAskedToBe (shape : Shape) (good : Bool) (old new : Told) : Type 0 w
   pub is_super : IsSuper shape super
   pub is_head : IsHead 1 head
   pub in_order : AsksInOrder (making super head) good old new
+
+-- A file was asked so; a refusal names a write or a synchronising. It is as large as before.
+pub record BecomesImage {D : Type 0} (told : D → Told) (sectors : D → ℕ) (shape : Shape)
+    (old new : D) (result : Result (Unit {0}) FileFault) : Type 0 where
+  pub asked : IsAskedToBe shape (is_ok result) (told old) (told new)
+  pub size : sectors new ≡ sectors old
+  pub named : IfErr result (λ fault. (fault.call ≡ call.Write) ⊎ (fault.call ≡ call.Sync))
 
 -- The one image that a cut may leave of a device of so many sectors has these sizes, the head at
 -- stamp 1, and zeros everywhere else; it is ours, for blocks of zeros, and its next stamp is 2.

@@ -1,5 +1,6 @@
 -- The bytes of a writer, where they are known.
 use Rattle.std.specs.Prelude.{◌≡◌, ◌<◌, ◌++◌, ◌∷◌, [], ℕ, List, length, Option, codes, decimal}
+use Rattle.std.specs.Prelude.{Result, OnOk, OnErr}
 use Rattle.std.specs.Io.KnownBytes.{Appends}
 
 -- a text and a line feed
@@ -17,3 +18,9 @@ pub record AppendsSome (was now : Option (List ℕ)) (bytes : List ℕ) : Type 0
   pub parts : bytes ≡ written ++ rest
   pub missing : 0 < length rest
   pub appended : Appends was now written
+
+-- All of these bytes were written, or only a first part and an error is told.
+pub record WritesOut {E : Type 0} (was now : Option (List ℕ)) (bytes : List ℕ)
+    (result : Result (Unit {0}) E) : Type 0 where
+  pub ok : OnOk result (Appends was now bytes)
+  pub err : OnErr result (AppendsSome was now bytes)

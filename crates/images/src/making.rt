@@ -1,9 +1,8 @@
 //! The making of an image in a file of zeros.
-ghost use Rattle.std.specs.Prelude.{◌≡◌, ◌⊎◌, IfErr, is_ok};
 ghost use Rattle.journal.specs.Values.{shape_of};
-ghost use Rattle.images.specs.NewImage.{IsAskedToBe};
+ghost use Rattle.images.specs.NewImage.{BecomesImage};
 
-use device_file::{DeviceFile, FileCall, FileFault, Run, write_sector};
+use device_file::{DeviceFile, FileFault, Run, write_sector};
 use journal::{Head, Super};
 
 /// Has a file that was just made or emptied become a new image with these sizes: it is made durable
@@ -13,11 +12,7 @@ use journal::{Head, Super};
 ///
 /// The first call that the file refused. Nothing was asked of it after that.
 pub fn ask_to_be<D: DeviceFile>(file: &mut D, run: &mut Run, sizes: &Super) -> Result<(), FileFault>
-    ensures asked { IsAskedToBe (shape_of sizes.now) (is_ok result) (D.told file.old)
-        (D.told file.new) }
-    ensures size { D.size file.new ≡ D.size file.old }
-    ensures named { IfErr result
-        (λ fault. (fault.call ≡ FileCall.Write) ⊎ (fault.call ≡ FileCall.Sync)) }
+    ensures { BecomesImage D.told D.size (shape_of sizes.now) file.old file.new result }
 {
     file.sync()?;
     write_sector(file, run, 1, &Head::new(1).encode())?;

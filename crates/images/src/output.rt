@@ -1,7 +1,5 @@
 //! The writing of answers.
-ghost use Rattle.std.specs.Prelude.{OnOk, OnErr};
-ghost use Rattle.std.specs.Io.KnownBytes.{Appends};
-ghost use Rattle.images.specs.Streams.{AppendsSome};
+ghost use Rattle.images.specs.Streams.{WritesOut};
 
 use std::io;
 use std::io::{Error, ErrorKind, Write};
@@ -10,8 +8,7 @@ use std::io::{Error, ErrorKind, Write};
 ///
 /// At an `Err` a first part of the bytes was written, and at least one byte is missing.
 pub(crate) fn write_out<W: Write>(out: &mut W, bytes: &[u8]) -> io::Result<()>
-    ensures ok { OnOk result (Appends (W.contents out.old) (W.contents out.new) bytes.now) }
-    ensures err { OnErr result (AppendsSome (W.contents out.old) (W.contents out.new) bytes.now) }
+    ensures { WritesOut (W.contents out.old) (W.contents out.new) bytes.now result }
 {
     let mut rest = bytes;
     'writes: for _ in 0..u64::MAX {

@@ -25,19 +25,14 @@ pub(crate) struct HeldStreams<F> {
 pub(crate) fn hold_streams<R: Files>(rt: &R) -> Result<HeldStreams<R::File>, Refusal>
     ensures { IfErr result (λ refusal. refusal ≡ Refusal.Streams) }
 {
-    Ok(HeldStreams {
-        first: open_null(rt)?,
-        second: open_null(rt)?,
-        third: open_null(rt)?,
-    })
-}
-
-// The null device, for reading.
-fn open_null<R: Files>(rt: &R) -> Result<R::File, Refusal>
-    ensures { IfErr result (λ refusal. refusal ≡ Refusal.Streams) }
-{
-    match fs::open(rt, NULL_DEVICE) {
-        Ok(file) => Ok(file),
-        Err(_) => Err(Refusal::Streams),
+    let first = fs::open(rt, NULL_DEVICE);
+    let second = fs::open(rt, NULL_DEVICE);
+    match (first, second, fs::open(rt, NULL_DEVICE)) {
+        (Ok(first), Ok(second), Ok(third)) => Ok(HeldStreams {
+            first,
+            second,
+            third,
+        }),
+        _ => Err(Refusal::Streams),
     }
 }

@@ -1,3 +1,5 @@
+use Rattle.device_file.proofs.Puts.{puts_all}
+use Rattle.device_file.specs.Copied.{moved_calls}
 use Rattle.images.proofs.Exports.{copy_stopped, carry_stopped, flush_refused, flushed_all}
 use Rattle.images.proofs.exporting.export_blocks.Goals as goal
 
@@ -17,11 +19,15 @@ returns-in-Err-sync-clause-err g c =
     flush_refused (g.S.DeviceFile.holds c.args.image.now) c.args.sizes.now c.args.window.now.outbox
     (g.D.DeviceFile.told c.args.plain.now) (g.D.DeviceFile.told c.copy_sectors.new.to)
     (g.D.DeviceFile.told c.carry_moved.new.file) (g.D.DeviceFile.told c.sync.new.self) c.in-Err-sync.fault c.in-Ok.ensures.ok
-    c.in-Ok-carry_moved.ensures.ok c.in-Err-sync.ensures.asked
+    (puts_all (moved_calls c.args.sizes.now.home c.args.sizes.now.blocks c.args.window.now.outbox)
+    (g.D.DeviceFile.told c.copy_sectors.new.to) (g.D.DeviceFile.told c.carry_moved.new.file) c.in-Ok-carry_moved.ensures.ok)
+    c.in-Err-sync.ensures.asked
 
 pub returns-in-Ok-sync-clause-ok : goal.returns-in-Ok-sync-clause-ok
 returns-in-Ok-sync-clause-ok g c =
     flushed_all (g.S.DeviceFile.holds c.args.image.now) c.args.sizes.now c.args.window.now.outbox
     (g.D.DeviceFile.told c.args.plain.now) (g.D.DeviceFile.told c.copy_sectors.new.to)
     (g.D.DeviceFile.told c.carry_moved.new.file) (g.D.DeviceFile.told c.sync.new.self) c.in-Ok.ensures.ok
-    c.in-Ok-carry_moved.ensures.ok c.in-Ok-sync.ensures.asked
+    (puts_all (moved_calls c.args.sizes.now.home c.args.sizes.now.blocks c.args.window.now.outbox)
+    (g.D.DeviceFile.told c.copy_sectors.new.to) (g.D.DeviceFile.told c.carry_moved.new.file) c.in-Ok-carry_moved.ensures.ok)
+    c.in-Ok-sync.ensures.asked
