@@ -17,7 +17,8 @@ use crate::play::{
 use crate::refused::refuse;
 use crate::run::next_run;
 use crate::sizes::{memory_for, room_for};
-use crate::start::{UsbDiskIdentity, begin, near_for};
+use crate::start::{UsbDiskIdentity, begin};
+use journal::Super;
 use std::alloc::Global;
 use window::DeviceHolds;
 
@@ -52,7 +53,10 @@ pub extern "C" fn usbdisk_memory(
 pub extern "C" fn usbdisk_near(sector: &[u8; 512]) -> u64
     ensures { TellsNear sector.now result }
 {
-    near_for(sector)
+    match Super::decode(sector) {
+        Ok(sizes) => sizes.home,
+        Err(_) => 2,
+    }
 }
 
 #[unsafe(no_mangle)]

@@ -1,12 +1,11 @@
 //! The export that tells what image a device has, from its first sector.
 ghost use Rattle.std.specs.Prelude.{◌≡◌};
-ghost use Rattle.journal.specs.Sectors.{version_of};
 ghost use Rattle.journal.specs.Values.{shape_of};
 ghost use Rattle.usbdisk_c.specs.Layouts.{IsLayout, TellsLayout, code_of_super};
 
 use crate::codes::{ACK, number_of};
 use bot_machine::StartFault;
-use journal::{LogFormat, Super, SuperFault};
+use journal::{Super, SuperFault};
 
 /// C's `struct usbdisk_layout`.
 #[repr(C)]
@@ -37,21 +36,11 @@ fn layout_of(sizes: &Super) -> UsbDiskLayout
     ensures { IsLayout (shape_of sizes.now) result }
 {
     UsbDiskLayout {
-        format: version_for(sizes.format),
+        format: sizes.format.version() as u32,
         slots: sizes.slots,
         blocks: sizes.blocks,
         near: sizes.home,
         sectors: sizes.sectors(),
-    }
-}
-
-// The number of a format.
-fn version_for(format: LogFormat) -> u32
-    ensures { result ≡ version_of format }
-{
-    match format {
-        LogFormat::One => 1,
-        LogFormat::Two => 2,
     }
 }
 

@@ -1,6 +1,8 @@
 //! How much room in the outbox, and how much memory, a disk on an image takes.
 ghost use Rattle.usbdisk_c.specs.Room.{TellsRoom, TellsMemory};
 
+use journal::LogFormat;
+
 /// How many writes and flushes an outbox must have room for, for an image of this format with so
 /// many slots.
 pub(crate) fn room_for(version: u32, slots: u64) -> u64
@@ -9,10 +11,9 @@ pub(crate) fn room_for(version: u32, slots: u64) -> u64
     if slots < 1 || slots > 64 {
         return 0;
     }
-    match version {
-        1 => (48 * slots + 4).max(309),
-        2 => (240 * slots + 4).max(1_479),
-        _ => 0,
+    match LogFormat::of_version(u64::from(version)) {
+        Some(format) => store_calls::room_for(format, slots),
+        None => 0,
     }
 }
 

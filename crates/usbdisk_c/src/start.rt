@@ -2,13 +2,11 @@
 ghost use Rattle.std.specs.Prelude.{◌≡◌, ◌≢◌, IfOk, IfErr, MatchOption};
 ghost use Rattle.spec.specs.Packets.{bytes_of};
 ghost use Rattle.usbdisk_c.specs.Exports.{BeginsOn, IsRefusal, code_of_refusal, identity_of};
-ghost use Rattle.usbdisk_c.specs.Exports.{TellsNear};
 ghost use Rattle.window.specs.Window.{fresh};
 ghost use Rattle.spec.specs.Identification.{IsLegible};
 
 use crate::codes::{BAD_IDENTITY, BAD_LENGTH, BAD_PACKET_SIZE, LITTLE_ROOM, number_of};
 use bot_machine::{Disk, Identity, PacketSize, Retiring, StartFault};
-use journal::Super;
 use mirror::device_laws;
 use std::alloc::Global;
 use store_calls::{CallFault, has_little_room, window_of};
@@ -71,16 +69,6 @@ fn read_identity(identity: &UsbDiskIdentity) -> Option<Identity>
         serial,
     } = *identity;
     Identity::new(vendor, product, revision, serial)
-}
-
-/// How many of the device's first sectors lie in memory, from what its first one holds.
-pub(crate) fn near_for(sector: &[u8; 512]) -> u64
-    ensures { TellsNear sector.now result }
-{
-    match Super::decode(sector) {
-        Ok(sup) => sup.home,
-        Err(_) => 2,
-    }
 }
 
 /// A disk on a device of so many sectors, of which these are the first. What is wrong with the

@@ -1,5 +1,5 @@
 //! Which sectors a disk wants to be shown before it takes a packet.
-ghost use Rattle.std.specs.Prelude.{◌≡◌, ℕ, IfSome, None, ◌≤◌};
+ghost use Rattle.std.specs.Prelude.{◌≡◌, ℕ, IfSome, MatchOption, None, ◌≤◌};
 ghost use Rattle.scsi_unit.specs.Reading.{AreHome};
 ghost use Rattle.usbdisk_c.specs.Plays.{medium_of};
 ghost use Rattle.usbdisk_c.specs.Wanted.{AreMissing, AreInSight, Wants, WantsNone};
@@ -12,8 +12,8 @@ use window::WindowMedium;
 /// The home sectors of the blocks that this packet has read, as far as they are not in sight: the
 /// first, and how many.
 pub(crate) fn unseen(disk: &Disk<WindowMedium>, packet: &[u8]) -> Option<(u64, u32)>
-    ensures some { IfSome result (λ asked. Wants disk.now packet.now asked.0 asked.1) }
-    ensures none { result ≡ None → WantsNone disk.now packet.now }
+    ensures { MatchOption result (WantsNone disk.now packet.now)
+        (λ asked. Wants disk.now packet.now asked.0 asked.1) }
 {
     match disk.home_sectors(packet) {
         Some(home) => missing(disk.medium(), &home),
