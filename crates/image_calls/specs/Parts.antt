@@ -58,3 +58,9 @@ parts_left None = 0
 -- so many writes and flushes at most, and no read
 abbrev pub SendsPart : ℕ → State → State → Type 0
 SendsPart most old new = MakesNoRead old new × SendsUpTo most old new
+
+-- a medium made them, and goes on from one moment to the other
+pub record GoesPart {M : Type 0} (state : M → State) (Follows : M → M → Type 0) (most : ℕ)
+    (old new : M) : Type 0 where
+  pub sends : SendsPart most (state old) (state new)
+  pub follows : Follows old new

@@ -1,5 +1,5 @@
 //! A log is laid on a device, an image is made on it, or its image is migrated.
-ghost use Rattle.std.specs.Prelude.{◌≡◌, ◌⊎◌, ◌≤◌, ◌+◌, ◌*◌, IfOk, IfErr};
+ghost use Rattle.std.specs.Prelude.{◌≡◌, ◌⊎◌, ◌≤◌, ◌+◌, ◌*◌, IfOk, IfErr, MatchResult};
 ghost use Rattle.journal.specs.Places.{new_shape, slot_sectors_of};
 ghost use Rattle.window.specs.Window.{fresh};
 ghost use Rattle.image_calls.specs.Images.{IsNoLength, IsLaidOn, IsLayFault};
@@ -70,12 +70,11 @@ pub(crate) fn lay(
     blocks: u64,
     slots: u64,
 ) -> Result<Box<Work>, ImageFault>
-    ensures ok { let room = slot_sectors_of format * slots + 7 in
-        IfOk result (λ held. IsWhole (IsLaidOn (new_shape format blocks slots)
-        (fresh sectors near.now device.now.bytes 0 room)) held.value) }
-    ensures err { let room = slot_sectors_of format * slots + 7 in
-        IfErr result (IsLayFault near.now sectors (new_shape format blocks slots)
-        (fresh sectors near.now device.now.bytes 0 room)) }
+    ensures { let room = slot_sectors_of format * slots + 7 in
+        let first = fresh sectors near.now device.now.bytes 0 room in
+        let shape = new_shape format blocks slots in
+        MatchResult result (λ held. IsWhole (IsLaidOn shape first) held.value)
+        (IsLayFault near.now sectors shape first) }
 {
     if slots > MOST_SLOTS {
         return Err(ImageFault::Sizes);
@@ -101,12 +100,11 @@ pub(crate) fn begin(
     blocks: u64,
     slots: u64,
 ) -> Result<Box<Work>, ImageFault>
-    ensures ok { let room = slot_sectors_of format * slots + 7 in
-        IfOk result (λ held. BeginsFormat (new_shape format blocks slots)
-        (fresh sectors near.now device.now.bytes 0 room) held.value) }
-    ensures err { let room = slot_sectors_of format * slots + 7 in
-        IfErr result (IsLayFault near.now sectors (new_shape format blocks slots)
-        (fresh sectors near.now device.now.bytes 0 room)) }
+    ensures { let room = slot_sectors_of format * slots + 7 in
+        let first = fresh sectors near.now device.now.bytes 0 room in
+        let shape = new_shape format blocks slots in
+        MatchResult result (λ held. BeginsFormat shape first held.value)
+        (IsLayFault near.now sectors shape first) }
 {
     if slots > MOST_SLOTS {
         return Err(ImageFault::Sizes);

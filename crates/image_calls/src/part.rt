@@ -2,7 +2,7 @@
 ghost use Rattle.std.specs.Prelude.{◌+◌, ◌*◌, ◌<◌, OnErr, IfOk, IfErr};
 ghost use Rattle.journal.specs.Places.{new_shape, slot_sectors_of};
 ghost use Rattle.recovery.specs.Formatted.{IsFormatCause};
-ghost use Rattle.image_calls.specs.Parts.{IsBegun, KeepsOnWay, FailsOnWay, SendsPart};
+ghost use Rattle.image_calls.specs.Parts.{IsBegun, KeepsOnWay, FailsOnWay, GoesPart};
 ghost use Rattle.image_calls.specs.Parts.{parts_left};
 
 use crate::plan::Plan;
@@ -28,8 +28,7 @@ pub(crate) fn begin_format<M: Medium>(
         IfOk result (λ plan. IsBegun shape plan (M.state m.old) (M.state m.new)) }
     ensures err { let shape = new_shape format blocks slots in
         IfErr result (λ fault. IsFormatCause shape (M.state m.old) (M.state m.new) fault) }
-    ensures sends { SendsPart 2 (M.state m.old) (M.state m.new) }
-    ensures follows { M.follows m.old m.new }
+    ensures goes { GoesPart M.state M.follows 2 m.old m.new }
 {
     let sizes = sizes_of(format, m.sectors(), blocks, slots).ok_or(FormatFault::BadSize)?;
     write_through(m, 0, &[0; 512])?;
@@ -49,9 +48,8 @@ pub(crate) fn next_part<M: Medium>(m: &mut M, plan: Plan) -> Result<Option<Plan>
     ensures ok { IfOk result (λ left. KeepsOnWay M.state plan left m.old m.new) }
     ensures err { OnErr result (FailsOnWay M.state plan m.old m.new) }
     ensures nearer { IfOk result (λ left. parts_left left < parts_left (Some plan)) }
-    ensures sends { SendsPart (slot_sectors_of plan.sizes.format * plan.sizes.slots + 7)
-        (M.state m.old) (M.state m.new) }
-    ensures follows { M.follows m.old m.new }
+    ensures goes { GoesPart M.state M.follows
+        (slot_sectors_of plan.sizes.format * plan.sizes.slots + 7) m.old m.new }
 {
     let end = plan.sizes.sectors();
     if m.sectors() < end {

@@ -15,7 +15,7 @@ returns-in_default-next_part c =
     let inv = c.loop-plan.invariant in
     let nothing = sym c.waiting.ensures.is ∙ c.loop-plan-test.true in
     fails_part c.args.work.now c.loop-plan.work inv.follows inv.keeps inv.stays c.waiting-waiting.ensures.device c.in-Some.plan
-    c.in-Some.is nothing c.next_part.new.m c.next_part.ensures.follows c.next_part.ensures.sends _ refl
+    c.in-Some.is nothing c.next_part.new.m c.next_part.ensures.goes.follows c.next_part.ensures.goes.sends _ refl
     c.in_default-next_part.ensures.err
 
 pub loop-plan-preserved : goal.loop-plan-preserved
@@ -23,12 +23,12 @@ loop-plan-preserved c =
     let inv = c.loop-plan.invariant in
     let nothing = sym c.waiting.ensures.is ∙ c.loop-plan-test.true in record {
       follows = follows_part c.args.work.now c.loop-plan.work inv.follows inv.keeps inv.stays c.waiting-waiting.ensures.device
-          c.in-Some.plan c.in-Some.is nothing c.next_part.new.m c.next_part.ensures.follows c.next_part.ensures.sends;
+          c.in-Some.plan c.in-Some.is nothing c.next_part.new.m c.next_part.ensures.goes.follows c.next_part.ensures.goes.sends;
       keeps = keeps_part c.args.work.now c.loop-plan.work inv.follows inv.keeps inv.stays c.waiting-waiting.ensures.device
-          c.in-Some.plan c.in-Some.is nothing c.next_part.new.m c.next_part.ensures.follows c.next_part.ensures.sends c.in-Ok.left
+          c.in-Some.plan c.in-Some.is nothing c.next_part.new.m c.next_part.ensures.goes.follows c.next_part.ensures.goes.sends c.in-Ok.left
           c.in-Ok.ensures.ok;
       stays = stays_part c.args.work.now c.loop-plan.work inv.follows inv.keeps inv.stays c.waiting-waiting.ensures.device
-          c.in-Some.plan c.in-Some.is nothing c.next_part.new.m c.next_part.ensures.follows c.next_part.ensures.sends _;
+          c.in-Some.plan c.in-Some.is nothing c.next_part.new.m c.next_part.ensures.goes.follows c.next_part.ensures.goes.sends _;
     }
 
 pub returns : goal.returns
