@@ -10,8 +10,8 @@ use file_window::FileWindow;
 use medium::Medium;
 use window::WindowMedium;
 
-/// The home sectors of the blocks that this packet has read, as far as they are not in memory, where
-/// not all of them are: the first, and how many.
+/// The home sectors of the blocks that this packet has read, as far as they are not in memory,
+/// where not all of them are: the first, and how many.
 pub(crate) fn missing_for<D: DeviceFile>(
     disk: &Disk<FileWindow<D>>,
     packet: &[u8],
@@ -25,7 +25,8 @@ pub(crate) fn missing_for<D: DeviceFile>(
     }
 }
 
-// Those of some home sectors that are neither in memory nor in sight: all from the first of them on.
+// Those of some home sectors that are neither in memory nor in sight: all from the first of them
+// on.
 fn missing(window: &WindowMedium, home: &HomeSectors) -> Option<(u64, u32)>
     requires { (limit : ℕ) × (limit ≤ 240)
         × AreHome limit (state_of window.now).size home.now.first home.now.count }

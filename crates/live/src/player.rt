@@ -18,8 +18,8 @@ const SECTOR: usize = 512;
 /// The most bytes that one packet has read of a file: 240 sectors of 512.
 pub const TRANSFER: usize = 122_880;
 
-/// A disk over a file of any size. Before a packet whose blocks are not in memory it reads them, and
-/// behind each event the file carries out what the event sent, before it is answered.
+/// A disk over a file of any size. Before a packet whose blocks are not in memory it reads them,
+/// and behind each event the file carries out what the event sent, before it is answered.
 ///
 /// A packet of which the file cannot read the blocks is played all the same: the READ ends with a
 /// medium error (sense 3/11/00).

@@ -12,7 +12,7 @@ use crate::refusal::Refusal;
 use bot_machine::{Disk, PacketSize, Retiring};
 use device_file::{DeviceFile, FirstSectors, OpenFault, Run};
 use file_window::FileWindow;
-use journal::{LogFormat, Super};
+use journal::Super;
 use medium::Outlet;
 use runner::disk_identity;
 use std::alloc::{AllocError, Global};
@@ -90,11 +90,8 @@ fn room_to_serve(sizes: &Option<Super>, sectors: u64) -> usize
     if sizes.sectors() > sectors {
         return MOST_ROOM;
     }
-    let room = match sizes.format {
-        LogFormat::One => (48 * sizes.slots + 4).max(309),
-        LogFormat::Two => (240 * sizes.slots + 4).max(1_479),
-    };
-    room as usize
+    let to_start = u64::from(sizes.format.limit()) * sizes.slots + 4;
+    to_start.max(3 * sizes.format.record_calls()) as usize
 }
 
 // The memory for what one packet has read, and for the longest write.
@@ -106,8 +103,9 @@ fn memory(alloc: Global) -> Result<(Vec<u8>, Run), AllocError>
     Ok((bytes, run))
 }
 
-// A disk that has started on a window over a file, which then carries out what waits there, and that
-// retires ahead. No call of the start is refused. Where the image is, the file is asked for nothing.
+// A disk that has started on a window over a file, which then carries out what waits there, and
+// that retires ahead. No call of the start is refused. Where the image is, the file is asked for
+// nothing.
 fn start_disk<D: DeviceFile>(
     alloc: Global,
     medium: FileWindow<D>,
