@@ -8,13 +8,13 @@ use std::alloc::{AllocError, Global};
 pub type Block = [u8; 512];
 
 /// The logical blocks, by their address.
-#[derive(Debug, Drop, PartialEq, Eq)]
+#[derive(Drop, PartialEq, Eq)]
 pub struct Array {
     pub blocks: Vec<Block>,
 }
 
 /// These blocks go to the addresses from this one on.
-#[derive(Debug, Drop, PartialEq, Eq)]
+#[derive(Drop)]
 pub struct Write {
     pub address: u32,
     pub blocks: Vec<Block>,

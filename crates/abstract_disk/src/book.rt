@@ -5,7 +5,7 @@ use crate::array::{Array, Write};
 use std::alloc::{AllocError, Global};
 
 /// How many of the accepted writes may be found after a cut, in their order and none in part.
-#[derive(Clone, Copy, Debug, PartialEq, Eq)]
+#[derive(Clone, Copy, PartialEq, Eq)]
 pub struct Found {
     pub least: usize,
     pub most: usize,
@@ -38,8 +38,8 @@ impl Book {
         &self.now
     }
 
-    /// The write with this number, counted from 1, is accepted. It may have been by another disk that
-    /// is followed: it is the same one then.
+    /// The write with this number, counted from 1, is accepted. It may have been by another disk
+    /// that is followed: it is the same one then.
     pub(crate) fn accept(&mut self, number: usize, write: Write) -> Result<(), AllocError> {
         if self.writes.len() < number {
             self.now.apply(&write);

@@ -1,7 +1,7 @@
 //! The thirteen cases (USB Mass Storage Class Bulk-Only Transport 1.0, 6.7).
 
 /// What host or device intends to move, in bytes, never 0.
-#[derive(Clone, Copy, Debug, PartialEq, Eq)]
+#[derive(Clone, Copy, PartialEq, Eq)]
 pub(crate) enum Way {
     Nothing,
     In(u32),
@@ -9,14 +9,14 @@ pub(crate) enum Way {
 }
 
 /// A bulk endpoint.
-#[derive(Clone, Copy, Debug, PartialEq, Eq)]
+#[derive(Clone, Copy, PartialEq, Eq)]
 pub(crate) enum Endpoint {
     In,
     Out,
 }
 
 /// How the status wrapper ends an exchange.
-#[derive(Clone, Copy, Debug, PartialEq, Eq)]
+#[derive(Clone, Copy)]
 pub(crate) enum Status {
     Passed = 0,
     Failed = 1,

@@ -1,8 +1,9 @@
-//! The table of commands (SPC-4, SBC-3): which command block is which command, and why one is refused.
+//! The table of commands (SPC-4, SBC-3): which command block is which command, and why one is
+//! refused.
 use crate::sense_data::Sense;
 
-/// A row of the table: the operation code, the length of the command, and of byte 1 the bits that must
-/// be set and those that may be.
+/// A row of the table: the operation code, the length of the command, and of byte 1 the bits that
+/// must be set and those that may be.
 struct Row {
     code: u8,
     length: usize,
@@ -92,7 +93,7 @@ const TABLE: [Row; 13] = [
 ];
 
 /// The blocks of a READ or a WRITE, within the disk and the limit, and whether FUA is set.
-#[derive(Clone, Copy, Debug)]
+#[derive(Clone, Copy)]
 pub(crate) struct Extent {
     pub(crate) address: u32,
     pub(crate) count: u32,
@@ -100,7 +101,7 @@ pub(crate) struct Extent {
 }
 
 /// A command that the table accepts. Allocation lengths are in bytes.
-#[derive(Clone, Copy, Debug)]
+#[derive(Clone, Copy)]
 pub(crate) enum Command {
     TestUnitReady,
     RequestSense { allocation: u32 },
@@ -127,7 +128,7 @@ impl Command {
 }
 
 /// How many blocks the disk has, and how many a READ or a WRITE moves at most.
-#[derive(Clone, Copy, Debug, PartialEq, Eq)]
+#[derive(Clone, Copy, PartialEq, Eq)]
 pub(crate) struct Shape {
     pub(crate) blocks: u32,
     pub(crate) limit: u32,

@@ -11,7 +11,7 @@ use std::alloc::{AllocError, Global};
 use std::mem;
 
 /// A disk. Its book is shared: see `Unit` for how many writes it has accepted.
-#[derive(Debug, Drop, PartialEq, Eq)]
+#[derive(Drop, PartialEq, Eq)]
 pub(crate) struct Disk {
     // How many bytes a packet has at most.
     packet: u32,

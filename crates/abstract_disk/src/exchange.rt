@@ -7,7 +7,7 @@ use crate::unit::{Done, Unit};
 use std::alloc::{AllocError, Global};
 
 /// A command block wrapper that is valid and meaningful.
-#[derive(Clone, Copy, Debug, PartialEq, Eq)]
+#[derive(Clone, Copy, PartialEq, Eq)]
 pub(crate) struct Wrapper {
     tag: [u8; 4],
     host: Way,
@@ -16,7 +16,7 @@ pub(crate) struct Wrapper {
 }
 
 /// What is left of the script of an exchange.
-#[derive(Debug, Drop, PartialEq, Eq)]
+#[derive(Drop, PartialEq, Eq)]
 pub(crate) enum Left {
     /// A command block wrapper is expected.
     Nothing,
@@ -25,7 +25,7 @@ pub(crate) enum Left {
 }
 
 /// Bytes are to come. When the last one has come the command is carried out over the first ones.
-#[derive(Debug, Drop, PartialEq, Eq)]
+#[derive(Drop, PartialEq, Eq)]
 pub(crate) struct Taking {
     wrapper: Wrapper,
     intended: u32,
@@ -36,7 +36,7 @@ pub(crate) struct Taking {
 }
 
 /// Bytes are to be sent in packets, then an endpoint may be halted, then the status is to be sent.
-#[derive(Debug, Drop, PartialEq, Eq)]
+#[derive(Drop, PartialEq, Eq)]
 pub(crate) struct Sending {
     pub(crate) bytes: Vec<u8>,
     // How many of them were sent.

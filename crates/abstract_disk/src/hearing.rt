@@ -21,8 +21,8 @@ pub struct Hearing {
 }
 
 impl Hearing {
-    /// A life opens over these blocks: the start answered Ok. A READ or a WRITE moves at most `limit`
-    /// blocks (48 in format 1, 240 in format 2).
+    /// A life opens over these blocks: the start answered Ok. A READ or a WRITE moves at most
+    /// `limit` blocks (48 in format 1, 240 in format 2).
     ///
     /// # Errors
     ///
@@ -100,8 +100,8 @@ impl Hearing {
         Ok(all)
     }
 
-    /// The least number k of those for which the blocks after the first k accepted writes are these,
-    /// or None: no cut may leave them.
+    /// The least number k of those for which the blocks after the first k accepted writes are
+    /// these, or None: no cut may leave them.
     ///
     /// # Errors
     ///

@@ -54,8 +54,8 @@ pub(crate) fn mode_sense(alloc: Global, control: u8, cached: bool) -> Result<Vec
     joined(alloc, &[&[0x17, 0, 0x10, 0, 0x08, 0x12, cache], &[0; 17]])
 }
 
-/// Whether the write cache is enabled after this list of mode parameters, or `None` where the list is
-/// invalid.
+/// Whether the write cache is enabled after this list of mode parameters, or `None` where the list
+/// is invalid.
 pub(crate) fn mode_select(list: &[u8], cached: bool) -> Option<bool> {
     match list {
         [] => Some(cached),

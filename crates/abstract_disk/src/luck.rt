@@ -2,7 +2,7 @@
 use std::alloc::AllocError;
 
 /// What befalls an event.
-#[derive(Clone, Copy, Debug, PartialEq, Eq)]
+#[derive(Clone, Copy, PartialEq, Eq)]
 pub(crate) enum Luck {
     /// It has the effect that the tables give.
     Good,
@@ -20,7 +20,7 @@ impl Luck {
 }
 
 /// Why a disk does not go on.
-#[derive(Debug, Drop)]
+#[derive(Drop)]
 pub(crate) enum Stop {
     /// Memory ran out.
     NoMemory(AllocError),

@@ -1,7 +1,7 @@
 //! Sense data in fixed format (SPC-4, 4.5.3).
 
 /// A sense key, and an additional sense code with its qualifier.
-#[derive(Clone, Copy, Debug, PartialEq, Eq)]
+#[derive(Clone, Copy, PartialEq, Eq)]
 pub(crate) struct Sense {
     key: u8,
     code: u8,

@@ -8,7 +8,7 @@ use crate::sense_data::Sense;
 use std::alloc::{AllocError, Global};
 
 /// The state of the unit, and how many writes it has accepted and promised.
-#[derive(Clone, Copy, Debug, PartialEq, Eq)]
+#[derive(Clone, Copy, PartialEq, Eq)]
 pub(crate) struct Unit {
     shape: Shape,
     pub(crate) cached: bool,
@@ -19,8 +19,8 @@ pub(crate) struct Unit {
     pub(crate) promised: usize,
 }
 
-/// What a command that was carried out gives: the bytes to send, or why it failed, and the write that
-/// was accepted.
+/// What a command that was carried out gives: the bytes to send, or why it failed, and the write
+/// that was accepted.
 #[derive(Drop)]
 pub(crate) struct Done {
     pub(crate) sent: Result<Vec<u8>, Sense>,
