@@ -1,5 +1,6 @@
 //! The program `usbdisk_image`: makes image files of any size, tells what is in them, and copies
-//! their blocks. What it leaves of its files is what `images` gives back; here that is only let go of.
+//! their blocks. What it leaves of its files is what `images` gives back; here that is only let go
+//! of.
 #![tactic(auto)]
 
 use std::process::ExitCode;

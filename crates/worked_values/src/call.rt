@@ -1,8 +1,8 @@
 //! The words of a call.
 
 /// A call as it is written: its words, and the number that the word `N` stands for. A word that is
-/// not there is an empty one. A word that is no number stands for 0, and one that is no hex digits for
-/// any bytes, so that another answer comes.
+/// not there is an empty one. A word that is no number stands for 0, and one that is no hex digits
+/// for any bytes, so that another answer comes.
 #[derive(Clone, Copy)]
 pub(crate) struct Call<'a> {
     pub(crate) words: &'a [&'a str],
@@ -83,8 +83,8 @@ impl<'a> Call<'a> {
         sector
     }
 
-    /// Writes the bytes of the words from a place on over others, each word of them behind the offset
-    /// of its first byte.
+    /// Writes the bytes of the words from a place on over others, each word of them behind the
+    /// offset of its first byte.
     pub(crate) fn bytes_over(&self, place: usize, to: &mut [u8]) {
         for at in (place..self.words.len()).step_by(2) {
             self.word_over(at, to);

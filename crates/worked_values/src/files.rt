@@ -193,8 +193,8 @@ impl ImageFiles {
     }
 }
 
-// Keeps a medium that was made, and tells how many sectors it has, or why there is none. The one from
-// before stays then.
+// Keeps a medium that was made, and tells how many sectors it has, or why there is none. The one
+// from before stays then.
 fn keep<F: SectorFile + Drop>(
     made: Result<FileMedium<F>, FileError>,
     kept: &mut Option<FileMedium<F>>,

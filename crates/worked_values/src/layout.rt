@@ -30,8 +30,8 @@ fn kind_in(call: &Call) -> Kind {
     call.verb(1, &KINDS, Kind::Commit2)
 }
 
-/// Plays `made WHAT`: a sector of format 1 for 1000 blocks and 8 slots and for stamp 3 with block 0,
-/// or one of format 2 for stamp 3 with blocks 0 and 5.
+/// Plays `made WHAT`: a sector of format 1 for 1000 blocks and 8 slots and for stamp 3 with block
+/// 0, or one of format 2 for stamp 3 with blocks 0 and 5.
 pub(crate) fn make(call: &Call, answer: &mut Answer) {
     answer.tell_sector(&match kind_in(call) {
         Kind::Super => Super::new(LogFormat::One, 1000, 8).encode(),

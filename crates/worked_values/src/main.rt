@@ -1,10 +1,11 @@
-//! The program `worked_values`: plays worked calls of the crates below the transport, line by line of
-//! the files in the current folder, and compares what each answers with what stands behind it. The
-//! README beside the files tells of their lines.
+//! The program `worked_values`: plays worked calls of the crates below the transport, line by line
+//! of the files in the current folder, and compares what each answers with what stands behind it.
+//! The README beside the files tells of their lines.
 //!
-//! It tells what no contract does: the bytes and the numbers as they are written by hand, which calls
-//! of a medium are made and in which order, what becomes of real files, and that the calls succeed
-//! where there is memory. Where something is not as it should be, it says what, and ends with status 1.
+//! It tells what no contract does: the bytes and the numbers as they are written by hand, which
+//! calls of a medium are made and in which order, what becomes of real files, and that the calls
+//! succeed where there is memory. Where something is not as it should be, it says what, and ends
+//! with status 1.
 #![tactic(auto)]
 
 mod answer;

@@ -20,7 +20,8 @@ const VERBS: [(&str, Verb); 4] = [
     ("write", Verb::Write),
 ];
 
-/// Plays `sectors`, `flush`, `read SECTOR` or `write SECTOR BYTE`, whose sector is of that byte alone.
+/// Plays `sectors`, `flush`, `read SECTOR` or `write SECTOR BYTE`, whose sector is of that byte
+/// alone.
 pub(crate) fn play<M: Medium>(m: &mut M, call: &Call, answer: &mut Answer) {
     match call.verb(0, &VERBS, Verb::Unknown) {
         Verb::Sectors => answer.tell(m.sectors()),

@@ -93,8 +93,8 @@ impl Ring {
         self.m.medium.fail(call);
     }
 
-    // `record BYTE LAST BLOCK ..`: a record of these blocks, all of one byte but the first of the last
-    // block. Tells whether there was room under way, and how it ended.
+    // `record BYTE LAST BLOCK ..`: a record of these blocks, all of one byte but the first of the
+    // last block. Tells whether there was room under way, and how it ended.
     fn record(&mut self, call: &Call, answer: &mut Answer) {
         let mut numbers = [0; 48];
         let count = call.numbers_into(3, &mut numbers);

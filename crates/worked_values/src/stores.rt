@@ -120,8 +120,8 @@ fn tick(store: &mut Store<SimMedium>, count: u64) {
     }
 }
 
-// Whether so many bytes from an address on are whole blocks of a store, and no more than it takes at
-// once.
+// Whether so many bytes from an address on are whole blocks of a store, and no more than it takes
+// at once.
 fn is_inside(store: &Store<SimMedium>, address: u64, size: usize) -> bool
     ensures { IsTrue result
         → IsTransfer (transfer_limit store.now.cached) (blocks_of store.now.cached) address size }

@@ -118,7 +118,8 @@ impl Values {
         }
     }
 
-    // `waiting start`, `waiting attention`, `waiting take`, `waiting begin` or `waiting fail NAMED`.
+    // `waiting start`, `waiting attention`, `waiting take`, `waiting begin` or `waiting fail
+    // NAMED`.
     fn wait(&mut self, call: &Call, answer: &mut Answer) {
         match call.word(1) {
             "start" => self.waiting = Kept::new(),
@@ -141,8 +142,8 @@ fn tell_named(sense: Sense, answer: &mut Answer) {
     answer.tell_bytes(&sense.encode18());
 }
 
-// `identity VENDOR PRODUCT REVISION SERIAL PAGE`, where the last word is that of a vital product data
-// page, or none.
+// `identity VENDOR PRODUCT REVISION SERIAL PAGE`, where the last word is that of a vital product
+// data page, or none.
 fn inquire(call: &Call, answer: &mut Answer) {
     match identity_of(call) {
         None => answer.tell(None::<u8>),
