@@ -7,7 +7,8 @@ use medium::SimMedium;
 use runner::{SCRIPT_LIMIT, ScriptFault};
 use std::alloc::{AllocError, Global};
 
-/// Lines of several lives: a text, bytes that stand behind it so many times, and whether it is a line.
+/// Lines of several lives: a text, bytes that stand behind it so many times, and whether it is a
+/// line.
 const LINES: [(&str, &str, usize, bool); 46] = [
     ("out ", "a5", 511, true),
     ("out ", "a5", 512, true),
@@ -107,7 +108,8 @@ pub(crate) fn try_others(
     Ok(())
 }
 
-/// Tries scripts of as many bytes as one may have, one less and one more: comments, and empty lines.
+/// Tries scripts of as many bytes as one may have, one less and one more: comments, and empty
+/// lines.
 pub(crate) fn try_lengths(
     alloc: Global,
     medium: &SimMedium,

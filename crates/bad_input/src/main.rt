@@ -1,19 +1,20 @@
-//! The program `bad_input`: hands wrong command wrappers and wrong scripts to the product, and judges
-//! what comes.
+//! The program `bad_input`: hands wrong command wrappers and wrong scripts to the product, and
+//! judges what comes.
 //!
-//! - Packets of every length, each bit of a wrapper flipped, each value of the command block's length:
-//!   read by `read_cbw`, and by a disk that was started. A refused one is acknowledged; both endpoints
-//!   are halted, and locked until the class reset; then the next wrapper is taken.
-//! - Scripts with every kind of line, each byte set to others; each number of a line at its limit, one
-//!   less and one more; scripts of the greatest length: played as several lives and as one. A small
-//!   grammar of the program's own tells how many answers there are, or which line is none.
+//! - Packets of every length, each bit of a wrapper flipped, each value of the command block's
+//!   length: read by `read_cbw`, and by a disk that was started. A refused one is acknowledged;
+//!   both endpoints are halted, and locked until the class reset; then the next wrapper is taken.
+//! - Scripts with every kind of line, each byte set to others; each number of a line at its limit,
+//!   one less and one more; scripts of the greatest length: played as several lives and as one. A
+//!   small grammar of the program's own tells how many answers there are, or which line is none.
 //! - Packets of every size where data is to be sent, and where a packet of 512 bytes is due.
 //! - Writers that fail behind each number of bytes of an answer, and readers that fail behind each
 //!   number of lines.
-//! - The program itself, on files: its exit statuses, images that are too short, and the greatest ones.
+//! - The program itself, on files: its exit statuses, images that are too short, and the greatest
+//!   ones.
 //!
-//! It works in the files `image`, `script`, `short` and `limit` of the current folder. It writes how
-//! much it judged, and, where something is not as the definitions have it, what, and ends with
+//! It works in the files `image`, `script`, `short` and `limit` of the current folder. It writes
+//! how much it judged, and, where something is not as the definitions have it, what, and ends with
 //! status 1.
 #![tactic(auto)]
 

@@ -20,8 +20,8 @@ const STATUS_IN: [u8; 8] = [0x82, 0, 0, 0, 0x81, 0, 2, 0];
 
 const STATUS_OUT: [u8; 8] = [0x82, 0, 0, 0, 0x02, 0, 2, 0];
 
-/// Judges how a packet is read, and what a disk does with it where a wrapper is expected. Says whether
-/// it is a good wrapper.
+/// Judges how a packet is read, and what a disk does with it where a wrapper is expected. Says
+/// whether it is a good wrapper.
 pub(crate) fn try_packet(disk: &mut Disk<SimMedium>, packet: &[u8]) -> Result<bool, Finding> {
     let length = packet.len();
     if !is_read(packet) {

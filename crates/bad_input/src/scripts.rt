@@ -111,7 +111,8 @@ pub(crate) fn play_on(
     Ok(played.err().map(|error| error.fault))
 }
 
-/// Plays a script of a reader on a copy of a medium, with packets of 512 bytes, and gives its fault.
+/// Plays a script of a reader on a copy of a medium, with packets of 512 bytes, and gives its
+/// fault.
 pub(crate) fn play_streams<R: Read, W: Write>(
     alloc: Global,
     medium: &SimMedium,

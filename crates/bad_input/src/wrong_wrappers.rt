@@ -13,8 +13,8 @@ const READ: [u8; 31] = [
     0, 0, 0, 0, 0, 0,
 ];
 
-/// Tries every length of packet, and wrappers with each single bit flipped and each value in the byte
-/// of the command block's length.
+/// Tries every length of packet, and wrappers with each single bit flipped and each value in the
+/// byte of the command block's length.
 pub(crate) fn try_wrappers(
     alloc: Global,
     medium: SimMedium,

@@ -233,8 +233,8 @@ pub(crate) fn stamps(
     Ok(())
 }
 
-/// The count of a waiting record is another one in all of its sectors, with the entries behind it as
-/// they were, and as zeros.
+/// The count of a waiting record is another one in all of its sectors, with the entries behind it
+/// as they were, and as zeros.
 pub(crate) fn counts(
     judge: &mut Judge,
     alloc: Global,

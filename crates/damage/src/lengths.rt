@@ -5,8 +5,9 @@ use crate::judge::Judge;
 use medium::{SimError, SimMedium};
 use std::alloc::{AllocError, Global};
 
-/// Judges the beginnings of the image of a few sectors, those of a few sectors less than all, and the
-/// image with a few sectors more; and that no medium is made of lengths that are none of sectors.
+/// Judges the beginnings of the image of a few sectors, those of a few sectors less than all, and
+/// the image with a few sectors more; and that no medium is made of lengths that are none of
+/// sectors.
 pub(crate) fn try_lengths(alloc: Global, judge: &mut Judge) -> Result<(), Finding> {
     for length in [0, 1, 511, 513, 1023, judge.image.len().saturating_sub(1)] {
         try_no_sectors(alloc, length, judge)?;

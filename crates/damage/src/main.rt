@@ -1,21 +1,21 @@
-//! The program `damage`: changes bytes of images that a loss of power left, and judges what recovery
-//! and a disk make of them.
+//! The program `damage`: changes bytes of images that a loss of power left, and judges what
+//! recovery and a disk make of them.
 //!
-//! Lives on a simulated medium make images of both formats in whose log whole records wait. Each byte
-//! of their super and head, and of the descriptors and commits that wait (in format 2 of the stamps in
-//! data places too), is set to several other values, one at a time. So are whole numbers, alone and
-//! together, such that another super, head or record is spelled; and the image is made shorter and
-//! longer. What the bytes stand for is told by a reading of the formats of the program's own. Judged is
-//! that
+//! Lives on a simulated medium make images of both formats in whose log whole records wait. Each
+//! byte of their super and head, and of the descriptors and commits that wait (in format 2 of the
+//! stamps in data places too), is set to several other values, one at a time. So are whole numbers,
+//! alone and together, such that another super, head or record is spelled; and the image is made
+//! shorter and longer. What the bytes stand for is told by a reading of the formats of the
+//! program's own. Judged is that
 //!
-//! - an image with a fault is refused with the first one, by recovery and by a start, and left as it
-//!   was, byte for byte,
+//! - an image with a fault is refused with the first one, by recovery and by a start, and left as
+//!   it was, byte for byte,
 //! - of each other one recovery and a disk serve exactly the blocks that it stands for, and leave
 //!   these at home, the head at the next stamp, and all else as it was,
 //! - the first record after that carries the next stamp.
 //!
-//! For each image it writes how much it judged, and, where something is not as the definition has it,
-//! what, and ends with status 1.
+//! For each image it writes how much it judged, and, where something is not as the definition has
+//! it, what, and ends with status 1.
 #![tactic(auto)]
 
 mod changes;

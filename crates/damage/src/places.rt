@@ -20,8 +20,8 @@ pub(crate) struct Shared {
     pub(crate) width: usize,
 }
 
-/// Super, head, and of each waiting record descriptors and commit, in format 2 the stamps of its data
-/// places too.
+/// Super, head, and of each waiting record descriptors and commit, in format 2 the stamps of its
+/// data places too.
 pub(crate) fn stretches(alloc: Global, standing: &Standing) -> Result<Vec<Stretch>, AllocError> {
     let mut found = Vec::new(alloc);
     found.push(sector(0)).map_err(AllocError::from)?;

@@ -85,8 +85,8 @@ fn try_served(alloc: Global, image: &[u8], standing: &Standing) -> Result<(), Fi
     is_image(&medium, &wanted, Step::Start)
 }
 
-// A disk's first record carries the next stamp: a forced write after the start, and a cut. Behind it
-// an image that no life left may have older records whose stamps follow.
+// A disk's first record carries the next stamp: a forced write after the start, and a cut. Behind
+// it an image that no life left may have older records whose stamps follow.
 fn try_write(alloc: Global, image: &[u8], standing: &Standing) -> Result<(), Finding> {
     let last = standing.array.blocks.len().saturating_sub(1);
     let block = [0xa5; 512];

@@ -8,7 +8,8 @@ use thiserror::Error;
 /// What is not as the definitions have it, or why nothing could be judged.
 #[derive(Debug, Drop, Error)]
 pub enum Finding {
-    /// The answer to the event at this place of a life, counted from 0, is none of an abstract disk.
+    /// The answer to the event at this place of a life, counted from 0, is none of an abstract
+    /// disk.
     #[error("the answer to event {0} is none of an abstract disk")]
     Answer(usize),
     /// A life has more or fewer answers than events.

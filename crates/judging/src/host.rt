@@ -13,8 +13,8 @@ use bot_machine::Event;
 use std::alloc::{AllocError, Global};
 use std::marker::Model;
 
-/// A host at high speed, whose packets have at most 512 bytes. It lays out the events of a life: each
-/// command with its data and the tokens for all that the disk is to send. Tags count from 1.
+/// A host at high speed, whose packets have at most 512 bytes. It lays out the events of a life:
+/// each command with its data and the tokens for all that the disk is to send. Tags count from 1.
 #[derive(Drop)]
 pub struct Host {
     events: Vec<Event>,

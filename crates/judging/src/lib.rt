@@ -1,7 +1,8 @@
 //! What a host sends to a disk, and how a life of a disk is played and judged.
 //!
 //! A `Host` lays out the events of a life. `play` plays a life over a medium in memory, and lets a
-//! `Hearing` of the abstract disk judge each answer. `blocks_of` tells which blocks an image serves.
+//! `Hearing` of the abstract disk judge each answer. `blocks_of` tells which blocks an image
+//! serves.
 #![tactic(auto)]
 
 mod command;

@@ -1,5 +1,5 @@
-//! Packets between a host and a disk (USB Mass Storage Class Bulk-Only Transport 1.0, 5.2; SPC-4 for
-//! the sense data).
+//! Packets between a host and a disk (USB Mass Storage Class Bulk-Only Transport 1.0, 5.2; SPC-4
+//! for the sense data).
 ghost use Rattle.std.specs.Prelude.{◌≡◌, IfSome};
 ghost use Rattle.judging.specs.Commands.{packet_out};
 

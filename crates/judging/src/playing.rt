@@ -1,5 +1,6 @@
 //! The play of a life, and the judgement of its answers.
-ghost use Rattle.std.specs.Prelude.{◌≡◌, None, length, slice_get, IfOk, IfSome, IsSome, OnOk, OnSome};
+ghost use Rattle.std.specs.Prelude.{◌≡◌, None, length, slice_get, IfOk, IfSome, IsSome, OnOk};
+ghost use Rattle.std.specs.Prelude.{OnSome};
 ghost use Rattle.judging.specs.Judged.{judged_identity};
 ghost use Rattle.bot_machine.specs.LivesValue.{IsAtRest};
 

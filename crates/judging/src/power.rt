@@ -14,8 +14,8 @@ pub fn cut(mut medium: SimMedium, kept: &Kept) -> SimMedium
     medium
 }
 
-/// A copy of a medium, with its power on. Where writes of the medium are unflushed, the copy has lost
-/// them.
+/// A copy of a medium, with its power on. Where writes of the medium are unflushed, the copy has
+/// lost them.
 ///
 /// # Errors
 ///

@@ -69,8 +69,8 @@ impl TestWrite {
 }
 
 impl Host {
-    /// The worked life: REQUEST SENSE, the five writes, the first full of the byte 1, the second of 2
-    /// and so on, and SYNCHRONIZE CACHE.
+    /// The worked life: REQUEST SENSE, the five writes, the first full of the byte 1, the second of
+    /// 2 and so on, and SYNCHRONIZE CACHE.
     ///
     /// # Errors
     ///

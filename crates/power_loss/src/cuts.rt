@@ -1,12 +1,12 @@
-//! The part `cuts`: cuts the power of a life at each of its calls of the medium, and judges all that
-//! is found afterwards.
+//! The part `cuts`: cuts the power of a life at each of its calls of the medium, and judges all
+//! that is found afterwards.
 //!
 //! The life, on a fresh image of 16 blocks and 2 log slots: REQUEST SENSE, five writes, two of them
 //! with FUA, and SYNCHRONIZE CACHE. It is lived with a fuse of each length in turn, up to the first
 //! with which it ends, and for each fuse with each subset of the unflushed writes kept; in both
 //! formats of the log, without steps in the background and with two between any two events. On each
-//! image that is left so the next start is cut at each of its writes and flushes, with none and with
-//! all of the unflushed writes kept, and a third life is lived. Judged are
+//! image that is left so the next start is cut at each of its writes and flushes, with none and
+//! with all of the unflushed writes kept, and a third life is lived. Judged are
 //!
 //! - each answer up to the cut,
 //! - the blocks that each image serves: those after a beginning of the accepted writes that holds

@@ -8,10 +8,10 @@
 //! records wait. Judged are
 //!
 //! - each answer, where at most one call of the medium was refused,
-//! - the blocks that each image behind the life serves, one for each subset of the unflushed writes,
-//!   and those of one more start,
-//! - a start in which a call was refused: it answers that of a read, a write or a flush, and the next
-//!   start serves the same blocks, at once and after each cut.
+//! - the blocks that each image behind the life serves, one for each subset of the unflushed
+//!   writes, and those of one more start,
+//! - a start in which a call was refused: it answers that of a read, a write or a flush, and the
+//!   next start serves the same blocks, at once and after each cut.
 
 mod judge;
 mod trial;

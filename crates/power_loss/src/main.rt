@@ -1,10 +1,10 @@
 //! The program `power_loss`: judges what a loss of power, a refused call of the medium and refused
 //! memory leave, by the definitions alone.
 //!
-//! It has four parts: `cuts`, `failures`, `migrations` and `starts`. A word names one of them; without
-//! a word it plays all, in this order. Each part writes how much it judged, and, where something is not
-//! as the definitions have it, what. The exit status is then 1. It is 5 where there was no memory for
-//! the words, or in `starts` for what is no start.
+//! It has four parts: `cuts`, `failures`, `migrations` and `starts`. A word names one of them;
+//! without a word it plays all, in this order. Each part writes how much it judged, and, where
+//! something is not as the definitions have it, what. The exit status is then 1. It is 5 where
+//! there was no memory for the words, or in `starts` for what is no start.
 #![tactic(auto)]
 
 mod case;

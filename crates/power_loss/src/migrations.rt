@@ -1,11 +1,11 @@
-//! The part `migrations`: cuts the power of a migration from format 1 to format 2 at each of its calls
-//! of the medium, and judges all that is found afterwards.
+//! The part `migrations`: cuts the power of a migration from format 1 to format 2 at each of its
+//! calls of the medium, and judges all that is found afterwards.
 //!
-//! On a simulated medium it makes an image of format 1, lives lives on it, and migrates a copy of it
-//! with a fuse of each length in turn, up to the first with which the migration ends. Each cut is
-//! tried with no unflushed write kept and with all of them; on the small image with each single one
-//! too, and on the one whose log looks like that of format 2 with the newest. Each image that is left
-//! so is migrated again, both at once and after a disk was started on it. Judged are
+//! On a simulated medium it makes an image of format 1, lives lives on it, and migrates a copy of
+//! it with a fuse of each length in turn, up to the first with which the migration ends. Each cut
+//! is tried with no unflushed write kept and with all of them; on the small image with each single
+//! one too, and on the one whose log looks like that of format 2 with the newest. Each image that
+//! is left so is migrated again, both at once and after a disk was started on it. Judged are
 //!
 //! - each answer of each life: the blocks are those after a beginning of the accepted writes that
 //!   holds every promised one, and the same in every life from the migration on,

@@ -1,9 +1,9 @@
-//! The part `starts`: disks are started on a fresh image and on one whose log has records that wait,
-//! in both formats. Where a start answers that there is no memory, a second one on the medium that
-//! came back has to serve the same blocks.
+//! The part `starts`: disks are started on a fresh image and on one whose log has records that
+//! wait, in both formats. Where a start answers that there is no memory, a second one on the medium
+//! that came back has to serve the same blocks.
 //!
-//! For each start it writes whether it had memory. By itself it shows little: `checks/memory` plays it
-//! with each of its requests for memory refused in turn.
+//! For each start it writes whether it had memory. By itself it shows little: `checks/memory` plays
+//! it with each of its requests for memory refused in turn.
 
 use crate::fault::Fault;
 use crate::image::{hearing_over, tell};
@@ -15,8 +15,8 @@ use std::alloc::{AllocError, Global};
 use std::io;
 use std::io::Write;
 
-// Writes of so many blocks each, one at each eighth block: fewer than the log has slots, so that their
-// records wait.
+// Writes of so many blocks each, one at each eighth block: fewer than the log has slots, so that
+// their records wait.
 const WRITES: u8 = 6;
 
 const COUNT: u8 = 3;
@@ -162,8 +162,8 @@ fn hear_all(events: &[Event], answers: &[Answer], hearing: &mut Hearing) -> Resu
     }
 }
 
-// Starts a disk on a medium whose log has records that wait: it serves what was written. Whether the
-// first start had memory.
+// Starts a disk on a medium whose log has records that wait: it serves what was written. Whether
+// the first start had memory.
 fn start_on_records(alloc: Global, format: Format, medium: &SimMedium) -> Result<bool, Fault> {
     let mut player = Player::new(copied(alloc, medium)?, Retiring::Late)?;
     start_and_read(alloc, format, &mut player)

@@ -1,19 +1,19 @@
 //! The program `random_lives`: lives of a disk at random, judged by the disk of the definitions.
 //!
-//! Each seed makes an image of some shape and lets a host live lives on it: every command with valid
-//! and invalid fields, every one of the thirteen cases, short data packets, resets and other control
-//! requests, wrappers that are refused, tokens at wrong moments, steps in the background in between;
-//! with fuses that let the power go, calls of the medium that are refused, and cuts that keep none,
-//! all or some of the unflushed writes. Judged are
+//! Each seed makes an image of some shape and lets a host live lives on it: every command with
+//! valid and invalid fields, every one of the thirteen cases, short data packets, resets and other
+//! control requests, wrappers that are refused, tokens at wrong moments, steps in the background in
+//! between; with fuses that let the power go, calls of the medium that are refused, and cuts that
+//! keep none, all or some of the unflushed writes. Judged are
 //!
 //! - each answer of each life,
 //! - after each cut the blocks that a disk serves which is started on a copy of the medium: those
-//!   after a beginning of the accepted writes that holds every promised one. The next life has to go
-//!   on from exactly these.
+//!   after a beginning of the accepted writes that holds every promised one. The next life has to
+//!   go on from exactly these.
 //!
-//! Words are the first seed and how many there are; without words a fixed number from 1 on. It writes
-//! how much was judged. The first seed in which something is not as the definitions have it ends the
-//! program with status 1, and the smallest script that shows it is written.
+//! Words are the first seed and how many there are; without words a fixed number from 1 on. It
+//! writes how much was judged. The first seed in which something is not as the definitions have it
+//! ends the program with status 1, and the smallest script that shows it is written.
 #![tactic(auto)]
 
 mod command;

@@ -1,7 +1,7 @@
 //! The program `replay`: plays what stands written on a disk, and compares each answer.
 //!
-//! Its words are files in the current folder. One whose name ends in `.recording` names the parts of
-//! what a Linux host sent to a disk (`recordings.rt`); every other one is a transcript of worked
+//! Its words are files in the current folder. One whose name ends in `.recording` names the parts
+//! of what a Linux host sent to a disk (`recordings.rt`); every other one is a transcript of worked
 //! exchanges (`transcripts.rt`). The exit status is 0 where all went as written, else 1.
 #![tactic(auto)]
 

@@ -1,9 +1,9 @@
 //! The play of recordings.
 //!
 //! A recording is what a stock Linux host sent to a disk, line by line. Its file names its parts, a
-//! line each, in the order in which they are played on one image of 33 MB in memory; the README beside
-//! them tells what they hold. It is played twice: once the host waits for the answers to a line before
-//! it sends the next one, and once the lines come as fast as they are read.
+//! line each, in the order in which they are played on one image of 33 MB in memory; the README
+//! beside them tells what they hold. It is played twice: once the host waits for the answers to a
+//! line before it sends the next one, and once the lines come as fast as they are read.
 use crate::disk::{fresh_medium, identity, play_part};
 use crate::fault::Fault;
 use crate::host::Pace;

@@ -1,9 +1,9 @@
 //! The play of transcripts.
 //!
-//! A transcript has worked exchanges between a host and the disk. It is played in the current folder,
-//! in the files `image` and `script`, and each line that the disk writes, the exit status and what
-//! standard error gets are compared with what must come. In a transcript the characters up to the
-//! first space of a line say what the line is:
+//! A transcript has worked exchanges between a host and the disk. It is played in the current
+//! folder, in the files `image` and `script`, and each line that the disk writes, the exit status
+//! and what standard error gets are compared with what must come. In a transcript the characters up
+//! to the first space of a line say what the line is:
 //!
 //! | Line | Meaning |
 //! |---|---|
@@ -29,9 +29,9 @@ use std::fs::{File, Files};
 use std::io::Write;
 use std::{fs, io};
 
-/// Plays every exchange of a transcript. It writes one line with the number of exchanges that went as
-/// written, and before it one for each other exchange, with its name, the number of the command and
-/// the first difference. Whether all went as written.
+/// Plays every exchange of a transcript. It writes one line with the number of exchanges that went
+/// as written, and before it one for each other exchange, with its name, the number of the command
+/// and the first difference. Whether all went as written.
 pub(crate) fn play<R: Files<File = File> + AllocGlobal, W: Write>(
     rt: &R,
     path: &str,

@@ -1,5 +1,6 @@
 //! The line that is being read.
-ghost use Rattle.std.specs.Prelude.{◌≡◌, ◌<◌, ◌↔◌, ◌++◌, [], ◌+◌, ℕ, List, OnOk, IfErr, IsTrue, codes, min, length};
+ghost use Rattle.std.specs.Prelude.{◌≡◌, ◌<◌, ◌↔◌, ◌++◌, [], ◌+◌, ℕ, List, OnOk, IfErr, IsTrue};
+ghost use Rattle.std.specs.Prelude.{codes, min, length};
 ghost use Rattle.runner.specs.Served.{IsTooLong, StandsFor};
 
 use crate::player::ServeFault;

@@ -37,8 +37,8 @@ pub(crate) fn play_lives<W: Write>(
     ensures played { IfOk result
         (PlaysAll (W.contents out.old) (W.contents out.new) lives (bytes_of size)
         (lines_of script.now)) }
-    ensures broken { IfErr result (λ error. PlaysUpTo (W.contents out.old) (W.contents out.new) lives
-        (bytes_of size) (lines_of script.now) error.fault error.medium) }
+    ensures broken { IfErr result (λ error. PlaysUpTo (W.contents out.old) (W.contents out.new)
+        lives (bytes_of size) (lines_of script.now) error.fault error.medium) }
 {
     for line in Parts::lines(script) {
         match read_line(ScriptKind::Lives, size, line).unwrap() {

@@ -53,8 +53,8 @@ pub enum ScriptLine {
     Cut(KeptWrites),
 }
 
-/// Reads a line, which has no line feed, for packets of a size; `None` where it is no line of such a
-/// script.
+/// Reads a line, which has no line feed, for packets of a size; `None` where it is no line of such
+/// a script.
 pub(crate) fn read_line(kind: ScriptKind, size: PacketSize, line: &[u8]) -> Option<ScriptLine>
     ensures spelled { IfSome result (λ asked.
         Spells (bytes_of size) line.now asked × Allows kind asked) }

@@ -5,9 +5,9 @@ ghost use Rattle.runner.specs.Live.{AreLiveWords, IsLiveLine};
 use crate::task::{is_file_word, read_packet_ending};
 use bot_machine::PacketSize;
 
-/// The image and the size of packets that these words tell, if they are exactly a word for the image,
-/// behind which `--packet 64` or `--packet 512` may stand: 512 bytes where nothing is told. No word for
-/// an image begins with a hyphen.
+/// The image and the size of packets that these words tell, if they are exactly a word for the
+/// image, behind which `--packet 64` or `--packet 512` may stand: 512 bytes where nothing is told.
+/// No word for an image begins with a hyphen.
 pub fn read_live_words<'a>(words: &'a [&'a str]) -> Option<(&'a str, PacketSize)>
     ensures words { IfSome result (λ told. AreLiveWords (map (λ word. word.now) words.entry.now)
         told.0.now told.1) }

@@ -1,5 +1,6 @@
 //! Numbers, as scripts and command lines spell them.
-ghost use Rattle.std.specs.Prelude.{ℕ, ◌≡◌, ◌≢◌, ◌<◌, ◌≤◌, ◌^◌, ◌↔◌, IsTrue, IfSome, IfNone, decimal, length, slice_index};
+ghost use Rattle.std.specs.Prelude.{ℕ, ◌≡◌, ◌≢◌, ◌<◌, ◌≤◌, ◌^◌, ◌↔◌, IsTrue, IfSome, IfNone};
+ghost use Rattle.std.specs.Prelude.{decimal, length, slice_index};
 ghost use Rattle.runner.specs.Numbers.{SpellsNumber};
 
 use std::str;

@@ -4,8 +4,8 @@ ghost use Rattle.std.specs.List.{position};
 ghost use Rattle.std.specs.Iterator.{YieldsFirstBy, item_count};
 ghost use Rattle.runner.specs.Lines.{parts_of, lines_of, words_of, parts_in};
 
-/// The parts of a text, without the separators between them. What stands after the last separator is
-/// a part too, perhaps an empty one.
+/// The parts of a text, without the separators between them. What stands after the last separator
+/// is a part too, perhaps an empty one.
 #[derive(Drop)]
 pub(crate) struct Parts<'a> {
     separator: u8,

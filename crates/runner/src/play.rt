@@ -57,12 +57,14 @@ fn play_line<M: Medium, W: Write>(
 ) -> Result<(), ServeFault>
     requires good { IsScriptLine ScriptKind.OneLife (bytes_of size) line.now }
     requires packets { disk.old.line.packet_size ≡ bytes_of size }
-    ensures played { OnOk result ((events : List Event) × (text : List ℕ) × LinePlays (bytes_of size) line.now events
+    ensures played { OnOk result ((events : List Event) × (text : List ℕ)
+        × LinePlays (bytes_of size) line.now events
         × Tells M.state disk.old events text disk.new
         × Appends (W.contents out.old) (W.contents out.new) text) }
     ensures cut_short { OnErr result ((events : List Event) × (event : Event) × (rest : List Event)
         × LinePlays (bytes_of size) line.now (events ++ event ∷ rest)
-        × BreaksOff M.state (W.contents out.old) (W.contents out.new) disk.old events event disk.new) }
+        × BreaksOff M.state (W.contents out.old) (W.contents out.new) disk.old events event
+        disk.new) }
 {
     let asked = read_line(ScriptKind::OneLife, size, line).unwrap();
     play_asked(disk, asked, out)

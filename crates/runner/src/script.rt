@@ -19,9 +19,10 @@ use std::io::{Read, Write};
 ///
 /// # Errors
 ///
-/// `Reader`, `TooLong`, `NoMemory`, `Line` and `Start`: no event was played, and nothing was written.
-/// `Writer`: what was written is a beginning of the text of the events so far: the whole lines of all
-/// answers but the last one, and a first part of that one's, which lacks a byte at least.
+/// `Reader`, `TooLong`, `NoMemory`, `Line` and `Start`: no event was played, and nothing was
+/// written. `Writer`: what was written is a beginning of the text of the events so far: the whole
+/// lines of all answers but the last one, and a first part of that one's, which lacks a byte at
+/// least.
 pub fn run_script<M: Medium, R: Read, W: Write>(
     alloc: Global,
     medium: M,

@@ -16,15 +16,16 @@ use medium::SimMedium;
 use std::alloc::Global;
 use std::io::{Read, Write};
 
-/// Plays a script on a disk over a simulated medium, with packets of a size. The power of the medium
-/// is on, with nothing unflushed and no fuse armed. Lines `fuse`, `fail` and `cut` are its as well.
+/// Plays a script on a disk over a simulated medium, with packets of a size. The power of the
+/// medium is on, with nothing unflushed and no fuse armed. Lines `fuse`, `fail` and `cut` are its
+/// as well.
 ///
 /// # Errors
 ///
-/// `Reader`, `TooLong`, `NoMemory` and `Line`: nothing was played or written. `Start`: the text of the
-/// lives before that start was written. `Writer`: a beginning of the text so far was written: the
-/// whole lines of all answers but the last one, and a first part of that one's, which lacks a byte at
-/// least.
+/// `Reader`, `TooLong`, `NoMemory` and `Line`: nothing was played or written. `Start`: the text of
+/// the lives before that start was written. `Writer`: a beginning of the text so far was written:
+/// the whole lines of all answers but the last one, and a first part of that one's, which lacks a
+/// byte at least.
 pub fn sim_script<R: Read, W: Write>(
     alloc: Global,
     medium: SimMedium,

@@ -1,5 +1,6 @@
 //! The words of a command line.
-ghost use Rattle.std.specs.Prelude.{◌≡◌, ◌≤◌, ◌⊎◌, ◌↔◌, [], ◌∷◌, IfOk, IfErr, IfSome, IfNone, IsTrue, false, map, length};
+ghost use Rattle.std.specs.Prelude.{◌≡◌, ◌≤◌, ◌⊎◌, ◌↔◌, [], ◌∷◌, IfOk, IfErr, IfSome, IfNone};
+ghost use Rattle.std.specs.Prelude.{IsTrue, false, map, length};
 ghost use Rattle.clap.specs.Words.{app_of};
 ghost use Rattle.clap.specs.declared.builder.command.Command.TheViews.{out-Command};
 ghost use Rattle.runner.specs.Parser.{usbdisk_app, format_app, migrate_app, script_app};
@@ -57,7 +58,8 @@ pub(crate) enum Task<'a> {
 pub(crate) fn read_words<'a>(alloc: Global, words: &'a [&'a str]) -> Result<Task<'a>, Refusal>
     ensures spelled { IfOk result (SpellsTask (map (λ word. word.now) words.entry.now)) }
     ensures refused { IfErr result (λ refusal. (refusal ≡ Refusal.NoMemory)
-        ⊎ ((refusal ≡ Refusal.Words) × (IsCommandLine (map (λ word. word.now) words.entry.now) → ⊥))) }
+        ⊎ ((refusal ≡ Refusal.Words)
+        × (IsCommandLine (map (λ word. word.now) words.entry.now) → ⊥))) }
 {
     parser(alloc)?.try_get_matches_from(words)?;
     exactly(words).ok_or(Refusal::Words)

@@ -1,9 +1,9 @@
 //! The program `worked_calls`: plays lists of events and of lives in single calls of the transport,
 //! which no script reaches, and judges each answer by the abstract disk.
 //!
-//! It tells what no contract does: that these calls succeed where there is memory, and that a run of
-//! plain WRITEs makes no flush. Where something is not as it should be, it says what, and ends with
-//! status 1.
+//! It tells what no contract does: that these calls succeed where there is memory, and that a run
+//! of plain WRITEs makes no flush. Where something is not as it should be, it says what, and ends
+//! with status 1.
 #![tactic(auto)]
 
 mod difference;

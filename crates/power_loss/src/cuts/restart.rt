@@ -20,8 +20,8 @@ pub(crate) struct Restart<'a> {
 }
 
 impl<'a> Restart<'a> {
-    /// Cuts a start on a copy of the image at each of its writes and flushes, with none and all of the
-    /// unflushed writes kept. A third life serves the same blocks.
+    /// Cuts a start on a copy of the image at each of its writes and flushes, with none and all of
+    /// the unflushed writes kept. A third life serves the same blocks.
     pub(crate) fn cut_everywhere(self, alloc: Global, counts: &mut Cuts) -> Result<(), Fault> {
         let mut life = Life {
             fuse: None,

@@ -39,7 +39,8 @@ impl<'a> Judge<'a> {
         same(&second, self.opening, counts)
     }
 
-    /// The answers to the events, and the images of the cuts behind them. Whether a call was refused.
+    /// The answers to the events, and the images of the cuts behind them. Whether a call was
+    /// refused.
     pub(crate) fn life(
         self,
         alloc: Global,
@@ -90,8 +91,8 @@ impl<'a> Judge<'a> {
         Ok(())
     }
 
-    // The blocks of the next start are those after some of the accepted writes, and those of the start
-    // behind it are the same.
+    // The blocks of the next start are those after some of the accepted writes, and those of the
+    // start behind it are the same.
     fn image(
         self,
         alloc: Global,

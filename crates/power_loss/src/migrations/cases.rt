@@ -31,8 +31,8 @@ struct TestWrite {
 }
 
 impl Case {
-    /// The largest image comes first: the memory that it gives back is used again for the others, and
-    /// not taken from the system for each medium anew.
+    /// The largest image comes first: the memory that it gives back is used again for the others,
+    /// and not taken from the system for each medium anew.
     pub(crate) const ALL: [Case; 3] = [Case::LogLike, Case::Large, Case::Small];
 
     pub(crate) fn size(self) -> Size {

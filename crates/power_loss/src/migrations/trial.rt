@@ -70,8 +70,8 @@ impl<'a> Trial<'a> {
         trial.cut_everywhere(alloc, case, counts)
     }
 
-    // Migrates a copy with each fuse in turn, from the first of the case up to the one that lets the
-    // migration end.
+    // Migrates a copy with each fuse in turn, from the first of the case up to the one that lets
+    // the migration end.
     fn cut_everywhere(
         self,
         alloc: Global,
