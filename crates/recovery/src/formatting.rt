@@ -54,10 +54,24 @@ pub(crate) fn write_image<M: Medium>(m: &mut M, sizes: &Super, end: u64) -> Resu
     write_through(m, 0, &sizes.encode())
 }
 
-// Makes an image of this format.
-fn make<M: Medium>(m: &mut M, format: LogFormat, blocks: u64, slots: u64) -> Result<(), FormatFault>
+/// Makes an image of this format: `blocks` blocks of zeros, 1 to 2^31, and `slots` log slots, 1 to
+/// 64. `format` and `format2` make one of format 1 and one of format 2.
+///
+/// It takes two sectors, those of the slots, and `blocks`. Until its first good flush a cut may
+/// leave what it could leave before, from then on no super, and in the end the new image.
+///
+/// # Errors
+///
+/// Those of `format`.
+pub fn make<M: Medium>(
+    m: &mut M,
+    format: LogFormat,
+    blocks: u64,
+    slots: u64,
+) -> Result<(), FormatFault>
     ensures ok { let shape = new_shape format blocks slots in
         OnOk result (IsFormatted shape (M.state m.new)) }
+    // A size that is out of its limits is refused before any call.
     ensures err { let shape = new_shape format blocks slots in
         IfErr result (λ fault. IsFormatCause shape (M.state m.old) (M.state m.new) fault
         × (fault ≡ FormatFault.BadSize → m.new ≡ m.old)) }

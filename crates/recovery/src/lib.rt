@@ -20,7 +20,7 @@ mod start_fault;
 mod survey;
 
 pub use format_fault::FormatFault;
-pub use formatting::{format, format2, sizes_of};
+pub use formatting::{format, format2, make, sizes_of};
 pub use inspection::{Inspection, inspect};
 pub use laying::lay_log;
 pub use migration::migrate;
