@@ -12,6 +12,7 @@ pub mod DecidingRecords
 pub mod Ending
 pub mod Engine
 pub mod FaultLaws
+pub mod Finding
 pub mod Format1Laws
 pub mod Format2Laws
 pub mod Formats
@@ -23,5 +24,9 @@ pub mod Sighting
 pub mod Slots
 pub mod StandingLaws
 pub mod WholeTwo
+pub mod WholeOne
+pub mod SlotTwo
+pub mod Naming
+pub mod Within
 pub mod Wholeness
 pub mod Zeros

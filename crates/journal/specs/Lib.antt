@@ -15,7 +15,10 @@ pub mod LayoutLaws
 pub mod Format1
 pub mod Format2
 pub mod SlotTwo
+pub mod SlotReads
+pub mod Reads
 pub mod Formats
+pub mod Reading
 pub mod Copies
 pub mod Standing
 pub mod Staged

@@ -2,6 +2,7 @@
 mod commit;
 mod descriptor;
 mod places;
+mod read;
 mod record;
 mod whole;
 
@@ -9,5 +10,6 @@ pub use commit::Commit;
 pub use descriptor::Descriptor;
 pub(crate) use places::{COMMIT, FIRST_DATA, GAP, LIMIT, SLOT_SECTORS};
 pub use places::{commit_place, data_place, place_of};
+pub(crate) use read::read_record;
 pub(crate) use record::{early, part, parts};
 pub use whole::whole_record;

@@ -1,16 +1,20 @@
 -- An image has one number alone of sectors that are read to tell whether a record of format 2 is whole.
-use Rattle.std.proofs.Common.{◌≡◌, ◌∙◌, inl, inr, ℕ, ◌+◌, ◌*◌, ◌%◌, ◌<◌, List, length, take, drop, sym, subst, arith}
-use Rattle.std.specs.Prelude.{All}
+use Rattle.std.proofs.Common.{◌≡◌, ◌∙◌, inl, inr, ℕ, ◌+◌, ◌<◌, ◌≤◌, length, refl, sym, subst, arith}
+use Rattle.std.specs.Prelude.{Some, None}
 use Rattle.std.proofs.lemmas.Bool.{cases_lt}
 use Rattle.medium.specs.Medium.{Image}
+use Rattle.journal.specs.declared.log_format.LogFormat.{LogFormat}
+use Rattle.journal.specs.declared.log_format.LogFormat.TheVariants.{One, Two}
+use Rattle.journal.specs.declared.record.Record.{Record}
 use Rattle.journal.specs.Places.{Shape}
-use Rattle.journal.specs.Sectors.{IsRising}
-use Rattle.journal.specs.SectorsTwo.{descriptors_of, IsDescriptorTwo}
+use Rattle.journal.specs.SectorsTwo.{descriptors_of}
 use Rattle.journal.proofs.EntriesTwo.{commit_count}
+use Rattle.journal.proofs.Naming.{each_there}
 use Rattle.journal.specs.Layout.{slot_at}
 use Rattle.journal.specs.Format2.{format2}
-use Rattle.journal.specs.SlotTwo.{HasDescriptors}
-use Rattle.recovery.specs.Tries.{StopsAtBad, ReadsUpToBad, HasDescriptor, HasPlace, NamesBlocks, IsReadBehind, IsReadInSlot, IsTryTwo}
+use Rattle.journal.specs.Reading.{record_reads_of, stamp_reads_of, IsReadFor, IsReadForStamps}
+use Rattle.recovery.specs.Copies.{most_reads_of}
+use Rattle.recovery.specs.Tries.{StopsAtBad, ReadsUpToBad, HasDescriptor, HasPlace, NamesBlocks, IsReadBehind, IsReadInSlot, IsTryTwo, IsTryOf}
 
 -- there is one first bad one
 stops_once : (good : ℕ → Type 0) (many a b : ℕ) → StopsAtBad good many a → StopsAtBad good many b → a ≡ b
@@ -28,32 +32,22 @@ up_to_once good many a b (inl x) (inr y) = absurd (y.bad (x.0 y.first y.inside))
 up_to_once good many a b (inr x) (inl y) = absurd (x.bad (y.0 x.first x.inside))
 up_to_once good many a b (inr x) (inr y) = stops_once good many a b x y
 
--- descriptors that name so many blocks are there
-pub each_there : (image : Image) (at stamp count : ℕ) (numbers : List ℕ) → length numbers ≡ count → HasDescriptors image at stamp numbers
-    → (j : ℕ) → j < descriptors_of count → HasDescriptor image at stamp count j
-each_there image at stamp count numbers long has j below =
-    let is = has j (omega (arith, below, long)) in (
-      take 30 (drop (30 * j) numbers),
-      is.0,
-      subst (λ (n : ℕ). IsDescriptorTwo stamp n j (take 30 (drop (30 * j) numbers)) is.0 (image (at + j))) long is.1,
-    )
-
 module _ (image : Image) (at stamp blocks : ℕ) where
   there : (count : ℕ) → NamesBlocks image at stamp blocks count → (j : ℕ) → j < descriptors_of count
       → HasDescriptor image at stamp count j
   there count named = each_there image at stamp count named.0 named.1 named.2
 
   behind_once : (count a b : ℕ) → IsReadBehind image at stamp blocks count a → IsReadBehind image at stamp blocks count b → a ≡ b
-  behind_once count a b (inl x) (inl y) =
+  behind_once count a b (inl (inl x)) (inl (inl y)) =
       stops_once (HasDescriptor image at stamp count) (descriptors_of count) a b x y
-  behind_once count a b (inl x) (inr (inl y)) = absurd (x.bad (y.0 x.first x.inside))
-  behind_once count a b (inl x) (inr (inr y)) = absurd (x.bad (there count y.0 x.first x.inside))
-  behind_once count a b (inr (inl x)) (inl y) = absurd (y.bad (x.0 y.first y.inside))
-  behind_once count a b (inr (inl x)) (inr (inl y)) = x.2 ∙ sym y.2
-  behind_once count a b (inr (inl x)) (inr (inr y)) = absurd (x.1 y.0)
-  behind_once count a b (inr (inr x)) (inl y) = absurd (y.bad (there count x.0 y.first y.inside))
-  behind_once count a b (inr (inr x)) (inr (inl y)) = absurd (y.1 x.0)
-  behind_once count a b (inr (inr x)) (inr (inr y)) =
+  behind_once count a b (inl (inl x)) (inl (inr y)) = absurd (x.bad (y.0 x.first x.inside))
+  behind_once count a b (inl (inl x)) (inr y) = absurd (x.bad (there count y.0 x.first x.inside))
+  behind_once count a b (inl (inr x)) (inl (inl y)) = absurd (y.bad (x.0 y.first y.inside))
+  behind_once count a b (inl (inr x)) (inl (inr y)) = x.2 ∙ sym y.2
+  behind_once count a b (inl (inr x)) (inr y) = absurd (x.1 y.0)
+  behind_once count a b (inr x) (inl (inl y)) = absurd (y.bad (there count x.0 y.first y.inside))
+  behind_once count a b (inr x) (inl (inr y)) = absurd (y.1 x.0)
+  behind_once count a b (inr x) (inr y) =
       let same = up_to_once (HasPlace image at stamp) count x.1 y.1 x.2 y.2 in omega (arith, same, x.3, y.3)
 
   in_slot_once : (a b : ℕ) → IsReadInSlot image at stamp blocks a → IsReadInSlot image at stamp blocks b → a ≡ b
@@ -75,15 +69,41 @@ try_made shape image stamp reads is = record {
   only = λ other that. in_slot_once image (slot_at format2 shape stamp) stamp shape.blocks other reads that is;
 }
 
--- so in the slot of this number
-pub try_at : (shape : Shape) (image : Image) (stamp slot reads : ℕ) → slot ≡ stamp % shape.slots
-    → IsReadInSlot image (2 + 249 * slot) stamp shape.blocks reads → IsTryTwo shape image stamp reads
-try_at shape image stamp slot reads where_is is =
-    try_made shape image stamp reads
-    (subst (λ (k : ℕ). IsReadInSlot image (2 + 249 * k) stamp shape.blocks reads) where_is is)
+-- a record that is not there was tried
+pub try_missed : (format : LogFormat) (shape : Shape) (image : Image) (stamp reads before after : ℕ)
+    → IsReadFor format shape image stamp None reads → after ≡ before + reads → IsTryOf format shape image stamp before after
+try_missed One shape image stamp reads before after is made = omega (arith, is, made)
+try_missed Two shape image stamp reads before after (inl none) made =
+    (reads, try_made shape image stamp reads (inl none), made)
+try_missed Two shape image stamp reads before after (inr bad) made =
+    (reads, try_made shape image stamp reads (inr (bad.0, bad.1, bad.2, inl bad.3, bad.4)), made)
 
--- these numbers are what is named
-pub names_these : (image : Image) (at stamp blocks count : ℕ) (numbers : List ℕ) → length numbers ≡ count
-    → HasDescriptors image at stamp numbers → IsRising numbers → All (λ b. b < blocks) numbers
-    → NamesBlocks image at stamp blocks count
-names_these image at stamp blocks count numbers long has rising inside = (numbers, long, has, rising, inside)
+-- and one that is there, once its data places were asked for the stamp
+pub try_read : (format : LogFormat) (shape : Shape) (image : Image) (stamp : ℕ) (read : Record) (reads places before mid after : ℕ)
+    → IsReadFor format shape image stamp (Some read) reads → mid ≡ before + reads
+    → IsReadForStamps format shape image stamp (length read.numbers.items) places → after ≡ mid + places
+    → IsTryOf format shape image stamp before after
+try_read One shape image stamp read reads places before mid after is made none more = omega (arith, is, made, none, more)
+try_read Two shape image stamp read reads places before mid after is made asked more =
+    let n : ℕ = length read.numbers.items in (
+      reads + places,
+      try_made shape image stamp (reads + places) (inr (
+        n,
+        is.0,
+        descriptors_of n + places,
+        inr (is.1, places, asked, refl),
+        let first = is.2 in omega (arith, first),
+      )),
+      omega (arith, made, more),
+    )
+
+-- the reads of a record and those of its data places
+pub most_tried : (format : LogFormat) (count before mid after : ℕ) → count ≤ 240 → mid ≤ before + record_reads_of format
+    → after ≤ mid + stamp_reads_of format count → after ≤ before + most_reads_of format
+most_tried One count before mid after few first last = omega (arith, first, last)
+most_tried Two count before mid after few first last = omega (arith, few, first, last)
+
+-- fewer than a slot has sectors
+pub few_tried : (format : LogFormat) (before after : ℕ) → after ≤ before + most_reads_of format → after ≤ before + 250
+few_tried One before after most = omega (arith, most)
+few_tried Two before after most = omega (arith, most)

@@ -13,10 +13,7 @@ pub mod Homing
 pub mod Leaving
 pub mod Migrating
 pub mod Moving
-pub mod Naming
 pub mod Recovering
 pub mod Replaying
 pub mod Sending
 pub mod Sighting
-pub mod WholeOne
-pub mod WholeTwo

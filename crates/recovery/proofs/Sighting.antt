@@ -1,26 +1,11 @@
 -- Each sector that a recovery reads is one of the log.
-use Rattle.std.proofs.Common.{◌≡◌, ℕ, ◌+◌, ◌*◌, ◌%◌, ◌<◌, ◌≤◌, sym, subst, arith}
-use Rattle.std.proofs.lemmas.Nat.{mod_below}
+use Rattle.std.proofs.Common.{◌≡◌, ℕ, ◌<◌, sym, subst}
 use Rattle.medium.specs.Medium.{State, Image, LooksOnly}
 use Rattle.medium.specs.Moments.{IsQuiet}
 use Rattle.medium.proofs.Looking.{no_looks, looks_joined, looks_below, look_below}
-use Rattle.journal.specs.declared.log_format.LogFormat.TheVariants.{One, Two}
-use Rattle.journal.specs.Places.{Shape, first_home, IsFirstHome}
+use Rattle.journal.specs.Places.{Shape, first_home}
 use Rattle.journal.specs.ImageFaults.{HasShape}
 use Rattle.recovery.specs.Looks.{HoldsLog, LooksAtLog}
-use Rattle.recovery.proofs.WholeOne.{slot_one}
-use Rattle.recovery.proofs.WholeTwo.{slot_two}
-
--- the slot of a stamp ends before home
-pub within_one : (shape : Shape) (stamp slot : ℕ) → shape.format ≡ One → IsFirstHome shape.format shape.slots shape.home
-    → 0 < shape.slots → slot ≡ stamp % shape.slots → 2 + 50 * slot + 50 ≤ first_home shape
-within_one shape stamp slot one home some is =
-    let ends = slot_one shape (stamp % shape.slots) one home (mod_below stamp shape.slots some) in omega (arith, ends, is)
-
-pub within_two : (shape : Shape) (stamp slot : ℕ) → shape.format ≡ Two → IsFirstHome shape.format shape.slots shape.home
-    → 0 < shape.slots → slot ≡ stamp % shape.slots → 2 + 249 * slot + 249 ≤ first_home shape
-within_two shape stamp slot two home some is =
-    let ends = slot_two shape (stamp % shape.slots) two home (mod_below stamp shape.slots some) in omega (arith, ends, is)
 
 -- calls that wrote nothing leave the log where it was
 pub holds_after : (near : ℕ) (old mid : State) → IsQuiet old mid → HoldsLog near old.size old.content → HoldsLog near mid.size mid.content

@@ -4,6 +4,7 @@ use Rattle.medium.specs.Medium.{State, Image, CutLeaves}
 use Rattle.medium.specs.Moments.{LeavesOnly, SparesFrom, IsQuiet}
 use Rattle.medium.specs.Sent.{SendsUpTo}
 use Rattle.medium.specs.declared.fault.MediumFault.{MediumFault}
+pub use Rattle.journal.specs.Reads.{ReadsPass, ReadsAllPass}
 use Rattle.recovery.specs.Causes.{IsRefusedCall, MakesReadsAlone}
 use Rattle.recovery.specs.Copies.{freed_at, cleared_at, HasNewHead}
 
@@ -28,24 +29,6 @@ pub record ReadsUpTo {X E : Type 0} (count : ℕ) (old new : State) (result : Re
   pub reads : MakesReadsAlone old new
   pub calls : new.calls ≤ old.calls + count
   pub exact : OnOk result (new.calls ≡ old.calls + count)
-
--- No call but reads was made, at most this many. An error is a call that the medium refused.
-pub record ReadsPass {X : Type 0} (most : ℕ) (old new : State) (result : Result X MediumFault)
-    : Type 0 where
-  pub quiet : IsQuiet old new
-  pub reads : MakesReadsAlone old new
-  pub calls : new.calls ≤ old.calls + most
-  pub cause : IfErr result (IsRefusedCall old new)
-
--- No call but reads was made: this many where Ok, no more than that where the medium refused one,
--- which is the only error.
-pub record ReadsAllPass {X : Type 0} (count : ℕ) (old new : State)
-    (result : Result X MediumFault) : Type 0 where
-  pub quiet : IsQuiet old new
-  pub reads : MakesReadsAlone old new
-  pub calls : new.calls ≤ old.calls + count
-  pub exact : OnOk result (new.calls ≡ old.calls + count)
-  pub cause : IfErr result (IsRefusedCall old new)
 
 -- At most this many calls, which write to these sectors alone. A cut at any moment of them leaves
 -- an image that has P. An error is a call that the medium refused.

@@ -1,5 +1,5 @@
 -- Why a start is refused.
-use Rattle.std.specs.Prelude.{◌≡◌, ◌≢◌, ℕ, ◌<◌, ◌+◌}
+use Rattle.std.specs.Prelude.{◌≡◌, ℕ, ◌<◌, ◌+◌}
 use Rattle.medium.specs.Medium.{State, Image}
 use Rattle.medium.specs.Moments.{IsQuiet}
 use Rattle.medium.specs.declared.fault.MediumFault.{MediumFault}
@@ -7,6 +7,7 @@ use Rattle.medium.specs.declared.fault.MediumFault.TheVariants as medium
 use Rattle.journal.specs.declared.log_format.LogFormat.TheVariants.{One}
 use Rattle.journal.specs.Places.{Shape}
 use Rattle.journal.specs.Sectors.{IsHead}
+pub use Rattle.journal.specs.Reads.{IsRefusedCall, MakesReadsAlone}
 use Rattle.journal.specs.ImageFaults as image
 use Rattle.recovery.specs.declared.start_fault.StartFault.{StartFault}
 use Rattle.recovery.specs.declared.start_fault.StartFault.TheVariants.{NoMemory, Read, Write, Flush}
@@ -19,15 +20,6 @@ abbrev pub start_fault_of : MediumFault → StartFault
 start_fault_of medium.Read = Read
 start_fault_of medium.Write = Write
 start_fault_of medium.Flush = Flush
-
--- a call of this kind was refused, and counted as one and as one of its kind
-pub record IsRefusedCall (old new : State) (kind : MediumFault) : Type 0 where
-  pub grew : old.failures < new.failures
-  pub kind_grew : old.refused kind < new.refused kind
-
--- no call but reads was made
-abbrev pub MakesReadsAlone : State → State → Type 0
-MakesReadsAlone old new = (kind : MediumFault) → kind ≢ medium.Read → new.made kind ≡ old.made kind
 
 -- Calls that wrote nothing: not one was a write, and one was a flush.
 pub record WritesNothing (old new : State) : Type 0 where

@@ -1,11 +1,11 @@
 -- The sectors that are written, and what a cut leaves of them.
 use Rattle.std.specs.Prelude.{◌≡◌, ◌≢◌, ◌⊎◌, ℕ, ◌+◌, ◌*◌, ◌<◌, ◌≤◌, List, [], ◌∷◌, length}
-use Rattle.std.specs.Prelude.{slice_index, get_or, replicate}
+use Rattle.std.specs.Prelude.{slice_index, get_or, replicate, All}
 use Rattle.medium.specs.Medium.{State, Image, Sets, CutLeaves, Holds}
 use Rattle.journal.specs.declared.log_format.LogFormat.{LogFormat}
 use Rattle.journal.specs.declared.log_format.LogFormat.TheVariants.{One, Two}
 use Rattle.journal.specs.Places.{Shape, first_home, limit_of, slot_sectors_of}
-use Rattle.journal.specs.Sectors.{IsHead}
+use Rattle.journal.specs.Sectors.{IsHead, IsRising}
 use Rattle.journal.specs.SectorsTwo.{descriptors_of}
 use Rattle.journal.specs.Record.{Entry, numbers_of, block_of, with_records, home_of}
 use Rattle.journal.specs.Formats.{IsWhole}
@@ -26,6 +26,12 @@ WithOrWithout s bytes sets image =
 -- the sector lies from the first on, before the end
 abbrev pub IsBetween : ℕ → ℕ → ℕ → Type 0
 IsBetween first end x = (first ≤ x) × (x < end)
+
+-- The block numbers of a record in a log of this shape.
+pub record AreBlocks (shape : Shape) (numbers : List ℕ) : Type 0 where
+  pub few : length numbers ≤ limit_of shape.format
+  pub rising : IsRising numbers
+  pub inside : All (λ b. b < shape.blocks) numbers
 
 -- one of these blocks is at home in the sector
 abbrev pub IsHomeOf : Shape → List ℕ → ℕ → Type 0

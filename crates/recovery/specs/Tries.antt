@@ -1,67 +1,34 @@
 -- How many reads tell whether records are whole, by what the image holds.
-use Rattle.std.specs.Prelude.{◌≡◌, ◌⊎◌, ℕ, ◌+◌, ◌*◌, ◌<◌, List, length, All, sum, slice_index}
+use Rattle.std.specs.Prelude.{◌≡◌, ◌⊎◌, ℕ, ◌+◌, ◌*◌, ◌<◌, List, length, sum, slice_index}
 use Rattle.medium.specs.Medium.{Image}
 use Rattle.journal.specs.declared.log_format.LogFormat.{LogFormat}
 use Rattle.journal.specs.declared.log_format.LogFormat.TheVariants.{One, Two}
 use Rattle.journal.specs.Places.{Shape}
-use Rattle.journal.specs.Sectors.{IsRising}
-use Rattle.journal.specs.SectorsTwo.{descriptors_of, place_bytes, IsDescriptorTwo, IsCommitTwo}
-use Rattle.journal.specs.V2.{first_data, commit_offset}
+use Rattle.journal.specs.SectorsTwo.{descriptors_of}
+pub use Rattle.journal.specs.SlotReads.{StopsAtBad, ReadsUpToBad}
+pub use Rattle.journal.specs.SlotReads.{IsCommitted, HasDescriptor, HasPlace, NamesBlocks}
+use Rattle.journal.specs.SlotReads.{IsReadInVain}
 use Rattle.journal.specs.Layout.{slot_at}
 use Rattle.journal.specs.Format2.{format2}
-use Rattle.journal.specs.SlotTwo.{HasDescriptors}
-
--- one of so many is bad, and as many are read as go up to the first bad one, and with it
-pub record StopsAtBad (good : ℕ → Type 0) (many reads : ℕ) : Type 0 where
-  pub first : ℕ
-  pub inside : first < many
-  pub before : (i : ℕ) → i < first → good i
-  pub bad : ¬ good first
-  pub reads_are : reads ≡ first + 1
-
--- as many are read as go up to the first bad one; or all, where all are good
-abbrev pub ReadsUpToBad : (ℕ → Type 0) → ℕ → ℕ → Type 0
-ReadsUpToBad good many reads =
-    (((i : ℕ) → i < many → good i) × (reads ≡ many)) ⊎ StopsAtBad good many reads
 
 -- of the record of a stamp in the slot of format 2 that begins at this sector
 module _ (image : Image) (at stamp : ℕ) where
-  -- the last sector is a commit of so many blocks
-  abbrev pub IsCommitted : ℕ → Type 0
-  IsCommitted count = IsCommitTwo stamp count (image (at + commit_offset))
-
-  -- its descriptor j is there, if it has so many blocks
-  abbrev pub HasDescriptor : ℕ → ℕ → Type 0
-  HasDescriptor count j = (numbers : List ℕ) × (firsts : List (List ℕ))
-      × IsDescriptorTwo stamp count j numbers firsts (image (at + j))
-
-  -- the i-th data place begins with the stamp
-  abbrev pub HasPlace : ℕ → Type 0
-  HasPlace i = image (at + (first_data + i)) ≡ place_bytes stamp (image (at + (first_data + i)))
-
-  -- all descriptors are there, and what they name are so many blocks of an array of this length
-  abbrev pub NamesBlocks : ℕ → ℕ → Type 0
-  NamesBlocks blocks count = (numbers : List ℕ) × (length numbers ≡ count)
-      × HasDescriptors image at stamp numbers
-      × IsRising numbers × All (λ b. b < blocks) numbers
-
   -- How many sectors are read behind a commit of so many blocks: descriptors up to the first bad
   -- one; or all of them, where they name no such blocks; or all of them, and data places up to the
   -- first bad one.
   abbrev pub IsReadBehind : ℕ → ℕ → ℕ → Type 0
   IsReadBehind blocks count reads =
-      StopsAtBad (HasDescriptor count) (descriptors_of count) reads
-      ⊎ (((j : ℕ) → j < descriptors_of count → HasDescriptor count j)
-      × (¬ NamesBlocks blocks count) × (reads ≡ descriptors_of count))
-      ⊎ (NamesBlocks blocks count × (places : ℕ) × ReadsUpToBad HasPlace count places
+      IsReadInVain image at stamp blocks count reads
+      ⊎ (NamesBlocks image at stamp blocks count × (places : ℕ)
+      × ReadsUpToBad (HasPlace image at stamp) count places
       × (reads ≡ descriptors_of count + places))
 
   -- how many are read in all: the commit, and where it is there, what is read behind it
   abbrev pub IsReadInSlot : ℕ → ℕ → Type 0
   IsReadInSlot blocks reads =
-      (((count : ℕ) → ¬ IsCommitted count) × (reads ≡ 1))
-      ⊎ ((count : ℕ) × IsCommitted count × (behind : ℕ) × IsReadBehind blocks count behind
-      × (reads ≡ 1 + behind))
+      (((count : ℕ) → ¬ IsCommitted image at stamp count) × (reads ≡ 1))
+      ⊎ ((count : ℕ) × IsCommitted image at stamp count × (behind : ℕ)
+      × IsReadBehind blocks count behind × (reads ≡ 1 + behind))
 
 -- So many sectors of an image of format 2, and no other number of them, are read to tell whether
 -- the record of this stamp is whole.

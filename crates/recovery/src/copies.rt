@@ -1,18 +1,18 @@
 //! The copying of the whole records home.
 ghost use Rattle.std.specs.Prelude.{◌≡◌, ◌<◌, ◌≤◌, ◌+◌, ◌*◌, ◌^◌, ◌++◌};
-ghost use Rattle.std.specs.Prelude.{List, ℕ, OnOk, length, [], get_or, drop};
+ghost use Rattle.std.specs.Prelude.{List, ℕ, OnOk, length, [], get_or, slice_index, drop};
 ghost use Rattle.medium.specs.Medium.{LooksOnly};
 ghost use Rattle.journal.specs.Places.{first_home, sectors_of, limit_of};
 ghost use Rattle.journal.specs.Values.{shape_of};
 ghost use Rattle.journal.specs.Record.{Entry};
 ghost use Rattle.journal.specs.Formats.{IsWhole, HasWhole};
 ghost use Rattle.recovery.specs.Calls.{FollowsBy, CopiesPass, CopiesAllPass};
-ghost use Rattle.recovery.specs.Copies.{most_calls_of, IsHomeInRecord, IsHomeInRecords};
-ghost use Rattle.recovery.specs.Copies.{IsCopied, AreCopied};
+ghost use Rattle.journal.specs.Reading.{data_at};
+ghost use Rattle.recovery.specs.Copies.{most_calls_of, IsHomeOf, IsHomeInRecord, IsHomeInRecords};
+ghost use Rattle.recovery.specs.Copies.{AreBlocks, IsCopied, AreCopied};
 
 use crate::found::Found;
-use crate::{copies_one, copies_two};
-use journal::{LogFormat, Super};
+use journal::{Record, Super, copy_place, read_record, slot_of};
 use medium::{Medium, MediumFault};
 
 /// Copies the bytes of one sector to another, with these in place of the first.
@@ -36,6 +36,38 @@ pub(crate) fn copy_sector<M: Medium>(
     m.write(to, &sector)
 }
 
+// Copies the blocks home that the record of this stamp has.
+fn copy_blocks<M: Medium>(
+    m: &mut M,
+    sizes: &Super,
+    stamp: u64,
+    read: &Record,
+) -> Result<(), MediumFault>
+    requires fits { sectors_of (shape_of sizes.now) ≤ (M.state m.old).size }
+    requires blocks { AreBlocks (shape_of sizes.now) read.now.numbers.items }
+    ensures done { OnOk result ((i : ℕ) → i < length read.now.numbers.items
+        → (M.state m.new).content (first_home (shape_of sizes.now)
+        + slice_index read.now.numbers.items i)
+        ≡ get_or read.now.firsts.items i []
+        ++ drop (length (get_or read.now.firsts.items i []))
+        ((M.state m.old).content (data_at (shape_of sizes.now) stamp i))) }
+    ensures copies { CopiesAllPass (IsHomeOf (shape_of sizes.now) read.now.numbers.items)
+        (2 * length read.now.numbers.items) (M.state m.old) (M.state m.new) result }
+    ensures follows { FollowsBy M.state M.follows (length read.now.numbers.items)
+        (LooksOnly (λ s. s < first_home (shape_of sizes.now))) m.old m.new }
+{
+    let slot = slot_of(stamp, sizes.slots);
+    for i in 0..read.numbers.len() {
+        copy_sector(
+            m,
+            copy_place(sizes.format, slot, i),
+            sizes.home_of(read.numbers[i]),
+            read.first(i),
+        )?;
+    }
+    Ok(())
+}
+
 // Copies the record of this stamp home, which is whole.
 fn copy_record<M: Medium>(m: &mut M, sizes: &Super, stamp: u64) -> Result<(), MediumFault>
     requires fits { sectors_of (shape_of sizes.now) ≤ (M.state m.old).size }
@@ -50,9 +82,9 @@ fn copy_record<M: Medium>(m: &mut M, sizes: &Super, stamp: u64) -> Result<(), Me
     ensures follows { FollowsBy M.state M.follows (limit_of sizes.now.format)
         (LooksOnly (λ s. s < first_home (shape_of sizes.now))) m.old m.new }
 {
-    match sizes.format {
-        LogFormat::One => copies_one::copy_record(m, sizes, stamp),
-        LogFormat::Two => copies_two::copy_record(m, sizes, stamp),
+    match read_record(m, sizes, stamp)? {
+        Some(read) => copy_blocks(m, sizes, stamp, &read),
+        None => Ok(()),
     }
 }
 

@@ -1,20 +1,17 @@
 //! A look at an image, which changes nothing.
 ghost use Rattle.std.specs.Prelude.{◌≡◌, ◌≤◌, ◌<◌, ◌+◌, ◌*◌, ◌^◌};
-ghost use Rattle.std.specs.Prelude.{List, length, IfOk, IfErr, MatchOption};
+ghost use Rattle.std.specs.Prelude.{IfOk, IfErr};
 ghost use Rattle.journal.specs.declared.log_format.LogFormat.TheVariants.{Two};
 ghost use Rattle.journal.specs.Places.{sectors_of, slot_sectors_of};
 ghost use Rattle.journal.specs.Values.{shape_of};
-ghost use Rattle.journal.specs.Record.{Entry};
-ghost use Rattle.journal.specs.Formats.{IsWhole, HasWhole};
 ghost use Rattle.recovery.specs.Calls.{ReadsPass};
 ghost use Rattle.recovery.specs.Inspected.{AreCounts, IsInspected, OnlyLooks, IsLookRefusal};
 
 use crate::StartFault;
-use crate::record_one::read_record;
-use crate::record_two::{is_whole, read_count};
+use crate::record::count_blocks;
 use crate::survey::read_super;
 use arrayvec::ArrayVec;
-use journal::{Head, LogFormat, Super, slot_of};
+use journal::{Head, Super};
 use medium::{Medium, MediumFault};
 
 /// What an image holds beside its blocks at home.
@@ -26,44 +23,6 @@ pub struct Inspection {
     pub head: u64,
     /// How many blocks each record has that waits to go home, the oldest first.
     pub waiting: ArrayVec<u64, 64>,
-}
-
-// Reads how many blocks the record of a stamp has, if it is whole, in format 2.
-fn count_two<M: Medium>(m: &mut M, sizes: &Super, stamp: u64) -> Result<Option<u64>, MediumFault>
-    requires format { sizes.now.format ≡ Two }
-    requires fits { sectors_of (shape_of sizes.now) ≤ (M.state m.old).size }
-    ensures passes { ReadsPass 250 (M.state m.old) (M.state m.new) result }
-    ensures counted { IfOk result (λ found. MatchOption found
-        (¬ HasWhole (shape_of sizes.now) (M.state m.old).content stamp)
-        (λ count. (entries : List Entry)
-        × IsWhole (shape_of sizes.now) (M.state m.old).content stamp entries
-        × (count ≡ length entries))) }
-    ensures follows { M.follows m.old m.new }
-{
-    if !is_whole(m, sizes, stamp)? {
-        return Ok(None);
-    }
-    read_count(m, slot_of(stamp, sizes.slots), stamp)
-}
-
-// Reads how many blocks the record of a stamp has, if it is whole.
-fn count_blocks<M: Medium>(m: &mut M, sizes: &Super, stamp: u64) -> Result<Option<u64>, MediumFault>
-    requires { sectors_of (shape_of sizes.now) ≤ (M.state m.old).size }
-    ensures passes { ReadsPass 250 (M.state m.old) (M.state m.new) result }
-    ensures counted { IfOk result (λ found. MatchOption found
-        (¬ HasWhole (shape_of sizes.now) (M.state m.old).content stamp)
-        (λ count. (entries : List Entry)
-        × IsWhole (shape_of sizes.now) (M.state m.old).content stamp entries
-        × (count ≡ length entries))) }
-    ensures follows { M.follows m.old m.new }
-{
-    match sizes.format {
-        LogFormat::One => match read_record(m, sizes, stamp)? {
-            Some(record) => Ok(Some(record.numbers.len() as u64)),
-            None => Ok(None),
-        },
-        LogFormat::Two => count_two(m, sizes, stamp),
-    }
 }
 
 // Reads how many blocks each of the whole records has that follow from the head on.

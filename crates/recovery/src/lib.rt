@@ -2,8 +2,6 @@
 #![tactic(auto)]
 
 mod copies;
-mod copies_one;
-mod copies_two;
 mod format_fault;
 mod formatting;
 mod found;
@@ -11,8 +9,7 @@ mod inspection;
 mod laying;
 mod migration;
 mod new_head;
-mod record_one;
-mod record_two;
+mod record;
 mod recovered;
 mod recovery;
 mod sectors;

@@ -1,12 +1,11 @@
 //! What recovery reads before its first write.
 ghost use Rattle.std.specs.Prelude.{◌≡◌, ◌<◌, ◌≤◌, ◌+◌, ◌*◌, ◌^◌, ◌↔◌};
-ghost use Rattle.std.specs.Prelude.{ℕ, OnOk, IfOk, IfErr, min, IsTrue};
+ghost use Rattle.std.specs.Prelude.{IfOk, IfErr, min, IsTrue};
 ghost use Rattle.medium.specs.Medium.{LooksOnly};
 ghost use Rattle.medium.specs.Moments.{IsQuiet};
 ghost use Rattle.journal.specs.declared.log_format.LogFormat.TheVariants.{One};
 ghost use Rattle.journal.specs.Places.{first_home, sectors_of};
 ghost use Rattle.journal.specs.Values.{shape_of};
-ghost use Rattle.journal.specs.Formats.{HasWhole};
 ghost use Rattle.journal.specs.Standing.{IsCount};
 ghost use Rattle.journal.specs.ImageFaults.{HasShape};
 ghost use Rattle.recovery.specs.Calls.{ReadsUpTo, ReadsPass};
@@ -14,31 +13,13 @@ ghost use Rattle.recovery.specs.Causes.{IsRefusalBy};
 ghost use Rattle.recovery.specs.Copies.{most_reads_of};
 ghost use Rattle.recovery.specs.Found.{IsSurvey, SurveysAtMost};
 ghost use Rattle.recovery.specs.Inspected.{IsLookCause};
-ghost use Rattle.recovery.specs.Tries.{AreTries, IsTryOf};
+ghost use Rattle.recovery.specs.Tries.{AreTries};
 
+use crate::StartFault;
 use crate::found::Found;
-use crate::record_one::read_record;
-use crate::{StartFault, record_two};
+use crate::record::count_blocks;
 use journal::{Head, LogFormat, Super, SuperFault};
 use medium::{Medium, MediumFault};
-
-// Whether the record of a stamp is whole.
-fn is_whole<M: Medium>(m: &mut M, sizes: &Super, stamp: u64) -> Result<bool, MediumFault>
-    requires { sectors_of (shape_of sizes.now) ≤ (M.state m.old).size }
-    ensures passes { ReadsPass (most_reads_of sizes.now.format)
-        (M.state m.old) (M.state m.new) result }
-    ensures exact { OnOk result (IsTryOf sizes.now.format (shape_of sizes.now)
-        (M.state m.old).content stamp (M.state m.old).calls (M.state m.new).calls) }
-    ensures whole { IfOk result (λ whole. IsTrue whole
-        ↔ HasWhole (shape_of sizes.now) (M.state m.old).content stamp) }
-    ensures follows { M.follows m.old m.new
-        × LooksOnly (λ s. s < first_home (shape_of sizes.now)) (M.state m.old) (M.state m.new) }
-{
-    match sizes.format {
-        LogFormat::One => Ok(read_record(m, sizes, stamp)?.is_some()),
-        LogFormat::Two => record_two::is_whole(m, sizes, stamp),
-    }
-}
 
 // Counts the whole records from the head on.
 fn count_whole<M: Medium>(m: &mut M, sizes: &Super, head: u64) -> Result<u64, MediumFault>
@@ -53,9 +34,9 @@ fn count_whole<M: Medium>(m: &mut M, sizes: &Super, head: u64) -> Result<u64, Me
         × LooksOnly (λ s. s < first_home (shape_of sizes.now)) (M.state m.old) (M.state m.new) }
 {
     for j in 0..sizes.slots {
-        if !is_whole(m, sizes, head + j)? {
+        let Some(_) = count_blocks(m, sizes, head + j)? else {
             return Ok(j);
-        }
+        };
     }
     Ok(sizes.slots)
 }

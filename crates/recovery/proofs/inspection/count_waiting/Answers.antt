@@ -1,8 +1,9 @@
-use Rattle.std.proofs.Common.{◌≡◌, ◌∙◌, ◌+◌, ◌∷◌, [], length, ap, subst, arith}
+use Rattle.std.proofs.Common.{rules, ◌≡◌, ◌∙◌, ◌+◌, ◌∷◌, [], length, ap, subst, arith}
 use Rattle.std.proofs.lemmas.List.{length-append}
 use Rattle.medium.specs.Medium.{Image}
 use Rattle.medium.proofs.Moments.{quiet_joined}
 use Rattle.journal.specs.Values.{shape_of}
+use Rattle.recovery.proofs.Counting.{few_tried}
 use Rattle.recovery.proofs.Finding.{has_whole_same}
 use Rattle.recovery.proofs.Looking.{HasCount, counts_made, one_counted}
 use Rattle.recovery.proofs.inspection.count_waiting.Goals as goal
@@ -40,9 +41,45 @@ loop-j-preserved g c =
     record {
       quiet = quiet_joined old mid new inv.quiet passes.quiet;
       reads = λ kind other. passes.reads kind other ∙ inv.reads kind other;
-      calls = omega (arith, passes.calls, inv.calls);
+      calls = omega (arith, few_tried c.args.sizes.now.format mid.calls new.calls passes.calls, inv.calls);
       long = omega (arith, long, inv.long);
       each = one_counted shape old.content c.args.head j n c.loop-j.waiting.items c.push.new.self.items inv.long c.push.ensures.items
           inv.each here;
-      follows = g.met.M.Medium.follows_through c.args.m.now c.loop-j.m c.count_blocks.new.m inv.follows c.count_blocks.ensures.follows;
+      follows = g.met.M.Medium.follows_through c.args.m.now c.loop-j.m c.count_blocks.new.m inv.follows c.count_blocks.ensures.follows.0;
     }
+
+pub returns-in_err-count-clause-passes : goal.returns-in_err-count-clause-passes
+returns-in_err-count-clause-passes g c =
+    let old = g.M.Medium.state c.args.m.now in
+    let mid = g.M.Medium.state c.loop-j.m in
+    let new = g.M.Medium.state c.count_blocks.new.m in
+    let inv = c.loop-j.invariant in
+    let last = c.count_blocks.ensures.passes in
+    record {
+      quiet = quiet_joined old mid new inv.quiet last.quiet;
+      reads = λ kind other. last.reads kind other ∙ inv.reads kind other;
+      calls = omega (arith, few_tried c.args.sizes.now.format mid.calls new.calls last.calls, inv.calls, c.loop-j-test.true);
+      cause = search rules;
+    }
+
+pub returns-in_err-count-clause-follows : goal.returns-in_err-count-clause-follows
+returns-in_err-count-clause-follows g c =
+    g.met.M.Medium.follows_through c.args.m.now c.loop-j.m c.count_blocks.new.m c.loop-j.invariant.follows c.count_blocks.ensures.follows.0
+
+pub returns-in-None-clause-passes : goal.returns-in-None-clause-passes
+returns-in-None-clause-passes g c =
+    let old = g.M.Medium.state c.args.m.now in
+    let mid = g.M.Medium.state c.loop-j.m in
+    let new = g.M.Medium.state c.count_blocks.new.m in
+    let inv = c.loop-j.invariant in
+    let last = c.count_blocks.ensures.passes in
+    record {
+      quiet = quiet_joined old mid new inv.quiet last.quiet;
+      reads = λ kind other. last.reads kind other ∙ inv.reads kind other;
+      calls = omega (arith, few_tried c.args.sizes.now.format mid.calls new.calls last.calls, inv.calls, c.loop-j-test.true);
+      cause = tt;
+    }
+
+pub returns-in-None-clause-follows : goal.returns-in-None-clause-follows
+returns-in-None-clause-follows g c =
+    g.met.M.Medium.follows_through c.args.m.now c.loop-j.m c.count_blocks.new.m c.loop-j.invariant.follows c.count_blocks.ensures.follows.0

@@ -29,54 +29,55 @@ loop-j-preserved g c =
     let shape = shape_of c.args.sizes.now in
     let old = g.M.Medium.state c.args.m.now in
     let mid = g.M.Medium.state c.loop-j.m in
-    let new = g.M.Medium.state c.is_whole.new.m in
+    let new = g.M.Medium.state c.count_blocks.new.m in
     let inv = c.loop-j.invariant in
     let j = c.loop-j.j in
-    let here : HasWhole shape mid.content (c.args.head + j) = c.in_ok-is_whole.ensures.whole.0 c.if-not-branch.false in
+    let counted = rw c.in-Some.is at c.in_ok-count_blocks.ensures.counted in
+    let here : HasWhole shape mid.content (c.args.head + j) = (counted.0, counted.1) in
     let same : mid.content ≡ old.content = λ i s. inv.quiet.content_stays s i in
     let there = has_whole_same shape mid.content old.content (c.args.head + j) (λ x. sym (inv.quiet.content_stays x)) here in
     record {
-      quiet = quiet_joined old mid new inv.quiet c.is_whole.ensures.passes.quiet;
-      reads = λ kind other. c.is_whole.ensures.passes.reads kind other ∙ inv.reads kind other;
+      quiet = quiet_joined old mid new inv.quiet c.count_blocks.ensures.passes.quiet;
+      reads = λ kind other. c.count_blocks.ensures.passes.reads kind other ∙ inv.reads kind other;
       tries = tries_more c.args.sizes.now.format shape old.content c.args.head j old.calls mid.calls new.calls inv.tries
           (subst (λ (i : Image). IsTryOf c.args.sizes.now.format shape i (c.args.head + j) mid.calls new.calls) same
-          c.in_ok-is_whole.ensures.exact);
-      most = reads_more c.args.sizes.now.format j old.calls mid.calls new.calls inv.most c.is_whole.ensures.passes.calls;
+          c.in_ok-count_blocks.ensures.exact);
+      most = reads_more c.args.sizes.now.format j old.calls mid.calls new.calls inv.most c.count_blocks.ensures.passes.calls;
       whole = λ k below. elim (cases_eq j k) [
         | inl is ↦ subst (λ n. HasWhole shape old.content (c.args.head + n)) is there
         | inr not ↦ inv.whole k (omega arith)
       ];
-      follows = g.met.M.Medium.follows_through c.args.m.now c.loop-j.m c.is_whole.new.m inv.follows c.is_whole.ensures.follows.0;
-      looks = looks_joined (λ s. s < first_home shape) old mid new inv.looks c.is_whole.ensures.follows.1;
+      follows = g.met.M.Medium.follows_through c.args.m.now c.loop-j.m c.count_blocks.new.m inv.follows c.count_blocks.ensures.follows.0;
+      looks = looks_joined (λ s. s < first_home shape) old mid new inv.looks c.count_blocks.ensures.follows.1;
     }
 
-pub returns-in_err-is_whole-clause-follows : goal.returns-in_err-is_whole-clause-follows
-returns-in_err-is_whole-clause-follows g c =
+pub returns-in_err-count_blocks-clause-follows : goal.returns-in_err-count_blocks-clause-follows
+returns-in_err-count_blocks-clause-follows g c =
     let inv = c.loop-j.invariant in (
-      g.met.M.Medium.follows_through c.args.m.now c.loop-j.m c.is_whole.new.m inv.follows c.is_whole.ensures.follows.0,
+      g.met.M.Medium.follows_through c.args.m.now c.loop-j.m c.count_blocks.new.m inv.follows c.count_blocks.ensures.follows.0,
       looks_joined (λ s. s < first_home (shape_of c.args.sizes.now)) (g.M.Medium.state c.args.m.now) (g.M.Medium.state c.loop-j.m)
-          (g.M.Medium.state c.is_whole.new.m) inv.looks c.is_whole.ensures.follows.1,
+          (g.M.Medium.state c.count_blocks.new.m) inv.looks c.count_blocks.ensures.follows.1,
     )
 
-pub returns-then-not-branch-clause-follows : goal.returns-then-not-branch-clause-follows
-returns-then-not-branch-clause-follows g c =
+pub returns-in_default-clause-follows : goal.returns-in_default-clause-follows
+returns-in_default-clause-follows g c =
     let inv = c.loop-j.invariant in (
-      g.met.M.Medium.follows_through c.args.m.now c.loop-j.m c.is_whole.new.m inv.follows c.is_whole.ensures.follows.0,
+      g.met.M.Medium.follows_through c.args.m.now c.loop-j.m c.count_blocks.new.m inv.follows c.count_blocks.ensures.follows.0,
       looks_joined (λ s. s < first_home (shape_of c.args.sizes.now)) (g.M.Medium.state c.args.m.now) (g.M.Medium.state c.loop-j.m)
-          (g.M.Medium.state c.is_whole.new.m) inv.looks c.is_whole.ensures.follows.1,
+          (g.M.Medium.state c.count_blocks.new.m) inv.looks c.count_blocks.ensures.follows.1,
     )
 
-pub returns-then-not-branch-clause-exact : goal.returns-then-not-branch-clause-exact
-returns-then-not-branch-clause-exact g c =
+pub returns-in_default-clause-exact : goal.returns-in_default-clause-exact
+returns-in_default-clause-exact g c =
     let shape = shape_of c.args.sizes.now in
     let old = g.M.Medium.state c.args.m.now in
     let mid = g.M.Medium.state c.loop-j.m in
-    let new = g.M.Medium.state c.is_whole.new.m in
+    let new = g.M.Medium.state c.count_blocks.new.m in
     let inv = c.loop-j.invariant in
     let j = c.loop-j.j in
     let same : mid.content ≡ old.content = λ i s. inv.quiet.content_stays s i in
     let last = subst (λ (i : Image). IsTryOf c.args.sizes.now.format shape i (c.args.head + j) mid.calls new.calls) same
-    c.in_ok-is_whole.ensures.exact in
+    c.in_ok-count_blocks.ensures.exact in
     let below = c.loop-j-test.true in
     let many : j + 1 ≡ min (j + 1) c.args.sizes.now.slots = omega (arith, below) in
     subst (λ (n : ℕ). AreTries shape old.content c.args.head n old.calls new.calls) many
@@ -92,15 +93,15 @@ returns-clause-exact g c =
     let many : j ≡ min (slots + 1) slots = omega (arith, c.loop-j-test.false) in
     subst (λ (n : ℕ). AreTries shape old.content c.args.head n old.calls new.calls) many c.loop-j.invariant.tries
 
-pub returns-in_err-is_whole-clause-passes : goal.returns-in_err-is_whole-clause-passes
-returns-in_err-is_whole-clause-passes g c =
+pub returns-in_err-count_blocks-clause-passes : goal.returns-in_err-count_blocks-clause-passes
+returns-in_err-count_blocks-clause-passes g c =
     let format = c.args.sizes.now.format in
     let old = g.M.Medium.state c.args.m.now in
     let mid = g.M.Medium.state c.loop-j.m in
-    let new = g.M.Medium.state c.is_whole.new.m in
+    let new = g.M.Medium.state c.count_blocks.new.m in
     let inv = c.loop-j.invariant in
     let j = c.loop-j.j in
-    let last = c.is_whole.ensures.passes in
+    let last = c.count_blocks.ensures.passes in
     let more : j + 1 ≤ c.args.sizes.now.slots = omega (arith, c.loop-j-test.true) in
     record {
       quiet = quiet_joined old mid new inv.quiet last.quiet;
@@ -110,15 +111,15 @@ returns-in_err-is_whole-clause-passes g c =
       cause = search rules;
     }
 
-pub returns-then-not-branch-clause-passes : goal.returns-then-not-branch-clause-passes
-returns-then-not-branch-clause-passes g c =
+pub returns-in_default-clause-passes : goal.returns-in_default-clause-passes
+returns-in_default-clause-passes g c =
     let format = c.args.sizes.now.format in
     let old = g.M.Medium.state c.args.m.now in
     let mid = g.M.Medium.state c.loop-j.m in
-    let new = g.M.Medium.state c.is_whole.new.m in
+    let new = g.M.Medium.state c.count_blocks.new.m in
     let inv = c.loop-j.invariant in
     let j = c.loop-j.j in
-    let last = c.is_whole.ensures.passes in
+    let last = c.count_blocks.ensures.passes in
     let more : j + 1 ≤ c.args.sizes.now.slots = omega (arith, c.loop-j-test.true) in
     record {
       quiet = quiet_joined old mid new inv.quiet last.quiet;

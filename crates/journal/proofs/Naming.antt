@@ -1,0 +1,66 @@
+-- The block numbers of a record, read descriptor by descriptor.
+use Rattle.std.proofs.Common.{◌≡◌, inl, inr, ℕ, ◌+◌, ◌*◌, ◌<◌, ◌≤◌, List, ◌++◌, length, take, drop, sym, ◌∙◌, ap, subst, arith}
+use Rattle.std.proofs.lemmas.Bool.{cases_eq}
+use Rattle.std.proofs.lemmas.List.{drop_at, take_all, drop-append-le, take-append-le, length-drop, take-map, drop-map}
+use Rattle.medium.specs.Medium.{Image}
+use Rattle.std.specs.Prelude.{All}
+use Rattle.journal.specs.Sectors.{IsRising}
+use Rattle.journal.specs.Entry.{Entry}
+use Rattle.journal.specs.SectorsTwo.{descriptors_of, chunk_of, firsts_of, IsDescriptorTwo}
+use Rattle.journal.specs.SlotTwo.{HasDescriptors}
+use Rattle.journal.specs.SlotReads.{HasDescriptor, NamesBlocks}
+
+module _ (j : ℕ) (numbers more : List ℕ) (long : length numbers ≡ 30 * j) where
+  -- the numbers that were there
+  before : (k : ℕ) → k < j → take 30 (drop (30 * k) (numbers ++ more)) ≡ take 30 (drop (30 * k) numbers)
+  before k below =
+      ap (λ (l : List ℕ). take 30 l) (drop-append-le (30 * k) numbers more (omega (arith, long, below)))
+      ∙ take-append-le 30 (drop (30 * k) numbers) more (omega (arith, long, below, length-drop (30 * k) numbers))
+
+  -- and those of one more descriptor
+  last : length more ≤ 30 → take 30 (drop (30 * j) (numbers ++ more)) ≡ more
+  last few = ap (λ (l : List ℕ). take 30 l) (drop_at numbers more (30 * j) long) ∙ take_all 30 more few
+
+  -- are those of one descriptor more
+  pub described_more : (image : Image) (at stamp count : ℕ) (firsts : List (List ℕ))
+      → IsDescriptorTwo stamp count j more firsts (image (at + j))
+      → ((k : ℕ) → k < j → (fs : List (List ℕ)) × IsDescriptorTwo stamp count k (take 30 (drop (30 * k) numbers)) fs (image (at + k)))
+      → (k : ℕ) → k < j + 1
+      → (fs : List (List ℕ)) × IsDescriptorTwo stamp count k (take 30 (drop (30 * k) (numbers ++ more))) fs (image (at + k))
+  described_more image at stamp count firsts is all k below = elim (cases_eq k j) [
+    | inl same ↦
+        let here : take 30 (drop (30 * k) (numbers ++ more)) ≡ more =
+        ap (λ (i : ℕ). take 30 (drop (30 * i) (numbers ++ more))) same ∙ last (omega (arith, is.entries.many)) in (
+          firsts,
+          subst (λ (ns : List ℕ). IsDescriptorTwo stamp count k ns firsts (image (at + k))) (sym here)
+              (subst (λ (i : ℕ). IsDescriptorTwo stamp count i more firsts (image (at + i))) (sym same) is),
+        )
+    | inr other ↦
+        let less : k < j = omega arith in
+        let was = all k less in (
+          (all k less).0,
+          subst (λ (ns : List ℕ). IsDescriptorTwo stamp count k ns (all k less).0 (image (at + k))) (sym (before k less)) (all k less).1,
+        )
+  ]
+
+-- the first bytes of these entries
+pub firsts_of_chunk : (es : List Entry) (j : ℕ) → firsts_of (chunk_of es j) ≡ take 30 (drop (30 * j) (firsts_of es))
+firsts_of_chunk es j =
+    let f : Entry → List ℕ = λ e. take 8 e.1 in
+    sym (take-map f 30 (drop (30 * j) es)) ∙ ap (λ (l : List (List ℕ)). take 30 l) (sym (drop-map f (30 * j) es))
+
+-- descriptors that name so many blocks are there
+pub each_there : (image : Image) (at stamp count : ℕ) (numbers : List ℕ) → length numbers ≡ count → HasDescriptors image at stamp numbers
+    → (j : ℕ) → j < descriptors_of count → HasDescriptor image at stamp count j
+each_there image at stamp count numbers long has j below =
+    let is = has j (omega (arith, below, long)) in (
+      take 30 (drop (30 * j) numbers),
+      is.0,
+      subst (λ (n : ℕ). IsDescriptorTwo stamp n j (take 30 (drop (30 * j) numbers)) is.0 (image (at + j))) long is.1,
+    )
+
+-- these numbers are what is named
+pub names_these : (image : Image) (at stamp blocks count : ℕ) (numbers : List ℕ) → length numbers ≡ count
+    → HasDescriptors image at stamp numbers → IsRising numbers → All (λ b. b < blocks) numbers
+    → NamesBlocks image at stamp blocks count
+names_these image at stamp blocks count numbers long has rising inside = (numbers, long, has, rising, inside)

@@ -1,0 +1,24 @@
+use Rattle.std.proofs.Common.{◌+◌, ◌*◌, arith}
+use Rattle.medium.proofs.Looking.{look_below}
+use Rattle.journal.proofs.v2.read.read_count.Goals as goal
+
+pub returns-in_err-read-clause-follows : goal.returns-in_err-read-clause-follows
+returns-in_err-read-clause-follows g c = (
+  c.read.ensures.follows.0,
+  look_below (2 + 249 * c.args.slot + 249) (g.M.Medium.state c.args.m.now) (g.M.Medium.state c.read.new.self) c.commit_place.result
+      (omega (arith, c.commit_place.ensures)) c.read.ensures.follows.1,
+)
+
+pub returns-in-Some-clause-follows : goal.returns-in-Some-clause-follows
+returns-in-Some-clause-follows g c = (
+  c.read.ensures.follows.0,
+  look_below (2 + 249 * c.args.slot + 249) (g.M.Medium.state c.args.m.now) (g.M.Medium.state c.read.new.self) c.commit_place.result
+      (omega (arith, c.commit_place.ensures)) c.read.ensures.follows.1,
+)
+
+pub returns-in_default-clause-follows : goal.returns-in_default-clause-follows
+returns-in_default-clause-follows g c = (
+  c.read.ensures.follows.0,
+  look_below (2 + 249 * c.args.slot + 249) (g.M.Medium.state c.args.m.now) (g.M.Medium.state c.read.new.self) c.commit_place.result
+      (omega (arith, c.commit_place.ensures)) c.read.ensures.follows.1,
+)

@@ -1,0 +1,33 @@
+-- Calls that only read.
+use Rattle.std.specs.Prelude.{◌≡◌, ◌≢◌, ℕ, ◌+◌, ◌<◌, ◌≤◌, Result, OnOk, IfErr}
+use Rattle.medium.specs.Medium.{State}
+use Rattle.medium.specs.Moments.{IsQuiet}
+use Rattle.medium.specs.declared.fault.MediumFault.{MediumFault}
+use Rattle.medium.specs.declared.fault.MediumFault.TheVariants as medium
+
+-- a call of this kind was refused, and counted as one and as one of its kind
+pub record IsRefusedCall (old new : State) (kind : MediumFault) : Type 0 where
+  pub grew : old.failures < new.failures
+  pub kind_grew : old.refused kind < new.refused kind
+
+-- no call but reads was made
+abbrev pub MakesReadsAlone : State → State → Type 0
+MakesReadsAlone old new = (kind : MediumFault) → kind ≢ medium.Read → new.made kind ≡ old.made kind
+
+-- No call but reads was made, at most this many. An error is a call that the medium refused.
+pub record ReadsPass {X : Type 0} (most : ℕ) (old new : State) (result : Result X MediumFault)
+    : Type 0 where
+  pub quiet : IsQuiet old new
+  pub reads : MakesReadsAlone old new
+  pub calls : new.calls ≤ old.calls + most
+  pub cause : IfErr result (IsRefusedCall old new)
+
+-- No call but reads was made: this many where Ok, no more than that where the medium refused one,
+-- which is the only error.
+pub record ReadsAllPass {X : Type 0} (count : ℕ) (old new : State)
+    (result : Result X MediumFault) : Type 0 where
+  pub quiet : IsQuiet old new
+  pub reads : MakesReadsAlone old new
+  pub calls : new.calls ≤ old.calls + count
+  pub exact : OnOk result (new.calls ≡ old.calls + count)
+  pub cause : IfErr result (IsRefusedCall old new)

@@ -1,0 +1,49 @@
+-- How many sectors of a slot of format 2 are read to find the record in it.
+use Rattle.std.specs.Prelude.{◌≡◌, ◌⊎◌, ℕ, ◌+◌, ◌<◌, List, length, All}
+use Rattle.medium.specs.Medium.{Image}
+use Rattle.journal.specs.Sectors.{IsRising}
+use Rattle.journal.specs.SectorsTwo.{descriptors_of, place_bytes, IsDescriptorTwo, IsCommitTwo}
+use Rattle.journal.specs.V2.{first_data, commit_offset}
+use Rattle.journal.specs.SlotTwo.{HasDescriptors}
+
+-- one of so many is bad, and as many are read as go up to the first bad one, and with it
+pub record StopsAtBad (good : ℕ → Type 0) (many reads : ℕ) : Type 0 where
+  pub first : ℕ
+  pub inside : first < many
+  pub before : (i : ℕ) → i < first → good i
+  pub bad : ¬ good first
+  pub reads_are : reads ≡ first + 1
+
+-- as many are read as go up to the first bad one; or all, where all are good
+abbrev pub ReadsUpToBad : (ℕ → Type 0) → ℕ → ℕ → Type 0
+ReadsUpToBad good many reads =
+    (((i : ℕ) → i < many → good i) × (reads ≡ many)) ⊎ StopsAtBad good many reads
+
+-- of the record of a stamp in the slot of format 2 that begins at this sector
+module _ (image : Image) (at stamp : ℕ) where
+  -- the last sector is a commit of so many blocks
+  abbrev pub IsCommitted : ℕ → Type 0
+  IsCommitted count = IsCommitTwo stamp count (image (at + commit_offset))
+
+  -- its descriptor j is there, if it has so many blocks
+  abbrev pub HasDescriptor : ℕ → ℕ → Type 0
+  HasDescriptor count j = (numbers : List ℕ) × (firsts : List (List ℕ))
+      × IsDescriptorTwo stamp count j numbers firsts (image (at + j))
+
+  -- the i-th data place begins with the stamp
+  abbrev pub HasPlace : ℕ → Type 0
+  HasPlace i = image (at + (first_data + i)) ≡ place_bytes stamp (image (at + (first_data + i)))
+
+  -- all descriptors are there, and what they name are so many blocks of an array of this length
+  abbrev pub NamesBlocks : ℕ → ℕ → Type 0
+  NamesBlocks blocks count = (numbers : List ℕ) × (length numbers ≡ count)
+      × HasDescriptors image at stamp numbers
+      × IsRising numbers × All (λ b. b < blocks) numbers
+
+  -- How many sectors are read behind a commit of so many blocks where they are not named:
+  -- descriptors up to the first bad one; or all of them, where they name no such blocks.
+  abbrev pub IsReadInVain : ℕ → ℕ → ℕ → Type 0
+  IsReadInVain blocks count reads =
+      StopsAtBad (HasDescriptor count) (descriptors_of count) reads
+      ⊎ (((j : ℕ) → j < descriptors_of count → HasDescriptor count j)
+      × (¬ NamesBlocks blocks count) × (reads ≡ descriptors_of count))

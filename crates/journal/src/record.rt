@@ -1,0 +1,27 @@
+//! What the log says of a record beside the bytes in its data places.
+use arrayvec::ArrayVec;
+
+/// The blocks of a record, as its first sectors name them.
+#[derive(Drop)]
+pub struct Record {
+    /// Their numbers, strictly rising.
+    pub numbers: ArrayVec<u64, 240>,
+    /// In format 2 the first 8 bytes of each, which its data place does not have; in format 1 none.
+    pub firsts: ArrayVec<[u8; 8], 240>,
+}
+
+impl Record {
+    ghost use Rattle.std.specs.Prelude.{◌≡◌, ◌≤◌, [], length, get_or};
+
+    /// The first bytes of the i-th block, where its data place does not have them.
+    pub fn first(&self, i: usize) -> &[u8]
+        ensures is { result.now ≡ get_or self.now.firsts.items i [] }
+        ensures few { length result.now ≤ 8 }
+    {
+        if i < self.firsts.len() {
+            &self.firsts[i]
+        } else {
+            &[]
+        }
+    }
+}

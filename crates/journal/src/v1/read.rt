@@ -1,0 +1,76 @@
+//! The reading of a record of format 1.
+ghost use Rattle.std.specs.Prelude.{◌≡◌, ◌<◌, ◌≤◌, List, IfOk, IfSome, IsSomeAnd, length};
+ghost use Rattle.medium.specs.Medium.{LooksOnly};
+ghost use Rattle.journal.specs.declared.log_format.LogFormat.TheVariants.{One};
+ghost use Rattle.journal.specs.Places.{first_home, sectors_of};
+ghost use Rattle.journal.specs.Values.{shape_of};
+ghost use Rattle.journal.specs.Record.{Entry, numbers_of};
+ghost use Rattle.journal.specs.Formats.{IsWhole};
+ghost use Rattle.journal.specs.Reads.{ReadsPass, ReadsAllPass};
+ghost use Rattle.journal.specs.Reading.{FindsRecord};
+
+use crate::v1::{Descriptor, commit_place, place_of, whole_record};
+use crate::{Record, Super, slot_of};
+use arrayvec::ArrayVec;
+use medium::{Medium, MediumFault};
+
+// Reads the descriptor of the record of a stamp, if it is whole.
+fn read_descriptor<M: Medium>(
+    m: &mut M,
+    sizes: &Super,
+    stamp: u64,
+) -> Result<Option<Descriptor>, MediumFault>
+    requires format { sizes.now.format ≡ One }
+    requires fits { sectors_of (shape_of sizes.now) ≤ (M.state m.old).size }
+    ensures passes { ReadsAllPass 2 (M.state m.old) (M.state m.new) result }
+    ensures some { IfOk result (λ found. IfSome found (λ d. (entries : List Entry)
+        × IsWhole (shape_of sizes.now) (M.state m.old).content stamp entries
+        × (d.numbers.items ≡ numbers_of entries))) }
+    ensures all { (entries : List Entry)
+        → IsWhole (shape_of sizes.now) (M.state m.old).content stamp entries
+        → IfOk result (λ found. IsSomeAnd found (λ d. d.numbers.items ≡ numbers_of entries)) }
+    ensures follows { M.follows m.old m.new
+        × LooksOnly (λ s. s < first_home (shape_of sizes.now)) (M.state m.old) (M.state m.new) }
+{
+    let slot = slot_of(stamp, sizes.slots);
+    let mut descriptor = [0; 512];
+    m.read(place_of(slot), &mut descriptor)?;
+    let mut commit = [0; 512];
+    m.read(commit_place(slot), &mut commit)?;
+    Ok(whole_record(sizes.blocks, stamp, &descriptor, &commit))
+}
+
+// A list of these numbers.
+fn list_of(numbers: &[u64]) -> ArrayVec<u64, 240>
+    requires { length numbers.now ≤ 240 }
+    ensures { result.items ≡ numbers.now }
+{
+    let mut list = ArrayVec::new();
+    for number in numbers {
+        list.push(*number);
+    }
+    list
+}
+
+/// Reads the record of a stamp up to its data places, if it is whole.
+pub(crate) fn read_record<M: Medium>(
+    m: &mut M,
+    sizes: &Super,
+    stamp: u64,
+) -> Result<Option<Record>, MediumFault>
+    requires format { sizes.now.format ≡ One }
+    requires fits { sectors_of (shape_of sizes.now) ≤ (M.state m.old).size }
+    ensures passes { ReadsPass 2 (M.state m.old) (M.state m.new) result }
+    ensures finds { IfOk result
+        (FindsRecord (shape_of sizes.now) stamp (M.state m.old) (M.state m.new)) }
+    ensures follows { M.follows m.old m.new
+        × LooksOnly (λ s. s < first_home (shape_of sizes.now)) (M.state m.old) (M.state m.new) }
+{
+    let Some(found) = read_descriptor(m, sizes, stamp)? else {
+        return Ok(None);
+    };
+    Ok(Some(Record {
+        numbers: list_of(&found.numbers),
+        firsts: ArrayVec::new(),
+    }))
+}

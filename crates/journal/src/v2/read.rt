@@ -1,0 +1,200 @@
+//! The reading of a record of format 2.
+ghost use Rattle.std.specs.Prelude.{◌≡◌, ◌≤◌, ◌<◌, ◌+◌, ◌*◌};
+ghost use Rattle.std.specs.Prelude.{ℕ, List, length, All, IfOk};
+ghost use Rattle.std.specs.Prelude.{IfSome, IsSomeAnd, IsTrue, MatchOption};
+ghost use Rattle.std.specs.Prelude.{◌↔◌};
+ghost use Rattle.medium.specs.Medium.{LooksOnly};
+ghost use Rattle.journal.specs.declared.log_format.LogFormat.TheVariants.{Two};
+ghost use Rattle.journal.specs.Entry.{Entry, numbers_of};
+ghost use Rattle.journal.specs.Places.{first_home, sectors_of};
+ghost use Rattle.journal.specs.Sectors.{IsRising};
+ghost use Rattle.journal.specs.SectorsTwo.{descriptors_of, IsDescriptorTwo, IsCommitTwo};
+ghost use Rattle.journal.specs.SectorsTwo.{chunk_of, firsts_of};
+ghost use Rattle.journal.specs.V2.{place_of, slot_end, descriptor_place, commit_place};
+ghost use Rattle.journal.specs.Values.{shape_of};
+ghost use Rattle.journal.specs.SlotTwo.{HasDescriptors, HasPlaces};
+ghost use Rattle.journal.specs.SlotReads.{StopsAtBad, ReadsUpToBad, HasDescriptor, HasPlace};
+ghost use Rattle.journal.specs.Reads.{ReadsPass, ReadsAllPass};
+ghost use Rattle.journal.specs.Reading.{FindsRecord, FindsStamps};
+
+use crate::v2::{
+    Commit, Descriptor, commit_place, data_place, descriptor_place, descriptors, is_data,
+};
+use crate::{Record, Super, are_rising, slot_of};
+use arrayvec::ArrayVec;
+use medium::{Medium, MediumFault};
+
+// Reads how many blocks the record of a stamp has, if its commit is there.
+fn read_count<M: Medium>(m: &mut M, slot: u64, stamp: u64) -> Result<Option<u64>, MediumFault>
+    requires slot { slot < 64 }
+    requires inside { slot_end slot ≤ (M.state m.old).size }
+    ensures passes { ReadsAllPass 1 (M.state m.old) (M.state m.new) result }
+    ensures some { IfOk result (λ found. IfSome found (λ count.
+        IsCommitTwo stamp count ((M.state m.old).content (commit_place slot)))) }
+    ensures all { (n : ℕ) → IsCommitTwo stamp n ((M.state m.old).content (commit_place slot))
+        → IfOk result (λ found. IsSomeAnd found (λ k. k ≡ n)) }
+    ensures follows { M.follows m.old m.new
+        × LooksOnly (λ s. s < slot_end slot) (M.state m.old) (M.state m.new) }
+{
+    let mut commit = [0; 512];
+    m.read(commit_place(slot), &mut commit)?;
+    match Commit::decode(&commit) {
+        Some(found) if found.stamp == stamp => Ok(Some(found.count)),
+        _ => Ok(None),
+    }
+}
+
+// Reads descriptor j of the record of a stamp with so many blocks, if it is there.
+fn read_descriptor<M: Medium>(
+    m: &mut M,
+    slot: u64,
+    stamp: u64,
+    count: u64,
+    j: u64,
+) -> Result<Option<Descriptor>, MediumFault>
+    requires slot { slot < 64 }
+    requires few { j < 8 }
+    requires inside { slot_end slot ≤ (M.state m.old).size }
+    ensures passes { ReadsAllPass 1 (M.state m.old) (M.state m.new) result }
+    ensures some { IfOk result (λ found. IfSome found (λ d. (d.index ≡ j)
+        × IsDescriptorTwo stamp count j d.numbers.items d.firsts.items
+        ((M.state m.old).content (descriptor_place slot j)))) }
+    ensures all { (numbers : List ℕ) (firsts : List (List ℕ)) → IsDescriptorTwo stamp count j
+        numbers firsts ((M.state m.old).content (descriptor_place slot j)) → IfOk result (λ found.
+        IsSomeAnd found (λ d. (d.numbers.items ≡ numbers) × (d.firsts.items ≡ firsts))) }
+    ensures follows { M.follows m.old m.new
+        × LooksOnly (λ s. s < slot_end slot) (M.state m.old) (M.state m.new) }
+{
+    let mut sector = [0; 512];
+    m.read(descriptor_place(slot, j), &mut sector)?;
+    let Some(found) = Descriptor::decode(&sector) else {
+        return Ok(None);
+    };
+    if found.stamp == stamp && found.count == count && found.index == j {
+        Ok(Some(found))
+    } else {
+        Ok(None)
+    }
+}
+
+// Reads what the descriptors of a record of so many blocks say, if they are there.
+fn read_descriptors<M: Medium>(
+    m: &mut M,
+    slot: u64,
+    stamp: u64,
+    count: u64,
+) -> Result<Option<Record>, MediumFault>
+    requires slot { slot < 64 }
+    requires few { count ≤ 240 }
+    requires inside { slot_end slot ≤ (M.state m.old).size }
+    ensures passes { ReadsPass 8 (M.state m.old) (M.state m.new) result }
+    ensures found { IfOk result (λ found. MatchOption found
+        ((reads : ℕ)
+        × StopsAtBad (HasDescriptor (M.state m.old).content (place_of slot) stamp count)
+        (descriptors_of count) reads × ((M.state m.new).calls ≡ (M.state m.old).calls + reads))
+        (λ read. (length read.numbers.items ≡ count)
+        × HasDescriptors (M.state m.old).content (place_of slot) stamp read.numbers.items
+        × ((M.state m.new).calls ≡ (M.state m.old).calls + descriptors_of count))) }
+    ensures all { (numbers : List ℕ) → length numbers ≡ count
+        → HasDescriptors (M.state m.old).content (place_of slot) stamp numbers
+        → IfOk result (λ found. IsSomeAnd found (λ read. read.numbers.items ≡ numbers)) }
+    ensures firsts { (entries : List Entry) → length entries ≡ count
+        → ((j : ℕ) → j < descriptors_of count → IsDescriptorTwo stamp count j
+        (numbers_of (chunk_of entries j)) (firsts_of (chunk_of entries j))
+        ((M.state m.old).content (descriptor_place slot j)))
+        → IfOk result (λ found. IfSome found (λ read. read.firsts.items ≡ firsts_of entries)) }
+    ensures follows { M.follows m.old m.new
+        × LooksOnly (λ s. s < slot_end slot) (M.state m.old) (M.state m.new) }
+{
+    let mut numbers = ArrayVec::new();
+    let mut firsts = ArrayVec::new();
+    for j in 0..descriptors(count as usize) as u64 {
+        let Some(found) = read_descriptor(m, slot, stamp, count, j)? else {
+            return Ok(None);
+        };
+        let Ok(()) = numbers.try_extend_from_slice(&found.numbers) else {
+            return Ok(None);
+        };
+        let Ok(()) = firsts.try_extend_from_slice(&found.firsts) else {
+            return Ok(None);
+        };
+    }
+    Ok(Some(Record { numbers, firsts }))
+}
+
+// Whether these block numbers rise, and each is below the number of blocks.
+fn are_blocks(numbers: &[u64], blocks: u64) -> bool
+    ensures { IsTrue result ↔ IsRising numbers.now × All (λ b. b < blocks) numbers.now }
+{
+    are_rising(numbers) && numbers.iter().all(|b| *b < blocks)
+}
+
+/// Reads the record of a stamp up to its data places, if its other sectors are there.
+pub(crate) fn read_record<M: Medium>(
+    m: &mut M,
+    sizes: &Super,
+    stamp: u64,
+) -> Result<Option<Record>, MediumFault>
+    requires format { sizes.now.format ≡ Two }
+    requires fits { sectors_of (shape_of sizes.now) ≤ (M.state m.old).size }
+    ensures passes { ReadsPass 9 (M.state m.old) (M.state m.new) result }
+    ensures finds { IfOk result
+        (FindsRecord (shape_of sizes.now) stamp (M.state m.old) (M.state m.new)) }
+    ensures follows { M.follows m.old m.new
+        × LooksOnly (λ s. s < first_home (shape_of sizes.now)) (M.state m.old) (M.state m.new) }
+{
+    let slot = slot_of(stamp, sizes.slots);
+    let Some(count) = read_count(m, slot, stamp)? else {
+        return Ok(None);
+    };
+    let Some(read) = read_descriptors(m, slot, stamp, count)? else {
+        return Ok(None);
+    };
+    if are_blocks(&read.numbers, sizes.blocks) {
+        Ok(Some(read))
+    } else {
+        Ok(None)
+    }
+}
+
+// Whether so many data places of a slot begin with the stamp.
+fn has_stamps<M: Medium>(m: &mut M, slot: u64, stamp: u64, count: u64) -> Result<bool, MediumFault>
+    requires slot { slot < 64 }
+    requires few { count ≤ 240 }
+    requires inside { slot_end slot ≤ (M.state m.old).size }
+    ensures passes { ReadsPass count (M.state m.old) (M.state m.new) result }
+    ensures stamped { IfOk result (λ good. (IsTrue good
+        ↔ HasPlaces (M.state m.old).content (place_of slot) stamp count) × (reads : ℕ)
+        × ReadsUpToBad (HasPlace (M.state m.old).content (place_of slot) stamp) count reads
+        × ((M.state m.new).calls ≡ (M.state m.old).calls + reads)) }
+    ensures follows { M.follows m.old m.new
+        × LooksOnly (λ s. s < slot_end slot) (M.state m.old) (M.state m.new) }
+{
+    let mut sector = [0; 512];
+    for i in 0..count {
+        m.read(data_place(slot, i), &mut sector)?;
+        if !is_data(stamp, &sector) {
+            return Ok(false);
+        }
+    }
+    Ok(true)
+}
+
+/// Whether so many data places of the record of a stamp carry it.
+pub(crate) fn are_stamped<M: Medium>(
+    m: &mut M,
+    sizes: &Super,
+    stamp: u64,
+    count: u64,
+) -> Result<bool, MediumFault>
+    requires format { sizes.now.format ≡ Two }
+    requires few { count ≤ 240 }
+    requires fits { sectors_of (shape_of sizes.now) ≤ (M.state m.old).size }
+    ensures passes { ReadsPass count (M.state m.old) (M.state m.new) result }
+    ensures finds { IfOk result
+        (FindsStamps (shape_of sizes.now) stamp count (M.state m.old) (M.state m.new)) }
+    ensures follows { M.follows m.old m.new
+        × LooksOnly (λ s. s < first_home (shape_of sizes.now)) (M.state m.old) (M.state m.new) }
+{
+    has_stamps(m, slot_of(stamp, sizes.slots), stamp, count)
+}

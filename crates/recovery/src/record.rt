@@ -1,0 +1,43 @@
+//! The record of a stamp, where it is whole.
+ghost use Rattle.std.specs.Prelude.{◌≡◌, ◌≤◌, ◌<◌, List, length, OnOk, IfOk, MatchOption};
+ghost use Rattle.medium.specs.Medium.{LooksOnly};
+ghost use Rattle.journal.specs.Places.{first_home, sectors_of};
+ghost use Rattle.journal.specs.Values.{shape_of};
+ghost use Rattle.journal.specs.Record.{Entry};
+ghost use Rattle.journal.specs.Formats.{IsWhole, HasWhole};
+ghost use Rattle.recovery.specs.Calls.{ReadsPass};
+ghost use Rattle.recovery.specs.Copies.{most_reads_of};
+ghost use Rattle.recovery.specs.Tries.{IsTryOf};
+
+use journal::{Super, are_stamped, read_record};
+use medium::{Medium, MediumFault};
+
+/// Reads how many blocks the record of a stamp has, if it is whole.
+pub(crate) fn count_blocks<M: Medium>(
+    m: &mut M,
+    sizes: &Super,
+    stamp: u64,
+) -> Result<Option<u64>, MediumFault>
+    requires { sectors_of (shape_of sizes.now) ≤ (M.state m.old).size }
+    ensures passes { ReadsPass (most_reads_of sizes.now.format)
+        (M.state m.old) (M.state m.new) result }
+    ensures exact { OnOk result (IsTryOf sizes.now.format (shape_of sizes.now)
+        (M.state m.old).content stamp (M.state m.old).calls (M.state m.new).calls) }
+    ensures counted { IfOk result (λ found. MatchOption found
+        (¬ HasWhole (shape_of sizes.now) (M.state m.old).content stamp)
+        (λ count. (entries : List Entry)
+        × IsWhole (shape_of sizes.now) (M.state m.old).content stamp entries
+        × (count ≡ length entries))) }
+    ensures follows { M.follows m.old m.new
+        × LooksOnly (λ s. s < first_home (shape_of sizes.now)) (M.state m.old) (M.state m.new) }
+{
+    let Some(record) = read_record(m, sizes, stamp)? else {
+        return Ok(None);
+    };
+    let count = record.numbers.len() as u64;
+    if are_stamped(m, sizes, stamp, count)? {
+        Ok(Some(count))
+    } else {
+        Ok(None)
+    }
+}
