@@ -31,7 +31,8 @@ AreStamped Two shape image stamp count = HasPlaces image (slot_at format2 shape 
 
 -- the data place of the i-th block of the record of this stamp
 abbrev pub data_at : Shape → ℕ → ℕ → ℕ
-data_at shape stamp i = slot_at (layout_of shape.format) shape stamp + first_data_of shape.format + i
+data_at shape stamp i =
+    slot_at (layout_of shape.format) shape stamp + first_data_of shape.format + i
 
 -- What was read says of a record with these blocks what stands before its data places: their
 -- numbers, and the first bytes of each that its data place does not have.

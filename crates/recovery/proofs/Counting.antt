@@ -14,7 +14,8 @@ use Rattle.journal.specs.Layout.{slot_at}
 use Rattle.journal.specs.Format2.{format2}
 use Rattle.journal.specs.Reading.{record_reads_of, stamp_reads_of, IsReadFor, IsReadForStamps}
 use Rattle.recovery.specs.Copies.{most_reads_of}
-use Rattle.recovery.specs.Tries.{StopsAtBad, ReadsUpToBad, HasDescriptor, HasPlace, NamesBlocks, IsReadBehind, IsReadInSlot, IsTryTwo, IsTryOf}
+use Rattle.recovery.specs.Tries.{StopsAtBad, ReadsUpToBad, HasDescriptor, HasPlace, NamesBlocks, IsReadBehind, IsReadInSlot}
+use Rattle.recovery.specs.Tries.{IsTryTwo, IsTryOf}
 
 -- there is one first bad one
 stops_once : (good : ℕ → Type 0) (many a b : ℕ) → StopsAtBad good many a → StopsAtBad good many b → a ≡ b

@@ -1,5 +1,5 @@
 -- What a format makes.
-use Rattle.std.specs.Prelude.{◌≡◌, ◌⊎◌, ℕ, ◌+◌, ◌≤◌, ◌<◌, ◌^◌, replicate, Result, OnOk}
+use Rattle.std.specs.Prelude.{◌≡◌, ◌⊎◌, ℕ, ◌+◌, ◌≤◌, ◌<◌, ◌^◌, replicate, Result, OnOk, IfErr}
 use Rattle.medium.specs.Medium.{State, Image, CutLeaves}
 use Rattle.medium.specs.Moments.{IsFlushed, LeavesOnly, SparesFrom}
 use Rattle.spec.specs.Blocks.{Array}
@@ -9,6 +9,7 @@ use Rattle.journal.specs.Sectors.{IsSuper, IsHead}
 use Rattle.journal.specs.Record.{home_of}
 use Rattle.journal.specs.Standing.{IsOurs}
 use Rattle.recovery.specs.Unread.{MakesNoRead}
+use Rattle.recovery.specs.Calls.{CallsUpTo}
 use Rattle.recovery.specs.declared.format_fault.FormatFault.{FormatFault}
 use Rattle.recovery.specs.declared.format_fault.FormatFault.TheVariants.{BadSize, Medium}
 
@@ -73,6 +74,22 @@ pub record ImageLeaves (shape : Shape) (array : Array) (end : ℕ) (old new : St
 abbrev pub FormatLeaves : Shape → State → State → Type 0
 FormatLeaves shape old new = ImageLeaves shape (λ b. replicate 512 0) (sectors_of shape) old new
 
+-- why a format is refused: by the sizes, or, where they are good, by the medium
+abbrev pub IsFormatCause : Shape → State → State → FormatFault → Type 0
+IsFormatCause shape old new BadSize = ¬ AreSizes old.size shape
+IsFormatCause shape old new Medium = AreSizes old.size shape × (old.failures < new.failures)
+
+-- What comes of making an image of this shape: where Ok, the image; where refused, why, and a size
+-- that is out of its limits before any call; and what is left at each moment.
+pub record Formats {M : Type 0} (state : M → State) (Follows : M → M → Type 0) (shape : Shape)
+    (old new : M) (result : Result (Unit {0}) FormatFault) : Type 0 where
+  pub ok : OnOk result (IsFormatted shape (state new))
+  pub err : IfErr result (λ fault. IsFormatCause shape (state old) (state new) fault
+      × (fault ≡ BadSize → new ≡ old))
+  pub leaves : FormatLeaves shape (state old) (state new)
+  pub calls : CallsUpTo (sectors_of shape + 5) (state old) (state new) result
+  pub follows : Follows old new
+
 -- A log was laid before home, which was spared: the new image stands for what home held.
 abbrev pub IsLaid : Shape → State → State → Type 0
 IsLaid shape old new = IsMade shape (home_of shape old.content) (first_home shape) old new
@@ -90,8 +107,3 @@ pub record CallsWithoutReads {X E : Type 0} (count : ℕ) (old new : State) (res
   pub exact : OnOk result (new.calls ≡ old.calls + count)
   pub no_read : MakesNoRead old new
   pub sends : SendsUpTo count old new
-
--- why a format is refused: by the sizes, or, where they are good, by the medium
-abbrev pub IsFormatCause : Shape → State → State → FormatFault → Type 0
-IsFormatCause shape old new BadSize = ¬ AreSizes old.size shape
-IsFormatCause shape old new Medium = AreSizes old.size shape × (old.failures < new.failures)

@@ -1,17 +1,20 @@
 -- What recovery finds before its first write.
-use Rattle.std.specs.Prelude.{ℕ, ◌+◌, ◌*◌, ◌^◌, ◌<◌, ◌≤◌, min}
+use Rattle.std.specs.Prelude.{◌≡◌, ℕ, ◌+◌, ◌*◌, ◌^◌, ◌<◌, ◌≤◌, min, List, length, Option}
+use Rattle.std.specs.Prelude.{MatchOption}
 use Rattle.medium.specs.Medium.{State, Image}
 use Rattle.medium.specs.Moments.{IsQuiet}
 use Rattle.journal.specs.declared.log_format.LogFormat.TheVariants.{Two}
 use Rattle.journal.specs.Places.{Shape, slot_sectors_of}
 use Rattle.journal.specs.Values.{shape_of}
 use Rattle.journal.specs.Sectors.{IsHead}
+use Rattle.journal.specs.Record.{Entry}
+use Rattle.journal.specs.Formats.{IsWhole, HasWhole}
 use Rattle.journal.specs.Standing.{IsCount}
 use Rattle.journal.specs.ImageFaults.{HasShape}
 use Rattle.recovery.specs.Causes.{HasFewSlots, MakesReadsAlone}
 use Rattle.recovery.specs.Copies.{most_reads_of}
 use Rattle.recovery.specs.Looks.{LooksAtLog}
-use Rattle.recovery.specs.Tries.{AreTries}
+use Rattle.recovery.specs.Tries.{AreTries, IsTryOf}
 use Rattle.recovery.specs.declared.found.Found.{Found}
 
 -- the image of a medium of so many sectors has none of the faults, and this is what it has
@@ -20,6 +23,19 @@ pub record IsFound (size : ℕ) (image : Image) (found : Found) : Type 0 where
   pub head : IsHead found.head (image 1)
   pub count : IsCount (shape_of found.sizes) image found.head found.count
   pub stamp_left : found.head + found.count + 1 < 2 ^ 63
+
+-- By as many calls as show it, so many records are whole from this stamp on.
+pub record CountsWhole (shape : Shape) (head : ℕ) (old new : State) (count : ℕ) : Type 0 where
+  pub exact : AreTries shape old.content head (min (count + 1) shape.slots) old.calls new.calls
+  pub is : IsCount shape old.content head count
+
+-- By as many calls as show it, the record of this stamp has so many blocks, or it is not whole.
+pub record CountsBlocks (shape : Shape) (stamp : ℕ) (old new : State) (found : Option ℕ)
+    : Type 0 where
+  pub exact : IsTryOf shape.format shape old.content stamp old.calls new.calls
+  pub counted : MatchOption found (¬ HasWhole shape old.content stamp)
+      (λ count. (entries : List Entry) × IsWhole shape old.content stamp entries
+      × (count ≡ length entries))
 
 -- A survey wants at least this many slots in a log of format 1, and found this. It read the super,
 -- the head and, for each stamp that it tried, what shows whether its record is whole.

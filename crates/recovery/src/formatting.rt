@@ -6,6 +6,7 @@ ghost use Rattle.journal.specs.Values.{shape_of};
 ghost use Rattle.recovery.specs.Calls.{CallsUpTo};
 ghost use Rattle.spec.specs.Blocks.{Array};
 ghost use Rattle.recovery.specs.Formatted.{AreSizes, IsFormatted, FormatLeaves, IsFormatCause};
+ghost use Rattle.recovery.specs.Formatted.{Formats};
 ghost use Rattle.recovery.specs.Formatted.{IsArrayFrom, IsMade, ImageLeaves, CallsWithoutReads};
 
 use crate::FormatFault;
@@ -69,17 +70,7 @@ pub fn make<M: Medium>(
     blocks: u64,
     slots: u64,
 ) -> Result<(), FormatFault>
-    ensures ok { let shape = new_shape format blocks slots in
-        OnOk result (IsFormatted shape (M.state m.new)) }
-    // A size that is out of its limits is refused before any call.
-    ensures err { let shape = new_shape format blocks slots in
-        IfErr result (λ fault. IsFormatCause shape (M.state m.old) (M.state m.new) fault
-        × (fault ≡ FormatFault.BadSize → m.new ≡ m.old)) }
-    ensures leaves { let shape = new_shape format blocks slots in
-        FormatLeaves shape (M.state m.old) (M.state m.new) }
-    ensures calls { let shape = new_shape format blocks slots in
-        CallsUpTo (sectors_of shape + 5) (M.state m.old) (M.state m.new) result }
-    ensures follows { M.follows m.old m.new }
+    ensures { Formats M.state M.follows (new_shape format blocks slots) m.old m.new result }
 {
     let sizes = sizes_of(format, m.sectors(), blocks, slots).ok_or(FormatFault::BadSize)?;
     write_image(m, &sizes, sizes.sectors())?;

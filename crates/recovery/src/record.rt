@@ -1,13 +1,11 @@
 //! The record of a stamp, where it is whole.
-ghost use Rattle.std.specs.Prelude.{◌≡◌, ◌≤◌, ◌<◌, List, length, OnOk, IfOk, MatchOption};
+ghost use Rattle.std.specs.Prelude.{◌≤◌, ◌<◌, IfOk};
 ghost use Rattle.medium.specs.Medium.{LooksOnly};
 ghost use Rattle.journal.specs.Places.{first_home, sectors_of};
 ghost use Rattle.journal.specs.Values.{shape_of};
-ghost use Rattle.journal.specs.Record.{Entry};
-ghost use Rattle.journal.specs.Formats.{IsWhole, HasWhole};
 ghost use Rattle.recovery.specs.Calls.{ReadsPass};
 ghost use Rattle.recovery.specs.Copies.{most_reads_of};
-ghost use Rattle.recovery.specs.Tries.{IsTryOf};
+ghost use Rattle.recovery.specs.Found.{CountsBlocks};
 
 use journal::{Super, are_stamped, read_record};
 use medium::{Medium, MediumFault};
@@ -21,13 +19,8 @@ pub(crate) fn count_blocks<M: Medium>(
     requires { sectors_of (shape_of sizes.now) ≤ (M.state m.old).size }
     ensures passes { ReadsPass (most_reads_of sizes.now.format)
         (M.state m.old) (M.state m.new) result }
-    ensures exact { OnOk result (IsTryOf sizes.now.format (shape_of sizes.now)
-        (M.state m.old).content stamp (M.state m.old).calls (M.state m.new).calls) }
-    ensures counted { IfOk result (λ found. MatchOption found
-        (¬ HasWhole (shape_of sizes.now) (M.state m.old).content stamp)
-        (λ count. (entries : List Entry)
-        × IsWhole (shape_of sizes.now) (M.state m.old).content stamp entries
-        × (count ≡ length entries))) }
+    ensures counts { IfOk result
+        (CountsBlocks (shape_of sizes.now) stamp (M.state m.old) (M.state m.new)) }
     ensures follows { M.follows m.old m.new
         × LooksOnly (λ s. s < first_home (shape_of sizes.now)) (M.state m.old) (M.state m.new) }
 {

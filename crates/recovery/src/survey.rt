@@ -6,14 +6,12 @@ ghost use Rattle.medium.specs.Moments.{IsQuiet};
 ghost use Rattle.journal.specs.declared.log_format.LogFormat.TheVariants.{One};
 ghost use Rattle.journal.specs.Places.{first_home, sectors_of};
 ghost use Rattle.journal.specs.Values.{shape_of};
-ghost use Rattle.journal.specs.Standing.{IsCount};
 ghost use Rattle.journal.specs.ImageFaults.{HasShape};
 ghost use Rattle.recovery.specs.Calls.{ReadsUpTo, ReadsPass};
 ghost use Rattle.recovery.specs.Causes.{IsRefusalBy};
 ghost use Rattle.recovery.specs.Copies.{most_reads_of};
-ghost use Rattle.recovery.specs.Found.{IsSurvey, SurveysAtMost};
+ghost use Rattle.recovery.specs.Found.{CountsWhole, IsSurvey, SurveysAtMost};
 ghost use Rattle.recovery.specs.Inspected.{IsLookCause};
-ghost use Rattle.recovery.specs.Tries.{AreTries};
 
 use crate::StartFault;
 use crate::found::Found;
@@ -27,9 +25,8 @@ fn count_whole<M: Medium>(m: &mut M, sizes: &Super, head: u64) -> Result<u64, Me
     requires head { head < 2 ^ 63 }
     ensures passes { ReadsPass (most_reads_of sizes.now.format * sizes.now.slots)
         (M.state m.old) (M.state m.new) result }
-    ensures exact { IfOk result (λ count. AreTries (shape_of sizes.now) (M.state m.old).content head
-        (min (count + 1) sizes.now.slots) (M.state m.old).calls (M.state m.new).calls) }
-    ensures count { IfOk result (IsCount (shape_of sizes.now) (M.state m.old).content head) }
+    ensures counts { IfOk result
+        (CountsWhole (shape_of sizes.now) head (M.state m.old) (M.state m.new)) }
     ensures follows { M.follows m.old m.new
         × LooksOnly (λ s. s < first_home (shape_of sizes.now)) (M.state m.old) (M.state m.new) }
 {

@@ -14,9 +14,10 @@ invariant-loop-i g l = record {
       → (g.M.Medium.state l.m).content (first_home (shape_of l.sizes) + get_or l.read.numbers.items k 0)
       ≡ get_or l.read.firsts.items k [] ++ drop (length (get_or l.read.firsts.items k []))
       ((g.M.Medium.state l.fn.m).content (data_at (shape_of l.sizes) l.stamp k));
-  elsewhere : (x : ℕ) → ¬ IsHomeOf (shape_of l.sizes) l.read.numbers.items x → (g.M.Medium.state l.m).content x ≡ (g.M.Medium.state l.fn.m).content x;
-  within : StaysWithin (freed_at (IsHomeOf (shape_of l.sizes) l.read.numbers.items) (g.M.Medium.state l.fn.m).may_leave) (g.M.Medium.state l.fn.m)
-      (g.M.Medium.state l.m);
+  elsewhere : (x : ℕ) → ¬ IsHomeOf (shape_of l.sizes) l.read.numbers.items x
+      → (g.M.Medium.state l.m).content x ≡ (g.M.Medium.state l.fn.m).content x;
+  within : StaysWithin (freed_at (IsHomeOf (shape_of l.sizes) l.read.numbers.items) (g.M.Medium.state l.fn.m).may_leave)
+      (g.M.Medium.state l.fn.m) (g.M.Medium.state l.m);
   calls : (g.M.Medium.state l.m).calls ≡ (g.M.Medium.state l.fn.m).calls + 2 * l.i;
   sends : SendsUpTo l.i (g.M.Medium.state l.fn.m) (g.M.Medium.state l.m);
   follows : g.M.Medium.follows l.fn.m l.m;

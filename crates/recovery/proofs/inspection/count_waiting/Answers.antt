@@ -14,7 +14,7 @@ returns-in-None-clause-counts g c =
     let old = g.M.Medium.state c.args.m.now in
     let mid = g.M.Medium.state c.loop-j.m in
     let inv = c.loop-j.invariant in
-    let none = rw c.in-None.is at c.in_ok-count.ensures.counted in
+    let none = rw c.in-None.is at c.in_ok-count.ensures.counts.counted in
     counts_made shape old.content c.args.head c.loop-j.j c.loop-j.waiting.items inv.long (omega (arith, c.loop-j-test.true)) inv.each
     (λ less w. none (has_whole_same shape old.content mid.content (c.args.head + c.loop-j.j) (λ x. inv.quiet.content_stays x) w))
 
@@ -34,7 +34,7 @@ loop-j-preserved g c =
     let j = c.loop-j.j in
     let n = c.in-Some.count in
     let path : mid.content ≡ old.content = λ i s. inv.quiet.content_stays s i in
-    let counted = rw c.in-Some.is at c.in_ok-count.ensures.counted in
+    let counted = rw c.in-Some.is at c.in_ok-count.ensures.counts.counted in
     let here = subst (λ (i : Image). HasCount shape i (c.args.head + j) n) path counted in
     let long = ap (λ l. length l) c.push.ensures.items ∙ length-append c.loop-j.waiting.items (n ∷ []) in
     let passes = c.count_blocks.ensures.passes in

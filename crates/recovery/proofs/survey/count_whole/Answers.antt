@@ -32,7 +32,7 @@ loop-j-preserved g c =
     let new = g.M.Medium.state c.count_blocks.new.m in
     let inv = c.loop-j.invariant in
     let j = c.loop-j.j in
-    let counted = rw c.in-Some.is at c.in_ok-count_blocks.ensures.counted in
+    let counted = rw c.in-Some.is at c.in_ok-count_blocks.ensures.counts.counted in
     let here : HasWhole shape mid.content (c.args.head + j) = (counted.0, counted.1) in
     let same : mid.content ≡ old.content = λ i s. inv.quiet.content_stays s i in
     let there = has_whole_same shape mid.content old.content (c.args.head + j) (λ x. sym (inv.quiet.content_stays x)) here in
@@ -41,7 +41,7 @@ loop-j-preserved g c =
       reads = λ kind other. c.count_blocks.ensures.passes.reads kind other ∙ inv.reads kind other;
       tries = tries_more c.args.sizes.now.format shape old.content c.args.head j old.calls mid.calls new.calls inv.tries
           (subst (λ (i : Image). IsTryOf c.args.sizes.now.format shape i (c.args.head + j) mid.calls new.calls) same
-          c.in_ok-count_blocks.ensures.exact);
+          c.in_ok-count_blocks.ensures.counts.exact);
       most = reads_more c.args.sizes.now.format j old.calls mid.calls new.calls inv.most c.count_blocks.ensures.passes.calls;
       whole = λ k below. elim (cases_eq j k) [
         | inl is ↦ subst (λ n. HasWhole shape old.content (c.args.head + n)) is there
@@ -67,8 +67,8 @@ returns-in_default-clause-follows g c =
           (g.M.Medium.state c.count_blocks.new.m) inv.looks c.count_blocks.ensures.follows.1,
     )
 
-pub returns-in_default-clause-exact : goal.returns-in_default-clause-exact
-returns-in_default-clause-exact g c =
+pub returns-in_default-clause-counts : goal.returns-in_default-clause-counts
+returns-in_default-clause-counts g c =
     let shape = shape_of c.args.sizes.now in
     let old = g.M.Medium.state c.args.m.now in
     let mid = g.M.Medium.state c.loop-j.m in
@@ -77,21 +77,27 @@ returns-in_default-clause-exact g c =
     let j = c.loop-j.j in
     let same : mid.content ≡ old.content = λ i s. inv.quiet.content_stays s i in
     let last = subst (λ (i : Image). IsTryOf c.args.sizes.now.format shape i (c.args.head + j) mid.calls new.calls) same
-    c.in_ok-count_blocks.ensures.exact in
+    c.in_ok-count_blocks.ensures.counts.exact in
     let below = c.loop-j-test.true in
     let many : j + 1 ≡ min (j + 1) c.args.sizes.now.slots = omega (arith, below) in
-    subst (λ (n : ℕ). AreTries shape old.content c.args.head n old.calls new.calls) many
-    (tries_more c.args.sizes.now.format shape old.content c.args.head j old.calls mid.calls new.calls inv.tries last)
+    record {
+      exact = subst (λ (n : ℕ). AreTries shape old.content c.args.head n old.calls new.calls) many
+          (tries_more c.args.sizes.now.format shape old.content c.args.head j old.calls mid.calls new.calls inv.tries last);
+      is = search rules;
+    }
 
-pub returns-clause-exact : goal.returns-clause-exact
-returns-clause-exact g c =
+pub returns-clause-counts : goal.returns-clause-counts
+returns-clause-counts g c =
     let shape = shape_of c.args.sizes.now in
     let old = g.M.Medium.state c.args.m.now in
     let new = g.M.Medium.state c.loop-j.m in
     let j = c.loop-j.j in
     let slots = c.args.sizes.now.slots in
     let many : j ≡ min (slots + 1) slots = omega (arith, c.loop-j-test.false) in
-    subst (λ (n : ℕ). AreTries shape old.content c.args.head n old.calls new.calls) many c.loop-j.invariant.tries
+    record {
+      exact = subst (λ (n : ℕ). AreTries shape old.content c.args.head n old.calls new.calls) many c.loop-j.invariant.tries;
+      is = search rules;
+    }
 
 pub returns-in_err-count_blocks-clause-passes : goal.returns-in_err-count_blocks-clause-passes
 returns-in_err-count_blocks-clause-passes g c =

@@ -30,14 +30,14 @@ returns-then-head-count-clause-ok g c =
         shape = c.in_ok-sizes.ensures.ok;
         head = subst (IsHead c.in-Some.head.stamp) (c.in_ok-read.ensures.ok ∙ quiet.content_stays 1) c.in-Some.ensures.some;
         count = IsCount-same shape mid.content old.content c.in-Some.head.stamp c.in_ok-count.count
-            (λ x. sym (quiet.content_stays x) ∙ sym (c.read.ensures.content x)) c.in_ok-count.ensures.count;
+            (λ x. sym (quiet.content_stays x) ∙ sym (c.read.ensures.content x)) c.in_ok-count.ensures.counts.is;
         stamp_left = omega (arith, c.if-head-count.true);
       };
       room = enough_slots c.args.least old.size shape old.content c.in_ok-sizes.ensures.ok
           (λ both. let is = c.if-has_few_slots.ensures.1 both in absurd (cc is));
       exact = subst (λ (n : ℕ). AreTries shape old.content c.in-Some.head.stamp tries n new.calls)
           (omega (arith, c.in_ok-sizes.ensures.reads.exact, c.read.ensures.passes.calls_are))
-          (subst (λ (i : Image). AreTries shape i c.in-Some.head.stamp tries mid.calls new.calls) same c.in_ok-count.ensures.exact);
+          (subst (λ (i : Image). AreTries shape i c.in-Some.head.stamp tries mid.calls new.calls) same c.in_ok-count.ensures.counts.exact);
     }
 
 pub returns-else-head-count-clause-err : goal.returns-else-head-count-clause-err
@@ -51,7 +51,7 @@ returns-else-head-count-clause-err g c =
     let head = subst (IsHead c.in-Some.head.stamp) (c.in_ok-read.ensures.ok ∙ first.content_stays 1) c.in-Some.ensures.some in
     let second = quiet_call seen mid c.read.ensures.passes c.read.ensures.content c.read.ensures.sets in
     let count = IsCount-same shape mid.content old.content c.in-Some.head.stamp c.in_ok-count.count
-    (λ x. sym (c.read_super.ensures.reads.quiet.content_stays x) ∙ sym (c.read.ensures.content x)) c.in_ok-count.ensures.count in
+    (λ x. sym (c.read_super.ensures.reads.quiet.content_stays x) ∙ sym (c.read.ensures.content x)) c.in_ok-count.ensures.counts.is in
     let s = count_stands old.size shape old.content c.in-Some.head.stamp c.in_ok-count.count c.in_ok-sizes.ensures.ok.fits
     c.in_ok-sizes.ensures.ok.super head count in (
       enough_slots c.args.least old.size (shape_of c.in_ok-sizes.sizes) old.content c.in_ok-sizes.ensures.ok
