@@ -5,7 +5,7 @@ use Rattle.medium.specs.Moments.{EachCut, LeavesOnly}
 use Rattle.medium.proofs.Moments.{weaker}
 use Rattle.journal.specs.Standing.{Stands}
 use Rattle.journal.proofs.StandingLaws.{StandsFor-one}
-use Rattle.redo_log.proofs.Handing.{may_leave_ours}
+use Rattle.redo_log.proofs.StoreFacts.{may_leave_ours}
 use Rattle.recovery.specs.Recovered.{IsOursForSome, StandsForOneOf}
 use Rattle.spec.specs.Book.{Book}
 use Rattle.blocks.specs.StoreValue.{Cached, transfer_limit, FitsBook}

@@ -7,7 +7,7 @@ use Rattle.journal.specs.declared.super_sector.Super.{Super}
 use Rattle.blocks.specs.StoreValue.{Cached, layout_of, blocks_of, slots_of, transfer_limit, batch_steps, steps_for, waiting, HasLimits}
 use Rattle.redo_log.specs.Value.{most_steps, most_retire_steps}
 use Rattle.blocks.specs.Kept.{Invariant}
-use Rattle.blocks.proofs.Fitting.{steps_for_most}
+use Rattle.blocks.proofs.BookTurns.{steps_for_most}
 
 -- no format has a lower limit, or a higher one
 pub limit_least : (format : LogFormat) → 48 ≤ limit_of format

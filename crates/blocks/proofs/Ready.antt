@@ -12,7 +12,7 @@ use Rattle.blocks.specs.Retiring.{finish_from, finish_calls, both_calls, record_
 use Rattle.blocks.specs.Finishing.{Answer}
 use Rattle.blocks.specs.Passing.{TellsLife}
 use Rattle.blocks.specs.StoreValue.{Cached, is_dead, wants, waiting}
-use Rattle.blocks.proofs.Homing.{rests_passed, rests_calls, rests_home_calls}
+use Rattle.blocks.proofs.OldestHome.{rests_passed, rests_calls, rests_home_calls}
 
 -- ---- a log but for the descriptor that is kept
 
@@ -257,11 +257,6 @@ none_ready true log slots =
     let more = rests_home_calls (passed log) still in
     let all = ahead_free_calls log free in
     omega (arith, no, more, all)
-
--- a log with so many slots keeps them
-ready_next : (ahead : Bool) (log : LogValue) → HasSlots (with_spare ahead 1) log → (made_ready ahead log).next - (made_ready ahead log).head
-    ≤ log.next - log.head
-ready_next ahead log slots = let so = ready_so ahead log in omega (arith, so.next, so.head)
 
 -- so many slots are wanted: one more
 more_spare : (ahead : Bool) (count more : ℕ) → with_spare ahead (count + more) ≡ count + with_spare ahead more

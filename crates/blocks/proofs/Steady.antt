@@ -10,9 +10,9 @@ use Rattle.redo_log.specs.Value.{retire_steps_of, pass_calls}
 use Rattle.blocks.specs.Ahead.{oldest_retired, is_covered, counted, past, passed, going_calls, sent_calls, ahead_room_calls, retiring_calls}
 use Rattle.blocks.specs.Retiring.{HasSlots, finish_calls, both_calls}
 use Rattle.blocks.specs.Steady.{IsSteady, home_calls_of, second_of, steady_calls}
-use Rattle.blocks.proofs.Costing.{finish_none, finish_begun}
-use Rattle.blocks.proofs.Going.{one_pass}
-use Rattle.blocks.proofs.Homing.{calls_short, going_short, passes_short}
+use Rattle.blocks.proofs.RoomCalls.{finish_none, finish_begun}
+use Rattle.blocks.proofs.AheadTurns.{one_pass}
+use Rattle.blocks.proofs.OldestHome.{calls_short, going_short, passes_short}
 use Rattle.blocks.proofs.Ready.{ahead_free_calls}
 use Rattle.blocks.proofs.Room.{finishes_none}
 

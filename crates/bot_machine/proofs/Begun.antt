@@ -5,7 +5,7 @@ use Rattle.medium.specs.Moments.{EachCut}
 use Rattle.medium.specs.Sim.{Sim, state_of, ComesAfter}
 use Rattle.medium.specs.SimLaws.{is_sound}
 use Rattle.medium.proofs.Moments.{at_exit}
-use Rattle.medium.proofs.Keeping.{none_flushed}
+use Rattle.medium.proofs.KeptBlocks.{none_flushed}
 use Rattle.scsi_unit.specs.StartFaults.{StartFault, NoMemory, Read, Write, Flush, BadSuper, BadVersion, BadSize, BadHead, StampsUsedUp}
 use Rattle.scsi_unit.specs.StartFaults.{LogTooSmall}
 use Rattle.bot_machine.specs.Device.{presented, Device}
@@ -26,8 +26,8 @@ use Rattle.bot_machine.specs.LivesValue.{LivesStop}
 use Rattle.scsi_unit.specs.Serving.{has_refused}
 use Rattle.bot_machine.specs.Moving.{StartsIn}
 use Rattle.bot_machine.proofs.Moved.{one_move, some_refused}
-use Rattle.bot_machine.proofs.Happening.{lives_at, stays, one_run, one_counted, armed_then, on_or_off}
-use Rattle.bot_machine.proofs.Beginning.{WouldOpen, first_opens, next_opens, next_limit, HasOpened, first_opened, next_opened, with_shape}
+use Rattle.bot_machine.proofs.LifeActions.{lives_at, stays, one_run, one_counted, armed_then, on_or_off}
+use Rattle.bot_machine.proofs.LifeStarts.{WouldOpen, first_opens, next_opens, next_limit, HasOpened, first_opened, next_opened, with_shape}
 use Rattle.bot_machine.proofs.UnitLaws.{between_calls, limit_between_calls, start_keeps_limit, knows_images}
 
 -- ---- what a start leaves, where it has no disk

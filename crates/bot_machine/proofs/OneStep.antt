@@ -21,7 +21,7 @@ use Rattle.spec.specs.Conversation.{Conversation, IsCarriedOut, Begins, OpensExc
 use Rattle.spec.specs.UnitConversation.{Intends, way_of, write_of_packet, UnitStep}
 use Rattle.bot_machine.specs.Striking.{HasStamps}
 use Rattle.bot_machine.proofs.Cases.{at_once-takes_none}
-use Rattle.bot_machine.proofs.Filling.{last_packet}
+use Rattle.bot_machine.proofs.FrontBytes.{last_packet}
 use Rattle.bot_machine.proofs.UnitLaws.{writes_none, one_answer, no_tick}
 
 -- conversations are the same where line and unit are

@@ -3,13 +3,13 @@ use Rattle.std.proofs.Common.{◌≡◌, ◌≢◌, ◌⊎◌, ◌<◌, ⊎_elim
 use Rattle.std.proofs.Common.{subst, arith}
 use Rattle.spec.specs.declared.wrapper.Cbw.{Cbw}
 use Rattle.medium.specs.Medium.{State}
-use Rattle.medium.proofs.Looking.{looks_wider}
+use Rattle.medium.proofs.SectorsRead.{looks_wider}
 use Rattle.spec.specs.declared.way.Way.{Way}
 use Rattle.spec.specs.declared.case.Case.{Case}
 use Rattle.spec.specs.declared.case.Case.TheVariants.{C5, C6}
 use Rattle.spec.specs.Cases.{IsCase}
 use Rattle.spec.specs.CommandWrapper.{SpellsNone}
-use Rattle.scsi_unit.proofs.Looking.{sends_none-reads_none}
+use Rattle.scsi_unit.proofs.SectorsRead.{sends_none-reads_none}
 use Rattle.spec.specs.Rules.{Intention}
 use Rattle.spec.specs.declared.intent.Intent.TheVariants as intent
 use Rattle.scsi_unit.specs.Reading.{first_home_of, home_sectors_of, IsOneOf}

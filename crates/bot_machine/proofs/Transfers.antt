@@ -24,12 +24,13 @@ use Rattle.bot_machine.specs.Transfers.{Transfer, packet_out, Asks, events_of, p
 use Rattle.bot_machine.specs.Transfers.{SizesAreAlike}
 use Rattle.bot_machine.proofs.Packets.{packets_of-more, packets_of-none}
 use Rattle.bot_machine.proofs.Cases.{at_once-takes_none}
-use Rattle.bot_machine.proofs.Filling.{last_packet}
+use Rattle.bot_machine.proofs.FrontBytes.{last_packet}
 use Rattle.bot_machine.proofs.UnitLaws.{writes_none, one_answer}
 use Rattle.bot_machine.proofs.OneStep.{same_conversation, opens_as}
 use Rattle.bot_machine.proofs.StruckTicks.{Untroubled, untroubled}
-use Rattle.bot_machine.proofs.Hearing.{heard_so, front_first, line_at, asks_end, laid, sends_all, packets_told, status_told, bytes_told}
-use Rattle.bot_machine.proofs.Hearing.{told_sends, told_bytes}
+use Rattle.bot_machine.proofs.ExchangeEnds.{heard_so, front_first, line_at, asks_end, laid, sends_all, packets_told, status_told}
+use Rattle.bot_machine.proofs.ExchangeEnds.{bytes_told}
+use Rattle.bot_machine.proofs.ExchangeEnds.{told_sends, told_bytes}
 
 -- ---- the data is taken
 

@@ -4,7 +4,7 @@ pub mod Behind
 pub mod Columns
 pub mod Cycles
 pub mod Edits
-pub mod Halving
+pub mod HalvedSearch
 pub mod Kept
 pub mod Maps
 pub mod Neighbours

@@ -7,7 +7,7 @@ use Rattle.std.proofs.Math.Nat.{pow-suc, pow-le-pow_right}
 use Rattle.cache.specs.Blocks.{IsRising}
 use Rattle.cache.specs.Digits.{GrowsWithinDigits}
 use Rattle.cache.specs.Places.{HasPlace}
-use Rattle.cache.proofs.Halving.{smaller, not_smaller, smaller_power, digits_of}
+use Rattle.cache.proofs.HalvedSearch.{smaller, not_smaller, smaller_power, digits_of}
 
 -- The place is one of a power of two from `low` on, of which this is the half, after so many steps.
 pub record IsHalving (numbers : List ℕ) (block low half taken : ℕ) : Type 0 where

@@ -44,9 +44,3 @@ inserted was is at x within long before here behind =
             ∙ ap (λ (j : ℕ). get_or (insert was at x) j no_entry) (sym e)
       ]
     ])
-
--- as many as lie between the ends
-pub length-entries : (index : Index) (room : ℕ) → IsCentred index room → length (entries_of index) ≡ index.end - index.start
-length-entries index room centred =
-    length-window index.cells.items index.start index.end (omega (arith, centred.low, centred.high))
-    (omega (arith, centred.low, centred.within, centred.wide))

@@ -15,7 +15,7 @@ use Rattle.spec.specs.Commands.{test_unit_ready, request_sense, inquiry, mode_se
 use Rattle.spec.specs.Commands.{read_10, write_10, read_16, write_16, synchronize_cache_10, synchronize_cache_16, transfer_10, transfer_16}
 use Rattle.spec.specs.Commands.{range_10, range_16, transfer_tests, range_tests, mode_sense_tests}
 use Rattle.cdb.specs.Supported.{IsWithin, HasModePage, IsSupported, IsRefusal}
-use Rattle.cdb.proofs.Judging.{AllPassed, AllRefuse, AllPassed-last, AllRefuse-append, IfOk-judged, IfErr-judged}
+use Rattle.cdb.proofs.Judged.{AllPassed, AllRefuse, AllPassed-last, AllRefuse-append, IfOk-judged, IfErr-judged}
 use Rattle.cdb.proofs.Rows.{by_rows}
 
 -- the command of a row is supported where the tests of its fields say so

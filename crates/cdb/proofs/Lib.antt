@@ -1,5 +1,5 @@
-pub mod Judging
+pub mod Judged
 pub mod Rows
 pub mod Laws
 pub mod Past
-pub mod Writing
+pub mod WrittenBlocks

@@ -1,6 +1,6 @@
 //! The commands of a block device (SBC-3).
 
-#![tactic(auto, using(crate::proofs::Judging::judging))]
+#![tactic(auto, using(crate::proofs::Judged::judging))]
 
 ghost use Rattle.std.specs.Prelude.{◌≡◌, ◌≤◌, ◌++◌, length};
 ghost use Rattle.spec.specs.declared.command.Transfer.{Transfer};

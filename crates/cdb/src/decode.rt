@@ -42,7 +42,7 @@ pub fn parse(block: &[u8], n: u64, limit: u32) -> Result<Command, Sense>
 }
 
 // The command by its operation code, which is the first byte of the block.
-#[tactic(auto, using(crate::proofs::Judging::judging), unfolding(spec::specs::Commands::command_of))]
+#[tactic(auto, using(crate::proofs::Judged::judging), unfolding(spec::specs::Commands::command_of))]
 fn by_operation_code(code: u8, block: &[u8], n: u64, limit: u32) -> Result<Command, Sense>
     requires { code ≡ byte_at 0 block.now }
     ensures { result ≡ command_of n limit block.now }

@@ -1,6 +1,6 @@
 //! The commands of any device (SPC-4).
 
-#![tactic(auto, using(crate::proofs::Judging::judging))]
+#![tactic(auto, using(crate::proofs::Judged::judging))]
 
 ghost use Rattle.std.specs.Prelude.{◌≡◌, ◌<◌, ◌≤◌, length};
 ghost use Rattle.spec.specs.Judging.{judged};
@@ -89,7 +89,7 @@ pub(crate) fn mode_select(block: &[u8]) -> Result<Command, Sense>
     Ok(Command::ModeSelect { length })
 }
 
-#[tactic(auto, using(crate::proofs::Judging::judging, std::proofs::lemmas::Grind::common_steps))]
+#[tactic(auto, using(crate::proofs::Judged::judging, std::proofs::lemmas::Grind::common_steps))]
 pub(crate) fn mode_sense(block: &[u8]) -> Result<Command, Sense>
     ensures { result ≡ judged_by block.now (mode_sense block.now) }
 {

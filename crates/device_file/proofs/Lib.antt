@@ -1,5 +1,5 @@
 pub mod Runs
-pub mod Letting
+pub mod FirstParts
 pub mod Puts
 pub mod Gave
 pub mod Copies

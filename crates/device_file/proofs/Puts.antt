@@ -28,10 +28,6 @@ parts_through c d p q u v w first next =
 pub puts_none : (t : Told) (waits : List DeviceCall) → Puts [] t t waits waits
 puts_none t waits = record { part = []; parts = append-nil waits; told_is = asked_none t }
 
--- calls wait, and nothing was asked
-pub puts_waits : (calls : List DeviceCall) (t : Told) (waited : List DeviceCall) → Puts calls t t waited (waited ++ calls)
-puts_waits calls t waited = record { part = []; parts = refl; told_is = asked_none t }
-
 -- some, and then others
 pub puts_through : (c d : List DeviceCall) (a b e : Told) (u v w : List DeviceCall) → Puts c a b u v → Puts d b e v w
     → Puts (c ++ d) a e u w

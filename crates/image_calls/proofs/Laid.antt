@@ -45,12 +45,6 @@ none_refused old new follows few silent grew =
     let reads = silent.refused_stays in
     omega (arith, kept, reads, grew)
 
--- so a log is refused by the sizes alone
-pub by_sizes : (shape : Shape) (old new : Window) (fault : FormatFault) → IsFormatCause shape (state_of old) (state_of new) fault
-    → ¬ ((state_of old).failures < (state_of new).failures) → ¬ AreSizes (state_of old).size shape
-by_sizes shape old new BadSize cause none = cause
-by_sizes shape old new Medium cause none = absurd (none cause.1)
-
 -- all that a migration reads lies in memory
 misses_none : (first after : Window) → ComesAfter first after → MigrationLeaves (state_of first) (state_of after) → MissesNone first after
 misses_none first after follows leaves log =

@@ -1,5 +1,5 @@
 pub mod Values
 pub mod Laid
 pub mod OnWay
-pub mod Handing
+pub mod NextCall
 pub mod LayFaults

@@ -9,8 +9,8 @@ use Rattle.journal.specs.declared.log_format.LogFormat.TheVariants.{One, Two}
 use Rattle.journal.specs.Places.{Shape, IsFirstHome, slot_sectors_of, gap_of}
 use Rattle.journal.specs.Spelling.{spelling, number_in, super_mark, head_mark, descriptor_mark, commit_mark}
 use Rattle.journal.specs.Sectors.{version_of, IsSuper, IsHead, IsRising, AreBlockNumbers, IsDescriptor, IsCommit}
-use Rattle.journal.proofs.Decoding.{head_stamp, commit_stamp, commit_count, descriptor_stamp, descriptor_numbers, super_blocks}
-use Rattle.journal.proofs.Decoding.{super_slots, super_home}
+use Rattle.journal.proofs.SectorNumbers.{head_stamp, commit_stamp, commit_count, descriptor_stamp, descriptor_numbers, super_blocks}
+use Rattle.journal.proofs.SectorNumbers.{super_slots, super_home}
 
 -- so or not
 abbrev pub Decided : Type 0 → Type 0
@@ -81,19 +81,6 @@ abbrev read_numbers : List ℕ → ℕ → ℕ → List ℕ
 read_numbers bytes place zero = []
 read_numbers bytes place (suc n) = number_in bytes place ∷ read_numbers bytes (suc place) n
 
--- how many they are
-length_read : (bytes : List ℕ) (place n : ℕ) → length (read_numbers bytes place n) ≡ n
-length_read bytes place zero = refl
-length_read bytes place (suc n) = let more = length_read bytes (suc place) n in omega arith
-
--- which they are
-each_read : (bytes : List ℕ) (place n i : ℕ) → i < n
-    → get_or (read_numbers bytes place n) i 0 ≡ number_in bytes (place + i)
-each_read bytes place zero i below = absurd (omega arith)
-each_read bytes place (suc n) zero below = let e : place ≡ place + 0 = omega arith in ap (number_in bytes) e
-each_read bytes place (suc n) (suc i) below =
-    let e : suc place + i ≡ place + suc i = omega arith in each_read bytes (suc place) n i (omega arith) ∙ ap (number_in bytes) e
-
 -- a sector is a head or not
 pub head_or_not : (bytes : List ℕ) → Decided ((stamp : ℕ) × IsHead stamp bytes)
 head_or_not bytes =
@@ -105,60 +92,6 @@ head_or_not bytes =
       (subst (λ n. 1 ≤ n) (sym same) h.1.least, subst (λ n. n < 2 ^ 63) (sym same) h.1.most),
     ))
     (both (same_or_not bytes (spelling (head_mark ∷ s ∷ []))) (both (at_most_or_not 1 s) (below_or_not s (2 ^ 63))))
-
--- a sector is a commit or not
-pub commit_or_not : (bytes : List ℕ) → Decided ((stamp : ℕ) × (count : ℕ)
-    × IsCommit stamp count bytes)
-commit_or_not bytes =
-    let s = number_in bytes 1 in
-    let n = number_in bytes 2 in
-    along (λ h. (s, n, record { spelled = h.0; least = h.1.0; most = h.1.1.0; some = h.1.1.1.0; few = h.1.1.1.1 }))
-    (λ h.
-    let c = h.2 in
-    let same : s ≡ h.0 = commit_stamp h.0 h.1 bytes c in
-    let count : n ≡ h.1 = commit_count h.0 h.1 bytes c in (
-      c.spelled ∙ ap (λ (k : ℕ). spelling (commit_mark ∷ k ∷ h.1 ∷ [])) (sym same)
-          ∙ ap (λ (k : ℕ). spelling (commit_mark ∷ s ∷ k ∷ [])) (sym count),
-      (
-        subst (λ k. 1 ≤ k) (sym same) c.least,
-        (
-          subst (λ k. k < 2 ^ 63 - 1) (sym same) c.most,
-          (subst (λ k. 1 ≤ k) (sym count) c.some, subst (λ k. k ≤ 48) (sym count) c.few),
-        ),
-      ),
-    ))
-    (both (same_or_not bytes (spelling (commit_mark ∷ s ∷ n ∷ [])))
-    (both (at_most_or_not 1 s) (both (below_or_not s (2 ^ 63 - 1)) (both (at_most_or_not 1 n) (at_most_or_not n 48)))))
-
--- block numbers that a record may have or not
-block_numbers_or_not : (numbers : List ℕ) → Decided (AreBlockNumbers numbers)
-block_numbers_or_not numbers =
-    along (λ h. record { some = h.0; few = h.1.0; rising = h.1.1.0; fit = h.1.1.1 }) (λ b. (b.some, (b.few, (b.rising, b.fit))))
-    (both (at_most_or_not 1 (length numbers))
-    (both (at_most_or_not (length numbers) 48)
-    (both (rising_or_not numbers) (all_or_not (λ b. b < 2 ^ 31) (λ b. below_or_not b (2 ^ 31)) numbers))))
-
--- a sector is a descriptor or not
-pub descriptor_or_not : (bytes : List ℕ) → Decided ((stamp : ℕ) × (numbers : List ℕ)
-    × IsDescriptor stamp numbers bytes)
-descriptor_or_not bytes =
-    let s = number_in bytes 1 in
-    let ns = read_numbers bytes 3 (number_in bytes 2) in
-    along (λ h. (s, ns, record { spelled = h.0; least = h.1.0; most = h.1.1.0; block_numbers = h.1.1.1 }))
-    (λ h.
-    let d = h.2 in
-    let same : s ≡ h.0 = descriptor_stamp h.0 h.1 bytes d in
-    let numbers : ns ≡ h.1 = descriptor_numbers h.0 h.1 bytes d (number_in bytes 2) ns refl
-    (length_read bytes 3 (number_in bytes 2)) (each_read bytes 3 (number_in bytes 2)) in (
-      d.spelled ∙ ap (λ (k : ℕ). spelling (descriptor_mark ∷ k ∷ length h.1 ∷ h.1)) (sym same)
-          ∙ ap (λ (l : List ℕ). spelling (descriptor_mark ∷ s ∷ length l ∷ l)) (sym numbers),
-      (
-        subst (λ k. 1 ≤ k) (sym same) d.least,
-        (subst (λ k. k < 2 ^ 63 - 1) (sym same) d.most, subst AreBlockNumbers (sym numbers) d.block_numbers),
-      ),
-    ))
-    (both (same_or_not bytes (spelling (descriptor_mark ∷ s ∷ length ns ∷ ns)))
-    (both (at_most_or_not 1 s) (both (below_or_not s (2 ^ 63 - 1)) (block_numbers_or_not ns))))
 
 -- home begins where it has to or not
 pub first_home_or_not : (format : LogFormat) (slots home : ℕ) → Decided (IsFirstHome format slots home)

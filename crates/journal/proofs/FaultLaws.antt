@@ -11,7 +11,7 @@ use Rattle.journal.specs.Sectors.{IsSuper, IsHead}
 use Rattle.journal.specs.SuperFaults.{HasVersion, IsSuperFault}
 use Rattle.journal.specs.Standing.{Stands}
 use Rattle.journal.specs.ImageFaults.{HasShape, ImageFault, BadSuper, BadVersion, BadSize, BadHead, HasFault}
-use Rattle.journal.proofs.Decoding.{super_begins, IsSuper-one}
+use Rattle.journal.proofs.SectorNumbers.{super_begins, IsSuper-one}
 use Rattle.journal.proofs.DecidingSectors.{same_or_not, head_or_not, super_or_not}
 use Rattle.journal.proofs.DecidingRecords.{count_of}
 use Rattle.journal.proofs.StandingLaws.{count_stands}

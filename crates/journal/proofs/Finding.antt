@@ -17,7 +17,7 @@ use Rattle.journal.specs.Formats.{layout_of, IsWhole}
 use Rattle.journal.specs.Reading.{AreStamped, data_at, IsReadFor, IsReadForTwo, FindsStamps, IsReadForStamps}
 use Rattle.journal.proofs.BytesTwo.{place_rest, two_parts}
 use Rattle.journal.proofs.ReadingOne.{place_there as place_there_one}
-use Rattle.journal.proofs.Copying.{place_there}
+use Rattle.journal.proofs.CopiedBlock.{place_there}
 use Rattle.journal.proofs.WholeOne.{as_one}
 use Rattle.journal.proofs.WholeTwo.{place_whole}
 use Rattle.journal.proofs.SlotTwo.{as_two}

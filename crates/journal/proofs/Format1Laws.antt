@@ -9,7 +9,7 @@ use Rattle.std.proofs.Math.ListN.{get_or-map}
 use Rattle.journal.specs.Spelling.{spelling, commit_mark}
 use Rattle.journal.specs.Sectors.{IsDescriptor, IsCommit}
 use Rattle.journal.specs.Record.{Entry, numbers_of}
-use Rattle.journal.proofs.Spelling.{IsDescriptor-stamp, IsDescriptor-numbers, IsCommit-stamp}
+use Rattle.journal.proofs.OneSpelling.{IsDescriptor-stamp, IsDescriptor-numbers, IsCommit-stamp}
 use Rattle.journal.specs.LayoutLaws.{IsRecordOf}
 use Rattle.journal.specs.Record.{block_of}
 use Rattle.journal.specs.Format1.{format1, offset1, part1, Carries1, commit1, descriptor1}

@@ -15,7 +15,7 @@ use Rattle.journal.proofs.Format1Laws.{same_entry as same_entry1, part_commit as
 use Rattle.journal.proofs.Format2Laws.{inside2, apart2, carries2, one_stamp2, kind_of as kind_of2, same_entry as same_entry2}
 use Rattle.journal.proofs.Format2Laws.{part_commit as part_commit2, offset_commit as offset_commit2}
 use Rattle.journal.proofs.ReadingOne.{record_read as read1, zeros_carry_none as zeros1}
-use Rattle.journal.proofs.Reading.{record_read as read2}
+use Rattle.journal.proofs.SlotRecord.{record_read as read2}
 use Rattle.journal.proofs.Zeros.{zeros_carry_none as zeros2}
 
 pub format1_laws : Laws format1

@@ -9,7 +9,7 @@ use Rattle.medium.specs.Medium.{Image}
 use Rattle.journal.specs.Places.{Shape}
 use Rattle.journal.specs.Spelling.{number_in}
 use Rattle.journal.specs.Sectors.{IsDescriptor}
-use Rattle.journal.proofs.Decoding.{descriptor_stamp, descriptor_count, descriptor_number, commit_stamp}
+use Rattle.journal.proofs.SectorNumbers.{descriptor_stamp, descriptor_count, descriptor_number, commit_stamp}
 use Rattle.journal.specs.Record.{Entry, numbers_of, block_of, entries_in}
 use Rattle.journal.specs.Layout.{IsWholeIn}
 use Rattle.journal.specs.LayoutLaws.{IsRecordOf}

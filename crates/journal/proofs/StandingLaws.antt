@@ -12,8 +12,8 @@ use Rattle.journal.specs.Layout.{slot_at}
 use Rattle.journal.specs.Formats.{layout_of, IsWhole}
 use Rattle.journal.specs.Standing.{IsCount, StandsFor, IsOurs}
 use Rattle.journal.specs.ImageFaults.{HasShape}
-use Rattle.journal.proofs.Spelling.{IsHead-one}
-use Rattle.journal.proofs.Decoding.{IsSuper-one}
+use Rattle.journal.proofs.OneSpelling.{IsHead-one}
+use Rattle.journal.proofs.SectorNumbers.{IsSuper-one}
 use Rattle.journal.proofs.Formats.{laws_of, sectors_are}
 use Rattle.journal.proofs.Wholeness.{IsWhole-one, HasWhole-same, CarriesBelow-agree, Keeps-same, slot_inside}
 

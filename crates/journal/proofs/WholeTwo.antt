@@ -20,7 +20,7 @@ use Rattle.journal.specs.Format2.{format2, entry_in, record_in, part2, offset2}
 use Rattle.journal.specs.SlotTwo.{HasDescriptors, HasPlaces}
 use Rattle.journal.proofs.Format2Laws.{Kind, Described, Placed, Committed, kind_of, offset_descriptor, offset_place, offset_commit}
 use Rattle.journal.proofs.Format2Laws.{part_descriptor, part_place, part_commit}
-use Rattle.journal.proofs.Copying.{place_there}
+use Rattle.journal.proofs.CopiedBlock.{place_there}
 
 -- data places have 512 bytes each
 abbrev pub AreSectors : Image → ℕ → ℕ → Type 0

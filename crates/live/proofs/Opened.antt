@@ -8,17 +8,12 @@ use Rattle.journal.specs.Places.{Shape}
 use Rattle.journal.specs.Sectors.{IsSuper}
 use Rattle.journal.specs.Values.{shape_of}
 use Rattle.journal.specs.declared.super_sector.Super.{Super}
-use Rattle.journal.proofs.Decoding.{IsSuper-one}
+use Rattle.journal.proofs.SectorNumbers.{IsSuper-one}
 use Rattle.window.specs.Window.{Window, state_of, fresh}
 use Rattle.window.proofs.Kept.{opened_length, opened_front}
 use Rattle.device_file.specs.First.{SpellsSuper, near_of}
 use Rattle.live.specs.Ready.{most_room, IsReadyToStart, HasRoomToStart}
 use Rattle.live.specs.Starting.{IsWindowOf, room_for}
-
--- what is opened over a file that is not empty lies in memory in part
-some_near : (sizes : Option Super) (bytes : List ℕ) → SpellsSuper sizes (sector_of bytes 0) → 0 < near_of sizes
-some_near (Some sizes) bytes spells = omega (arith, spells.home_is.0)
-some_near None bytes spells = omega arith
 
 module _ (sectors : ℕ) (bytes device : List ℕ) (some : 0 < sectors) where
   abbrev over : ℕ → Window

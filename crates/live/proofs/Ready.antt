@@ -5,7 +5,7 @@ use Rattle.std.proofs.lemmas.Bool.{cases_Bool, cases_lt}
 use Rattle.medium.specs.Sent.{sent}
 use Rattle.journal.specs.Places.{Shape}
 use Rattle.journal.specs.Sectors.{IsSuper}
-use Rattle.journal.proofs.Decoding.{IsSuper-one}
+use Rattle.journal.proofs.SectorNumbers.{IsSuper-one}
 use Rattle.mirror.specs.Story as story
 use Rattle.spec.specs.declared.case.Case.{Case}
 use Rattle.spec.specs.declared.case.Case.TheVariants.{C5, C6}

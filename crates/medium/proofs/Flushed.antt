@@ -7,7 +7,7 @@ use Rattle.medium.specs.Medium.{Stays, Holds}
 use Rattle.medium.specs.Writes.{sector_of, latest, applied, IsWritten, kept_writes, LieWithin, are_whole}
 use Rattle.medium.specs.Sim.{Sim, content_of, sets_of}
 use Rattle.medium.specs.SimLaws.{among}
-use Rattle.medium.proofs.Keeping.{kept_allowed}
+use Rattle.medium.proofs.KeptBlocks.{kept_allowed}
 use Rattle.medium.specs.Power.{admits}
 use Rattle.medium.specs.declared.fault.MediumFault.{MediumFault}
 use Rattle.medium.specs.declared.power.Power.{Power}

@@ -90,18 +90,3 @@ module _ (s : ℕ) (block : List ℕ) (old new : Copied) (written : IsWritten s 
     writes_stay = let same = ap (λ (r : Tally). r.writes) written.refused_stay in omega (arith, same);
     copy_stays = λ copy same. copied copy;
   }
-
--- after a write that was refused nothing is said of the file
-pub refused_follows : (old new : Copied) → new ≡ record (refused old Write) { file = new.file } → ComesAfter old new
-refused_follows old new is =
-    let bytes = ap (λ (m : Copied). length m.bytes) is in
-    let calls = ap (λ (m : Copied). m.calls) is in
-    let all = ap (λ (m : Copied). of_all m.refused) is in
-    let writes = ap (λ (m : Copied). m.refused.writes) is in
-    record {
-      length_stays = bytes;
-      later = omega (arith, calls);
-      failures_stay = omega (arith, all);
-      writes_stay = omega (arith, writes);
-      copy_stays = λ copy same. absurd (omega (arith, same, writes));
-    }

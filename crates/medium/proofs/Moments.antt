@@ -114,10 +114,6 @@ pub gains_within : (bound sets new : Sets) (s : ℕ) (bytes : List ℕ) → With
     → ((t : ℕ) (c : List ℕ) → (t ≡ s) × (c ≡ bytes) → bound t c) → Within new bound
 gains_within bound sets new s bytes w gains has t c now = ⊎_elim (w t c) (has t c) (gains t c now)
 
--- a part of a part is a part
-pub within_through : (a b c : Sets) → Within a b → Within b c → Within a c
-within_through a b c f g s x h = g s x (f s x h)
-
 -- what each image has before the sets shrink, each has after
 pub shrunk : (P : Image → Type 0) (old new : State) → Within new.may_leave old.may_leave → EachCut P old → EachCut P new
 shrunk P old new within each image cut = each image (λ s. within s (image s) (cut s))
@@ -234,10 +230,6 @@ quiet_leaves P old new sound each quiet = record {
   before = λ t image le since. ⊎_elim inl (λ now. inr (each image now)) (quiet.nothing_else t image le since);
 }
 
--- what each image has before quiet calls, each has after
-pub quiet_each : (P : Image → Type 0) (old new : State) → EachCut P old → IsQuiet old new → EachCut P new
-quiet_each P old new each quiet = shrunk P old new quiet.sets_shrink each
-
 -- where nothing of a medium has changed, no call wrote
 pub unchanged_quiet : (old new : State) → IsUnchanged old new → IsQuiet old new
 unchanged_quiet old new same = record {
@@ -280,23 +272,6 @@ unchanged_through old mid new first second = record {
   refused_stay = λ kind. second.refused_stay kind ∙ first.refused_stay kind;
 }
 
--- one call more that writes nothing, where each image has P before it
-pub goes_on_quiet : (P : Image → Type 0) (old mid new : State) → LeavesOnly P old mid → IsSound mid → EachCut P mid → IsQuiet mid new
-    → LeavesOnly P old new
-goes_on_quiet P old mid new so_far sound each quiet = joined_same P old mid new so_far (quiet_leaves P mid new sound each quiet)
-
--- a run that begins where nothing has changed since old
-pub after_unchanged : (P : Image → Type 0) (old mid new : State) → IsUnchanged old mid → LeavesOnly P mid new → LeavesOnly P old new
-after_unchanged P old mid new same run = record {
-  later = omega (arith, same.calls_stay, run.later);
-  failures_stay = omega (arith, same.failures_stay, run.failures_stay);
-  refused_stay = λ kind. omega (arith, same.refused_stay kind, run.refused_stay kind);
-  size_stays = run.size_stays ∙ same.size_stays;
-  each = λ image since. run.each image (subst (λ t. new.left_since t image) (sym same.calls_stay) since);
-  before = λ t image le since.
-      ⊎_elim (λ was. inl (same.left_shrinks t image was)) inr (run.before t image (omega (arith, le, same.calls_stay)) since);
-}
-
 -- a run after which nothing changes
 pub then_unchanged : (P : Image → Type 0) (old mid new : State) → LeavesOnly P old mid → IsUnchanged mid new → LeavesOnly P old new
 then_unchanged P old mid new run same = record {
@@ -307,7 +282,3 @@ then_unchanged P old mid new run same = record {
   each = λ image since. run.each image (same.left_shrinks old.calls image since);
   before = λ t image le since. run.before t image le (same.left_shrinks t image since);
 }
-
--- where the sets have the one content, they are within a bound that has it
-pub only_within : (bound : Sets) (content : Image) (sets : Sets) → Only content sets → ((s : ℕ) → bound s (content s)) → Within sets bound
-only_within bound content sets only has s c left = subst (bound s) (sym (only s c left)) (has s)

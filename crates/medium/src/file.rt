@@ -1,5 +1,6 @@
 //! A medium over an image file.
-ghost use Rattle.std.specs.Prelude.{◌≡◌, ◌≢◌, ◌⊎◌, ◌+◌, ◌*◌, ◌%◌, ◌<◌, ◌≤◌, ◌↔◌, ◌^◌, length, replicate, [], ◌∷◌};
+ghost use Rattle.std.specs.Prelude.{◌≡◌, ◌≢◌, ◌⊎◌, ◌+◌, ◌*◌, ◌%◌, ◌<◌, ◌≤◌, ◌↔◌, ◌^◌, length};
+ghost use Rattle.std.specs.Prelude.{replicate, [], ◌∷◌};
 ghost use Rattle.std.specs.Prelude.{IfOk, IfErr, IsErrOf, OnOk, OnErr};
 ghost use Rattle.medium.specs.FileStory.{IsReadWhole, IsMadeOf, IsPut, MayPut};
 ghost use Rattle.medium.specs.ImageFile.{state_of, fresh, IsImage};
@@ -222,7 +223,8 @@ fn write_through<S: ToldFile>(
 impl<F: SectorFile> Medium for FileMedium<F> {
     ghost use Rattle.std.specs.Prelude.{◌≡◌, ◌⊎◌, ◌<◌, IsOk, OnOk, OnErr};
     ghost use Rattle.medium.specs.Medium.{Stays, Holds, Within, Gains, Only, Passes, LooksOnly};
-    ghost use Rattle.medium.specs.ImageFile.{state_of, called, flushed, unflushed, IsWritten, IsNotWritten, ComesAfter};
+    ghost use Rattle.medium.specs.ImageFile.{state_of, called, flushed, unflushed, IsWritten};
+    ghost use Rattle.medium.specs.ImageFile.{IsNotWritten, ComesAfter};
     ghost use Rattle.medium.specs.ImageFileLaws.{is_sound, comes_after_itself, comes_after_through};
     ghost use Rattle.medium.specs.declared.fault.MediumFault.TheVariants.{Read, Write, Flush};
 

@@ -1,7 +1,8 @@
 //! Sectors that can be read, written and flushed.
 ghost use Rattle.std.specs.Prelude.{◌≡◌, ◌⊎◌, ◌<◌, ℕ, OnOk, OnErr};
 ghost use Rattle.medium.specs.declared.fault.MediumFault.TheVariants.{Read, Write, Flush};
-ghost use Rattle.medium.specs.Medium.{State, Stays, Holds, Within, Gains, Only, Passes, LooksOnly, IsSound};
+ghost use Rattle.medium.specs.Medium.{State, Stays, Holds, Within, Gains, Only, Passes, LooksOnly};
+ghost use Rattle.medium.specs.Medium.{IsSound};
 
 use crate::fault::MediumFault;
 

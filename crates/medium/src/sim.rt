@@ -93,8 +93,8 @@ impl SimMedium {
         })
     }
 
-    /// A medium in the same state: its bytes, the unflushed writes, the room, the power with fuse and
-    /// failure, and the counts. `None` for want of memory.
+    /// A medium in the same state: its bytes, the unflushed writes, the room, the power with fuse
+    /// and failure, and the counts. `None` for want of memory.
     pub fn copy(&self, alloc: Global) -> Option<SimMedium>
         ensures { IfSome result (λ m. m ≡ self.now) }
     {

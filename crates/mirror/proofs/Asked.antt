@@ -31,10 +31,6 @@ pub whole_more : (calls : List DeviceCall) (call : DeviceCall) → are_whole cal
     → are_whole (calls ++ call ∷ []) ≡ true
 whole_more calls call whole one = list_all-append is_whole calls (call ∷ []) ∙ rw whole (rw one refl)
 
--- a call that gave nothing leaves the device
-pub quiet_device : (m : Mirror) → device_of (reads m).story ≡ device_of m.story
-quiet_device m = ap (λ (calls : List DeviceCall). after (durable m.story.opening) calls) (given_none m.story.asked)
-
 pub given_device : (m : Mirror) (call : DeviceCall) → device_of (gives m call).story ≡ carried_out (device_of m.story) call
 given_device m call =
     ap (λ (calls : List DeviceCall). after (durable m.story.opening) calls) (given_some m.story.asked call)

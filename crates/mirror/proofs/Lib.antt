@@ -2,4 +2,3 @@ pub mod Asked
 pub mod Devices
 pub mod InFlight
 pub mod Kept
-pub mod Rows

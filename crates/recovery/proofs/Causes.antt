@@ -8,7 +8,7 @@ use Rattle.medium.specs.declared.fault.MediumFault.TheVariants as medium
 use Rattle.medium.proofs.Moments.{quiet_joined}
 use Rattle.journal.specs.declared.log_format.LogFormat.TheVariants.{One}
 use Rattle.journal.specs.Places.{Shape}
-use Rattle.journal.proofs.Decoding.{IsSuper-one}
+use Rattle.journal.proofs.SectorNumbers.{IsSuper-one}
 use Rattle.journal.specs.Standing.{StandsFor}
 use Rattle.journal.specs.Values.{shape_of}
 use Rattle.journal.specs.ImageFaults as image
@@ -119,11 +119,6 @@ served_slots least old new StampsUsedUp h shape array next s left some =
     let same = one.1 in
     let past = w.4 in
     absurd (omega (arith, same, past, left))
-
--- contents with a fault are never recovered
-pub faulty : (old new : State) (answer : Recovered) (fault : image.ImageFault) → image.HasFault old.size old.content fault
-    → ¬ IsRecoveredFrom old new answer
-faulty old new answer fault h r = HasFault-stands old.size old.content fault h (shape_of answer.sizes, r.array, answer.next, r.stood)
 
 -- nor are those with no stamp left
 pub used_up : (old new : State) (answer : Recovered) → image.HasNoStampLeft old.size old.content → ¬ IsRecoveredFrom old new answer

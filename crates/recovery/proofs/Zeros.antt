@@ -11,8 +11,8 @@ use Rattle.journal.specs.Record.{home_of}
 use Rattle.journal.specs.Formats.{CarriesBelow}
 use Rattle.journal.specs.Standing.{IsOurs}
 use Rattle.recovery.specs.Formatted.{IsArrayFrom, IsMade, IsFormatted}
-use Rattle.recovery.proofs.Carrying.{carried_whole, zeros_carry, carries_later}
-use Rattle.recovery.proofs.Copying.{log_ends}
+use Rattle.recovery.proofs.CarriedStamps.{carried_whole, zeros_carry, carries_later}
+use Rattle.recovery.proofs.CopiedRecords.{log_ends}
 
 -- the image is ours, for what it has at home
 pub zeros_ours : (size : ℕ) (shape : Shape) (array : Array) (image : Image) → sectors_of shape ≤ size → IsSuper shape (image 0)

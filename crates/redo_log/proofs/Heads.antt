@@ -14,11 +14,11 @@ use Rattle.journal.specs.Layout.{Layout}
 use Rattle.journal.specs.Formats.{layout_of, IsWhole}
 use Rattle.journal.proofs.Formats.{laws_of}
 use Rattle.journal.proofs.Overlay.{records-hide}
-use Rattle.journal.proofs.Retiring.{CarriesBelow-same}
+use Rattle.journal.proofs.RetiredRecord.{CarriesBelow-same}
 use Rattle.redo_log.specs.Logged.{HasRecords, Logged, Laid}
 use Rattle.redo_log.specs.Stages.{IsSized}
 use Rattle.redo_log.specs.Held.{View, with_begun, IsOlder, HasHead, Guards, Shields, with_head}
-use Rattle.redo_log.proofs.Laying.{IsWhole-same, Laid-slot, Laid-home, Laid-more}
+use Rattle.redo_log.proofs.LaidBlocks.{IsWhole-same, Laid-slot, Laid-home, Laid-more}
 
 -- ---- a medium, where a cut leaves the head that a read gives
 

@@ -13,7 +13,7 @@ use Rattle.runner.specs.Events.{events_of}
 use Rattle.runner.specs.Line.{Spells, IsScriptLine}
 use Rattle.runner.specs.Lifetimes.{comes, actions_of, LineActs}
 use Rattle.runner.specs.PlayedLives.{TellsLives, BreaksOff, PlaysAll, PlaysUpTo}
-use Rattle.runner.proofs.Acting.{tells-none, tells-more, ends-behind}
+use Rattle.runner.proofs.LifeActions.{tells-none, tells-more, ends-behind}
 use Rattle.runner.proofs.InTurn.{IsGivenTo, given-start, given-more, given-all, given-part}
 
 acts_by_events : (asked : ScriptLine) → ((writes : ℕ) → asked ≡ Fuse writes → ⊥) → ((call : ℕ) → asked ≡ Fail call → ⊥)

@@ -1,8 +1,8 @@
 pub mod Numerals
 pub mod Separators
-pub mod Checking
+pub mod CheckedLines
 pub mod Runs
-pub mod Telling
+pub mod ToldEvents
 pub mod Known
 pub mod Printable
 pub mod OneLife
@@ -17,7 +17,7 @@ pub mod InTurn
 pub mod WordWalks
 pub mod FormatWords
 pub mod PlayWords
-pub mod Acting
+pub mod LifeActions
 pub mod ActingLines
 pub mod SeveralLives
 pub mod Readiness
@@ -25,5 +25,5 @@ pub mod Within
 pub mod Refusals
 pub mod LineEnds
 pub mod Chunks
-pub mod Serving
+pub mod ServedLines
 pub mod NoScript

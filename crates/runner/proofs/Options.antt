@@ -7,11 +7,6 @@ pub none_weaker : {T P Q : Type 0} (r : Option T) → (P → Q) → IfNone r P �
 none_weaker None weaker holds = weaker holds
 none_weaker (Some x) weaker holds = tt
 
--- what holds anyway
-pub on_err_too : {T E P : Type 0} (r : Result T E) → P → OnErr r P
-on_err_too (Ok x) holds = tt
-on_err_too (Err e) holds = holds
-
 -- what holds at an `Ok`
 pub on_ok : {T E P : Type 0} (r : Result T E) → false ≡ is_err r → OnOk r P → P
 on_ok (Ok x) good holds = holds

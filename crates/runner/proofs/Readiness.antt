@@ -9,7 +9,7 @@ use Rattle.medium.specs.Moments.{EachCut, IsFlushed}
 use Rattle.medium.specs.Sim.{Sim, state_of, size_of, content_of, IsCut}
 use Rattle.medium.specs.SimLaws.{is_sound, size_whole}
 use Rattle.medium.specs.Writes.{sector_of, are_whole, keeps}
-use Rattle.medium.proofs.Keeping.{kept_allowed, none_size, none_content, none_flushed}
+use Rattle.medium.proofs.KeptBlocks.{kept_allowed, none_size, none_content, none_flushed}
 use Rattle.medium.proofs.Moments.{only_image, content_has}
 use Rattle.journal.specs.Places.{limit_of, migrated}
 use Rattle.spec.specs.Book.{Book, opened}
@@ -29,7 +29,7 @@ use Rattle.spec.specs.Lives.{LifeBegins, PowerGoes, LivesStep, LivesRun, after_c
 use Rattle.bot_machine.specs.LivesValue.{OpensOn, HasLimit, book_at, FoundAt}
 use Rattle.spec.specs.Promise.{first_standing}
 use Rattle.bot_machine.specs.Lifetimes.{actions_of_all, armed_by}
-use Rattle.bot_machine.proofs.Beginning.{next_opens}
+use Rattle.bot_machine.proofs.LifeStarts.{next_opens}
 use Rattle.bot_machine.proofs.UnitLaws.{knows_images, ours_stay}
 use Rattle.runner.specs.Laws.{IsReadyFor, FormatIsReady, MigrationIsReady, LivesAreReady}
 

@@ -5,11 +5,11 @@ use Rattle.medium.specs.Moments.{EachCut}
 use Rattle.spec.specs.Book.{Book}
 use Rattle.blocks.specs.Finding.{MayFind}
 use Rattle.blocks.specs.StoreValue.{is_dead}
-use Rattle.blocks.proofs.Turning.{exits}
+use Rattle.blocks.proofs.TurnsJoined.{exits}
 use Rattle.blocks.specs.Limit.{HasLimit}
 pub use Rattle.blocks.proofs.ImageLimit.{start_keeps_limit}
 use Rattle.blocks.proofs.ImageLimit.{some_limit, one_limit, cut_keeps_limit}
-use Rattle.blocks.proofs.Opening.{found_ours, ours_for_opening, stands_for_opening, stands_for_some}
+use Rattle.blocks.proofs.KnownImages.{found_ours, ours_for_opening, stands_for_opening, stands_for_some}
 use Rattle.spec.specs.Rules.{intention, intention_by}
 use Rattle.scsi_unit.specs.UnitValue.{UnitValue, unit_limit, state_of, FitsUnit, intention_of}
 use Rattle.scsi_unit.specs.Laws.{KnowsImages}

@@ -4,7 +4,7 @@ use Rattle.std.specs.Prelude.{◌||◌, not, if◌then◌else◌}
 use Rattle.std.proofs.lemmas.Nat.{mul-le}
 use Rattle.blocks.specs.StoreValue.{Cached, HasLimits, layout_of, blocks_of, slots_of, transfer_limit, batch_steps, steps_left}
 use Rattle.blocks.specs.Calls.{reads_of, most_reads}
-use Rattle.blocks.proofs.Counting.{few_copy_reads, reads_few}
+use Rattle.blocks.proofs.ReadCalls.{few_copy_reads, reads_few}
 use Rattle.blocks.proofs.Limits.{few_batch_steps}
 use Rattle.spec.specs.Sense.{Sense}
 use Rattle.cdb.specs.Supported.{IsSupported}

@@ -22,8 +22,8 @@ use Rattle.spec.specs.Capacity.{capacity_16}
 use Rattle.spec.specs.Rules.{UnitState, checked, intention, moves, moves_after, sends, effect_of, moves_blocks, selected_by, selects}
 use Rattle.spec.specs.Rules.{write_after, write_of_command, some_write, write_by, IsOutcome}
 use Rattle.scsi_unit.specs.Laws.{IsSized, KeepsIntentions}
-use Rattle.scsi_unit.proofs.Checking.{intention_is, passed_by}
-use Rattle.scsi_unit.proofs.Writing.{written}
+use Rattle.scsi_unit.proofs.PassedChecks.{intention_is, passed_by}
+use Rattle.scsi_unit.proofs.WriteLines.{written}
 use Rattle.scsi_unit.proofs.DataSizes.{sends_is, takes_is, sends_no_out, takes_no_in, sends_nothing, takes_nothing, length-fixed_sense}
 use Rattle.scsi_unit.proofs.DataSizes.{length-mode_data, length-capacity_10, length-capacity_16, length-inquiry_data, inquiry_most}
 use Rattle.scsi_unit.proofs.DataSizes.{take_none, inquiry_none, length-blocks_at}

@@ -12,8 +12,8 @@ use Rattle.spec.specs.Rules.{IsOutcome, needs_medium, intention}
 use Rattle.spec.specs.Waiting.{after_failure}
 use Rattle.scsi_unit.specs.Laws.{IsFunction, IsSameLife, KeepsLimit, KeepsWrites, StaysFaulted, TicksOnly, is_promising}
 use Rattle.spec.specs.declared.intent.Intent.TheVariants as intent
-use Rattle.scsi_unit.proofs.Checking.{passed_by, steady_by}
-use Rattle.scsi_unit.proofs.Turning.{died_or_not}
+use Rattle.scsi_unit.proofs.PassedChecks.{passed_by, steady_by}
+use Rattle.scsi_unit.proofs.UnitTurns.{died_or_not}
 use Rattle.scsi_unit.proofs.Effects.{Leaves, appended, leaves, refused_leaves, ok_or_err, uses_no_blocks}
 
 -- what the table says of a command, or of its refusal

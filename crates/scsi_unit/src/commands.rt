@@ -93,7 +93,7 @@ impl<M: Medium> Unit<M> {
     }
 
     // Performs a command.
-    #[tactic(auto, using(crate::proofs::Looking::no_calls))]
+    #[tactic(auto, using(crate::proofs::SectorsRead::no_calls))]
     fn perform(&mut self, command: Command, taken: &[u8], out: &mut [u8]) -> Result<usize, Sense>
         requires { CanPerform self.old command taken.now out.old }
         ensures performs { Performs (M.state self.old.store.medium)

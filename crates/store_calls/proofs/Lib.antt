@@ -1,6 +1,6 @@
 pub mod Roomy
 pub mod Served
-pub mod Starting
+pub mod StartedStore
 pub mod Values
-pub mod Taking
+pub mod OutboxTaken
 pub mod Untouched

@@ -8,7 +8,7 @@ use Rattle.spec.specs.Book.{Book}
 use Rattle.blocks.specs.Passing.{IsUntouched}
 use Rattle.blocks.specs.Stopping.{stopped, stopped_store}
 use Rattle.blocks.specs.StoreValue.{FitsBook}
-use Rattle.blocks.proofs.Turning.{stays, turns}
+use Rattle.blocks.proofs.TurnsJoined.{stays, turns}
 use Rattle.store_calls.specs.Outbox.{IsEmptied}
 use Rattle.store_calls.specs.Refused.{IsDrained, IsRefused}
 use Rattle.store_calls.specs.Stores.{Store}

@@ -1,5 +1,5 @@
 pub mod Refusals
 pub mod Rooms
 pub mod TakingOut
-pub mod Resting
+pub mod OutboxTaken
 pub mod Values

@@ -15,7 +15,7 @@ use Rattle.mirror.specs.declared.call.DeviceCall.{DeviceCall}
 use Rattle.mirror.specs.declared.call.DeviceCall.TheVariants.{Write, Flush}
 use Rattle.mirror.proofs.Asked.{one_moment_more, read_passes, quiet_content, quiet_sets}
 use Rattle.window.specs.Seen.{Seen, gave}
-use Rattle.window.proofs.Looking.{as_seen}
+use Rattle.window.proofs.SectorsRead.{as_seen}
 use Rattle.window.specs.Window.{Window, mirror_of, state_of, is_in_sight, reads, misses, gives, refuses, ComesAfter}
 
 others_read : (kind : MediumFault) (t : Tally) → kind ≢ fault.Read → of_kind (one_more t fault.Read) kind ≡ of_kind t kind

@@ -1,3 +1,2 @@
 pub mod CommandWrappers
-pub mod StatusWrappers
 pub mod ThirteenCases

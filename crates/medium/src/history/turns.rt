@@ -32,8 +32,8 @@ fn put<M: Medium>(m: &mut M, block: &[u8; 512]) -> Result<(), MediumFault>
     m.flush()
 }
 
-// At the end a cut leaves what was put last. It could have left what was put first, and at no moment
-// did it leave anything new in another sector.
+// At the end a cut leaves what was put last. It could have left what was put first, and at no
+// moment did it leave anything new in another sector.
 fn put_twice(m: &mut Remembering, first: &[u8; 512], last: &[u8; 512]) -> Result<(), MediumFault>
     requires { 0 < (state_of m.old).size }
     ensures spares { SparesFrom 1 (state_of m.old) (state_of m.new) }

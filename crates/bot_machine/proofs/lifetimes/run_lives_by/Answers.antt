@@ -9,8 +9,8 @@ use Rattle.spec.specs.Packets.{bytes_of}
 use Rattle.bot_machine.specs.Fitting.{AreWithin}
 use Rattle.bot_machine.specs.LivesValue.{LivesValue}
 use Rattle.bot_machine.specs.Lifetimes.{actions_of, actions_of_all, events_in, AppendsFor}
-use Rattle.bot_machine.proofs.Playing.{appends_on}
-use Rattle.bot_machine.proofs.Lasting.{none_yet, actions_more, events_more, room_left, apart, all_lived, lived_up_to}
+use Rattle.bot_machine.proofs.LifeRuns.{appends_on}
+use Rattle.bot_machine.proofs.WholeLives.{none_yet, actions_more, events_more, room_left, apart, all_lived, lived_up_to}
 use Rattle.bot_machine.proofs.lifetimes.run_lives_by.Goals as goal
 
 pub loop-life-init : goal.loop-life-init

@@ -3,12 +3,12 @@ use Rattle.std.specs.Prelude.{Ok, Err}
 use Rattle.bot_machine.proofs.UnitLaws.{ours_stay}
 use Rattle.spec.specs.Exchange.{finished}
 use Rattle.bot_machine.specs.Refinement.{line_with}
-use Rattle.bot_machine.proofs.Sending.{sent_in-size}
-use Rattle.bot_machine.proofs.Telling.{tells}
-use Rattle.bot_machine.proofs.Faulting.{faulted_rests}
+use Rattle.bot_machine.proofs.DataPackets.{sent_in-size}
+use Rattle.bot_machine.proofs.AnswerLines.{tells}
+use Rattle.bot_machine.proofs.FaultedDisk.{faulted_rests}
 use Rattle.bot_machine.proofs.Packets.{packets_of-none}
 use Rattle.bot_machine.proofs.Sizes.{some_bytes}
-use Rattle.bot_machine.proofs.Proceeding.{proceeding}
+use Rattle.bot_machine.proofs.UnitMoments.{proceeding}
 use Rattle.bot_machine.proofs.serve.carry_out.Goals as goal
 
 pub returns-in-Ok-clause-carried_out : goal.returns-in-Ok-clause-carried_out

@@ -5,12 +5,12 @@ use Rattle.bot_machine.proofs.ReadAtOnce.{log_alone}
 use Rattle.std.proofs.lemmas.Bool.{cases_lt}
 use Rattle.bot_machine.specs.declared.bulk_state.Taking.{Taking}
 use Rattle.spec.specs.Packets.{bytes_of}
-use Rattle.bot_machine.proofs.Filling.{last_packet, other_packet}
+use Rattle.bot_machine.proofs.FrontBytes.{last_packet, other_packet}
 use Rattle.bot_machine.proofs.Packets.{packets_of-none}
 use Rattle.bot_machine.proofs.Sizes.{some_bytes}
-use Rattle.bot_machine.proofs.Proceeding.{staying_so, proceeding_so}
-use Rattle.bot_machine.proofs.Passing.{unit_stays}
-use Rattle.bot_machine.proofs.Taking.{one_taking}
+use Rattle.bot_machine.proofs.UnitMoments.{staying_so, proceeding_so}
+use Rattle.bot_machine.proofs.EventParts.{unit_stays}
+use Rattle.bot_machine.proofs.TakenData.{one_taking}
 use Rattle.bot_machine.proofs.serve.end_data.Goals as goal
 
 pub returns-then-packet-min : goal.returns-then-packet-min

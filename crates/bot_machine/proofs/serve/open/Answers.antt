@@ -5,9 +5,9 @@ use Rattle.bot_machine.proofs.ReadAtOnce.{besides, at_home}
 use Rattle.spec.specs.Packets.{bytes_of}
 use Rattle.bot_machine.proofs.Packets.{packets_of-none}
 use Rattle.bot_machine.proofs.Sizes.{some_bytes}
-use Rattle.bot_machine.proofs.Proceeding.{staying, proceeding_so}
-use Rattle.bot_machine.proofs.Passing.{unit_stays}
-use Rattle.bot_machine.proofs.Opening.{opens, no_write, carries_out, carried_at_once}
+use Rattle.bot_machine.proofs.UnitMoments.{staying, proceeding_so}
+use Rattle.bot_machine.proofs.EventParts.{unit_stays}
+use Rattle.bot_machine.proofs.ExchangeStarts.{opens, no_write, carries_out, carried_at_once}
 use Rattle.spec.specs.Exchange.{finished, at_once, after_data, never}
 use Rattle.bot_machine.specs.Refinement.{left_of}
 use Rattle.bot_machine.proofs.serve.open.Goals as goal

@@ -6,9 +6,9 @@ use Rattle.bot_machine.specs.declared.bulk_state.Phase.TheVariants.{DataOut}
 use Rattle.spec.specs.Exchange.{taking}
 use Rattle.bot_machine.specs.Refinement.{line_with}
 use Rattle.spec.specs.Packets.{bytes_of}
-use Rattle.bot_machine.proofs.Filling.{other_packet}
-use Rattle.bot_machine.proofs.Proceeding.{staying_so}
-use Rattle.bot_machine.proofs.Taking.{one_taking}
+use Rattle.bot_machine.proofs.FrontBytes.{other_packet}
+use Rattle.bot_machine.proofs.UnitMoments.{staying_so}
+use Rattle.bot_machine.proofs.TakenData.{one_taking}
 use Rattle.bot_machine.proofs.serve.take_data.Goals as goal
 use Rattle.bot_machine.proofs.serve.take_data.Goals.{else-pending-most-via-then-pending-most+else-packet-most}
 use Rattle.bot_machine.proofs.serve.take_data.Goals.{else-pending-most-via-else-pending-most}

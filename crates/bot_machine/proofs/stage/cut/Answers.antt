@@ -1,6 +1,6 @@
 use Rattle.std.proofs.Common.{sym}
 use Rattle.medium.specs.Writes.{keeps}
-use Rattle.bot_machine.proofs.Happening.{is_cut}
+use Rattle.bot_machine.proofs.LifeActions.{is_cut}
 use Rattle.bot_machine.proofs.stage.cut.Goals as goal
 
 pub returns-clause-goes_on : goal.returns-clause-goes_on

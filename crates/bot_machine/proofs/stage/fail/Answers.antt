@@ -1,4 +1,4 @@
-use Rattle.bot_machine.proofs.Arming.{fails_medium, fails_disk}
+use Rattle.bot_machine.proofs.ArmedFaults.{fails_medium, fails_disk}
 use Rattle.bot_machine.proofs.stage.fail.Goals as goal
 
 pub returns-in-Rests-clause-goes_on : goal.returns-in-Rests-clause-goes_on

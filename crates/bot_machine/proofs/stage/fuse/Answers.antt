@@ -1,4 +1,4 @@
-use Rattle.bot_machine.proofs.Arming.{arms_medium, arms_disk}
+use Rattle.bot_machine.proofs.ArmedFaults.{arms_medium, arms_disk}
 use Rattle.bot_machine.proofs.stage.fuse.Goals as goal
 
 pub returns-in-Rests-clause-goes_on : goal.returns-in-Rests-clause-goes_on

@@ -1,4 +1,4 @@
-use Rattle.bot_machine.proofs.Happening.{event_at_rest}
+use Rattle.bot_machine.proofs.LifeActions.{event_at_rest}
 use Rattle.bot_machine.proofs.stage.play.Goals as goal
 
 pub returns-in-Rests-clause-goes_on : goal.returns-in-Rests-clause-goes_on

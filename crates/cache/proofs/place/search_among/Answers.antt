@@ -1,5 +1,5 @@
 use Rattle.std.proofs.Common.{◌<◌, arith}
-use Rattle.cache.proofs.Halving.{one_step, within_digits, smaller, greater}
+use Rattle.cache.proofs.HalvedSearch.{one_step, within_digits, smaller, greater}
 use Rattle.cache.proofs.place.search_among.Goals as goal
 
 pub loop-low-preserved-then-number-block-2 : goal.loop-low-preserved-then-number-block-2

@@ -5,7 +5,7 @@ use Rattle.spec.specs.declared.command.Command.{Command}
 use Rattle.cdb.specs.Supported.{IsSupported, IsRefusal}
 use Rattle.cdb.proofs.Laws.{supported, refused}
 use Rattle.cdb.proofs.Past.{past}
-use Rattle.cdb.proofs.Writing.{written}
+use Rattle.cdb.proofs.WrittenBlocks.{written}
 use Rattle.spec.specs.Commands.{command_of}
 use Rattle.cdb.proofs.decode.parse.Goals as goal
 

@@ -3,7 +3,7 @@ use Rattle.std.proofs.lemmas.Grind.{common_steps}
 use Rattle.std.specs.Prelude.{Result, Ok, Err}
 use Rattle.spec.specs.Judging.{Test, judged}
 use Rattle.spec.specs.Commands.{mode_sense, mode_sense_tests, form_tests}
-use Rattle.cdb.proofs.Judging.{judged_behind}
+use Rattle.cdb.proofs.Judged.{judged_behind}
 use Rattle.cdb.proofs.device.mode_sense.Goals as goal
 
 -- the form is that of the command, and its page is refused

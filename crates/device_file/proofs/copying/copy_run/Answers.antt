@@ -6,8 +6,8 @@ use Rattle.device_file.proofs.copying.copy_run.Goals as goal
 pub returns-in-Ok-put_sectors : goal.returns-in-Ok-put_sectors
 returns-in-Ok-put_sectors g c = record {
   ok = copying_run (g.S.DeviceFile.holds c.args.from.now) c.args.first c.args.at (length c.args.bytes.now / 512) c.read.new.to
-    (g.D.DeviceFile.told c.args.to.now) (g.D.DeviceFile.told c.put_sectors.new.file) (waiting_in c.args.run.now)
-    (waiting_in c.put_sectors.new.run) (omega arith) c.in-Ok.ensures.read c.in-Ok-put_sectors.ensures.ok;
+      (g.D.DeviceFile.told c.args.to.now) (g.D.DeviceFile.told c.put_sectors.new.file) (waiting_in c.args.run.now)
+      (waiting_in c.put_sectors.new.run) (omega arith) c.in-Ok.ensures.read c.in-Ok-put_sectors.ensures.ok;
   err = tt;
   size = c.in-Ok-put_sectors.ensures.size;
 }
@@ -16,7 +16,7 @@ pub returns-in-Err-put_sectors : goal.returns-in-Err-put_sectors
 returns-in-Err-put_sectors g c = record {
   ok = tt;
   err = copied_run (g.S.DeviceFile.holds c.args.from.now) c.args.first c.args.at (length c.args.bytes.now / 512) c.read.new.to
-    (g.D.DeviceFile.told c.args.to.now) (g.D.DeviceFile.told c.put_sectors.new.file) (waiting_in c.args.run.now)
-    c.in-Err-put_sectors.fault (omega arith) c.in-Ok.ensures.read c.in-Err-put_sectors.ensures.err;
+      (g.D.DeviceFile.told c.args.to.now) (g.D.DeviceFile.told c.put_sectors.new.file) (waiting_in c.args.run.now)
+      c.in-Err-put_sectors.fault (omega arith) c.in-Ok.ensures.read c.in-Err-put_sectors.ensures.err;
   size = c.in-Err-put_sectors.ensures.size;
 }

@@ -2,7 +2,7 @@ use Rattle.std.proofs.Common.{◌≡◌, ◌∙◌, List, [], ◌∷◌, ◌++�
 use Rattle.mirror.specs.declared.call.DeviceCall.{DeviceCall}
 use Rattle.window.specs.Window.{Window}
 use Rattle.device_file.specs.Copied.{waiting_in}
-use Rattle.device_file.proofs.Letting.{without}
+use Rattle.device_file.proofs.FirstParts.{without}
 use Rattle.device_file.proofs.Puts.{first_is, moved_more, moved_stops}
 use Rattle.device_file.proofs.moving.move_all.Goals as goal
 

@@ -1,5 +1,5 @@
 use Rattle.std.proofs.Common.{refl}
-use Rattle.image_calls.proofs.Handing.{let_go}
+use Rattle.image_calls.proofs.NextCall.{let_go}
 use Rattle.image_calls.proofs.going.let_go.Goals as goal
 
 pub returns-clause-rest : goal.returns-clause-rest

@@ -1,5 +1,5 @@
 use Rattle.std.proofs.Common.{◌≡◌, ◌+◌, ◌*◌, ◌/◌, arith}
-use Rattle.medium.proofs.Looking.{one_look}
+use Rattle.medium.proofs.SectorsRead.{one_look}
 use Rattle.journal.proofs.copies.read_begin.Goals as goal
 
 pub returns-in_err-read-clause-follows : goal.returns-in_err-read-clause-follows

@@ -1,15 +1,15 @@
 use Rattle.std.proofs.Common.{◌≡◌, ◌+◌, ◌*◌, ◌/◌, ◌%◌, ◌<◌, ℕ, refl, ap, subst, ◌∙◌, arith}
 use Rattle.std.proofs.lemmas.Result.{on_ok_weaker}
-use Rattle.medium.proofs.Looking.{looks_joined, look_below}
+use Rattle.medium.proofs.SectorsRead.{looks_joined, look_below}
 use Rattle.medium.proofs.Moments.{quiet_call, quiet_joined}
 use Rattle.journal.specs.declared.log_format.LogFormat.{LogFormat}
 use Rattle.journal.specs.Places.{first_home, first_data_of}
 use Rattle.journal.specs.Values.{shape_of}
 use Rattle.journal.specs.Formats.{layout_of}
 use Rattle.journal.specs.Layout.{IsWholeIn}
-use Rattle.journal.proofs.Copying.{descriptor_there, place_there, copy_is}
+use Rattle.journal.proofs.CopiedBlock.{descriptor_there, place_there, copy_is}
 use Rattle.journal.proofs.ReadingOne.{place_there as place_there_one}
-use Rattle.journal.proofs.Sighting.{place_before, descriptor_before}
+use Rattle.journal.proofs.SectorsRead.{place_before, descriptor_before}
 use Rattle.journal.proofs.copies.read_copy.Goals as goal
 
 pub returns-in-One-clause-ok : goal.returns-in-One-clause-ok

@@ -2,7 +2,7 @@ use Rattle.std.proofs.Common.{◌∙◌, ◌-◌, ◌*◌, length, drop, ap, ari
 use Rattle.std.proofs.lemmas.List.{take_all}
 use Rattle.byteorder.specs.Endian.{little_number}
 use Rattle.journal.specs.Spelling.{number_in}
-use Rattle.journal.proofs.Spelling.{spelling-get}
+use Rattle.journal.proofs.OneSpelling.{spelling-get}
 use Rattle.journal.proofs.fields.number_at.Goals as goal
 
 pub returns-clause-is : goal.returns-clause-is

@@ -1,4 +1,4 @@
-use Rattle.journal.proofs.Spelling.{spelling-put}
+use Rattle.journal.proofs.OneSpelling.{spelling-put}
 use Rattle.journal.proofs.fields.put.Goals as goal
 
 pub returns : goal.returns

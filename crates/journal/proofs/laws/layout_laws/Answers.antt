@@ -1,6 +1,6 @@
 use Rattle.std.proofs.Common.{sym, ◌∙◌}
-use Rattle.journal.proofs.Spelling.{IsHead-one, IsDescriptor-stamp, IsDescriptor-numbers, IsCommit-stamp}
-use Rattle.journal.proofs.Decoding.{IsSuper-one, commit_count}
+use Rattle.journal.proofs.OneSpelling.{IsHead-one, IsDescriptor-stamp, IsDescriptor-numbers, IsCommit-stamp}
+use Rattle.journal.proofs.SectorNumbers.{IsSuper-one, commit_count}
 use Rattle.journal.proofs.EntriesTwo.{IsDescriptorTwo-one, commit_stamp as commit_stamp_two, commit_count as commit_count_two}
 use Rattle.journal.proofs.laws.layout_laws.Goals as goal
 

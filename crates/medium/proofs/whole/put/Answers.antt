@@ -1,5 +1,5 @@
 use Rattle.std.proofs.Common.{◌<◌, ℕ, length, sym, subst, arith}
-use Rattle.medium.proofs.Putting.{Putting, put_none, put_more, put_refused, left_of}
+use Rattle.medium.proofs.FileRuns.{Putting, put_none, put_more, put_refused, left_of}
 use Rattle.medium.proofs.whole.put.Goals as goal
 use Rattle.medium.proofs.whole.put.Goals.{in-Ok, in-Err}
 

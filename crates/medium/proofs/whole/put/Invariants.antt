@@ -1,4 +1,4 @@
-use Rattle.medium.proofs.Putting.{Putting}
+use Rattle.medium.proofs.FileRuns.{Putting}
 use Rattle.medium.proofs.whole.put.Given as goal
 
 abbrev pub invariant-loop : goal.invariant-loop

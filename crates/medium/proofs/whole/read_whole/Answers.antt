@@ -1,6 +1,6 @@
 use Rattle.std.proofs.Common.{◌-◌, ◌∙◌, ℕ, length, sym, subst}
 use borrow.Rule.Slice.PartMut.{put_mid}
-use Rattle.medium.proofs.Putting.{Reading, read_none, read_more, read_refused, left_long}
+use Rattle.medium.proofs.FileRuns.{Reading, read_none, read_more, read_refused, left_long}
 use Rattle.medium.proofs.whole.read_whole.Goals as goal
 use Rattle.medium.proofs.whole.read_whole.Goals.{in-Ok, in-Err}
 

@@ -1,5 +1,5 @@
 use Rattle.std.proofs.Common.{length}
-use Rattle.medium.proofs.Putting.{Reading}
+use Rattle.medium.proofs.FileRuns.{Reading}
 use Rattle.medium.proofs.whole.read_whole.Given as goal
 
 abbrev pub invariant-loop : goal.invariant-loop

@@ -1,5 +1,5 @@
 use Rattle.std.proofs.Common.{◌+◌, ◌-◌, ◌*◌, arith}
-use Rattle.mirror.proofs.Rows.{stored_holds}
+use Rattle.medium.proofs.Rows.{stored_holds}
 use Rattle.mirror.proofs.sectors.put.Goals as goal
 
 pub returns : goal.returns

@@ -6,11 +6,11 @@ use Rattle.journal.specs.Places.{first_home, first_data_of}
 use Rattle.journal.specs.Formats.{layout_of}
 use Rattle.journal.specs.Values.{shape_of}
 use Rattle.journal.specs.Reading.{data_at}
-use Rattle.journal.proofs.Sighting.{place_before}
+use Rattle.journal.proofs.SectorsRead.{place_before}
 use Rattle.recovery.specs.Copies.{IsHomeOf}
-use Rattle.recovery.proofs.Copying.{none_copied, copies_joined}
-use Rattle.recovery.proofs.Homing.{apart_home}
-use Rattle.medium.proofs.Looking.{no_looks, looks_joined, look_below}
+use Rattle.recovery.proofs.CopiedRecords.{none_copied, copies_joined}
+use Rattle.recovery.proofs.NamedBlocks.{apart_home}
+use Rattle.medium.proofs.SectorsRead.{no_looks, looks_joined, look_below}
 use Rattle.recovery.proofs.copies.copy_blocks.Goals as goal
 
 -- the same first bytes before the same rest

@@ -1,13 +1,13 @@
 use Rattle.std.proofs.Common.{◌≡◌, ◌∙◌, ◌+◌, ◌++◌, ◌<◌, List, [], ℕ, length, drop, get_or, sym, ap, subst, arith, rules}
 use Rattle.medium.specs.Medium.{Image}
-use Rattle.medium.proofs.Looking.{looks_joined}
-use Rattle.medium.proofs.Sending.{none_sent}
+use Rattle.medium.proofs.SectorsRead.{looks_joined}
+use Rattle.medium.proofs.CallsSent.{none_sent}
 use Rattle.journal.specs.Places.{first_home}
 use Rattle.journal.specs.Values.{shape_of}
 use Rattle.journal.specs.Reading.{data_at, FindsRecord}
 use Rattle.recovery.specs.Copies.{IsHomeOf, IsHomeInRecord}
-use Rattle.recovery.proofs.Copying.{quiet_within, copies_joined, number_of, long_as}
-use Rattle.recovery.proofs.Homing.{both_ok, blocks_read, calls_made, most_copied, most_missed}
+use Rattle.recovery.proofs.CopiedRecords.{quiet_within, copies_joined, number_of, long_as}
+use Rattle.recovery.proofs.NamedBlocks.{both_ok, blocks_read, calls_made, most_copied, most_missed}
 use Rattle.recovery.proofs.copies.copy_record.Goals as goal
 
 pub copy_blocks-requires-clause-fits : goal.copy_blocks-requires-clause-fits

@@ -6,11 +6,11 @@ use Rattle.journal.specs.Values.{shape_of}
 use Rattle.journal.specs.Record.{Entry, with_records, home_of}
 use Rattle.journal.specs.Formats.{IsWhole}
 use Rattle.recovery.specs.Copies.{copy_calls, IsHomeInRecord, IsHomeInRecords}
-use Rattle.recovery.proofs.Copying.{none_copied, copies_joined, record_home, one_more_home, not_in_log, whole_same, home_same}
-use Rattle.recovery.proofs.Copying.{copy_calls-more}
-use Rattle.recovery.proofs.Trying.{no_calls, most_more, most_stays}
-use Rattle.recovery.proofs.Sending.{no_sends, sends_more, sends_stay}
-use Rattle.medium.proofs.Looking.{no_looks, looks_joined}
+use Rattle.recovery.proofs.CopiedRecords.{none_copied, copies_joined, record_home, one_more_home, not_in_log, whole_same, home_same}
+use Rattle.recovery.proofs.CopiedRecords.{copy_calls-more}
+use Rattle.recovery.proofs.SurveyCalls.{no_calls, most_more, most_stays}
+use Rattle.recovery.proofs.CallsSent.{no_sends, sends_more, sends_stay}
+use Rattle.medium.proofs.SectorsRead.{no_looks, looks_joined}
 use Rattle.recovery.proofs.copies.copy_records.Goals as goal
 
 pub copy_record-requires-clause-fits : goal.copy_record-requires-clause-fits

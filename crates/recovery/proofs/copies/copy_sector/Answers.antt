@@ -1,6 +1,6 @@
 use Rattle.std.proofs.Common.{◌≡◌, ℕ, List, ◌++◌, length, drop, rules}
-use Rattle.recovery.proofs.Copying.{sector_copied}
-use Rattle.medium.proofs.Looking.{write_looks, looks_joined}
+use Rattle.recovery.proofs.CopiedRecords.{sector_copied}
+use Rattle.medium.proofs.SectorsRead.{write_looks, looks_joined}
 use Rattle.recovery.proofs.copies.copy_sector.Goals as goal
 
 pub returns-clause-copies : goal.returns-clause-copies

@@ -1,12 +1,12 @@
 use Rattle.std.proofs.Common.{◌≡◌, ◌≤◌, ◌<◌, ◌∙◌, ℕ, refl, sym, subst, arith}
 use Rattle.std.specs.Prelude.{replicate}
-use Rattle.medium.proofs.Sparing.{spared_joined}
+use Rattle.medium.proofs.SparedSectors.{spared_joined}
 use Rattle.std.proofs.lemmas.Result.{on_ok_weaker}
 use Rattle.journal.specs.Sectors.{IsSuper, IsHead}
 use Rattle.journal.specs.Values.{shape_of}
 use Rattle.recovery.proofs.Zeros.{made_from, home_made}
-use Rattle.recovery.proofs.Making.{through_spares, clear_spares, first_leaves, then_leaves, clear_leaves, head_leaves, none_leaves}
-use Rattle.recovery.proofs.Making.{super_leaves}
+use Rattle.recovery.proofs.MadeImage.{through_spares, clear_spares, first_leaves, then_leaves, clear_leaves, head_leaves, none_leaves}
+use Rattle.recovery.proofs.MadeImage.{super_leaves}
 use Rattle.recovery.proofs.formatting.write_image.Goals as goal
 
 pub returns-clause-done : goal.returns-clause-done

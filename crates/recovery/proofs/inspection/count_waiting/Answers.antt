@@ -3,9 +3,9 @@ use Rattle.std.proofs.lemmas.List.{length-append}
 use Rattle.medium.specs.Medium.{Image}
 use Rattle.medium.proofs.Moments.{quiet_joined}
 use Rattle.journal.specs.Values.{shape_of}
-use Rattle.recovery.proofs.Counting.{few_tried}
-use Rattle.recovery.proofs.Finding.{has_whole_same}
-use Rattle.recovery.proofs.Looking.{HasCount, counts_made, one_counted}
+use Rattle.recovery.proofs.OneTry.{few_tried}
+use Rattle.recovery.proofs.FoundRecords.{has_whole_same}
+use Rattle.recovery.proofs.InspectedImage.{HasCount, counts_made, one_counted}
 use Rattle.recovery.proofs.inspection.count_waiting.Goals as goal
 
 pub returns-in-None-clause-counts : goal.returns-in-None-clause-counts

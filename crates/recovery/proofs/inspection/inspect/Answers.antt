@@ -3,7 +3,7 @@ use Rattle.std.proofs.lemmas.Result.{err_from_is_err_and}
 use Rattle.medium.proofs.Moments.{quiet_call, quiet_joined}
 use Rattle.journal.specs.Sectors.{IsHead}
 use Rattle.journal.specs.Values.{shape_of}
-use Rattle.recovery.proofs.Looking.{counts_stand, counts_before, refused_look}
+use Rattle.recovery.proofs.InspectedImage.{counts_stand, counts_before, refused_look}
 use Rattle.recovery.proofs.inspection.inspect.Goals as goal
 
 pub returns-in_err-sizes-clause-err : goal.returns-in_err-sizes-clause-err

@@ -1,14 +1,14 @@
 use Rattle.std.proofs.Common.{◌≡◌, ℕ, ap, subst, ◌∙◌, arith}
 use Rattle.medium.specs.Moments.{StaysWithin, SparesFrom}
-use Rattle.medium.proofs.Sparing.{spared_behind, spared_joined}
+use Rattle.medium.proofs.SparedSectors.{spared_behind, spared_joined}
 use Rattle.journal.specs.declared.log_format.LogFormat.{LogFormat}
 use Rattle.journal.specs.Places.{Shape, IsFirstHome}
 use Rattle.journal.specs.Sectors.{IsSuper}
 use Rattle.journal.specs.Values.{shape_of}
 use Rattle.recovery.specs.Copies.{cleared_at, IsBetween}
-use Rattle.recovery.proofs.Copying.{log_ends}
-use Rattle.recovery.proofs.Making.{clear_spares, through_spares}
-use Rattle.recovery.proofs.Migrating.{wiped_leaves, headed_leaves, made_leaves}
+use Rattle.recovery.proofs.CopiedRecords.{log_ends}
+use Rattle.recovery.proofs.MadeImage.{clear_spares, through_spares}
+use Rattle.recovery.proofs.MigrationCuts.{wiped_leaves, headed_leaves, made_leaves}
 use Rattle.recovery.proofs.migration.make_two.Goals as goal
 
 pub returns-in_err-clear-clause-leaves : goal.returns-in_err-clear-clause-leaves

@@ -3,12 +3,12 @@ use Rattle.std.proofs.lemmas.Result.{err_from_is_err_and}
 use Rattle.medium.specs.Moments.{EachCut}
 use Rattle.journal.specs.Places.{Shape}
 use Rattle.journal.specs.Values.{shape_of}
-use Rattle.journal.proofs.Decoding.{IsSuper-one}
+use Rattle.journal.proofs.SectorNumbers.{IsSuper-one}
 use Rattle.recovery.specs.Causes.{start_fault_of}
 use Rattle.recovery.specs.Migrated.{IsMigrationRefusal}
 use Rattle.recovery.specs.Recovered.{IsFresh}
 use Rattle.recovery.proofs.Causes.{served_slots, refused_later}
-use Rattle.recovery.proofs.Migrating.{can_migrate, recovery_leaves, migration_leaves, migrated_fresh, migrated_from}
+use Rattle.recovery.proofs.MigrationCuts.{can_migrate, recovery_leaves, migration_leaves, migrated_fresh, migrated_from}
 use Rattle.recovery.proofs.migration.migrate.Goals as goal
 
 pub make_two-requires-clause-can : goal.make_two-requires-clause-can

@@ -1,7 +1,7 @@
 use Rattle.std.proofs.Common.{ℕ, ◌∙◌, inr, subst, arith, rules}
 use Rattle.journal.specs.Sectors.{IsHead}
-use Rattle.medium.proofs.Sparing.{spared_silent, spared_write, spared_joined}
-use Rattle.recovery.proofs.Moving.{head_written, head_flushed}
+use Rattle.medium.proofs.SparedSectors.{spared_silent, spared_write, spared_joined}
+use Rattle.recovery.proofs.HeadMoves.{head_written, head_flushed}
 use Rattle.recovery.proofs.new_head.move_head.Goals as goal
 
 pub returns-in_err-flush-clause-moves : goal.returns-in_err-flush-clause-moves

@@ -3,14 +3,14 @@ use Rattle.std.proofs.lemmas.List.{length-map}
 use Rattle.std.specs.Prelude.{ℕ}
 use Rattle.medium.specs.Medium.{Image}
 use Rattle.medium.proofs.Moments.{quiet_joined}
-use Rattle.medium.proofs.Looking.{looks_joined}
+use Rattle.medium.proofs.SectorsRead.{looks_joined}
 use Rattle.journal.specs.Places.{first_home}
 use Rattle.journal.specs.Values.{shape_of}
 use Rattle.journal.specs.Entry.{Entry}
 use Rattle.journal.specs.Reading.{AreStamped, IsReadForStamps, FindsRecord}
 use Rattle.journal.proofs.Finding.{stamped_whole}
 use Rattle.journal.proofs.SlotTwo.{untrue}
-use Rattle.recovery.proofs.Counting.{try_missed, try_read, most_tried}
+use Rattle.recovery.proofs.OneTry.{try_missed, try_read, most_tried}
 use Rattle.recovery.proofs.record.count_blocks.Goals as goal
 
 pub returns-in_default-clause-counts : goal.returns-in_default-clause-counts

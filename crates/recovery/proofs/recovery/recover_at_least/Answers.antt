@@ -1,15 +1,16 @@
 use Rattle.std.proofs.Common.{◌+◌, arith}
 use Rattle.std.proofs.lemmas.Result.{err_from_is_err_and}
 use Rattle.medium.proofs.Moments.{quiet_call, quiet_joined}
-use Rattle.medium.proofs.Sending.{none_sent, flush_sends}
-use Rattle.medium.proofs.Sparing.{spared_quiet}
+use Rattle.medium.proofs.CallsSent.{none_sent, flush_sends}
+use Rattle.medium.proofs.SparedSectors.{spared_quiet}
 use Rattle.journal.specs.Values.{shape_of}
 use Rattle.recovery.proofs.Causes.{few_after, refusal_before}
-use Rattle.recovery.proofs.Copying.{log_ends}
-use Rattle.recovery.proofs.Finding.{has_whole_same, found_before}
-use Rattle.recovery.proofs.Leaving.{flush_leaves, survey_leaves, copies_look, copies_leave, moves_leave, recovery_fresh, recovery_from}
-use Rattle.recovery.proofs.Sending.{few_sent, found_sent}
-use Rattle.recovery.proofs.Sighting.{looked_before}
+use Rattle.recovery.proofs.CopiedRecords.{log_ends}
+use Rattle.recovery.proofs.FoundRecords.{has_whole_same, found_before}
+use Rattle.recovery.proofs.RecoveryExits.{flush_leaves, survey_leaves, copies_look, copies_leave, moves_leave, recovery_fresh}
+use Rattle.recovery.proofs.RecoveryExits.{recovery_from}
+use Rattle.recovery.proofs.CallsSent.{few_sent, found_sent}
+use Rattle.recovery.proofs.SectorsRead.{looked_before}
 use Rattle.recovery.proofs.recovery.recover_at_least.Goals as goal
 
 pub copy_records-requires-clause-fits : goal.copy_records-requires-clause-fits

@@ -1,9 +1,9 @@
 use Rattle.std.proofs.Common.{◌≡◌, inl, inr, ⊎_elim, ◌∙◌, ap, arith, rules}
 use Rattle.std.proofs.lemmas.Bool.{cases_eq}
-use Rattle.medium.proofs.Sending.{write_sends}
+use Rattle.medium.proofs.CallsSent.{write_sends}
 use Rattle.medium.specs.declared.fault.MediumFault.TheVariants.{Read}
 use Rattle.recovery.specs.Copies.{IsBetween}
-use Rattle.recovery.proofs.Making.{one_more_cleared}
+use Rattle.recovery.proofs.MadeImage.{one_more_cleared}
 use Rattle.recovery.proofs.sectors.clear.Goals as goal
 
 pub returns-in_err-write-clause-clears : goal.returns-in_err-write-clause-clears

@@ -1,5 +1,5 @@
 use Rattle.std.proofs.Common.{⊎_elim, ◌∙◌, arith, rules}
-use Rattle.recovery.proofs.Making.{sector_written, sector_flushed}
+use Rattle.recovery.proofs.MadeImage.{sector_written, sector_flushed}
 use Rattle.recovery.proofs.sectors.write_through.Goals as goal
 
 pub returns-in_err-write-clause-writes : goal.returns-in_err-write-clause-writes

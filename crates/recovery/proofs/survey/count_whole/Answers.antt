@@ -6,10 +6,10 @@ use Rattle.medium.proofs.Moments.{quiet_start, quiet_joined}
 use Rattle.journal.specs.Places.{first_home}
 use Rattle.journal.specs.Values.{shape_of}
 use Rattle.journal.specs.Formats.{HasWhole}
-use Rattle.recovery.proofs.Finding.{has_whole_same}
+use Rattle.recovery.proofs.FoundRecords.{has_whole_same}
 use Rattle.recovery.specs.Tries.{IsTryOf, AreTries}
-use Rattle.recovery.proofs.Trying.{no_tries, tries_more, no_reads, reads_more, reads_stay}
-use Rattle.medium.proofs.Looking.{no_looks, looks_joined}
+use Rattle.recovery.proofs.SurveyCalls.{no_tries, tries_more, no_reads, reads_more, reads_stay}
+use Rattle.medium.proofs.SectorsRead.{no_looks, looks_joined}
 use Rattle.recovery.proofs.survey.count_whole.Goals as goal
 
 pub loop-j-init : goal.loop-j-init

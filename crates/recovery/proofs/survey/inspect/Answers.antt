@@ -6,14 +6,14 @@ use Rattle.medium.proofs.Moments.{quiet_call, quiet_joined}
 use Rattle.journal.specs.Places.{first_home}
 use Rattle.journal.specs.Values.{shape_of}
 use Rattle.journal.specs.Sectors.{IsHead}
-use Rattle.journal.proofs.Decoding.{IsSuper-one}
+use Rattle.journal.proofs.SectorNumbers.{IsSuper-one}
 use Rattle.journal.proofs.StandingLaws.{IsCount-same, count_stands}
 use Rattle.recovery.specs.Tries.{AreTries}
 use Rattle.recovery.proofs.Causes.{enough_slots}
-use Rattle.recovery.proofs.Looking.{look_refusal}
-use Rattle.recovery.proofs.Trying.{most_found}
-use Rattle.medium.proofs.Looking.{look_below}
-use Rattle.recovery.proofs.Sighting.{looked_on, super_looked}
+use Rattle.recovery.proofs.InspectedImage.{look_refusal}
+use Rattle.recovery.proofs.SurveyCalls.{most_found}
+use Rattle.medium.proofs.SectorsRead.{look_below}
+use Rattle.recovery.proofs.SectorsRead.{looked_on, super_looked}
 use Rattle.recovery.proofs.survey.inspect.Goals as goal
 
 pub returns-then-head-count-clause-ok : goal.returns-then-head-count-clause-ok

@@ -5,13 +5,13 @@ use Rattle.journal.specs.Values.{shape_of}
 use Rattle.journal.specs.Record.{entries_of}
 use Rattle.journal.specs.Layout.{Layout, part_at}
 use Rattle.journal.specs.Formats.{layout_of}
-use Rattle.journal.proofs.Batching.{length_of_batch}
+use Rattle.journal.proofs.BatchEntries.{length_of_batch}
 use Rattle.journal.proofs.Formats.{laws_of, most_is}
 use Rattle.redo_log.specs.Stages.{written_at}
 use Rattle.redo_log.specs.Calls.{Write, Flush, IsFlushDue}
-use Rattle.redo_log.proofs.Laying.{before_home}
-use Rattle.redo_log.proofs.Closing.{sizes_sized}
-use Rattle.redo_log.proofs.Writing.{flush_makes}
+use Rattle.redo_log.proofs.LaidBlocks.{before_home}
+use Rattle.redo_log.proofs.LogFields.{sizes_sized}
+use Rattle.redo_log.proofs.RecordCalls.{flush_makes}
 use Rattle.redo_log.proofs.call.make_next.Goals as goal
 
 -- a flush is due by the numbers of the code

@@ -1,7 +1,7 @@
 use Rattle.std.proofs.Common.{sym, subst}
 use Rattle.journal.specs.declared.log_format.LogFormat.{LogFormat}
 use Rattle.redo_log.specs.Calls.{Write, placed, MakesCall}
-use Rattle.redo_log.proofs.Writing.{write_makes}
+use Rattle.redo_log.proofs.RecordCalls.{write_makes}
 use Rattle.redo_log.proofs.call.write_block.Goals as goal
 
 pub returns-in-Ok : goal.returns-in-Ok

@@ -6,9 +6,9 @@ use Rattle.journal.specs.Places.{limit_of, IsFirstHome}
 use Rattle.journal.specs.Values.{shape_of}
 use Rattle.journal.specs.Formats.{layout_of}
 use Rattle.journal.proofs.Formats.{laws_of, most_is}
-use Rattle.redo_log.proofs.Laying.{before_home}
-use Rattle.redo_log.proofs.Closing.{sizes_sized}
-use Rattle.redo_log.proofs.Writing.{parts_more, block_makes}
+use Rattle.redo_log.proofs.LaidBlocks.{before_home}
+use Rattle.redo_log.proofs.LogFields.{sizes_sized}
+use Rattle.redo_log.proofs.RecordCalls.{parts_more, block_makes}
 use Rattle.redo_log.proofs.call.write_part.Goals as goal
 
 -- home is not far

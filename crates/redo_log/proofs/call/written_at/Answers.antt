@@ -1,6 +1,6 @@
 use Rattle.std.proofs.Common.{◌<◌, ◌≤◌, ⊎_elim, arith}
 use Rattle.std.proofs.lemmas.Bool.{cases_lt}
-use Rattle.redo_log.proofs.Counting.{flush_some, flush_none, written_soon, written_late}
+use Rattle.redo_log.proofs.RecordSteps.{flush_some, flush_none, written_soon, written_late}
 use Rattle.redo_log.proofs.call.written_at.Goals as goal
 
 pub returns-then-early-made : goal.returns-then-early-made

@@ -3,7 +3,7 @@ use Rattle.std.proofs.lemmas.Bool.Decides.{nat_tests}
 use Rattle.std.proofs.lemmas.Fn.{filter_same}
 use Rattle.redo_log.specs.declared.index.Copied.{Copied}
 use Rattle.redo_log.specs.Index.{look, IsSorted}
-use Rattle.redo_log.proofs.Indexing.{is_outside, sorted_filter, look_filter}
+use Rattle.redo_log.proofs.SortedIndex.{is_outside, sorted_filter, look_filter}
 use Rattle.redo_log.proofs.index.drop_slot.Goals as goal
 
 pub returns : goal.returns

@@ -1,6 +1,6 @@
 use Rattle.std.proofs.Common.{◌≡◌, ◌<◌, ◌≤◌, ◌-◌, ℕ, get_or, take, refl, ◌∙◌, ap, subst, arith, rules}
 use Rattle.redo_log.specs.Index.{block_at}
-use Rattle.redo_log.proofs.Merging.{IsLeft, IsMerging, entry_moves, number_enters, left_all, left_less, merging_ends}
+use Rattle.redo_log.proofs.MergedIndex.{IsLeft, IsMerging, entry_moves, number_enters, left_all, left_less, merging_ends}
 use Rattle.redo_log.proofs.index.merge.Goals.{else-left-gt0-via-then-left-gt0+else-index-left, else-left-gt0-via-else-left-gt0}
 use Rattle.redo_log.proofs.index.merge.Goals.{then-left-gt0-2+then-index-left-2, else-left-gt0-2}
 use Rattle.redo_log.proofs.index.merge.Goals.{else-left-gt0-2-via-then-left-gt0-2+else-index-left-2, else-left-gt0-2-via-else-left-gt0-2}

@@ -1,5 +1,5 @@
 use Rattle.std.proofs.Common.{take}
-use Rattle.redo_log.proofs.Merging.{IsMerging}
+use Rattle.redo_log.proofs.MergedIndex.{IsMerging}
 use Rattle.redo_log.proofs.index.merge.Given as goal
 
 abbrev pub invariant-loop-place : goal.invariant-loop-place

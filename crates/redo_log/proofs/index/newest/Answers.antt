@@ -1,5 +1,5 @@
 use Rattle.std.proofs.Common.{sym}
-use Rattle.redo_log.proofs.Indexing.{look_found, look_gap}
+use Rattle.redo_log.proofs.SortedIndex.{look_found, look_gap}
 use Rattle.redo_log.proofs.index.newest.Goals as goal
 
 pub returns-in-Ok : goal.returns-in-Ok

@@ -1,6 +1,6 @@
 use Rattle.std.proofs.Common.{rules}
 use Rattle.std.proofs.lemmas.List.Sorted.{answers_always}
-use Rattle.redo_log.proofs.Indexing.{searched}
+use Rattle.redo_log.proofs.SortedIndex.{searched}
 use Rattle.redo_log.proofs.index.search.Goals as goal
 
 pub returns-clause-found : goal.returns-clause-found

@@ -1,7 +1,7 @@
 use Rattle.std.proofs.Common.{◌≡◌, ℕ, List, ◌∙◌, ap, rules}
-use Rattle.medium.proofs.Looking.{write_looks, looks_joined}
+use Rattle.medium.proofs.SectorsRead.{write_looks, looks_joined}
 use Rattle.redo_log.specs.Turns.{begun_with}
-use Rattle.redo_log.proofs.Adding.{quiet_write}
+use Rattle.redo_log.proofs.OneSector.{quiet_write}
 use Rattle.redo_log.proofs.turn.copy_sector.Goals as goal
 
 pub returns-clause-writes : goal.returns-clause-writes

@@ -1,5 +1,5 @@
 use Rattle.std.proofs.Common.{◌∙◌, rules}
-use Rattle.redo_log.proofs.Adding.{write_quiet}
+use Rattle.redo_log.proofs.OneSector.{write_quiet}
 use Rattle.redo_log.proofs.turn.write_through.Goals as goal
 
 pub returns-clause-writes : goal.returns-clause-writes

@@ -12,7 +12,8 @@ use Rattle.runner.specs.Lifetimes.{comes}
 use Rattle.runner.specs.PlayedLives.{BreaksOff, TellsLives}
 use Rattle.runner.specs.declared.fault.ScriptFault.{ScriptFault}
 use Rattle.runner.specs.declared.fault.ScriptFault.TheVariants.{Start, Writer}
-use Rattle.runner.proofs.Acting.{acted-event, tells-none, tells-more, tells-event, breaks-more, breaks-before, breaks-start, breaks-writer}
+use Rattle.runner.proofs.LifeActions.{acted-event, tells-none, tells-more, tells-event, breaks-more, breaks-before, breaks-start}
+use Rattle.runner.proofs.LifeActions.{breaks-writer}
 use Rattle.runner.proofs.Options.{on_ok, on_err}
 use Rattle.runner.proofs.Within.{first_within, rest_within}
 use Rattle.runner.proofs.lifetimes.play_events.Goals as goal

@@ -9,7 +9,7 @@ use Rattle.runner.specs.Left.{parts_left}
 use Rattle.runner.specs.Lines.{lines_of}
 use Rattle.runner.specs.Events.{events_of}
 use Rattle.runner.specs.Lifetimes.{comes, is_kept}
-use Rattle.runner.proofs.Acting.{acted-fuse, acted-fail, tells-silently}
+use Rattle.runner.proofs.LifeActions.{acted-fuse, acted-fail, tells-silently}
 use Rattle.runner.proofs.ActingLines.{line_acts, event_line_acts, lines-none, lines-all, lines-more, lines-break}
 use Rattle.runner.proofs.Options.{is_some_where}
 use Rattle.runner.proofs.Within.{events_within}

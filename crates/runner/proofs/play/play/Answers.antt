@@ -11,7 +11,7 @@ use Rattle.runner.proofs.Known.{Appends-none, Appends-more}
 use Rattle.runner.proofs.Options.{on_ok, on_err}
 use Rattle.runner.specs.DiskLaws.{disk_plays}
 use Rattle.runner.specs.Played.{StepsOn, packets_of}
-use Rattle.runner.proofs.Telling.{most_stays, tells-none, tells-more, breaks-more}
+use Rattle.runner.proofs.ToldEvents.{most_stays, tells-none, tells-more, breaks-more}
 use Rattle.runner.proofs.play.play.Goals as goal
 
 pub loop-line-init : goal.loop-line-init

@@ -4,7 +4,7 @@ use Rattle.runner.specs.Events.{events_of}
 use Rattle.runner.specs.Text.{line_for}
 use Rattle.runner.proofs.Known.{Appends-none, Appends-more}
 use Rattle.runner.proofs.Options.{on_err, on_ok}
-use Rattle.runner.proofs.Telling.{tells-none, tells-one, tells-more, breaks-here, most_stays}
+use Rattle.runner.proofs.ToldEvents.{tells-none, tells-one, tells-more, breaks-here, most_stays}
 use Rattle.runner.proofs.Within.{next_within}
 use Rattle.runner.proofs.play.play_asked.Goals as goal
 

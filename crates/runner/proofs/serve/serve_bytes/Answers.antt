@@ -9,8 +9,8 @@ use Rattle.runner.specs.declared.player.ServeFault.TheVariants.{Line}
 use Rattle.runner.specs.Served.{HasServed, StopsIn, StandsFor, IsTooLong, IsLineEnd, IsUnended}
 use Rattle.runner.proofs.Chunks.{cut_at, grown_to, last_part}
 use Rattle.runner.proofs.Options.{on_ok_weaker, if_err}
-use Rattle.runner.proofs.Telling.{most_stays}
-use Rattle.runner.proofs.Serving.{served-part, served-line, stops-ended, stops-long}
+use Rattle.runner.proofs.ToldEvents.{most_stays}
+use Rattle.runner.proofs.ServedLines.{served-part, served-line, stops-ended, stops-long}
 use Rattle.runner.proofs.Taken.{if-err}
 use Rattle.runner.proofs.serve.serve_bytes.Goals as goal
 

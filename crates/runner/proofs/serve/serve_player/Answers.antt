@@ -5,7 +5,7 @@ use Rattle.spec.specs.Packets.{bytes_of}
 use Rattle.runner.specs.declared.player.ServeFault.{ServeFault}
 use Rattle.runner.specs.Served.{IsStoppedBy, IsServedBy, StopsUnread}
 use Rattle.runner.proofs.Options.{on_ok_weaker, if_err}
-use Rattle.runner.proofs.Serving.{taken-none, served-none, served-packets, served-all, served-unread, stopped-last, stopped-in}
+use Rattle.runner.proofs.ServedLines.{taken-none, served-none, served-packets, served-all, served-unread, stopped-last, stopped-in}
 use Rattle.runner.proofs.Taken.{if-err}
 use Rattle.runner.proofs.serve.serve_player.Goals as goal
 use Rattle.runner.proofs.serve.serve_player.Goals.{in-Ok+in_ok-serve_bytes-in-Ok, in-Err}

@@ -1,4 +1,4 @@
-use Rattle.scsi_unit.proofs.Starting.{starts_late, starts_ahead}
+use Rattle.scsi_unit.proofs.StartedUnit.{starts_late, starts_ahead}
 use Rattle.scsi_unit.proofs.start.start_store.Goals as goal
 
 pub returns-in-Late : goal.returns-in-Late

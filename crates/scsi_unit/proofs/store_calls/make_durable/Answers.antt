@@ -2,8 +2,8 @@ use Rattle.std.proofs.Common.{◌≡◌, ◌≤◌, ◌+◌, ℕ, Bool, false, O
 use Rattle.medium.specs.Medium.{State}
 use Rattle.blocks.specs.StoreValue.{Cached, is_dead}
 use Rattle.blocks.specs.Turns.{IsTurn}
-use Rattle.blocks.proofs.Turning.{stays}
-use Rattle.blocks.proofs.Looking.{none}
+use Rattle.blocks.proofs.TurnsJoined.{stays}
+use Rattle.blocks.proofs.SectorsRead.{none}
 use Rattle.scsi_unit.specs.StoreCalls.{MakesDurable}
 use Rattle.scsi_unit.proofs.store_calls.make_durable.Goals as goal
 

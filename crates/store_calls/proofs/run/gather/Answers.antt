@@ -1,7 +1,7 @@
 use Rattle.std.proofs.Common.{sym, ◌∙◌, ap, refl}
 use Rattle.mirror.specs.Mirror.{first_of}
 use Rattle.window.specs.Window.{Window}
-use Rattle.store_calls.proofs.Taking.{more}
+use Rattle.store_calls.proofs.OutboxTaken.{more}
 use Rattle.store_calls.proofs.Untouched.{none_yet, one_more}
 use Rattle.store_calls.proofs.run.gather.Goals as goal
 

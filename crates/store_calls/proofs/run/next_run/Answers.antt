@@ -3,7 +3,7 @@ use Rattle.mirror.specs.Mirror.{first_of}
 use Rattle.mirror.specs.declared.call.DeviceCall.{DeviceCall}
 use Rattle.window.specs.Window.{Window}
 use Rattle.store_calls.specs.Outbox.{IsNoRoom}
-use Rattle.store_calls.proofs.Taking.{shows_run}
+use Rattle.store_calls.proofs.OutboxTaken.{shows_run}
 use Rattle.store_calls.proofs.run.next_run.Goals as goal
 
 pub returns-in-Some-Write : goal.returns-in-Some-Write

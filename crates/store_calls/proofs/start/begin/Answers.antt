@@ -2,7 +2,7 @@ use Rattle.std.proofs.Common.{rules, inr, refl, subst, ap, length}
 use Rattle.window.specs.Window.{Window, mirror_of, fresh}
 use Rattle.store_calls.specs.Starts.{EndsIn}
 use Rattle.store_calls.proofs.Roomy.{roomy}
-use Rattle.store_calls.proofs.Starting.{began, ends_in}
+use Rattle.store_calls.proofs.StartedStore.{began, ends_in}
 use Rattle.store_calls.proofs.start.begin.Goals as goal
 
 pub returns-in-Err-clause-err : goal.returns-in-Err-clause-err

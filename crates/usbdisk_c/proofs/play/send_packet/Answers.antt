@@ -3,7 +3,7 @@ use Rattle.spec.specs.declared.event.Answer.{Answer}
 use Rattle.spec.specs.declared.event.Answer.TheVariants.{Data, Nak, Stall}
 use Rattle.spec.specs.declared.event.Event.TheVariants as event
 use Rattle.spec.specs.Exchange.{in_answer, after_in}
-use Rattle.bot_machine.proofs.Stepping.{token}
+use Rattle.bot_machine.proofs.OutPackets.{token}
 use Rattle.window.specs.Window.{state_of}
 use Rattle.window.specs.WindowLaws.{is_sound, comes_after_itself}
 use Rattle.usbdisk_c.specs.Plays.{Disk, medium_of, Plays, Foresees}

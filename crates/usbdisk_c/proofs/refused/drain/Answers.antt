@@ -1,8 +1,8 @@
 use Rattle.std.proofs.Common.{arith, ap, refl, length}
 use Rattle.window.specs.Window.{Window}
-use Rattle.store_calls.proofs.Taking as taking
+use Rattle.store_calls.proofs.OutboxTaken as taking
 use Rattle.usbdisk_c.specs.Plays.{medium_of}
-use Rattle.usbdisk_c.proofs.Resting.{none_yet, one_more}
+use Rattle.usbdisk_c.proofs.OutboxTaken.{none_yet, one_more}
 use Rattle.usbdisk_c.proofs.refused.drain.Goals as goal
 
 pub loop-gone-init : goal.loop-gone-init

@@ -1,4 +1,4 @@
-use Rattle.usbdisk_c.proofs.Resting.{is_refused}
+use Rattle.usbdisk_c.proofs.OutboxTaken.{is_refused}
 use Rattle.usbdisk_c.proofs.refused.refuse.Goals as goal
 
 pub returns : goal.returns

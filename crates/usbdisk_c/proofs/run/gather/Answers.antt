@@ -1,9 +1,9 @@
 use Rattle.std.proofs.Common.{sym, ◌∙◌, ap, refl}
 use Rattle.mirror.specs.Mirror.{first_of}
 use Rattle.window.specs.Window.{Window}
-use Rattle.store_calls.proofs.Taking.{more}
+use Rattle.store_calls.proofs.OutboxTaken.{more}
 use Rattle.usbdisk_c.specs.Plays.{medium_of}
-use Rattle.usbdisk_c.proofs.Resting.{none_yet, one_more}
+use Rattle.usbdisk_c.proofs.OutboxTaken.{none_yet, one_more}
 use Rattle.usbdisk_c.proofs.run.gather.Goals as goal
 
 pub loop-at-init : goal.loop-at-init

@@ -1,5 +1,5 @@
 use Rattle.std.proofs.Common.{◌/◌, length, rules}
-use Rattle.blocks.proofs.Stepping.{appends_write}
+use Rattle.blocks.proofs.LogTurns.{appends_write}
 use Rattle.blocks.proofs.store.Store.append.Goals as goal
 
 pub returns-clause-keeps : goal.returns-clause-keeps

@@ -1,6 +1,6 @@
 use Rattle.std.proofs.Common.{rules}
 use Rattle.blocks.proofs.Batches.{is_batch}
-use Rattle.blocks.proofs.Stepping.{begins_record, begins_nothing}
+use Rattle.blocks.proofs.LogTurns.{begins_record, begins_nothing}
 use Rattle.blocks.proofs.store.Store.begin.Goals as goal
 
 pub begin-requires-clause-batch : goal.begin-requires-clause-batch

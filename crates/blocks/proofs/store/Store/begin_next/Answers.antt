@@ -1,5 +1,5 @@
 use Rattle.std.proofs.Common.{rules}
-use Rattle.blocks.proofs.Turning.{turns}
+use Rattle.blocks.proofs.TurnsJoined.{turns}
 use Rattle.blocks.proofs.store.Store.begin_next.Goals as goal
 
 pub returns-then-is_empty : goal.returns-then-is_empty

@@ -1,5 +1,5 @@
 use Rattle.std.proofs.Common.{rules}
-use Rattle.blocks.proofs.Going.{counts_turn}
+use Rattle.blocks.proofs.AheadTurns.{counts_turn}
 use Rattle.blocks.proofs.store.Store.count_flush.Goals as goal
 
 pub returns : goal.returns

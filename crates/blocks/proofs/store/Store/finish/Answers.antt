@@ -5,20 +5,20 @@ use Rattle.std.proofs.lemmas.Result.{on_ok_weaker}
 use Rattle.cache.specs.Entries.{Entries}
 use Rattle.medium.specs.Sent.{sent}
 use Rattle.redo_log.specs.Value.{LogValue, begun, steps_of, most_steps}
-use Rattle.redo_log.proofs.Counting.{few_steps_for}
+use Rattle.redo_log.proofs.RecordSteps.{few_steps_for}
 use Rattle.journal.specs.Places.{Shape, limit_of}
 use Rattle.blocks.specs.Retiring.{written_out, finished, IsLog}
 use Rattle.blocks.specs.Flushing.{left_flushes}
 use Rattle.medium.specs.declared.fault.MediumFault.TheVariants.{Flush}
 use Rattle.redo_log.specs.Flushes.{steps_flushes}
-use Rattle.blocks.proofs.Filling.{fills, stays_on, fuller_but, steady_but}
-use Rattle.blocks.proofs.Flushing.{flushes_under_way, flushes_none, flushes_begun}
+use Rattle.blocks.proofs.SteadyRing.{fills, stays_on, fuller_but, steady_but}
+use Rattle.blocks.proofs.RoomFlushes.{flushes_under_way, flushes_none, flushes_begun}
 use Rattle.blocks.proofs.Room.{some_listed, finishes_under_way, finishes_none}
 use Rattle.blocks.proofs.Ready.{is_log, made_finished}
 use Rattle.blocks.specs.StoreValue.{is_dead}
-use Rattle.blocks.proofs.Costing.{finish_under_way, finish_none, finish_begun}
-use Rattle.blocks.proofs.Turning.{turns, stays}
-use Rattle.blocks.proofs.Looking.{none, looks_on}
+use Rattle.blocks.proofs.RoomCalls.{finish_under_way, finish_none, finish_begun}
+use Rattle.blocks.proofs.TurnsJoined.{turns, stays}
+use Rattle.blocks.proofs.SectorsRead.{none, looks_on}
 use Rattle.blocks.proofs.store.Store.finish.Goals as goal
 
 pub returns-then-is_dead-clause-passes : goal.returns-then-is_dead-clause-passes

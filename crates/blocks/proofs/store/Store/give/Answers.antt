@@ -1,6 +1,6 @@
 use Rattle.std.proofs.Common.{rules}
 use Rattle.medium.proofs.Moments.{unchanged_quiet}
-use Rattle.blocks.proofs.Turning.{quiet_turn}
+use Rattle.blocks.proofs.TurnsJoined.{quiet_turn}
 use Rattle.blocks.proofs.store.Store.give.Goals as goal
 
 pub returns-clause-untouched : goal.returns-clause-untouched

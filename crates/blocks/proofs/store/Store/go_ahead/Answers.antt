@@ -11,11 +11,11 @@ use Rattle.blocks.specs.Passing.{PassesPaid, KeepsMedium}
 use Rattle.blocks.specs.Retiring.{HasSlots}
 use Rattle.blocks.specs.StoreValue.{Cached, StoreValue, layout_of, is_dead}
 use Rattle.blocks.specs.Turns.{IsTurn}
-use Rattle.blocks.proofs.Homing.{rests_passed, rests_calls, rests_home, rests_home_calls, passes_short, calls_short}
-use Rattle.blocks.proofs.Homing.{goes_short, going_short}
-use Rattle.blocks.proofs.Turning.{turns, stays}
-use Rattle.blocks.proofs.Paying.{pays_both}
-use Rattle.blocks.proofs.Looking.{none, looks_on}
+use Rattle.blocks.proofs.OldestHome.{rests_passed, rests_calls, rests_home, rests_home_calls, passes_short, calls_short}
+use Rattle.blocks.proofs.OldestHome.{goes_short, going_short}
+use Rattle.blocks.proofs.TurnsJoined.{turns, stays}
+use Rattle.blocks.proofs.BackgroundCalls.{pays_both}
+use Rattle.blocks.proofs.SectorsRead.{none, looks_on}
 use Rattle.blocks.proofs.store.Store.go_ahead.Goals as goal
 
 pub returns-then-has_slots-clause-passes : goal.returns-then-has_slots-clause-passes

@@ -2,11 +2,11 @@ use Rattle.std.proofs.Common.{◌≤◌, refl, ◌∙◌, ap, sym, subst, arith,
 use Rattle.std.proofs.lemmas.Bool.{false≢true}
 use Rattle.medium.specs.Sent.{sent}
 use Rattle.redo_log.specs.Value.{LogValue, IsAway, sends_of_oldest, most_retire_sends}
-use Rattle.blocks.proofs.Homing.{begins_home, goes_on_home, costs_home, sends_home, all_home, all_costs, all_sends, few_home}
-use Rattle.blocks.proofs.Homing.{home_stays_head}
-use Rattle.blocks.proofs.Turning.{turns, stays}
-use Rattle.blocks.proofs.Paying.{pays, pays_both}
-use Rattle.blocks.proofs.Looking.{none, looks_on}
+use Rattle.blocks.proofs.OldestHome.{begins_home, goes_on_home, costs_home, sends_home, all_home, all_costs, all_sends, few_home}
+use Rattle.blocks.proofs.OldestHome.{home_stays_head}
+use Rattle.blocks.proofs.TurnsJoined.{turns, stays}
+use Rattle.blocks.proofs.BackgroundCalls.{pays, pays_both}
+use Rattle.blocks.proofs.SectorsRead.{none, looks_on}
 use Rattle.blocks.proofs.store.Store.go_home.Goals as goal
 
 pub loop-self-init : goal.loop-self-init

@@ -4,7 +4,7 @@ use Rattle.medium.specs.declared.fault.MediumFault.TheVariants.{Flush}
 use Rattle.blocks.specs.Looks.{LooksAtLog}
 use Rattle.blocks.specs.StoreValue.{is_dead, steps_left}
 use Rattle.blocks.specs.Turns.{IsTurn, IsPaid}
-use Rattle.blocks.proofs.Homing.{GoesHome, CostsHome, SendsHome}
+use Rattle.blocks.proofs.OldestHome.{GoesHome, CostsHome, SendsHome}
 use Rattle.blocks.proofs.store.Store.go_home.Given as goal
 
 abbrev pub invariant-loop-self : goal.invariant-loop-self

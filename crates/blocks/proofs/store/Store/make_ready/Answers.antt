@@ -8,7 +8,7 @@ use Rattle.blocks.specs.Ahead.{IsBut, ahead_room}
 use Rattle.blocks.specs.Finishing.{MakesRoom}
 use Rattle.blocks.specs.Retiring.{ready_calls}
 use Rattle.blocks.specs.Flushing.{room_flushes}
-use Rattle.blocks.proofs.Flushing.{room_free}
+use Rattle.blocks.proofs.RoomFlushes.{room_free}
 use Rattle.blocks.proofs.Ready.{is_but, still_room, ahead_free, ahead_free_calls, ahead_full, ahead_full_calls, on_live}
 use Rattle.blocks.proofs.store.Store.make_ready.Goals as goal
 

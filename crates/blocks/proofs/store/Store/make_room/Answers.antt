@@ -7,12 +7,12 @@ use Rattle.redo_log.specs.Flushes.{next_turn_flushes}
 use Rattle.redo_log.specs.Value.{LogValue, HasRoom, next_calls, next_sends, sends_of_oldest, most_retire_sends}
 use Rattle.blocks.specs.StoreValue.{Cached}
 use Rattle.blocks.proofs.Room.{one_at_most, most_one, retires_more, room_is_made}
-use Rattle.blocks.proofs.Costing.{CostsOldest, costs_more, costs_room}
-use Rattle.blocks.proofs.Flushing.{FlushesOldest, flushes_more, flushes_room}
-use Rattle.blocks.proofs.Sending.{SendsOldest, sends_more, sends_refused, sends_room}
-use Rattle.blocks.proofs.Turning.{turns, stays}
-use Rattle.blocks.proofs.Paying.{pays, pays_both, pays_step, must_retire}
-use Rattle.blocks.proofs.Looking.{none, looks_on}
+use Rattle.blocks.proofs.RoomCalls.{CostsOldest, costs_more, costs_room}
+use Rattle.blocks.proofs.RoomFlushes.{FlushesOldest, flushes_more, flushes_room}
+use Rattle.blocks.proofs.RoomSent.{SendsOldest, sends_more, sends_refused, sends_room}
+use Rattle.blocks.proofs.TurnsJoined.{turns, stays}
+use Rattle.blocks.proofs.BackgroundCalls.{pays, pays_both, pays_step, must_retire}
+use Rattle.blocks.proofs.SectorsRead.{none, looks_on}
 use Rattle.blocks.proofs.store.Store.make_room.Goals as goal
 
 pub loop-self-init : goal.loop-self-init

@@ -6,9 +6,9 @@ use Rattle.blocks.specs.StoreValue.{is_dead, steps_left}
 use Rattle.blocks.specs.Turns.{IsTurn, IsPaid}
 use Rattle.redo_log.specs.Value.{HasRoom}
 use Rattle.blocks.proofs.Room.{OneAtMost, RetiresOldest}
-use Rattle.blocks.proofs.Costing.{CostsOldest}
-use Rattle.blocks.proofs.Flushing.{FlushesOldest}
-use Rattle.blocks.proofs.Sending.{SendsOldest}
+use Rattle.blocks.proofs.RoomCalls.{CostsOldest}
+use Rattle.blocks.proofs.RoomFlushes.{FlushesOldest}
+use Rattle.blocks.proofs.RoomSent.{SendsOldest}
 use Rattle.blocks.proofs.store.Store.make_room.Given as goal
 
 abbrev pub invariant-loop-self : goal.invariant-loop-self

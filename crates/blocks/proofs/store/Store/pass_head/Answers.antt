@@ -1,7 +1,7 @@
 use Rattle.std.proofs.Common.{◌∙◌, ap, arith, rules}
 use Rattle.blocks.specs.StoreValue.{Cached}
-use Rattle.blocks.proofs.Going.{past_stays, past_retained, goes_past, few_pass, past_fewer, pass_left, passes_head, passes_none}
-use Rattle.blocks.proofs.Stepping.{dies}
+use Rattle.blocks.proofs.AheadTurns.{past_stays, past_retained, goes_past, few_pass, past_fewer, pass_left, passes_head, passes_none}
+use Rattle.blocks.proofs.LogTurns.{dies}
 use Rattle.blocks.proofs.Retired.{still_kept, died_kept}
 use Rattle.blocks.proofs.store.Store.pass_head.Goals as goal
 use Rattle.blocks.proofs.store.Store.pass_head.Goals.{in-Ok, in-Err}

@@ -5,11 +5,11 @@ use Rattle.medium.proofs.Moments.{quiet_start, quiet_joined}
 use Rattle.spec.specs.Book.{array_of}
 use Rattle.blocks.specs.StoreValue.{Cached, FitsBook}
 use Rattle.blocks.specs.Turns.{IsTurn}
-use Rattle.blocks.proofs.Turning.{quiet_turn}
-use Rattle.blocks.proofs.Reading.{put_block}
+use Rattle.blocks.proofs.TurnsJoined.{quiet_turn}
+use Rattle.blocks.proofs.ReadBlocks.{put_block}
 use Rattle.blocks.specs.Calls.{block_reads}
-use Rattle.blocks.proofs.Counting.{reads_more, reads_within}
-use Rattle.blocks.proofs.Looking.{none_read, one_more, fewer_read}
+use Rattle.blocks.proofs.ReadCalls.{reads_more, reads_within}
+use Rattle.blocks.proofs.SectorsRead.{none_read, one_more, fewer_read}
 use Rattle.blocks.proofs.store.Store.read.Goals as goal
 
 pub overflow_add-block : goal.overflow_add-block

@@ -1,9 +1,9 @@
 use Rattle.std.proofs.Common.{◌≡◌, ◌∙◌, ℕ, List, Option, ap, subst, refl, arith, Some, None, rules}
 use Rattle.cache.specs.Entries.{Entries, map_of}
-use Rattle.blocks.proofs.Reading.{durable_is}
-use Rattle.blocks.proofs.Counting.{reads_active, reads_frozen, reads_copy}
+use Rattle.blocks.proofs.ReadBlocks.{durable_is}
+use Rattle.blocks.proofs.ReadCalls.{reads_active, reads_frozen, reads_copy}
 use Rattle.blocks.specs.Calls.{durable_reads}
-use Rattle.blocks.proofs.Looking.{none_read}
+use Rattle.blocks.proofs.SectorsRead.{none_read}
 use Rattle.blocks.proofs.store.Store.read_block.Goals as goal
 
 -- equal batches have the same blocks

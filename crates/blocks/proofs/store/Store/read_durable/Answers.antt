@@ -2,13 +2,13 @@ use Rattle.std.proofs.Common.{◌≡◌, ℕ, ◌+◌, ◌∙◌, ap, arith, sub
 use Rattle.std.proofs.lemmas.Result.{on_ok_weaker}
 use Rattle.medium.specs.Medium.{LooksOnly}
 use Rattle.medium.specs.Sent.{sent}
-use Rattle.medium.proofs.Sending.{none_sent, read_sends}
+use Rattle.medium.proofs.CallsSent.{none_sent, read_sends}
 use Rattle.journal.specs.Places.{Shape, first_home}
 use Rattle.redo_log.specs.Value.{LogValue, HasNoCopy}
-use Rattle.redo_log.proofs.Handing.{home_is}
+use Rattle.redo_log.proofs.StoreFacts.{home_is}
 use Rattle.blocks.specs.Calls.{durable_reads}
-use Rattle.blocks.proofs.Counting.{reads_logged, reads_home, few_copy_reads}
-use Rattle.blocks.proofs.Looking.{log_read, home_read}
+use Rattle.blocks.proofs.ReadCalls.{reads_logged, reads_home, few_copy_reads}
+use Rattle.blocks.proofs.SectorsRead.{log_read, home_read}
 use Rattle.blocks.proofs.store.Store.read_durable.Goals as goal
 
 pub returns-in-None : goal.returns-in-None

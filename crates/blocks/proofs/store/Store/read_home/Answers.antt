@@ -12,11 +12,11 @@ use Rattle.spec.specs.Book.{array_of, blocks_at}
 use Rattle.blocks.specs.StoreValue.{Cached, FitsBook}
 use Rattle.blocks.specs.Reads.{IsAtHome}
 use Rattle.blocks.specs.Turns.{IsTurn}
-use Rattle.blocks.proofs.Turning.{quiet_turn}
-use Rattle.blocks.proofs.Reading.{put_block}
+use Rattle.blocks.proofs.TurnsJoined.{quiet_turn}
+use Rattle.blocks.proofs.ReadBlocks.{put_block}
 use Rattle.blocks.specs.Calls.{block_reads}
-use Rattle.blocks.proofs.Counting.{reads_more, reads_within}
-use Rattle.blocks.proofs.Looking.{one_more, fewer_read}
+use Rattle.blocks.proofs.ReadCalls.{reads_more, reads_within}
+use Rattle.blocks.proofs.SectorsRead.{one_more, fewer_read}
 use Rattle.blocks.proofs.store.Store.read_home.Goals as goal
 
 -- none of a range is listed

@@ -2,16 +2,16 @@ use Rattle.std.proofs.Common.{◌≡◌, ◌∙◌, ℕ, ◌+◌, List, [], leng
 use Rattle.medium.specs.Medium.{LooksOnly}
 use Rattle.medium.proofs.Moments.{quiet_call}
 use Rattle.medium.specs.Sent.{sent}
-use Rattle.medium.proofs.Sending.{read_sends}
+use Rattle.medium.proofs.CallsSent.{read_sends}
 use Rattle.journal.specs.Places.{Shape, first_home}
 use Rattle.redo_log.specs.Value.{LogValue, HasNoCopy}
-use Rattle.redo_log.proofs.Handing.{home_is}
+use Rattle.redo_log.proofs.StoreFacts.{home_is}
 use Rattle.cache.specs.Entries.{map_of}
 use Rattle.blocks.specs.Calls.{block_reads}
 use Rattle.blocks.specs.StoreValue.{Cached}
-use Rattle.blocks.proofs.Reading.{durable_is}
-use Rattle.blocks.proofs.Counting.{reads_home, reads_copy}
-use Rattle.blocks.proofs.Looking.{home_read}
+use Rattle.blocks.proofs.ReadBlocks.{durable_is}
+use Rattle.blocks.proofs.ReadCalls.{reads_home, reads_copy}
+use Rattle.blocks.proofs.SectorsRead.{home_read}
 use Rattle.blocks.proofs.store.Store.read_home_block.Goals as goal
 
 -- no record that waits has a copy where none waits

@@ -2,8 +2,8 @@ use Rattle.std.proofs.Common.{◌∙◌, arith, ap, sym, subst, rules}
 use Rattle.std.proofs.lemmas.Bool.{false≢true}
 use Rattle.medium.specs.Moments.{IsUnchanged}
 use Rattle.medium.proofs.Moments.{unchanged}
-use Rattle.redo_log.proofs.Sending.{few_next}
-use Rattle.blocks.proofs.Stepping.{retires, dies}
+use Rattle.redo_log.proofs.CallsSent.{few_next}
+use Rattle.blocks.proofs.LogTurns.{retires, dies}
 use Rattle.blocks.proofs.Retired.{retained, still_kept, died_kept, is_retiring, is_dying}
 use Rattle.blocks.proofs.store.Store.retire.Goals as goal
 use Rattle.blocks.proofs.store.Store.retire.Goals.{in-Ok, in-Err}

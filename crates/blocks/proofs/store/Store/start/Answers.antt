@@ -3,7 +3,7 @@ use Rattle.blocks.specs.Started.{IsStarted}
 use Rattle.journal.specs.Places.{sectors_of}
 use Rattle.journal.specs.Values.{shape_of}
 use Rattle.blocks.specs.Kept.{Invariant}
-use Rattle.blocks.proofs.Starting.{starts, started_kept}
+use Rattle.blocks.proofs.StartedStore.{starts, started_kept}
 use Rattle.blocks.proofs.store.Store.start.Goals as goal
 
 pub returns-in-Err-clause-served : goal.returns-in-Err-clause-served

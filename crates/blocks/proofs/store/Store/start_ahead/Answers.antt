@@ -3,7 +3,7 @@ use Rattle.journal.specs.Places.{Shape}
 use Rattle.blocks.specs.Ahead.{may_go_ahead}
 use Rattle.blocks.specs.Started.{IsStarted, LeavesMedium}
 use Rattle.blocks.specs.StoreValue.{Cached, layout_of}
-use Rattle.blocks.proofs.Filling.{starts_filling, starts_reaching}
+use Rattle.blocks.proofs.SteadyRing.{starts_filling, starts_reaching}
 use Rattle.blocks.proofs.store.Store.start_ahead.Goals as goal
 
 pub returns : goal.returns

@@ -1,5 +1,5 @@
 use Rattle.std.proofs.Common.{ap, arith, rules}
-use Rattle.blocks.proofs.Stepping.{steps_on, steps_last, dies}
+use Rattle.blocks.proofs.LogTurns.{steps_on, steps_last, dies}
 use Rattle.blocks.proofs.store.Store.step.Goals as goal
 
 pub returns-in-Ok-More : goal.returns-in-Ok-More

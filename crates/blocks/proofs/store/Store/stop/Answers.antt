@@ -1,6 +1,6 @@
 use Rattle.std.proofs.Common.{refl}
 use Rattle.blocks.proofs.Retired.{died_kept}
-use Rattle.blocks.proofs.Stopping.{stopped_fits}
+use Rattle.blocks.proofs.StoppedStore.{stopped_fits}
 use Rattle.blocks.proofs.store.Store.stop.Goals as goal
 
 pub invariant_of-self : goal.invariant_of-self

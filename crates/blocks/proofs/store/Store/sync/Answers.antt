@@ -11,12 +11,12 @@ use Rattle.blocks.specs.Sent.{most_sent}
 use Rattle.blocks.specs.Steady.{IsSteady, IsFilling, IsFuller}
 use Rattle.blocks.specs.StoreValue.{Cached}
 use Rattle.blocks.proofs.Ready.{twice, calls_of, roomy_both}
-use Rattle.blocks.proofs.Fitting.{settles}
-use Rattle.blocks.proofs.Settling.{none_of}
-use Rattle.blocks.proofs.Flushing.{flushes_of, once}
+use Rattle.blocks.proofs.BookTurns.{settles}
+use Rattle.blocks.proofs.AllHome.{none_of}
+use Rattle.blocks.proofs.RoomFlushes.{flushes_of, once}
 use Rattle.blocks.proofs.Steady.{steady_sync, steady_roomy}
-use Rattle.blocks.proofs.Turning.{turns}
-use Rattle.blocks.proofs.Looking.{none, looks_on}
+use Rattle.blocks.proofs.TurnsJoined.{turns}
+use Rattle.blocks.proofs.SectorsRead.{none, looks_on}
 use Rattle.blocks.proofs.store.Store.sync.Goals as goal
 
 pub returns-clause-passes : goal.returns-clause-passes

@@ -1,6 +1,6 @@
 use Rattle.std.proofs.Common.{rules}
-use Rattle.blocks.proofs.Turning.{stays}
-use Rattle.blocks.proofs.Looking.{none}
+use Rattle.blocks.proofs.TurnsJoined.{stays}
+use Rattle.blocks.proofs.SectorsRead.{none}
 use Rattle.blocks.proofs.store.Store.tick.Goals as goal
 
 pub returns-then-is_dead-clause-passes : goal.returns-then-is_dead-clause-passes

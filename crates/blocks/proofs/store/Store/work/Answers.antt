@@ -2,7 +2,7 @@ use Rattle.std.proofs.Common.{◌≡◌, ◌<◌, ◌∙◌, ap, sym, subst, ari
 use Rattle.std.proofs.lemmas.Bool.{false≢true}
 use Rattle.redo_log.specs.Value.{LogValue, HasRoom}
 use Rattle.blocks.specs.StoreValue.{is_dead, unwritten}
-use Rattle.blocks.proofs.Looking.{none}
+use Rattle.blocks.proofs.SectorsRead.{none}
 use Rattle.blocks.proofs.store.Store.work.Goals as goal
 
 pub returns-then-not-is_empty : goal.returns-then-not-is_empty

@@ -6,8 +6,8 @@ use Rattle.cache.proofs.Arrays.{unlisted_empty}
 use Rattle.redo_log.specs.Value.{LogValue}
 use Rattle.blocks.specs.Steady.{IsSteady}
 use Rattle.blocks.specs.StoreValue.{Cached, transfer_limit}
-use Rattle.blocks.proofs.Turning.{turns, stays, not_written, then_written}
-use Rattle.blocks.proofs.Looking.{none, looks_on}
+use Rattle.blocks.proofs.TurnsJoined.{turns, stays, not_written, then_written}
+use Rattle.blocks.proofs.SectorsRead.{none, looks_on}
 use Rattle.blocks.proofs.store.Store.write.Goals as goal
 
 pub returns-then-is_dead-clause-passes : goal.returns-then-is_dead-clause-passes

@@ -1,11 +1,11 @@
 use Rattle.std.proofs.Common.{refl, ◌∙◌, arith, ap, rules}
 use Rattle.std.specs.Prelude.{Ok}
 use Rattle.blocks.proofs.Room.{writes_more, writes_last}
-use Rattle.blocks.proofs.Flushing.{flushes_step, flushes_done}
-use Rattle.blocks.proofs.Writing.{one_less}
-use Rattle.blocks.proofs.Turning.{turns, stays}
-use Rattle.blocks.proofs.Paying.{pays, pays_both, pays_step}
-use Rattle.blocks.proofs.Looking.{none, looks_on}
+use Rattle.blocks.proofs.RoomFlushes.{flushes_step, flushes_done}
+use Rattle.blocks.proofs.RecordWrites.{one_less}
+use Rattle.blocks.proofs.TurnsJoined.{turns, stays}
+use Rattle.blocks.proofs.BackgroundCalls.{pays, pays_both, pays_step}
+use Rattle.blocks.proofs.SectorsRead.{none, looks_on}
 use Rattle.blocks.proofs.store.Store.write_out.Goals as goal
 
 pub loop-init : goal.loop-init

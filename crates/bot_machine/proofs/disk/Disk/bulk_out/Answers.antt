@@ -2,7 +2,7 @@ use Rattle.std.proofs.Common.{rules, ◌∙◌, sym, ap}
 use Rattle.std.proofs.lemmas.List.{with_items_is, places}
 use Rattle.spec.specs.Packets.{bytes_of}
 use Rattle.bot_machine.specs.Refinement.{left_of, taking_of}
-use Rattle.bot_machine.proofs.Stepping.{stalled, not_ready, begins, goes_on, sends}
+use Rattle.bot_machine.proofs.OutPackets.{stalled, not_ready, begins, goes_on, sends}
 use Rattle.bot_machine.proofs.disk.Disk.bulk_out.Goals as goal
 
 pub returns-then-self-clause-step : goal.returns-then-self-clause-step

@@ -1,4 +1,4 @@
-use Rattle.bot_machine.proofs.Stepping.{asked}
+use Rattle.bot_machine.proofs.OutPackets.{asked}
 use Rattle.bot_machine.proofs.disk.Disk.setup.Goals as goal
 
 pub returns-clause-step : goal.returns-clause-step

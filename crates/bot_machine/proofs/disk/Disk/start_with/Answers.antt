@@ -1,5 +1,5 @@
 use Rattle.std.proofs.lemmas.Result.{MatchResult-weaker}
-use Rattle.scsi_unit.proofs.Starting.{good_start, refused_start}
+use Rattle.scsi_unit.proofs.StartedUnit.{good_start, refused_start}
 use Rattle.bot_machine.proofs.disk.Disk.start_with.Goals as goal
 
 pub returns-clause-ok : goal.returns-clause-ok

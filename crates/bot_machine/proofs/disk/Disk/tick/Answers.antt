@@ -1,5 +1,5 @@
 use Rattle.std.proofs.Common.{refl}
-use Rattle.bot_machine.proofs.Stepping.{ticked, still_in_phase, kept_as}
+use Rattle.bot_machine.proofs.OutPackets.{ticked, still_in_phase, kept_as}
 use Rattle.bot_machine.proofs.disk.Disk.tick.Goals as goal
 
 pub returns-clause-step : goal.returns-clause-step

@@ -3,7 +3,7 @@ use Rattle.bot_machine.specs.Device.{Device, device_by}
 use Rattle.spec.specs.Lives.{arms}
 use Rattle.spec.specs.Packets.{bytes_of}
 use Rattle.bot_machine.specs.LivesValue.{HasPackets}
-use Rattle.bot_machine.proofs.Fitting.{packets_stay}
+use Rattle.bot_machine.proofs.PacketSizes.{packets_stay}
 use Rattle.bot_machine.proofs.lives.Lives.fuse.Goals as goal
 use Rattle.bot_machine.proofs.lives.Lives.fuse.Goals.{in-Some, in_default}
 

@@ -1,4 +1,4 @@
-use Rattle.bot_machine.proofs.Beginning.{first_found, first_limited}
+use Rattle.bot_machine.proofs.LifeStarts.{first_found, first_limited}
 use Rattle.bot_machine.proofs.lives.Lives.new_by.Goals as goal
 
 pub returns-clause-first : goal.returns-clause-first

@@ -1,6 +1,6 @@
 use Rattle.std.proofs.Common.{ℕ, [], ◌∷◌, refl, ap, ◌∙◌}
 use Rattle.journal.specs.Spelling.{spelling}
-use Rattle.journal.proofs.Spelling.{spelling-none}
+use Rattle.journal.proofs.OneSpelling.{spelling-none}
 use Rattle.journal.proofs.head.Head.encode.Goals as goal
 
 pub returns : goal.returns

@@ -1,6 +1,6 @@
 use Rattle.std.proofs.Common.{rules, IsTrue, ◌≡◌, ⊎_elim, ◌∙◌}
 use Rattle.journal.specs.Spelling.{super_mark, number_in}
-use Rattle.journal.proofs.Decoding.{super_begins}
+use Rattle.journal.proofs.SectorNumbers.{super_begins}
 use Rattle.journal.proofs.super_sector.Super.decode.Goals as goal
 
 pub returns-then-not-has_zero_rest-clause-all : goal.returns-then-not-has_zero_rest-clause-all

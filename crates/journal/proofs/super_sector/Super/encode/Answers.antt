@@ -1,7 +1,7 @@
 use Rattle.std.proofs.Common.{ℕ, [], ◌∷◌, refl, ap, ◌∙◌}
 use Rattle.journal.specs.Sectors.{version_of}
 use Rattle.journal.specs.Spelling.{spelling}
-use Rattle.journal.proofs.Spelling.{spelling-none}
+use Rattle.journal.proofs.OneSpelling.{spelling-none}
 use Rattle.journal.proofs.super_sector.Super.encode.Goals as goal
 
 pub returns : goal.returns

@@ -6,7 +6,7 @@ use Rattle.journal.specs.Sectors.{IsDescriptor, IsCommit}
 use Rattle.journal.specs.Record.{entries_in, numbers_of}
 use Rattle.journal.proofs.ReadingOne.{descriptor_there, numbers_of-entries_in}
 use Rattle.journal.proofs.WholeOne.{as_one, of_one, slot_one, whole_in, commit_there}
-use Rattle.medium.proofs.Looking.{looks_joined, look_below}
+use Rattle.medium.proofs.SectorsRead.{looks_joined, look_below}
 use Rattle.journal.proofs.Within.{within_one}
 use Rattle.journal.proofs.v1.read.read_descriptor.Goals as goal
 

@@ -1,7 +1,7 @@
 use Rattle.std.proofs.Common.{◌≡◌, ◌-◌, ℕ, List, [], length, ap, sym, ◌∙◌, arith}
 use Rattle.journal.specs.Record.{Entry, entries_of}
 use Rattle.journal.specs.Format1.{descriptor1, commit1}
-use Rattle.journal.proofs.Batching.{numbers_of_batch, length_of_batch, entry_of_batch}
+use Rattle.journal.proofs.BatchEntries.{numbers_of_batch, length_of_batch, entry_of_batch}
 use Rattle.journal.proofs.Format1Laws.{offset_early, offset_commit, part_descriptor, part_place, part_commit}
 use Rattle.journal.proofs.v1.record.part.Goals as goal
 

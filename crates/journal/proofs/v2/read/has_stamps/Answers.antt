@@ -3,7 +3,7 @@ use Rattle.journal.specs.SectorsTwo.{place_bytes}
 use Rattle.journal.specs.SlotTwo.{HasPlaces}
 use Rattle.journal.specs.SlotReads.{HasPlace}
 use Rattle.journal.proofs.SlotTwo.{untrue}
-use Rattle.medium.proofs.Looking.{looks_joined, look_below}
+use Rattle.medium.proofs.SectorsRead.{looks_joined, look_below}
 use Rattle.journal.proofs.v2.read.has_stamps.Goals as goal
 
 pub returns-in_err-read-clause-follows : goal.returns-in_err-read-clause-follows

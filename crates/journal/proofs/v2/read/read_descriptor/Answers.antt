@@ -1,5 +1,5 @@
 use Rattle.std.proofs.Common.{◌+◌, ◌*◌, arith}
-use Rattle.medium.proofs.Looking.{look_below}
+use Rattle.medium.proofs.SectorsRead.{look_below}
 use Rattle.journal.proofs.v2.read.read_descriptor.Goals as goal
 
 pub returns-in_err-read-clause-follows : goal.returns-in_err-read-clause-follows

@@ -6,7 +6,7 @@ use Rattle.medium.proofs.Moments.{quiet_joined}
 use Rattle.journal.specs.Entry.{Entry, numbers_of}
 use Rattle.journal.specs.SectorsTwo.{descriptors_of, chunk_of, firsts_of, IsDescriptorTwo}
 use Rattle.journal.proofs.Naming.{described_more, firsts_of_chunk}
-use Rattle.medium.proofs.Looking.{looks_joined}
+use Rattle.medium.proofs.SectorsRead.{looks_joined}
 use Rattle.journal.proofs.v2.read.read_descriptors.Goals as goal
 
 pub returns-in_default-clause-all : goal.returns-in_default-clause-all

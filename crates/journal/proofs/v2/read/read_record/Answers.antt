@@ -4,7 +4,7 @@ use Rattle.std.proofs.lemmas.Nat.{mod_below}
 use Rattle.std.proofs.lemmas.List.{length-map}
 use Rattle.medium.specs.Medium.{Image}
 use Rattle.medium.proofs.Moments.{quiet_joined}
-use Rattle.medium.proofs.Looking.{looks_joined, looks_below}
+use Rattle.medium.proofs.SectorsRead.{looks_joined, looks_below}
 use Rattle.journal.specs.Entry.{Entry}
 use Rattle.journal.specs.Sectors.{IsRising}
 use Rattle.journal.specs.SectorsTwo.{descriptors_of, chunk_of, firsts_of, IsDescriptorTwo, IsCommitTwo}

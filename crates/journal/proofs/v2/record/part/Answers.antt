@@ -3,7 +3,7 @@ use Rattle.std.specs.Prelude.{slice_range}
 use Rattle.journal.specs.SectorsTwo.{place_bytes, commit_bytes, firsts_of, chunk_of, spelled_two}
 use Rattle.journal.proofs.RecordTwo.{descriptor_spelled, numbers_of_chunk}
 use Rattle.journal.specs.Record.{Entry, entries_of, numbers_of}
-use Rattle.journal.proofs.Batching.{numbers_of_batch, length_of_batch, entry_of_batch, firsts_of_batch}
+use Rattle.journal.proofs.BatchEntries.{numbers_of_batch, length_of_batch, entry_of_batch, firsts_of_batch}
 use Rattle.journal.proofs.Format2Laws.{offset_descriptor, offset_place, offset_commit, part_descriptor, part_place, part_commit}
 use Rattle.journal.proofs.v2.record.part.Goals as goal
 

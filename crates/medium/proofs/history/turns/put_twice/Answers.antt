@@ -1,5 +1,5 @@
-use Rattle.medium.proofs.Remembering.{after_good, at_each_moment, left_between}
-use Rattle.medium.proofs.Sparing.{HasSpared, spared_joined}
+use Rattle.medium.proofs.RememberedMoments.{after_good, at_each_moment, left_between}
+use Rattle.medium.proofs.SparedSectors.{HasSpared, spared_joined}
 use Rattle.medium.specs.History.{state_of}
 use Rattle.medium.proofs.history.turns.put_twice.Goals as goal
 

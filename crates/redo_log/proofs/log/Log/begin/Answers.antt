@@ -5,7 +5,7 @@ use Rattle.journal.specs.Values.{shape_of}
 use Rattle.journal.specs.declared.log_format.LogFormat.{LogFormat}
 use Rattle.redo_log.specs.Value.{LogValue, most_retire_steps}
 use Rattle.redo_log.specs.Shown.{lists_of}
-use Rattle.redo_log.proofs.Ringing.{few_steps}
+use Rattle.redo_log.proofs.RingRecords.{few_steps}
 use Rattle.std.proofs.lemmas.Grind.{common_steps}
 use Rattle.redo_log.proofs.log.Log.begin.Goals as goal
 

@@ -6,7 +6,7 @@ use Rattle.redo_log.specs.Stages.{value_at}
 use Rattle.redo_log.specs.declared.index.Copied.{Copied}
 use Rattle.redo_log.specs.Index.{look}
 use Rattle.redo_log.specs.Shown.{lists_of, ahead_in}
-use Rattle.redo_log.proofs.Entering.{find_is}
+use Rattle.redo_log.proofs.IndexRoom.{find_is}
 use Rattle.redo_log.proofs.log.Log.find.Goals as goal
 
 pub returns : goal.returns

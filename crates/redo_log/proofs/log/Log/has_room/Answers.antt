@@ -1,6 +1,6 @@
 use Rattle.redo_log.specs.Shown.{lists_of, ahead_in}
 use Rattle.journal.specs.Values.{shape_of}
-use Rattle.redo_log.proofs.Sending.{few_of_oldest}
+use Rattle.redo_log.proofs.CallsSent.{few_of_oldest}
 use Rattle.redo_log.proofs.log.Log.has_room.Goals as goal
 
 pub returns-then-is_none-clause-few : goal.returns-then-is_none-clause-few

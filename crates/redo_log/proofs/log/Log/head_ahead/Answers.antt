@@ -3,9 +3,9 @@ use Rattle.std.proofs.Common.{◌∙◌, ap, arith, rules, length-drop}
 use Rattle.std.specs.Prelude.{All, replicate, true, Result, Ok, Err, OnErr, is_err}
 use Rattle.std.proofs.lemmas.List.{length-map}
 use Rattle.medium.specs.Medium.{Holds}
-use Rattle.medium.proofs.Looking.{no_looks}
+use Rattle.medium.proofs.SectorsRead.{no_looks}
 use Rattle.medium.proofs.Moments.{started, one_call}
-use Rattle.medium.proofs.Sparing.{spared_write}
+use Rattle.medium.proofs.SparedSectors.{spared_write}
 use Rattle.arrayvec.specs.ArrayVec.{ArrayVec}
 use Rattle.medium.specs.declared.fault.MediumFault.{MediumFault}
 use Rattle.journal.specs.Places.{Shape, first_home, sectors_of}
@@ -17,12 +17,12 @@ use Rattle.redo_log.specs.Calls.{WritesOnly}
 use Rattle.redo_log.specs.Held.{MayLeave, HoldsView}
 use Rattle.redo_log.specs.Shown.{lists_of, ahead_in}
 use Rattle.redo_log.specs.Index.{look, outside, IsIndex}
-use Rattle.redo_log.proofs.Adding.{one_write}
-use Rattle.redo_log.proofs.Entering.{index_fewer}
-use Rattle.redo_log.proofs.Covering.{ahead_retired}
-use Rattle.redo_log.proofs.Ringing.{ring_retired, retired_last}
-use Rattle.redo_log.proofs.Closing.{on_ok_here, dead_held, sizes_sized}
-use Rattle.redo_log.proofs.Leading.{first_of, leads_cuts, leads_held}
+use Rattle.redo_log.proofs.OneSector.{one_write}
+use Rattle.redo_log.proofs.IndexRoom.{index_fewer}
+use Rattle.redo_log.proofs.CoveredRecord.{ahead_retired}
+use Rattle.redo_log.proofs.RingRecords.{ring_retired, retired_last}
+use Rattle.redo_log.proofs.LogFields.{on_ok_here, dead_held, sizes_sized}
+use Rattle.redo_log.proofs.FirstHead.{first_of, leads_cuts, leads_held}
 use Rattle.std.proofs.lemmas.Grind.{common_steps}
 use Rattle.redo_log.proofs.log.Log.head_ahead.Goals as goal
 

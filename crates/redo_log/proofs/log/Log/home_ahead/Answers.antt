@@ -2,7 +2,7 @@ use Rattle.std.proofs.Common.{◌≡◌, ℕ, ◌+◌, ◌<◌, ◌≤◌, List,
 use Rattle.std.specs.Prelude.{All, Bool, true, false, slice_index_or, if◌then◌else◌}
 use Rattle.std.proofs.lemmas.List.{length-map}
 use Rattle.medium.proofs.Moments.{started}
-use Rattle.medium.proofs.Looking.{no_looks}
+use Rattle.medium.proofs.SectorsRead.{no_looks}
 use Rattle.journal.specs.Places.{first_home}
 use Rattle.arrayvec.specs.ArrayVec.{ArrayVec}
 use Rattle.journal.specs.Values.{shape_of}
@@ -11,14 +11,14 @@ use Rattle.redo_log.specs.Stages.{value_at, IsRing, AreInside}
 use Rattle.redo_log.specs.Turns.{kept_by}
 use Rattle.redo_log.specs.Held.{MayLeave, HoldsView}
 use Rattle.redo_log.specs.Shown.{lists_of, ahead_in}
-use Rattle.redo_log.proofs.Ringing.{front_is}
-use Rattle.redo_log.proofs.Closing.{on_ok_here, ok_here, err_here, sizes_sized, turn_moments, turn_cuts, turn_dead, turn_sent_more}
-use Rattle.redo_log.proofs.Closing.{turn_sent_last}
-use Rattle.redo_log.proofs.Calling.{turn_costs, step_costs, turn_refused, left_is, away_calls}
-use Rattle.redo_log.proofs.Flushing.{home_flushes}
-use Rattle.redo_log.proofs.Sending.{turn_sent, step_sends}
-use Rattle.redo_log.proofs.Sighting.{turn_looks}
-use Rattle.redo_log.proofs.Sparing.{turn_spares}
+use Rattle.redo_log.proofs.RingRecords.{front_is}
+use Rattle.redo_log.proofs.LogFields.{on_ok_here, ok_here, err_here, sizes_sized, turn_moments, turn_cuts, turn_dead, turn_sent_more}
+use Rattle.redo_log.proofs.LogFields.{turn_sent_last}
+use Rattle.redo_log.proofs.RetireCalls.{turn_costs, step_costs, turn_refused, left_is, away_calls}
+use Rattle.redo_log.proofs.StepFlushes.{home_flushes}
+use Rattle.redo_log.proofs.CallsSent.{turn_sent, step_sends}
+use Rattle.redo_log.proofs.SectorsRead.{turn_looks}
+use Rattle.redo_log.proofs.SparedSectors.{turn_spares}
 use Rattle.std.proofs.lemmas.Grind.{common_steps}
 use Rattle.redo_log.proofs.log.Log.home_ahead.Goals as goal
 

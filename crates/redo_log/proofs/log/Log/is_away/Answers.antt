@@ -3,8 +3,8 @@ use Rattle.std.proofs.lemmas.Bool.Decides.{nat_tests}
 use Rattle.journal.specs.Values.{shape_of}
 use Rattle.redo_log.specs.Value.{turns_home}
 use Rattle.redo_log.specs.Shown.{lists_of, ahead_in}
-use Rattle.redo_log.proofs.Calling.{left_is}
-use Rattle.redo_log.proofs.Ringing.{front_is}
+use Rattle.redo_log.proofs.RetireCalls.{left_is}
+use Rattle.redo_log.proofs.RingRecords.{front_is}
 use Rattle.redo_log.proofs.log.Log.is_away.Goals as goal
 
 pub returns-in-Some : goal.returns-in-Some

@@ -9,8 +9,8 @@ use Rattle.journal.specs.Formats.{IsWhole}
 use Rattle.redo_log.specs.Value.{LogValue}
 use Rattle.redo_log.specs.Held.{MayLeave}
 use Rattle.redo_log.specs.Shown.{lists_of, ahead_in}
-use Rattle.redo_log.proofs.Closing.{quiet_held, copy_read, sizes_sized}
-use Rattle.redo_log.proofs.Sighting.{shape_looks}
+use Rattle.redo_log.proofs.LogFields.{quiet_held, copy_read, sizes_sized}
+use Rattle.redo_log.proofs.SectorsRead.{shape_looks}
 use Rattle.redo_log.proofs.log.Log.read_copy.Goals as goal
 
 -- as many lists as records

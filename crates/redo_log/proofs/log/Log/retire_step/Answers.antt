@@ -1,7 +1,7 @@
 use Rattle.std.proofs.Common.{◌≡◌, ℕ, suc, ◌+◌, ◌-◌, ◌<◌, List, length, [], ◌∷◌, drop, subst, sym, ◌∙◌, ap, arith, rules, length-drop}
 use Rattle.std.specs.Prelude.{All, replicate, Bool, true, false, slice_index_or, if◌then◌else◌}
 use Rattle.std.proofs.lemmas.List.{length-map}
-use Rattle.medium.proofs.Looking.{no_looks}
+use Rattle.medium.proofs.SectorsRead.{no_looks}
 use Rattle.medium.proofs.Moments.{started}
 use Rattle.arrayvec.specs.ArrayVec.{ArrayVec}
 use Rattle.journal.specs.Places.{first_home}
@@ -13,15 +13,16 @@ use Rattle.redo_log.specs.Flushes.{turn_flushes}
 use Rattle.redo_log.specs.Held.{MayLeave, HoldsView}
 use Rattle.redo_log.specs.Shown.{lists_of, ahead_in}
 use Rattle.redo_log.specs.Index.{look, outside, IsIndex}
-use Rattle.redo_log.proofs.Entering.{index_fewer}
-use Rattle.redo_log.proofs.Covering.{ahead_retired}
-use Rattle.redo_log.proofs.Ringing.{front_is, ring_retired, retired_last}
-use Rattle.redo_log.proofs.Closing.{on_ok_here, ok_here, err_here, sizes_sized, turn_moments, turn_cuts, turn_dead, turn_more, turn_retires}
-use Rattle.redo_log.proofs.Calling.{turn_costs, step_costs, turn_refused, left_is}
-use Rattle.redo_log.proofs.Flushing.{turn_flushed}
-use Rattle.redo_log.proofs.Sending.{turn_sent, step_sends}
-use Rattle.redo_log.proofs.Sighting.{turn_looks}
-use Rattle.redo_log.proofs.Sparing.{turn_spares}
+use Rattle.redo_log.proofs.IndexRoom.{index_fewer}
+use Rattle.redo_log.proofs.CoveredRecord.{ahead_retired}
+use Rattle.redo_log.proofs.RingRecords.{front_is, ring_retired, retired_last}
+use Rattle.redo_log.proofs.LogFields.{on_ok_here, ok_here, err_here, sizes_sized, turn_moments, turn_cuts, turn_dead, turn_more}
+use Rattle.redo_log.proofs.LogFields.{turn_retires}
+use Rattle.redo_log.proofs.RetireCalls.{turn_costs, step_costs, turn_refused, left_is}
+use Rattle.redo_log.proofs.StepFlushes.{turn_flushed}
+use Rattle.redo_log.proofs.CallsSent.{turn_sent, step_sends}
+use Rattle.redo_log.proofs.SectorsRead.{turn_looks}
+use Rattle.redo_log.proofs.SparedSectors.{turn_spares}
 use Rattle.std.proofs.lemmas.Grind.{common_steps}
 use Rattle.redo_log.proofs.log.Log.retire_step.Goals as goal
 

@@ -4,8 +4,8 @@ use Rattle.arrayvec.specs.ArrayVec.{ArrayVec}
 use Rattle.journal.specs.Values.{shape_of}
 use Rattle.redo_log.specs.Value.{LogValue, turns_home}
 use Rattle.redo_log.specs.Shown.{lists_of, ahead_in}
-use Rattle.redo_log.proofs.Calling.{left_is}
-use Rattle.redo_log.proofs.Ringing.{front_is}
+use Rattle.redo_log.proofs.RetireCalls.{left_is}
+use Rattle.redo_log.proofs.RingRecords.{front_is}
 use Rattle.redo_log.proofs.log.Log.settle.Goals as goal
 use Rattle.redo_log.proofs.log.Log.settle.Goals.{then-self-via-then-self, then-self-via-else-self+then-self-all}
 use Rattle.redo_log.proofs.log.Log.settle.Goals.{then-self-via-else-self+else-self-all+then-next-self}

@@ -10,13 +10,13 @@ use Rattle.redo_log.specs.Held.{HoldsView, with_record}
 use Rattle.redo_log.specs.Stages.{value_at, begun_at, AreInside, IsRing, IsUnderWay, IsAheadOf}
 use Rattle.redo_log.specs.Shown.{lists_of, ahead_in}
 use Rattle.redo_log.specs.Index.{look, with_copies, IsIndex}
-use Rattle.redo_log.proofs.Covering.{ahead_durable}
-use Rattle.redo_log.proofs.Ringing.{lists_more, ring_durable}
-use Rattle.redo_log.proofs.Entering.{record_room, index_more}
-use Rattle.redo_log.proofs.Closing.{on_ok_here, sizes_sized, step_cuts, step_dead, step_goes_on, step_durable, step_whole}
-use Rattle.redo_log.proofs.Closing.{step_flushed}
-use Rattle.redo_log.proofs.Sighting.{call_looks}
-use Rattle.redo_log.proofs.Sparing.{call_spares}
+use Rattle.redo_log.proofs.CoveredRecord.{ahead_durable}
+use Rattle.redo_log.proofs.RingRecords.{lists_more, ring_durable}
+use Rattle.redo_log.proofs.IndexRoom.{record_room, index_more}
+use Rattle.redo_log.proofs.LogFields.{on_ok_here, sizes_sized, step_cuts, step_dead, step_goes_on, step_durable, step_whole}
+use Rattle.redo_log.proofs.LogFields.{step_flushed}
+use Rattle.redo_log.proofs.SectorsRead.{call_looks}
+use Rattle.redo_log.proofs.SparedSectors.{call_spares}
 use Rattle.std.proofs.lemmas.Grind.{common_steps}
 use Rattle.redo_log.proofs.log.Log.step.Goals as goal
 

@@ -3,7 +3,7 @@ use Rattle.spec.specs.Waiting.{Waiting}
 use Rattle.scsi_unit.specs.UnitValue.{UnitValue, answer_of}
 use Rattle.scsi_unit.specs.Serving.{Serves, command_for}
 use Rattle.scsi_unit.specs.Performing.{Performs}
-use Rattle.scsi_unit.proofs.Serving.{serves}
+use Rattle.scsi_unit.proofs.CarriedOut.{serves}
 use Rattle.scsi_unit.proofs.unit.Unit.carry_out.Goals as goal
 
 pub returns-clause-serves : goal.returns-clause-serves

@@ -1,5 +1,5 @@
 use Rattle.std.proofs.Common.{true, false}
-use Rattle.scsi_unit.proofs.Faulting.{faulted_steady}
+use Rattle.scsi_unit.proofs.FaultedUnit.{faulted_steady}
 use Rattle.scsi_unit.proofs.unit.Unit.fault.Goals as goal
 
 pub returns-then-taken_back-clause-steady : goal.returns-then-taken_back-clause-steady

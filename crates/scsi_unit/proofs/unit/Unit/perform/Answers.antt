@@ -9,9 +9,9 @@ use Rattle.spec.specs.ModePage.{mode_data}
 use Rattle.std.specs.Prelude.{◌&&◌}
 use Rattle.blocks.specs.StoreValue.{blocks_of, is_dead}
 use Rattle.scsi_unit.specs.Performing.{Performs, Spares, silent}
-use Rattle.scsi_unit.proofs.Performing.{takes_enough, sends_data, reports_sense, reads_16, writes_16, synchronizes_16, answer_at}
-use Rattle.scsi_unit.proofs.Performing.{take-capacity_10, performs_silently, spares_silently}
-use Rattle.scsi_unit.proofs.Sparing.{spares_reading_16, spares_writing_16, spares_synchronizing_16}
+use Rattle.scsi_unit.proofs.PerformedCommands.{takes_enough, sends_data, reports_sense, reads_16, writes_16, synchronizes_16, answer_at}
+use Rattle.scsi_unit.proofs.PerformedCommands.{take-capacity_10, performs_silently, spares_silently}
+use Rattle.scsi_unit.proofs.SparedCalls.{spares_reading_16, spares_writing_16, spares_synchronizing_16}
 use Rattle.scsi_unit.proofs.unit.Unit.perform.Goals as goal
 
 -- a command that needs the medium and is served finds it live

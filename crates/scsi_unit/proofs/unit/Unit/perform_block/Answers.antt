@@ -5,8 +5,8 @@ use Rattle.blocks.specs.StoreValue.{blocks_of, is_dead}
 use Rattle.scsi_unit.specs.UnitValue.{unit_limit}
 use Rattle.scsi_unit.specs.Calls.{most_calls}
 use Rattle.scsi_unit.proofs.Bounds.{told_few}
-use Rattle.scsi_unit.proofs.Checking.{intention_of_command, passed_by}
-use Rattle.scsi_unit.proofs.Performing.{refuses}
+use Rattle.scsi_unit.proofs.PassedChecks.{intention_of_command, passed_by}
+use Rattle.scsi_unit.proofs.PerformedCommands.{refuses}
 use Rattle.scsi_unit.proofs.unit.Unit.perform_block.Goals as goal
 
 pub returns-in_err-command-clause-performs : goal.returns-in_err-command-clause-performs

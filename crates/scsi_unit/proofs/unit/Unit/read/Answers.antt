@@ -6,9 +6,9 @@ use Rattle.scsi_unit.specs.UnitValue.{UnitValue, answer_of}
 use Rattle.scsi_unit.specs.Performing.{Performs}
 use Rattle.scsi_unit.specs.Calls.{calls_of_read, MakesAtMost}
 use Rattle.scsi_unit.specs.Reading.{some_read}
-use Rattle.scsi_unit.proofs.Calling.{read_stops, read_ends}
-use Rattle.scsi_unit.proofs.Looking.{log_looked, read_looked}
-use Rattle.scsi_unit.proofs.Performing.{durable_error, moves_some, forces_as, reads_nothing, reads_blocks_of}
+use Rattle.scsi_unit.proofs.CommandCalls.{read_stops, read_ends}
+use Rattle.scsi_unit.proofs.SectorsRead.{log_looked, read_looked}
+use Rattle.scsi_unit.proofs.PerformedCommands.{durable_error, moves_some, forces_as, reads_nothing, reads_blocks_of}
 use Rattle.scsi_unit.proofs.unit.Unit.read.Goals as goal
 
 pub returns-then-transfer-eq0-clause-performs : goal.returns-then-transfer-eq0-clause-performs

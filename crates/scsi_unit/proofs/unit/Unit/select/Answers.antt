@@ -8,10 +8,10 @@ use Rattle.spec.specs.Rules.{selected_by}
 use Rattle.scsi_unit.specs.UnitValue.{UnitValue}
 use Rattle.scsi_unit.specs.Performing.{Performs, silent}
 use Rattle.scsi_unit.specs.Calls.{calls_of, MakesAtMost}
-use Rattle.scsi_unit.proofs.Looking.{log_looked}
-use Rattle.scsi_unit.proofs.Calling.{select_calls}
-use Rattle.scsi_unit.proofs.Performing.{durable_error}
-use Rattle.scsi_unit.proofs.Writing.{selects_nothing, selects_bit, clears_as}
+use Rattle.scsi_unit.proofs.SectorsRead.{log_looked}
+use Rattle.scsi_unit.proofs.CommandCalls.{select_calls}
+use Rattle.scsi_unit.proofs.PerformedCommands.{durable_error}
+use Rattle.scsi_unit.proofs.WriteLines.{selects_nothing, selects_bit, clears_as}
 use Rattle.scsi_unit.proofs.unit.Unit.select.Goals as goal
 use Rattle.scsi_unit.proofs.unit.Unit.select.Goals.{then-self, else-self}
 

@@ -1,7 +1,7 @@
 use Rattle.std.proofs.Common.{refl}
 use Rattle.blocks.specs.StoreValue.{layout_of}
 use Rattle.std.proofs.lemmas.Result.{err_from_is_err_and}
-use Rattle.scsi_unit.proofs.Starting.{leaves_started, not_started}
+use Rattle.scsi_unit.proofs.StartedUnit.{leaves_started, not_started}
 use Rattle.scsi_unit.proofs.unit.Unit.start_by.Goals as goal
 
 pub returns-in_err-store : goal.returns-in_err-store

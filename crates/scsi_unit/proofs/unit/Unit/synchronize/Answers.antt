@@ -3,7 +3,7 @@ use Rattle.spec.specs.declared.command.Command.TheVariants as command
 use Rattle.blocks.specs.StoreValue.{is_dead}
 use Rattle.scsi_unit.specs.UnitValue.{UnitValue}
 use Rattle.scsi_unit.specs.Performing.{Performs, silent}
-use Rattle.scsi_unit.proofs.Writing.{synchronizes}
+use Rattle.scsi_unit.proofs.WriteLines.{synchronizes}
 use Rattle.scsi_unit.proofs.unit.Unit.synchronize.Goals as goal
 
 pub returns-clause-performs : goal.returns-clause-performs

@@ -1,7 +1,7 @@
 use Rattle.std.proofs.Common.{subst}
 use Rattle.scsi_unit.specs.UnitValue.{UnitValue}
 use Rattle.scsi_unit.specs.Serving.{TicksOver}
-use Rattle.scsi_unit.proofs.Turning.{ticks_over}
+use Rattle.scsi_unit.proofs.UnitTurns.{ticks_over}
 use Rattle.scsi_unit.proofs.unit.Unit.tick.Goals as goal
 
 pub returns-clause-ticks : goal.returns-clause-ticks

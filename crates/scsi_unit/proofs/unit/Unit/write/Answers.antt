@@ -9,12 +9,12 @@ use Rattle.scsi_unit.specs.Performing.{Performs, silent}
 use Rattle.blocks.specs.Limit.{Shape}
 use Rattle.blocks.specs.Sent.{most_sent}
 use Rattle.scsi_unit.specs.Calls.{calls_of_sync, calls_of_write, MakesAtMost}
-use Rattle.blocks.proofs.Looking.{looks_on}
-use Rattle.scsi_unit.proofs.Looking.{log_looked}
-use Rattle.scsi_unit.proofs.Calling.{write_stops, write_ends, OnOk-at}
-use Rattle.scsi_unit.proofs.Performing.{moves_some}
-use Rattle.scsi_unit.proofs.Writing.{writes_nothing, write_refused, writes_blocks, logged_write, silent_ok}
-use Rattle.scsi_unit.proofs.Sparing.{write_costs}
+use Rattle.blocks.proofs.SectorsRead.{looks_on}
+use Rattle.scsi_unit.proofs.SectorsRead.{log_looked}
+use Rattle.scsi_unit.proofs.CommandCalls.{write_stops, write_ends, OnOk-at}
+use Rattle.scsi_unit.proofs.PerformedCommands.{moves_some}
+use Rattle.scsi_unit.proofs.WriteLines.{writes_nothing, write_refused, writes_blocks, logged_write, silent_ok}
+use Rattle.scsi_unit.proofs.SparedCalls.{write_costs}
 use Rattle.scsi_unit.specs.Costs.{CostsFinishing, CostsAfter}
 use Rattle.scsi_unit.specs.Serving.{IsFinished, LogAfter}
 use Rattle.scsi_unit.proofs.unit.Unit.write.Goals as goal

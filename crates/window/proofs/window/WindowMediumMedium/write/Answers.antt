@@ -6,7 +6,7 @@ use Rattle.mirror.proofs.Asked.{content_refused, sets_refused, sets_given, holds
 use Rattle.window.specs.Seen.{Seen, refused}
 use Rattle.window.specs.Window.{Window, mirror_of}
 use Rattle.window.proofs.Asked.{seen_on, given_on, follows_refused, follows_given}
-use Rattle.window.proofs.Looking.{passes_refused, passes_given}
+use Rattle.window.proofs.SectorsRead.{passes_refused, passes_given}
 use Rattle.window.proofs.Kept.{kept_quiet, kept_given}
 use Rattle.window.proofs.window.WindowMediumMedium.write.Goals as goal
 

@@ -1,7 +1,7 @@
 use Rattle.std.proofs.Common.{◌≡◌, ◌∷◌, ℕ, List, rules, arith, length, sym, ◌∙◌, ap, subst, IsTrue}
 use Rattle.journal.specs.Spelling.{spelling, descriptor_mark}
 use Rattle.journal.specs.Sectors.{AreBlockNumbers}
-use Rattle.journal.proofs.Decoding.{descriptor_stamp, descriptor_count, descriptor_numbers}
+use Rattle.journal.proofs.SectorNumbers.{descriptor_stamp, descriptor_count, descriptor_numbers}
 use Rattle.journal.proofs.v1.descriptor.Descriptor.decode.Goals as goal
 use Rattle.journal.proofs.v1.descriptor.Descriptor.decode.Goals.{then-stamp-lt1-via-then-stamp-lt1}
 use Rattle.journal.proofs.v1.descriptor.Descriptor.decode.Goals.{then-stamp-lt1-via-else-stamp-lt1+then-stamp}

@@ -3,7 +3,7 @@ use Rattle.std.specs.Prelude.{zip}
 use Rattle.std.specs.List.{flat_map}
 use Rattle.byteorder.specs.Endian.{little_bytes}
 use Rattle.journal.specs.SectorsTwo.{padded, entry_bytes}
-use Rattle.journal.proofs.Padding.{padded-none}
+use Rattle.journal.proofs.PaddedBytes.{padded-none}
 use Rattle.journal.proofs.v2.descriptor.Descriptor.encode.Goals as goal
 
 pub returns : goal.returns

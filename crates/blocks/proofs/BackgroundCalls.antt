@@ -1,0 +1,39 @@
+-- How many calls of the medium the background steps make.
+use Rattle.std.proofs.Common.{◌≡◌, ◌≤◌, ◌<◌, ◌+◌, inl, inr, arith, sym, ◌∙◌, Bool, true, false, length}
+use Rattle.std.proofs.lemmas.Bool.{false≢true, cases_lt}
+use Rattle.medium.specs.Medium.{State}
+use Rattle.blocks.specs.StoreValue.{Cached, is_dead, steps_for, batch_steps, steps_left}
+use Rattle.blocks.specs.Turns.{IsPaid}
+use Rattle.blocks.proofs.LogTurns.{waiting_idle}
+
+-- no call was made
+pub pays : (m : State) (s : Cached) → IsPaid m m s s
+pays m s = record { most = omega arith; rest = λ live. omega arith }
+
+-- one turn after another
+pub pays_both : (before mid after : State) (old then new : Cached) → IsPaid before mid old then → is_dead then ≡ false
+    → IsPaid mid after then new → IsPaid before after old new
+pays_both before mid after old then new first live second = record {
+  most = omega (arith, first.rest live, second.most);
+  rest = λ lives. omega (arith, first.rest live, second.rest lives);
+}
+
+-- a step of at most two calls, where one was left
+pub pays_step : (before after : State) (old new : Cached) → 0 < steps_left old → after.calls ≤ before.calls + 2
+    → (is_dead new ≡ false → steps_left new < steps_left old) → IsPaid before after old new
+pays_step before after old new some calls falls = record {
+  most = omega (arith, some, calls);
+  rest = λ lives. omega (arith, calls, falls lives);
+}
+
+-- a log without room and without a record under way has one to retire
+pub must_retire : (s : Cached) (room : Bool) → room ≡ false → (room ≡ false → 0 < s.log.steps_left + length s.log.waiting)
+    → (s.log.steps_left + s.log.retire_steps_left ≡ 0 → room ≡ true) → s.log.steps_left ≡ 0
+    → (0 < length s.log.waiting) × (0 < steps_left s)
+must_retire s room none full always idle = (
+  omega (arith, full none, idle),
+  elim (cases_lt 0 s.log.retire_steps_left) [
+    | inl some ↦ omega (arith, some)
+    | inr few ↦ absurd (false≢true (sym none ∙ always (omega (arith, few, idle))))
+  ],
+)

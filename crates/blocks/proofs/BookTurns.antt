@@ -1,0 +1,318 @@
+-- How the books that a store fits go on from turn to turn.
+use Rattle.std.proofs.Common.{◌≡◌, ◌≤◌, ◌<◌, ℕ, ◌+◌, ◌*◌, ◌-◌, ⊎_elim, arith, ◌∙◌, sym, ap, subst, refl, Bool, true, false, Option, Some}
+use Rattle.std.proofs.Common.{List, [], ◌∷◌, ◌++◌, length, take, drop, length-append}
+use Rattle.std.specs.Prelude.{if◌then◌else◌, ◌==◌, nat_le, get_or, slice_range, unwrap_or}
+use Rattle.std.proofs.lemmas.List.{take-append-le, length-map, drop-drop}
+use Rattle.std.proofs.Math.Seq.{take-length}
+use Rattle.medium.specs.Medium.{State, Image}
+use Rattle.spec.specs.Blocks.{Array, Write, apply, after, chunks}
+use Rattle.journal.specs.Places.{Shape}
+use Rattle.journal.specs.Record.{Entry, numbers_of, with_blocks}
+use Rattle.journal.specs.Standing.{IsOurs}
+use Rattle.redo_log.specs.Value.{LogValue, HasRoom, begun}
+use Rattle.redo_log.specs.Batch.{IsBatch, entries_from, entries_of}
+use Rattle.redo_log.specs.Held.{View, HoldsView, MayLeave, with_record, with_begun}
+use Rattle.redo_log.proofs.StoreFacts.{begun_holds, may_leave_ours}
+use Rattle.cache.specs.Blocks.{Blocks, blocks_of, over, with_range}
+use Rattle.cache.specs.Entries.{Entries, map_of}
+use Rattle.cache.proofs.Arrays.{over_put}
+use Rattle.blocks.specs.Book.{Same}
+use Rattle.spec.specs.Book.{Book, after_first, array_of, with_write, promised}
+use Rattle.blocks.specs.Finding.{StandsAs, MayFind}
+use Rattle.blocks.specs.StoreValue.{Cached, FitsBook, wants, steps_for}
+
+-- blocks over two arrays that have the same block
+pub over_same : (blocks : Blocks) (a c : Array) (b : ℕ) → a b ≡ c b → over blocks a b ≡ over blocks c b
+over_same blocks a c b same = ap (λ (x : List ℕ). unwrap_or (blocks b) x) same
+
+-- a write over two arrays that have the same block
+pub apply_same : (w : Write) (a c : Array) (b : ℕ) → a b ≡ c b → apply a w b ≡ apply c w b
+apply_same w a c b same = ap (λ (x : List ℕ). if nat_le w.address b then get_or w.blocks (b - w.address) x else x) same
+
+-- the last write comes last
+pub after_last : (a : Array) (writes : List Write) (w : Write) → after a (writes ++ w ∷ []) ≡ apply (after a writes) w
+after_last a [] w = refl
+after_last a (v ∷ writes) w = after_last (apply a v) writes w
+
+-- the first writes are the same in a longer list
+pub first_same : (book : Book) (w : Write) (k : ℕ) → k ≤ length book.writes → after_first k (with_write book w) ≡ after_first k book
+first_same book w k le = ap (after book.opening) (take-append-le k book.writes (w ∷ []) le)
+
+-- all writes are all writes
+pub first_all : (book : Book) → after_first (length book.writes) book ≡ array_of book
+first_all book = ap (after book.opening) (take-length book.writes)
+
+-- one test for both
+both : (t : Bool) (x y z d : List ℕ) (o : Option (List ℕ)) → x ≡ y → z ≡ unwrap_or o d
+    → (if t then x else z) ≡ unwrap_or (if t then Some y else o) d
+both true x y z d o here there = here
+both false x y z d o here there = there
+
+-- the i-th block of some bytes
+range_is : (bytes : List ℕ) (i : ℕ) → slice_range bytes (512 * i) (512 * i + 512) ≡ take 512 (drop (512 * i) bytes)
+range_is bytes i =
+    let size : 512 * i + 512 - 512 * i ≡ 512 = omega arith in
+    ap (λ (n : ℕ). take n (drop (512 * i) bytes)) size
+
+-- the blocks of a batch, as a record has them from the i-th on
+entries_over : (i : ℕ) (numbers bytes : List ℕ) (a : Array) (b : ℕ)
+    → with_blocks (entries_from i numbers bytes) a b ≡ over (blocks_of numbers (drop (512 * i) bytes)) a b
+entries_over i [] bytes a b = refl
+entries_over i (n ∷ numbers) bytes a b =
+    let next : 512 * i + 512 ≡ 512 * (i + 1) = omega arith in
+    both (n == b) (slice_range bytes (512 * i) (512 * i + 512)) (take 512 (drop (512 * i) bytes))
+    (with_blocks (entries_from (i + 1) numbers bytes) a b) (a b) (blocks_of numbers (drop 512 (drop (512 * i) bytes)) b)
+    (range_is bytes i)
+    (entries_over (i + 1) numbers bytes a b
+    ∙ ap (λ (l : List ℕ). over (blocks_of numbers l) a b) (sym (drop-drop 512 (512 * i) bytes ∙ ap (λ (k : ℕ). drop k bytes) next)))
+
+-- a record's blocks laid over an array are the batch over it
+pub with_entries : (numbers bytes : List ℕ) (a : Array) (b : ℕ)
+    → with_blocks (entries_of numbers bytes) a b ≡ over (blocks_of numbers bytes) a b
+with_entries numbers bytes a b = entries_over 0 numbers bytes a b
+
+-- an empty batch changes no array
+pub over_none : (numbers bytes : List ℕ) → numbers ≡ [] → (a : Array) (b : ℕ) → over (blocks_of numbers bytes) a b ≡ a b
+over_none [] bytes e a b = refl
+over_none (n ∷ numbers) bytes e a b = absurd (cc e)
+
+-- a batch wants a stamp or none
+pub wants_some : (numbers : List ℕ) → 0 < length numbers → wants numbers ≡ 1
+wants_some [] some = absurd (omega (arith, some))
+wants_some (n ∷ numbers) some = refl
+
+pub wants_none : (numbers : List ℕ) → numbers ≡ [] → wants numbers ≡ 0
+wants_none [] e = refl
+wants_none (n ∷ numbers) e = absurd (cc e)
+
+pub wants_most : (numbers : List ℕ) → wants numbers ≤ 1
+wants_most [] = omega arith
+wants_most (n ∷ numbers) = omega arith
+
+-- an empty batch takes no steps, and another takes some
+pub steps_for_none : (most : ℕ) (numbers : List ℕ) → numbers ≡ [] → steps_for most numbers ≡ 0
+steps_for_none most [] e = refl
+steps_for_none most (n ∷ numbers) e = absurd (cc e)
+
+pub steps_for_most : (most : ℕ) (numbers : List ℕ) → steps_for most numbers ≤ most
+steps_for_most most [] = omega arith
+steps_for_most most (n ∷ numbers) = omega arith
+
+pub no_steps_for : (most : ℕ) (numbers : List ℕ) → 0 < most → steps_for most numbers ≡ 0 → numbers ≡ []
+no_steps_for most [] some e = refl
+no_steps_for most (n ∷ numbers) some e = absurd (omega (arith, some, e))
+
+-- an image that is ours for an array is ours for one with the same blocks
+pub ours_same : (size : ℕ) (shape : Shape) (image : Image) (a c : Array) (next : ℕ) → Same shape.blocks a c → IsOurs size shape image a next
+    → IsOurs size shape image c next
+ours_same size shape image a c next same ours = record {
+  stands = record {
+    fits = ours.stands.fits;
+    head = ours.stands.head;
+    records = ours.stands.records;
+    keeps = record {
+      super = ours.stands.keeps.super;
+      head_is = ours.stands.keeps.head_is;
+      whole = ours.stands.keeps.whole;
+      blocks = λ b below. ours.stands.keeps.blocks b below ∙ same b below;
+    };
+    few = ours.stands.few;
+    ends = ours.stands.ends;
+    next_is = ours.stands.next_is;
+  };
+  carries = ours.carries;
+}
+
+-- it stands so for that array
+pub stands_as : (size blocks : ℕ) (shape : Shape) (image : Image) (a c : Array) (next : ℕ) → shape.blocks ≡ blocks → Same blocks a c
+    → IsOurs size shape image a next → StandsAs size blocks image c next
+stands_as size blocks shape image a c next is same ours =
+    (shape, is, ours_same size shape image a c next (subst (λ n. Same n a c) (sym is) same) ours)
+
+-- the log goes on, with the same array and the same record under way
+pub moves : (m m' : State) (s : Cached) (book : Book) (log' : LogValue) (view' : View) (f : FitsBook m s book) → HoldsView log' m' view'
+    → view'.array ≡ f.view.array → view'.under_way ≡ f.view.under_way → view'.ours ≡ f.view.ours → log'.shape ≡ s.log.shape
+    → log'.head + length log'.waiting ≡ s.log.head + length s.log.waiting → log'.steps_left ≤ s.log.steps_left
+    → FitsBook m' (record s { log = log' }) book
+moves m m' s book log' view' f holds array under_way ours shape stamp fewer = record {
+  view = view';
+  holds = holds;
+  under_way = λ some. under_way ∙ f.under_way (omega (arith, some, fewer));
+  some = λ some. f.some (omega (arith, some, fewer));
+  blocks = ap (λ (x : Shape). x.blocks) shape ∙ f.blocks;
+  floor_count = f.floor_count;
+  middle_count = f.middle_count;
+  promises = f.promises;
+  rises = f.rises;
+  accepted = f.accepted;
+  floor = λ b below. ap (λ (a : Array). a b) array ∙ f.floor b below;
+  middle = λ b below. ap (λ (a : Array). over (map_of s.frozen) a b) array ∙ f.middle b below;
+  now = λ b below. ap (λ (a : Array). over (map_of s.active) (over (map_of s.frozen) a) b) array ∙ f.now b below;
+  stamps = omega (arith, f.stamps, stamp);
+  ours = ours ∙ f.ours;
+}
+
+-- the frozen batch is begun
+pub begins : (m : State) (s : Cached) (book : Book) (f : FitsBook m s book) → HasRoom s.log
+    → IsBatch s.log.shape s.frozen.numbers s.frozen.bytes → FitsBook m (record s { log = begun s.frozen.numbers s.log }) book
+begins m s book f room batch = record {
+  view = with_begun (entries_of s.frozen.numbers s.frozen.bytes) f.view;
+  holds = begun_holds s.log m f.view s.frozen.numbers s.frozen.bytes f.holds room batch;
+  under_way = λ some. refl;
+  some = λ some. wants_some s.frozen.numbers batch.some;
+  blocks = f.blocks;
+  floor_count = f.floor_count;
+  middle_count = f.middle_count;
+  promises = f.promises;
+  rises = f.rises;
+  accepted = f.accepted;
+  floor = f.floor;
+  middle = f.middle;
+  now = f.now;
+  stamps = f.stamps;
+  ours = f.ours;
+}
+
+-- the record under way becomes durable, and the frozen batch is emptied
+pub becomes_durable : (m m' : State) (s : Cached) (book : Book) (log' : LogValue) (none : Entries) (f : FitsBook m s book)
+    → 0 < s.log.steps_left → none.numbers ≡ [] → HoldsView log' m' (with_record f.view) → log'.shape ≡ s.log.shape → log'.head ≡ s.log.head
+    → length log'.waiting ≡ length s.log.waiting + 1 → log'.steps_left ≡ 0
+    → FitsBook m' (record { log = log'; active = s.active; frozen = none }) book
+becomes_durable m m' s book log' none f some empty holds shape head longer done =
+    let array : (b : ℕ) → with_blocks f.view.under_way f.view.array b ≡ over (map_of s.frozen) f.view.array b =
+    λ b. ap (λ (l : List Entry). with_blocks l f.view.array b) (f.under_way some)
+    ∙ with_entries s.frozen.numbers s.frozen.bytes f.view.array b in
+    let durable : Array = with_blocks f.view.under_way f.view.array in
+    let no_frozen : (a : Array) (b : ℕ) → over (map_of none) a b ≡ a b = over_none none.numbers none.bytes empty in
+    record {
+      view = with_record f.view;
+      holds = holds;
+      under_way = λ more. absurd (omega (arith, more, done));
+      some = λ more. absurd (omega (arith, more, done));
+      blocks = ap (λ (x : Shape). x.blocks) shape ∙ f.blocks;
+      floor_count = f.middle_count;
+      middle_count = f.middle_count;
+      promises = omega (arith, f.promises, f.rises);
+      rises = omega arith;
+      accepted = f.accepted;
+      floor = λ b below. array b ∙ f.middle b below;
+      middle = λ b below. no_frozen durable b ∙ (array b ∙ f.middle b below);
+      now = λ b below. over_same (map_of s.active) (over (map_of none) durable) (over (map_of s.frozen) f.view.array) b
+          (no_frozen durable b ∙ array b)
+          ∙ f.now b below;
+      stamps = omega (arith, f.stamps, f.some some, head, longer, wants_none none.numbers empty);
+      ours = f.ours;
+    }
+
+-- the active batch is frozen in place of an empty one
+pub freezes : (m : State) (s : Cached) (book : Book) → s.log.steps_left ≡ 0 → s.frozen.numbers ≡ [] → FitsBook m s book
+    → FitsBook m (record s { active = s.frozen; frozen = s.active }) book
+freezes m s book idle empty f =
+    let none : (a : Array) (b : ℕ) → over (map_of s.frozen) a b ≡ a b = over_none s.frozen.numbers s.frozen.bytes empty in
+    let now : (b : ℕ) → b < book.blocks → over (map_of s.active) f.view.array b ≡ array_of book b = λ b below.
+    sym (over_same (map_of s.active) (over (map_of s.frozen) f.view.array) f.view.array b (none f.view.array b)) ∙ f.now b below in
+    record {
+      view = f.view;
+      holds = f.holds;
+      under_way = λ more. absurd (omega (arith, more, idle));
+      some = λ more. absurd (omega (arith, more, idle));
+      blocks = f.blocks;
+      floor_count = f.floor_count;
+      middle_count = length book.writes;
+      promises = f.promises;
+      rises = omega (arith, f.rises, f.accepted);
+      accepted = omega arith;
+      floor = f.floor;
+      middle = λ b below. now b below ∙ ap (λ (a : Array). a b) (sym (first_all book));
+      now = λ b below. none (over (map_of s.active) f.view.array) b ∙ now b below;
+      stamps = omega (arith, f.stamps);
+      ours = f.ours;
+    }
+
+-- the active batch takes a write
+pub appends : (m : State) (s : Cached) (book : Book) (more : Entries) (address : ℕ) (bytes : List ℕ) (count : ℕ)
+    → ((b : ℕ) → map_of more b ≡ with_range (map_of s.active) address count bytes b) → FitsBook m s book
+    → (let w : Write = record { address = address; blocks = chunks count bytes } in
+    FitsBook m (record s { active = more }) (with_write book w))
+appends m s book more address bytes count put f =
+    let w : Write = record { address = address; blocks = chunks count bytes } in
+    let longer : length (book.writes ++ w ∷ []) ≡ length book.writes + 1 = length-append book.writes (w ∷ []) in
+    let middle : Array = over (map_of s.frozen) f.view.array in
+    record {
+      view = f.view;
+      holds = f.holds;
+      under_way = f.under_way;
+      some = f.some;
+      blocks = f.blocks;
+      floor_count = f.floor_count;
+      middle_count = f.middle_count;
+      promises = f.promises;
+      rises = f.rises;
+      accepted = omega (arith, f.accepted, longer);
+      floor = λ b below.
+          f.floor b below ∙ ap (λ (a : Array). a b) (sym (first_same book w f.floor_count (omega (arith, f.rises, f.accepted))));
+      middle = λ b below. f.middle b below ∙ ap (λ (a : Array). a b) (sym (first_same book w f.middle_count f.accepted));
+      now = λ b below. over_put s.active more middle address count bytes put b
+          ∙ (apply_same w (over (map_of s.active) middle) (array_of book) b (f.now b below)
+          ∙ ap (λ (a : Array). a b) (sym (after_last book.opening book.writes w)));
+      stamps = omega (arith, f.stamps, longer, wants_most more.numbers);
+      ours = f.ours;
+    }
+
+-- with both batches empty everything is durable
+pub settles : (m : State) (s : Cached) (book : Book) → s.frozen.numbers ≡ [] → s.active.numbers ≡ [] → FitsBook m s book
+    → FitsBook m s (promised book)
+settles m s book no_frozen no_active f =
+    let frozen : (a : Array) (b : ℕ) → over (map_of s.frozen) a b ≡ a b = over_none s.frozen.numbers s.frozen.bytes no_frozen in
+    let active : (a : Array) (b : ℕ) → over (map_of s.active) a b ≡ a b = over_none s.active.numbers s.active.bytes no_active in
+    let durable : (b : ℕ) → b < book.blocks → f.view.array b ≡ after_first (length book.writes) book b = λ b below.
+    sym (active (over (map_of s.frozen) f.view.array) b ∙ frozen f.view.array b)
+    ∙ (f.now b below ∙ ap (λ (a : Array). a b) (sym (first_all book))) in
+    record {
+      view = f.view;
+      holds = f.holds;
+      under_way = f.under_way;
+      some = f.some;
+      blocks = f.blocks;
+      floor_count = length book.writes;
+      middle_count = length book.writes;
+      promises = omega arith;
+      rises = omega arith;
+      accepted = omega arith;
+      floor = durable;
+      middle = λ b below. frozen f.view.array b ∙ durable b below;
+      now = f.now;
+      stamps = f.stamps;
+      ours = f.ours;
+    }
+
+-- what a cut may leave of the log may be found
+pub finds : (m : State) (s : Cached) (book : Book) (f : FitsBook m s book) (image : Image) → MayLeave m.size s.log f.view image
+    → MayFind m.size book image
+finds m s book f image left =
+    let g : List Entry → List ℕ = λ r. numbers_of r in
+    let as_many : length s.log.waiting ≡ length f.view.records =
+    ap (λ (l : List (List ℕ)). length l) f.holds.durable ∙ length-map f.view.records g in
+    let stamp : ℕ = s.log.head + length f.view.records in
+    ⊎_elim
+    (λ durable. record {
+      count = f.floor_count;
+      next = stamp + 1;
+      promises = f.promises;
+      accepted = omega (arith, f.rises, f.accepted);
+      stands = stands_as m.size book.blocks s.log.shape image f.view.array (after_first f.floor_count book) (stamp + 1) f.blocks f.floor
+          durable;
+      bound = omega (arith, f.stamps, as_many);
+    })
+    (λ whole. record {
+      count = f.middle_count;
+      next = stamp + 2;
+      promises = omega (arith, f.promises, f.rises);
+      accepted = f.accepted;
+      stands = stands_as m.size book.blocks s.log.shape image (with_blocks f.view.under_way f.view.array)
+          (after_first f.middle_count book) (stamp + 2) f.blocks
+          (λ b below. ap (λ (l : List Entry). with_blocks l f.view.array b) (f.under_way whole.0)
+          ∙ (with_entries s.frozen.numbers s.frozen.bytes f.view.array b ∙ f.middle b below)) whole.1;
+      bound = omega (arith, f.stamps, as_many, f.some whole.0);
+    })
+    (may_leave_ours m.size s.log f.view image left)

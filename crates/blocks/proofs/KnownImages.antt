@@ -1,0 +1,177 @@
+-- What is known of an image by the books for which it stands.
+use Rattle.std.proofs.Common.{◌≡◌, ◌≤◌, ◌<◌, ◌^◌, ℕ, ◌+◌, ⊎_elim, arith, ◌∙◌, sym, ap, subst, refl, Bool, true, false, Option, None, Some}
+use Rattle.std.proofs.Common.{List, [], ◌∷◌, take}
+use Rattle.std.proofs.lemmas.Bool.{false≢true}
+use Rattle.medium.specs.Medium.{State, Image, IsSound}
+use Rattle.medium.specs.Moments.{EachCut, IsFlushed, LeavesOnly}
+use Rattle.spec.specs.Blocks.{Array, Write, apply, after}
+use Rattle.medium.proofs.Moments.{at_exit, only_image}
+use Rattle.journal.specs.Places.{Shape}
+use Rattle.journal.specs.Standing.{StandsFor, Stands, IsOurs}
+use Rattle.journal.specs.ImageFaults as image
+use Rattle.journal.proofs.StandingLaws.{StandsFor-one}
+use Rattle.journal.proofs.FaultLaws.{HasFault-stands}
+use Rattle.recovery.specs.Causes.{IsCause}
+use Rattle.recovery.specs.Recovered.{IsOursForSome, StandsForOneOf}
+use Rattle.recovery.specs.declared.start_fault.StartFault.{StartFault}
+use Rattle.recovery.specs.declared.start_fault.StartFault.TheVariants.{NoMemory, Read, Write as WriteFault, Flush, BadSuper, BadVersion}
+use Rattle.recovery.specs.declared.start_fault.StartFault.TheVariants.{BadSize, BadHead, StampsUsedUp, LogTooSmall}
+use Rattle.spec.specs.Book.{Book, after_first, opened, with_write}
+use Rattle.blocks.specs.Book.{Same}
+use Rattle.blocks.specs.Finding.{StandsAs, MayFind, FoundWith}
+use Rattle.blocks.specs.StoreValue.{Cached, layout_of, blocks_of, FitsBook}
+use Rattle.blocks.specs.Opening.{StandsForOpening, OpensOn, IsCauseFor}
+use Rattle.blocks.specs.Started.{IsStartCause}
+use Rattle.blocks.proofs.BookTurns.{stands_as, apply_same}
+
+-- ---- what an image stands for
+
+-- writes to arrays with the same block leave the same there
+after_same : (writes : List Write) (a c : Array) (b : ℕ) → a b ≡ c b → after a writes b ≡ after c writes b
+after_same [] a c b e = e
+after_same (w ∷ writes) a c b e = after_same writes (apply a w) (apply c w) b (apply_same w a c b e)
+
+may_find_ours : (size : ℕ) (book : Book) (image : Image) → MayFind size book image → IsOursForSome size image
+may_find_ours size book image m = (m.stands.0, after_first m.count book, m.next, m.stands.2)
+
+-- what may be found of a book is ours
+pub found_ours : (size : ℕ) (book : Book) (write : Option Write) (image : Image) → FoundWith size book write image
+    → IsOursForSome size image
+found_ours size book None image m = may_find_ours size book image m
+found_ours size book (Some w) image m = ⊎_elim (may_find_ours size book image) (may_find_ours size (with_write book w) image) m
+
+-- every image that a cut may leave is ours, where the book says so
+pub each_ours : (m : State) (book : Book) → OpensOn m book → book.ours ≡ true → EachCut (IsOursForSome m.size) m
+each_ours m book on is_ours image cut =
+    let (blocks, array, next, is) = on.ours is_ours image cut in (is.0, array, next, is.2)
+
+-- an image that is ours, and stands for the opening of a book, is ours for it
+pub ours_for_opening : (size : ℕ) (book : Book) (image : Image) → StandsForOpening size book image → IsOursForSome size image
+    → StandsAs size book.blocks image book.opening book.stamp
+ours_for_opening size book image there is =
+    let one = StandsFor-one size size is.0 there.0 image is.1 book.opening is.2 book.stamp is.3.stands there.2 in
+    let blocks_same : is.0.blocks ≡ book.blocks = ap (λ (x : Shape). x.blocks) one.0 ∙ there.1 in
+    let arrays : Same book.blocks is.1 book.opening = subst (λ (n : ℕ). Same n is.1 book.opening) blocks_same one.2 in
+    subst (λ (t : ℕ). StandsAs size book.blocks image book.opening t) one.1
+    (stands_as size book.blocks is.0 image is.1 book.opening is.2 blocks_same arrays is.3)
+
+-- it stands for the opening of each book for which it is ours, and so for something
+pub stands_for_opening : (size : ℕ) (book : Book) (image : Image) → StandsAs size book.blocks image book.opening book.stamp
+    → StandsForOpening size book image
+stands_for_opening size book image is = (is.0, is.1, is.2.stands)
+
+pub stands_for_some : (size : ℕ) (book : Book) (image : Image) → StandsForOpening size book image → Stands size image
+stands_for_some size book image there = (there.0, book.opening, book.stamp, there.2)
+
+-- ---- a start that is good
+
+-- what fits a book fits one that opened with the same blocks
+reopened : (m : State) (s : Cached) (book : Book) (c : Array) → Same book.blocks book.opening c → FitsBook m s book
+    → FitsBook m s (record book { opening = c })
+reopened m s book c same f = record {
+  view = f.view;
+  holds = f.holds;
+  under_way = f.under_way;
+  some = f.some;
+  blocks = f.blocks;
+  floor_count = f.floor_count;
+  middle_count = f.middle_count;
+  promises = f.promises;
+  rises = f.rises;
+  accepted = f.accepted;
+  floor = λ b below. f.floor b below ∙ after_same (take f.floor_count book.writes) book.opening c b (same b below);
+  middle = λ b below. f.middle b below ∙ after_same (take f.middle_count book.writes) book.opening c b (same b below);
+  now = λ b below. f.now b below ∙ after_same book.writes book.opening c b (same b below);
+  stamps = f.stamps;
+  ours = f.ours;
+}
+
+-- a store that serves what the contents stood for fits each book with which a life may open over them
+pub serves : (before after : State) (s : Cached) (array : Array) (next : ℕ) → StandsFor before.size (layout_of s) before.content array next
+    → ((ours : Bool) → (ours ≡ true → EachCut (IsOursForSome before.size) before) → FitsBook after s (opened (blocks_of s) array next ours))
+    → (book : Book) → OpensOn before book → FitsBook after s book
+serves before after s array next stood fits book on =
+    let one = StandsFor-one before.size before.size (layout_of s) on.stands.0 before.content array book.opening next book.stamp stood
+    on.stands.2 in
+    let f : FitsBook after s (opened (blocks_of s) book.opening next book.ours) =
+    reopened after s (opened (blocks_of s) array next book.ours) book.opening one.2 (fits book.ours (each_ours before book on)) in
+    subst (FitsBook after s) (sym on.opens)
+    (subst (λ (n : ℕ). FitsBook after s (opened n book.opening book.stamp book.ours)) (ap (λ (x : Shape). x.blocks) one.0 ∙ on.stands.1)
+    (subst (λ (t : ℕ). FitsBook after s (opened (blocks_of s) book.opening t book.ours)) one.1 f))
+
+-- contents that stand for something open a book that claims no more
+pub opens_on : (m : State) (shape : Shape) (array : Array) (next : ℕ) → StandsFor m.size shape m.content array next
+    → OpensOn m (opened shape.blocks array next false)
+opens_on m shape array next stood = record {
+  opens = refl;
+  stands = (shape, refl, stood);
+  ours = λ ours. absurd (false≢true ours);
+}
+
+-- ---- what a start leaves
+
+module _ (before after : State) (sound : IsSound after) (size_stays : after.size ≡ before.size) (book : Book) (on : OpensOn before book)
+    (flushed : IsFlushed before) where
+  -- an image that is ours for the blocks of the book, with its stamp or the next
+  may_find_by : (image : Image) (next : ℕ) (shape : Shape) (found : Array) → shape.blocks ≡ book.blocks
+      → ((x : ℕ) → x < book.blocks → book.opening x ≡ found x) → next ≤ book.stamp + 1 → IsOurs before.size shape image found next
+      → MayFind before.size (opened book.blocks book.opening book.stamp book.ours) image
+  may_find_by image next shape found same blocks_same bound is_ours = record {
+    count = 0;
+    next = next;
+    promises = omega arith;
+    accepted = omega arith;
+    stands = stands_as before.size book.blocks shape image found book.opening next same (λ b below. sym (blocks_same b below)) is_ours;
+    bound = omega (arith, bound);
+  }
+
+  -- where nothing was unflushed, a cut leaves what may be found of a book that opens
+  pub finds : LeavesOnly (StandsForOneOf before) before after → EachCut (MayFind after.size book) after
+  finds cuts image cut =
+      let one = at_exit (StandsForOneOf before) before after sound cuts image cut in
+      let was : IsOurs before.size one.shape before.content one.array one.next =
+      subst (λ (i : Image). IsOurs before.size one.shape i one.array one.next)
+      (only_image before.content before.may_leave flushed one.before one.allowed) one.was in
+      let same = StandsFor-one before.size before.size on.stands.0 one.shape before.content book.opening one.array book.stamp one.next
+      on.stands.2 was.stands in
+      let blocks_same : one.shape.blocks ≡ book.blocks = sym (ap (λ (x : Shape). x.blocks) same.0) ∙ on.stands.1 in
+      let arrays : Same book.blocks book.opening one.array = subst (λ (n : ℕ). Same n book.opening one.array) on.stands.1 same.2 in
+      let stamps : book.stamp ≡ one.next = same.1 in
+      subst (λ (n : ℕ). MayFind n book image) (sym size_stays)
+      (subst (λ (b : Book). MayFind before.size b image) (sym on.opens)
+      (⊎_elim
+      (λ is. may_find_by image one.next one.shape one.array blocks_same arrays (omega (arith, stamps)) is)
+      (λ is. may_find_by image (one.next + 1) one.shape one.array blocks_same arrays (omega (arith, stamps)) is)
+      one.is))
+
+-- ---- why a start is refused
+
+module _ (before after : State) (book : Book) (on : OpensOn before book) where
+  no_fault : (fault : image.ImageFault) → image.HasFault before.size before.content fault → ⊥
+  no_fault fault h =
+      HasFault-stands before.size before.content fault h (on.stands.0, book.opening, book.stamp, on.stands.2)
+
+  used_up : image.HasNoStampLeft before.size before.content → 2 ^ 63 ≤ book.stamp
+  used_up (shape, array, next, stood, past) =
+      let same =
+      StandsFor-one before.size before.size shape on.stands.0 before.content array book.opening next book.stamp stood on.stands.2 in
+      let stamps : next ≡ book.stamp = same.1 in
+      omega (arith, stamps, past)
+
+  -- what is not want of memory is a cause of the recovery
+  cause_of : {A : Type 0} (fault : StartFault) → (IsCause before after fault → A) → (fault ≡ NoMemory → A) → IsStartCause before after fault
+      → A
+  cause_of fault recovery memory cause = ⊎_elim recovery (λ e. memory e.0) cause
+
+  -- contents that stand for a book have no fault but that their stamps may be used up
+  pub is_cause_for : (fault : StartFault) → IsStartCause before after fault → IsCauseFor book before after fault
+  is_cause_for NoMemory h = tt
+  is_cause_for Read h = cause_of Read (λ c. c) (λ e. absurd (cc e)) h
+  is_cause_for WriteFault h = cause_of WriteFault (λ c. c) (λ e. absurd (cc e)) h
+  is_cause_for Flush h = cause_of Flush (λ c. c) (λ e. absurd (cc e)) h
+  is_cause_for BadSuper h = cause_of BadSuper (λ c. no_fault image.BadSuper c.0) (λ e. absurd (cc e)) h
+  is_cause_for BadVersion h = cause_of BadVersion (λ c. no_fault image.BadVersion c.0) (λ e. absurd (cc e)) h
+  is_cause_for BadSize h = cause_of BadSize (λ c. no_fault image.BadSize c.0) (λ e. absurd (cc e)) h
+  is_cause_for BadHead h = cause_of BadHead (λ c. no_fault image.BadHead c.0) (λ e. absurd (cc e)) h
+  is_cause_for StampsUsedUp h = cause_of StampsUsedUp (λ c. used_up c.0) (λ e. absurd (cc e)) h
+  is_cause_for LogTooSmall h = cause_of LogTooSmall (λ c. c) (λ e. absurd (cc e)) h

@@ -1,0 +1,358 @@
+-- What happens in a life: an event comes, the power is cut.
+use Rattle.std.specs.Prelude.{if◌then◌else◌}
+use Rattle.std.proofs.Common.{◌≡◌, ◌<◌, ◌≤◌, ℕ, ◌+◌, Bool, true, false, nat_lt, ltb-true, List, [], ◌∷◌, None, refl, sym, subst, ◌∙◌, ap}
+use Rattle.std.proofs.Common.{arith, inl, inr}
+use Rattle.std.proofs.lemmas.Bool.{cases_Bool, false≢true}
+use Rattle.std.proofs.lemmas.List.{append-nil}
+use Rattle.medium.specs.Medium.{State, Image, CutLeaves}
+use Rattle.medium.specs.Moments.{EachCut, IsFlushed}
+use Rattle.medium.specs.Tally.{of_all}
+use Rattle.medium.specs.Sim.{Sim, state_of, IsCut, ComesAfter}
+use Rattle.medium.specs.SimLaws.{is_sound}
+use Rattle.medium.specs.declared.power.Power.{Power}
+use Rattle.medium.proofs.Moments.{at_exit, only_image}
+use Rattle.medium.proofs.KeptBlocks.{none_flushed}
+use Rattle.bot_machine.specs.Device.{presented, Device}
+use Rattle.scsi_unit.specs.Starting.{StandsForOpening}
+use Rattle.spec.specs.Book.{Book}
+use Rattle.scsi_unit.specs.Books.{MayFind, FoundWith, StandsAs}
+use Rattle.spec.specs.declared.event.Event.{Event}
+use Rattle.spec.specs.declared.event.Answer.{Answer}
+use Rattle.spec.specs.declared.event.Answer.TheVariants.{Off}
+use Rattle.bot_machine.specs.declared.stage.Stage.{Stage}
+use Rattle.bot_machine.specs.declared.stage.Stage.TheVariants.{Rests, Runs}
+use Rattle.spec.specs.Conversation.{Conversation, refused_events}
+use Rattle.spec.specs.UnitConversation.{write_of_event, UnitStep}
+use Rattle.bot_machine.specs.Disk.{DiskValue, over, FitsDisk, IsStep}
+use Rattle.spec.specs.Rules.{UnitState}
+use Rattle.scsi_unit.specs.UnitValue.{unit_limit}
+use Rattle.bot_machine.proofs.UnitLaws.{limit_between_calls}
+use Rattle.spec.specs.Lives.{Action, plays, cuts, Remains, Place, before_first, between, runs, off, Standing, after_cut, LivesStep}
+use Rattle.spec.specs.Lives.{LivesRun}
+use Rattle.spec.specs.Blocks.{Array}
+use Rattle.bot_machine.specs.Moving.{Does, EventMovesIn, EventMoves}
+use Rattle.bot_machine.proofs.Moved.{one_move, none_refused, some_refused}
+use Rattle.bot_machine.specs.LivesValue.{LivesValue, medium_in, state_in, IsAtRest, OpensOn, HasLimit, IsAt, LimitAt, LeavesLimit, book_at}
+use Rattle.bot_machine.specs.LivesValue.{FoundAt, FitsLives, LivesGoTo, LivesGoOn}
+
+-- one action is a run
+pub one_run : (device : Device) (refused : Bool) (old new : Standing) (action : Action) (answers : List Answer)
+    → LivesStep (presented device) refused old action answers new → LivesRun (presented device) old (action ∷ []) answers (refused ∷ []) new
+one_run device refused old new action answers step = (new, answers, [], sym (append-nil answers), step, (refl, refl))
+
+-- one action with a refused call is counted
+pub one_counted : (refused : Bool) (before after : ℕ) → (refused ≡ true → before < after) → before ≤ after
+    → refused_events (refused ∷ []) + before ≤ after
+one_counted true before after grew stays = let h = grew refl in omega (arith, h)
+one_counted false before after grew stays = omega (arith, stays)
+
+-- a medium whose power is on is not one whose power is off
+pub on_or_off : {A : Type 0} (b : Bool) → b ≡ false → b ≡ true → A
+on_or_off b on is_off = absurd (false≢true (sym on ∙ is_off))
+
+-- where the power is on, it was on before
+pub on_before : (before after : Sim) → ComesAfter before after → after.power.off ≡ false → before.power.off ≡ false
+on_before before after follows on = elim (cases_Bool before.power.off) [
+  | inl gone ↦ on_or_off after.power.off on (follows.off_stays gone)
+  | inr still ↦ still
+]
+
+-- power goes only where a fuse was armed
+pub armed_then : (here : Standing) (before after : Sim) → ComesAfter before after → (here.armed ≡ false → before.power.fuse ≡ None)
+    → before.power.off ≡ false → after.power.off ≡ true → here.armed ≡ true
+armed_then here before after follows unfused on is_off =
+    by_cases here.armed unfused
+  where
+    by_cases : (armed : Bool) → (armed ≡ false → before.power.fuse ≡ None) → armed ≡ true
+    by_cases true unfused = refl
+    by_cases false unfused = absurd ((follows.goes_off on is_off).0 (unfused refl))
+
+module _ (device : Device) where
+  -- lives of this disk
+  abbrev pub lives_at : Stage → LivesValue
+  lives_at stage = record { device = device; stage = stage }
+
+  -- nothing happens to a disk, or to a medium without one
+  pub stays : (stage : Stage) (action : Action) (answers : List Answer) → Does device stage action answers stage
+      → ((here : Standing) → FitsLives (lives_at stage) here → LivesStep (presented device) false here action answers here)
+      → LivesGoOn (lives_at stage) (action ∷ []) answers (lives_at stage)
+  stays stage action answers does step = record {
+    refusals = false ∷ [];
+    moves = one_move device false stage stage action answers does (none_refused (state_in stage) (state_in stage) refl);
+    refused = omega arith;
+    goes = λ here fits. record {
+      there = here;
+      run = one_run device false here here action answers (step here fits);
+      fits = fits;
+      ours = refl;
+      limit_stays = λ ours. refl;
+    };
+    size_stays = refl;
+    device_stays = refl;
+  }
+
+  -- ---- a cut
+
+  module _ (keep : ℕ → Bool) (old new : Sim) (cut : IsCut keep old new)
+      (allowed : CutLeaves (state_of old).may_leave (state_of new).content) (flushed : IsFlushed (state_of new))
+      (size : (state_of new).size ≡ (state_of old).size) where
+    -- what a cut leaves afterwards, it could have left before
+    left_before : (P : Image → Type 0) → EachCut P (state_of old) → EachCut P (state_of new)
+    left_before P each image left =
+        subst P (sym (only_image (state_of new).content (state_of new).may_leave flushed image left)) (each (state_of new).content allowed)
+
+    at_rest : IsAtRest new
+    at_rest = record { on = ap (λ (p : Power). p.off) cut.power_on; flushed = cut.none }
+
+    -- contents that are flushed stay
+    content_stays : old.unflushed ≡ [] → (state_of new).content ≡ (state_of old).content
+    content_stays none = only_image (state_of old).content (state_of old).may_leave (none_flushed old none) (state_of new).content allowed
+
+    abbrev IsAllowed : ℕ → Image → Type 0
+    IsAllowed n image = (blocks : ℕ) × (array : Array) × (next : ℕ) × StandsAs n blocks image array next
+
+    opens_still : (book : Book) → old.unflushed ≡ [] → OpensOn (state_of old) book → OpensOn (state_of new) book
+    opens_still book none h = record {
+      opens = h.opens;
+      stands = subst (λ (n : ℕ). StandsForOpening n book (state_of new).content) (sym size)
+          (subst (StandsForOpening (state_of old).size book) (sym (content_stays none)) h.stands);
+      ours = λ ours. subst (λ (n : ℕ). EachCut (IsAllowed n) (state_of new)) (sym size)
+          (left_before (IsAllowed (state_of old).size) (h.ours ours));
+    }
+
+    cut_place : (stage : Stage) (place : Place) → medium_in stage ≡ old → IsAt place stage → IsAt (after_cut place) (Rests new)
+    cut_place (Rests m) (before_first book) e h = (
+      at_rest,
+      opens_still book (subst (λ (x : Sim). x.unflushed ≡ []) e h.0.flushed) (subst (λ (x : Sim). OpensOn (state_of x) book) e h.1),
+    )
+    cut_place (Runs disk) (before_first book) e h = absurd h
+    cut_place stage (between remains) e h = at_rest
+    cut_place stage (runs conversation) e h = at_rest
+    cut_place stage (off remains) e h = at_rest
+
+    cut_found : (place : Place) (n : ℕ) → n ≡ (state_of old).size
+        → ((book_at place).ours ≡ true → EachCut (FoundAt (state_of old).size place) (state_of old))
+        → (book_at (after_cut place)).ours ≡ true → EachCut (FoundAt n (after_cut place)) (state_of new)
+    cut_found (before_first book) n e h ours =
+        subst (λ (k : ℕ). EachCut (FoundAt k (before_first book)) (state_of new)) (sym e)
+        (left_before (FoundAt (state_of old).size (before_first book)) (h ours))
+    cut_found (between remains) n e h ours =
+        subst (λ (k : ℕ). EachCut (FoundAt k (between remains)) (state_of new)) (sym e)
+        (left_before (FoundAt (state_of old).size (between remains)) (h ours))
+    cut_found (runs conversation) n e h ours =
+        subst (λ (k : ℕ). EachCut (MayFind k conversation.unit.book) (state_of new)) (sym e)
+        (left_before (MayFind (state_of old).size conversation.unit.book) (h ours))
+    cut_found (off remains) n e h ours =
+        subst (λ (k : ℕ). EachCut (FoundAt k (off remains)) (state_of new)) (sym e)
+        (left_before (FoundAt (state_of old).size (off remains)) (h ours))
+
+    cut_limit_at : (stage : Stage) (place : Place) (limit : ℕ) → medium_in stage ≡ old → IsAt place stage → LimitAt place limit stage
+        → LimitAt (after_cut place) limit (Rests new)
+    cut_limit_at (Rests m) (before_first book) limit e at h =
+        subst (λ (n : ℕ). HasLimit n limit (state_of new).content) (sym size)
+        (subst (HasLimit (state_of old).size limit) (sym (content_stays (subst (λ (x : Sim). x.unflushed ≡ []) e at.0.flushed)))
+        (subst (λ (x : Sim). HasLimit (state_of x).size limit (state_of x).content) e h))
+    cut_limit_at (Runs disk) (before_first book) limit e at h = absurd at
+    cut_limit_at stage (between remains) limit e at h = tt
+    cut_limit_at stage (runs conversation) limit e at h = tt
+    cut_limit_at stage (off remains) limit e at h = tt
+
+    cut_limited : (stage : Stage) (limit : ℕ) → medium_in stage ≡ old → LeavesLimit limit stage → LeavesLimit limit (Rests new)
+    cut_limited stage limit e h =
+        subst (λ (n : ℕ). EachCut (HasLimit n limit) (state_of new)) (sym size)
+        (left_before (HasLimit (state_of old).size limit)
+        (subst (λ (x : Sim). EachCut (HasLimit (state_of x).size limit) (state_of x)) e h))
+
+    book_after_cut : (place : Place) → (book_at (after_cut place)).ours ≡ (book_at place).ours
+    book_after_cut (before_first book) = refl
+    book_after_cut (between remains) = refl
+    book_after_cut (runs conversation) = refl
+    book_after_cut (off remains) = refl
+
+    pub is_cut : (stage : Stage) → medium_in stage ≡ old → LivesGoOn (lives_at stage) (cuts keep ∷ []) [] (lives_at (Rests new))
+    is_cut stage e = record {
+      refusals = false ∷ [];
+      moves = one_move device false stage (Rests new) (cuts keep) [] (refl, subst (λ (x : Sim). IsCut keep x new) (sym e) cut)
+          (none_refused (state_in stage) (state_of new) (ap of_all cut.refused_stay ∙ sym (ap (λ (x : Sim). of_all x.refused) e)));
+      refused = let f = ap (λ (x : Sim). of_all x.refused) e in let g = ap of_all cut.refused_stay in omega (arith, f, g);
+      goes = λ here fits. record {
+        there = record here { place = after_cut here.place; armed = false };
+        run = one_run device false here (record here { place = after_cut here.place; armed = false }) (cuts keep) [] (refl, refl);
+        fits = record {
+          is_at = cut_place stage here.place e fits.is_at;
+          limit_at = cut_limit_at stage here.place here.limit e fits.is_at fits.limit_at;
+          limited = λ ours. cut_limited stage here.limit e (fits.limited (sym (book_after_cut here.place) ∙ ours));
+          found = cut_found here.place (state_of new).size size
+              (subst (λ (x : Sim). (book_at here.place).ours ≡ true → EachCut (FoundAt (state_of x).size here.place) (state_of x)) e
+              fits.found);
+          unfused = λ unarmed. ap (λ (p : Power). p.fuse) cut.power_on;
+        };
+        ours = book_after_cut here.place;
+        limit_stays = λ ours. refl;
+      };
+      size_stays = size ∙ sym (ap (λ (x : Sim). (state_of x).size) e);
+      device_stays = refl;
+    }
+
+  -- ---- an event
+
+  module _ (old new : DiskValue Sim) (event : Event) (answer : Answer)
+      (step : IsStep (state_of old.unit.store.medium) (state_of new.unit.store.medium) old event answer new)
+      (follows : ComesAfter old.unit.store.medium new.unit.store.medium)
+      (on : old.unit.store.medium.power.off ≡ false) where
+    abbrev before : State
+    before = state_of old.unit.store.medium
+
+    abbrev after : State
+    after = state_of new.unit.store.medium
+
+    abbrev grew : Bool
+    grew = nat_lt before.failures after.failures
+
+    -- the event itself, which gives its answer where the power is still on
+    played : (given : Answer) → given ≡ (if new.unit.store.medium.power.off then Off else answer)
+        → EventMoves (Runs old) event given (Runs new)
+    played given answered = subst (λ (b : Bool). EventMovesIn b old event given (Runs new)) (sym on)
+        (new, refl, record { told = answer; step = step; follows = follows; answered = answered })
+
+    -- the limit of the unit is what it was, and what a cut leaves has it
+    same_limit : (conversation : Conversation UnitState) (limit : ℕ) → conversation ≡ over old conversation.unit.book
+        → limit ≡ conversation.unit.limit → limit ≡ unit_limit new.unit
+    same_limit conversation limit says is = is ∙ ap (λ (x : Conversation UnitState). x.unit.limit) says ∙ sym step.limit_stays
+
+    limited_after : (limit : ℕ) (later : Book) → FitsDisk after new later → later.ours ≡ true → limit ≡ unit_limit new.unit
+        → EachCut (HasLimit after.size limit) after
+    limited_after limit later fits ours is =
+        subst (λ (n : ℕ). EachCut (HasLimit after.size n) after) (sym is) (limit_between_calls after new.unit later fits ours)
+
+    module _ (still : new.unit.store.medium.power.off ≡ false) where
+      ends_at : (place : Place) (armed : Bool) (limit : ℕ)
+          → FitsLives (lives_at (Runs old)) (record { place = place; armed = armed; limit = limit })
+          → LivesGoTo (lives_at (Runs new)) (record { place = place; armed = armed; limit = limit }) (plays event ∷ []) (answer ∷ [])
+          (grew ∷ [])
+      ends_at (before_first book) armed limit fits = absurd fits.is_at
+      ends_at (between remains) armed limit fits = absurd fits.is_at
+      ends_at (runs conversation) armed limit fits =
+          let p = step.proceeds conversation.unit.book fits.is_at.fits in
+          let there : Standing = record { place = runs (over new p.later); armed = armed; limit = limit } in
+          let same : limit ≡ unit_limit new.unit = same_limit conversation limit fits.is_at.says fits.limit_at in
+          let moves : UnitStep grew conversation event answer (over new p.later) =
+          subst (λ (x : Conversation UnitState). UnitStep grew x event answer (over new p.later)) (sym fits.is_at.says) p.moves in
+          record {
+            there = there;
+            run = one_run device grew (record { place = runs conversation; armed = armed; limit = limit }) there (plays event) (answer ∷ [])
+                (answer, refl, inl (record { later = over new p.later; step = moves; after = refl }));
+            fits = record {
+              is_at = record { on = still; says = refl; fits = p.fits };
+              limit_at = same;
+              limited = λ ours. limited_after limit p.later p.fits ours same;
+              found = λ ours. p.at_exit (sym p.ours ∙ ours);
+              unfused = λ e. follows.no_fuse_stays (fits.unfused e);
+            };
+            ours = p.ours;
+            limit_stays = λ ours. refl;
+          }
+      ends_at (off remains) armed limit fits = on_or_off old.unit.store.medium.power.off on fits.is_at
+
+      -- the power is on afterwards
+      pub event_ends : LivesGoOn (lives_at (Runs old)) (plays event ∷ []) (answer ∷ []) (lives_at (Runs new))
+      event_ends = record {
+        refusals = grew ∷ [];
+        moves = one_move device grew (Runs old) (Runs new) (plays event) (answer ∷ [])
+            (answer, refl, played answer (ap (λ (b : Bool). if b then Off else answer) (sym still))) refl;
+        refused = one_counted grew before.failures after.failures (ltb-true before.failures after.failures) step.elapses.failures_stay;
+        goes = λ here fits. ends_at here.place here.armed here.limit fits;
+        size_stays = step.elapses.size_stays;
+        device_stays = refl;
+      }
+
+    module _ (is_off : new.unit.store.medium.power.off ≡ true) where
+      cut_at : (place : Place) (armed : Bool) (limit : ℕ)
+          → FitsLives (lives_at (Runs old)) (record { place = place; armed = armed; limit = limit })
+          → LivesGoTo (lives_at (Runs new)) (record { place = place; armed = armed; limit = limit }) (plays event ∷ []) (Off ∷ [])
+          (grew ∷ [])
+      cut_at (before_first book) armed limit fits = absurd fits.is_at
+      cut_at (between remains) armed limit fits = absurd fits.is_at
+      cut_at (runs conversation) armed limit fits =
+          let book = conversation.unit.book in
+          let p = step.proceeds book fits.is_at.fits in
+          let remains : Remains = record { book = book; in_progress = write_of_event conversation event } in
+          let here : Standing = record { place = runs conversation; armed = armed; limit = limit } in
+          let there : Standing = record { place = off remains; armed = armed; limit = limit } in
+          record {
+            there = there;
+            run = one_run device grew here there (plays event) (Off ∷ []) (
+              Off,
+              refl,
+              inr (record {
+                answered = refl;
+                goes = record {
+                  fused = armed_then here old.unit.store.medium new.unit.store.medium follows fits.unfused on is_off;
+                  cause = some_refused before after (follows.goes_off on is_off).1;
+                  after = refl;
+                };
+              }),
+            );
+            fits = record {
+              is_at = is_off;
+              limit_at = tt;
+              limited = λ ours.
+                  limited_after limit p.later p.fits (p.ours ∙ ours) (same_limit conversation limit fits.is_at.says fits.limit_at);
+              found = λ ours. subst (λ (n : ℕ). EachCut (FoundWith n book remains.in_progress) after) (sym step.elapses.size_stays)
+                  (subst (λ (x : Conversation UnitState). EachCut (FoundWith before.size book (write_of_event x event)) after)
+                  (sym fits.is_at.says)
+                  (at_exit (FoundWith before.size book (write_of_event (over old book) event)) before after
+                  (is_sound new.unit.store.medium) (p.cuts ours)));
+              unfused = λ e. follows.no_fuse_stays (fits.unfused e);
+            };
+            ours = refl;
+            limit_stays = λ ours. refl;
+          }
+      cut_at (off remains) armed limit fits = on_or_off old.unit.store.medium.power.off on fits.is_at
+
+      -- power went in it
+      pub event_is_cut : LivesGoOn (lives_at (Runs old)) (plays event ∷ []) (Off ∷ []) (lives_at (Runs new))
+      event_is_cut = record {
+        refusals = grew ∷ [];
+        moves = one_move device grew (Runs old) (Runs new) (plays event) (Off ∷ [])
+            (Off, refl, played Off (ap (λ (b : Bool). if b then Off else answer) (sym is_off))) refl;
+        refused = one_counted grew before.failures after.failures (ltb-true before.failures after.failures) step.elapses.failures_stay;
+        goes = λ here fits. cut_at here.place here.armed here.limit fits;
+        size_stays = step.elapses.size_stays;
+        device_stays = refl;
+      }
+
+  -- power is off already
+  off_at_rest : (m : Sim) (event : Event) → m.power.off ≡ true → (place : Place) (armed : Bool) (limit : ℕ)
+      → FitsLives (lives_at (Rests m)) (record { place = place; armed = armed; limit = limit })
+      → LivesStep (presented device) false (record { place = place; armed = armed; limit = limit }) (plays event) (Off ∷ [])
+      (record { place = place; armed = armed; limit = limit })
+  off_at_rest m event is_off (before_first book) armed limit fits = on_or_off m.power.off fits.is_at.0.on is_off
+  off_at_rest m event is_off (between remains) armed limit fits = on_or_off m.power.off fits.is_at.on is_off
+  off_at_rest m event is_off (runs conversation) armed limit fits = absurd fits.is_at
+  off_at_rest m event is_off (off remains) armed limit fits = (Off, refl, (refl, refl))
+
+  off_running : (disk : DiskValue Sim) (event : Event) → disk.unit.store.medium.power.off ≡ true
+      → (place : Place) (armed : Bool) (limit : ℕ)
+      → FitsLives (lives_at (Runs disk)) (record { place = place; armed = armed; limit = limit })
+      → LivesStep (presented device) false (record { place = place; armed = armed; limit = limit }) (plays event) (Off ∷ [])
+      (record { place = place; armed = armed; limit = limit })
+  off_running disk event is_off (before_first book) armed limit fits = absurd fits.is_at
+  off_running disk event is_off (between remains) armed limit fits = absurd fits.is_at
+  off_running disk event is_off (runs conversation) armed limit fits = on_or_off disk.unit.store.medium.power.off fits.is_at.on is_off
+  off_running disk event is_off (off remains) armed limit fits = (Off, refl, (refl, refl))
+
+  -- an event that comes to a medium without power
+  pub event_at_rest : (m : Sim) (event : Event) → m.power.off ≡ true
+      → LivesGoOn (lives_at (Rests m)) (plays event ∷ []) (Off ∷ []) (lives_at (Rests m))
+  event_at_rest m event is_off =
+      stays (Rests m) (plays event) (Off ∷ []) (Off, refl, (refl, refl))
+      (λ here fits. off_at_rest m event is_off here.place here.armed here.limit fits)
+
+  -- an event that comes to a disk without power
+  pub event_off : (disk : DiskValue Sim) (event : Event) → disk.unit.store.medium.power.off ≡ true
+      → LivesGoOn (lives_at (Runs disk)) (plays event ∷ []) (Off ∷ []) (lives_at (Runs disk))
+  event_off disk event is_off =
+      stays (Runs disk) (plays event) (Off ∷ [])
+      (Off, refl, subst (λ (b : Bool). EventMovesIn b disk event Off (Runs disk)) (sym is_off) (refl, refl))
+      (λ here fits. off_running disk event is_off here.place here.armed here.limit fits)

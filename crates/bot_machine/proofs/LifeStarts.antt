@@ -1,0 +1,192 @@
+-- How a life begins: what the medium was left with is what the life opens with.
+use Rattle.std.proofs.Common.{◌≡◌, ℕ, true, false, [], Some, None, Option, refl, sym, subst, ◌∙◌, ap, inl, inr}
+use Rattle.std.proofs.lemmas.Bool.{false≢true, cases_Bool}
+use Rattle.spec.specs.Blocks.{Write, Array}
+use Rattle.medium.specs.Medium.{State, Image}
+use Rattle.medium.specs.Moments.{EachCut}
+use Rattle.medium.specs.Sim.{Sim, state_of}
+use Rattle.medium.specs.SimLaws.{is_sound}
+use Rattle.medium.proofs.Moments.{only_image, content_has}
+use Rattle.medium.proofs.KeptBlocks.{none_flushed}
+use Rattle.spec.specs.Book.{Book, after_first, opened, with_write}
+use Rattle.scsi_unit.specs.Books.{StandsAs, FoundWith}
+use Rattle.bot_machine.specs.Device.{Device}
+use Rattle.scsi_unit.specs.Starting.{IsOursForSome, StandsForOpening, OpensOn, blocks_of}
+use Rattle.bot_machine.specs.Disk.{DiskValue, FitsDisk}
+use Rattle.bot_machine.specs.Opening.{IsOpened}
+use Rattle.spec.specs.Lives.{Remains, Place, before_first, between, IsLeft, Opens}
+use Rattle.bot_machine.specs.LivesValue.{HasLimit, book_at, LeavesLimit, FoundAt}
+use Rattle.bot_machine.specs.declared.stage.Stage.TheVariants.{Rests}
+use Rattle.bot_machine.proofs.UnitLaws.{knows_images}
+
+-- ---- what a life has left
+
+-- the book with which the next life opens over this image
+record LeavesBook (size : ℕ) (remains : Remains) (image : Image) : Type 0 where
+  next : Book
+  is : next ≡ opened next.blocks next.opening next.stamp true
+  left : IsLeft remains next
+  stands : StandsAs size next.blocks image next.opening next.stamp
+
+leaves_book : (size : ℕ) (book : Book) (write : Option Write) (image : Image) → FoundWith size book write image
+    → LeavesBook size (record { book = book; in_progress = write }) image
+leaves_book size book None image m = record {
+  next = opened book.blocks (after_first m.count book) m.next true;
+  is = refl;
+  left = record {
+    book = book;
+    accepts = inl refl;
+    count = m.count;
+    promises = m.promises;
+    accepted = m.accepted;
+    blocks = refl;
+    opening = refl;
+    stamp = m.bound;
+  };
+  stands = m.stands;
+}
+leaves_book size book (Some w) image (inl m) = record {
+  next = opened book.blocks (after_first m.count book) m.next true;
+  is = refl;
+  left = record {
+    book = book;
+    accepts = inl refl;
+    count = m.count;
+    promises = m.promises;
+    accepted = m.accepted;
+    blocks = refl;
+    opening = refl;
+    stamp = m.bound;
+  };
+  stands = m.stands;
+}
+leaves_book size book (Some w) image (inr m) = record {
+  next = opened book.blocks (after_first m.count (with_write book w)) m.next true;
+  is = refl;
+  left = record {
+    book = with_write book w;
+    accepts = inr refl;
+    count = m.count;
+    promises = m.promises;
+    accepted = m.accepted;
+    blocks = refl;
+    opening = refl;
+    stamp = m.bound;
+  };
+  stands = m.stands;
+}
+
+-- an image that is ours in some shape is ours with some number of blocks, and the other way round
+pub with_shape : (size : ℕ) (image : Image)
+    → (blocks : ℕ) × (array : Array) × (next : ℕ) × StandsAs size blocks image array next
+    → IsOursForSome size image
+with_shape size image (blocks, array, next, (shape, same, is)) = (shape, array, next, is)
+
+with_blocks : (size : ℕ) (image : Image) → IsOursForSome size image
+    → (blocks : ℕ) × (array : Array) × (next : ℕ) × StandsAs size blocks image array next
+with_blocks size image (shape, array, next, is) = (shape.blocks, array, next, (shape, refl, is))
+
+-- where the contents stand for a book, and every image is ours, every image stands for it
+pub first_found : (m : Sim) (book : Book) → m.unflushed ≡ [] → OpensOn (state_of m) book → book.ours ≡ true
+    → EachCut (FoundAt (state_of m).size (before_first book)) (state_of m)
+first_found m book none h ours image cut =
+    let size = (state_of m).size in
+    let same : image ≡ (state_of m).content = only_image (state_of m).content (state_of m).may_leave (none_flushed m none) image cut in
+    knows_images.ours_for size book image (subst (StandsForOpening size book) (sym same) h.stands)
+    (with_shape size image (h.ours ours image cut))
+
+-- nothing is unflushed: what the contents have every image has
+pub first_limited : (m : Sim) (limit : ℕ) → m.unflushed ≡ [] → HasLimit (state_of m).size limit (state_of m).content
+    → LeavesLimit limit (Rests m)
+first_limited m limit none has image cut =
+    let same : image ≡ (state_of m).content = only_image (state_of m).content (state_of m).may_leave (none_flushed m none) image cut in
+    subst (HasLimit (state_of m).size limit) (sym same) has
+
+-- what a life has left is ours
+pub remains_ours : (m : State) (remains : Remains) → EachCut (FoundAt m.size (between remains)) m → EachCut (IsOursForSome m.size) m
+remains_ours m remains found image cut = knows_images.found_ours m.size remains.book remains.in_progress image (found image cut)
+
+-- the image that a life has left has the limit of the disk that starts on it
+pub next_limit : (m : Sim) (limit other : ℕ) → LeavesLimit limit (Rests m) → HasLimit (state_of m).size other (state_of m).content
+    → other ≡ limit
+next_limit m limit other leaves has =
+    knows_images.one_limit (state_of m).size other limit (state_of m).content has
+    (content_has (HasLimit (state_of m).size limit) (state_of m) (is_sound m) leaves)
+
+-- a book with which a life may open here; where it is ours the contents stand for it
+pub record WouldOpen (m : State) (place : Place) : Type 0 where
+  pub book : Book
+  pub opens : Opens place book
+  pub ours : book.ours ≡ (book_at place).ours
+  pub on : book.ours ≡ true → OpensOn m book
+
+pub first_opens : (m : State) (book : Book) → OpensOn m book → WouldOpen m (before_first book)
+first_opens m book h = record { book = book; opens = refl; ours = refl; on = λ ours. h }
+
+module _ (m : Sim) (remains : Remains) where
+  next_opens_ours : remains.book.ours ≡ true → EachCut (FoundAt (state_of m).size (between remains)) (state_of m)
+      → WouldOpen (state_of m) (between remains)
+  next_opens_ours ours found =
+      let l = leaves_book (state_of m).size remains.book remains.in_progress (state_of m).content
+      (content_has (FoundAt (state_of m).size (between remains)) (state_of m) (is_sound m) found) in
+      let is_ours : l.next.ours ≡ true = ap (λ (b : Book). b.ours) l.is in
+      record {
+        book = l.next;
+        opens = record { opens = l.is ∙ ap (opened l.next.blocks l.next.opening l.next.stamp) (sym ours); left = λ _. l.left };
+        ours = is_ours ∙ sym ours;
+        on = λ _. record {
+          opens = l.is ∙ ap (opened l.next.blocks l.next.opening l.next.stamp) (sym is_ours);
+          stands = knows_images.stands_for (state_of m).size l.next (state_of m).content l.stands;
+          ours = λ _ image cut. with_blocks (state_of m).size image (remains_ours (state_of m) remains found image cut);
+        };
+      }
+
+  next_opens_any : remains.book.ours ≡ false → (blocks : ℕ) (array : Array) (stamp : ℕ)
+      → Opens (between remains) (opened blocks array stamp false)
+  next_opens_any ours blocks array stamp = record {
+    opens = ap (opened blocks array stamp) (sym ours);
+    left = λ is_ours. absurd (false≢true (sym ours ∙ is_ours));
+  }
+
+  pub next_opens : (remains.book.ours ≡ true → EachCut (FoundAt (state_of m).size (between remains)) (state_of m))
+      → WouldOpen (state_of m) (between remains)
+  next_opens found = elim (cases_Bool remains.book.ours) [
+    | inl ours ↦ next_opens_ours ours (found ours)
+    | inr not ↦ record {
+      book = opened remains.book.blocks remains.book.opening remains.book.stamp false;
+      opens = next_opens_any not remains.book.blocks remains.book.opening remains.book.stamp;
+      ours = sym not;
+      on = λ is_ours. absurd (false≢true is_ours);
+    }
+  ]
+
+-- ---- a start that has a disk
+
+-- a book with which a life opens here, and which a disk fits then
+pub record HasOpened (after : State) (disk : DiskValue Sim) (place : Place) : Type 0 where
+  pub book : Book
+  pub opens : Opens place book
+  pub ours : book.ours ≡ (book_at place).ours
+  pub fits : FitsDisk after disk book
+
+module _ (m : Sim) (after : State) (device : Device) (disk : DiskValue Sim) (h : IsOpened (state_of m) after device disk) where
+  pub first_opened : (book : Book) → OpensOn (state_of m) book → HasOpened after disk (before_first book)
+  first_opened book on = record { book = book; opens = refl; ours = refl; fits = h.store.serves book on }
+
+  next_opened_ours : (remains : Remains) → remains.book.ours ≡ true → EachCut (FoundAt (state_of m).size (between remains)) (state_of m)
+      → HasOpened after disk (between remains)
+  next_opened_ours remains ours found =
+      let w = next_opens_ours m remains ours found in
+      record { book = w.book; opens = w.opens; ours = w.ours; fits = h.store.serves w.book (w.on (w.ours ∙ ours)) }
+
+  pub next_opened : (remains : Remains) → (remains.book.ours ≡ true → EachCut (FoundAt (state_of m).size (between remains)) (state_of m))
+      → HasOpened after disk (between remains)
+  next_opened remains found = elim (cases_Bool remains.book.ours) [
+    | inl ours ↦ next_opened_ours remains ours (found ours)
+    | inr not ↦ record {
+      book = opened (blocks_of disk.unit.store.cached) h.store.array h.store.next false;
+      opens = next_opens_any m remains not (blocks_of disk.unit.store.cached) h.store.array h.store.next;
+      ours = sym not;
+      fits = h.store.fits false (λ is_ours. absurd (false≢true is_ours));
+    }
+  ]

@@ -1,0 +1,299 @@
+-- What a packet to Bulk-Out does, by whether it is halted and by what is left of the exchange.
+use Rattle.std.proofs.Common.{◌≡◌, ◌⊎◌, ◌<◌, ℕ, Bool, true, false, if◌then◌else◌, inl, inr, List, [], ◌∷◌, slice_range, refl, sym, subst}
+use Rattle.std.proofs.Common.{ap, ◌∙◌, arith}
+use Rattle.std.specs.Prelude.{None, Some, Option, Result}
+use Rattle.spec.specs.declared.case.Endpoint.{Endpoint}
+use Rattle.spec.specs.declared.case.Endpoint.TheVariants as endpoint
+use Rattle.medium.specs.Medium.{State, IsSound}
+use Rattle.medium.proofs.SectorsRead.{no_looks, looks_wider}
+use Rattle.scsi_unit.specs.Background.{is_dead}
+use Rattle.scsi_unit.specs.Reading.{first_home_of}
+use Rattle.spec.specs.Sense.{Sense}
+use Rattle.spec.specs.Book.{Book}
+use Rattle.spec.specs.Rules.{CarriesOut, Ticks, Intention}
+use Rattle.scsi_unit.specs.Calls.{IsBounded}
+use Rattle.scsi_unit.specs.Serving.{has_refused, IsSparing, TicksOver}
+use Rattle.scsi_unit.specs.UnitValue.{UnitValue, unit_limit, state_of}
+use Rattle.spec.specs.declared.event.Event.{Event}
+use Rattle.spec.specs.declared.event.Event.TheVariants as event
+use Rattle.spec.specs.declared.event.Answer.{Answer}
+use Rattle.spec.specs.declared.event.Answer.TheVariants as answer
+use Rattle.bot_machine.specs.declared.bulk_state.Taking.{Taking}
+use Rattle.bot_machine.specs.declared.bulk_state.Phase.{Phase}
+use Rattle.bot_machine.specs.declared.bulk_state.Phase.TheVariants.{Command, DataOut, DataIn, Status}
+use Rattle.spec.specs.Requests.{Request, mass_storage_reset, get_max_lun, clear_halt, get_status}
+use Rattle.spec.specs.Exchange.{Script, finished, taking, sending, Line, laid_out, set_halt, in_answer, after_packet, after_in}
+use Rattle.spec.specs.Exchange.{after_request}
+use Rattle.spec.specs.Conversation.{OutStep, SetupStep}
+use Rattle.spec.specs.UnitConversation.{Intends, write_of_packet, on_line}
+use Rattle.bot_machine.specs.Acts.{PacketCarriesOut}
+use Rattle.bot_machine.specs.Disk.{DiskValue, FitsDisk, Proceeds, Tells, IsStep, Elapses, TakesFew}
+use Rattle.spec.specs.declared.intent.Intent.TheVariants as intent
+use Rattle.bot_machine.specs.Refinement.{taking_of, left_of, halt_of, IsInPhase, Invariant}
+use Rattle.spec.specs.Packets.{packets_of}
+use Rattle.bot_machine.specs.Reading.{LooksBesides, LooksIn, ReadsAt, WrapperReadsAt}
+use Rattle.bot_machine.specs.Serving.{BeginsOn, TakesOn, RestsOn, SparesOn}
+use Rattle.bot_machine.proofs.UnitLaws.{few_ticks}
+use Rattle.bot_machine.proofs.ReadAtOnce.{besides}
+use Rattle.bot_machine.proofs.UnitMoments.{staying, proceeding, proceeding_so}
+
+-- no call, no time
+pub no_time : (m : State) → Elapses m m
+no_time m = record { failures_stay = omega arith; size_stays = refl }
+
+pub no_calls : {M : Type 0} (m : State) (unit : UnitValue M) → TakesFew m m unit unit
+no_calls m unit =
+    record { calls = omega arith; sent = omega arith; layout_stays = refl; policy_stays = refl; faulted = λ dead. (refl, dead) }
+
+-- no read was made
+pub none_named : {M : Type 0} (m : State) (disk : DiskValue M) (happens : Event) → LooksIn m m disk happens
+none_named m disk happens = no_looks (λ s. (s < first_home_of disk.unit) ⊎ ReadsAt disk happens s) m m refl
+
+-- the log alone was read, or home sectors that the event reads
+pub named_in : {M : Type 0} (before after : State) (disk : DiskValue M) (happens : Event) (At : ℕ → Type 0)
+    → ((s : ℕ) → At s → ReadsAt disk happens s) → LooksBesides At before after disk.unit → LooksIn before after disk happens
+named_in before after disk happens At told looks = besides before after disk.unit At (ReadsAt disk happens) told looks
+
+module _ {M : Type 0} (before after : State) (old new : DiskValue M) (packet : List ℕ) (told : Answer) where
+  -- what a packet does where Bulk-Out is halted or not, and so much is left of the exchange
+  pub record DoesFor (halted : Bool) (left : Script) : Type 0 where
+    pub proceeds : (book : Book) → FitsDisk before old book → Proceeds before after old.unit new.unit
+        (λ unit later. OutStep Intends CarriesOut Ticks (has_refused before after) halted left packet
+        (on_line old.line unit) told (on_line new.line later))
+        (write_of_packet old.line.packet_size halted left packet (state_of old.unit book)) book
+    pub rests : (book : Book) → FitsDisk before old book
+        → ((block taken : List ℕ) → PacketCarriesOut old.line.packet_size halted left packet (state_of old.unit book) block taken → ⊥)
+        → new.unit ≡ old.unit
+    pub spares : (book : Book) → FitsDisk before old book → (block taken : List ℕ)
+        → PacketCarriesOut old.line.packet_size halted left packet (state_of old.unit book) block taken
+        → (answer : Result (List ℕ) Sense) × IsSparing before after block taken old.unit answer new.unit
+        × IsBounded before after block taken old.unit × Tells answer new.line
+    pub few : TakesFew before after old.unit new.unit
+    pub looks : LooksIn before after old (event.Out (record { items = packet }))
+    pub elapses : Elapses before after
+    pub limit_stays : unit_limit new.unit ≡ unit_limit old.unit
+    pub packets_stay : new.line.packet_size ≡ old.line.packet_size
+
+  does : DoesFor old.line.out_halted old.line.left
+      → IsStep before after old (event.Out (record { items = packet })) told new
+  does d = record {
+    proceeds = d.proceeds;
+    rests = λ book fits none. d.rests book fits (λ block taken carries. none (block, taken, carries));
+    ticks = tt;
+    spares = d.spares;
+    few = d.few;
+    looks = d.looks;
+    elapses = d.elapses;
+    limit_stays = d.limit_stays;
+    packets_stay = d.packets_stay;
+  }
+
+  does_for : (halted : Bool) (left : Script) → halted ≡ old.line.out_halted → left ≡ old.line.left → DoesFor halted left
+      → IsStep before after old (event.Out (record { items = packet })) told new
+  does_for halted left same_halt same_left d =
+      does (subst (λ h. DoesFor h old.line.left) same_halt (subst (λ l. DoesFor halted l) same_left d))
+
+-- a packet to a halted endpoint
+pub stalled : {M : Type 0} (m : State) (disk : DiskValue M) (packet : List ℕ) → IsSound m
+    → true ≡ disk.line.out_halted → IsStep m m disk (event.Out (record { items = packet })) answer.Stall disk
+stalled m disk packet sound halted =
+    does_for m m disk disk packet answer.Stall true disk.line.left halted refl (record {
+      proceeds = λ book fits. staying m disk.unit _ book sound fits (refl, refl);
+      rests = λ book fits none. refl;
+      spares = λ book fits block taken carries. absurd carries;
+      few = no_calls m disk.unit;
+      looks = none_named m disk (event.Out (record { items = packet }));
+      elapses = no_time m;
+      limit_stays = refl;
+      packets_stay = refl;
+    })
+
+-- a packet while something is sent
+pub not_ready : {M : Type 0} (m : State) (disk : DiskValue M) (packet : List ℕ) (packets : List (List ℕ)) (halt : Option Endpoint)
+    (status : List ℕ) → IsSound m → false ≡ disk.line.out_halted → sending packets halt status ≡ disk.line.left
+    → IsStep m m disk (event.Out (record { items = packet })) answer.Nak disk
+not_ready m disk packet packets halt status sound halted left =
+    does_for m m disk disk packet answer.Nak false (sending packets halt status) halted left (record {
+      proceeds = λ book fits. staying m disk.unit _ book sound fits (refl, refl);
+      rests = λ book fits none. refl;
+      spares = λ book fits block taken carries. absurd carries;
+      few = no_calls m disk.unit;
+      looks = none_named m disk (event.Out (record { items = packet }));
+      elapses = no_time m;
+      limit_stays = refl;
+      packets_stay = refl;
+    })
+
+-- a packet where a command wrapper is expected
+pub begins : {M : Type 0} (before after : State) (old new : DiskValue M) (packet : List ℕ) → false ≡ old.line.out_halted
+    → finished ≡ old.line.left → BeginsOn before after old.unit new.unit old.line new.line packet
+    → RestsOn old.line.packet_size before old.unit new.unit finished packet
+    → SparesOn old.line.packet_size before after old.unit new.unit new.line finished packet → TakesFew before after old.unit new.unit
+    → LooksBesides (WrapperReadsAt old.unit packet) before after old.unit → Elapses before after
+    → unit_limit new.unit ≡ unit_limit old.unit → new.line.packet_size ≡ old.line.packet_size
+    → IsStep before after old (event.Out (record { items = packet })) answer.Ack new
+begins before after old new packet halted left opens rests spares few looks elapses limit size =
+    does_for before after old new packet answer.Ack false finished halted left (record {
+      proceeds = λ book fits. proceeding_so before after old.unit new.unit _ _ None None book (opens book fits) refl
+          (λ later moves. (refl, moves));
+      rests = rests;
+      spares = spares;
+      few = few;
+      looks = named_in before after old (event.Out (record { items = packet })) (WrapperReadsAt old.unit packet)
+          (λ s at. (at.0, record { unhalted = sym halted; expected = sym left; wrapper = at.1 }, at.2)) looks;
+      elapses = elapses;
+      limit_stays = limit;
+      packets_stay = size;
+    })
+
+-- a packet where data is expected
+pub goes_on : {M : Type 0} (before after : State) (old new : DiskValue M) (packet : List ℕ) (t : Taking) (taken : List ℕ)
+    → false ≡ old.line.out_halted → taking_of t taken ≡ old.line.left
+    → TakesOn before after old.unit new.unit old.line new.line t taken packet
+    → RestsOn old.line.packet_size before old.unit new.unit (taking_of t taken) packet
+    → SparesOn old.line.packet_size before after old.unit new.unit new.line (taking_of t taken) packet
+    → TakesFew before after old.unit new.unit → LooksBesides (λ _. ⊥) before after old.unit → Elapses before after
+    → unit_limit new.unit ≡ unit_limit old.unit → new.line.packet_size ≡ old.line.packet_size
+    → IsStep before after old (event.Out (record { items = packet })) answer.Ack new
+goes_on before after old new packet t taken halted left takes rests spares few looks elapses limit size =
+    does_for before after old new packet answer.Ack false (taking_of t taken) halted left (record {
+      proceeds = λ book fits. proceeding_so before after old.unit new.unit _ _ _ _ book (takes book fits) refl
+          (λ later moves. (refl, moves));
+      rests = rests;
+      spares = spares;
+      few = few;
+      looks = named_in before after old (event.Out (record { items = packet })) (λ _. ⊥) (λ s at. absurd at) looks;
+      elapses = elapses;
+      limit_stays = limit;
+      packets_stay = size;
+    })
+
+-- a step in the background
+pub ticked : {M : Type 0} (before after : State) (old new : DiskValue M)
+    → TicksOver before after old.unit new.unit → new.line ≡ old.line
+    → IsStep before after old event.Tick answer.Ticked new
+ticked before after old new ticks line = record {
+  proceeds = λ book fits.
+      let one = ticks.line book fits in
+      proceeding before after old.unit new.unit _ None book book (refl, one.0, line) one.1 refl (ticks.cuts book fits);
+  rests = λ book fits none. absurd (none tt);
+  ticks = (ticks, line);
+  spares = λ book fits block taken carries. absurd carries;
+  few = record {
+    calls = few_ticks before.calls after.calls old.unit ticks.few;
+    sent = omega (arith, ticks.sent);
+    layout_stays = ticks.layout_stays;
+    policy_stays = ticks.policy_stays;
+    faulted = λ dead. ((ticks.step.dead dead).1.calls_stay, ap is_dead (ticks.step.dead dead).0 ∙ dead);
+  };
+  looks = looks_wider (λ s. s < first_home_of old.unit) (λ s. (s < first_home_of old.unit) ⊎ ReadsAt old event.Tick s) before after
+      (λ s low. inl low) ticks.looks;
+  elapses = record {
+    failures_stay = ticks.failures_stay;
+    size_stays = ticks.size_stays;
+  };
+  limit_stays = ticks.limit_stays;
+  packets_stay = ap (λ (l : Line). l.packet_size) line;
+}
+
+-- a token to Bulk-In, or a setup packet, leaves the size of a packet
+laid_out-size : (packets : List (List ℕ)) (halt : Option Endpoint) (status : List ℕ) (s : Line)
+    → (laid_out packets halt status s).packet_size ≡ s.packet_size
+laid_out-size [] None status s = refl
+laid_out-size [] (Some endpoint.In) status s = refl
+laid_out-size [] (Some endpoint.Out) status s = refl
+laid_out-size (packet ∷ packets) halt status s = refl
+
+after_packet-size : (left : Script) (s : Line) → (after_packet left s).packet_size ≡ s.packet_size
+after_packet-size finished s = refl
+after_packet-size (taking case command intended bytes due) s = refl
+after_packet-size (sending [] halt status) s = refl
+after_packet-size (sending (packet ∷ packets) halt status) s = laid_out-size packets halt status s
+
+after_in_size : (s : Line) → (after_in s).packet_size ≡ s.packet_size
+after_in_size s = by_halt s.in_halted
+  where
+    by_halt : (halted : Bool) → (if halted then s else after_packet s.left s).packet_size ≡ s.packet_size
+    by_halt true = refl
+    by_halt false = after_packet-size s.left s
+
+cleared_size : (locked : Bool) (endpoint : Endpoint) (s : Line)
+    → (if locked then s else set_halt endpoint false s).packet_size ≡ s.packet_size
+cleared_size true endpoint s = refl
+cleared_size false endpoint.In s = refl
+cleared_size false endpoint.Out s = refl
+
+request_size : (request : Request) (s : Line) → (after_request request s).packet_size ≡ s.packet_size
+request_size mass_storage_reset s = refl
+request_size get_max_lun s = refl
+request_size (clear_halt endpoint) s = cleared_size s.locked endpoint s
+request_size (get_status endpoint) s = refl
+
+setup_size : (packet : List ℕ) (old : Line) (told : Answer) (new : Line) → SetupStep packet old told new → new.packet_size ≡ old.packet_size
+setup_size packet old told new (inl (request, asked)) = ap (λ (s : Line). s.packet_size) asked.after ∙ request_size request old
+setup_size packet old told new (inr refused) = ap (λ (s : Line). s.packet_size) refused.after
+
+-- a token to Bulk-In
+pub token : {M : Type 0} (m : State) (disk : DiskValue M) → IsSound m
+    → IsStep m m disk event.In (in_answer disk.line) (record disk { line = after_in disk.line })
+token m disk sound = record {
+  proceeds = λ book fits. staying m disk.unit _ book sound fits (refl, refl);
+  rests = λ book fits none. refl;
+  ticks = tt;
+  spares = λ book fits block taken carries. absurd carries;
+  few = no_calls m disk.unit;
+  looks = none_named m disk event.In;
+  elapses = no_time m;
+  limit_stays = refl;
+  packets_stay = after_in_size disk.line;
+}
+
+-- a setup packet
+pub asked : {M : Type 0} (m : State) (disk : DiskValue M) (packet : List ℕ) (told : Answer) (line : Line) → IsSound m
+    → SetupStep packet disk.line told line → IsStep m m disk (event.Setup packet) told (record disk { line = line })
+asked m disk packet told line sound step = record {
+  proceeds = λ book fits. staying m disk.unit _ book sound fits (step, refl);
+  rests = λ book fits none. refl;
+  ticks = tt;
+  spares = λ book fits block taken carries. absurd carries;
+  few = no_calls m disk.unit;
+  looks = none_named m disk (event.Setup packet);
+  elapses = no_time m;
+  limit_stays = refl;
+  packets_stay = setup_size packet disk.line told line step;
+}
+
+-- in the phases that take nothing something is sent
+pub sends : (phase : Phase) → (phase ≡ Command → ⊥) → ((t : Taking) → phase ≡ DataOut t → ⊥) → (size : ℕ) (taken staging status : List ℕ)
+    → (packets : List (List ℕ)) × (halt : Option Endpoint) × (sending packets halt status ≡ left_of size phase taken staging status)
+sends Command command out size taken staging status = absurd (command refl)
+sends (DataOut t) command out size taken staging status = absurd (out t refl)
+sends (DataIn from to halt) command out size taken staging status =
+    (packets_of size (slice_range staging from to), halt_of halt, refl)
+sends Status command out size taken staging status = ([], None, refl)
+
+-- a unit that comes to take no other data, nor to send any, goes on with the phase
+pub still_in_phase : (limit : ℕ) (old new : List ℕ → Intention)
+    → ((block : List ℕ) (n : ℕ) → new block ≡ intent.Out n → old block ≡ intent.Out n)
+    → ((block : List ℕ) (n : ℕ) → new block ≡ intent.In n → old block ≡ intent.In n) → (phase : Phase) → IsInPhase limit old phase
+    → IsInPhase limit new phase
+still_in_phase limit old new steady steady_in Command h = tt
+still_in_phase limit old new steady steady_in (DataOut t) h = record {
+  is_case = h.is_case;
+  moment = h.moment;
+  some_block = h.some_block;
+  some_due = h.some_due;
+  within = h.within;
+  room = h.room;
+  filled_is = h.filled_is;
+  intended = λ n is. h.intended n (steady t.exchange.command.block.items n is);
+  sends_none = λ n is. h.sends_none n (steady_in t.exchange.command.block.items n is);
+}
+still_in_phase limit old new steady steady_in (DataIn from to halt) h = h
+still_in_phase limit old new steady steady_in Status h = tt
+
+-- what is kept with one limit is kept with another that is the same
+pub kept_as : (old new : ℕ) (intention : List ℕ → Intention) (phase : Phase) (taken staging : List ℕ) → new ≡ old
+    → Invariant old intention phase taken staging → Invariant new intention phase taken staging
+kept_as old new intention phase taken staging same kept =
+    subst (λ (n : ℕ). Invariant n intention phase taken staging) (sym same) kept

@@ -1,0 +1,144 @@
+-- What a look finds is what the image stands for, and why it is refused.
+use Rattle.std.proofs.Common.{◌≡◌, ◌∙◌, inl, inr, ℕ, ◌+◌, ◌<◌, ◌≤◌, List, [], ◌∷◌, ◌++◌, length, get_or, refl, sym, ap, subst, arith}
+use Rattle.std.specs.Prelude.{slice_index, map, Option, Some, None, MatchOption, IsSomeAnd}
+use Rattle.std.proofs.lemmas.Bool.{cases_lt}
+use Rattle.std.proofs.lemmas.List.{ext_get_or, get_or-map, length-map, get_or_append_left, get_or_push}
+use Rattle.medium.specs.Medium.{State, Image}
+use Rattle.medium.specs.Moments.{IsQuiet}
+use Rattle.medium.specs.declared.fault.MediumFault.{MediumFault}
+use Rattle.medium.specs.declared.fault.MediumFault.TheVariants as medium
+use Rattle.journal.specs.Places.{Shape}
+use Rattle.journal.specs.Sectors.{IsHead}
+use Rattle.journal.specs.Values.{shape_of}
+use Rattle.journal.specs.Record.{Entry, numbers_of}
+use Rattle.journal.specs.Formats.{layout_of, IsWhole, HasWhole}
+use Rattle.journal.specs.Standing.{Stands}
+use Rattle.journal.specs.ImageFaults as image
+use Rattle.journal.proofs.Formats.{laws_of}
+use Rattle.journal.proofs.Wholeness.{IsWhole-one}
+use Rattle.journal.proofs.StandingLaws.{count_stands}
+use Rattle.journal.proofs.FaultLaws.{HasFault-stands}
+use Rattle.recovery.specs.Causes.{start_fault_of, IsRefusedCall, IsRefusalBy, IsDeviceFault}
+use Rattle.recovery.specs.Inspected.{AreCounts, IsInspected, IsLookCause, IsLookRefusal}
+use Rattle.recovery.specs.declared.inspection.Inspection.{Inspection}
+use Rattle.recovery.specs.declared.start_fault.StartFault.{StartFault}
+use Rattle.recovery.specs.declared.start_fault.StartFault.TheVariants.{NoMemory, Read, Write, Flush, BadSuper, BadVersion, BadSize, BadHead}
+use Rattle.recovery.specs.declared.start_fault.StartFault.TheVariants.{StampsUsedUp, LogTooSmall}
+
+-- the counts are those of the records, in order
+counts_same : (shape : Shape) (image : Image) (head at : ℕ) (counts : List ℕ) (records : List (List Entry)) → head ≡ at
+    → length records ≡ length counts → ((j : ℕ) → j < length records → IsWhole shape image (at + j) (get_or records j []))
+    → ((j : ℕ) → j < length counts → (entries : List Entry) × IsWhole shape image (head + j) entries
+    × (slice_index counts j ≡ length entries))
+    → counts ≡ map (λ entries. length entries) records
+counts_same shape image head at counts records same long whole each =
+    let f : List Entry → ℕ = λ entries. length entries in
+    ext_get_or 0 counts (map f records) (sym long ∙ sym (length-map records f)) (λ j below.
+    let e = each j below in
+    let inside : j < length records = omega (arith, below, long) in
+    let here : IsWhole shape image (head + j) (get_or records j []) =
+    subst (λ (n : ℕ). IsWhole shape image (n + j) (get_or records j [])) (sym same) (whole j inside) in
+    let one : e.0 ≡ get_or records j [] =
+    IsWhole-one (layout_of shape.format) (laws_of shape.format) shape image (head + j) e.0 (get_or records j []) e.1 here in
+    e.2 ∙ ap f one ∙ sym (get_or-map f records j [] 0 inside))
+
+-- what was read is what the image stands for
+pub counts_stand : (old : State) (answer : Inspection) → image.HasShape old.size (shape_of answer.sizes) old.content
+    → IsHead answer.head (old.content 1) → AreCounts (shape_of answer.sizes) old.content answer.head answer.waiting.items
+    → IsInspected old answer
+counts_stand old answer has head are =
+    let shape = shape_of answer.sizes in
+    let s = count_stands old.size shape old.content answer.head (length answer.waiting.items) has.fits has.super head are.is in
+    record {
+      array = s.array;
+      next = answer.head + length answer.waiting.items + 1;
+      stood = s.stands;
+      head_is = sym s.head_is;
+      counts_are = counts_same shape old.content answer.head s.stands.head answer.waiting.items s.stands.records (sym s.head_is)
+          s.count_is s.stands.keeps.whole are.each;
+    }
+
+-- a refused look is a refused survey
+pub look_refusal : (least : ℕ) (old new : State) (fault : StartFault) → IsLookCause old new fault → IsQuiet old new
+    → IsRefusalBy least IsQuiet old new fault
+look_refusal least old new NoMemory h quiet = h
+look_refusal least old new Read h quiet = h
+look_refusal least old new Write h quiet = h
+look_refusal least old new Flush h quiet = h
+look_refusal least old new BadSuper h quiet = (h, quiet)
+look_refusal least old new BadVersion h quiet = (h, quiet)
+look_refusal least old new BadSize h quiet = (h, quiet)
+look_refusal least old new BadHead h quiet = (h, quiet)
+look_refusal least old new StampsUsedUp h quiet = absurd h
+look_refusal least old new LogTooSmall h quiet = absurd h
+
+-- contents that stand for something have none of the faults
+look_served : (old new : State) (fault : StartFault) → IsLookCause old new fault → Stands old.size old.content → IsDeviceFault fault
+look_served old new NoMemory h s = absurd h
+look_served old new Read h s = (medium.Read, refl)
+look_served old new Write h s = (medium.Write, refl)
+look_served old new Flush h s = (medium.Flush, refl)
+look_served old new BadSuper h s = absurd (HasFault-stands old.size old.content image.BadSuper h s)
+look_served old new BadVersion h s = absurd (HasFault-stands old.size old.content image.BadVersion h s)
+look_served old new BadSize h s = absurd (HasFault-stands old.size old.content image.BadSize h s)
+look_served old new BadHead h s = absurd (HasFault-stands old.size old.content image.BadHead h s)
+look_served old new StampsUsedUp h s = absurd h
+look_served old new LogTooSmall h s = absurd h
+
+pub refused_look : (old new : State) (fault : StartFault) → IsLookCause old new fault → IsLookRefusal old new fault
+refused_look old new fault h = record { cause = h; served = look_served old new fault h }
+
+-- a call that the medium refused after reads
+module _ (old mid new : State) (quiet : IsQuiet old mid) where
+  later : (kind : MediumFault) → IsRefusedCall mid new kind → IsRefusedCall old new kind
+  later kind h = let stays = quiet.refused_stay kind in record {
+    grew = omega (arith, quiet.failures_stay, h.grew);
+    kind_grew = omega (arith, stays, h.kind_grew);
+  }
+
+  call_refused : (kind : MediumFault) → IsRefusedCall mid new kind → IsLookCause old new (start_fault_of kind)
+  call_refused medium.Read h = later medium.Read h
+  call_refused medium.Write h = later medium.Write h
+  call_refused medium.Flush h = later medium.Flush h
+
+  pub look_refused : (kind : MediumFault) → IsRefusedCall mid new kind → IsLookRefusal old new (start_fault_of kind)
+  look_refused kind h = refused_look old new (start_fault_of kind) (call_refused kind h)
+
+-- what was counted after reads was there before
+pub counts_before : (shape : Shape) (old mid : State) (head : ℕ) (counts : List ℕ) → IsQuiet old mid
+    → AreCounts shape mid.content head counts → AreCounts shape old.content head counts
+counts_before shape old mid head counts quiet are =
+    let path : mid.content ≡ old.content = λ i s. quiet.content_stays s i in
+    subst (λ (i : Image). AreCounts shape i head counts) path are
+
+-- the record of a stamp has so many blocks
+abbrev pub HasCount : Shape → Image → ℕ → ℕ → Type 0
+HasCount shape image stamp count = (entries : List Entry) × IsWhole shape image stamp entries × (count ≡ length entries)
+
+-- all that were counted
+pub counts_made : (shape : Shape) (image : Image) (head j : ℕ) (counts : List ℕ) → length counts ≡ j → j ≤ shape.slots
+    → ((k : ℕ) → k < j → HasCount shape image (head + k) (slice_index counts k))
+    → (j < shape.slots → ¬ HasWhole shape image (head + j)) → AreCounts shape image head counts
+counts_made shape image head j counts long few each ends = record {
+  is = record {
+    few = omega (arith, long, few);
+    whole = λ k below. let e = each k (omega (arith, below, long)) in (e.0, e.1);
+    ends = λ less w. ends (omega (arith, less, long)) (subst (λ (n : ℕ). HasWhole shape image (head + n)) long w);
+  };
+  each = λ k below. each k (omega (arith, below, long));
+}
+
+-- one more
+pub one_counted : (shape : Shape) (image : Image) (head j count : ℕ) (before after : List ℕ) → length before ≡ j
+    → after ≡ before ++ count ∷ [] → ((k : ℕ) → k < j → HasCount shape image (head + k) (slice_index before k))
+    → HasCount shape image (head + j) count → (k : ℕ) → k < j + 1 → HasCount shape image (head + k) (slice_index after k)
+one_counted shape image head j count before after long is each here k below = elim (cases_lt k j) [
+  | inl less ↦
+      let same : get_or after k 0 ≡ get_or before k 0 =
+      ap (λ (l : List ℕ). get_or l k 0) is ∙ get_or_append_left before (count ∷ []) 0 k (omega (arith, less, long)) in
+      subst (HasCount shape image (head + k)) (sym same) (each k less)
+  | inr more ↦
+      let at : k ≡ j = omega (arith, below, more) in
+      subst (λ (n : ℕ). HasCount shape image (head + n) (slice_index after n)) (sym at)
+      (subst (HasCount shape image (head + j)) (sym (ap (λ (l : List ℕ). get_or l j 0) is ∙ get_or_push before count 0 j long)) here)
+]

@@ -1,0 +1,152 @@
+-- What a format leaves at each moment of it.
+use Rattle.std.proofs.Common.{◌≡◌, ◌≢◌, inl, inr, ⊎_elim, ℕ, ◌+◌, ◌<◌, ◌≤◌, List, sym, ◌∙◌, subst, arith, Result}
+use Rattle.std.specs.Prelude.{replicate}
+use Rattle.medium.specs.Medium.{State, Image, CutLeaves, Holds, Within, Gains, Passes, IsSound}
+use Rattle.medium.specs.Moments.{EachCut, IsFlushed, LeavesOnly, StaysWithin, SparesFrom}
+use Rattle.medium.specs.declared.fault.MediumFault.{MediumFault}
+use Rattle.medium.proofs.Moments.{started, started_within, gains_within, goes_on, goes_on_within, weaker, joined_same, at_exit, each_write}
+use Rattle.medium.proofs.Moments.{shrunk}
+use Rattle.medium.proofs.SparedSectors.{HasSpared, spared_start, spared_joined}
+use Rattle.spec.specs.Blocks.{Array}
+use Rattle.journal.specs.Places.{Shape, first_home, sectors_of}
+use Rattle.journal.specs.Sectors.{IsSuper, IsHead}
+use Rattle.journal.specs.Record.{home_of}
+use Rattle.journal.specs.Standing.{IsOurs}
+use Rattle.recovery.specs.Copies.{freed_at, cleared_at, WithOrWithout, IsBetween}
+use Rattle.recovery.specs.Formatted.{IsNoneOrNew, IsMidway, ImageLeaves}
+use Rattle.recovery.proofs.CopiedRecords.{sets_within, log_ends}
+use Rattle.recovery.proofs.SparedSectors.{spared_by, spared_within}
+use Rattle.recovery.proofs.Zeros.{zeros_ours}
+
+-- one sector more is cleared
+pub one_more_cleared : (places : ℕ → Type 0) (place : ℕ) (old mid new : State) {fault : MediumFault}
+    {result : Result (Unit {0}) MediumFault} → IsSound mid → places place → StaysWithin (cleared_at places old.may_leave) old mid
+    → Passes fault result mid new → Gains place (replicate 512 0) mid.may_leave new.may_leave
+    → StaysWithin (cleared_at places old.may_leave) old new
+one_more_cleared places place old mid new {fault} {result} sound is so_far wrote gains =
+    goes_on_within (cleared_at places old.may_leave) old mid new so_far wrote
+    (gains_within (cleared_at places old.may_leave) mid.may_leave new.may_leave place (replicate 512 0)
+    (sets_within (cleared_at places old.may_leave) old mid sound so_far) gains
+    (λ s c here. inr (subst places (sym here.0) is, here.1)))
+
+-- in sectors that are cleared there may be anything
+pub cleared_freed : (places : ℕ → Type 0) (old new : State) → StaysWithin (cleared_at places old.may_leave) old new
+    → StaysWithin (freed_at places old.may_leave) old new
+cleared_freed places old new within =
+    weaker (CutLeaves (cleared_at places old.may_leave)) (CutLeaves (freed_at places old.may_leave)) old new
+    (λ image cut s. ⊎_elim inl (λ zeros. inr zeros.0) (cut s)) within
+
+-- what each image is after a write
+pub each_with : (place : ℕ) (bytes : List ℕ) (old new : State) → IsSound old → Gains place bytes old.may_leave new.may_leave
+    → EachCut (WithOrWithout place bytes old.may_leave) new
+each_with place bytes old new sound gains =
+    each_write (CutLeaves old.may_leave) (WithOrWithout place bytes old.may_leave) old new place bytes sound gains
+    (λ image cut. cut) (λ image cut. inl cut) (λ before image holds cut. inr (before, cut, holds))
+
+-- a write
+pub sector_written : (place : ℕ) (bytes : List ℕ) (old new : State) {fault : MediumFault} {result : Result (Unit {0}) MediumFault}
+    → IsSound old → Passes fault result old new → Gains place bytes old.may_leave new.may_leave
+    → LeavesOnly (WithOrWithout place bytes old.may_leave) old new
+sector_written place bytes old new {fault} {result} sound wrote gains =
+    goes_on (WithOrWithout place bytes old.may_leave) old old new
+    (started (WithOrWithout place bytes old.may_leave) old sound (λ image cut. inl cut)) wrote
+    (each_with place bytes old new sound gains)
+
+-- and a flush
+pub sector_flushed : (place : ℕ) (bytes : List ℕ) (old mid new : State) {one two : MediumFault}
+    {first second : Result (Unit {0}) MediumFault} → IsSound old → Passes one first old mid → Gains place bytes old.may_leave mid.may_leave
+    → Passes two second mid new → Within new.may_leave mid.may_leave → LeavesOnly (WithOrWithout place bytes old.may_leave) old new
+sector_flushed place bytes old mid new {one} {two} {first} {second} sound wrote gains flush within =
+    goes_on (WithOrWithout place bytes old.may_leave) old mid new (sector_written place bytes old mid sound wrote gains) flush
+    (shrunk (WithOrWithout place bytes old.may_leave) mid new within (each_with place bytes old mid sound gains))
+
+-- a sector before these is written
+pub through_spares : (first place : ℕ) (bytes : List ℕ) (old new : State) → place < first → IsSound new
+    → ((x : ℕ) → x ≢ place → new.content x ≡ old.content x) → LeavesOnly (WithOrWithout place bytes old.may_leave) old new
+    → SparesFrom first old new
+through_spares first place bytes old new below sound elsewhere moments = spared_by first old new sound (λ s le. elsewhere s (apart s le))
+    (weaker (WithOrWithout place bytes old.may_leave) (HasSpared first old) old new
+    (λ image either s le. ⊎_elim (λ cut. cut s) (λ w. subst (old.may_leave s) (sym (w.2.elsewhere s (apart s le))) (w.1 s)) either) moments)
+  where
+    apart : (s : ℕ) → first ≤ s → s ≢ place
+    apart s le same = omega (arith, le, same, below)
+
+-- sectors before these are cleared
+pub clear_spares : (first end : ℕ) (old new : State) → IsSound new → ((x : ℕ) → ¬ IsBetween first end x → new.content x ≡ old.content x)
+    → StaysWithin (cleared_at (IsBetween first end) old.may_leave) old new → SparesFrom end old new
+clear_spares first end old new sound elsewhere within =
+    spared_within end (IsBetween first end) old new sound (λ s le between. omega (arith, le, between.1)) elsewhere
+    (cleared_freed (IsBetween first end) old new within)
+
+module _ (shape : Shape) (array : Array) (end : ℕ) (old first : State) (some : 2 ≤ end) (zeros : List ℕ) (are : zeros ≡ replicate 512 0)
+    (sound : IsSound first) (elsewhere : (x : ℕ) → x ≢ 0 → first.content x ≡ old.content x)
+    (moments : LeavesOnly (WithOrWithout 0 zeros old.may_leave) old first) where
+  -- the super is being cleared
+  first_cuts : LeavesOnly (IsMidway shape array old) old first
+  first_cuts = weaker (WithOrWithout 0 zeros old.may_leave) (IsMidway shape array old) old first
+      (λ image either. ⊎_elim inl (λ w. inr (inl (w.2.here ∙ are))) either) moments
+
+  first_spares : SparesFrom end old first
+  first_spares = through_spares end 0 zeros old first (omega (arith, some)) sound elsewhere moments
+
+  pub first_leaves : first.calls ≤ old.calls + 2 → first.looked ≡ old.looked → ImageLeaves shape array end old first
+  first_leaves few looked = record {
+    cuts = first_cuts;
+    after_flush = λ many. absurd (omega (arith, few, many));
+    spares = first_spares;
+    looked_stays = looked;
+  }
+
+  -- what follows
+  pub then_leaves : (new : State) → first.calls ≡ old.calls + 2 → LeavesOnly (IsNoneOrNew old.size shape array) first new
+      → SparesFrom end first new → new.looked ≡ old.looked → ImageLeaves shape array end old new
+  then_leaves new counted later spares looked = record {
+    cuts = joined_same (IsMidway shape array old) old first new first_cuts
+        (weaker (IsNoneOrNew old.size shape array) (IsMidway shape array old) first new (λ image is. inr is) later);
+    after_flush = λ many image since. later.each image (subst (λ (t : ℕ). new.left_since t image) (sym counted) since);
+    spares = spared_joined end old first new first_spares spares;
+    looked_stays = looked;
+  }
+
+-- sector 0 has zeros
+abbrev pub HasNone : Image → Type 0
+HasNone image = image 0 ≡ replicate 512 0
+
+-- at each moment of a clearing behind a super that was cleared and flushed
+pub clear_leaves : (end : ℕ) (old new : State) → IsFlushed old → HasNone old.content
+    → StaysWithin (cleared_at (IsBetween 1 end) old.may_leave) old new → LeavesOnly HasNone old new
+clear_leaves end old new flushed none within = weaker (CutLeaves (cleared_at (IsBetween 1 end) old.may_leave)) HasNone old new
+    (λ image cut. ⊎_elim (λ was. flushed 0 (image 0) was ∙ none) (λ zeros. absurd (omega (arith, zeros.0.0))) (cut 0)) within
+
+-- at each moment of the write of the head
+pub head_leaves : (bytes : List ℕ) (old mid new : State) → IsSound mid → LeavesOnly HasNone old mid
+    → LeavesOnly (WithOrWithout 1 bytes mid.may_leave) mid new → LeavesOnly HasNone old new
+head_leaves bytes old mid new sound so_far moments = joined_same HasNone old mid new so_far
+    (weaker (WithOrWithout 1 bytes mid.may_leave) HasNone mid new
+    (λ image either. ⊎_elim (λ cut. at_exit HasNone old mid sound so_far image cut)
+    (λ w. w.2.elsewhere 0 (λ e. omega arith) ∙ at_exit HasNone old mid sound so_far w.0 w.1) either) moments)
+
+-- without a super there is none
+pub none_leaves : (size : ℕ) (shape : Shape) (array : Array) (old new : State) → LeavesOnly HasNone old new
+    → LeavesOnly (IsNoneOrNew size shape array) old new
+none_leaves size shape array old new so = weaker HasNone (IsNoneOrNew size shape array) old new (λ image none. inl none) so
+
+-- at each moment of the write of the super
+pub super_leaves : (size : ℕ) (shape : Shape) (array : Array) (bytes : List ℕ) (old mid new : State) → IsFlushed mid → HasNone mid.content
+    → sectors_of shape ≤ size → IsSuper shape bytes → IsHead 1 (mid.content 1)
+    → ((x : ℕ) → 2 ≤ x → x < first_home shape → mid.content x ≡ replicate 512 0)
+    → ((b : ℕ) → b < shape.blocks → home_of shape mid.content b ≡ array b) → LeavesOnly HasNone old mid
+    → LeavesOnly (WithOrWithout 0 bytes mid.may_leave) mid new → LeavesOnly (IsNoneOrNew size shape array) old new
+super_leaves size shape array bytes old mid new flushed none fits super head zeros home so_far moments =
+    joined_same (IsNoneOrNew size shape array) old mid new (none_leaves size shape array old mid so_far)
+    (weaker (WithOrWithout 0 bytes mid.may_leave) (IsNoneOrNew size shape array) mid new
+    (λ image either. ⊎_elim (λ cut. inl (flushed 0 (image 0) (cut 0) ∙ none)) (λ w. inr (made image w.0 w.1 w.2)) either) moments)
+  where
+    made : (image before : Image) → CutLeaves mid.may_leave before → Holds 0 bytes before image
+        → IsOurs size shape image array 2
+    made image before cut holds =
+        let ends = log_ends shape super.home_is in
+        let same : (x : ℕ) → x ≢ 0 → image x ≡ mid.content x = λ x not. holds.elsewhere x not ∙ flushed x (before x) (cut x) in
+        zeros_ours size shape array image fits (subst (IsSuper shape) (sym holds.here) super)
+        (subst (IsHead 1) (sym (same 1 (λ e. omega arith))) head) (λ x low high. same x (λ e. omega (arith, low, e)) ∙ zeros x low high)
+        (λ b below. same (first_home shape + b) (λ e. omega (arith, e, ends)) ∙ home b below)

@@ -1,0 +1,331 @@
+-- What a cut leaves while an image of format 1 becomes one of format 2.
+use Rattle.std.proofs.Common.{◌≡◌, ◌⊎◌, inl, inr, ⊎_elim, ℕ, ◌+◌, ◌*◌, ◌<◌, ◌≤◌, List, length, refl, sym, ◌∙◌, ap, subst, arith}
+use Rattle.std.specs.Prelude.{replicate, min}
+use Rattle.std.proofs.lemmas.Bool.{cases_lt}
+use Rattle.medium.specs.Medium.{State, Image, CutLeaves, Holds, IsSound}
+use Rattle.medium.specs.Moments.{EachCut, IsFlushed, LeavesOnly, StaysWithin, SparesFrom}
+use Rattle.spec.specs.Blocks.{Array}
+use Rattle.medium.specs.Sent.{sent, SendsUpTo}
+use Rattle.medium.proofs.Moments.{weaker, joined_same, at_exit, only_image}
+use Rattle.medium.proofs.SparedSectors.{spared_behind, spared_joined}
+use Rattle.journal.specs.declared.log_format.LogFormat.{LogFormat}
+use Rattle.journal.specs.declared.log_format.LogFormat.TheVariants.{One}
+use Rattle.journal.specs.Places.{Shape, first_home, sectors_of, migrated}
+use Rattle.journal.specs.Sectors.{IsSuper, IsHead}
+use Rattle.journal.specs.Values.{shape_of}
+use Rattle.journal.proofs.SectorNumbers.{IsSuper-one}
+use Rattle.journal.specs.Formats.{layout_of}
+use Rattle.journal.specs.Standing.{IsOurs}
+use Rattle.journal.specs.ImageFaults.{HasShape}
+use Rattle.journal.proofs.Formats.{laws_of}
+use Rattle.journal.proofs.StandingLaws.{StandsFor-one, StandsFor-shape}
+use Rattle.recovery.specs.Causes.{HasFewSlots}
+use Rattle.recovery.specs.Copies.{cleared_at, WithOrWithout, IsBetween, HasNewHead, copy_calls, most_start_of}
+use Rattle.recovery.specs.Tries.{AreTriesOf}
+use Rattle.recovery.specs.Recovered.{IsRecoveredFrom, IsFresh, IsOursForSome, StandsForOneOf, LeavesAtLeast}
+use Rattle.recovery.specs.Migrated.{CanMigrate, IsMadeTwo, IsMigratedFrom, IsFreshInEither, IsOursInEither, StandsInEither, MigrationLeaves}
+use Rattle.recovery.specs.Migrated.{most_migration_sends}
+use Rattle.recovery.specs.declared.recovered.Recovered.{Recovered}
+use Rattle.recovery.proofs.CarriedStamps.{zeros_carry}
+use Rattle.recovery.proofs.CopiedRecords.{log_ends}
+use Rattle.recovery.proofs.WholeRecovery.{calls_made, made_joined}
+use Rattle.recovery.proofs.ReplayedImages.{fresh_ours}
+use Rattle.recovery.proofs.CallsSent.{start_migrates, made_migrates}
+use Rattle.recovery.proofs.SectorsRead.{looked_before}
+
+module _ (shape : Shape) (array : Array) (next : ℕ) (before image : Image) (fresh : IsFresh shape array next before) where
+  ends : 2 + (layout_of shape.format).slot_sectors * shape.slots ≤ first_home shape
+  ends = log_ends shape fresh.super.home_is
+
+  -- zeros in some sectors of the log
+  pub cleared_fresh : 1 ≤ next → ((x : ℕ) → (image x ≡ before x) ⊎ (IsBetween 2 (first_home shape) x × (image x ≡ replicate 512 0)))
+      → IsFresh shape array next image
+  cleared_fresh least each = record {
+    super = subst (IsSuper shape) (sym (outside 0 (λ b. omega (arith, b.0)))) fresh.super;
+    head = subst (IsHead next) (sym (outside 1 (λ b. omega (arith, b.0)))) fresh.head;
+    home = λ b below. outside (first_home shape + b) (λ between. omega (arith, between.1)) ∙ fresh.home b below;
+    carries = λ slot o stamp low small carries. ⊎_elim
+        (λ was. fresh.carries slot o stamp low small (subst ((layout_of shape.format).carries o stamp) was carries))
+        (λ zeros.
+        let none = (laws_of shape.format).zeros o stamp (subst ((layout_of shape.format).carries o stamp) zeros.1 carries) in
+        omega (arith, none, least))
+        (each (2 + (layout_of shape.format).slot_sectors * slot + o));
+  }
+    where
+      outside : (x : ℕ) → ¬ IsBetween 2 (first_home shape) x → image x ≡ before x
+      outside x not = ⊎_elim (λ was. was) (λ zeros. absurd (not zeros.0)) (each x)
+
+  -- the same head again
+  pub headed_fresh : HasNewHead next before image → IsFresh shape array next image
+  headed_fresh moved = record {
+    super = subst (IsSuper shape) (sym (moved.elsewhere 0 (λ e. omega arith))) fresh.super;
+    head = moved.head;
+    home = λ b below. moved.elsewhere (first_home shape + b) (λ e. omega (arith, e, ends)) ∙ fresh.home b below;
+    carries = λ slot o stamp low small carries. fresh.carries slot o stamp low small
+        (subst ((layout_of shape.format).carries o stamp)
+        (moved.elsewhere (2 + (layout_of shape.format).slot_sectors * slot + o) (λ e. omega (arith, e))) carries);
+  }
+
+-- a log of zeros under the super of format 2
+pub two_fresh : (shape : Shape) (array : Array) (next : ℕ) (image : Image) → IsSuper (migrated shape) (image 0) → IsHead next (image 1)
+    → ((x : ℕ) → 2 ≤ x → x < first_home shape → image x ≡ replicate 512 0)
+    → ((b : ℕ) → b < shape.blocks → image (first_home shape + b) ≡ array b) → IsFresh (migrated shape) array next image
+two_fresh shape array next image super head zeros home = record {
+  super = super;
+  head = head;
+  home = home;
+  carries = zeros_carry (migrated shape) image next head.least
+      (λ x low high. zeros x low (omega (arith, high, log_ends (migrated shape) super.home_is)));
+}
+
+module _ (shape : Shape) (array : Array) (next : ℕ) (old cleared : State) (least : 1 ≤ next) (flushed : IsFlushed old)
+    (fresh : IsFresh shape array next old.content) (sound_cleared : IsSound cleared)
+    (within : StaysWithin (cleared_at (IsBetween 2 (first_home shape)) old.may_leave) old cleared) where
+  wiped : LeavesOnly (IsFresh shape array next) old cleared
+  wiped =
+      weaker (CutLeaves (cleared_at (IsBetween 2 (first_home shape)) old.may_leave)) (IsFresh shape array next) old cleared
+      (λ image cut. cleared_fresh shape array next old.content image fresh least
+      (λ x. ⊎_elim (λ was. inl (flushed x (image x) was)) (λ zeros. inr zeros) (cut x))) within
+
+  wiped_each : EachCut (IsFresh shape array next) cleared
+  wiped_each = at_exit (IsFresh shape array next) old cleared sound_cleared wiped
+
+  either_leaves : (new : State) → LeavesOnly (IsFresh shape array next) old new → LeavesOnly (IsFreshInEither shape array next) old new
+  either_leaves new leaves = weaker (IsFresh shape array next) (IsFreshInEither shape array next) old new (λ image f. inl f) leaves
+
+  -- while the log is wiped
+  pub wiped_leaves : LeavesOnly (IsFreshInEither shape array next) old cleared
+  wiped_leaves = either_leaves cleared wiped
+
+  module _ (headed : State)
+      (moments : LeavesOnly (λ image. CutLeaves cleared.may_leave image ⊎ HasNewHead next cleared.content image) cleared headed) where
+    rehead : LeavesOnly (IsFresh shape array next) old headed
+    rehead =
+        joined_same (IsFresh shape array next) old cleared headed wiped
+        (weaker (λ image. CutLeaves cleared.may_leave image ⊎ HasNewHead next cleared.content image) (IsFresh shape array next) cleared
+        headed
+        (λ image either. ⊎_elim (wiped_each image)
+        (λ moved.
+        headed_fresh shape array next cleared.content image (wiped_each cleared.content sound_cleared.holds_content) moved)
+        either) moments)
+
+    -- and the head is written
+    pub headed_leaves : LeavesOnly (IsFreshInEither shape array next) old headed
+    headed_leaves = either_leaves headed rehead
+
+    -- and the super of format 2
+    pub made_leaves : (new : State) (bytes : List ℕ) → IsSound headed → IsFlushed headed
+        → ((x : ℕ) → 2 ≤ x → x < first_home shape → headed.content x ≡ replicate 512 0) → IsSuper (migrated shape) bytes
+        → LeavesOnly (WithOrWithout 0 bytes headed.may_leave) headed new → LeavesOnly (IsFreshInEither shape array next) old new
+    made_leaves new bytes sound done zeros super last = joined_same (IsFreshInEither shape array next) old headed new headed_leaves
+        (weaker (WithOrWithout 0 bytes headed.may_leave) (IsFreshInEither shape array next) headed new
+        (λ image either. ⊎_elim (λ cut. inl (each image cut)) (λ w. inr (made image w.0 w.1 w.2)) either) last)
+      where
+        each : EachCut (IsFresh shape array next) headed
+        each = at_exit (IsFresh shape array next) old headed sound rehead
+
+        made : (image before : Image) → CutLeaves headed.may_leave before → Holds 0 bytes before image
+            → IsFresh (migrated shape) array next image
+        made image before cut holds =
+            let f = each before cut in
+            two_fresh shape array next image (subst (IsSuper (migrated shape)) (sym holds.here) super)
+            (subst (IsHead next) (sym (holds.elsewhere 1 (λ e. omega arith))) f.head)
+            (λ x low high. holds.elsewhere x (λ e. omega (arith, low, e)) ∙ done x (before x) (cut x) ∙ zeros x low high)
+            (λ b below. holds.elsewhere (first_home shape + b) (λ e. omega (arith, e, log_ends shape f.super.home_is)) ∙ f.home b below)
+
+-- what stands for one of the arrays does so in either format
+recovery_cuts : (old new : State) → LeavesOnly (StandsForOneOf old) old new → LeavesOnly (StandsInEither old) old new
+recovery_cuts old new cuts =
+    weaker (StandsForOneOf old) (StandsInEither old) old new
+    (λ image o. record {
+      before = o.before;
+      allowed = o.allowed;
+      shape = o.shape;
+      array = o.array;
+      next = o.next;
+      was = o.was;
+      is = inl o.is;
+    }) cuts
+
+-- what a recovery leaves
+pub recovery_leaves : (old new : State) → LeavesAtLeast 5 old new → MigrationLeaves old new
+recovery_leaves old new leaves = record {
+  cuts = λ each. recovery_cuts old new (leaves.all.cuts each);
+  after_flush = λ shape array next ours more image since. inl (leaves.all.after_flush shape array next ours more image since);
+  spares = leaves.all.spares;
+  small = leaves.small;
+  moments = leaves.all.moments;
+  calls = leaves.all.calls;
+  sends = λ shape has. start_migrates shape.format shape.slots (sent old) (sent new) (leaves.all.sends.most shape has);
+  looks = leaves.all.looks;
+}
+
+module _ (old mid : State) (found : Recovered) (recovered : IsRecoveredFrom old mid found) (enough : ¬ HasFewSlots 5 old.size old.content)
+    (one : found.sizes.format ≡ One) where
+  -- there is room for a slot of format 2
+  pub can_migrate : CanMigrate (shape_of found.sizes)
+  can_migrate = record {
+    one = one;
+    room = elim (cases_lt found.sizes.slots 5) [
+      | inl few ↦ absurd (enough (record {
+        shape = shape_of found.sizes;
+        has = StandsFor-shape old.size (shape_of found.sizes) old.content recovered.array found.next recovered.stood;
+        head = recovered.stood.head;
+        head_is = recovered.stood.keeps.head_is;
+        one = one;
+        few = few;
+      }))
+      | inr room ↦ room
+    ];
+  }
+
+  -- the calls of a recovery of format 1
+  tried : mid.calls ≡ old.calls + 6 + copy_calls One recovered.stood.records
+      + 2 * min (length recovered.stood.records + 1) found.sizes.slots
+  tried =
+      subst
+      (λ (f : LogFormat). AreTriesOf f (shape_of found.sizes) old.content recovered.stood.head
+      (min (length recovered.stood.records + 1) found.sizes.slots) (old.calls + 6 + copy_calls f recovered.stood.records) mid.calls)
+      one recovered.calls
+
+  some_calls : old.calls + 2 ≤ mid.calls
+  some_calls = omega (arith, tried)
+
+  -- how many they are at most
+  pub few_calls : (new : State)
+      → ((shape : Shape) → HasShape old.size shape old.content → mid.calls ≤ old.calls + 6 + most_start_of shape.format * shape.slots)
+      → new.calls ≤ mid.calls + (50 * found.sizes.slots + 5) → new.calls ≤ old.calls + 6 + 738 * 64
+  few_calls new most last =
+      let first = subst (λ (f : LogFormat). mid.calls ≤ old.calls + 6 + most_start_of f * found.sizes.slots) one
+      (most (shape_of found.sizes)
+      (StandsFor-shape old.size (shape_of found.sizes) old.content recovered.array found.next recovered.stood)) in
+      let slots = found.sizes.most_slots in
+      omega (arith, first, last, slots)
+
+  module _ (new : State) (spares : SparesFrom (first_home (shape_of found.sizes)) mid new) where
+    -- the home sectors hold what recovery left there
+    kept_home : (b : ℕ) → b < found.sizes.blocks → new.content (first_home (shape_of found.sizes) + b) ≡ recovered.array b
+    kept_home b below = spares.content (first_home (shape_of found.sizes) + b) (omega arith) ∙ recovered.home b below
+
+    module _
+        (fresh : (shape : Shape) (array : Array) (next : ℕ) → IsOurs old.size shape old.content array next
+        → EachCut (IsFresh shape array next) mid)
+        (sound_old : IsSound old) (sound_mid : IsSound mid)
+        (leaves : (array : Array) → IsFresh (shape_of found.sizes) array found.next mid.content
+        → LeavesOnly (IsFreshInEither (shape_of found.sizes) array found.next) mid new) where
+      -- what contents stand for that are ours
+      same_for : (shape : Shape) (array : Array) (next : ℕ) → IsOurs old.size shape old.content array next
+          → (shape ≡ shape_of found.sizes) × (next ≡ found.next)
+      same_for shape array next ours =
+          let same = StandsFor-one old.size old.size shape (shape_of found.sizes) old.content array recovered.array next found.next
+          ours.stands recovered.stood in
+          (same.0, same.1)
+
+      here_ours : (array : Array) → IsOurs old.size (shape_of found.sizes) old.content array found.next
+          → LeavesOnly (IsOursInEither old.size (shape_of found.sizes) array found.next) mid new
+      here_ours array ours =
+          weaker (IsFreshInEither (shape_of found.sizes) array found.next) (IsOursInEither old.size (shape_of found.sizes) array found.next)
+          mid new
+          (λ image either. ⊎_elim
+          (λ was. inl (inr (fresh_ours old.size (shape_of found.sizes) array found.next image recovered.stood.fits was)))
+          (λ two. inr (
+            can_migrate,
+            fresh_ours old.size (migrated (shape_of found.sizes)) array found.next image recovered.stood.fits two,
+          )) either)
+          (leaves array (fresh (shape_of found.sizes) array found.next ours mid.content sound_mid.holds_content))
+
+      -- each image is ours for the contents
+      leaves_ours : (shape : Shape) (array : Array) (next : ℕ) → IsOurs old.size shape old.content array next
+          → LeavesOnly (IsOursInEither old.size shape array next) mid new
+      leaves_ours shape array next ours =
+          let same = same_for shape array next ours in
+          subst (λ (s : Shape). LeavesOnly (IsOursInEither old.size s array next) mid new) (sym same.0)
+          (subst (λ (n : ℕ). LeavesOnly (IsOursInEither old.size (shape_of found.sizes) array n) mid new) (sym same.1)
+          (here_ours array (subst (λ (n : ℕ). IsOurs old.size (shape_of found.sizes) old.content array n) same.1
+          (subst (λ (s : Shape). IsOurs old.size s old.content array next) same.0 ours))))
+
+      pub migration_leaves : LeavesAtLeast 5 old mid → new.calls ≤ mid.calls + (50 * found.sizes.slots + 5)
+          → SendsUpTo (50 * found.sizes.slots + 5) mid new → new.looked ≡ mid.looked → MigrationLeaves old new
+      migration_leaves start last making same = record {
+        cuts = λ each. joined_same (StandsInEither old) old mid new (first.cuts each) (later each);
+        after_flush = λ shape array next ours more image since. ⊎_elim
+            (λ was. first.after_flush shape array next ours some_calls image was) (λ now. now)
+            ((leaves_ours shape array next ours).before (old.calls + 1) image (omega (arith, some_calls)) since);
+        spares = record {
+          behind = λ shape has.
+              let same : shape ≡ shape_of found.sizes =
+              IsSuper-one shape (shape_of found.sizes) (old.content 0) has.super recovered.stood.keeps.super in
+              let home = ap (λ (s : Shape). s.home) same in
+              spared_joined (sectors_of shape) old mid new (first.spares.behind shape has)
+              (spared_behind (first_home (shape_of found.sizes)) (sectors_of shape) mid new (omega (arith, home)) spares);
+          unserved = λ none.
+              let past = none (shape_of found.sizes) recovered.array found.next recovered.stood in
+              let left = recovered.stamp_left in
+              absurd (omega (arith, past, left));
+        };
+        small = λ few. absurd (enough few);
+        moments = made_joined old mid new start.all.moments (calls_made _ mid new spares.moments);
+        calls = few_calls new start.all.most last;
+        sends = λ shape has.
+            let same : shape ≡ shape_of found.sizes =
+            IsSuper-one shape (shape_of found.sizes) (old.content 0) has.super recovered.stood.keeps.super in
+            subst (λ (s : Shape). SendsUpTo (most_migration_sends s.format s.slots) old new) (sym same)
+            (made_migrates found.sizes.format found.sizes.slots (sent old) (sent mid) (sent new) one
+            (start.all.sends.most (shape_of found.sizes)
+            (StandsFor-shape old.size (shape_of found.sizes) old.content recovered.array found.next recovered.stood)) making);
+        looks = looked_before old mid new start.all.looks same;
+      }
+        where
+          first : MigrationLeaves old mid
+          first = recovery_leaves old mid start
+
+          later : EachCut (IsOursForSome old.size) old → LeavesOnly (StandsInEither old) mid new
+          later each =
+              let e = each old.content sound_old.holds_content in
+              weaker (IsOursInEither old.size e.0 e.1 e.2) (StandsInEither old) mid new
+              (λ image is. record {
+                before = old.content;
+                allowed = sound_old.holds_content;
+                shape = e.0;
+                array = e.1;
+                next = e.2;
+                was = e.3;
+                is = is;
+              })
+              (leaves_ours e.0 e.1 e.2 e.3)
+
+    module _ (answer : Recovered) (sizes_are : shape_of answer.sizes ≡ migrated (shape_of found.sizes)) (next_is : answer.next ≡ found.next)
+        (made : IsMadeTwo (shape_of found.sizes) found.next new) where
+      here_fresh : (array : Array) → ((b : ℕ) → b < found.sizes.blocks → recovered.array b ≡ array b)
+          → IsFresh (migrated (shape_of found.sizes)) array found.next new.content
+      here_fresh array same =
+          two_fresh (shape_of found.sizes) array found.next new.content made.super made.head made.zeros
+          (λ b below. kept_home b below ∙ same b below)
+
+      pub migrated_fresh : (shape : Shape) (array : Array) (next : ℕ) → IsOurs old.size shape old.content array next
+          → EachCut (IsFresh (shape_of answer.sizes) array next) new
+      migrated_fresh shape array next ours image cut =
+          let same = StandsFor-one old.size old.size (shape_of found.sizes) shape old.content recovered.array array found.next next
+          recovered.stood ours.stands in
+          subst (λ (i : Image). IsFresh (shape_of answer.sizes) array next i)
+          (sym (only_image new.content new.may_leave made.flushed image cut))
+          (subst (λ (s : Shape). IsFresh s array next new.content) (sym sizes_are)
+          (subst (λ (n : ℕ). IsFresh (migrated (shape_of found.sizes)) array n new.content) same.1 (here_fresh array same.2)))
+
+      pub migrated_from : new.calls ≡ mid.calls + (50 * found.sizes.slots + 5) → IsMigratedFrom old new answer
+      migrated_from counted = subst (λ (n : ℕ). IsMigratedFrom old new (record { sizes = answer.sizes; next = n })) (sym next_is) (record {
+        shape = shape_of found.sizes;
+        could = can_migrate;
+        sizes_are = sizes_are;
+        array = recovered.array;
+        stood = recovered.stood;
+        stamp_left = recovered.stamp_left;
+        made = made;
+        home = kept_home;
+        behind = λ x past. spares.content x (omega (arith, past))
+            ∙ recovered.elsewhere x (λ e. omega (arith, e, past, log_ends (shape_of found.sizes) recovered.stood.keeps.super.home_is))
+            (inr past);
+        ours = fresh_ours old.size (migrated (shape_of found.sizes)) recovered.array found.next new.content recovered.stood.fits
+            (here_fresh recovered.array (λ b below. refl));
+        calls = omega (arith, tried, counted);
+      })

@@ -1,0 +1,54 @@
+-- What is read of a whole record names its blocks, and how many calls bring them home.
+use Rattle.std.proofs.Common.{◌≡◌, ℕ, ◌+◌, ◌*◌, ◌<◌, ◌≤◌, List, length, sym, subst, arith, Result, Ok, Err}
+use Rattle.std.specs.Prelude.{All, Some, OnOk}
+use Rattle.medium.specs.Medium.{Image}
+use Rattle.journal.specs.declared.log_format.LogFormat.{LogFormat}
+use Rattle.journal.specs.declared.log_format.LogFormat.TheVariants.{One, Two}
+use Rattle.journal.specs.declared.record.Record.{Record}
+use Rattle.journal.specs.Places.{Shape, limit_of}
+use Rattle.journal.specs.Sectors.{IsRising}
+use Rattle.journal.specs.Record.{Entry}
+use Rattle.journal.specs.Formats.{IsWhole}
+use Rattle.journal.specs.Reading.{record_reads_of, IsRead, IsReadFor}
+use Rattle.journal.proofs.Formats.{most_is}
+use Rattle.recovery.specs.Copies.{AreBlocks, calls_of, most_calls_of}
+use Rattle.recovery.proofs.CopiedRecords.{long_as}
+
+-- what follows from two facts at an `Ok`
+pub both_ok : {T E P Q R : Type 0} (r : Result T E) → (P → Q → R) → OnOk r P → OnOk r Q → OnOk r R
+both_ok (Ok x) f p q = f p q
+both_ok (Err e) f p q = tt
+
+-- no sector before home is one of home
+pub apart_home : (place home b : ℕ) → place < home → place ≡ home + b → ⊥
+apart_home place home b before is = omega (arith, before, is)
+
+-- the numbers that were read are those of blocks
+pub blocks_read : (shape : Shape) (image : Image) (stamp : ℕ) (entries : List Entry) (read : Record) → IsWhole shape image stamp entries
+    → IsRead shape image stamp entries read → AreBlocks shape read.numbers.items
+blocks_read shape image stamp entries read whole is = record {
+  few =
+      let few = subst (λ (n : ℕ). length entries ≤ n) (most_is shape.format) whole.fit.few in
+      subst (λ (n : ℕ). n ≤ limit_of shape.format) (sym (long_as entries read.numbers.items is.numbers_are)) few;
+  rising = subst IsRising (sym is.numbers_are) whole.fit.rising;
+  inside = subst (All (λ (b : ℕ). b < shape.blocks)) (sym is.numbers_are) whole.fit.inside;
+}
+
+-- as many calls as it takes
+pub calls_made : (format : LogFormat) (shape : Shape) (image : Image) (stamp : ℕ) (read : Record) (n reads old mid new : ℕ)
+    → IsReadFor format shape image stamp (Some read) reads → length read.numbers.items ≡ n → mid ≡ old + reads
+    → new ≡ mid + 2 * length read.numbers.items → new ≡ old + calls_of format n
+calls_made One shape image stamp read n reads old mid new is long first last = omega (arith, is, long, first, last)
+calls_made Two shape image stamp read n reads old mid new is long first last =
+    let made = is.2 in omega (arith, made, long, first, last)
+
+-- and at most so many
+pub most_copied : (format : LogFormat) (n old mid new : ℕ) → n ≤ limit_of format → mid ≤ old + record_reads_of format
+    → new ≤ mid + 2 * n → new ≤ old + most_calls_of format
+most_copied One n old mid new few first last = omega (arith, few, first, last)
+most_copied Two n old mid new few first last = omega (arith, few, first, last)
+
+-- those of the reads alone are fewer
+pub most_missed : (format : LogFormat) (old mid : ℕ) → mid ≤ old + record_reads_of format → mid ≤ old + most_calls_of format
+most_missed One old mid first = omega (arith, first)
+most_missed Two old mid first = omega (arith, first)

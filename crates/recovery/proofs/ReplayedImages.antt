@@ -1,0 +1,121 @@
+-- Images go on standing for what they stood for while their records are copied home.
+use Rattle.std.proofs.Common.{◌≡◌, ◌⊎◌, ⊎_elim, ℕ, ◌+◌, ◌<◌, ◌≤◌, List, [], length, get_or, sym, ◌∙◌, ap, subst, arith}
+use Rattle.std.proofs.Math.ListN.{get_or-map}
+use Rattle.std.proofs.lemmas.List.{length-map}
+use Rattle.medium.specs.Medium.{Image}
+use Rattle.spec.specs.Blocks.{Array}
+use Rattle.journal.specs.Places.{Shape, first_home, sectors_of, IsFirstHome}
+use Rattle.journal.specs.Sectors.{IsSuper, IsHead}
+use Rattle.journal.specs.Record.{Entry, numbers_of, with_records, home_of, Hides}
+use Rattle.journal.specs.Formats.{layout_of, IsWhole}
+use Rattle.journal.specs.Standing.{IsOurs}
+use Rattle.journal.proofs.Formats.{laws_of}
+use Rattle.journal.proofs.Overlay.{with_records-same, records-hide}
+use Rattle.journal.proofs.Wholeness.{IsWhole-one, CarriesBelow-agree}
+use Rattle.recovery.specs.Copies.{IsHomeInRecords, HasNewHead}
+use Rattle.recovery.specs.Recovered.{IsFresh}
+use Rattle.recovery.proofs.CarriedStamps.{carried_whole, carries_later}
+use Rattle.recovery.proofs.CopiedRecords.{log_ends, whole_same, not_in_log}
+
+-- a block that is copied is hidden by the records
+pub home_hidden : (shape : Shape) (image : Image) (head : ℕ) (records : List (List Entry))
+    → ((j : ℕ) → j < length records → IsWhole shape image (head + j) (get_or records j [])) → (b : ℕ)
+    → IsHomeInRecords shape image head (length records) (first_home shape + b) → Hides records b
+home_hidden shape image head records whole b home =
+    let j = home.0 in
+    let entries = home.2.0 in
+    let i = home.2.2.0 in
+    let same : entries ≡ get_or records j [] = IsWhole-one (layout_of shape.format) (laws_of shape.format) shape image (head + j) entries
+    (get_or records j []) home.2.1 (whole j home.1) in
+    let f : Entry → ℕ = λ e. e.0 in
+    let short : i < length (numbers_of entries) = home.2.2.1 in
+    let inside : i < length entries = omega (arith, short, length-map entries f) in
+    let long : length entries ≡ length (get_or records j []) = ap (λ (l : List Entry). length l) same in
+    let named : first_home shape + b ≡ first_home shape + get_or (numbers_of entries) i 0 = home.2.2.2 in
+    let number : get_or (numbers_of entries) i 0 ≡ (get_or entries i (0, [])).0 = get_or-map f entries i (0, []) in
+    let moved : (get_or entries i (0, [])).0 ≡ (get_or (get_or records j []) i (0, [])).0 =
+    ap (λ (l : List Entry). (get_or l i (0, [])).0) same in
+    let is : (get_or (get_or records j []) i (0, [])).0 ≡ b = omega (arith, named, number, moved) in
+    subst (Hides records) is (records-hide records j i home.1 (omega (arith, inside, long)))
+
+-- copies of its records at home change nothing of what an image stands for
+pub copies_ours : (size : ℕ) (shape : Shape) (start : Image) (array : Array) (next : ℕ) (ours : IsOurs size shape start array next)
+    (head count : ℕ) → head ≡ ours.stands.head → count ≡ length ours.stands.records → (image : Image)
+    → ((x : ℕ) → (image x ≡ start x) ⊎ IsHomeInRecords shape start head count x) → IsOurs size shape image array next
+copies_ours size shape start array next ours head count head_is count_is image each =
+    record {
+      stands = record {
+        fits = ours.stands.fits;
+        head = ours.stands.head;
+        records = ours.stands.records;
+        keeps = record {
+          super = subst (IsSuper shape) (sym (log 0 (omega (arith, log_ends shape first)))) ours.stands.keeps.super;
+          head_is = subst (IsHead ours.stands.head) (sym (log 1 (omega (arith, log_ends shape first)))) ours.stands.keeps.head_is;
+          whole = λ j below. whole_same shape start image (ours.stands.head + j) (get_or ours.stands.records j []) some first log
+              (ours.stands.keeps.whole j below);
+          blocks = λ b below. home b ∙ ours.stands.keeps.blocks b below;
+        };
+        few = ours.stands.few;
+        ends = λ less w. ours.stands.ends less (
+          w.0,
+          whole_same shape image start (ours.stands.head + length ours.stands.records) w.0 some first (λ x below. sym (log x below))
+              w.1,
+        );
+        next_is = ours.stands.next_is;
+      };
+      carries = CarriesBelow-agree (layout_of shape.format) (laws_of shape.format) shape start image next
+          (λ x low high. log x (omega (arith, log_ends shape first))) ours.carries;
+    }
+  where
+    some : 1 ≤ shape.slots
+    some = ours.stands.keeps.super.some_slots
+
+    first : IsFirstHome shape.format shape.slots shape.home
+    first = ours.stands.keeps.super.home_is
+
+    log : (x : ℕ) → x < first_home shape → image x ≡ start x
+    log x below = ⊎_elim (λ same. same) (λ home. absurd (not_in_log shape start head count x below home)) (each x)
+
+    moved : (x : ℕ) → IsHomeInRecords shape start head count x → IsHomeInRecords shape start ours.stands.head (length ours.stands.records) x
+    moved x home =
+        subst (λ (n : ℕ). IsHomeInRecords shape start ours.stands.head n x) count_is
+        (subst (λ (h : ℕ). IsHomeInRecords shape start h count x) head_is home)
+
+    home : (b : ℕ) → with_records ours.stands.records (home_of shape image) b ≡ with_records ours.stands.records (home_of shape start) b
+    home b =
+        ⊎_elim (λ same. with_records-same ours.stands.records (home_of shape image) (home_of shape start) b same)
+        (λ copied. home_hidden shape start ours.stands.head ours.stands.records ours.stands.keeps.whole b
+        (moved (first_home shape + b) copied) (home_of shape image) (home_of shape start))
+        (each (first_home shape + b))
+
+-- the new head, once every block is at home
+pub new_head_fresh : (size : ℕ) (shape : Shape) (start : Image) (array : Array) (next : ℕ) → IsOurs size shape start array next
+    → (before image : Image) → ((x : ℕ) → x < first_home shape → before x ≡ start x)
+    → ((b : ℕ) → b < shape.blocks → before (first_home shape + b) ≡ array b) → HasNewHead next before image → IsFresh shape array next image
+new_head_fresh size shape start array next ours before image log home moved = record {
+  super = subst (IsSuper shape)
+      (sym (moved.elsewhere 0 (λ e. omega arith) ∙ log 0 (omega (arith, log_ends shape ours.stands.keeps.super.home_is))))
+      ours.stands.keeps.super;
+  head = moved.head;
+  home = λ b below.
+      moved.elsewhere (first_home shape + b) (λ e. omega (arith, e, log_ends shape ours.stands.keeps.super.home_is)) ∙ home b below;
+  carries = CarriesBelow-agree (layout_of shape.format) (laws_of shape.format) shape start image next
+      (λ x low high. moved.elsewhere x (λ e. omega (arith, low, e)) ∙ log x (omega (arith, log_ends shape ours.stands.keeps.super.home_is)))
+      ours.carries;
+}
+
+-- such an image is ours, with the stamp behind
+pub fresh_ours : (size : ℕ) (shape : Shape) (array : Array) (next : ℕ) (image : Image) → sectors_of shape ≤ size
+    → IsFresh shape array next image → IsOurs size shape image array (next + 1)
+fresh_ours size shape array next image fits f = record {
+  stands = record {
+    fits = fits;
+    head = next;
+    records = [];
+    keeps = record { super = f.super; head_is = f.head; whole = λ j below. absurd (omega arith); blocks = λ b below. f.home b below };
+    few = omega arith;
+    ends = λ less w. omega (arith, carried_whole shape image (next + 0) next f.super.some_slots w f.carries);
+    next_is = omega arith;
+  };
+  carries = carries_later shape image next f.carries;
+}

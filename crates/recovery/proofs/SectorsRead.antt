@@ -1,0 +1,39 @@
+-- Each sector that a recovery reads is one of the log.
+use Rattle.std.proofs.Common.{◌≡◌, ℕ, ◌<◌, sym, subst}
+use Rattle.medium.specs.Medium.{State, Image, LooksOnly}
+use Rattle.medium.specs.Moments.{IsQuiet}
+use Rattle.medium.proofs.SectorsRead.{no_looks, looks_joined, looks_below, look_below}
+use Rattle.journal.specs.Places.{Shape, first_home}
+use Rattle.journal.specs.ImageFaults.{HasShape}
+use Rattle.recovery.specs.Looks.{HoldsLog, LooksAtLog}
+
+-- calls that wrote nothing leave the log where it was
+pub holds_after : (near : ℕ) (old mid : State) → IsQuiet old mid → HoldsLog near old.size old.content → HoldsLog near mid.size mid.content
+holds_after near old mid quiet holds =
+    let path : old.content ≡ mid.content = λ i s. sym (quiet.content_stays s) i in
+    subst (λ (n : ℕ). HoldsLog near n mid.content) (sym quiet.size_stays)
+    (subst (λ (i : Image). HoldsLog near old.size i) path holds)
+
+-- no call, or none that reads
+pub none_looked : (old new : State) → new.looked ≡ old.looked → LooksAtLog old new
+none_looked old new same near holds = no_looks (λ s. s < near) old new same
+
+-- calls that read nothing and changed nothing, and then others
+pub looked_later : (old mid new : State) → IsQuiet old mid → mid.looked ≡ old.looked → LooksAtLog mid new → LooksAtLog old new
+looked_later old mid new quiet same later near holds =
+    looks_joined (λ s. s < near) old mid new (no_looks (λ s. s < near) old mid same) (later near (holds_after near old mid quiet holds))
+
+-- calls that read sectors of the log, and then others that do
+pub looked_on : (shape : Shape) (old mid new : State) → HasShape old.size shape old.content → LooksAtLog old mid
+    → LooksOnly (λ s. s < first_home shape) mid new → LooksAtLog old new
+looked_on shape old mid new has first last near holds =
+    looks_joined (λ s. s < near) old mid new (first near holds) (looks_below (first_home shape) near mid new (holds.log shape has) last)
+
+-- and then others that read nothing
+pub looked_before : (old mid new : State) → LooksAtLog old mid → new.looked ≡ mid.looked → LooksAtLog old new
+looked_before old mid new first same near holds =
+    looks_joined (λ s. s < near) old mid new (first near holds) (no_looks (λ s. s < near) mid new same)
+
+-- the super is read
+pub super_looked : (old new : State) → LooksOnly (λ s. s ≡ 0) old new → LooksAtLog old new
+super_looked old new look near holds = look_below near old new 0 holds.some look

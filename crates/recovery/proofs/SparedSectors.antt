@@ -1,0 +1,82 @@
+-- The sectors behind the image are spared.
+use Rattle.std.proofs.Common.{◌≡◌, inl, inr, ⊎_elim, ℕ, ◌+◌, ◌≤◌, List, refl, sym, subst, arith}
+use Rattle.std.proofs.lemmas.Bool.{cases_eq}
+use Rattle.medium.specs.Medium.{State, CutLeaves, IsSound}
+use Rattle.medium.specs.Moments.{LeavesOnly, StaysWithin, IsQuiet, SparesFrom}
+use Rattle.medium.proofs.Moments.{weaker, at_exit, updated, updated_here, updated_elsewhere}
+use Rattle.medium.proofs.SparedSectors.{HasSpared, spared_quiet, spared_joined, spared_behind}
+use Rattle.journal.specs.Places.{Shape, sectors_of}
+use Rattle.journal.specs.Values.{shape_of}
+use Rattle.journal.proofs.SectorNumbers.{IsSuper-one}
+use Rattle.recovery.specs.Copies.{freed_at, IsHomeInRecords}
+use Rattle.recovery.specs.Found.{IsFound}
+use Rattle.recovery.specs.Recovered.{SparesTheRest}
+use Rattle.recovery.specs.declared.found.Found.{Found}
+use Rattle.recovery.proofs.CopiedRecords.{not_behind}
+use Rattle.recovery.proofs.FoundRecords.{found_stands}
+
+-- what each image spares at each moment, the sets spare
+pub spared_by : (first : ℕ) (old new : State) → IsSound new → ((s : ℕ) → first ≤ s → new.content s ≡ old.content s)
+    → LeavesOnly (HasSpared first old) old new → SparesFrom first old new
+spared_by first old new sound content moments = record {
+  content = content;
+  sets = λ s c le left. subst (old.may_leave s) (updated_here new.content s c s refl)
+      (at_exit (HasSpared first old) old new sound moments (updated new.content s c) (cut s c left) s le);
+  moments = moments;
+}
+  where
+    cut : (s : ℕ) (c : List ℕ) → new.may_leave s c → CutLeaves new.may_leave (updated new.content s c)
+    cut s c left t = elim (cases_eq t s) [
+      | inl is ↦
+          let P : ℕ → Type 0 = λ u. new.may_leave u c in
+          subst (new.may_leave t) (sym (updated_here new.content s c t is)) (subst P (sym is) left)
+      | inr not ↦ subst (new.may_leave t) (sym (updated_elsewhere new.content s c t not)) (sound.holds_content t)
+    ]
+
+-- calls that write in places before these sectors alone
+pub spared_within : (first : ℕ) (places : ℕ → Type 0) (old new : State) → IsSound new → ((s : ℕ) → first ≤ s → ¬ places s)
+    → ((x : ℕ) → ¬ places x → new.content x ≡ old.content x) → StaysWithin (freed_at places old.may_leave) old new
+    → SparesFrom first old new
+spared_within first places old new sound apart elsewhere within = spared_by first old new sound
+    (λ s le. elsewhere s (apart s le))
+    (weaker (CutLeaves (freed_at places old.may_leave)) (HasSpared first old) old new
+    (λ image cut s le. ⊎_elim (λ was. was) (λ place. absurd (apart s le place)) (cut s)) within)
+
+-- calls that wrote nothing
+pub quiet_spares : (old new : State) → IsSound old → IsQuiet old new → SparesTheRest old new
+quiet_spares old new sound quiet = record {
+  behind = λ shape has. spared_quiet (sectors_of shape) old new sound quiet;
+  unserved = λ none. spared_quiet 0 old new sound quiet;
+}
+
+-- the copies
+pub copies_spare : (found : Found) (seen copied : State) → IsSound copied
+    → ((x : ℕ) → ¬ IsHomeInRecords (shape_of found.sizes) seen.content found.head found.count x → copied.content x ≡ seen.content x)
+    → StaysWithin (freed_at (IsHomeInRecords (shape_of found.sizes) seen.content found.head found.count) seen.may_leave) seen copied
+    → SparesFrom (sectors_of (shape_of found.sizes)) seen copied
+copies_spare found seen copied sound elsewhere within =
+    spared_within (sectors_of (shape_of found.sizes)) (IsHomeInRecords (shape_of found.sizes) seen.content found.head found.count) seen
+    copied sound (not_behind (shape_of found.sizes) seen.content found.head found.count) elsewhere within
+
+-- and the new head
+pub moves_spare : (found : Found) (seen copied new : State) → SparesFrom (sectors_of (shape_of found.sizes)) seen copied
+    → SparesFrom 2 copied new → SparesFrom (sectors_of (shape_of found.sizes)) seen new
+moves_spare found seen copied new copies moved =
+    spared_joined (sectors_of (shape_of found.sizes)) seen copied new copies
+    (spared_behind 2 (sectors_of (shape_of found.sizes)) copied new (omega arith) moved)
+
+-- a recovery of what was found
+pub found_spares : (found : Found) (old seen new : State) → IsSound old → IsQuiet old seen → IsFound old.size old.content found
+    → SparesFrom (sectors_of (shape_of found.sizes)) seen new → SparesTheRest old new
+found_spares found old seen new sound quiet is rest = record {
+  behind = λ shape has.
+      let same : shape ≡ shape_of found.sizes = IsSuper-one shape (shape_of found.sizes) (old.content 0) has.super is.shape.super in
+      subst (λ (s : Shape). SparesFrom (sectors_of s) old new) (sym same)
+      (spared_joined (sectors_of (shape_of found.sizes)) old seen new
+      (spared_quiet (sectors_of (shape_of found.sizes)) old seen sound quiet) rest);
+  unserved = λ none.
+      let st = found_stands old.size old.content found is in
+      let past = none (shape_of found.sizes) st.array (found.head + found.count + 1) st.stands in
+      let left = is.stamp_left in
+      absurd (omega (arith, past, left));
+}

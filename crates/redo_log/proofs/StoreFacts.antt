@@ -1,0 +1,220 @@
+-- What a store on top of a log cites.
+use Rattle.std.proofs.Common.{◌≡◌, ◌≢◌, ◌⊎◌, inl, inr, ⊎_elim, ℕ, ◌+◌, ◌<◌, ◌≤◌, List, [], ◌∷◌, ◌++◌, length, get_or, drop, refl, sym, ◌∙◌}
+use Rattle.std.proofs.Common.{ap, subst, arith, length-append}
+use Rattle.std.specs.Prelude.{Bool, true, false}
+use Rattle.std.proofs.Math.ListN.{get_or-map}
+use Rattle.medium.specs.Medium.{State, Image, CutLeaves, IsSound}
+use Rattle.medium.specs.Moments.{EachCut}
+use Rattle.spec.specs.Blocks.{Array}
+use Rattle.medium.proofs.Moments.{updated_elsewhere}
+use Rattle.journal.specs.Places.{Shape, first_home, sectors_of}
+use Rattle.journal.specs.Record.{Entry, numbers_of, with_blocks, entries_of}
+use Rattle.journal.specs.Formats.{layout_of}
+use Rattle.journal.specs.Standing.{IsOurs}
+use Rattle.journal.specs.Staged.{Guarded}
+use Rattle.journal.proofs.BatchEntries.{numbers_of_batch, length_of_batch, sized_batch}
+use Rattle.journal.proofs.Engine.{rests_logged, rests_begun}
+use Rattle.journal.proofs.Formats.{laws_of, most_is}
+use Rattle.redo_log.specs.Value.{LogValue, HasRoom, IsCovered, steps_of, turns_home, retire_steps_of, behind_oldest, of_oldest, idle_from}
+use Rattle.redo_log.specs.Value.{begun, died, settled}
+use Rattle.redo_log.specs.Batch.{IsBatch}
+use Rattle.redo_log.specs.Logged.{HasNoRecord, AreHome}
+use Rattle.redo_log.specs.Stages.{homed_at, needed_at, IsRead}
+use Rattle.redo_log.specs.Held.{View, resting_view, with_begun, image_view, written_of, flushed_of, made_of, turned_of, oldest_of}
+use Rattle.redo_log.specs.Held.{needed_of, MayLeave, Safe, Shields, stamps_of, HoldsView}
+use Rattle.redo_log.proofs.RecordSteps.{none_written, steps_some, all_home}
+use Rattle.redo_log.proofs.CoveredRecord.{needed_covered}
+use Rattle.redo_log.proofs.BatchRecord.{count_of}
+use Rattle.redo_log.proofs.Heads.{head_cut, heads_begun, put_head, put_cut}
+use Rattle.redo_log.proofs.LoggedImage.{Logged-records}
+use Rattle.redo_log.proofs.CopiedTurns.{all_read}
+pub use Rattle.redo_log.proofs.LogFields.{quiet_held, durable_whole}
+pub use Rattle.redo_log.proofs.NewestCopy.{home_is, copy_is}
+
+-- a new log holds a medium whose blocks are at home and whose log is fresh
+pub idle_holds : (shape : Shape) (next : ℕ) (array : Array) (ours : Bool) (m : State) → IsSound m → sectors_of shape ≤ m.size
+    → ((b : ℕ) → b < shape.blocks → m.content (first_home shape + b) ≡ array b) → (ours ≡ true → EachCut (HasNoRecord shape next array) m)
+    → HoldsView (idle_from shape next) m (resting_view array ours)
+idle_holds shape next array ours m sound fits home fresh = record {
+  fits = fits;
+  durable = refl;
+  under_way = refl;
+  next = omega arith;
+  few = omega arith;
+  sized = λ j d below. absurd (omega (arith, below));
+  kept = λ live. all_read shape.format next [] (turned_of (idle_from shape next)) _ (omega arith);
+  leaves = λ is image cut.
+      let rests = fresh is image cut in
+      inl (Logged-records m.size shape next [] array image fits
+      (rests_logged (layout_of shape.format) (laws_of shape.format) shape rests.keeps.super.some_slots image next [] array (omega arith)
+      rests));
+  stores = λ live. record {
+    laid = record { whole = λ j below. absurd (omega arith); blocks = home };
+    written = λ none. absurd (omega (arith, none));
+    copied = λ i low high. absurd (omega (arith, high));
+  };
+  guards = λ live is. record {
+    guards = record {
+      each = λ image cut. record {
+        rests = λ _. fresh is image (head_cut m sound image cut);
+        guarded = λ none. absurd (omega (arith, none));
+      };
+      homed = λ none. absurd (omega (arith, none));
+    };
+    heads = λ image cut.
+        inl ((fresh is image cut).keeps.head_is.spelled ∙ sym (fresh is m.content sound.holds_content).keeps.head_is.spelled);
+  };
+}
+
+-- a log that is given up holds what a cut may leave
+pub died_holds : (log : LogValue) (m : State) (view : View) → HoldsView log m view → HoldsView (died log) m view
+died_holds log m view holds = record {
+  fits = holds.fits;
+  durable = holds.durable;
+  under_way = holds.under_way;
+  next = holds.next;
+  few = holds.few;
+  sized = holds.sized;
+  kept = λ live. cc live;
+  leaves = holds.leaves;
+  stores = λ live. cc live;
+  guards = λ live ours. cc live;
+}
+
+-- a flush that was made stands for the one that the oldest record needs
+pub settled_holds : (log : LogValue) (m : State) (view : View) → HoldsView log m view → IsCovered log → HoldsView (settled log) m view
+settled_holds log m view holds covered =
+    let f : List Entry → List ℕ = λ r. numbers_of r in
+    let one : of_oldest (settled log) ≡ 1 = omega (arith, covered.flushes) in
+    let needs : needed_of log ≡ needed_of (settled log) =
+    ap (λ (l : ℕ). needed_at log.ahead log.head (log.head + length log.waiting) l) covered.flushes
+    ∙ (needed_covered log.ahead log.head (log.head + length log.waiting) covered.oldest covered.since
+    ∙ sym (ap (λ (l : ℕ). needed_at log.ahead log.head (log.head + length log.waiting) l) one)) in
+    let home : turns_home log.shape.format (length (get_or log.waiting 0 []))
+    ≡ turns_home log.shape.format (length (get_or view.records 0 [])) =
+    ap (λ (k : ℕ). turns_home log.shape.format k)
+    (count_of (get_or log.waiting 0 []) (get_or view.records 0 [])
+    (ap (λ (l : List (List ℕ)). get_or l 0 []) holds.durable ∙ get_or-map f view.records 0 [])) in
+    let was : turned_of log ≡ turns_home log.shape.format (length (get_or view.records 0 [])) = omega (arith, covered.flushes, home) in
+    let is : turned_of (settled log) ≡ turns_home log.shape.format (length (get_or view.records 0 [])) + 1 =
+    omega (arith, one, home) in
+    let all : length (get_or view.records 0 []) ≤ homed_at log.shape.format (turned_of log) =
+    all_home log.shape.format (length (get_or view.records 0 [])) (turned_of log) (omega (arith, was)) (omega (arith, was)) in
+    record {
+      fits = holds.fits;
+      durable = holds.durable;
+      under_way = holds.under_way;
+      next = holds.next;
+      few = holds.few;
+      sized = holds.sized;
+      kept = λ live. all_read log.shape.format log.head (get_or view.records 0 []) (turned_of (settled log)) log.kept (omega (arith, is));
+      leaves = λ ours image cut. ⊎_elim (λ rest. inl rest)
+          (λ other. ⊎_elim (λ both. inr (inl both)) (λ less. absurd (omega (arith, less.1, covered.flushes))) other)
+          (holds.leaves ours image cut);
+      stores = λ live. record {
+        laid = (holds.stores live).laid;
+        written = (holds.stores live).written;
+        copied = λ i low high. (holds.stores live).copied i (omega (arith, high, all)) high;
+      };
+      guards = λ live ours. subst (λ (n : ℕ). Shields log.shape log.head view log.steps_left (made_of log) n m) needs
+          (holds.guards live ours);
+    }
+
+-- whichever head an image has, it has the blocks of one that the log's guard speaks of
+pub blocks_guarded : (log : LogValue) (m : State) (view : View) → HoldsView log m view → log.dead ≡ false → view.ours ≡ true
+    → (image : Image) → CutLeaves m.may_leave image
+    → Safe log.shape log.head view log.steps_left (made_of log) (put_head m image)
+    × ((x : ℕ) → x ≢ 1 → put_head m image x ≡ image x)
+blocks_guarded log m view holds live ours image cut = (
+  (holds.guards live ours).guards.each (put_head m image) (put_cut m image cut),
+  λ x not. updated_elsewhere image 1 (m.content 1) x not,
+)
+
+-- the image is ours and stands for the log's array, or with the record under way
+pub may_leave_ours : (size : ℕ) (log : LogValue) (view : View) (image : Image) → MayLeave size log view image
+    → IsOurs size log.shape image view.array (log.head + length view.records + 1)
+    ⊎ ((0 < log.steps_left) × IsOurs size log.shape image (with_blocks view.under_way view.array) (log.head + length view.records + 2))
+may_leave_ours size log view image found =
+    ⊎_elim (λ rest. inl rest.ours)
+    (λ more. ⊎_elim
+    (λ both.
+    let longer : log.head + length (view.records ++ view.under_way ∷ []) + 1 ≡ log.head + length view.records + 2 =
+    omega (arith, length-append view.records (view.under_way ∷ [])) in
+    inr (both.0, subst (IsOurs size log.shape image (with_blocks view.under_way view.array)) longer both.2.ours))
+    (λ less. inl (subst (IsOurs size log.shape image view.array) (same_stamp view.records less.0) less.2.ours)) more) found
+  where
+    same_stamp : (records : List (List Entry)) → 0 < length records
+        → log.head + 1 + length (drop 1 records) + 1 ≡ log.head + length records + 1
+    same_stamp [] some = absurd (omega arith)
+    same_stamp (r ∷ records) some = omega arith
+
+-- a record is begun in a log with room
+pub begun_holds : (log : LogValue) (m : State) (view : View) (numbers bytes : List ℕ) → HoldsView log m view → HasRoom log
+    → IsBatch log.shape numbers bytes → HoldsView (begun numbers log) m (with_begun (entries_of numbers bytes) view)
+begun_holds log m view numbers bytes holds room batch =
+    let many : length (entries_of numbers bytes) ≡ length numbers = length_of_batch numbers bytes in
+    let none : retire_steps_of log.shape.format log.under_way ≡ 0 =
+    ap (λ (l : List ℕ). retire_steps_of log.shape.format l) room.none_under_way in
+    let behind : behind_oldest (begun numbers log) ≡ behind_oldest log + retire_steps_of log.shape.format numbers = omega (arith, none) in
+    let same : of_oldest log ≡ of_oldest (begun numbers log) = omega (arith, behind) in
+    let needs : needed_of log ≡ needed_of (begun numbers log) =
+    ap (λ (l : ℕ). needed_at log.ahead log.head (log.head + length log.waiting) l) same in
+    let turned : turned_of log ≡ turned_of (begun numbers log) = omega (arith, same) in
+    let none_made : made_of (begun numbers log) ≡ 0 = omega arith in
+    let early : ℕ = (layout_of log.shape.format).early (length (entries_of numbers bytes)) in
+    let w : written_of log.shape (with_begun (entries_of numbers bytes) view) (made_of (begun numbers log)) ≡ 0 =
+    ap (λ (k : ℕ). written_of log.shape (with_begun (entries_of numbers bytes) view) k) none_made ∙ (none_written early).0 in
+    let f : flushed_of log.shape (with_begun (entries_of numbers bytes) view) (made_of (begun numbers log)) ≡ 0 =
+    ap (λ (k : ℕ). flushed_of log.shape (with_begun (entries_of numbers bytes) view) k) none_made ∙ (none_written early).1 in
+    let few : length (entries_of numbers bytes) ≤ (layout_of log.shape.format).most =
+    omega (arith, many, batch.few, most_is log.shape.format) in
+    record {
+      fits = holds.fits;
+      durable = holds.durable;
+      under_way = sym (numbers_of_batch numbers bytes);
+      next = omega (arith, holds.next, ap (λ (l : List ℕ). stamps_of l) room.none_under_way, one_stamp numbers batch.some);
+      few = holds.few;
+      sized = sized_batch numbers bytes batch.size;
+      kept = λ live. subst (λ (t : ℕ). IsRead log.shape.format log.head (oldest_of view) t log.kept) turned (holds.kept live);
+      leaves = λ ours image cut. ⊎_elim (λ rest. inl rest)
+          (λ other. ⊎_elim (λ both. absurd (omega (arith, both.0, room.no_steps)))
+          (λ less. inr (inr (less.0, omega (arith, less.1, behind), less.2))) other)
+          (holds.leaves ours image cut);
+      stores = λ live. record {
+        laid = (holds.stores live).laid;
+        written = λ left p low small. absurd (omega (arith, low, w));
+        copied =
+            subst (λ (t : ℕ). AreHome log.shape (oldest_of view) (homed_at log.shape.format t) m.content) turned (holds.stores live).copied;
+      };
+      guards = λ live ours. record {
+        guards = record {
+          each = λ image cut.
+              let rests = ((holds.guards live ours).guards.each image cut).rests room.no_steps in
+              record {
+                rests = λ none. absurd (some_steps (omega (arith, none)));
+                guarded = λ _. subst
+                    (λ (k : ℕ). Guarded (layout_of log.shape.format)
+                    (image_view log.shape log.head (with_begun (entries_of numbers bytes) view)) k
+                    (flushed_of log.shape (with_begun (entries_of numbers bytes) view) (made_of (begun numbers log))) image)
+                    (sym w)
+                    (subst
+                    (λ (d : ℕ). Guarded (layout_of log.shape.format)
+                    (image_view log.shape log.head (with_begun (entries_of numbers bytes) view)) 0 d image)
+                    (sym f)
+                    (rests_begun (layout_of log.shape.format) (laws_of log.shape.format)
+                    (image_view log.shape log.head (with_begun (entries_of numbers bytes) view)) rests.keeps.super.some_slots few
+                    image (record { keeps = rests.keeps; carries = rests.carries })));
+              };
+          homed = λ is. (holds.guards live ours).guards.homed (needs ∙ is);
+        };
+        heads = heads_begun log.shape log.head view (entries_of numbers bytes) m (needed_of log) (needed_of (begun numbers log))
+            (λ not is. not (needs ∙ is)) (holds.guards live ours).heads;
+      };
+    }
+  where
+    one_stamp : (numbers : List ℕ) → 1 ≤ length numbers → stamps_of numbers ≡ 1
+    one_stamp [] some = absurd (omega arith)
+    one_stamp (n ∷ numbers) some = refl
+
+    some_steps : steps_of log.shape.format numbers ≡ 0 → ⊥
+    some_steps none = absurd (omega (arith, none, steps_some log.shape.format (length numbers)))

@@ -1,0 +1,102 @@
+-- A start of a store, good or refused.
+use Rattle.std.proofs.Common.{◌≡◌, ◌≢◌, ◌⊎◌, inl, inr, ◌<◌, ◌+◌, length, sym, subst, arith}
+use Rattle.medium.specs.Sent.{sent}
+use Rattle.medium.specs.declared.fault.MediumFault.TheVariants as kind
+use Rattle.medium.specs.declared.fault.MediumFault.{MediumFault}
+use Rattle.window.specs.Window.{Window, state_of, kept_out, ComesAfter, CoversDevice, IsServed}
+use Rattle.window.specs.WindowLaws.{is_sound}
+use Rattle.window.specs.Looks.{near_in_sight, none_missed}
+use Rattle.recovery.specs.Causes.{start_fault_of}
+use Rattle.recovery.specs.declared.start_fault.StartFault.{StartFault}
+use Rattle.recovery.specs.declared.start_fault.StartFault.TheVariants as fault
+use Rattle.blocks.specs.Ahead.{may_go_ahead}
+use Rattle.blocks.specs.Started.{IsStarted, IsStartCause, StartLeaves, LeavesMedium}
+use Rattle.blocks.specs.StoreValue.{layout_of}
+use Rattle.blocks.proofs.KnownImages.{each_ours, finds, is_cause_for}
+use Rattle.store_calls.specs.Stores.{Store}
+use Rattle.store_calls.specs.Rooms.{CoversParts, HoldsImageLog, HoldsLog, IsRoomy}
+use Rattle.store_calls.specs.Starts.{Begins, EndsIn}
+use Rattle.store_calls.proofs.Served.{start_refuses}
+
+-- in the words of books
+start_leaves : (first after : Window) → LeavesMedium state_of ComesAfter first after → StartLeaves (state_of first) (state_of after)
+start_leaves first after medium = record {
+  cuts = medium.cuts;
+  after_flush = medium.after_flush;
+  finds = λ book on ours flushed. finds (state_of first) (state_of after) (is_sound after) medium.moments.moments.size_stays book on
+      flushed (medium.cuts (each_ours (state_of first) book on ours));
+  bounded = medium.moments;
+}
+
+-- the first sectors that held the log hold it still
+holds_log : (first : Window) (new : Store) → IsStarted (state_of first) (state_of new.medium) new.cached
+    → ComesAfter first new.medium → HoldsImageLog first → HoldsLog new
+holds_log first new started follows holds =
+    let stood = started.stood in
+    let below = holds.log (layout_of new.cached) (record { super = stood.keeps.super; fits = stood.fits }) in
+    omega (arith, below, follows.near_stays)
+
+pub began : (first m : Window) (new held : Store) → m ≡ first → held ≡ new → length m.outbox ≡ 0
+    → IsStarted (state_of m) (state_of new.medium) new.cached → LeavesMedium state_of ComesAfter m new.medium
+    → CoversDevice m new.medium → CoversParts m new.medium → IsServed m new.medium → IsRoomy new
+    → new.goes_ahead ≡ may_go_ahead (layout_of new.cached) → Begins first held
+began first m new held on same empty started medium covers parts served roomy policy =
+    subst (λ (s : Store). Begins first s) (sym same)
+    (subst (λ (w : Window). Begins w new) on (record {
+      started = started;
+      leaves = start_leaves m new.medium medium;
+      medium = medium;
+      covers = covers;
+      parts = parts;
+      served = served;
+      refuses = start_refuses m new.medium empty medium served;
+      holds = holds_log m new started medium.follows;
+      roomy = roomy;
+      policy = policy;
+    }))
+
+-- ---- a start that was refused: its own calls say why
+
+module _ (first after : Window) (empty : length first.outbox ≡ 0) (medium : LeavesMedium state_of ComesAfter first after) where
+  -- the call of this kind that the fault names was refused
+  grew : (why : MediumFault) → IsStartCause (state_of first) (state_of after) (start_fault_of why)
+      → (state_of first).refused why < (state_of after).refused why
+  grew kind.Read cause = elim cause [ inl refused ↦ refused.kind_grew | inr none ↦ cc ]
+  grew kind.Write cause = elim cause [ inl refused ↦ refused.kind_grew | inr none ↦ cc ]
+  grew kind.Flush cause = elim cause [ inl refused ↦ refused.kind_grew | inr none ↦ cc ]
+
+  no_room : kept_out first.seen.told.refused < kept_out after.seen.told.refused
+      → sent (state_of first) + first.room < sent (state_of after)
+  no_room more = omega (arith, empty, medium.follows.refuses more, medium.follows.room_stays)
+
+  full : (why : StartFault) → IsStartCause (state_of first) (state_of after) why → (why ≡ fault.Write) ⊎ (why ≡ fault.Flush)
+      → sent (state_of first) + first.room < sent (state_of after)
+  full why cause (inl is) = no_room (omega (
+    arith,
+    grew kind.Write (subst (IsStartCause (state_of first) (state_of after)) is cause),
+    medium.moments.moments.refused_stay kind.Flush,
+  ))
+  full why cause (inr is) = no_room (omega (
+    arith,
+    grew kind.Flush (subst (IsStartCause (state_of first) (state_of after)) is cause),
+    medium.moments.moments.refused_stay kind.Write,
+  ))
+
+  -- each sector that was read lies in memory
+  sighted : (why : StartFault) → IsStartCause (state_of first) (state_of after) why → HoldsImageLog first → why ≢ fault.Read
+  sighted why cause log is = absurd (omega (
+    arith,
+    grew kind.Read (subst (IsStartCause (state_of first) (state_of after)) is cause),
+    none_missed (λ s. s < first.near) first after medium.follows (near_in_sight first) (medium.looks first.near log),
+  ))
+
+  pub ends_in : (why : StartFault) → IsStartCause (state_of first) (state_of after) why → IsServed first after → EndsIn first after why
+  ends_in why cause served = record {
+    cause = cause;
+    possible = λ book on. is_cause_for (state_of first) (state_of after) book on why cause;
+    leaves = start_leaves first after medium;
+    medium = medium;
+    refuses = start_refuses first after empty medium served;
+    full = full why cause;
+    sighted = sighted why cause;
+  }
