@@ -4,6 +4,7 @@ pub mod FileStory
 pub mod ImageFile
 pub mod ImageFileLaws
 pub mod ImageFileView
+pub mod Lengths
 pub mod Medium
 pub mod Moments
 pub mod Power

@@ -66,6 +66,11 @@ after_call m kind room = record m {
   refused = if admits m.power kind room then m.refused else one_more m.refused kind;
 }
 
+-- it is told whether a call of this kind happens, and the call is counted
+pub record IsAdmitted (kind : MediumFault) (room told : Bool) (old new : Sim) : Type 0 where
+  pub happens : told ≡ admits old.power kind room
+  pub after : new ≡ after_call old kind room
+
 -- a write that happens is the last of the unflushed ones
 abbrev pub after_write : Sim → ℕ → List ℕ → Sim
 after_write m s bytes =

@@ -4,6 +4,7 @@ ghost use Rattle.std.specs.Prelude.{replicate, [], ◌∷◌};
 ghost use Rattle.std.specs.Prelude.{IfOk, IfErr, IsErrOf, OnOk, OnErr};
 ghost use Rattle.medium.specs.FileStory.{IsReadWhole, IsMadeOf, IsPut, MayPut};
 ghost use Rattle.medium.specs.ImageFile.{state_of, fresh, IsImage};
+ghost use Rattle.medium.specs.Lengths.{IsLengthOf};
 ghost use Rattle.medium.specs.Medium.{Holds};
 ghost use Rattle.medium.specs.declared.file_call.FileCall.TheVariants.{Lock, Resize};
 ghost use Rattle.medium.specs.Moments.{IsFlushed};
@@ -187,10 +188,7 @@ fn check_length(length: u64) -> Result<usize, FileError>
 
 // The bytes of so many sectors, where they are an image.
 fn length_of(sectors: u64) -> Result<usize, FileError>
-    ensures ok { IfOk result (λ bytes. bytes ≡ 512 * sectors) }
-    ensures none { IsErrOf result FileError.BadLength ↔ sectors ≡ 0 }
-    ensures long { IsErrOf result FileError.TooLong ↔ 65536 < sectors }
-    ensures other { IfErr result (λ e. (e ≡ FileError.BadLength) ⊎ (e ≡ FileError.TooLong)) }
+    ensures { IsLengthOf sectors result }
 {
     match sectors {
         0 => Err(FileError::BadLength),
@@ -209,8 +207,8 @@ fn write_through<S: ToldFile>(
     requires fits { 512 * (sector + 1) ≤ length copy.old.items }
     requires few { length copy.old.items < 2 ^ 63 }
     ensures ok { OnOk result
-        (Holds sector block.now (sector_of copy.old.items) (sector_of copy.new.items)) }
-    ensures put { OnOk result (IsPut (512 * sector) block.now (S.told file.old) (S.told file.new)) }
+        (Holds sector block.now (sector_of copy.old.items) (sector_of copy.new.items)
+        × IsPut (512 * sector) block.now (S.told file.old) (S.told file.new)) }
     ensures err { OnErr result ((copy.new.items ≡ copy.old.items)
         × MayPut (512 * sector) 512 (S.told file.old) (S.told file.new)) }
     ensures length { length copy.new.items ≡ length copy.old.items }
@@ -223,8 +221,8 @@ fn write_through<S: ToldFile>(
 impl<F: SectorFile> Medium for FileMedium<F> {
     ghost use Rattle.std.specs.Prelude.{◌≡◌, ◌⊎◌, ◌<◌, IsOk, OnOk, OnErr};
     ghost use Rattle.medium.specs.Medium.{Stays, Holds, Within, Gains, Only, Passes, LooksOnly};
-    ghost use Rattle.medium.specs.ImageFile.{state_of, called, flushed, unflushed, IsWritten};
-    ghost use Rattle.medium.specs.ImageFile.{IsNotWritten, ComesAfter};
+    ghost use Rattle.medium.specs.ImageFile.{state_of, called, flushed, unflushed, ComesAfter};
+    ghost use Rattle.medium.specs.ImageFile.{IsWritten, IsNotWritten};
     ghost use Rattle.medium.specs.ImageFileLaws.{is_sound, comes_after_itself, comes_after_through};
     ghost use Rattle.medium.specs.declared.fault.MediumFault.TheVariants.{Read, Write, Flush};
 

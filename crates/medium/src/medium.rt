@@ -1,8 +1,8 @@
 //! Sectors that can be read, written and flushed.
 ghost use Rattle.std.specs.Prelude.{◌≡◌, ◌⊎◌, ◌<◌, ℕ, OnOk, OnErr};
 ghost use Rattle.medium.specs.declared.fault.MediumFault.TheVariants.{Read, Write, Flush};
-ghost use Rattle.medium.specs.Medium.{State, Stays, Holds, Within, Gains, Only, Passes, LooksOnly};
-ghost use Rattle.medium.specs.Medium.{IsSound};
+ghost use Rattle.medium.specs.Medium.{State, Stays, Holds, Within, Gains, Only, Passes};
+ghost use Rattle.medium.specs.Medium.{LooksOnly, IsSound};
 
 use crate::fault::MediumFault;
 

@@ -2,9 +2,9 @@
 ghost use Rattle.std.specs.Prelude.{◌≡◌, ◌≢◌, ◌⊎◌, ◌%◌, ◌↔◌, [], length, IfOk, IfSome, IsErrOf};
 ghost use Rattle.medium.specs.Medium.{CutLeaves};
 ghost use Rattle.medium.specs.Moments.{IsFlushed};
-ghost use Rattle.medium.specs.Power.{powered, admits};
+ghost use Rattle.medium.specs.Power.{powered};
 ghost use Rattle.medium.specs.Tally.{none};
-ghost use Rattle.medium.specs.Sim.{state_of, after_call, IsCut};
+ghost use Rattle.medium.specs.Sim.{state_of, IsAdmitted, IsCut};
 ghost use Rattle.medium.specs.Writes.{keeps};
 
 use crate::count::Count;
@@ -155,8 +155,7 @@ impl SimMedium {
 
     // Whether a call of this kind happens, where there is room for it or not. It is counted.
     fn admit(&mut self, kind: MediumFault, fits: bool) -> bool
-        ensures happens { result ≡ admits self.old.power kind fits }
-        ensures after { self.new ≡ after_call self.old kind fits }
+        ensures { IsAdmitted kind fits result self.old self.new }
     {
         let happens = self.power.admit(kind, fits);
         self.calls = self.calls.next();

@@ -1,9 +1,9 @@
 //! A file that tells what it was asked.
 ghost use Rattle.std.specs.Prelude.{◌≡◌, ◌≤◌, take, length, is_ok, IfOk, OnErr, OnOk};
-ghost use Rattle.medium.specs.FileStory.{Told, answered, AsksFor, KeepsBytes, IsResized, Gives};
-ghost use Rattle.medium.specs.FileStory.{Takes, TakesWithin};
-ghost use Rattle.medium.specs.declared.file_call.FileCall.TheVariants.{Lock, Measure, Resize, Read};
-ghost use Rattle.medium.specs.declared.file_call.FileCall.TheVariants.{Write, Sync};
+ghost use Rattle.medium.specs.FileStory.{Told, answered, AsksFor, KeepsBytes, IsResized};
+ghost use Rattle.medium.specs.FileStory.{Gives, Takes, TakesWithin};
+ghost use Rattle.medium.specs.declared.file_call.FileCall.TheVariants.{Lock, Measure, Resize};
+ghost use Rattle.medium.specs.declared.file_call.FileCall.TheVariants.{Read, Write, Sync};
 
 use std::io;
 
@@ -49,8 +49,7 @@ pub trait ToldFile {
     fn read_at(&mut self, to: &mut [u8], at: u64) -> io::Result<usize>
         ensures asked { AsksFor (is_ok result) (Read at) (told self.old) (told self.new) }
         ensures bound { IfOk result (λ count. count ≤ length to.new) }
-        ensures gives { IfOk result (λ count.
-            Gives at (take count to.new) (told self.old) (told self.new)) }
+        ensures gives { IfOk result (λ count. Gives at (take count to.new) (told self.old) (told self.new)) }
         ensures err { OnErr result (KeepsBytes (told self.old) (told self.new)) };
 
     /// Writes bytes from this place on: as many as it says, perhaps fewer than are given.
@@ -61,10 +60,8 @@ pub trait ToldFile {
     fn write_at(&mut self, from: &[u8], at: u64) -> io::Result<usize>
         ensures asked { AsksFor (is_ok result) (Write at) (told self.old) (told self.new) }
         ensures bound { IfOk result (λ count. count ≤ length from.now) }
-        ensures takes { IfOk result (λ count.
-            Takes at (take count from.now) (told self.old) (told self.new)) }
-        ensures err { OnErr result
-            (TakesWithin at (length from.now) (told self.old) (told self.new)) };
+        ensures takes { IfOk result (λ count. Takes at (take count from.now) (told self.old) (told self.new)) }
+        ensures err { OnErr result (TakesWithin at (length from.now) (told self.old) (told self.new)) };
 
     /// Makes durable what it holds.
     ///
