@@ -62,6 +62,12 @@ SpellsCut line kept.All = line ≡ codes "cut all"
 SpellsCut line (kept.These numbers) = (text : List ℕ) × (line ≡ codes "cut " ++ text)
     × SpellsNumbers text numbers.items
 
+-- a line that moves no power and lets no call of the medium fail
+pub record IsNoSwitch (line : List ℕ) : Type 0 where
+  pub no_fuse : (writes : ℕ) → SpellsCount (codes "fuse ") 0 1000000000 line writes → ⊥
+  pub no_fail : (call : ℕ) → SpellsCount (codes "fail ") 1 1000000000 line call → ⊥
+  pub no_cut : (kept : KeptWrites) → SpellsCut line kept → ⊥
+
 -- the line spells what it asks for, where packets have at most so many bytes
 abbrev pub Spells : ℕ → List ℕ → ScriptLine → Type 0
 Spells most line Skipped = IsSkipped line

@@ -1,6 +1,13 @@
 -- The command line, as its parser knows it.
-use Rattle.std.specs.Prelude.{ℕ, List, codes, true, Some}
-use Rattle.clap.specs.Words.{App, Rule, new_app, new_rule, with_rule, with_subcommand}
+use Rattle.std.specs.Prelude.{◌≡◌, ℕ, List, codes, true, false, Some}
+use Rattle.clap.specs.Words.{App, Rule, app_of, new_app, new_rule, with_rule, with_subcommand}
+use Rattle.clap.specs.declared.builder.command.Command.{Command}
+use Rattle.clap.specs.declared.builder.command.Command.TheViews.{out-Command}
+
+-- a parser of this command line, none of whose options is one of its subcommands too
+pub record IsParserOf (app : App) (command : Command) : Type 0 where
+  pub shape : app_of command ≡ app
+  pub local : (out-Command command).has_globals ≡ false
 
 -- a word that must be there
 abbrev pub word_rule : List ℕ → Rule

@@ -1,5 +1,6 @@
 //! Image files, as media.
 ghost use Rattle.std.specs.Prelude.{◌≡◌, ◌⊎◌, ◌↔◌, ℕ, List, IfOk, IfErr, IfSome, IfNone, OnOk};
+ghost use Rattle.std.specs.Prelude.{MatchResult};
 ghost use Rattle.journal.specs.Places.{new_shape, sectors_of};
 ghost use Rattle.recovery.specs.Formatted.{IsFormatCause, IsFormatted};
 ghost use Rattle.medium.specs.ImageFile.{IsImage};
@@ -92,9 +93,9 @@ pub(crate) fn open_image<R: Files<File = File> + AllocGlobal>(
 
 /// A medium in memory with the bytes of an image file.
 pub(crate) fn sim_medium<R: Files + AllocGlobal>(rt: &R, path: &str) -> Result<SimMedium, Refusal>
-    ensures held { IfOk result (λ medium.
-        (image : List ℕ) × IsImage image × (medium ≡ simulated image)) }
-    ensures refused { IfErr result (λ refusal. (refusal ≡ Refusal.ImageLength)
+    ensures { MatchResult result
+        (λ medium. (image : List ℕ) × IsImage image × (medium ≡ simulated image))
+        (λ refusal. (refusal ≡ Refusal.ImageLength)
         ⊎ ((refusal ≡ Refusal.File) ⊎ (refusal ≡ Refusal.NoMemory))) }
 {
     let Ok(mut image) = fs::open(rt, path) else {

@@ -1,9 +1,8 @@
 //! One line of a script.
-ghost use Rattle.std.specs.Prelude.{◌≡◌, ◌⊎◌, ℕ, IfSome, IfNone, codes};
+ghost use Rattle.std.specs.Prelude.{◌≡◌, ◌⊎◌, ℕ, IfSome, IfNone};
 ghost use Rattle.spec.specs.Packets.{bytes_of};
-ghost use Rattle.runner.specs.Line.{Spells, Allows, SpellsCount, SpellsCut};
+ghost use Rattle.runner.specs.Line.{Spells, Allows, IsNoSwitch};
 ghost use Rattle.runner.specs.declared.line.ScriptLine.{ScriptLine};
-ghost use Rattle.runner.specs.declared.kept.KeptWrites.{KeptWrites};
 
 use crate::kept::{KeptWrites, read_cut};
 use crate::words::{read_count, read_fill, read_out, read_setup};
@@ -107,11 +106,7 @@ fn read_sent(size: PacketSize, line: &[u8]) -> Option<ScriptLine>
 // Reads a line that moves the power, or lets a call of the medium fail.
 fn read_switch(line: &[u8]) -> Option<ScriptLine>
     ensures spelled { IfSome result (λ asked. (most : ℕ) → Spells most line.now asked) }
-    ensures no_fuse { IfNone result ((writes : ℕ)
-        → SpellsCount (codes "fuse ") 0 1000000000 line.now writes → ⊥) }
-    ensures no_fail { IfNone result ((call : ℕ)
-        → SpellsCount (codes "fail ") 1 1000000000 line.now call → ⊥) }
-    ensures no_cut { IfNone result ((kept : KeptWrites) → SpellsCut line.now kept → ⊥) }
+    ensures refused { IfNone result (IsNoSwitch line.now) }
 {
     if let Some(writes) = read_count(line, b"fuse ", 0, 1_000_000_000) {
         return Some(ScriptLine::Fuse { writes });

@@ -1,9 +1,8 @@
 //! The words of a command line.
 ghost use Rattle.std.specs.Prelude.{◌≡◌, ◌≤◌, ◌⊎◌, ◌↔◌, [], ◌∷◌, IfOk, IfErr, IfSome, IfNone};
-ghost use Rattle.std.specs.Prelude.{IsTrue, false, map, length};
+ghost use Rattle.std.specs.Prelude.{IsTrue, map, length};
 ghost use Rattle.clap.specs.Words.{app_of};
-ghost use Rattle.clap.specs.declared.builder.command.Command.TheViews.{out-Command};
-ghost use Rattle.runner.specs.Parser.{usbdisk_app, format_app, migrate_app, script_app};
+ghost use Rattle.runner.specs.Parser.{IsParserOf, usbdisk_app, format_app, migrate_app, script_app};
 ghost use Rattle.runner.specs.Task.{
   SpellsTask,
   IsCommandLine,
@@ -81,8 +80,7 @@ fn parser<'a>(alloc: Global) -> Result<Command<'a>, AllocError>
 
 // `format IMAGE --blocks N --slots K [--format F]`.
 fn format_parser<'a>(alloc: Global) -> Result<Command<'a>, AllocError>
-    ensures shape { IfOk result (λ command. app_of command ≡ format_app) }
-    ensures local { IfOk result (λ command. (out-Command command).has_globals ≡ false) }
+    ensures { IfOk result (IsParserOf format_app) }
 {
     Command::new(alloc, "format")
         .arg(Arg::new(alloc, "IMAGE").required(true))?
@@ -93,16 +91,14 @@ fn format_parser<'a>(alloc: Global) -> Result<Command<'a>, AllocError>
 
 // `migrate IMAGE`.
 fn migrate_parser<'a>(alloc: Global) -> Result<Command<'a>, AllocError>
-    ensures shape { IfOk result (λ command. app_of command ≡ migrate_app) }
-    ensures local { IfOk result (λ command. (out-Command command).has_globals ≡ false) }
+    ensures { IfOk result (IsParserOf migrate_app) }
 {
     Command::new(alloc, "migrate").arg(Arg::new(alloc, "IMAGE").required(true))
 }
 
 // `run IMAGE SCRIPT [--packet P]` or `sim IMAGE SCRIPT [--packet P]`.
 fn script_parser<'a>(alloc: Global, verb: &'a str) -> Result<Command<'a>, AllocError>
-    ensures shape { IfOk result (λ command. app_of command ≡ script_app verb.entry.now) }
-    ensures local { IfOk result (λ command. (out-Command command).has_globals ≡ false) }
+    ensures { IfOk result (IsParserOf (script_app verb.entry.now)) }
 {
     Command::new(alloc, verb)
         .arg(Arg::new(alloc, "IMAGE").required(true))?
