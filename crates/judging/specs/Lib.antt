@@ -1,3 +1,4 @@
+pub mod Armed
 pub mod Commands
 pub mod Formats
 pub mod Judged

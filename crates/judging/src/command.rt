@@ -6,14 +6,14 @@ ghost use Rattle.judging.specs.Commands.{read_command, write_command, sense_comm
 ghost use Rattle.judging.specs.Commands.{synchronize_command, wrapper_of};
 
 /// The direction in which a host announces data.
-#[derive(Clone, Copy, Debug, PartialEq, Eq)]
+#[derive(Clone, Copy)]
 pub enum Direction {
     ToDevice = 0x00,
     ToHost = 0x80,
 }
 
 /// A command of 10 bytes, and what the host announces.
-#[derive(Clone, Copy, Debug, PartialEq, Eq)]
+#[derive(Clone, Copy)]
 pub struct Command {
     pub block: [u8; 10],
     pub direction: Direction,

@@ -3,40 +3,68 @@ use bot_machine::StartFault;
 use medium::SimError;
 use recovery::FormatFault;
 use std::alloc::AllocError;
-use thiserror::Error;
+use std::fmt;
 
 /// What is not as the definitions have it, or why nothing could be judged.
-#[derive(Debug, Drop, Error)]
+#[derive(Clone, Copy, Debug)]
 pub enum Finding {
     /// The answer to the event at this place of a life, counted from 0, is none of an abstract
     /// disk.
-    #[error("the answer to event {0} is none of an abstract disk")]
     Answer(usize),
     /// A life has more or fewer answers than events.
-    #[error("another number of answers than of events")]
     Count,
     /// The power went off in the event at this place though no fuse was armed.
-    #[error("the power went off in event {0}")]
     Off(usize),
     /// A start was refused.
-    #[error("a start was refused: {0}")]
     Start(StartFault),
     /// Not the blocks after some beginning of the accepted writes that holds every promised one.
-    #[error("blocks that no beginning of the writes leaves")]
     Blocks,
     /// A host was to send a packet that is too long, or so many blocks as no command moves.
-    #[error("a host with a packet that is too long")]
     Packet,
     /// The identity was refused.
-    #[error("no identity")]
     Identity,
     /// An image was not made.
-    #[error("no image: {0}")]
-    Medium(#[from] SimError),
+    Medium(SimError),
     /// An image was not formatted.
-    #[error("no format: {0}")]
-    NoFormat(#[from] FormatFault),
+    NoFormat(FormatFault),
     /// Memory ran out.
-    #[error("out of memory")]
-    NoMemory(#[from(alloc)] AllocError),
+    NoMemory(AllocError),
+}
+
+impl fmt::Display for Finding {
+    fn fmt<W: fmt::Write>(&self, f: &mut fmt::Formatter<W>) -> fmt::Result {
+        let words = match *self {
+            Finding::Answer(place) => {
+                return write!(f, "the answer to event {place} is none of an abstract disk");
+            }
+            Finding::Off(place) => return write!(f, "the power went off in event {place}"),
+            Finding::Start(fault) => return write!(f, "a start was refused: {fault}"),
+            Finding::Medium(error) => return write!(f, "no image: {error}"),
+            Finding::NoFormat(fault) => return write!(f, "no format: {fault}"),
+            Finding::Count => "another number of answers than of events",
+            Finding::Blocks => "blocks that no beginning of the writes leaves",
+            Finding::Packet => "a host with a packet that is too long",
+            Finding::Identity => "no identity",
+            Finding::NoMemory(_) => "out of memory",
+        };
+        write!(f, "{words}")
+    }
+}
+
+impl From<SimError> for Finding {
+    fn from(error: SimError) -> Finding {
+        Finding::Medium(error)
+    }
+}
+
+impl From<FormatFault> for Finding {
+    fn from(fault: FormatFault) -> Finding {
+        Finding::NoFormat(fault)
+    }
+}
+
+impl From<AllocError> for Finding {
+    fn from(error: AllocError) -> Finding {
+        Finding::NoMemory(error)
+    }
 }

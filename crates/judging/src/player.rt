@@ -1,11 +1,11 @@
 //! Lives that are played event by event.
-ghost use Rattle.std.specs.Prelude.{◌≡◌, ◌<◌, [], ◌∷◌, length, IfOk, IfErr, OnOk};
-ghost use Rattle.medium.specs.Sim.{IsFused, IsFailing};
-ghost use Rattle.spec.specs.Lives.{arms, fails, starts};
+ghost use Rattle.std.specs.Prelude.{◌≡◌, ◌<◌, [], ◌∷◌, length, IfOk, MatchResult};
+ghost use Rattle.spec.specs.Lives.{starts};
 ghost use Rattle.bot_machine.specs.LivesValue.{medium_in, LivesGoOn, LivesRefuseStart};
 ghost use Rattle.bot_machine.specs.declared.stage.Stage.TheVariants.{Rests};
 ghost use Rattle.spec.specs.declared.packet_size.PacketSize.TheVariants.{High512};
 ghost use Rattle.bot_machine.specs.Device.{device_by};
+ghost use Rattle.judging.specs.Armed.{ArmsFuse, ArmsFailure};
 ghost use Rattle.judging.specs.Judged.{judged_identity};
 
 use crate::finding::Finding;
@@ -59,9 +59,7 @@ impl Player {
 
     /// Arms a fuse: so many writes and flushes happen, and at the next the power goes.
     pub fn fuse(&mut self, writes: u64)
-        ensures goes_on { LivesGoOn self.old (arms writes ∷ []) [] self.new }
-        ensures fused { IsFused writes (medium_in self.old.stage)
-            (medium_in self.new.stage) }
+        ensures { ArmsFuse writes self.old self.new }
     {
         self.lives.fuse(writes);
     }
@@ -70,9 +68,7 @@ impl Player {
     /// refused once.
     pub fn fail(&mut self, call: u64)
         requires { 0 < call }
-        ensures goes_on { LivesGoOn self.old (fails call ∷ []) [] self.new }
-        ensures failing { IsFailing call (medium_in self.old.stage)
-            (medium_in self.new.stage) }
+        ensures { ArmsFailure call self.old self.new }
     {
         self.lives.fail(call);
     }
@@ -83,10 +79,8 @@ impl Player {
     ///
     /// The fault with which the start was refused, where the power is still on.
     pub fn start(&mut self, alloc: Global) -> Result<(), StartFault>
-        ensures ok { OnOk result
-            (LivesGoOn self.old (starts ∷ []) [] self.new) }
-        ensures err { IfErr result (λ fault. LivesRefuseStart self.old fault
-            self.new) }
+        ensures { MatchResult result (λ _. LivesGoOn self.old (starts ∷ []) [] self.new)
+            (λ fault. LivesRefuseStart self.old fault self.new) }
     {
         self.lives.start(alloc)
     }

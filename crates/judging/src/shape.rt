@@ -11,14 +11,14 @@ use std::alloc::Global;
 use std::fmt;
 
 /// A format of the log.
-#[derive(Clone, Copy, Debug, PartialEq, Eq)]
+#[derive(Clone, Copy, Debug)]
 pub enum Format {
     One,
     Two,
 }
 
 /// The format of an image, and how many blocks and log slots it has.
-#[derive(Clone, Copy, Debug, PartialEq, Eq)]
+#[derive(Clone, Copy, Debug)]
 pub struct Shape {
     pub format: Format,
     pub blocks: u32,

@@ -10,7 +10,7 @@ use abstract_disk::{Block, Write};
 use std::alloc::{AllocError, Global};
 
 /// A WRITE of so many blocks to the addresses from this one on, with FUA where it is forced.
-#[derive(Clone, Copy, Debug, PartialEq, Eq)]
+#[derive(Clone, Copy)]
 pub struct TestWrite {
     pub address: u32,
     pub count: u32,

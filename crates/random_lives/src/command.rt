@@ -3,7 +3,7 @@ use crate::random::Random;
 use crate::shape::Shape;
 
 /// What a host sends as a command.
-#[derive(Clone, Copy, Debug)]
+#[derive(Clone, Copy)]
 pub(crate) struct Command {
     pub(crate) block: [u8; 16],
     /// How many bytes of the command block the wrapper announces.
@@ -13,14 +13,14 @@ pub(crate) struct Command {
 }
 
 /// What a host announces, in bytes.
-#[derive(Clone, Copy, Debug, PartialEq, Eq)]
+#[derive(Clone, Copy)]
 pub(crate) enum Way {
     In(u32),
     Out(u32),
 }
 
 /// What a host sends as data.
-#[derive(Clone, Copy, Debug)]
+#[derive(Clone, Copy)]
 pub(crate) enum Data {
     /// Blocks, the first of this byte, each next one of the next byte.
     Blocks(u8),
@@ -42,7 +42,7 @@ impl Data {
 }
 
 /// The blocks of a READ, a WRITE or a SYNCHRONIZE CACHE.
-#[derive(Clone, Copy, Debug)]
+#[derive(Clone, Copy)]
 struct Extent {
     address: u64,
     count: u32,

@@ -2,7 +2,7 @@
 use std::fmt;
 
 /// How much was judged.
-#[derive(Debug, Default, Drop)]
+#[derive(Default, Drop)]
 pub(crate) struct Counts {
     pub(crate) seeds: u64,
     pub(crate) lives: u64,
@@ -37,31 +37,47 @@ impl Counts {
             count(number);
         }
     }
+
+    // The first lines, and how the next one begins.
+    fn write_lives<W: fmt::Write>(&self, f: &mut fmt::Formatter<W>) -> fmt::Result {
+        let (seeds, lives, events) = (self.seeds, self.lives, self.events);
+        writeln!(f, "{seeds} seeds, {lives} lives, {events} events")?;
+        let (start, event, after) = (self.cut_in_start, self.cut_in_event, self.cut_after);
+        let (failures, restarts) = (self.failures, self.restarts);
+        write!(
+            f,
+            "cuts: {start} in a start, {event} in an event, {after} after the last\n\
+             {failures} failures armed, {restarts} restarts\ncommands:"
+        )
+    }
 }
 
 impl fmt::Display for Counts {
     fn fmt<W: fmt::Write>(&self, f: &mut fmt::Formatter<W>) -> fmt::Result {
-        let (seeds, lives, events) = (self.seeds, self.lives, self.events);
-        writeln!(f, "{seeds} seeds, {lives} lives, {events} events")?;
-        let (start, event, after) = (self.cut_in_start, self.cut_in_event, self.cut_after);
-        writeln!(
-            f,
-            "cuts: {start} in a start, {event} in an event, {after} after the last"
-        )?;
-        let (failures, restarts) = (self.failures, self.restarts);
-        writeln!(f, "{failures} failures armed, {restarts} restarts")?;
-        write!(f, "commands:")?;
-        for (code, number) in CODES.iter().zip(self.commands.iter()) {
-            write!(f, " {code:02x}h {number},")?;
-        }
-        let [.., unknown] = self.commands;
-        writeln!(f, " unknown {unknown}")?;
-        write!(f, "cases:")?;
-        for number in &self.cases {
-            write!(f, " {number}")?;
-        }
-        Ok(())
+        self.write_lives(f)?;
+        write_commands(f, &self.commands)?;
+        write_cases(f, &self.cases)
     }
+}
+
+// How many exchanges there were of each operation code, and of unknown ones.
+fn write_commands<W: fmt::Write>(f: &mut fmt::Formatter<W>, commands: &[u64; 14]) -> fmt::Result {
+    let mut number = commands.iter();
+    for code in CODES {
+        let number = number.next().copied().unwrap_or(0);
+        write!(f, " {code:02x}h {number},")?;
+    }
+    let [.., unknown] = *commands;
+    writeln!(f, " unknown {unknown}")
+}
+
+// How many exchanges there were of each case.
+fn write_cases<W: fmt::Write>(f: &mut fmt::Formatter<W>, cases: &[u64; 13]) -> fmt::Result {
+    write!(f, "cases:")?;
+    for number in cases {
+        write!(f, " {number}")?;
+    }
+    Ok(())
 }
 
 /// One more.

@@ -1,27 +1,58 @@
 //! What the judge finds.
 use bot_machine::StartFault;
 use std::alloc::AllocError;
-use thiserror::Error;
+use std::fmt;
 
 /// What is not as the definitions have it, or why nothing could be judged.
-#[derive(Debug, Drop, Error)]
+#[derive(Clone, Copy)]
 pub(crate) enum Finding {
-    #[error("an answer that no abstract disk gives")]
+    /// An answer is none of an abstract disk.
     Answer,
-    #[error("the power went off without a fuse")]
+    /// The power went off though no fuse was armed.
     Off,
-    #[error("the power is on again before the cut")]
+    /// The power is on again before the cut.
     On,
-    #[error("a start was refused: {0}")]
+    /// A start was refused.
     Start(StartFault),
-    #[error("a disk that was started after the cut does not read its blocks")]
+    /// A disk that was started after the cut does not read its blocks.
     Unread,
-    #[error("after the cut blocks that no beginning of the accepted writes leaves")]
+    /// Not the blocks after some beginning of the accepted writes that holds every promised one.
     Blocks,
-    #[error("a packet that is too long")]
+    /// A host was to send a packet that is too long.
     Packet,
-    #[error("{0}")]
-    Judged(#[from] judging::Finding),
-    #[error("out of memory")]
-    NoMemory(#[from(alloc)] AllocError),
+    /// A life was not prepared.
+    Judged(judging::Finding),
+    /// Memory ran out.
+    NoMemory(AllocError),
+}
+
+impl fmt::Display for Finding {
+    fn fmt<W: fmt::Write>(&self, f: &mut fmt::Formatter<W>) -> fmt::Result {
+        let words = match *self {
+            Finding::Answer => "an answer that no abstract disk gives",
+            Finding::Off => "the power went off without a fuse",
+            Finding::On => "the power is on again before the cut",
+            Finding::Start(fault) => return write!(f, "a start was refused: {fault}"),
+            Finding::Unread => "a disk that was started after the cut does not read its blocks",
+            Finding::Blocks => {
+                "after the cut blocks that no beginning of the accepted writes leaves"
+            }
+            Finding::Packet => "a packet that is too long",
+            Finding::Judged(finding) => return write!(f, "{finding}"),
+            Finding::NoMemory(_) => "out of memory",
+        };
+        write!(f, "{words}")
+    }
+}
+
+impl From<judging::Finding> for Finding {
+    fn from(finding: judging::Finding) -> Finding {
+        Finding::Judged(finding)
+    }
+}
+
+impl From<AllocError> for Finding {
+    fn from(error: AllocError) -> Finding {
+        Finding::NoMemory(error)
+    }
 }

@@ -25,7 +25,7 @@ const OTHERS: [[u8; 8]; 5] = [
 ];
 
 /// How an exchange goes on.
-#[derive(Clone, Copy, Debug, PartialEq, Eq)]
+#[derive(Clone, Copy, PartialEq, Eq)]
 enum Flow {
     On,
     /// It is over, or was given up.
@@ -104,7 +104,8 @@ impl Host {
             1 => Kept::All,
             2 if unflushed > 0 => {
                 let number = u32::try_from(self.random.below(unflushed)).unwrap_or(0);
-                Kept::These(vec![in *self.steps.allocator(); number]?)
+                let numbers = vec![in *self.steps.allocator(); number];
+                Kept::These(numbers.map_err(AllocError::from)?)
             }
             3 => Kept::Mask(self.random.number() & self.random.number()),
             4 => Kept::Mask(self.random.number() | self.random.number()),

@@ -170,11 +170,16 @@ impl Judge {
         self.fused = false;
         self.failing = false;
         let stage = mem::replace(&mut self.stage, Stage::Waits);
-        if let Stage::Waits = stage {
-            return Ok(());
+        match stage {
+            Stage::Waits => Ok(()),
+            stage => self.end_life(&stage),
         }
+    }
+
+    // A life ended at this stage.
+    fn end_life(&mut self, stage: &Stage) -> Result<(), Finding> {
         let blocks = self.served()?;
-        if !self.may_be_left(&stage, &blocks)? {
+        if !self.may_be_left(stage, &blocks)? {
             return Err(Finding::Blocks);
         }
         self.opening = blocks;

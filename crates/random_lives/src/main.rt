@@ -105,13 +105,8 @@ fn try_seed(alloc: Global, seed: u64, counts: &mut Counts) -> Result<Option<Fail
     let mut random = Random::new(seed);
     let shape = Shape::random(&mut random);
     let fresh = shape.image.fresh(alloc)?;
-    let copy = fresh.copy(alloc).ok_or(AllocError)?;
-    let mut host = Host::new(alloc, random, shape, copy)?;
-    host.judge.counts = mem::take(counts);
-    let lived = host.lives();
-    *counts = mem::take(&mut host.judge.counts);
-    count(&mut counts.seeds);
-    match lived {
+    let mut host = host_on(alloc, random, shape, &fresh)?;
+    match live(&mut host, counts) {
         Ok(()) => Ok(None),
         Err(Finding::NoMemory(error)) => Err(Finding::NoMemory(error)),
         Err(_) => Ok(Some(Failed {
@@ -120,6 +115,26 @@ fn try_seed(alloc: Global, seed: u64, counts: &mut Counts) -> Result<Option<Fail
             steps: host.steps,
         })),
     }
+}
+
+// A host on a copy of a fresh image.
+fn host_on(
+    alloc: Global,
+    random: Random,
+    shape: Shape,
+    fresh: &SimMedium,
+) -> Result<Host, Finding> {
+    let copy = fresh.copy(alloc).ok_or(AllocError)?;
+    Host::new(alloc, random, shape, copy)
+}
+
+// The lives of a host, which go on with these counts.
+fn live(host: &mut Host, counts: &mut Counts) -> Result<(), Finding> {
+    host.judge.counts = mem::take(counts);
+    let lived = host.lives();
+    *counts = mem::take(&mut host.judge.counts);
+    count(&mut counts.seeds);
+    lived
 }
 
 // Writes the smallest script that shows what was found.

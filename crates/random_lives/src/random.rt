@@ -1,7 +1,7 @@
 //! Numbers that look random, the same for the same seed.
 
 /// A source of numbers: a counter, mixed (the generator splitmix64).
-#[derive(Clone, Copy, Debug)]
+#[derive(Clone, Copy)]
 pub(crate) struct Random {
     counter: u64,
 }

@@ -5,7 +5,7 @@ use judging::Format;
 use std::fmt;
 
 /// The shape of an image, the packets of its disk, and when that retires its records.
-#[derive(Clone, Copy, Debug)]
+#[derive(Clone, Copy)]
 pub(crate) struct Shape {
     pub(crate) image: judging::Shape,
     pub(crate) size: PacketSize,

@@ -47,6 +47,11 @@ pub(crate) fn finds(
 ) -> Result<Option<Finding>, Finding> {
     let medium = fresh.copy(alloc).ok_or(AllocError)?;
     let mut judge = Judge::new(alloc, shape, medium)?;
+    finds_by(&mut judge, steps, stays)
+}
+
+// What a judge finds in these steps.
+fn finds_by(judge: &mut Judge, steps: &[Step], stays: &[bool]) -> Result<Option<Finding>, Finding> {
     for (step, stays) in steps.iter().zip(stays.iter()) {
         if !*stays {
             continue;

@@ -5,7 +5,7 @@ use medium::Kept;
 use std::fmt;
 
 /// A line of a script of lives.
-#[derive(Debug, Drop)]
+#[derive(Drop)]
 pub(crate) enum Step {
     Event(Event),
     Fuse(u64),
