@@ -11,7 +11,7 @@ pub enum LogFormat {
 }
 
 impl LogFormat {
-    ghost use Rattle.std.specs.Prelude.{◌≡◌, ◌≢◌, IfSome, None};
+    ghost use Rattle.std.specs.Prelude.{◌≡◌, ◌≢◌, ◌↔◌, IfSome, IsTrue, None};
     ghost use Rattle.journal.specs.Places.{flushes_of, limit_of, slot_sectors_of, gap_of};
     ghost use Rattle.journal.specs.Places.{record_calls_of};
     ghost use Rattle.journal.specs.Sectors.{version_of};
@@ -62,6 +62,16 @@ impl LogFormat {
         match self {
             LogFormat::One => v1::GAP,
             LogFormat::Two => v2::GAP,
+        }
+    }
+
+    /// Whether an image of the format can be made one of another, which is so of format 1.
+    pub fn migrates(self) -> bool
+        ensures { IsTrue result ↔ self ≡ LogFormat.One }
+    {
+        match self {
+            LogFormat::One => true,
+            LogFormat::Two => false,
         }
     }
 

@@ -16,7 +16,6 @@ use crate::new_head::move_head;
 use crate::recovery::recover_at_least;
 use crate::sectors::{clear, write_through};
 use crate::{Recovered, StartFault};
-use journal::LogFormat;
 use medium::{Medium, MediumFault};
 
 /// Recovers an image and, where it is of format 1, makes it one of format 2 with the same blocks:
@@ -44,9 +43,10 @@ pub fn migrate<M: Medium>(m: &mut M) -> Result<(Recovered, bool), StartFault>
     ensures follows { M.follows m.old m.new }
 {
     let found = recover_at_least(m, 5)?;
-    match found.sizes.format {
-        LogFormat::One => Ok((make_two(m, &found)?, true)),
-        LogFormat::Two => Ok((found, false)),
+    if found.sizes.format.migrates() {
+        Ok((make_two(m, &found)?, true))
+    } else {
+        Ok((found, false))
     }
 }
 

@@ -16,7 +16,7 @@ ghost use Rattle.recovery.specs.Inspected.{IsLookCause};
 use crate::StartFault;
 use crate::found::Found;
 use crate::record::count_blocks;
-use journal::{Head, LogFormat, Super, SuperFault};
+use journal::{Head, Super, SuperFault};
 use medium::{Medium, MediumFault};
 
 // Counts the whole records from the head on.
@@ -71,10 +71,7 @@ pub(crate) fn read_super<M: Medium>(m: &mut M) -> Result<Super, StartFault>
 fn has_few_slots(sizes: &Super, least: u64) -> bool
     ensures { IsTrue result ↔ ((sizes.now.format ≡ One) × (sizes.now.slots < least)) }
 {
-    match sizes.format {
-        LogFormat::One => sizes.slots < least,
-        LogFormat::Two => false,
-    }
+    sizes.format.migrates() && sizes.slots < least
 }
 
 /// Reads all that recovery has to know before its first write. A log of format 1 with fewer slots

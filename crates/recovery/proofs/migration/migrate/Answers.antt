@@ -16,7 +16,7 @@ make_two-requires-clause-can g c =
     let old = g.M.Medium.state c.args.m.now in
     let mid = g.M.Medium.state c.recover_at_least.new.m in
     let found = c.in_ok-found.ensures.ok in
-    can_migrate old mid c.in_ok-found.found found.from found.room c.in-One.is
+    can_migrate old mid c.in_ok-found.found found.from found.room (c.migrates.ensures.0 c.if-migrates.true)
 
 pub returns-in_err-found-clause-err : goal.returns-in_err-found-clause-err
 returns-in_err-found-clause-err g c =
@@ -30,17 +30,17 @@ returns-in_err-found-clause-err g c =
     } in
     rw (p.1, p.2) refusal
 
-pub returns-in_err-make_two-in-One-clause-err : goal.returns-in_err-make_two-in-One-clause-err
-returns-in_err-make_two-in-One-clause-err g c =
+pub returns-in_err-make_two-clause-err : goal.returns-in_err-make_two-clause-err
+returns-in_err-make_two-clause-err g c =
     let old = g.M.Medium.state c.args.m.now in
     let mid = g.M.Medium.state c.recover_at_least.new.m in
     let new = g.M.Medium.state c.make_two.new.m in
-    let back = c.from_residual-in_err-make_two-in-One in
+    let back = c.from_residual-in_err-make_two in
     let p = err_from_is_err_and back.result back.ensures.1 in
-    let kind = c.in_err-make_two-in-One.field-0.0 in
+    let kind = c.in_err-make_two.field-0.0 in
     let before = c.recover_at_least.ensures.leaves.all.moments in
-    let refusal : IsMigrationRefusal old new (start_fault_of c.in_err-make_two-in-One.field-0.0) = record {
-      cause = refused_later 5 (λ _. Unit {0}) old mid new before kind c.in_err-make_two-in-One.ensures.cause;
+    let refusal : IsMigrationRefusal old new (start_fault_of c.in_err-make_two.field-0.0) = record {
+      cause = refused_later 5 (λ _. Unit {0}) old mid new before kind c.in_err-make_two.ensures.cause;
       served = λ shape array next s left some. (kind, refl);
     } in
     rw (p.1, p.2) refusal
@@ -51,14 +51,14 @@ returns-in_err-found-clause-leaves g c =
     let mid = g.M.Medium.state c.recover_at_least.new.m in
     recovery_leaves old mid c.recover_at_least.ensures.leaves
 
-pub returns-in-Two-clause-leaves : goal.returns-in-Two-clause-leaves
-returns-in-Two-clause-leaves g c =
+pub returns-else-migrates-clause-leaves : goal.returns-else-migrates-clause-leaves
+returns-else-migrates-clause-leaves g c =
     let old = g.M.Medium.state c.args.m.now in
     let mid = g.M.Medium.state c.recover_at_least.new.m in
     recovery_leaves old mid c.recover_at_least.ensures.leaves
 
-pub returns-in_err-make_two-in-One-clause-leaves : goal.returns-in_err-make_two-in-One-clause-leaves
-returns-in_err-make_two-in-One-clause-leaves g c =
+pub returns-in_err-make_two-clause-leaves : goal.returns-in_err-make_two-clause-leaves
+returns-in_err-make_two-clause-leaves g c =
     let old = g.M.Medium.state c.args.m.now in
     let mid = g.M.Medium.state c.recover_at_least.new.m in
     let new = g.M.Medium.state c.make_two.new.m in
@@ -67,12 +67,13 @@ returns-in_err-make_two-in-One-clause-leaves g c =
     let making = c.make_two.ensures in
     let sound = g.met.M.Medium.sound c.args.m.now in
     let sound_mid = g.met.M.Medium.sound c.recover_at_least.new.m in
-    migration_leaves old mid found start.ok.from start.ok.room c.in-One.is new making.leaves.spares start.fresh sound sound_mid
+    migration_leaves old mid found start.ok.from start.ok.room
+    (c.migrates.ensures.0 c.if-migrates.true) new making.leaves.spares start.fresh sound sound_mid
     making.leaves.cuts c.recover_at_least.ensures.leaves making.calls.calls making.leaves.sends
     making.leaves.looked_stays
 
-pub returns-in_ok-make_two-in-One-clause-leaves : goal.returns-in_ok-make_two-in-One-clause-leaves
-returns-in_ok-make_two-in-One-clause-leaves g c =
+pub returns-in_ok-make_two-clause-leaves : goal.returns-in_ok-make_two-clause-leaves
+returns-in_ok-make_two-clause-leaves g c =
     let old = g.M.Medium.state c.args.m.now in
     let mid = g.M.Medium.state c.recover_at_least.new.m in
     let new = g.M.Medium.state c.make_two.new.m in
@@ -81,36 +82,37 @@ returns-in_ok-make_two-in-One-clause-leaves g c =
     let making = c.make_two.ensures in
     let sound = g.met.M.Medium.sound c.args.m.now in
     let sound_mid = g.met.M.Medium.sound c.recover_at_least.new.m in
-    migration_leaves old mid found start.ok.from start.ok.room c.in-One.is new making.leaves.spares start.fresh sound sound_mid
+    migration_leaves old mid found start.ok.from start.ok.room
+    (c.migrates.ensures.0 c.if-migrates.true) new making.leaves.spares start.fresh sound sound_mid
     making.leaves.cuts c.recover_at_least.ensures.leaves making.calls.calls making.leaves.sends
     making.leaves.looked_stays
 
-pub returns-in_ok-make_two-in-One-clause-ok : goal.returns-in_ok-make_two-in-One-clause-ok
-returns-in_ok-make_two-in-One-clause-ok g c =
+pub returns-in_ok-make_two-clause-ok : goal.returns-in_ok-make_two-clause-ok
+returns-in_ok-make_two-clause-ok g c =
     let old = g.M.Medium.state c.args.m.now in
     let mid = g.M.Medium.state c.recover_at_least.new.m in
     let new = g.M.Medium.state c.make_two.new.m in
     let found = c.in_ok-found.found in
     let start = c.in_ok-found.ensures in
     let making = c.make_two.ensures in
-    let done = c.in_ok-make_two-in-One.ensures in
-    migrated_from old mid found start.ok.from start.ok.room c.in-One.is new making.leaves.spares
-    c.in_ok-make_two-in-One.field-0 done.ok.sizes_are done.ok.next_is done.ok.made done.calls.exact
+    let done = c.in_ok-make_two.ensures in
+    migrated_from old mid found start.ok.from start.ok.room (c.migrates.ensures.0 c.if-migrates.true) new making.leaves.spares
+    c.in_ok-make_two.field-0 done.ok.sizes_are done.ok.next_is done.ok.made done.calls.exact
 
-pub returns-in_ok-make_two-in-One-clause-fresh : goal.returns-in_ok-make_two-in-One-clause-fresh
-returns-in_ok-make_two-in-One-clause-fresh g c shape array next ours =
+pub returns-in_ok-make_two-clause-fresh : goal.returns-in_ok-make_two-clause-fresh
+returns-in_ok-make_two-clause-fresh g c shape array next ours =
     let old = g.M.Medium.state c.args.m.now in
     let mid = g.M.Medium.state c.recover_at_least.new.m in
     let new = g.M.Medium.state c.make_two.new.m in
     let found = c.in_ok-found.found in
     let start = c.in_ok-found.ensures in
     let making = c.make_two.ensures in
-    let done = c.in_ok-make_two-in-One.ensures in
-    migrated_fresh old mid found start.ok.from start.ok.room c.in-One.is new making.leaves.spares
-    c.in_ok-make_two-in-One.field-0 done.ok.sizes_are done.ok.next_is done.ok.made shape array next ours
+    let done = c.in_ok-make_two.ensures in
+    migrated_fresh old mid found start.ok.from start.ok.room (c.migrates.ensures.0 c.if-migrates.true) new making.leaves.spares
+    c.in_ok-make_two.field-0 done.ok.sizes_are done.ok.next_is done.ok.made shape array next ours
 
-pub returns-in-Two-clause-fresh : goal.returns-in-Two-clause-fresh
-returns-in-Two-clause-fresh g c shape array next ours =
+pub returns-else-migrates-clause-fresh : goal.returns-else-migrates-clause-fresh
+returns-else-migrates-clause-fresh g c shape array next ours =
     let old = g.M.Medium.state c.args.m.now in
     let mid = g.M.Medium.state c.recover_at_least.new.m in
     let found = c.in_ok-found.found in
