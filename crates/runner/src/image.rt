@@ -1,8 +1,7 @@
 //! Image files, as media.
-ghost use Rattle.std.specs.Prelude.{◌≡◌, ◌⊎◌, ◌↔◌, ℕ, List, IfOk, IfErr, IfSome, IfNone, OnOk};
+ghost use Rattle.std.specs.Prelude.{◌≡◌, ◌⊎◌, ◌↔◌, ℕ, List, IfOk, IfErr, IfSome, IfNone};
 ghost use Rattle.std.specs.Prelude.{MatchResult};
 ghost use Rattle.journal.specs.Places.{new_shape, sectors_of};
-ghost use Rattle.recovery.specs.Formatted.{IsFormatCause, IsFormatted};
 ghost use Rattle.medium.specs.ImageFile.{IsImage};
 ghost use Rattle.runner.specs.Program.{AreImageSizes, IsJustOpened, IsMade, simulated};
 
@@ -10,7 +9,7 @@ use crate::read::{ReadFault, read_to_limit};
 use crate::refusal::Refusal;
 use crate::streams::hold_streams;
 use journal::LogFormat;
-use medium::{FileMedium, Medium, SimError, SimMedium};
+use medium::{FileMedium, SimError, SimMedium};
 use recovery::FormatFault;
 use std::fs;
 use std::fs::{File, Files};
@@ -38,28 +37,10 @@ pub(crate) fn make_image<R: Files<File = File> + AllocGlobal>(
     let sectors = image_sectors(format, blocks, slots).ok_or(Refusal::ImageSize)?;
     let _streams = hold_streams(rt)?;
     let mut medium = FileMedium::create(rt, path, sectors)?;
-    match format_medium(&mut medium, format, blocks, slots) {
+    match recovery::make(&mut medium, format, blocks, slots) {
         Ok(()) => Ok(medium),
         Err(FormatFault::BadSize) => Err(Refusal::ImageSize),
         Err(FormatFault::Medium) => Err(Refusal::File),
-    }
-}
-
-// Makes an image of this format on a medium.
-fn format_medium<M: Medium>(
-    m: &mut M,
-    format: LogFormat,
-    blocks: u64,
-    slots: u64,
-) -> Result<(), FormatFault>
-    ensures ok { OnOk result (IsFormatted (new_shape format blocks slots) (M.state m.new)) }
-    ensures err { IfErr result
-        (IsFormatCause (new_shape format blocks slots) (M.state m.old) (M.state m.new)) }
-    ensures follows { M.follows m.old m.new }
-{
-    match format {
-        LogFormat::One => recovery::format(m, blocks, slots),
-        LogFormat::Two => recovery::format2(m, blocks, slots),
     }
 }
 
