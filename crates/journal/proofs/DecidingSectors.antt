@@ -1,5 +1,5 @@
 -- Whether bytes spell a value: each is so or not.
-use Rattle.std.proofs.Common.{◌≡◌, ◌⊎◌, inl, inr, ⊎_elim, ℕ, zero, suc, ◌+◌, ◌*◌, ◌-◌, ◌^◌, ◌<◌, ◌≤◌, List, [], ◌∷◌, length, get_or, refl}
+use Rattle.std.proofs.Common.{◌≡◌, ◌⊎◌, inl, inr, ⊎_elim, ℕ, zero, suc, ◌+◌, ◌*◌, ◌^◌, ◌<◌, ◌≤◌, List, [], ◌∷◌, refl}
 use Rattle.std.proofs.Common.{sym, ◌∙◌, ap, subst, arith}
 use Rattle.std.specs.Prelude.{All}
 use Rattle.std.proofs.lemmas.Grind.{get_or_default_zero}
@@ -7,9 +7,9 @@ use Rattle.std.proofs.lemmas.Bool.{cases_eq, cases_lt}
 use Rattle.journal.specs.declared.log_format.LogFormat.{LogFormat}
 use Rattle.journal.specs.declared.log_format.LogFormat.TheVariants.{One, Two}
 use Rattle.journal.specs.Places.{Shape, IsFirstHome, slot_sectors_of, gap_of}
-use Rattle.journal.specs.Spelling.{spelling, number_in, super_mark, head_mark, descriptor_mark, commit_mark}
-use Rattle.journal.specs.Sectors.{version_of, IsSuper, IsHead, IsRising, AreBlockNumbers, IsDescriptor, IsCommit}
-use Rattle.journal.proofs.SectorNumbers.{head_stamp, commit_stamp, commit_count, descriptor_stamp, descriptor_numbers, super_blocks}
+use Rattle.journal.specs.Spelling.{spelling, number_in, super_mark, head_mark}
+use Rattle.journal.specs.Sectors.{version_of, IsSuper, IsHead, IsRising}
+use Rattle.journal.proofs.SectorNumbers.{head_stamp, super_blocks}
 use Rattle.journal.proofs.SectorNumbers.{super_slots, super_home}
 
 -- so or not

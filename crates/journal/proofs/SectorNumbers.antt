@@ -3,7 +3,7 @@ use Rattle.std.proofs.Common.{◌≡◌, ◌⊎◌, inl, inr, ⊎_elim, refl, �
 use Rattle.std.proofs.Common.{ap, sym, ◌∙◌, arith}
 use Rattle.std.specs.Prelude.{All}
 use Rattle.std.proofs.lemmas.List.{ext_get_or}
-use Rattle.journal.specs.Places.{Shape, IsFirstHome, slot_sectors_of, gap_of}
+use Rattle.journal.specs.Places.{Shape, IsFirstHome}
 use Rattle.journal.specs.declared.log_format.LogFormat.{LogFormat}
 use Rattle.journal.specs.declared.log_format.LogFormat.TheVariants.{One, Two}
 use Rattle.journal.specs.Spelling.{number_in, super_mark, head_mark, descriptor_mark, commit_mark}

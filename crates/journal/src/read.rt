@@ -1,9 +1,8 @@
 //! The reading of a record, in both formats.
-ghost use Rattle.std.specs.Prelude.{◌≤◌, ◌<◌, IfOk};
-ghost use Rattle.medium.specs.Medium.{LooksOnly};
+ghost use Rattle.std.specs.Prelude.{◌≤◌, ◌<◌};
 ghost use Rattle.journal.specs.Places.{first_home, sectors_of};
 ghost use Rattle.journal.specs.Values.{shape_of};
-ghost use Rattle.journal.specs.Reads.{ReadsPass};
+ghost use Rattle.journal.specs.Reads.{LooksUp};
 ghost use Rattle.journal.specs.Reading.{record_reads_of, stamp_reads_of};
 ghost use Rattle.journal.specs.Reading.{FindsRecord, FindsStamps};
 
@@ -22,12 +21,8 @@ pub fn read_record<M: Medium>(
     stamp: u64,
 ) -> Result<Option<Record>, MediumFault>
     requires { sectors_of (shape_of sizes.now) ≤ (M.state m.old).size }
-    ensures passes { ReadsPass (record_reads_of sizes.now.format)
-        (M.state m.old) (M.state m.new) result }
-    ensures finds { IfOk result
-        (FindsRecord (shape_of sizes.now) stamp (M.state m.old) (M.state m.new)) }
-    ensures follows { M.follows m.old m.new
-        × LooksOnly (λ s. s < first_home (shape_of sizes.now)) (M.state m.old) (M.state m.new) }
+    ensures { LooksUp M.state M.follows (record_reads_of sizes.now.format)
+        (λ s. s < first_home (shape_of sizes.now)) (FindsRecord (shape_of sizes.now) stamp) m.old m.new result }
 {
     match sizes.format {
         LogFormat::One => v1::read_record(m, sizes, stamp),
@@ -49,12 +44,8 @@ pub fn are_stamped<M: Medium>(
 ) -> Result<bool, MediumFault>
     requires few { count ≤ 240 }
     requires fits { sectors_of (shape_of sizes.now) ≤ (M.state m.old).size }
-    ensures passes { ReadsPass (stamp_reads_of sizes.now.format count)
-        (M.state m.old) (M.state m.new) result }
-    ensures finds { IfOk result
-        (FindsStamps (shape_of sizes.now) stamp count (M.state m.old) (M.state m.new)) }
-    ensures follows { M.follows m.old m.new
-        × LooksOnly (λ s. s < first_home (shape_of sizes.now)) (M.state m.old) (M.state m.new) }
+    ensures { LooksUp M.state M.follows (stamp_reads_of sizes.now.format count)
+        (λ s. s < first_home (shape_of sizes.now)) (FindsStamps (shape_of sizes.now) stamp count) m.old m.new result }
 {
     match sizes.format {
         LogFormat::One => Ok(true),

@@ -1,12 +1,11 @@
 //! The reading of a record of format 1.
 ghost use Rattle.std.specs.Prelude.{◌≡◌, ◌<◌, ◌≤◌, List, IfOk, IfSome, IsSomeAnd, length};
-ghost use Rattle.medium.specs.Medium.{LooksOnly};
 ghost use Rattle.journal.specs.declared.log_format.LogFormat.TheVariants.{One};
 ghost use Rattle.journal.specs.Places.{first_home, sectors_of};
 ghost use Rattle.journal.specs.Values.{shape_of};
 ghost use Rattle.journal.specs.Record.{Entry, numbers_of};
 ghost use Rattle.journal.specs.Formats.{IsWhole};
-ghost use Rattle.journal.specs.Reads.{ReadsPass, ReadsAllPass};
+ghost use Rattle.journal.specs.Reads.{LooksUp, LooksUpAll};
 ghost use Rattle.journal.specs.Reading.{FindsRecord};
 
 use crate::v1::{Descriptor, commit_place, place_of, whole_record};
@@ -22,15 +21,13 @@ fn read_descriptor<M: Medium>(
 ) -> Result<Option<Descriptor>, MediumFault>
     requires format { sizes.now.format ≡ One }
     requires fits { sectors_of (shape_of sizes.now) ≤ (M.state m.old).size }
-    ensures passes { ReadsAllPass 2 (M.state m.old) (M.state m.new) result }
-    ensures some { IfOk result (λ found. IfSome found (λ d. (entries : List Entry)
-        × IsWhole (shape_of sizes.now) (M.state m.old).content stamp entries
-        × (d.numbers.items ≡ numbers_of entries))) }
+    ensures reads { LooksUpAll M.state M.follows 2 (λ s. s < first_home (shape_of sizes.now))
+        (λ old new found. IfSome found (λ d. (entries : List Entry)
+        × IsWhole (shape_of sizes.now) old.content stamp entries
+        × (d.numbers.items ≡ numbers_of entries))) m.old m.new result }
     ensures all { (entries : List Entry)
         → IsWhole (shape_of sizes.now) (M.state m.old).content stamp entries
         → IfOk result (λ found. IsSomeAnd found (λ d. d.numbers.items ≡ numbers_of entries)) }
-    ensures follows { M.follows m.old m.new
-        × LooksOnly (λ s. s < first_home (shape_of sizes.now)) (M.state m.old) (M.state m.new) }
 {
     let slot = slot_of(stamp, sizes.slots);
     let mut descriptor = [0; 512];
@@ -60,11 +57,8 @@ pub(crate) fn read_record<M: Medium>(
 ) -> Result<Option<Record>, MediumFault>
     requires format { sizes.now.format ≡ One }
     requires fits { sectors_of (shape_of sizes.now) ≤ (M.state m.old).size }
-    ensures passes { ReadsPass 2 (M.state m.old) (M.state m.new) result }
-    ensures finds { IfOk result
-        (FindsRecord (shape_of sizes.now) stamp (M.state m.old) (M.state m.new)) }
-    ensures follows { M.follows m.old m.new
-        × LooksOnly (λ s. s < first_home (shape_of sizes.now)) (M.state m.old) (M.state m.new) }
+    ensures { LooksUp M.state M.follows 2
+        (λ s. s < first_home (shape_of sizes.now)) (FindsRecord (shape_of sizes.now) stamp) m.old m.new result }
 {
     let Some(found) = read_descriptor(m, sizes, stamp)? else {
         return Ok(None);

@@ -3,7 +3,6 @@ ghost use Rattle.std.specs.Prelude.{◌≡◌, ◌≤◌, ◌<◌, ◌+◌, ◌*
 ghost use Rattle.std.specs.Prelude.{ℕ, List, length, All, IfOk};
 ghost use Rattle.std.specs.Prelude.{IfSome, IsSomeAnd, IsTrue, MatchOption};
 ghost use Rattle.std.specs.Prelude.{◌↔◌};
-ghost use Rattle.medium.specs.Medium.{LooksOnly};
 ghost use Rattle.journal.specs.declared.log_format.LogFormat.TheVariants.{Two};
 ghost use Rattle.journal.specs.Entry.{Entry, numbers_of};
 ghost use Rattle.journal.specs.Places.{first_home, sectors_of};
@@ -14,7 +13,7 @@ ghost use Rattle.journal.specs.V2.{place_of, slot_end, descriptor_place, commit_
 ghost use Rattle.journal.specs.Values.{shape_of};
 ghost use Rattle.journal.specs.SlotTwo.{HasDescriptors, HasPlaces};
 ghost use Rattle.journal.specs.SlotReads.{StopsAtBad, ReadsUpToBad, HasDescriptor, HasPlace};
-ghost use Rattle.journal.specs.Reads.{ReadsPass, ReadsAllPass};
+ghost use Rattle.journal.specs.Reads.{LooksUp, LooksUpAll};
 ghost use Rattle.journal.specs.Reading.{FindsRecord, FindsStamps};
 
 use crate::v2::{
@@ -28,13 +27,11 @@ use medium::{Medium, MediumFault};
 fn read_count<M: Medium>(m: &mut M, slot: u64, stamp: u64) -> Result<Option<u64>, MediumFault>
     requires slot { slot < 64 }
     requires inside { slot_end slot ≤ (M.state m.old).size }
-    ensures passes { ReadsAllPass 1 (M.state m.old) (M.state m.new) result }
-    ensures some { IfOk result (λ found. IfSome found (λ count.
-        IsCommitTwo stamp count ((M.state m.old).content (commit_place slot)))) }
+    ensures reads { LooksUpAll M.state M.follows 1 (λ s. s < slot_end slot)
+        (λ old new found. IfSome found (λ count.
+        IsCommitTwo stamp count (old.content (commit_place slot)))) m.old m.new result }
     ensures all { (n : ℕ) → IsCommitTwo stamp n ((M.state m.old).content (commit_place slot))
         → IfOk result (λ found. IsSomeAnd found (λ k. k ≡ n)) }
-    ensures follows { M.follows m.old m.new
-        × LooksOnly (λ s. s < slot_end slot) (M.state m.old) (M.state m.new) }
 {
     let mut commit = [0; 512];
     m.read(commit_place(slot), &mut commit)?;
@@ -55,15 +52,13 @@ fn read_descriptor<M: Medium>(
     requires slot { slot < 64 }
     requires few { j < 8 }
     requires inside { slot_end slot ≤ (M.state m.old).size }
-    ensures passes { ReadsAllPass 1 (M.state m.old) (M.state m.new) result }
-    ensures some { IfOk result (λ found. IfSome found (λ d. (d.index ≡ j)
+    ensures reads { LooksUpAll M.state M.follows 1 (λ s. s < slot_end slot)
+        (λ old new found. IfSome found (λ d. (d.index ≡ j)
         × IsDescriptorTwo stamp count j d.numbers.items d.firsts.items
-        ((M.state m.old).content (descriptor_place slot j)))) }
+        (old.content (descriptor_place slot j)))) m.old m.new result }
     ensures all { (numbers : List ℕ) (firsts : List (List ℕ)) → IsDescriptorTwo stamp count j
         numbers firsts ((M.state m.old).content (descriptor_place slot j)) → IfOk result (λ found.
         IsSomeAnd found (λ d. (d.numbers.items ≡ numbers) × (d.firsts.items ≡ firsts))) }
-    ensures follows { M.follows m.old m.new
-        × LooksOnly (λ s. s < slot_end slot) (M.state m.old) (M.state m.new) }
 {
     let mut sector = [0; 512];
     m.read(descriptor_place(slot, j), &mut sector)?;
@@ -87,14 +82,13 @@ fn read_descriptors<M: Medium>(
     requires slot { slot < 64 }
     requires few { count ≤ 240 }
     requires inside { slot_end slot ≤ (M.state m.old).size }
-    ensures passes { ReadsPass 8 (M.state m.old) (M.state m.new) result }
-    ensures found { IfOk result (λ found. MatchOption found
-        ((reads : ℕ)
-        × StopsAtBad (HasDescriptor (M.state m.old).content (place_of slot) stamp count)
-        (descriptors_of count) reads × ((M.state m.new).calls ≡ (M.state m.old).calls + reads))
+    ensures reads { LooksUp M.state M.follows 8 (λ s. s < slot_end slot)
+        (λ old new found. MatchOption found
+        ((reads : ℕ) × StopsAtBad (HasDescriptor old.content (place_of slot) stamp count)
+        (descriptors_of count) reads × (new.calls ≡ old.calls + reads))
         (λ read. (length read.numbers.items ≡ count)
-        × HasDescriptors (M.state m.old).content (place_of slot) stamp read.numbers.items
-        × ((M.state m.new).calls ≡ (M.state m.old).calls + descriptors_of count))) }
+        × HasDescriptors old.content (place_of slot) stamp read.numbers.items
+        × (new.calls ≡ old.calls + descriptors_of count))) m.old m.new result }
     ensures all { (numbers : List ℕ) → length numbers ≡ count
         → HasDescriptors (M.state m.old).content (place_of slot) stamp numbers
         → IfOk result (λ found. IsSomeAnd found (λ read. read.numbers.items ≡ numbers)) }
@@ -103,8 +97,6 @@ fn read_descriptors<M: Medium>(
         (numbers_of (chunk_of entries j)) (firsts_of (chunk_of entries j))
         ((M.state m.old).content (descriptor_place slot j)))
         → IfOk result (λ found. IfSome found (λ read. read.firsts.items ≡ firsts_of entries)) }
-    ensures follows { M.follows m.old m.new
-        × LooksOnly (λ s. s < slot_end slot) (M.state m.old) (M.state m.new) }
 {
     let mut numbers = ArrayVec::new();
     let mut firsts = ArrayVec::new();
@@ -137,11 +129,8 @@ pub(crate) fn read_record<M: Medium>(
 ) -> Result<Option<Record>, MediumFault>
     requires format { sizes.now.format ≡ Two }
     requires fits { sectors_of (shape_of sizes.now) ≤ (M.state m.old).size }
-    ensures passes { ReadsPass 9 (M.state m.old) (M.state m.new) result }
-    ensures finds { IfOk result
-        (FindsRecord (shape_of sizes.now) stamp (M.state m.old) (M.state m.new)) }
-    ensures follows { M.follows m.old m.new
-        × LooksOnly (λ s. s < first_home (shape_of sizes.now)) (M.state m.old) (M.state m.new) }
+    ensures { LooksUp M.state M.follows 9
+        (λ s. s < first_home (shape_of sizes.now)) (FindsRecord (shape_of sizes.now) stamp) m.old m.new result }
 {
     let slot = slot_of(stamp, sizes.slots);
     let Some(count) = read_count(m, slot, stamp)? else {
@@ -162,13 +151,10 @@ fn has_stamps<M: Medium>(m: &mut M, slot: u64, stamp: u64, count: u64) -> Result
     requires slot { slot < 64 }
     requires few { count ≤ 240 }
     requires inside { slot_end slot ≤ (M.state m.old).size }
-    ensures passes { ReadsPass count (M.state m.old) (M.state m.new) result }
-    ensures stamped { IfOk result (λ good. (IsTrue good
-        ↔ HasPlaces (M.state m.old).content (place_of slot) stamp count) × (reads : ℕ)
-        × ReadsUpToBad (HasPlace (M.state m.old).content (place_of slot) stamp) count reads
-        × ((M.state m.new).calls ≡ (M.state m.old).calls + reads)) }
-    ensures follows { M.follows m.old m.new
-        × LooksOnly (λ s. s < slot_end slot) (M.state m.old) (M.state m.new) }
+    ensures { LooksUp M.state M.follows count (λ s. s < slot_end slot)
+        (λ old new good. (IsTrue good ↔ HasPlaces old.content (place_of slot) stamp count)
+        × (reads : ℕ) × ReadsUpToBad (HasPlace old.content (place_of slot) stamp) count reads
+        × (new.calls ≡ old.calls + reads)) m.old m.new result }
 {
     let mut sector = [0; 512];
     for i in 0..count {
@@ -190,11 +176,8 @@ pub(crate) fn are_stamped<M: Medium>(
     requires format { sizes.now.format ≡ Two }
     requires few { count ≤ 240 }
     requires fits { sectors_of (shape_of sizes.now) ≤ (M.state m.old).size }
-    ensures passes { ReadsPass count (M.state m.old) (M.state m.new) result }
-    ensures finds { IfOk result
-        (FindsStamps (shape_of sizes.now) stamp count (M.state m.old) (M.state m.new)) }
-    ensures follows { M.follows m.old m.new
-        × LooksOnly (λ s. s < first_home (shape_of sizes.now)) (M.state m.old) (M.state m.new) }
+    ensures { LooksUp M.state M.follows count
+        (λ s. s < first_home (shape_of sizes.now)) (FindsStamps (shape_of sizes.now) stamp count) m.old m.new result }
 {
     has_stamps(m, slot_of(stamp, sizes.slots), stamp, count)
 }

@@ -1,4 +1,4 @@
-use Rattle.std.proofs.Common.{◌≡◌, ◌∙◌, List, subst}
+use Rattle.std.proofs.Common.{◌≡◌, ◌∙◌, List, subst, rules}
 use Rattle.std.specs.Prelude.{IfSome, IsSomeAnd}
 use Rattle.journal.specs.Values.{shape_of}
 use Rattle.journal.specs.Record.{Entry, numbers_of}
@@ -6,22 +6,26 @@ use Rattle.journal.specs.Formats.{IsWhole}
 use Rattle.journal.proofs.Finding.{one_read, reads_one}
 use Rattle.journal.proofs.v1.read.read_record.Goals as goal
 
-pub returns-clause-finds : goal.returns-clause-finds
-returns-clause-finds g c =
-    let shape = shape_of c.args.sizes.now in
-    let image = (g.M.Medium.state c.args.m.now).content in
-    let stamp = c.args.stamp in
-    let listed : c.list_of.result.items ≡ c.in-Some.found.numbers.items = c.list_of.ensures ∙ c.deref.ensures.0 in
-    let w = subst (λ o. IfSome o (λ d. (es : List Entry) × IsWhole shape image stamp es × (d.numbers.items ≡ numbers_of es)))
-    c.in-Some.is c.in_ok-found.ensures.some in
-    record {
-      some = λ stamped. (w.0, w.1);
-      all = λ entries whole.
-          let names = subst (λ o. IsSomeAnd o (λ d. d.numbers.items ≡ numbers_of entries)) c.in-Some.is
-          (c.in_ok-found.ensures.all entries whole) in
-          record {
-            numbers_are = listed ∙ names;
-            blocks_are = λ i below. one_read shape image stamp entries whole _ i below c.requires.format c.new.ensures;
-          };
-      exact = (2, reads_one _ shape image stamp c.requires.format, c.in_ok-found.ensures.passes.exact);
-    }
+pub returns : goal.returns
+returns g c = record {
+  passes = search rules;
+  finds =
+      let shape = shape_of c.args.sizes.now in
+      let image = (g.M.Medium.state c.args.m.now).content in
+      let stamp = c.args.stamp in
+      let listed : c.list_of.result.items ≡ c.in-Some.found.numbers.items = c.list_of.ensures ∙ c.deref.ensures.0 in
+      let w = subst (λ o. IfSome o (λ d. (es : List Entry) × IsWhole shape image stamp es × (d.numbers.items ≡ numbers_of es)))
+      c.in-Some.is c.in_ok-found.ensures.reads.finds in
+      record {
+        some = λ stamped. (w.0, w.1);
+        all = λ entries whole.
+            let names = subst (λ o. IsSomeAnd o (λ d. d.numbers.items ≡ numbers_of entries)) c.in-Some.is
+            (c.in_ok-found.ensures.all entries whole) in
+            record {
+              numbers_are = listed ∙ names;
+              blocks_are = λ i below. one_read shape image stamp entries whole _ i below c.requires.format c.new.ensures;
+            };
+        exact = (2, reads_one _ shape image stamp c.requires.format, c.in_ok-found.ensures.reads.passes.exact);
+      };
+  follows = search rules;
+}

@@ -1,24 +1,36 @@
-use Rattle.std.proofs.Common.{◌+◌, ◌*◌, arith}
+use Rattle.std.proofs.Common.{◌+◌, ◌*◌, rules, arith}
 use Rattle.medium.proofs.SectorsRead.{look_below}
 use Rattle.journal.proofs.v2.read.read_count.Goals as goal
 
-pub returns-in_err-read-clause-follows : goal.returns-in_err-read-clause-follows
-returns-in_err-read-clause-follows g c = (
-  c.read.ensures.follows.0,
-  look_below (2 + 249 * c.args.slot + 249) (g.M.Medium.state c.args.m.now) (g.M.Medium.state c.read.new.self) c.commit_place.result
-      (omega (arith, c.commit_place.ensures)) c.read.ensures.follows.1,
-)
+pub returns-in_err-read-clause-reads : goal.returns-in_err-read-clause-reads
+returns-in_err-read-clause-reads g c = record {
+  passes = search rules;
+  finds = search rules;
+  follows = (
+    c.read.ensures.follows.0,
+    look_below (2 + 249 * c.args.slot + 249) (g.M.Medium.state c.args.m.now) (g.M.Medium.state c.read.new.self) c.commit_place.result
+        (omega (arith, c.commit_place.ensures)) c.read.ensures.follows.1,
+  );
+}
 
-pub returns-in-Some-clause-follows : goal.returns-in-Some-clause-follows
-returns-in-Some-clause-follows g c = (
-  c.read.ensures.follows.0,
-  look_below (2 + 249 * c.args.slot + 249) (g.M.Medium.state c.args.m.now) (g.M.Medium.state c.read.new.self) c.commit_place.result
-      (omega (arith, c.commit_place.ensures)) c.read.ensures.follows.1,
-)
+pub returns-in-Some-clause-reads : goal.returns-in-Some-clause-reads
+returns-in-Some-clause-reads g c = record {
+  passes = search rules;
+  finds = search rules;
+  follows = (
+    c.read.ensures.follows.0,
+    look_below (2 + 249 * c.args.slot + 249) (g.M.Medium.state c.args.m.now) (g.M.Medium.state c.read.new.self) c.commit_place.result
+        (omega (arith, c.commit_place.ensures)) c.read.ensures.follows.1,
+  );
+}
 
-pub returns-in_default-clause-follows : goal.returns-in_default-clause-follows
-returns-in_default-clause-follows g c = (
-  c.read.ensures.follows.0,
-  look_below (2 + 249 * c.args.slot + 249) (g.M.Medium.state c.args.m.now) (g.M.Medium.state c.read.new.self) c.commit_place.result
-      (omega (arith, c.commit_place.ensures)) c.read.ensures.follows.1,
-)
+pub returns-in_default-clause-reads : goal.returns-in_default-clause-reads
+returns-in_default-clause-reads g c = record {
+  passes = search rules;
+  finds = search rules;
+  follows = (
+    c.read.ensures.follows.0,
+    look_below (2 + 249 * c.args.slot + 249) (g.M.Medium.state c.args.m.now) (g.M.Medium.state c.read.new.self) c.commit_place.result
+        (omega (arith, c.commit_place.ensures)) c.read.ensures.follows.1,
+  );
+}

@@ -1,4 +1,4 @@
-use Rattle.std.proofs.Common.{◌≡◌, ◌∙◌, ◌+◌, ◌*◌, ◌<◌, ℕ, List, ◌++◌, length, take, drop, refl, sym, ap, subst, arith}
+use Rattle.std.proofs.Common.{◌≡◌, ◌∙◌, ◌+◌, ◌*◌, ◌<◌, ℕ, List, ◌++◌, length, take, drop, refl, sym, ap, subst, rules, arith}
 use Rattle.std.specs.Prelude.{IfSome, IsSomeAnd}
 use Rattle.std.proofs.Math.Seq.{take-add}
 use Rattle.std.proofs.lemmas.List.{length-append}
@@ -38,7 +38,7 @@ loop-j-preserved g c =
     let d = c.in-Some.found in
     let same = inv.quiet.content_stays (at + j) in
     let some = subst (λ o. IfSome o (λ d. (d.index ≡ j) × IsDescriptorTwo s n j d.numbers.items d.firsts.items (mid.content (at + j))))
-    c.in-Some.is c.in_ok-found.ensures.some in
+    c.in-Some.is c.in_ok-found.ensures.reads.finds in
     let is = subst (λ (bytes : List ℕ). IsDescriptorTwo s n j d.numbers.items d.firsts.items bytes) same some.1 in
     let more : c.try_extend_from_slice.new.self.items ≡ ns ++ d.numbers.items =
     c.in-Ok.ensures.ok ∙ ap (λ (l : List ℕ). ns ++ l) c.deref.ensures.0 in
@@ -47,9 +47,9 @@ loop-j-preserved g c =
     c.in-Ok-try_extend_from_slice.ensures.ok ∙ ap (λ (l : List (List ℕ)). fs ++ l) c.deref-in-loop-j.ensures.0 in
     let full : length ns ≡ 30 * j = omega (arith, inv.long, below, c.descriptors-j-end.ensures) in
     record {
-      quiet = quiet_joined old mid new inv.quiet c.read_descriptor.ensures.passes.quiet;
-      reads = λ kind other. c.read_descriptor.ensures.passes.reads kind other ∙ inv.reads kind other;
-      calls = omega (arith, inv.calls, c.in_ok-found.ensures.passes.exact);
+      quiet = quiet_joined old mid new inv.quiet c.read_descriptor.ensures.reads.passes.quiet;
+      reads = λ kind other. c.read_descriptor.ensures.reads.passes.reads kind other ∙ inv.reads kind other;
+      calls = omega (arith, inv.calls, c.in_ok-found.ensures.reads.passes.exact);
       long = ap (λ (l : List ℕ). length l) more ∙ omega (arith, length-append ns d.numbers.items, is.entries.many, full);
       described = subst
           (λ (l : List ℕ).
@@ -96,62 +96,71 @@ loop-j-preserved g c =
           );
       follows =
           g.met.M.Medium.follows_through c.args.m.now c.loop-j.m c.read_descriptor.new.m inv.follows
-          c.read_descriptor.ensures.follows.0;
-      looks = looks_joined (λ s. s < 2 + 249 * c.args.slot + 249) old mid new inv.looks c.read_descriptor.ensures.follows.1;
+          c.read_descriptor.ensures.reads.follows.0;
+      looks = looks_joined (λ s. s < 2 + 249 * c.args.slot + 249) old mid new inv.looks c.read_descriptor.ensures.reads.follows.1;
     }
 
-pub returns-clause-found : goal.returns-clause-found
-returns-clause-found g c =
-    let inv = c.loop-j.invariant in
-    let n = c.args.count in
-    let over = c.loop-j-test.false in
-    let long : length c.loop-j.numbers.items ≡ c.args.count = omega (arith, inv.long, over, c.descriptors-j-end.ensures) in (
-      long,
-      λ j below.
-          let was = inv.described j (omega (arith, below, long, over, c.descriptors-j-end.ensures)) in (
-            was.0,
-            subst
-                (λ (k : ℕ). IsDescriptorTwo c.args.stamp k j (take 30 (drop (30 * j) c.loop-j.numbers.items)) was.0
-                ((g.M.Medium.state c.args.m.now).content (2 + 249 * c.args.slot + j)))
-                (sym long) was.1,
-          ),
-      omega (arith, inv.calls, over, c.descriptors-j-end.ensures, c.loop-j.auto.j-end),
-    )
+pub returns-clause-reads : goal.returns-clause-reads
+returns-clause-reads g c = record {
+  passes = search rules;
+  finds =
+      let inv = c.loop-j.invariant in
+      let n = c.args.count in
+      let over = c.loop-j-test.false in
+      let long : length c.loop-j.numbers.items ≡ c.args.count = omega (arith, inv.long, over, c.descriptors-j-end.ensures) in (
+        long,
+        λ j below.
+            let was = inv.described j (omega (arith, below, long, over, c.descriptors-j-end.ensures)) in (
+              was.0,
+              subst
+                  (λ (k : ℕ). IsDescriptorTwo c.args.stamp k j (take 30 (drop (30 * j) c.loop-j.numbers.items)) was.0
+                  ((g.M.Medium.state c.args.m.now).content (2 + 249 * c.args.slot + j)))
+                  (sym long) was.1,
+            ),
+        omega (arith, inv.calls, over, c.descriptors-j-end.ensures, c.loop-j.auto.j-end),
+      );
+  follows = search rules;
+}
 
-pub returns-in_err-found-clause-follows : goal.returns-in_err-found-clause-follows
-returns-in_err-found-clause-follows g c =
-    let inv = c.loop-j.invariant in (
-      g.met.M.Medium.follows_through c.args.m.now c.loop-j.m c.read_descriptor.new.m inv.follows c.read_descriptor.ensures.follows.0,
-      looks_joined (λ s. s < 2 + 249 * c.args.slot + 249) (g.M.Medium.state c.args.m.now) (g.M.Medium.state c.loop-j.m)
-          (g.M.Medium.state c.read_descriptor.new.m) inv.looks c.read_descriptor.ensures.follows.1,
-    )
+pub returns-in_err-found-clause-reads : goal.returns-in_err-found-clause-reads
+returns-in_err-found-clause-reads g c = record {
+  passes = search rules;
+  finds = search rules;
+  follows =
+      let inv = c.loop-j.invariant in (
+        g.met.M.Medium.follows_through c.args.m.now c.loop-j.m c.read_descriptor.new.m inv.follows c.read_descriptor.ensures.reads.follows.0,
+        looks_joined (λ s. s < 2 + 249 * c.args.slot + 249) (g.M.Medium.state c.args.m.now) (g.M.Medium.state c.loop-j.m)
+            (g.M.Medium.state c.read_descriptor.new.m) inv.looks c.read_descriptor.ensures.reads.follows.1,
+      );
+}
 
-pub returns-in_default-clause-follows : goal.returns-in_default-clause-follows
-returns-in_default-clause-follows g c =
-    let inv = c.loop-j.invariant in (
-      g.met.M.Medium.follows_through c.args.m.now c.loop-j.m c.read_descriptor.new.m inv.follows c.read_descriptor.ensures.follows.0,
-      looks_joined (λ s. s < 2 + 249 * c.args.slot + 249) (g.M.Medium.state c.args.m.now) (g.M.Medium.state c.loop-j.m)
-          (g.M.Medium.state c.read_descriptor.new.m) inv.looks c.read_descriptor.ensures.follows.1,
-    )
-
-pub returns-in_default-clause-found : goal.returns-in_default-clause-found
-returns-in_default-clause-found g c =
-    let s = c.args.stamp in
-    let n = c.args.count in
-    let j = c.loop-j.j in
-    let inv = c.loop-j.invariant in
-    let at : ℕ = 2 + 249 * c.args.slot in
-    let same = inv.quiet.content_stays (at + j) in (
-      j + 1,
-      record {
-        first = j;
-        inside = omega (arith, c.descriptors-j-end.ensures, c.loop-j-test.true);
-        before = λ k below. let d = inv.described k below in (take 30 (drop (30 * k) c.loop-j.numbers.items), d.0, d.1);
-        bad = λ has.
-            let there = subst (λ (bytes : List ℕ). IsDescriptorTwo s n j has.0 has.1 bytes) (sym same) has.2 in
-            absurd (subst (λ o. IsSomeAnd o (λ d. (d.numbers.items ≡ has.0) × (d.firsts.items ≡ has.1))) c.in_default.is
-            (c.in_ok-found.ensures.all has.0 has.1 there));
-        reads_are = refl;
-      },
-      omega (arith, inv.calls, c.in_ok-found.ensures.passes.exact),
-    )
+pub returns-in_default-clause-reads : goal.returns-in_default-clause-reads
+returns-in_default-clause-reads g c = record {
+  passes = search rules;
+  finds =
+      let s = c.args.stamp in
+      let n = c.args.count in
+      let j = c.loop-j.j in
+      let inv = c.loop-j.invariant in
+      let at : ℕ = 2 + 249 * c.args.slot in
+      let same = inv.quiet.content_stays (at + j) in (
+        j + 1,
+        record {
+          first = j;
+          inside = omega (arith, c.descriptors-j-end.ensures, c.loop-j-test.true);
+          before = λ k below. let d = inv.described k below in (take 30 (drop (30 * k) c.loop-j.numbers.items), d.0, d.1);
+          bad = λ has.
+              let there = subst (λ (bytes : List ℕ). IsDescriptorTwo s n j has.0 has.1 bytes) (sym same) has.2 in
+              absurd (subst (λ o. IsSomeAnd o (λ d. (d.numbers.items ≡ has.0) × (d.firsts.items ≡ has.1))) c.in_default.is
+              (c.in_ok-found.ensures.all has.0 has.1 there));
+          reads_are = refl;
+        },
+        omega (arith, inv.calls, c.in_ok-found.ensures.reads.passes.exact),
+      );
+  follows =
+      let inv = c.loop-j.invariant in (
+        g.met.M.Medium.follows_through c.args.m.now c.loop-j.m c.read_descriptor.new.m inv.follows c.read_descriptor.ensures.reads.follows.0,
+        looks_joined (λ s. s < 2 + 249 * c.args.slot + 249) (g.M.Medium.state c.args.m.now) (g.M.Medium.state c.loop-j.m)
+            (g.M.Medium.state c.read_descriptor.new.m) inv.looks c.read_descriptor.ensures.reads.follows.1,
+      );
+}
