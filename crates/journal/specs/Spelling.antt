@@ -1,5 +1,6 @@
 -- Sectors as numbers: the marks, and the numbers of eight bytes, the lowest byte first.
-use Rattle.std.specs.Prelude.{ℕ, ◌*◌, ◌-◌, List, ◌++◌, length, replicate, drop, codes}
+use Rattle.std.specs.Prelude.{◌≡◌, ◌<◌, ℕ, ◌*◌, ◌-◌, List, ◌++◌, length, replicate, drop}
+use Rattle.std.specs.Prelude.{get_or, codes}
 use Rattle.std.specs.List.{flat_map}
 use Rattle.byteorder.specs.Endian.{little_bytes, little_number}
 
@@ -26,3 +27,9 @@ descriptor_mark = mark (codes "RDDESCR1")
 
 abbrev pub commit_mark : ℕ
 commit_mark = mark (codes "RDCOMMIT")
+
+-- so many items, of which the i-th is this
+pub record AreItems {X : Type 0} (many : ℕ) (item : ℕ → X) (none : X) (items : List X)
+    : Type 0 where
+  pub count : length items ≡ many
+  pub each : (i : ℕ) → i < many → get_or items i none ≡ item i

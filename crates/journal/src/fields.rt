@@ -1,7 +1,7 @@
 //! The numbers of a sector.
 ghost use Rattle.std.specs.Prelude.{◌≡◌, ◌≤◌, ◌<◌, ◌*◌, ◌^◌, ◌+◌, ◌++◌, ◌∷◌, ◌↔◌};
 ghost use Rattle.std.specs.Prelude.{[], List, ℕ, length, All, slice_index, IsTrue};
-ghost use Rattle.journal.specs.Spelling.{spelling, number_in, mark};
+ghost use Rattle.journal.specs.Spelling.{spelling, number_in, mark, AreItems};
 ghost use Rattle.journal.specs.Sectors.{IsRising};
 ghost use Rattle.journal.specs.SuperFaults.{HasZeroRest};
 
@@ -40,15 +40,25 @@ pub(crate) fn number_at(sector: &[u8], i: usize) -> u64
 pub(crate) fn numbers_at(sector: &[u8], count: usize) -> ArrayVec<u64, 48>
     requires size { length sector.now ≡ 512 }
     requires few { count ≤ 48 }
-    ensures count { length result.items ≡ count }
-    ensures each { (i : ℕ) → i < count
-        → slice_index result.items i ≡ number_in sector.now (3 + i) }
+    ensures { AreItems count (λ i. number_in sector.now (3 + i)) 0 result.items }
 {
     let mut numbers = ArrayVec::new();
     for i in 0..count {
         numbers.push(number_at(sector, 3 + i));
     }
     numbers
+}
+
+/// A list of these numbers.
+pub(crate) fn list_of<const N: usize>(numbers: &[u64]) -> ArrayVec<u64, N>
+    requires { length numbers.now ≤ N }
+    ensures { result.items ≡ numbers.now }
+{
+    let mut list = ArrayVec::new();
+    for number in numbers {
+        list.push(*number);
+    }
+    list
 }
 
 /// Whether there are zeros behind the six numbers of a super.

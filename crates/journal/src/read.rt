@@ -22,7 +22,8 @@ pub fn read_record<M: Medium>(
 ) -> Result<Option<Record>, MediumFault>
     requires { sectors_of (shape_of sizes.now) ≤ (M.state m.old).size }
     ensures { LooksUp M.state M.follows (record_reads_of sizes.now.format)
-        (λ s. s < first_home (shape_of sizes.now)) (FindsRecord (shape_of sizes.now) stamp) m.old m.new result }
+        (λ s. s < first_home (shape_of sizes.now)) (FindsRecord (shape_of sizes.now) stamp)
+        m.old m.new result }
 {
     match sizes.format {
         LogFormat::One => v1::read_record(m, sizes, stamp),
@@ -45,7 +46,8 @@ pub fn are_stamped<M: Medium>(
     requires few { count ≤ 240 }
     requires fits { sectors_of (shape_of sizes.now) ≤ (M.state m.old).size }
     ensures { LooksUp M.state M.follows (stamp_reads_of sizes.now.format count)
-        (λ s. s < first_home (shape_of sizes.now)) (FindsStamps (shape_of sizes.now) stamp count) m.old m.new result }
+        (λ s. s < first_home (shape_of sizes.now)) (FindsStamps (shape_of sizes.now) stamp count)
+        m.old m.new result }
 {
     match sizes.format {
         LogFormat::One => Ok(true),

@@ -4,7 +4,7 @@ ghost use Rattle.std.specs.Prelude.{ℕ, List, length, IfSome, IsSomeAnd, IsTrue
 ghost use Rattle.journal.specs.Spelling.{spelling};
 ghost use Rattle.journal.specs.Sectors.{AreBlockNumbers, IsDescriptor};
 
-use crate::fields::{are_rising, mark_number, number_at, numbers_at, put};
+use crate::fields::{are_rising, list_of, mark_number, number_at, numbers_at, put};
 use arrayvec::ArrayVec;
 
 /// What the first sector of a slot holds.
@@ -68,18 +68,6 @@ impl Descriptor {
             None
         }
     }
-}
-
-// A list of these numbers.
-fn list_of(numbers: &[u64]) -> ArrayVec<u64, 48>
-    requires { length numbers.now ≤ 48 }
-    ensures { result.items ≡ numbers.now }
-{
-    let mut list = ArrayVec::new();
-    for number in numbers {
-        list.push(*number);
-    }
-    list
 }
 
 // Writes these numbers from the i-th on.

@@ -8,6 +8,7 @@ ghost use Rattle.journal.specs.Formats.{IsWhole};
 ghost use Rattle.journal.specs.Reads.{LooksUp, LooksUpAll};
 ghost use Rattle.journal.specs.Reading.{FindsRecord};
 
+use crate::fields::list_of;
 use crate::v1::{Descriptor, commit_place, place_of, whole_record};
 use crate::{Record, Super, slot_of};
 use arrayvec::ArrayVec;
@@ -37,18 +38,6 @@ fn read_descriptor<M: Medium>(
     Ok(whole_record(sizes.blocks, stamp, &descriptor, &commit))
 }
 
-// A list of these numbers.
-fn list_of(numbers: &[u64]) -> ArrayVec<u64, 240>
-    requires { length numbers.now ≤ 240 }
-    ensures { result.items ≡ numbers.now }
-{
-    let mut list = ArrayVec::new();
-    for number in numbers {
-        list.push(*number);
-    }
-    list
-}
-
 /// Reads the record of a stamp up to its data places, if it is whole.
 pub(crate) fn read_record<M: Medium>(
     m: &mut M,
@@ -58,7 +47,8 @@ pub(crate) fn read_record<M: Medium>(
     requires format { sizes.now.format ≡ One }
     requires fits { sectors_of (shape_of sizes.now) ≤ (M.state m.old).size }
     ensures { LooksUp M.state M.follows 2
-        (λ s. s < first_home (shape_of sizes.now)) (FindsRecord (shape_of sizes.now) stamp) m.old m.new result }
+        (λ s. s < first_home (shape_of sizes.now)) (FindsRecord (shape_of sizes.now) stamp)
+        m.old m.new result }
 {
     let Some(found) = read_descriptor(m, sizes, stamp)? else {
         return Ok(None);

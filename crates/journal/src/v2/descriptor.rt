@@ -4,12 +4,12 @@ ghost use Rattle.std.specs.Prelude.{ℕ, List, length, take, drop, All, slice_in
 ghost use Rattle.std.specs.Prelude.{slice_range, [], zip, min, IsTrue, IfSome, IsSomeAnd};
 ghost use Rattle.std.specs.List.{flat_map};
 ghost use Rattle.journal.specs.Sectors.{IsRising};
-ghost use Rattle.journal.specs.Spelling.{number_in};
+ghost use Rattle.journal.specs.Spelling.{number_in, AreItems};
 ghost use Rattle.journal.specs.SectorsTwo.{AreEntriesTwo, IsDescriptorTwo, entries_here};
 ghost use Rattle.journal.specs.SectorsTwo.{entry_bytes, padded};
 ghost use Rattle.journal.specs.V2.{first_bytes};
 
-use crate::fields::{are_rising, mark_number, number_at};
+use crate::fields::{are_rising, list_of, mark_number, number_at};
 use crate::v2::places::ENTRIES;
 use crate::v2::sectors::{append, append_number};
 use arrayvec::ArrayVec;
@@ -138,25 +138,12 @@ fn are_small(numbers: &[u64]) -> bool
     numbers.iter().all(|b| *b < 1 << 31)
 }
 
-// A list of these numbers.
-fn list_of(numbers: &[u64]) -> ArrayVec<u64, 30>
-    requires { length numbers.now ≤ 30 }
-    ensures { result.items ≡ numbers.now }
-{
-    let mut list = ArrayVec::new();
-    for number in numbers {
-        list.push(*number);
-    }
-    list
-}
-
 // The first 8 bytes of so many blocks from this one on.
 fn firsts_in(bytes: &[u8], from: usize, count: usize) -> ArrayVec<[u8; 8], 30>
     requires few { count ≤ 30 }
     requires inside { 512 * (from + count) ≤ length bytes.now }
-    ensures count { length result.items ≡ count }
-    ensures each { (i : ℕ) → i < count → get_or result.items i []
-        ≡ slice_range bytes.now (512 * (from + i)) (512 * (from + i) + 8) }
+    ensures { AreItems count (λ i. slice_range bytes.now
+        (512 * (from + i)) (512 * (from + i) + 8)) [] result.items }
 {
     let mut firsts = ArrayVec::new();
     for i in 0..count {
@@ -187,9 +174,7 @@ fn append_entries(sector: &mut [u8], numbers: &[u64], firsts: &[[u8; 8]])
 fn numbers_at(sector: &[u8], count: usize) -> ArrayVec<u64, 30>
     requires size { length sector.now ≡ 512 }
     requires few { count ≤ 30 }
-    ensures count { length result.items ≡ count }
-    ensures each { (i : ℕ) → i < count
-        → slice_index result.items i ≡ number_in sector.now (4 + 2 * i) }
+    ensures { AreItems count (λ i. number_in sector.now (4 + 2 * i)) 0 result.items }
 {
     let mut numbers = ArrayVec::new();
     for i in 0..count {
@@ -202,9 +187,8 @@ fn numbers_at(sector: &[u8], count: usize) -> ArrayVec<u64, 30>
 fn firsts_at(sector: &[u8], count: usize) -> ArrayVec<[u8; 8], 30>
     requires size { length sector.now ≡ 512 }
     requires few { count ≤ 30 }
-    ensures count { length result.items ≡ count }
-    ensures each { (i : ℕ) → i < count → get_or result.items i []
-        ≡ slice_range sector.now (40 + 16 * i) (40 + 16 * i + 8) }
+    ensures { AreItems count (λ i. slice_range sector.now (40 + 16 * i) (40 + 16 * i + 8)) []
+        result.items }
 {
     let mut firsts = ArrayVec::new();
     for i in 0..count {

@@ -130,7 +130,8 @@ pub(crate) fn read_record<M: Medium>(
     requires format { sizes.now.format ≡ Two }
     requires fits { sectors_of (shape_of sizes.now) ≤ (M.state m.old).size }
     ensures { LooksUp M.state M.follows 9
-        (λ s. s < first_home (shape_of sizes.now)) (FindsRecord (shape_of sizes.now) stamp) m.old m.new result }
+        (λ s. s < first_home (shape_of sizes.now)) (FindsRecord (shape_of sizes.now) stamp)
+        m.old m.new result }
 {
     let slot = slot_of(stamp, sizes.slots);
     let Some(count) = read_count(m, slot, stamp)? else {
@@ -177,7 +178,8 @@ pub(crate) fn are_stamped<M: Medium>(
     requires few { count ≤ 240 }
     requires fits { sectors_of (shape_of sizes.now) ≤ (M.state m.old).size }
     ensures { LooksUp M.state M.follows count
-        (λ s. s < first_home (shape_of sizes.now)) (FindsStamps (shape_of sizes.now) stamp count) m.old m.new result }
+        (λ s. s < first_home (shape_of sizes.now)) (FindsStamps (shape_of sizes.now) stamp count)
+        m.old m.new result }
 {
     has_stamps(m, slot_of(stamp, sizes.slots), stamp, count)
 }

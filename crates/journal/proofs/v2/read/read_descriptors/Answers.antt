@@ -128,7 +128,8 @@ returns-in_err-found-clause-reads g c = record {
   finds = search rules;
   follows =
       let inv = c.loop-j.invariant in (
-        g.met.M.Medium.follows_through c.args.m.now c.loop-j.m c.read_descriptor.new.m inv.follows c.read_descriptor.ensures.reads.follows.0,
+        g.met.M.Medium.follows_through c.args.m.now c.loop-j.m c.read_descriptor.new.m inv.follows
+            c.read_descriptor.ensures.reads.follows.0,
         looks_joined (λ s. s < 2 + 249 * c.args.slot + 249) (g.M.Medium.state c.args.m.now) (g.M.Medium.state c.loop-j.m)
             (g.M.Medium.state c.read_descriptor.new.m) inv.looks c.read_descriptor.ensures.reads.follows.1,
       );
@@ -159,7 +160,8 @@ returns-in_default-clause-reads g c = record {
       );
   follows =
       let inv = c.loop-j.invariant in (
-        g.met.M.Medium.follows_through c.args.m.now c.loop-j.m c.read_descriptor.new.m inv.follows c.read_descriptor.ensures.reads.follows.0,
+        g.met.M.Medium.follows_through c.args.m.now c.loop-j.m c.read_descriptor.new.m inv.follows
+            c.read_descriptor.ensures.reads.follows.0,
         looks_joined (λ s. s < 2 + 249 * c.args.slot + 249) (g.M.Medium.state c.args.m.now) (g.M.Medium.state c.loop-j.m)
             (g.M.Medium.state c.read_descriptor.new.m) inv.looks c.read_descriptor.ensures.reads.follows.1,
       );

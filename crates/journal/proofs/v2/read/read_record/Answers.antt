@@ -29,7 +29,8 @@ returns-in_default g c = record {
       record {
         some = tt;
         all = λ entries whole.
-            let says = two_says shape old.content c.args.stamp c.slot_of-slot.result entries c.requires.format c.slot_of-slot.ensures whole in
+            let says = two_says shape old.content c.args.stamp c.slot_of-slot.result entries c.requires.format
+            c.slot_of-slot.ensures whole in
             absurd (subst (λ o. IsSomeAnd o (λ k. k ≡ length (numbers_of entries))) c.in_default.is
             (c.in_ok-count.ensures.all (length (numbers_of entries)) says.committed));
         exact = (
