@@ -1,6 +1,6 @@
 -- The head moves: a flush, a write and a flush.
 use Rattle.std.proofs.Common.{◌≡◌, ◌⊎◌, inl, inr, ℕ, List, sym, ◌∙◌, ap, subst, Result}
-use Rattle.medium.specs.Medium.{State, Image, CutLeaves, Stays, Holds, Within, Gains, Only, Passes, IsSound}
+use Rattle.medium.specs.Medium.{State, Image, CutLeaves, Within, Gains, Only, Passes, IsSound}
 use Rattle.medium.specs.Moments.{EachCut, LeavesOnly}
 use Rattle.medium.specs.declared.fault.MediumFault.{MediumFault}
 use Rattle.medium.proofs.Moments.{started, goes_on, each_write, shrunk, only_image}

@@ -1,6 +1,6 @@
 -- What a look finds is what the image stands for, and why it is refused.
 use Rattle.std.proofs.Common.{◌≡◌, ◌∙◌, inl, inr, ℕ, ◌+◌, ◌<◌, ◌≤◌, List, [], ◌∷◌, ◌++◌, length, get_or, refl, sym, ap, subst, arith}
-use Rattle.std.specs.Prelude.{slice_index, map, Option, Some, None, MatchOption, IsSomeAnd}
+use Rattle.std.specs.Prelude.{slice_index, map}
 use Rattle.std.proofs.lemmas.Bool.{cases_lt}
 use Rattle.std.proofs.lemmas.List.{ext_get_or, get_or-map, length-map, get_or_append_left, get_or_push}
 use Rattle.medium.specs.Medium.{State, Image}
@@ -10,7 +10,7 @@ use Rattle.medium.specs.declared.fault.MediumFault.TheVariants as medium
 use Rattle.journal.specs.Places.{Shape}
 use Rattle.journal.specs.Sectors.{IsHead}
 use Rattle.journal.specs.Values.{shape_of}
-use Rattle.journal.specs.Record.{Entry, numbers_of}
+use Rattle.journal.specs.Record.{Entry}
 use Rattle.journal.specs.Formats.{layout_of, IsWhole, HasWhole}
 use Rattle.journal.specs.Standing.{Stands}
 use Rattle.journal.specs.ImageFaults as image

@@ -4,9 +4,9 @@ use Rattle.std.specs.Prelude.{replicate}
 use Rattle.medium.specs.Medium.{State, Image, CutLeaves, Holds, Within, Gains, Passes, IsSound}
 use Rattle.medium.specs.Moments.{EachCut, IsFlushed, LeavesOnly, StaysWithin, SparesFrom}
 use Rattle.medium.specs.declared.fault.MediumFault.{MediumFault}
-use Rattle.medium.proofs.Moments.{started, started_within, gains_within, goes_on, goes_on_within, weaker, joined_same, at_exit, each_write}
+use Rattle.medium.proofs.Moments.{started, gains_within, goes_on, goes_on_within, weaker, joined_same, at_exit, each_write}
 use Rattle.medium.proofs.Moments.{shrunk}
-use Rattle.medium.proofs.SparedSectors.{HasSpared, spared_start, spared_joined}
+use Rattle.medium.proofs.SparedSectors.{HasSpared, spared_joined}
 use Rattle.spec.specs.Blocks.{Array}
 use Rattle.journal.specs.Places.{Shape, first_home, sectors_of}
 use Rattle.journal.specs.Sectors.{IsSuper, IsHead}

@@ -9,3 +9,4 @@ pub mod Migrated
 pub mod Inspected
 pub mod Recovered
 pub mod Tries
+pub mod Steps

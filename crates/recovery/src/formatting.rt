@@ -4,10 +4,9 @@ ghost use Rattle.journal.specs.declared.log_format.LogFormat.TheVariants.{One, T
 ghost use Rattle.journal.specs.Places.{new_shape, sectors_of, slot_sectors_of};
 ghost use Rattle.journal.specs.Values.{shape_of};
 ghost use Rattle.recovery.specs.Calls.{CallsUpTo};
-ghost use Rattle.spec.specs.Blocks.{Array};
 ghost use Rattle.recovery.specs.Formatted.{AreSizes, IsFormatted, FormatLeaves, IsFormatCause};
 ghost use Rattle.recovery.specs.Formatted.{Formats};
-ghost use Rattle.recovery.specs.Formatted.{IsArrayFrom, IsMade, ImageLeaves, CallsWithoutReads};
+ghost use Rattle.recovery.specs.Steps.{WritesImage};
 
 use crate::FormatFault;
 use crate::sectors::{clear, write_through};
@@ -39,15 +38,7 @@ pub(crate) fn write_image<M: Medium>(m: &mut M, sizes: &Super, end: u64) -> Resu
     requires fits { sectors_of (shape_of sizes.now) ≤ (M.state m.old).size }
     requires log { sizes.now.home ≤ end }
     requires inside { end ≤ sectors_of (shape_of sizes.now) }
-    ensures done { let shape = shape_of sizes.now in
-        (array : Array) → IsArrayFrom shape end (M.state m.old).content array
-        → OnOk result (IsMade shape array end (M.state m.old) (M.state m.new)) }
-    ensures leaves { let shape = shape_of sizes.now in
-        (array : Array) → IsArrayFrom shape end (M.state m.old).content array
-        → ImageLeaves shape array end (M.state m.old) (M.state m.new) }
-    ensures calls { CallsWithoutReads (end + 5) (M.state m.old) (M.state m.new) result }
-    ensures cause { OnErr result ((M.state m.old).failures < (M.state m.new).failures) }
-    ensures follows { M.follows m.old m.new }
+    ensures { WritesImage M.state M.follows (shape_of sizes.now) end m.old m.new result }
 {
     write_through(m, 0, &[0; 512])?;
     clear(m, 1, end)?;

@@ -4,8 +4,8 @@ ghost use Rattle.std.specs.Prelude.{IfOk, IfErr};
 ghost use Rattle.journal.specs.declared.log_format.LogFormat.TheVariants.{Two};
 ghost use Rattle.journal.specs.Places.{sectors_of, slot_sectors_of};
 ghost use Rattle.journal.specs.Values.{shape_of};
-ghost use Rattle.recovery.specs.Calls.{ReadsPass};
 ghost use Rattle.recovery.specs.Inspected.{AreCounts, IsInspected, OnlyLooks, IsLookRefusal};
+ghost use Rattle.recovery.specs.Steps.{ReadsFor};
 
 use crate::StartFault;
 use crate::record::count_blocks;
@@ -33,11 +33,9 @@ fn count_waiting<M: Medium>(
 ) -> Result<ArrayVec<u64, 64>, MediumFault>
     requires fits { sectors_of (shape_of sizes.now) ≤ (M.state m.old).size }
     requires head { head < 2 ^ 63 }
-    ensures passes { ReadsPass ((slot_sectors_of Two + 1) * sizes.now.slots)
-        (M.state m.old) (M.state m.new) result }
-    ensures counts { IfOk result (λ waiting.
-        AreCounts (shape_of sizes.now) (M.state m.old).content head waiting.items) }
-    ensures follows { M.follows m.old m.new }
+    ensures { ReadsFor M.state M.follows ((slot_sectors_of Two + 1) * sizes.now.slots)
+        (λ old waiting. AreCounts (shape_of sizes.now) old.content head waiting.items)
+        m.old m.new result }
 {
     let mut waiting = ArrayVec::new();
     for j in 0..sizes.slots {

@@ -2,15 +2,13 @@
 ghost use Rattle.std.specs.Prelude.{◌<◌, ◌≤◌, ◌+◌, ◌*◌, ◌^◌, ℕ, IfOk, IfErr};
 ghost use Rattle.medium.specs.Moments.{EachCut, IsFlushed};
 ghost use Rattle.spec.specs.Blocks.{Array};
-ghost use Rattle.journal.specs.declared.log_format.LogFormat.TheVariants.{One};
-ghost use Rattle.journal.specs.Places.{Shape, sectors_of, slot_sectors_of};
+ghost use Rattle.journal.specs.Places.{Shape, sectors_of};
 ghost use Rattle.journal.specs.Values.{shape_of};
 ghost use Rattle.journal.specs.Standing.{IsOurs};
-ghost use Rattle.recovery.specs.Calls.{CallsUpTo};
-ghost use Rattle.recovery.specs.Causes.{IsRefusedCall};
 ghost use Rattle.recovery.specs.Recovered.{IsFresh};
-ghost use Rattle.recovery.specs.Migrated.{CanMigrate, IsMadeOf, IsMigrationBy, IsMigrationRefusal};
-ghost use Rattle.recovery.specs.Migrated.{MakingLeaves, MigrationLeaves};
+ghost use Rattle.recovery.specs.Migrated.{CanMigrate, IsMigrationBy, IsMigrationRefusal};
+ghost use Rattle.recovery.specs.Migrated.{MigrationLeaves};
+ghost use Rattle.recovery.specs.Steps.{MakesTwo};
 
 use crate::new_head::move_head;
 use crate::recovery::recover_at_least;
@@ -58,13 +56,7 @@ fn make_two<M: Medium>(m: &mut M, found: &Recovered) -> Result<Recovered, Medium
     requires flushed { IsFlushed (M.state m.old) }
     requires least { 1 ≤ found.now.next }
     requires most { found.now.next < 2 ^ 63 }
-    ensures ok { IfOk result (IsMadeOf found.now (M.state m.new)) }
-    ensures leaves { MakingLeaves (shape_of found.now.sizes) found.now.next
-        (M.state m.old) (M.state m.new) }
-    ensures calls { CallsUpTo (slot_sectors_of One * found.now.sizes.slots + 5)
-        (M.state m.old) (M.state m.new) result }
-    ensures cause { IfErr result (IsRefusedCall (M.state m.old) (M.state m.new)) }
-    ensures follows { M.follows m.old m.new }
+    ensures { MakesTwo M.state M.follows found.now m.old m.new result }
 {
     let sizes = found.sizes.migrated();
     clear(m, 2, sizes.home)?;

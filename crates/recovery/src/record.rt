@@ -1,9 +1,8 @@
 //! The record of a stamp, where it is whole.
-ghost use Rattle.std.specs.Prelude.{◌≤◌, ◌<◌, IfOk};
-ghost use Rattle.medium.specs.Medium.{LooksOnly};
+ghost use Rattle.std.specs.Prelude.{◌≤◌, ◌<◌};
 ghost use Rattle.journal.specs.Places.{first_home, sectors_of};
 ghost use Rattle.journal.specs.Values.{shape_of};
-ghost use Rattle.recovery.specs.Calls.{ReadsPass};
+ghost use Rattle.journal.specs.Reads.{LooksUp};
 ghost use Rattle.recovery.specs.Copies.{most_reads_of};
 ghost use Rattle.recovery.specs.Found.{CountsBlocks};
 
@@ -17,12 +16,9 @@ pub(crate) fn count_blocks<M: Medium>(
     stamp: u64,
 ) -> Result<Option<u64>, MediumFault>
     requires { sectors_of (shape_of sizes.now) ≤ (M.state m.old).size }
-    ensures passes { ReadsPass (most_reads_of sizes.now.format)
-        (M.state m.old) (M.state m.new) result }
-    ensures counts { IfOk result
-        (CountsBlocks (shape_of sizes.now) stamp (M.state m.old) (M.state m.new)) }
-    ensures follows { M.follows m.old m.new
-        × LooksOnly (λ s. s < first_home (shape_of sizes.now)) (M.state m.old) (M.state m.new) }
+    ensures { LooksUp M.state M.follows (most_reads_of sizes.now.format)
+        (λ s. s < first_home (shape_of sizes.now)) (CountsBlocks (shape_of sizes.now) stamp)
+        m.old m.new result }
 {
     let Some(record) = read_record(m, sizes, stamp)? else {
         return Ok(None);

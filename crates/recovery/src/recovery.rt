@@ -5,9 +5,9 @@ ghost use Rattle.medium.specs.Moments.{EachCut};
 ghost use Rattle.spec.specs.Blocks.{Array};
 ghost use Rattle.journal.specs.Places.{Shape};
 ghost use Rattle.journal.specs.Standing.{IsOurs};
-ghost use Rattle.recovery.specs.Causes.{IsRefusalBy, WritesNothing};
-ghost use Rattle.recovery.specs.Recovered.{IsRecoveredFrom, IsRecoveredAtLeast, IsRecoveryRefusal};
-ghost use Rattle.recovery.specs.Recovered.{IsFresh, RecoveryLeaves, LeavesAtLeast};
+ghost use Rattle.recovery.specs.Recovered.{IsRecoveredFrom, IsRecoveryRefusal};
+ghost use Rattle.recovery.specs.Recovered.{IsFresh, RecoveryLeaves};
+ghost use Rattle.recovery.specs.Steps.{RecoversAtLeast};
 
 use crate::copies::copy_records;
 use crate::new_head::move_head;
@@ -41,14 +41,7 @@ pub fn recover<M: Medium>(m: &mut M) -> Result<Recovered, StartFault>
 
 /// Recovers an image whose log, where it is of format 1, has so many slots at least.
 pub(crate) fn recover_at_least<M: Medium>(m: &mut M, least: u64) -> Result<Recovered, StartFault>
-    ensures ok { IfOk result (IsRecoveredAtLeast least (M.state m.old) (M.state m.new)) }
-    ensures fresh { (shape : Shape) (array : Array) (next : ℕ)
-        → IsOurs (M.state m.old).size shape (M.state m.old).content array next
-        → OnOk result (EachCut (IsFresh shape array next) (M.state m.new)) }
-    ensures err { IfErr result
-        (IsRefusalBy least WritesNothing (M.state m.old) (M.state m.new)) }
-    ensures leaves { LeavesAtLeast least (M.state m.old) (M.state m.new) }
-    ensures follows { M.follows m.old m.new }
+    ensures { RecoversAtLeast M.state M.follows least m.old m.new result }
 {
     m.flush()?;
     let found = inspect(m, least)?;

@@ -2,16 +2,16 @@
 ghost use Rattle.std.specs.Prelude.{◌≡◌, ◌<◌, ◌≤◌, ◌+◌, ◌*◌, ◌^◌, ◌↔◌};
 ghost use Rattle.std.specs.Prelude.{IfOk, IfErr, min, IsTrue};
 ghost use Rattle.medium.specs.Medium.{LooksOnly};
-ghost use Rattle.medium.specs.Moments.{IsQuiet};
 ghost use Rattle.journal.specs.declared.log_format.LogFormat.TheVariants.{One};
 ghost use Rattle.journal.specs.Places.{first_home, sectors_of};
 ghost use Rattle.journal.specs.Values.{shape_of};
 ghost use Rattle.journal.specs.ImageFaults.{HasShape};
-ghost use Rattle.recovery.specs.Calls.{ReadsUpTo, ReadsPass};
-ghost use Rattle.recovery.specs.Causes.{IsRefusalBy};
+ghost use Rattle.journal.specs.Reads.{LooksUp};
+ghost use Rattle.recovery.specs.Calls.{ReadsUpTo};
 ghost use Rattle.recovery.specs.Copies.{most_reads_of};
-ghost use Rattle.recovery.specs.Found.{CountsWhole, IsSurvey, SurveysAtMost};
+ghost use Rattle.recovery.specs.Found.{CountsWhole};
 ghost use Rattle.recovery.specs.Inspected.{IsLookCause};
+ghost use Rattle.recovery.specs.Steps.{Surveys};
 
 use crate::StartFault;
 use crate::found::Found;
@@ -23,12 +23,9 @@ use medium::{Medium, MediumFault};
 fn count_whole<M: Medium>(m: &mut M, sizes: &Super, head: u64) -> Result<u64, MediumFault>
     requires fits { sectors_of (shape_of sizes.now) ≤ (M.state m.old).size }
     requires head { head < 2 ^ 63 }
-    ensures passes { ReadsPass (most_reads_of sizes.now.format * sizes.now.slots)
-        (M.state m.old) (M.state m.new) result }
-    ensures counts { IfOk result
-        (CountsWhole (shape_of sizes.now) head (M.state m.old) (M.state m.new)) }
-    ensures follows { M.follows m.old m.new
-        × LooksOnly (λ s. s < first_home (shape_of sizes.now)) (M.state m.old) (M.state m.new) }
+    ensures { LooksUp M.state M.follows (most_reads_of sizes.now.format * sizes.now.slots)
+        (λ s. s < first_home (shape_of sizes.now)) (CountsWhole (shape_of sizes.now) head)
+        m.old m.new result }
 {
     for j in 0..sizes.slots {
         let Some(_) = count_blocks(m, sizes, head + j)? else {
@@ -77,10 +74,7 @@ fn has_few_slots(sizes: &Super, least: u64) -> bool
 /// Reads all that recovery has to know before its first write. A log of format 1 with fewer slots
 /// than these is too small.
 pub(crate) fn inspect<M: Medium>(m: &mut M, least: u64) -> Result<Found, StartFault>
-    ensures reads { SurveysAtMost (M.state m.old) (M.state m.new) }
-    ensures ok { IfOk result (IsSurvey least (M.state m.old) (M.state m.new)) }
-    ensures err { IfErr result (IsRefusalBy least IsQuiet (M.state m.old) (M.state m.new)) }
-    ensures follows { M.follows m.old m.new }
+    ensures { Surveys M.state M.follows least m.old m.new result }
 {
     let sizes = read_super(m)?;
     let mut sector = [0; 512];

@@ -23,7 +23,7 @@ returns-clause-ok g c =
     let waiting = c.in_ok-waiting.waiting in
     counts_stand old (record { sizes = c.in_ok-sizes.sizes; head = stamp; waiting = waiting }) c.in_ok-sizes.ensures.ok
     (subst (IsHead stamp) (c.in_ok-read.ensures.ok ∙ quiet.content_stays 1) c.in-Some.ensures.some)
-    (counts_before (shape_of c.in_ok-sizes.sizes) old mid stamp waiting.items seen c.in_ok-waiting.ensures.counts)
+    (counts_before (shape_of c.in_ok-sizes.sizes) old mid stamp waiting.items seen c.in_ok-waiting.ensures.finds)
 
 pub returns-clause-looks : goal.returns-clause-looks
 returns-clause-looks g c =

@@ -13,143 +13,144 @@ use Rattle.journal.proofs.SlotTwo.{untrue}
 use Rattle.recovery.proofs.OneTry.{try_missed, try_read, most_tried}
 use Rattle.recovery.proofs.record.count_blocks.Goals as goal
 
-pub returns-in_default-clause-counts : goal.returns-in_default-clause-counts
-returns-in_default-clause-counts g c =
-    let shape = shape_of c.args.sizes.now in
-    let old = g.M.Medium.state c.args.m.now in
-    let mid = g.M.Medium.state c.read_record.new.m in
-    let finds = subst (λ o. FindsRecord shape c.args.stamp old mid o) c.in_default.is c.in_ok-record.ensures.finds in
-    record {
-      exact = try_missed shape.format shape old.content c.args.stamp finds.exact.0 old.calls mid.calls finds.exact.1 finds.exact.2;
-      counted = λ whole. finds.all whole.0 whole.1;
-    }
+pub returns-in_default : goal.returns-in_default
+returns-in_default g c = record {
+  passes = search rules;
+  finds =
+      let shape = shape_of c.args.sizes.now in
+      let old = g.M.Medium.state c.args.m.now in
+      let mid = g.M.Medium.state c.read_record.new.m in
+      let finds = subst (λ o. FindsRecord shape c.args.stamp old mid o) c.in_default.is c.in_ok-record.ensures.finds in
+      record {
+        exact = try_missed shape.format shape old.content c.args.stamp finds.exact.0 old.calls mid.calls finds.exact.1 finds.exact.2;
+        counted = λ whole. finds.all whole.0 whole.1;
+      };
+  follows = search rules;
+}
 
-pub returns-in_err-are_stamped-clause-passes : goal.returns-in_err-are_stamped-clause-passes
-returns-in_err-are_stamped-clause-passes g c =
-    let old = g.M.Medium.state c.args.m.now in
-    let mid = g.M.Medium.state c.read_record.new.m in
-    let new = g.M.Medium.state c.are_stamped.new.m in
-    let first = c.read_record.ensures.passes in
-    let last = c.are_stamped.ensures.passes in
-    let few : length c.in-Some.record.numbers.items ≤ 240 = search rules in
-    record {
-      quiet = quiet_joined old mid new first.quiet last.quiet;
-      reads = λ kind other. last.reads kind other ∙ first.reads kind other;
-      calls = most_tried c.args.sizes.now.format c.len-count.result old.calls mid.calls new.calls
-          (omega (arith, few, c.len-count.ensures.value)) first.calls last.calls;
-      cause = search rules;
-    }
-
-pub returns-then-branch-clause-passes : goal.returns-then-branch-clause-passes
-returns-then-branch-clause-passes g c =
-    let old = g.M.Medium.state c.args.m.now in
-    let mid = g.M.Medium.state c.read_record.new.m in
-    let new = g.M.Medium.state c.are_stamped.new.m in
-    let first = c.read_record.ensures.passes in
-    let last = c.are_stamped.ensures.passes in
-    let few : length c.in-Some.record.numbers.items ≤ 240 = search rules in
-    record {
-      quiet = quiet_joined old mid new first.quiet last.quiet;
-      reads = λ kind other. last.reads kind other ∙ first.reads kind other;
-      calls = most_tried c.args.sizes.now.format c.len-count.result old.calls mid.calls new.calls
-          (omega (arith, few, c.len-count.ensures.value)) first.calls last.calls;
-      cause = tt;
-    }
-
-pub returns-else-branch-clause-passes : goal.returns-else-branch-clause-passes
-returns-else-branch-clause-passes g c =
-    let old = g.M.Medium.state c.args.m.now in
-    let mid = g.M.Medium.state c.read_record.new.m in
-    let new = g.M.Medium.state c.are_stamped.new.m in
-    let first = c.read_record.ensures.passes in
-    let last = c.are_stamped.ensures.passes in
-    let few : length c.in-Some.record.numbers.items ≤ 240 = search rules in
-    record {
-      quiet = quiet_joined old mid new first.quiet last.quiet;
-      reads = λ kind other. last.reads kind other ∙ first.reads kind other;
-      calls = most_tried c.args.sizes.now.format c.len-count.result old.calls mid.calls new.calls
-          (omega (arith, few, c.len-count.ensures.value)) first.calls last.calls;
-      cause = tt;
-    }
-
-pub returns-in_err-are_stamped-clause-follows : goal.returns-in_err-are_stamped-clause-follows
-returns-in_err-are_stamped-clause-follows g c =
-    let shape = shape_of c.args.sizes.now in (
-      g.met.M.Medium.follows_through c.args.m.now c.read_record.new.m c.are_stamped.new.m c.read_record.ensures.follows.0
-          c.are_stamped.ensures.follows.0,
-      looks_joined (λ s. s < first_home shape) (g.M.Medium.state c.args.m.now) (g.M.Medium.state c.read_record.new.m)
-          (g.M.Medium.state c.are_stamped.new.m) c.read_record.ensures.follows.1 c.are_stamped.ensures.follows.1,
-    )
-
-pub returns-then-branch-clause-follows : goal.returns-then-branch-clause-follows
-returns-then-branch-clause-follows g c =
-    let shape = shape_of c.args.sizes.now in (
-      g.met.M.Medium.follows_through c.args.m.now c.read_record.new.m c.are_stamped.new.m c.read_record.ensures.follows.0
-          c.are_stamped.ensures.follows.0,
-      looks_joined (λ s. s < first_home shape) (g.M.Medium.state c.args.m.now) (g.M.Medium.state c.read_record.new.m)
-          (g.M.Medium.state c.are_stamped.new.m) c.read_record.ensures.follows.1 c.are_stamped.ensures.follows.1,
-    )
-
-pub returns-else-branch-clause-follows : goal.returns-else-branch-clause-follows
-returns-else-branch-clause-follows g c =
-    let shape = shape_of c.args.sizes.now in (
-      g.met.M.Medium.follows_through c.args.m.now c.read_record.new.m c.are_stamped.new.m c.read_record.ensures.follows.0
-          c.are_stamped.ensures.follows.0,
-      looks_joined (λ s. s < first_home shape) (g.M.Medium.state c.args.m.now) (g.M.Medium.state c.read_record.new.m)
-          (g.M.Medium.state c.are_stamped.new.m) c.read_record.ensures.follows.1 c.are_stamped.ensures.follows.1,
-    )
-
-pub returns-then-branch-clause-counts : goal.returns-then-branch-clause-counts
-returns-then-branch-clause-counts g c =
-    let shape = shape_of c.args.sizes.now in
-    let old = g.M.Medium.state c.args.m.now in
-    let mid = g.M.Medium.state c.read_record.new.m in
-    let new = g.M.Medium.state c.are_stamped.new.m in
-    let path : mid.content ≡ old.content = λ i x. c.read_record.ensures.passes.quiet.content_stays x i in
-    let finds = subst (λ o. FindsRecord shape c.args.stamp old mid o) c.in-Some.is c.in_ok-record.ensures.finds in
-    let asked = c.in_ok-are_stamped.ensures.finds in
-    let count : c.len-count.result ≡ length c.in-Some.record.numbers.items = c.len-count.ensures.value in
-    let good = subst (λ (i : Image). AreStamped shape.format shape i c.args.stamp c.len-count.result) path
-    (asked.is.0 c.if-branch.true) in
-    let whole = finds.some (subst (λ (n : ℕ). AreStamped shape.format shape old.content c.args.stamp n) count good) in
-    let places = subst (λ (i : Image). IsReadForStamps shape.format shape i c.args.stamp c.len-count.result asked.exact.0) path
-    asked.exact.1 in
-    let f : Entry → ℕ = λ e. e.0 in
-    record {
-      exact = try_read shape.format shape old.content c.args.stamp c.in-Some.record finds.exact.0 asked.exact.0 old.calls mid.calls
-          new.calls
-          finds.exact.1 finds.exact.2
-          (subst (λ (n : ℕ). IsReadForStamps shape.format shape old.content c.args.stamp n asked.exact.0) count places) asked.exact.2;
-      counted = (
-        whole.0,
-        whole.1,
-        count ∙ ap (λ l. length l) (finds.all whole.0 whole.1).numbers_are ∙ length-map whole.0 f,
+pub returns-in_err-are_stamped : goal.returns-in_err-are_stamped
+returns-in_err-are_stamped g c = record {
+  passes =
+      let old = g.M.Medium.state c.args.m.now in
+      let mid = g.M.Medium.state c.read_record.new.m in
+      let new = g.M.Medium.state c.are_stamped.new.m in
+      let first = c.read_record.ensures.passes in
+      let last = c.are_stamped.ensures.passes in
+      let few : length c.in-Some.record.numbers.items ≤ 240 = search rules in
+      record {
+        quiet = quiet_joined old mid new first.quiet last.quiet;
+        reads = λ kind other. last.reads kind other ∙ first.reads kind other;
+        calls = most_tried c.args.sizes.now.format c.len-count.result old.calls mid.calls new.calls
+            (omega (arith, few, c.len-count.ensures.value)) first.calls last.calls;
+        cause = search rules;
+      };
+  finds = search rules;
+  follows =
+      let shape = shape_of c.args.sizes.now in (
+        g.met.M.Medium.follows_through c.args.m.now c.read_record.new.m c.are_stamped.new.m c.read_record.ensures.follows.0
+            c.are_stamped.ensures.follows.0,
+        looks_joined (λ s. s < first_home shape) (g.M.Medium.state c.args.m.now) (g.M.Medium.state c.read_record.new.m)
+            (g.M.Medium.state c.are_stamped.new.m) c.read_record.ensures.follows.1 c.are_stamped.ensures.follows.1,
       );
-    }
+}
 
-pub returns-else-branch-clause-counts : goal.returns-else-branch-clause-counts
-returns-else-branch-clause-counts g c =
-    let shape = shape_of c.args.sizes.now in
-    let old = g.M.Medium.state c.args.m.now in
-    let mid = g.M.Medium.state c.read_record.new.m in
-    let new = g.M.Medium.state c.are_stamped.new.m in
-    let path : mid.content ≡ old.content = λ i x. c.read_record.ensures.passes.quiet.content_stays x i in
-    let finds = subst (λ o. FindsRecord shape c.args.stamp old mid o) c.in-Some.is c.in_ok-record.ensures.finds in
-    let asked = c.in_ok-are_stamped.ensures.finds in
-    let count : c.len-count.result ≡ length c.in-Some.record.numbers.items = c.len-count.ensures.value in
-    let places = subst (λ (i : Image). IsReadForStamps shape.format shape i c.args.stamp c.len-count.result asked.exact.0) path
-    asked.exact.1 in
-    record {
-      exact = try_read shape.format shape old.content c.args.stamp c.in-Some.record finds.exact.0 asked.exact.0 old.calls mid.calls
-          new.calls
-          finds.exact.1 finds.exact.2
-          (subst (λ (n : ℕ). IsReadForStamps shape.format shape old.content c.args.stamp n asked.exact.0) count places) asked.exact.2;
-      counted = λ whole.
-          let all = stamped_whole shape old.content c.args.stamp whole.0 whole.1 in
-          let f : Entry → ℕ = λ e. e.0 in
-          let many : length whole.0 ≡ c.len-count.result =
-          sym (count ∙ ap (λ l. length l) (finds.all whole.0 whole.1).numbers_are ∙ length-map whole.0 f) in
-          let there = subst (λ (n : ℕ). AreStamped shape.format shape old.content c.args.stamp n) many all in
-          let now = subst (λ (i : Image). AreStamped shape.format shape i c.args.stamp c.len-count.result) (sym path) there in
-          untrue (sym c.if-branch.false ∙ asked.is.1 now);
-    }
+pub returns-then-branch : goal.returns-then-branch
+returns-then-branch g c = record {
+  passes =
+      let old = g.M.Medium.state c.args.m.now in
+      let mid = g.M.Medium.state c.read_record.new.m in
+      let new = g.M.Medium.state c.are_stamped.new.m in
+      let first = c.read_record.ensures.passes in
+      let last = c.are_stamped.ensures.passes in
+      let few : length c.in-Some.record.numbers.items ≤ 240 = search rules in
+      record {
+        quiet = quiet_joined old mid new first.quiet last.quiet;
+        reads = λ kind other. last.reads kind other ∙ first.reads kind other;
+        calls = most_tried c.args.sizes.now.format c.len-count.result old.calls mid.calls new.calls
+            (omega (arith, few, c.len-count.ensures.value)) first.calls last.calls;
+        cause = tt;
+      };
+  finds =
+      let shape = shape_of c.args.sizes.now in
+      let old = g.M.Medium.state c.args.m.now in
+      let mid = g.M.Medium.state c.read_record.new.m in
+      let new = g.M.Medium.state c.are_stamped.new.m in
+      let path : mid.content ≡ old.content = λ i x. c.read_record.ensures.passes.quiet.content_stays x i in
+      let finds = subst (λ o. FindsRecord shape c.args.stamp old mid o) c.in-Some.is c.in_ok-record.ensures.finds in
+      let asked = c.in_ok-are_stamped.ensures.finds in
+      let count : c.len-count.result ≡ length c.in-Some.record.numbers.items = c.len-count.ensures.value in
+      let good = subst (λ (i : Image). AreStamped shape.format shape i c.args.stamp c.len-count.result) path
+      (asked.is.0 c.if-branch.true) in
+      let whole = finds.some (subst (λ (n : ℕ). AreStamped shape.format shape old.content c.args.stamp n) count good) in
+      let places = subst (λ (i : Image). IsReadForStamps shape.format shape i c.args.stamp c.len-count.result asked.exact.0) path
+      asked.exact.1 in
+      let f : Entry → ℕ = λ e. e.0 in
+      record {
+        exact = try_read shape.format shape old.content c.args.stamp c.in-Some.record finds.exact.0 asked.exact.0 old.calls mid.calls
+            new.calls
+            finds.exact.1 finds.exact.2
+            (subst (λ (n : ℕ). IsReadForStamps shape.format shape old.content c.args.stamp n asked.exact.0) count places) asked.exact.2;
+        counted = (
+          whole.0,
+          whole.1,
+          count ∙ ap (λ l. length l) (finds.all whole.0 whole.1).numbers_are ∙ length-map whole.0 f,
+        );
+      };
+  follows =
+      let shape = shape_of c.args.sizes.now in (
+        g.met.M.Medium.follows_through c.args.m.now c.read_record.new.m c.are_stamped.new.m c.read_record.ensures.follows.0
+            c.are_stamped.ensures.follows.0,
+        looks_joined (λ s. s < first_home shape) (g.M.Medium.state c.args.m.now) (g.M.Medium.state c.read_record.new.m)
+            (g.M.Medium.state c.are_stamped.new.m) c.read_record.ensures.follows.1 c.are_stamped.ensures.follows.1,
+      );
+}
+
+pub returns-else-branch : goal.returns-else-branch
+returns-else-branch g c = record {
+  passes =
+      let old = g.M.Medium.state c.args.m.now in
+      let mid = g.M.Medium.state c.read_record.new.m in
+      let new = g.M.Medium.state c.are_stamped.new.m in
+      let first = c.read_record.ensures.passes in
+      let last = c.are_stamped.ensures.passes in
+      let few : length c.in-Some.record.numbers.items ≤ 240 = search rules in
+      record {
+        quiet = quiet_joined old mid new first.quiet last.quiet;
+        reads = λ kind other. last.reads kind other ∙ first.reads kind other;
+        calls = most_tried c.args.sizes.now.format c.len-count.result old.calls mid.calls new.calls
+            (omega (arith, few, c.len-count.ensures.value)) first.calls last.calls;
+        cause = tt;
+      };
+  finds =
+      let shape = shape_of c.args.sizes.now in
+      let old = g.M.Medium.state c.args.m.now in
+      let mid = g.M.Medium.state c.read_record.new.m in
+      let new = g.M.Medium.state c.are_stamped.new.m in
+      let path : mid.content ≡ old.content = λ i x. c.read_record.ensures.passes.quiet.content_stays x i in
+      let finds = subst (λ o. FindsRecord shape c.args.stamp old mid o) c.in-Some.is c.in_ok-record.ensures.finds in
+      let asked = c.in_ok-are_stamped.ensures.finds in
+      let count : c.len-count.result ≡ length c.in-Some.record.numbers.items = c.len-count.ensures.value in
+      let places = subst (λ (i : Image). IsReadForStamps shape.format shape i c.args.stamp c.len-count.result asked.exact.0) path
+      asked.exact.1 in
+      record {
+        exact = try_read shape.format shape old.content c.args.stamp c.in-Some.record finds.exact.0 asked.exact.0 old.calls mid.calls
+            new.calls
+            finds.exact.1 finds.exact.2
+            (subst (λ (n : ℕ). IsReadForStamps shape.format shape old.content c.args.stamp n asked.exact.0) count places) asked.exact.2;
+        counted = λ whole.
+            let all = stamped_whole shape old.content c.args.stamp whole.0 whole.1 in
+            let f : Entry → ℕ = λ e. e.0 in
+            let many : length whole.0 ≡ c.len-count.result =
+            sym (count ∙ ap (λ l. length l) (finds.all whole.0 whole.1).numbers_are ∙ length-map whole.0 f) in
+            let there = subst (λ (n : ℕ). AreStamped shape.format shape old.content c.args.stamp n) many all in
+            let now = subst (λ (i : Image). AreStamped shape.format shape i c.args.stamp c.len-count.result) (sym path) there in
+            untrue (sym c.if-branch.false ∙ asked.is.1 now);
+      };
+  follows =
+      let shape = shape_of c.args.sizes.now in (
+        g.met.M.Medium.follows_through c.args.m.now c.read_record.new.m c.are_stamped.new.m c.read_record.ensures.follows.0
+            c.are_stamped.ensures.follows.0,
+        looks_joined (λ s. s < first_home shape) (g.M.Medium.state c.args.m.now) (g.M.Medium.state c.read_record.new.m)
+            (g.M.Medium.state c.are_stamped.new.m) c.read_record.ensures.follows.1 c.are_stamped.ensures.follows.1,
+      );
+}

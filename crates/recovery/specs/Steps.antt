@@ -1,0 +1,72 @@
+-- What the steps of a recovery, of a migration and of a format do, each in one record.
+use Rattle.std.specs.Prelude.{ℕ, ◌+◌, ◌*◌, ◌<◌, Result, OnOk, OnErr, IfOk, IfErr}
+use Rattle.medium.specs.Medium.{State}
+use Rattle.medium.specs.Moments.{EachCut, IsQuiet}
+use Rattle.medium.specs.declared.fault.MediumFault.{MediumFault}
+use Rattle.spec.specs.Blocks.{Array}
+use Rattle.journal.specs.declared.log_format.LogFormat.TheVariants.{One}
+use Rattle.journal.specs.Places.{Shape, slot_sectors_of}
+use Rattle.journal.specs.Reads.{ReadsPass}
+use Rattle.journal.specs.Standing.{IsOurs}
+use Rattle.journal.specs.Values.{shape_of}
+use Rattle.recovery.specs.Calls.{CallsUpTo}
+use Rattle.recovery.specs.Causes.{IsRefusedCall, IsRefusalBy, WritesNothing}
+use Rattle.recovery.specs.Formatted.{IsArrayFrom, IsMade, ImageLeaves, CallsWithoutReads}
+use Rattle.recovery.specs.Found.{IsSurvey, SurveysAtMost}
+use Rattle.recovery.specs.Migrated.{IsMadeOf, MakingLeaves}
+use Rattle.recovery.specs.Recovered.{IsRecoveredAtLeast, IsFresh, LeavesAtLeast}
+use Rattle.recovery.specs.declared.found.Found.{Found}
+use Rattle.recovery.specs.declared.recovered.Recovered.{Recovered}
+use Rattle.recovery.specs.declared.start_fault.StartFault.{StartFault}
+
+-- of a step that takes a medium to what it is then
+module _ {M : Type 0} (state : M → State) (Follows : M → M → Type 0) where
+  -- By reads alone, at most this many, this is found of what the medium was.
+  pub record ReadsFor {X : Type 0} (most : ℕ) (Finds : State → X → Type 0) (old new : M)
+      (result : Result X MediumFault) : Type 0 where
+    pub passes : ReadsPass most (state old) (state new) result
+    pub finds : IfOk result (Finds (state old))
+    pub follows : Follows old new
+
+  -- A survey wants at least this many slots in a log of format 1: how it reads, what it finds, and
+  -- why it is refused.
+  pub record Surveys (least : ℕ) (old new : M) (result : Result Found StartFault) : Type 0 where
+    pub reads : SurveysAtMost (state old) (state new)
+    pub ok : IfOk result (IsSurvey least (state old) (state new))
+    pub err : IfErr result (IsRefusalBy least IsQuiet (state old) (state new))
+    pub follows : Follows old new
+
+  -- A recovery wants at least this many slots in a log of format 1. Where the contents were ours,
+  -- nothing in any image carries the next stamp or a later one once it is good.
+  pub record RecoversAtLeast (least : ℕ) (old new : M) (result : Result Recovered StartFault)
+      : Type 0 where
+    pub ok : IfOk result (IsRecoveredAtLeast least (state old) (state new))
+    pub fresh : (shape : Shape) (array : Array) (next : ℕ)
+        → IsOurs (state old).size shape (state old).content array next
+        → OnOk result (EachCut (IsFresh shape array next) (state new))
+    pub err : IfErr result (IsRefusalBy least WritesNothing (state old) (state new))
+    pub leaves : LeavesAtLeast least (state old) (state new)
+    pub follows : Follows old new
+
+  -- What was recovered of format 1 is made format 2: what there is then, what each moment leaves,
+  -- and how many calls there are.
+  pub record MakesTwo (found : Recovered) (old new : M) (result : Result Recovered MediumFault)
+      : Type 0 where
+    pub ok : IfOk result (IsMadeOf found (state new))
+    pub leaves : MakingLeaves (shape_of found.sizes) found.next (state old) (state new)
+    pub calls : CallsUpTo (slot_sectors_of One * found.sizes.slots + 5)
+        (state old) (state new) result
+    pub cause : IfErr result (IsRefusedCall (state old) (state new))
+    pub follows : Follows old new
+
+  -- An image of this shape is written with zeros up to this end: what is made, and what each moment
+  -- leaves, for the array that the new image stands for.
+  pub record WritesImage (shape : Shape) (end : ℕ) (old new : M)
+      (result : Result (Unit {0}) MediumFault) : Type 0 where
+    pub done : (array : Array) → IsArrayFrom shape end (state old).content array
+        → OnOk result (IsMade shape array end (state old) (state new))
+    pub leaves : (array : Array) → IsArrayFrom shape end (state old).content array
+        → ImageLeaves shape array end (state old) (state new)
+    pub calls : CallsWithoutReads (end + 5) (state old) (state new) result
+    pub cause : OnErr result ((state old).failures < (state new).failures)
+    pub follows : Follows old new
