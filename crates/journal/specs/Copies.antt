@@ -1,6 +1,7 @@
 -- The copies of blocks in the log, and the calls that read them.
 use Rattle.std.specs.Prelude.{◌≡◌, ◌≢◌, ◌<◌, ◌≤◌, ℕ, ◌+◌, Result, OnOk, IfErr, is_ok, if◌then◌else◌}
-use Rattle.medium.specs.Medium.{State}
+use Rattle.medium.specs.Medium.{State, Passes, LooksOnly}
+use Rattle.medium.specs.Moments.{IsQuiet}
 use Rattle.medium.specs.declared.fault.MediumFault.{MediumFault}
 use Rattle.medium.specs.declared.fault.MediumFault.TheVariants.{Read}
 use Rattle.journal.specs.declared.log_format.LogFormat.{LogFormat}
@@ -29,3 +30,10 @@ pub record MakesReads (count : ℕ) (result : Result (Unit {0}) MediumFault) (ol
   pub others_stay : (kind : MediumFault) → kind ≢ Read → new.refused kind ≡ old.refused kind
   -- a refusal names its call
   pub named : IfErr result (λ e. e ≡ Read)
+
+-- One read, and of this sector alone.
+pub record ReadsOne {M : Type 0} (state : M → State) (Follows : M → M → Type 0) (place : ℕ)
+    (old new : M) (result : Result (Unit {0}) MediumFault) : Type 0 where
+  pub passes : Passes Read result (state old) (state new)
+  pub quiet : IsQuiet (state old) (state new)
+  pub follows : Follows old new × LooksOnly (λ s. s ≡ place) (state old) (state new)

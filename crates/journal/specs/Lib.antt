@@ -20,6 +20,7 @@ pub mod Reads
 pub mod Formats
 pub mod Reading
 pub mod Copies
+pub mod Parts
 pub mod Standing
 pub mod Staged
 pub mod ImageFaults

@@ -1,12 +1,11 @@
 //! The copies of blocks in the log.
 ghost use Rattle.std.specs.Prelude.{◌≡◌, ◌≤◌, ◌<◌, ◌+◌, ◌*◌, ◌/◌, ◌%◌, ◌++◌};
 ghost use Rattle.std.specs.Prelude.{ℕ, List, drop, length, slice_range, OnOk};
-ghost use Rattle.medium.specs.declared.fault.MediumFault.TheVariants.{Read};
-ghost use Rattle.medium.specs.Medium.{Passes, LooksOnly};
+ghost use Rattle.medium.specs.Medium.{LooksOnly};
 ghost use Rattle.medium.specs.Moments.{IsQuiet};
 ghost use Rattle.journal.specs.Places.{first_home, limit_of, sectors_of};
 ghost use Rattle.journal.specs.Values.{shape_of};
-ghost use Rattle.journal.specs.Copies.{copy_reads_of, MakesReads};
+ghost use Rattle.journal.specs.Copies.{copy_reads_of, MakesReads, ReadsOne};
 ghost use Rattle.journal.specs.Formats.{IsWhole};
 ghost use Rattle.journal.specs.Record.{Entry, block_of};
 
@@ -58,10 +57,7 @@ fn read_begin<M: Medium>(
     ensures ok { OnOk result (to.new
         ≡ slice_range ((M.state m.old).content (2 + 249 * slot + i / 30))
         (40 + 16 * (i % 30)) (40 + 16 * (i % 30) + 8) ++ drop 8 to.old) }
-    ensures passes { Passes Read result (M.state m.old) (M.state m.new) }
-    ensures quiet { IsQuiet (M.state m.old) (M.state m.new) }
-    ensures follows { M.follows m.old m.new
-        × LooksOnly (λ s. s ≡ 2 + 249 * slot + i / 30) (M.state m.old) (M.state m.new) }
+    ensures reads { ReadsOne M.state M.follows (2 + 249 * slot + i / 30) m.old m.new result }
 {
     let mut descriptor = [0; 512];
     let place = v2::descriptor_place(slot, (i / v2::ENTRIES) as u64);

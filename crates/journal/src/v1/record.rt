@@ -1,8 +1,8 @@
 //! The sectors of a record of format 1: a descriptor, data places and a commit.
 ghost use Rattle.std.specs.Prelude.{◌≡◌, ◌≤◌, ◌<◌, ◌-◌, ◌^◌, ◌+◌, ◌*◌, length, slice_range};
-ghost use Rattle.journal.specs.Sectors.{AreBlockNumbers};
 ghost use Rattle.journal.specs.Record.{entries_of};
 ghost use Rattle.journal.specs.Format1.{format1};
+ghost use Rattle.journal.specs.Parts.{CanWrite};
 
 use crate::Part;
 use crate::v1::{COMMIT, Commit, Descriptor, FIRST_DATA};
@@ -25,11 +25,7 @@ pub(crate) fn early(count: usize) -> usize
 
 /// Part p of a record: its descriptor, then its data places, then its commit.
 pub(crate) fn part(stamp: u64, numbers: &[u64], bytes: &[u8], p: usize) -> Part
-    requires least { 1 ≤ stamp }
-    requires most { stamp < 2 ^ 63 - 1 }
-    requires block_numbers { AreBlockNumbers numbers.now }
-    requires size { length bytes.now ≡ 512 * length numbers.now }
-    requires inside { p < format1.parts (length numbers.now) }
+    requires { CanWrite format1.parts 48 stamp numbers.now bytes.now p }
     ensures offset { result.offset ≡ format1.offset (length numbers.now) p }
     ensures sector { result.sector ≡ format1.part stamp (entries_of numbers.now bytes.now) p }
 {

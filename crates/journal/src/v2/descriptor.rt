@@ -7,6 +7,7 @@ ghost use Rattle.journal.specs.Sectors.{IsRising};
 ghost use Rattle.journal.specs.Spelling.{number_in, AreItems};
 ghost use Rattle.journal.specs.SectorsTwo.{AreEntriesTwo, IsDescriptorTwo, entries_here};
 ghost use Rattle.journal.specs.SectorsTwo.{entry_bytes, padded};
+ghost use Rattle.journal.specs.Parts.{CanDescribe, Describes};
 ghost use Rattle.journal.specs.V2.{first_bytes};
 
 use crate::fields::{are_rising, list_of, mark_number, number_at};
@@ -36,20 +37,9 @@ impl Descriptor {
     /// Descriptor `index` of the record with this stamp and these blocks, whose bytes stand one
     /// after the other.
     pub fn new(stamp: u64, numbers: &[u64], bytes: &[u8], index: usize) -> Descriptor
-        requires least { 1 ≤ stamp }
-        requires most { stamp < 2 ^ 63 - 1 }
-        requires few { length numbers.now ≤ 240 }
-        requires rising { IsRising numbers.now }
-        requires small { All (λ b. b < 2 ^ 31) numbers.now }
-        requires size { length bytes.now ≡ 512 * length numbers.now }
-        requires used { 30 * index < length numbers.now }
-        ensures stamp { result.stamp ≡ stamp }
-        ensures count { result.count ≡ length numbers.now }
-        ensures index { result.index ≡ index }
-        ensures numbers { result.numbers.items ≡ take 30 (drop (30 * index) numbers.now) }
-        ensures firsts { (i : ℕ) → i < length result.numbers.items
-            → get_or result.firsts.items i [] ≡ slice_range bytes.now
-            (512 * (30 * index + i)) (512 * (30 * index + i) + 8) }
+        requires { CanDescribe stamp numbers.now bytes.now index }
+        ensures { Describes stamp numbers.now bytes.now index result.stamp result.count
+            result.index result.numbers.items result.firsts.items }
     {
         let from = ENTRIES * index;
         let here = count_here(numbers.len(), from);

@@ -4,6 +4,7 @@ ghost use Rattle.journal.specs.Sectors.{IsRising};
 ghost use Rattle.journal.specs.SectorsTwo.{descriptors_of};
 ghost use Rattle.journal.specs.Record.{entries_of};
 ghost use Rattle.journal.specs.Format2.{format2};
+ghost use Rattle.journal.specs.Parts.{CanWrite};
 
 use crate::Part;
 use crate::v2::{COMMIT, Commit, Descriptor, ENTRIES, FIRST_DATA, data_sector};
@@ -33,14 +34,7 @@ pub(crate) fn early(_count: usize) -> usize
 
 /// Part p of a record: its descriptors, then its data places, then its commit.
 pub(crate) fn part(stamp: u64, numbers: &[u64], bytes: &[u8], p: usize) -> Part
-    requires least { 1 ≤ stamp }
-    requires most { stamp < 2 ^ 63 - 1 }
-    requires some { 1 ≤ length numbers.now }
-    requires few { length numbers.now ≤ 240 }
-    requires rising { IsRising numbers.now }
-    requires small { All (λ b. b < 2 ^ 31) numbers.now }
-    requires size { length bytes.now ≡ 512 * length numbers.now }
-    requires inside { p < format2.parts (length numbers.now) }
+    requires { CanWrite format2.parts 240 stamp numbers.now bytes.now p }
     ensures offset { result.offset ≡ format2.offset (length numbers.now) p }
     ensures sector { result.sector ≡ format2.part stamp (entries_of numbers.now bytes.now) p }
 {

@@ -47,7 +47,7 @@ returns-in-Two-clause-quiet g c =
     let mid = g.M.Medium.state c.read.new.self in
     let new = g.M.Medium.state c.read_begin.new.m in
     quiet_joined old mid new (quiet_call old mid c.read.ensures.passes c.read.ensures.content c.read.ensures.sets)
-    c.read_begin.ensures.quiet
+    c.read_begin.ensures.reads.quiet
 
 pub returns-in_err-read-clause-follows : goal.returns-in_err-read-clause-follows
 returns-in_err-read-clause-follows g c =
@@ -84,7 +84,7 @@ returns-in-Two-clause-follows g c =
     let new = g.M.Medium.state c.read_begin.new.m in
     let home = first_home (shape_of c.args.sizes.now) in (
       g.met.M.Medium.follows_through c.args.m.now c.read.new.self c.read_begin.new.m c.read.ensures.follows.0
-          c.read_begin.ensures.follows.0,
+          c.read_begin.ensures.reads.follows.0,
       looks_joined (λ s. s < home) old mid new
           (look_below (first_home (shape_of c.args.sizes.now)) old mid c.copy_place.result
           (omega (
@@ -95,5 +95,5 @@ returns-in-Two-clause-follows g c =
           )) c.read.ensures.follows.1)
           (look_below home mid new (2 + 249 * c.args.slot + c.args.i / 30)
           (descriptor_before c.args.sizes.now.format c.args.sizes.now.slots c.args.sizes.now.home c.args.slot c.args.i c.in-Two.is
-          c.args.sizes.now.home_is c.requires.slot c.requires.inside) c.read_begin.ensures.follows.1),
+          c.args.sizes.now.home_is c.requires.slot c.requires.inside) c.read_begin.ensures.reads.follows.1),
     )

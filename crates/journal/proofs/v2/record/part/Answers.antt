@@ -19,7 +19,7 @@ returns-then-p-first-clause-sector c =
     let many : length (entries_of c.args.numbers.now c.args.bytes.now) ≡ length c.args.numbers.now =
     length_of_batch c.args.numbers.now c.args.bytes.now in
     let d = c.new.result in
-    let items = c.new.ensures.numbers in
+    let items = c.new.ensures.numbers_are in
     let numbers : c.new.result.numbers.items ≡ numbers_of (chunk_of es c.args.p) =
     items
     ∙ ap (λ (l : List ℕ). take 30 (drop (30 * c.args.p) l)) (sym (numbers_of_batch c.args.numbers.now c.args.bytes.now))
@@ -29,9 +29,9 @@ returns-then-p-first-clause-sector c =
     (d.entries.each ∙ ap (λ (l : List ℕ). length l) items)
     (λ i below. c.new.ensures.firsts i (omega (arith, below, ap (λ (l : List ℕ). length l) items))) in
     c.encode.ensures.spelled
-    ∙ ap (λ (s : ℕ). spelled_two s d.count d.index d.numbers.items d.firsts.items) c.new.ensures.stamp
+    ∙ ap (λ (s : ℕ). spelled_two s d.count d.index d.numbers.items d.firsts.items) c.new.ensures.stamp_is
     ∙ ap (λ (n : ℕ). spelled_two c.args.stamp n d.index d.numbers.items d.firsts.items) (c.new.ensures.count ∙ sym many)
-    ∙ ap (λ (j : ℕ). spelled_two c.args.stamp (length es) j d.numbers.items d.firsts.items) c.new.ensures.index
+    ∙ ap (λ (j : ℕ). spelled_two c.args.stamp (length es) j d.numbers.items d.firsts.items) c.new.ensures.index_is
     ∙ ap (λ (l : List ℕ). spelled_two c.args.stamp (length es) c.args.p l d.firsts.items) numbers
     ∙ ap (λ (l : List (List ℕ)). spelled_two c.args.stamp (length es) c.args.p (numbers_of (chunk_of es c.args.p)) l) firsts
     ∙ sym (descriptor_spelled c.args.stamp es c.args.p)

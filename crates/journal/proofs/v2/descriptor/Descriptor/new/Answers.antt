@@ -1,14 +1,20 @@
-use Rattle.std.proofs.Common.{◌≡◌, ◌<◌, ◌+◌, ◌*◌, ℕ, List, length, take, drop, ap, subst, sym, arith, length-take, length-drop}
+use Rattle.std.proofs.Common.{◌≡◌, ◌<◌, ◌+◌, ◌*◌, ℕ, List, length, take, drop, ap, subst, sym, arith, length-take, length-drop, rules}
 use Rattle.std.specs.Prelude.{All}
 use Rattle.std.proofs.lemmas.List.Elements.{All-take, All-drop}
 use Rattle.journal.specs.Sectors.{IsRising}
 use Rattle.journal.proofs.EntriesTwo.{items_here, rising_part, sized_from}
 use Rattle.journal.proofs.v2.descriptor.Descriptor.new.Goals as goal
 
-pub returns-clause-numbers : goal.returns-clause-numbers
-returns-clause-numbers c =
-    items_here c.list_of.result.items c.args.numbers.now (30 * c.args.index) c.count_here-here.result c.count_here-here.ensures
-    c.list_of.ensures
+pub returns : goal.returns
+returns c = record {
+  stamp_is = search rules;
+  count = search rules;
+  index_is = search rules;
+  numbers_are =
+      items_here c.list_of.result.items c.args.numbers.now (30 * c.args.index) c.count_here-here.result c.count_here-here.ensures
+      c.list_of.ensures;
+  firsts = search rules;
+}
 
 pub invariant_of-result : goal.invariant_of-result
 invariant_of-result c =
