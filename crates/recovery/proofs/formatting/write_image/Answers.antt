@@ -33,7 +33,8 @@ returns g c = record {
       (λ x low high. done.0.elsewhere x (λ e. omega arith) ∙ head.elsewhere x (λ e. omega arith)
       ∙ zeros x (omega arith) (omega (arith, high)))
       (λ x past. done.0.elsewhere x (λ e. omega (arith, e, past, c.requires.log, home))
-      ∙ head.elsewhere x (λ e. omega (arith, e, past, c.requires.log, home)) ∙ clears.elsewhere x (λ between. omega (arith, between.1, past))
+      ∙ head.elsewhere x (λ e. omega (arith, e, past, c.requires.log, home))
+      ∙ clears.elsewhere x (λ between. omega (arith, between.1, past))
       ∙ wrote.elsewhere x (λ e. omega (arith, e, past, c.requires.log, home))))
       c.write_through-3.ensures.done;
   leaves = λ array from.

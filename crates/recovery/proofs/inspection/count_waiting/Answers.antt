@@ -31,7 +31,8 @@ returns-in-None g c = record {
       counts_made shape old.content c.args.head c.loop-j.j c.loop-j.waiting.items inv.long (omega (arith, c.loop-j-test.true)) inv.each
       (λ less w. none (has_whole_same shape old.content mid.content (c.args.head + c.loop-j.j) (λ x. inv.quiet.content_stays x) w));
   follows =
-      g.met.M.Medium.follows_through c.args.m.now c.loop-j.m c.count_blocks.new.m c.loop-j.invariant.follows c.count_blocks.ensures.follows.0;
+      g.met.M.Medium.follows_through c.args.m.now c.loop-j.m c.count_blocks.new.m c.loop-j.invariant.follows
+      c.count_blocks.ensures.follows.0;
 }
 
 pub returns : goal.returns
@@ -84,5 +85,6 @@ returns-in_err-count g c = record {
       };
   finds = search rules;
   follows =
-      g.met.M.Medium.follows_through c.args.m.now c.loop-j.m c.count_blocks.new.m c.loop-j.invariant.follows c.count_blocks.ensures.follows.0;
+      g.met.M.Medium.follows_through c.args.m.now c.loop-j.m c.count_blocks.new.m c.loop-j.invariant.follows
+      c.count_blocks.ensures.follows.0;
 }

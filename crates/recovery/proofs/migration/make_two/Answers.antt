@@ -104,7 +104,8 @@ returns-in_err-write_through g c = record {
       record {
         cuts = λ array fresh. made_leaves shape array next old cleared c.requires.least c.requires.flushed fresh sound_cleared within
             headed moves.moments new c.encode.result sound_headed head.done.1
-            (λ x low high. head.done.0.elsewhere x (λ e. omega (arith, low, e)) ∙ zeros x low (omega (arith, high, same))) super last.moments;
+            (λ x low high. head.done.0.elsewhere x (λ e. omega (arith, low, e)) ∙ zeros x low (omega (arith, high, same)))
+            super last.moments;
         spares = spared_joined shape.home old headed new moved
             (through_spares shape.home 0 c.encode.result headed new (omega (arith, ends)) (g.met.M.Medium.sound c.write_through.new.m)
             last.elsewhere last.moments);
@@ -157,7 +158,8 @@ returns g c = record {
       record {
         cuts = λ array fresh. made_leaves shape array next old cleared c.requires.least c.requires.flushed fresh sound_cleared within
             headed moves.moments new c.encode.result sound_headed head.done.1
-            (λ x low high. head.done.0.elsewhere x (λ e. omega (arith, low, e)) ∙ zeros x low (omega (arith, high, same))) super last.moments;
+            (λ x low high. head.done.0.elsewhere x (λ e. omega (arith, low, e)) ∙ zeros x low (omega (arith, high, same)))
+            super last.moments;
         spares = spared_joined shape.home old headed new moved
             (through_spares shape.home 0 c.encode.result headed new (omega (arith, ends)) (g.met.M.Medium.sound c.write_through.new.m)
             last.elsewhere last.moments);

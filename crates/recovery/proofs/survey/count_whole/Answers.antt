@@ -130,7 +130,8 @@ returns g c = record {
       record {
         quiet = inv.quiet;
         reads = inv.reads;
-        calls = reads_stay c.args.sizes.now.format c.loop-j.j c.args.sizes.now.slots old.calls new.calls (omega (arith, c.loop-j.auto.j-end))
+        calls = reads_stay c.args.sizes.now.format c.loop-j.j c.args.sizes.now.slots old.calls new.calls
+            (omega (arith, c.loop-j.auto.j-end))
             inv.most;
         cause = tt;
       };

@@ -160,7 +160,8 @@ returns-in_err-sizes g c = record {
   err =
       let p = err_from_is_err_and c.from_residual.result c.from_residual.ensures.1 in
       let quiet = c.read_super.ensures.reads.quiet in
-      rw (p.1, p.2) (look_refusal c.args.least (g.M.Medium.state c.args.m.now) (g.M.Medium.state c.read_super.new.m) c.in_err-sizes.field-0.0
+      rw (p.1, p.2) (look_refusal c.args.least (g.M.Medium.state c.args.m.now) (g.M.Medium.state c.read_super.new.m)
+      c.in_err-sizes.field-0.0
       c.in_err-sizes.ensures.err quiet);
   follows = search rules;
 }
