@@ -1,7 +1,7 @@
 //! The counts that the program prints at its end.
 
 /// How much was judged.
-#[derive(Clone, Copy, Debug, Default)]
+#[derive(Clone, Copy, Default)]
 pub(crate) struct Counts {
     pub(crate) taken: u64,
     pub(crate) refused: u64,

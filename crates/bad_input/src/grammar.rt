@@ -2,7 +2,7 @@
 use std::alloc::{AllocError, Global};
 
 /// Which lines a script may have, and how many bytes a packet.
-#[derive(Clone, Copy, Debug)]
+#[derive(Clone, Copy)]
 pub(crate) struct Kind {
     /// Whether `fuse`, `fail` and `cut` are lines of it.
     pub(crate) switches: bool,

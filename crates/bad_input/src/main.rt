@@ -79,37 +79,43 @@ fn tell_counts<W: Write>(counts: &Counts, out: &mut W) -> io::Result<()> {
         made,
         no_sizes,
     } = *counts;
-    writeln!(out, "wrappers: {taken} taken, {refused} refused")?;
     writeln!(
         out,
-        "scripts: {bytes} bytes, {played} played, {no_scripts} refused"
-    )?;
-    writeln!(
-        out,
-        "streams: {writers} writers failed, {readers} readers failed"
-    )?;
-    writeln!(out, "images: {made} made, {no_sizes} refused")
+        "wrappers: {taken} taken, {refused} refused\n\
+         scripts: {bytes} bytes, {played} played, {no_scripts} refused\n\
+         streams: {writers} writers failed, {readers} readers failed\n\
+         images: {made} made, {no_sizes} refused"
+    )
 }
 
 fn try_all<R: Files<File = File> + AllocGlobal>(
     rt: &R,
     counts: &mut Counts,
 ) -> Result<(), Finding> {
-    let alloc = rt.alloc();
-    let medium = formatted(alloc)?;
-    wrong_wrappers::try_wrappers(alloc, copied(alloc, &medium)?, counts)?;
-    scripts::change_bytes(alloc, &medium, Play::Sim, LIVES, counts)?;
-    scripts::change_bytes(alloc, &medium, Play::Run, LIVES, counts)?;
-    scripts::change_bytes(alloc, &medium, Play::Run, LIFE, counts)?;
-    limits::try_lines(alloc, &medium, counts)?;
-    limits::try_others(alloc, &medium, counts)?;
-    limits::try_lengths(alloc, &medium, counts)?;
-    phases::try_sending(alloc, &medium, counts)?;
-    phases::try_taking(alloc, &medium, counts)?;
-    phases::try_endings(alloc, &medium, counts)?;
-    streams::try_streams(alloc, &medium, counts)?;
+    try_media(rt.alloc(), counts)?;
     sizes::try_sizes(rt, counts)?;
     commands::try_commands(rt, counts)
+}
+
+// What is tried on a medium in memory.
+fn try_media(alloc: Global, counts: &mut Counts) -> Result<(), Finding> {
+    let medium = formatted(alloc)?;
+    wrong_wrappers::try_wrappers(alloc, copied(alloc, &medium)?, counts)?;
+    try_copies(alloc, &medium, counts)
+}
+
+// What is tried on copies of a medium.
+fn try_copies(alloc: Global, medium: &SimMedium, counts: &mut Counts) -> Result<(), Finding> {
+    scripts::change_bytes(alloc, medium, Play::Sim, LIVES, counts)?;
+    scripts::change_bytes(alloc, medium, Play::Run, LIVES, counts)?;
+    scripts::change_bytes(alloc, medium, Play::Run, LIFE, counts)?;
+    limits::try_lines(alloc, medium, counts)?;
+    limits::try_others(alloc, medium, counts)?;
+    limits::try_lengths(alloc, medium, counts)?;
+    phases::try_sending(alloc, medium, counts)?;
+    phases::try_taking(alloc, medium, counts)?;
+    phases::try_endings(alloc, medium, counts)?;
+    streams::try_streams(alloc, medium, counts)
 }
 
 // A fresh image of 16 blocks and one log slot.

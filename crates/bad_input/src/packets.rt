@@ -93,11 +93,16 @@ fn try_refused(disk: &mut Disk<SimMedium>, packet: &[u8]) -> Result<(), u8> {
     is(2, is_halted(disk))?;
     is(3, clears(disk))?;
     is(4, is_halted(disk))?;
+    is_reset(disk)?;
+    next_is_taken(disk)
+}
+
+// After the class reset both endpoints are halted still, and a clear halt opens them.
+fn is_reset(disk: &mut Disk<SimMedium>) -> Result<(), u8> {
     is(5, disk.setup(RESET) == SetupAnswer::Ack)?;
     is(6, is_halted(disk))?;
     is(7, clears(disk))?;
-    is(8, is_open(disk))?;
-    next_is_taken(disk)
+    is(8, is_open(disk))
 }
 
 // A good wrapper: no lock. What is left of its exchange is dropped by the class reset.

@@ -19,23 +19,23 @@ pub(crate) const READ: &str =
 
 const WRITE: &str = "out 55534243030000000002000000000a2a080000000300000100000000000000\n";
 
+// What comes of a WRITE whose phase of data was ended, and of the next command's wrapper.
+const BROKEN_OFF: &str = "ack\nack\ndata 55534253030000000002000002\nack\n";
+
 /// Packets of every size to a disk that is to send are not taken, and the exchange goes on.
 pub(crate) fn try_sending(
     alloc: Global,
     medium: &SimMedium,
     counts: &mut Counts,
 ) -> Result<(), Finding> {
-    let mut script = Vec::from_slice(alloc, SENSE.as_bytes())?;
-    script.extend_from_slice(READ.as_bytes())?;
-    let mut wanted = Vec::from_slice(alloc, ATTENTION.as_bytes())?;
-    wanted.extend_from_slice(b"ack\n")?;
+    let mut script = text_of(alloc, &[SENSE, READ])?;
+    let mut wanted = text_of(alloc, &[ATTENTION, "ack\n"])?;
     for size in 0..=512 {
         push_out(&mut script, size)?;
-        wanted.extend_from_slice(b"nak\n")?;
+        push(&mut wanted, &["nak\n"])?;
     }
-    script.extend_from_slice(b"in\nin\n")?;
-    push_zeros(&mut wanted)?;
-    wanted.extend_from_slice(b"data 55534253020000000000000000\n")?;
+    push(&mut script, &["in\nin\n"])?;
+    push_block(&mut wanted)?;
     counts.script(true);
     plays_to(alloc, medium, &script, &wanted)
 }
@@ -48,16 +48,11 @@ pub(crate) fn try_taking(
     counts: &mut Counts,
 ) -> Result<(), Finding> {
     for size in 0..512 {
-        let mut script = Vec::from_slice(alloc, SENSE.as_bytes())?;
-        script.extend_from_slice(WRITE.as_bytes())?;
+        let mut script = text_of(alloc, &[SENSE, WRITE])?;
         push_out(&mut script, size)?;
-        script.extend_from_slice(b"in\n")?;
-        script.extend_from_slice(READ.as_bytes())?;
-        script.extend_from_slice(b"in\nin\n")?;
-        let mut wanted = Vec::from_slice(alloc, ATTENTION.as_bytes())?;
-        wanted.extend_from_slice(b"ack\nack\ndata 55534253030000000002000002\nack\n")?;
-        push_zeros(&mut wanted)?;
-        wanted.extend_from_slice(b"data 55534253020000000000000000\n")?;
+        push(&mut script, &["in\n", READ, "in\nin\n"])?;
+        let mut wanted = text_of(alloc, &[ATTENTION, BROKEN_OFF])?;
+        push_block(&mut wanted)?;
         counts.script(true);
         plays_to(alloc, medium, &script, &wanted)?;
     }
@@ -71,17 +66,11 @@ pub(crate) fn try_endings(
     counts: &mut Counts,
 ) -> Result<(), Finding> {
     for cut in ["", "cut none\n", "cut all\n"] {
-        let mut script = Vec::from_slice(alloc, SENSE.as_bytes())?;
-        script.extend_from_slice(WRITE.as_bytes())?;
-        let mut wanted = Vec::from_slice(alloc, ATTENTION.as_bytes())?;
-        wanted.extend_from_slice(b"ack\n")?;
+        let mut script = text_of(alloc, &[SENSE, WRITE])?;
+        let mut wanted = text_of(alloc, &[ATTENTION, "ack\n"])?;
         if !cut.is_empty() {
-            script.extend_from_slice(cut.as_bytes())?;
-            script.extend_from_slice(SENSE.as_bytes())?;
-            script.extend_from_slice(READ.as_bytes())?;
-            script.extend_from_slice(b"in\n")?;
-            wanted.extend_from_slice(ATTENTION.as_bytes())?;
-            wanted.extend_from_slice(b"ack\n")?;
+            push(&mut script, &[cut, SENSE, READ, "in\n"])?;
+            push(&mut wanted, &[ATTENTION, "ack\n"])?;
             push_zeros(&mut wanted)?;
         }
         counts.script(true);
@@ -112,6 +101,27 @@ fn plays_to(
     }
 }
 
+/// A text of these parts.
+pub(crate) fn text_of(alloc: Global, parts: &[&str]) -> Result<Vec<u8>, AllocError> {
+    let mut text = Vec::new(alloc);
+    push(&mut text, parts)?;
+    Ok(text)
+}
+
+// These parts go to the end of a text.
+fn push(text: &mut Vec<u8>, parts: &[&str]) -> Result<(), AllocError> {
+    for part in parts {
+        text.extend_from_slice(part.as_bytes())?;
+    }
+    Ok(())
+}
+
+/// The line of a block of zeros, and the status of the READ.
+pub(crate) fn push_block(text: &mut Vec<u8>) -> Result<(), AllocError> {
+    push_zeros(text)?;
+    push(text, &["data 55534253020000000000000000\n"])
+}
+
 // A packet of so many bytes.
 fn push_out(script: &mut Vec<u8>, size: usize) -> Result<(), AllocError> {
     script.extend_from_slice(if size == 0 {
@@ -125,8 +135,8 @@ fn push_out(script: &mut Vec<u8>, size: usize) -> Result<(), AllocError> {
     script.push(b'\n').map_err(AllocError::from)
 }
 
-/// The line of a block of zeros.
-pub(crate) fn push_zeros(text: &mut Vec<u8>) -> Result<(), AllocError> {
+// The line of a block of zeros.
+fn push_zeros(text: &mut Vec<u8>) -> Result<(), AllocError> {
     text.extend_from_slice(b"data ")?;
     for _ in 0..512 {
         text.extend_from_slice(b"00")?;

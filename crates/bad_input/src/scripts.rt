@@ -10,7 +10,7 @@ use std::alloc::Global;
 use std::io::{Read, Write};
 
 /// Whether a script is one of several lives, on a simulated medium.
-#[derive(Clone, Copy, Debug, PartialEq, Eq)]
+#[derive(Clone, Copy, PartialEq, Eq)]
 pub(crate) enum Play {
     Run,
     Sim,

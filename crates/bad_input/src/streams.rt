@@ -3,7 +3,7 @@ ghost use Rattle.std.specs.Prelude.{◌≤◌, length};
 
 use crate::counts::{Counts, count};
 use crate::finding::Finding;
-use crate::phases::{ATTENTION, READ, SENSE, push_zeros};
+use crate::phases::{ATTENTION, READ, SENSE, push_block, text_of};
 use crate::scripts::{Play, play_streams};
 use medium::SimMedium;
 use runner::ScriptFault;
@@ -12,7 +12,7 @@ use std::io;
 use std::io::{ErrorKind, Read, Write};
 
 /// A script, each line with its line feed, and the text that comes of it.
-#[derive(Clone, Copy, Debug)]
+#[derive(Clone, Copy)]
 struct Row<'a> {
     play: Play,
     script: &'a [u8],
@@ -81,13 +81,9 @@ pub(crate) fn try_streams(
 
 // REQUEST SENSE and a READ of a block of zeros, and the text that comes of them.
 fn read_of_a_block(alloc: Global) -> Result<(Vec<u8>, Vec<u8>), AllocError> {
-    let mut script = Vec::from_slice(alloc, SENSE.as_bytes())?;
-    script.extend_from_slice(READ.as_bytes())?;
-    script.extend_from_slice(b"in\nin\n")?;
-    let mut text = Vec::from_slice(alloc, ATTENTION.as_bytes())?;
-    text.extend_from_slice(b"ack\n")?;
-    push_zeros(&mut text)?;
-    text.extend_from_slice(b"data 55534253020000000000000000\n")?;
+    let script = text_of(alloc, &[SENSE, READ, "in\nin\n"])?;
+    let mut text = text_of(alloc, &[ATTENTION, "ack\n"])?;
+    push_block(&mut text)?;
     Ok((script, text))
 }
 

@@ -23,10 +23,15 @@ pub(crate) fn try_wrappers(
     let Ok(mut disk) = Disk::start(alloc, medium, disk_identity()?) else {
         return Err(Finding::NoDisk);
     };
+    try_each(&mut disk, counts)
+}
+
+// Each wrapper.
+fn try_each(disk: &mut Disk<SimMedium>, counts: &mut Counts) -> Result<(), Finding> {
     for wrapper in [READY, READ] {
-        try_lengths(&mut disk, &wrapper, counts)?;
-        try_bits(&mut disk, &wrapper, counts)?;
-        try_sizes(&mut disk, &wrapper, counts)?;
+        try_lengths(disk, &wrapper, counts)?;
+        try_bits(disk, &wrapper, counts)?;
+        try_sizes(disk, &wrapper, counts)?;
     }
     Ok(())
 }

@@ -3,7 +3,7 @@ use bot_machine::StartFault;
 use std::fmt;
 
 /// How much was judged.
-#[derive(Clone, Copy, Debug, Default)]
+#[derive(Clone, Copy, Default)]
 pub(crate) struct Counts {
     /// Bytes that were set to other values, one at a time.
     pub(crate) bytes: u64,

@@ -3,60 +3,122 @@ use bot_machine::StartFault;
 use medium::SimError;
 use std::alloc::AllocError;
 use std::fmt;
-use thiserror::Error;
 
 /// What is not as the definition has it, or why nothing could be judged.
-#[derive(Debug, Drop, Error)]
+#[derive(Clone, Copy)]
 pub(crate) enum Finding {
     /// Another fault than the first one of the image.
-    #[error("the fault '{found}' where '{wanted}' comes first")]
     Fault {
         found: StartFault,
         wanted: StartFault,
     },
     /// An image with a fault is taken.
-    #[error("an image with the fault '{0}' is taken")]
     Taken(StartFault),
     /// An image that stands for blocks is refused.
-    #[error("an image that stands for blocks is refused: {0}")]
     Refused(StartFault),
     /// A refused image is not left as it was.
-    #[error("a refused image is changed")]
     Touched,
     /// Recovery answers other sizes or another stamp.
-    #[error("recovery answers other sizes, or not the stamp {0}")]
     Answer(u64),
     /// Recovery or a start leaves another image.
-    #[error("another image after {0}")]
     Image(Step),
     /// A disk serves other blocks.
-    #[error("other blocks are served")]
     Blocks,
     /// A forced write of a disk does not leave the record with the next stamp.
-    #[error("no record with the stamp {0} after a write")]
     Record(u64),
     /// An image of this length in bytes is taken.
-    #[error("an image of {0} bytes is taken")]
     Length(usize),
     /// An image that was made by lives stands for nothing, or has no records that wait.
-    #[error("the image has no records that wait")]
     NoSubject,
     /// A life did not go as it must.
-    #[error("{0}")]
-    Life(#[from] judging::Finding),
+    Life(judging::Finding),
     /// An image was not made.
-    #[error("no image: {0}")]
-    Medium(#[from] SimError),
+    Medium(SimError),
     /// An image was not migrated.
-    #[error("no migration: {0}")]
     NoMigration(StartFault),
     /// Memory ran out.
-    #[error("out of memory")]
-    NoMemory(#[from(alloc)] AllocError),
+    NoMemory(AllocError),
+}
+
+impl Finding {
+    // The words before and behind a fault that is told.
+    fn of_fault(&self) -> Option<(&'static str, StartFault, &'static str)> {
+        match *self {
+            Finding::Taken(fault) => Some(("an image with the fault '", fault, "' is taken")),
+            Finding::Refused(fault) => {
+                Some(("an image that stands for blocks is refused: ", fault, ""))
+            }
+            Finding::NoMigration(fault) => Some(("no migration: ", fault, "")),
+            _ => None,
+        }
+    }
+
+    // The words before and behind a number that is told.
+    fn of_number(&self) -> Option<(&'static str, u64, &'static str)> {
+        match *self {
+            Finding::Answer(stamp) => {
+                Some(("recovery answers other sizes, or not the stamp ", stamp, ""))
+            }
+            Finding::Record(stamp) => Some(("no record with the stamp ", stamp, " after a write")),
+            Finding::Length(bytes) => Some(("an image of ", bytes as u64, " bytes is taken")),
+            _ => None,
+        }
+    }
+
+    // The words of a finding that tells no more.
+    fn words(&self) -> &'static str {
+        match *self {
+            Finding::Touched => "a refused image is changed",
+            Finding::Blocks => "other blocks are served",
+            Finding::NoSubject => "the image has no records that wait",
+            _ => "out of memory",
+        }
+    }
+}
+
+impl fmt::Display for Finding {
+    fn fmt<W: fmt::Write>(&self, f: &mut fmt::Formatter<W>) -> fmt::Result {
+        if let Some((before, fault, behind)) = self.of_fault() {
+            return write!(f, "{before}{fault}{behind}");
+        }
+        if let Some((before, number, behind)) = self.of_number() {
+            return write!(f, "{before}{number}{behind}");
+        }
+        match *self {
+            Finding::Fault { found, wanted } => {
+                write!(f, "the fault '{found}' where '{wanted}' comes first")
+            }
+            Finding::Image(step) => write!(f, "another image after {step}"),
+            Finding::Life(finding) => write!(f, "{finding}"),
+            Finding::Medium(error) => write!(f, "no image: {error}"),
+            _ => {
+                let words = self.words();
+                write!(f, "{words}")
+            }
+        }
+    }
+}
+
+impl From<judging::Finding> for Finding {
+    fn from(finding: judging::Finding) -> Finding {
+        Finding::Life(finding)
+    }
+}
+
+impl From<SimError> for Finding {
+    fn from(error: SimError) -> Finding {
+        Finding::Medium(error)
+    }
+}
+
+impl From<AllocError> for Finding {
+    fn from(error: AllocError) -> Finding {
+        Finding::NoMemory(error)
+    }
 }
 
 /// What was done to an image.
-#[derive(Clone, Copy, Debug, PartialEq, Eq)]
+#[derive(Clone, Copy)]
 pub(crate) enum Step {
     Recovery,
     Start,
@@ -64,9 +126,10 @@ pub(crate) enum Step {
 
 impl fmt::Display for Step {
     fn fmt<W: fmt::Write>(&self, f: &mut fmt::Formatter<W>) -> fmt::Result {
-        match self {
-            Step::Recovery => write!(f, "a recovery"),
-            Step::Start => write!(f, "a start"),
-        }
+        let words = match self {
+            Step::Recovery => "a recovery",
+            Step::Start => "a start",
+        };
+        write!(f, "{words}")
     }
 }

@@ -6,7 +6,7 @@ use crate::trial::try_image;
 use std::alloc::{AllocError, Global};
 
 /// A number at a place of an image, counted in numbers of eight bytes.
-#[derive(Clone, Copy, Debug)]
+#[derive(Clone, Copy)]
 pub(crate) struct Patch {
     pub(crate) place: usize,
     pub(crate) number: u64,

@@ -3,7 +3,7 @@ use crate::standing::Standing;
 use std::alloc::{AllocError, Global};
 
 /// Bytes that lie behind each other, counted in numbers of eight bytes.
-#[derive(Clone, Copy, Debug)]
+#[derive(Clone, Copy)]
 pub(crate) struct Stretch {
     pub(crate) start: usize,
     pub(crate) count: usize,

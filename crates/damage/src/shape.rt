@@ -6,7 +6,7 @@ use bot_machine::StartFault;
 pub(crate) const LAST_STAMP: u64 = (1 << 63) - 2;
 
 /// What a good super says.
-#[derive(Clone, Copy, Debug, PartialEq, Eq)]
+#[derive(Clone, Copy)]
 pub(crate) struct Shape {
     /// The format: 1 or 2.
     pub(crate) version: u64,

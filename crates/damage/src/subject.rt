@@ -1,6 +1,5 @@
 //! The images whose bytes are changed, and the lives that made them.
-ghost use Rattle.std.specs.Prelude.{◌≡◌, None, IfOk};
-ghost use Rattle.bot_machine.specs.LivesValue.{IsAtRest};
+ghost use Rattle.judging.specs.Resting.{RestsUnfused};
 
 use crate::finding::Finding;
 use crate::standing::{Standing, Verdict, examine};
@@ -13,7 +12,7 @@ use std::alloc::{AllocError, Global};
 use std::slice;
 
 /// An image with whole records that wait in its log.
-#[derive(Clone, Copy, Debug)]
+#[derive(Clone, Copy)]
 pub(crate) enum Subject {
     /// Format 1, as many records as there are slots.
     Full,
@@ -28,7 +27,7 @@ pub(crate) enum Subject {
 }
 
 /// A forced write of so many blocks.
-#[derive(Clone, Copy, Debug)]
+#[derive(Clone, Copy)]
 struct TestWrite {
     address: u32,
     count: u32,
@@ -93,8 +92,7 @@ impl Subject {
 impl Subject {
     // The medium after the lives, whose cuts keep no unflushed write.
     fn lived(self, alloc: Global, medium: SimMedium) -> Result<SimMedium, Finding>
-        requires rests { IsAtRest medium }
-        requires unfused { medium.power.fuse ≡ None }
+        requires { RestsUnfused medium }
     {
         let mut array = Array::zeros(alloc, self.shape().blocks as usize)?;
         let [first, second] = self.strokes();
@@ -108,12 +106,12 @@ impl Subject {
                 live(alloc, medium, &array, &writes, self.limit())
             }
             Subject::Long | Subject::Single | Subject::Migrated => {
-                let medium = live(alloc, medium, &array, slice::from_ref(&first), 48)?;
+                let mut medium = live(alloc, medium, &array, slice::from_ref(&first), 48)?;
                 array.apply(&first);
-                let medium = self.between(medium)?;
+                self.between(&mut medium)?;
                 live(
                     alloc,
-                    medium,
+                    cut(medium, &Kept::None),
                     &array,
                     slice::from_ref(&second),
                     self.limit(),
@@ -123,16 +121,11 @@ impl Subject {
     }
 
     // What comes between two lives: a migration, or nothing.
-    fn between(self, mut medium: SimMedium) -> Result<SimMedium, Finding>
-        requires rests { IsAtRest medium }
-        requires unfused { medium.power.fuse ≡ None }
-        ensures rests { IfOk result IsAtRest }
-        ensures unfused { IfOk result (λ m. m.power.fuse ≡ None) }
-    {
+    fn between(self, medium: &mut SimMedium) -> Result<(), Finding> {
         if let Subject::Migrated = self {
-            migrate(&mut medium).map_err(Finding::NoMigration)?;
+            migrate(medium).map_err(Finding::NoMigration)?;
         }
-        Ok(cut(medium, &Kept::None))
+        Ok(())
     }
 
     // How many blocks a command has at most in the second life.

@@ -1,6 +1,6 @@
 //! The trial of an image: what recovery and a disk make of it, against what the definition says.
-ghost use Rattle.std.specs.Prelude.{◌≡◌, None, IfOk};
-ghost use Rattle.bot_machine.specs.LivesValue.{IsAtRest};
+ghost use Rattle.std.specs.Prelude.{IfOk};
+ghost use Rattle.judging.specs.Resting.{RestsUnfused};
 
 use crate::counts::{Counts, count};
 use crate::finding::{Finding, Step};
@@ -38,8 +38,7 @@ pub(crate) fn try_image(alloc: Global, image: &[u8], counts: &mut Counts) -> Res
 
 /// A medium in memory with these bytes, the power on, nothing unflushed and no fuse armed.
 pub(crate) fn medium_of(alloc: Global, image: &[u8]) -> Result<SimMedium, Finding>
-    ensures rests { IfOk result IsAtRest }
-    ensures unfused { IfOk result (λ m. m.power.fuse ≡ None) }
+    ensures { IfOk result RestsUnfused }
 {
     let medium = SimMedium::new(alloc, Vec::from_slice(alloc, image)?, ROOM)?;
     Ok(cut(medium, &Kept::None))
@@ -117,10 +116,8 @@ pub(crate) fn live(
     writes: &[Write],
     limit: u32,
 ) -> Result<SimMedium, Finding>
-    requires rests { IsAtRest medium }
-    requires unfused { medium.power.fuse ≡ None }
-    ensures rests { IfOk result IsAtRest }
-    ensures unfused { IfOk result (λ m. m.power.fuse ≡ None) }
+    requires { RestsUnfused medium }
+    ensures { IfOk result RestsUnfused }
 {
     let mut host = Host::new(alloc);
     host.request_sense()?;

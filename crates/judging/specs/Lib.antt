@@ -2,4 +2,5 @@ pub mod Armed
 pub mod Commands
 pub mod Formats
 pub mod Judged
+pub mod Resting
 pub mod Sent

@@ -6,7 +6,7 @@ use std::alloc::AllocError;
 use std::fmt;
 
 /// What is not as the definitions have it, or why nothing could be judged.
-#[derive(Clone, Copy, Debug)]
+#[derive(Clone, Copy)]
 pub enum Finding {
     /// The answer to the event at this place of a life, counted from 0, is none of an abstract
     /// disk.

@@ -1,8 +1,7 @@
 //! The play of a life, and the judgement of its answers.
-ghost use Rattle.std.specs.Prelude.{◌≡◌, None, length, slice_get, IfOk, IfSome, IsSome, OnOk};
-ghost use Rattle.std.specs.Prelude.{OnSome};
+ghost use Rattle.std.specs.Prelude.{◌≡◌, length, slice_get, IfOk, IfSome, IsSome, OnOk, OnSome};
 ghost use Rattle.judging.specs.Judged.{judged_identity};
-ghost use Rattle.bot_machine.specs.LivesValue.{IsAtRest};
+ghost use Rattle.judging.specs.Resting.{RestsUnfused};
 
 use crate::finding::Finding;
 use abstract_disk::Hearing;
@@ -36,10 +35,8 @@ pub fn play(
     life: &Life,
     hearing: &mut Hearing,
 ) -> Result<Played, Finding>
-    requires rests { IsAtRest medium }
-    requires unfused { medium.power.fuse ≡ None }
-    ensures rests { IfOk result (λ played. IsAtRest played.medium) }
-    ensures unfused { IfOk result (λ played. played.medium.power.fuse ≡ None) }
+    requires { RestsUnfused medium }
+    ensures rests { IfOk result (λ played. RestsUnfused played.medium) }
     ensures cut { IfOk result (λ played. OnSome played.cut_in (IsSome life.now.fuse)) }
 {
     let (medium, answers) = live(alloc, medium, retiring, life)?;
@@ -74,10 +71,8 @@ pub(crate) fn live(
     retiring: Retiring,
     life: &Life,
 ) -> Result<(SimMedium, Answers), Finding>
-    requires rests { IsAtRest medium }
-    requires unfused { medium.power.fuse ≡ None }
-    ensures rests { IfOk result (λ lived. IsAtRest lived.0) }
-    ensures unfused { IfOk result (λ lived. lived.0.power.fuse ≡ None) }
+    requires { RestsUnfused medium }
+    ensures { IfOk result (λ lived. RestsUnfused lived.0) }
 {
     let room = life.events.len();
     let mut answers = Answers::with_room(alloc, room).ok_or(AllocError)?;

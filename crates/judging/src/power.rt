@@ -1,14 +1,13 @@
 //! The power of a medium in memory.
-ghost use Rattle.std.specs.Prelude.{◌≡◌, None, IfOk};
-ghost use Rattle.bot_machine.specs.LivesValue.{IsAtRest};
+ghost use Rattle.std.specs.Prelude.{IfOk};
+ghost use Rattle.judging.specs.Resting.{RestsUnfused};
 
 use medium::{Kept, SimMedium};
 use std::alloc::{AllocError, Global};
 
 /// Cuts the power of a medium, and turns it on again.
 pub fn cut(mut medium: SimMedium, kept: &Kept) -> SimMedium
-    ensures rests { IsAtRest result }
-    ensures unfused { result.power.fuse ≡ None }
+    ensures { RestsUnfused result }
 {
     medium.cut(kept);
     medium
@@ -21,8 +20,7 @@ pub fn cut(mut medium: SimMedium, kept: &Kept) -> SimMedium
 ///
 /// Memory ran out.
 pub fn copied(alloc: Global, medium: &SimMedium) -> Result<SimMedium, AllocError>
-    ensures rests { IfOk result IsAtRest }
-    ensures unfused { IfOk result (λ m. m.power.fuse ≡ None) }
+    ensures { IfOk result RestsUnfused }
 {
     let copy = medium.copy(alloc).ok_or(AllocError)?;
     Ok(cut(copy, &Kept::None))

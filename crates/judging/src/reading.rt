@@ -1,6 +1,6 @@
 //! The blocks that an image serves.
-ghost use Rattle.std.specs.Prelude.{◌≡◌, None, length, IfOk};
-ghost use Rattle.bot_machine.specs.LivesValue.{IsAtRest};
+ghost use Rattle.std.specs.Prelude.{◌≡◌, length, IfOk};
+ghost use Rattle.judging.specs.Resting.{RestsUnfused};
 
 use crate::finding::Finding;
 use crate::host::Host;
@@ -25,10 +25,8 @@ pub fn blocks_of(
     blocks: u32,
     limit: u32,
 ) -> Result<(SimMedium, Array), Finding>
-    requires rests { IsAtRest medium }
-    requires unfused { medium.power.fuse ≡ None }
-    ensures rests { IfOk result (λ served. IsAtRest served.0) }
-    ensures unfused { IfOk result (λ served. served.0.power.fuse ≡ None) }
+    requires { RestsUnfused medium }
+    ensures rests { IfOk result (λ served. RestsUnfused served.0) }
     ensures count { IfOk result (λ served. length served.1.blocks.items ≡ blocks) }
 {
     let life = reading_life(alloc, blocks, limit)?;

@@ -1,7 +1,7 @@
 //! The shape of an image.
 ghost use Rattle.judging.specs.Formats.{limit_of};
-ghost use Rattle.std.specs.Prelude.{◌≡◌, None, IfOk};
-ghost use Rattle.bot_machine.specs.LivesValue.{IsAtRest};
+ghost use Rattle.judging.specs.Resting.{RestsUnfused};
+ghost use Rattle.std.specs.Prelude.{◌≡◌, IfOk};
 
 use crate::finding::Finding;
 use crate::power::cut;
@@ -11,14 +11,14 @@ use std::alloc::Global;
 use std::fmt;
 
 /// A format of the log.
-#[derive(Clone, Copy, Debug)]
+#[derive(Clone, Copy)]
 pub enum Format {
     One,
     Two,
 }
 
 /// The format of an image, and how many blocks and log slots it has.
-#[derive(Clone, Copy, Debug)]
+#[derive(Clone, Copy)]
 pub struct Shape {
     pub format: Format,
     pub blocks: u32,
@@ -63,8 +63,7 @@ impl Shape {
     ///
     /// `NoMemory`; `Medium` or `NoFormat` where the sizes are out of their limits.
     pub fn fresh(self, alloc: Global) -> Result<SimMedium, Finding>
-        ensures rests { IfOk result IsAtRest }
-        ensures unfused { IfOk result (λ m. m.power.fuse ≡ None) }
+        ensures { IfOk result RestsUnfused }
     {
         let sectors = self.sectors() as usize;
         let bytes = vec![in alloc; 0u8; sectors.saturating_mul(512)]?;

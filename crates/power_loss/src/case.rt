@@ -6,7 +6,7 @@ use std::alloc::Global;
 use std::fmt;
 
 /// What a host does.
-#[derive(Clone, Copy, Debug, PartialEq, Eq)]
+#[derive(Clone, Copy)]
 pub(crate) enum Manner {
     /// The worked life.
     Plain,
@@ -19,7 +19,7 @@ pub(crate) enum Manner {
 
 /// The format of the image, the manner of the host, and how many steps in the background come
 /// between any two events. On the image are 16 blocks.
-#[derive(Clone, Copy, Debug)]
+#[derive(Clone, Copy)]
 pub(crate) struct Case {
     pub(crate) format: Format,
     pub(crate) manner: Manner,

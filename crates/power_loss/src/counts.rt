@@ -2,7 +2,7 @@
 use std::fmt;
 
 /// How many cuts were judged.
-#[derive(Clone, Copy, Debug, Default)]
+#[derive(Clone, Copy, Default)]
 pub(crate) struct Cuts {
     /// Fuses with which the power went in the life.
     pub(crate) cuts: u64,
@@ -15,7 +15,7 @@ pub(crate) struct Cuts {
 }
 
 /// How many refused calls were judged.
-#[derive(Clone, Copy, Debug, Default)]
+#[derive(Clone, Copy, Default)]
 pub(crate) struct Failures {
     /// Calls of the medium that were refused in an event, each in a life of its own.
     pub(crate) calls: u64,
@@ -28,7 +28,7 @@ pub(crate) struct Failures {
 }
 
 /// How many migrations were judged.
-#[derive(Clone, Copy, Debug, Default)]
+#[derive(Clone, Copy, Default)]
 pub(crate) struct Migrations {
     /// Migrations in which the power went.
     pub(crate) cuts: u64,

@@ -1,6 +1,6 @@
 //! Images, the blocks that they serve, and the lives that open over these.
-ghost use Rattle.std.specs.Prelude.{◌≡◌, None, IfOk};
-ghost use Rattle.bot_machine.specs.LivesValue.{IsAtRest};
+ghost use Rattle.std.specs.Prelude.{IfOk};
+ghost use Rattle.judging.specs.Resting.{RestsUnfused};
 
 use crate::fault::Fault;
 use abstract_disk::{Array, Hearing};
@@ -14,8 +14,7 @@ use std::ops::Range;
 
 /// The blocks that an image of this shape serves.
 pub(crate) fn served_by(alloc: Global, shape: Shape, image: SimMedium) -> Result<Array, Fault>
-    requires rests { IsAtRest image }
-    requires unfused { image.power.fuse ≡ None }
+    requires { RestsUnfused image }
 {
     let (_, blocks) = blocks_of(alloc, image, shape.blocks, shape.format.limit())?;
     Ok(blocks)
@@ -36,8 +35,7 @@ pub(crate) fn cut_copy(
     medium: &SimMedium,
     mask: u64,
 ) -> Result<SimMedium, AllocError>
-    ensures rests { IfOk result IsAtRest }
-    ensures unfused { IfOk result (λ m. m.power.fuse ≡ None) }
+    ensures { IfOk result RestsUnfused }
 {
     let copy = medium.copy(alloc).ok_or(AllocError)?;
     Ok(cut(copy, &Kept::Mask(mask)))

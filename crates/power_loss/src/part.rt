@@ -1,7 +1,7 @@
 //! The parts of the program.
 
 /// A part, which can be played alone.
-#[derive(Clone, Copy, Debug, PartialEq, Eq)]
+#[derive(Clone, Copy)]
 pub(crate) enum Part {
     Cuts,
     Failures,
@@ -10,7 +10,7 @@ pub(crate) enum Part {
 }
 
 /// What is to be played.
-#[derive(Clone, Copy, Debug, PartialEq, Eq)]
+#[derive(Clone, Copy)]
 pub(crate) enum Asked {
     All,
     One(Part),

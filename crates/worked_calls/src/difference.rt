@@ -2,27 +2,47 @@
 use bot_machine::StartFault;
 use judging::Finding;
 use std::alloc::AllocError;
-use thiserror::Error;
+use std::fmt;
 
 /// What is not as it should be, or why nothing could be played.
-#[derive(Debug, Drop, Error)]
+#[derive(Clone, Copy)]
 pub(crate) enum Difference {
     /// A start was refused.
-    #[error("a start was refused: {0}")]
     Start(StartFault),
     /// A start that is to be refused was not, or with another fault.
-    #[error("a start was not refused as it should be")]
     NotRefused,
     /// Another medium came back.
-    #[error("another medium came back")]
     Medium,
     /// There were flushes where none should be, or none where some should be.
-    #[error("another number of flushes")]
     Flushes,
     /// Another answer than one of an abstract disk, or the preparations failed.
-    #[error("{0}")]
-    Judged(#[from] Finding),
+    Judged(Finding),
     /// Memory ran out.
-    #[error("out of memory")]
-    NoMemory(#[from(alloc)] AllocError),
+    NoMemory(AllocError),
+}
+
+impl fmt::Display for Difference {
+    fn fmt<W: fmt::Write>(&self, f: &mut fmt::Formatter<W>) -> fmt::Result {
+        let words = match *self {
+            Difference::Start(fault) => return write!(f, "a start was refused: {fault}"),
+            Difference::NotRefused => "a start was not refused as it should be",
+            Difference::Medium => "another medium came back",
+            Difference::Flushes => "another number of flushes",
+            Difference::Judged(finding) => return write!(f, "{finding}"),
+            Difference::NoMemory(_) => "out of memory",
+        };
+        write!(f, "{words}")
+    }
+}
+
+impl From<Finding> for Difference {
+    fn from(finding: Finding) -> Difference {
+        Difference::Judged(finding)
+    }
+}
+
+impl From<AllocError> for Difference {
+    fn from(error: AllocError) -> Difference {
+        Difference::NoMemory(error)
+    }
 }

@@ -1,12 +1,11 @@
 //! Events to a disk in one call.
-ghost use Rattle.std.specs.Prelude.{◌≡◌, None, IfOk};
-ghost use Rattle.bot_machine.specs.LivesValue.{IsAtRest};
+ghost use Rattle.std.specs.Prelude.{◌≡◌, IfOk};
 
 use crate::difference::Difference;
 use abstract_disk::{Array, Hearing, Write};
 use bot_machine::{Answers, Disk, Event, PacketSize, StartFault, run_events};
-use judging::{Finding, Format, Host, Shape, cut, disk_identity, hear};
-use medium::{Kept, Medium, SimMedium};
+use judging::{Finding, Format, Host, Shape, disk_identity, hear};
+use medium::{Medium, SimMedium};
 use std::alloc::{AllocError, Global};
 
 const SHAPE: Shape = Shape {
@@ -40,14 +39,10 @@ pub(crate) fn medium_comes_back(alloc: Global) -> Result<(), Difference> {
     Ok(())
 }
 
-/// So many sectors as make no image, with the power on.
-pub(crate) fn zeros(alloc: Global) -> Result<SimMedium, Difference>
-    ensures rests { IfOk result IsAtRest }
-    ensures unfused { IfOk result (λ m. m.power.fuse ≡ None) }
-{
+/// So many sectors as make no image.
+pub(crate) fn zeros(alloc: Global) -> Result<SimMedium, Difference> {
     let bytes = vec![in alloc; 0u8; 68 * 512]?;
-    let medium = SimMedium::new(alloc, bytes, 1).map_err(Finding::from)?;
-    Ok(cut(medium, &Kept::None))
+    Ok(SimMedium::new(alloc, bytes, 1).map_err(Finding::from)?)
 }
 
 // Plays the forty writes with so many steps in the background between any two events. Gives the

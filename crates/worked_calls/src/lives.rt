@@ -6,7 +6,7 @@ use crate::difference::Difference;
 use crate::events::zeros;
 use abstract_disk::{Array, Hearing, Write};
 use bot_machine::{Answer, Answers, Life, PacketSize, StartFault, run_lives};
-use judging::{Finding, Format, Host, Shape, disk_identity, hear};
+use judging::{Finding, Format, Host, Shape, cut, disk_identity, hear};
 use medium::Kept;
 use std::alloc::{AllocError, Global};
 
@@ -54,7 +54,7 @@ fn lived(alloc: Global, lives: &[Life]) -> Result<Answers, Difference> {
 pub(crate) fn end_at_a_refused_start(alloc: Global) -> Result<(), Difference> {
     let lives = [life_of(alloc, None)?];
     let mut answers = Answers::with_room(alloc, room_for(&lives)?).ok_or(AllocError)?;
-    let medium = zeros(alloc)?;
+    let medium = cut(zeros(alloc)?, &Kept::None);
     let ended = run_lives(alloc, medium, disk_identity()?, &lives, &mut answers);
     let fault = ended.err().map(|error| error.fault);
     if fault == Some(StartFault::BadSuper) && answers.list().is_empty() {

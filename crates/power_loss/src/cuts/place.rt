@@ -4,7 +4,7 @@ use abstract_disk::Found;
 use judging::Format;
 
 /// Where the power goes.
-#[derive(Clone, Copy, Debug, PartialEq, Eq)]
+#[derive(Clone, Copy, PartialEq, Eq)]
 pub(crate) enum Place {
     Start,
     /// In the event with this number, counted from 0.
@@ -33,7 +33,7 @@ impl Place {
 
 // An event that makes writes and flushes: its number, the first fuse with which the power stays on
 // in it, and the least and the greatest number of the writes after which the blocks may be found.
-#[derive(Clone, Copy, Debug)]
+#[derive(Clone, Copy)]
 struct Span {
     event: usize,
     end: u64,

@@ -1,6 +1,5 @@
 //! What comes after the cut of a life.
-ghost use Rattle.std.specs.Prelude.{◌≡◌, None};
-ghost use Rattle.bot_machine.specs.LivesValue.{IsAtRest};
+ghost use Rattle.judging.specs.Resting.{RestsUnfused};
 
 use crate::counts::{Cuts, count};
 use crate::fault::Fault;
@@ -9,7 +8,7 @@ use abstract_disk::{Array, Hearing};
 use bot_machine::{Event, Life, Retiring};
 use judging::{Shape, copied, play};
 use medium::{Kept, SimMedium};
-use std::alloc::Global;
+use std::alloc::{AllocError, Global};
 
 /// An image that a cut left, and the blocks that it serves.
 #[derive(Clone, Copy)]
@@ -25,7 +24,7 @@ impl<'a> Restart<'a> {
     pub(crate) fn cut_everywhere(self, alloc: Global, counts: &mut Cuts) -> Result<(), Fault> {
         let mut life = Life {
             fuse: None,
-            events: vec![in alloc; Event::In]?,
+            events: vec![in alloc; Event::In].map_err(AllocError::from)?,
             kept: Kept::None,
         };
         self.cut_each(alloc, &mut life, counts)
@@ -73,8 +72,7 @@ impl<'a> Restart<'a> {
 
     // A third life serves the blocks.
     fn third(self, alloc: Global, image: SimMedium, counts: &mut Cuts) -> Result<(), Fault>
-        requires rests { IsAtRest image }
-        requires unfused { image.power.fuse ≡ None }
+        requires { RestsUnfused image }
     {
         let third = served_by(alloc, self.shape, image)?;
         count(&mut counts.third_lives);

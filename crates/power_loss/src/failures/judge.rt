@@ -1,6 +1,5 @@
 //! The judgement of a life in which one call of the medium is refused.
-ghost use Rattle.std.specs.Prelude.{◌≡◌, None};
-ghost use Rattle.bot_machine.specs.LivesValue.{IsAtRest};
+ghost use Rattle.judging.specs.Resting.{RestsUnfused};
 
 use crate::case::Case;
 use crate::counts::{Failures, count};
@@ -100,8 +99,7 @@ impl<'a> Judge<'a> {
         hearing: &Hearing,
         counts: &mut Failures,
     ) -> Result<(), Fault>
-        requires rests { IsAtRest image }
-        requires unfused { image.power.fuse ≡ None }
+        requires { RestsUnfused image }
     {
         let (blocks, limit) = (self.case.shape().blocks, self.case.format.limit());
         let (image, found) = blocks_of(alloc, image, blocks, limit)?;
@@ -133,8 +131,7 @@ impl<'a> Judge<'a> {
         wanted: &Array,
         counts: &mut Failures,
     ) -> Result<(), Fault>
-        requires rests { IsAtRest image }
-        requires unfused { image.power.fuse ≡ None }
+        requires { RestsUnfused image }
     {
         let found = served_by(alloc, self.case.shape(), image)?;
         same(&found, wanted, counts)

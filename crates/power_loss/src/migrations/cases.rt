@@ -10,7 +10,7 @@ use judging::{Finding, Host};
 use std::alloc::{AllocError, Global};
 
 /// An image that is migrated.
-#[derive(Clone, Copy, Debug)]
+#[derive(Clone, Copy)]
 pub(crate) enum Case {
     /// A few blocks. Its cuts keep none, all, and each single one of the unflushed writes.
     Small,
@@ -22,7 +22,7 @@ pub(crate) enum Case {
 }
 
 /// A write, and how many steps in the background come after it.
-#[derive(Clone, Copy, Debug)]
+#[derive(Clone, Copy)]
 struct TestWrite {
     address: u32,
     count: u32,

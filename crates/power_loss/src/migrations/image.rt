@@ -4,7 +4,7 @@ use judging::{Format, Shape};
 use std::alloc::{AllocError, Global};
 
 /// How many blocks and log slots an image of format 1 has.
-#[derive(Clone, Copy, Debug)]
+#[derive(Clone, Copy)]
 pub(crate) struct Size {
     pub(crate) blocks: u32,
     pub(crate) slots: u32,

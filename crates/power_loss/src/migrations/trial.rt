@@ -1,6 +1,5 @@
 //! The judgement of a migration, of its cuts, and of what comes after them.
-ghost use Rattle.std.specs.Prelude.{◌≡◌, None};
-ghost use Rattle.bot_machine.specs.LivesValue.{IsAtRest};
+ghost use Rattle.judging.specs.Resting.{RestsUnfused};
 
 use crate::counts::{Migrations, count};
 use crate::fault::Fault;
@@ -14,7 +13,7 @@ use std::alloc::{AllocError, Global};
 use std::ops::Range;
 
 /// Which of the unflushed writes outlive a cut, each choice in a trial of its own.
-#[derive(Clone, Copy, Debug, PartialEq, Eq)]
+#[derive(Clone, Copy)]
 pub(crate) enum Choices {
     /// None, and all.
     Few,
@@ -178,8 +177,7 @@ impl<'a> Trial<'a> {
         medium: SimMedium,
         counts: &mut Migrations,
     ) -> Result<(), Fault>
-        requires rests { IsAtRest medium }
-        requires unfused { medium.power.fuse ≡ None }
+        requires { RestsUnfused medium }
     {
         let opened = self.stamp.saturating_add(1);
         let mut medium = self.read(alloc, medium, Format::One, counts)?;
@@ -197,8 +195,7 @@ impl<'a> Trial<'a> {
         format: Format,
         counts: &mut Migrations,
     ) -> Result<SimMedium, Fault>
-        requires rests { IsAtRest medium }
-        requires unfused { medium.power.fuse ≡ None }
+        requires { RestsUnfused medium }
     {
         count(&mut counts.lives);
         let (medium, array) = blocks_of(alloc, medium, self.past.size.blocks, format.limit())?;
@@ -262,5 +259,6 @@ fn alone(alloc: Global, number: usize) -> Result<Kept, Fault> {
         return Ok(Kept::Mask(1 << number));
     }
     let number = u32::try_from(number).map_err(|_| Fault::Unflushed(number))?;
-    Ok(Kept::These(vec![in alloc; number]?))
+    let numbers = vec![in alloc; number].map_err(AllocError::from)?;
+    Ok(Kept::These(numbers))
 }
