@@ -49,7 +49,8 @@ pub trait ToldFile {
     fn read_at(&mut self, to: &mut [u8], at: u64) -> io::Result<usize>
         ensures asked { AsksFor (is_ok result) (Read at) (told self.old) (told self.new) }
         ensures bound { IfOk result (λ count. count ≤ length to.new) }
-        ensures gives { IfOk result (λ count. Gives at (take count to.new) (told self.old) (told self.new)) }
+        ensures gives { IfOk result (λ count.
+            Gives at (take count to.new) (told self.old) (told self.new)) }
         ensures err { OnErr result (KeepsBytes (told self.old) (told self.new)) };
 
     /// Writes bytes from this place on: as many as it says, perhaps fewer than are given.
@@ -60,8 +61,10 @@ pub trait ToldFile {
     fn write_at(&mut self, from: &[u8], at: u64) -> io::Result<usize>
         ensures asked { AsksFor (is_ok result) (Write at) (told self.old) (told self.new) }
         ensures bound { IfOk result (λ count. count ≤ length from.now) }
-        ensures takes { IfOk result (λ count. Takes at (take count from.now) (told self.old) (told self.new)) }
-        ensures err { OnErr result (TakesWithin at (length from.now) (told self.old) (told self.new)) };
+        ensures takes { IfOk result (λ count.
+            Takes at (take count from.now) (told self.old) (told self.new)) }
+        ensures err { OnErr result
+            (TakesWithin at (length from.now) (told self.old) (told self.new)) };
 
     /// Makes durable what it holds.
     ///
