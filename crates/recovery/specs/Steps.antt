@@ -1,7 +1,7 @@
 -- What the steps of a recovery, of a migration and of a format do, each in one record.
 use Rattle.std.specs.Prelude.{ℕ, ◌+◌, ◌*◌, ◌<◌, Result, OnOk, OnErr, IfOk, IfErr}
 use Rattle.medium.specs.Medium.{State}
-use Rattle.medium.specs.Moments.{EachCut, IsQuiet}
+use Rattle.medium.specs.Moments.{EachCut, IsFlushed, IsQuiet}
 use Rattle.medium.specs.declared.fault.MediumFault.{MediumFault}
 use Rattle.spec.specs.Blocks.{Array}
 use Rattle.journal.specs.declared.log_format.LogFormat.TheVariants.{One}
@@ -9,7 +9,9 @@ use Rattle.journal.specs.Places.{Shape, slot_sectors_of}
 use Rattle.journal.specs.Reads.{ReadsPass}
 use Rattle.journal.specs.Standing.{IsOurs}
 use Rattle.journal.specs.Values.{shape_of}
-use Rattle.recovery.specs.Calls.{CallsUpTo}
+use Rattle.recovery.specs.Calls.{CallsUpTo, FollowsBy, MovesHead}
+use Rattle.recovery.specs.Copies.{HasNewHead}
+use Rattle.recovery.specs.Unread.{LooksNowhere}
 use Rattle.recovery.specs.Causes.{IsRefusedCall, IsRefusalBy, WritesNothing}
 use Rattle.recovery.specs.Formatted.{IsArrayFrom, IsMade, ImageLeaves, CallsWithoutReads}
 use Rattle.recovery.specs.Found.{IsSurvey, SurveysAtMost}
@@ -70,3 +72,11 @@ module _ {M : Type 0} (state : M → State) (Follows : M → M → Type 0) where
     pub calls : CallsWithoutReads (end + 5) (state old) (state new) result
     pub cause : OnErr result ((state old).failures < (state new).failures)
     pub follows : Follows old new
+
+  -- The head gets this stamp, once every write before is durable, and is durable itself then.
+  pub record MovesHeadTo (stamp : ℕ) (old new : M) (result : Result (Unit {0}) MediumFault)
+      : Type 0 where
+    pub done : OnOk result (HasNewHead stamp (state old).content (state new).content
+        × IsFlushed (state new))
+    pub moves : MovesHead stamp (state old) (state new) result
+    pub follows : FollowsBy state Follows 3 LooksNowhere old new
