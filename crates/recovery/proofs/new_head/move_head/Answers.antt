@@ -38,7 +38,8 @@ returns-in_err-write g c = record {
       let second = c.write.ensures in
       let head = subst (λ (n : ℕ). IsHead n c.encode.result) c.new.ensures c.encode.ensures in
       record {
-        moments = head_written c.args.stamp c.encode.result old mid new head sound sound_mid first.passes first.sets c.in_ok-flush.ensures.ok
+        moments = head_written c.args.stamp c.encode.result old mid new head sound sound_mid first.passes first.sets
+            c.in_ok-flush.ensures.ok
             second.passes second.sets;
         spares = spared_joined 2 old mid new (spared_silent 2 old mid sound first.passes first.content first.sets)
             (spared_write 2 mid new 1 c.encode.result sound_mid (omega arith) second.passes second.sets c.in_err-write.ensures.err);
