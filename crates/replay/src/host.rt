@@ -6,7 +6,7 @@ use std::io::{ErrorKind, Read, Write};
 use std::{fmt, io};
 
 /// How a host sends its lines.
-#[derive(Clone, Copy)]
+#[derive(Clone, Copy, Debug, PartialEq, Eq)]
 pub(crate) enum Pace {
     /// A line at a time.
     Waits,
