@@ -96,6 +96,10 @@ turn-format : (image blocks slots number : List ℕ) → IsPlain number → turn
 unfolding clap_on_literals
 turn-format image blocks slots number plain = let a = plain.stripped in let b = plain.other in simp (a, b)
 
+end-slots : (image blocks slots : List ℕ) → end_passes shape (behind_slots image blocks slots) ≡ true
+unfolding clap_on_literals
+end-slots image blocks slots = refl
+
 end-format : (image blocks slots number : List ℕ) → end_passes shape (behind_format image blocks slots number) ≡ true
 unfolding clap_on_literals
 end-format image blocks slots number = refl
@@ -113,6 +117,13 @@ leads-sizes image blocks slots ending v a b c rest =
     (walked-slots_name image blocks)
     (leads-more shape (at_slots image blocks) (behind_slots image blocks slots) v _ _ (turn-slots image blocks slots c)
     (walked-slots image blocks slots c) rest))))
+
+-- the parser of `format` passes its words, without a format and with one
+pub sizes_pass : (image blocks slots : List ℕ) → IsPlain image → IsPlain blocks → IsPlain slots
+    → level_passes shape [] nothing_held (image ∷ codes "--blocks" ∷ blocks ∷ codes "--slots" ∷ slots ∷ []) false ≡ true
+sizes_pass image blocks slots a b c =
+    let end = behind_slots image blocks slots in
+    level shape end _ (leads-sizes image blocks slots [] end a b c (leads-none shape end)) (end-slots image blocks slots)
 
 pub format_passes : (image blocks slots number : List ℕ) → IsPlain image → IsPlain blocks → IsPlain slots → IsPlain number
     → level_passes shape [] nothing_held (image ∷ codes "--blocks" ∷ blocks ∷ codes "--slots" ∷ slots ∷ codes "--format" ∷ number ∷ [])

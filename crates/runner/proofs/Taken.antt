@@ -1,6 +1,6 @@
 -- The parser takes the words of the command line.
 use Rattle.runner.proofs.WordWalks.{IsPlain}
-use Rattle.runner.proofs.FormatWords.{format_passes}
+use Rattle.runner.proofs.FormatWords.{sizes_pass, format_passes}
 use Rattle.runner.proofs.PlayWords.{files_pass, packet_passes}
 use Rattle.std.proofs.Common.{inl, inr, ap, ◌≡◌, ◌<◌, ℕ, List, [], ◌∷◌, true, false, None, ◌^◌, ◌∙◌, codes, slice_index, sym, refl, arith}
 use Rattle.std.specs.Prelude.{◌⊎◌, ◌&&◌, Bool, is_some, Result, Ok, Err, IsErrAnd, IfErr}
