@@ -1,6 +1,7 @@
 -- What is read of a record, and by how many reads.
 use Rattle.std.specs.Prelude.{◌≡◌, ◌⊎◌, ◌↔◌, ℕ, ◌+◌, ◌<◌, List, [], ◌++◌, length, drop, get_or}
 use Rattle.std.specs.Prelude.{Option, Some, None, IfSome, IsSomeAnd, Bool, IsTrue}
+use Rattle.std.specs.Prelude.{if◌then◌else◌}
 use Rattle.medium.specs.Medium.{State, Image}
 use Rattle.journal.specs.declared.log_format.LogFormat.{LogFormat}
 use Rattle.journal.specs.declared.log_format.LogFormat.TheVariants.{One, Two}
@@ -60,6 +61,10 @@ abbrev pub IsReadFor : LogFormat → Shape → Image → ℕ → Option Record �
 IsReadFor One shape image stamp found reads = reads ≡ 2
 IsReadFor Two shape image stamp found reads =
     IsReadForTwo image (slot_at format2 shape stamp) stamp shape.blocks found reads
+
+-- what a reader found that fills a record: the record, where it answers that it is there
+abbrev pub found_in : Bool → Record → Option Record
+found_in answer read = if answer then Some read else None
 
 -- What is found of the record of a stamp, by so many reads. Where it is whole, that is what the
 -- record says before its data places; and where these carry the stamp too, it is whole.

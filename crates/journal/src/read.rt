@@ -4,13 +4,14 @@ ghost use Rattle.journal.specs.Places.{first_home, sectors_of};
 ghost use Rattle.journal.specs.Values.{shape_of};
 ghost use Rattle.journal.specs.Reads.{LooksUp};
 ghost use Rattle.journal.specs.Reading.{record_reads_of, stamp_reads_of};
-ghost use Rattle.journal.specs.Reading.{FindsRecord, FindsStamps};
+ghost use Rattle.journal.specs.Reading.{FindsRecord, FindsStamps, found_in};
 
 use crate::{LogFormat, Record, Super, v1, v2};
 use medium::{Medium, MediumFault};
 
-/// Reads the record of a stamp up to its data places, if its other sectors are there. It is whole
-/// where `are_stamped` answers too that its data places are.
+/// Reads the record of a stamp up to its data places. False where its other sectors are not there,
+/// and then the record may hold anything. It is whole where `are_stamped` answers too that its data
+/// places are.
 ///
 /// # Errors
 ///
@@ -19,15 +20,17 @@ pub fn read_record<M: Medium>(
     m: &mut M,
     sizes: &Super,
     stamp: u64,
-) -> Result<Option<Record>, MediumFault>
+    to: &mut Record,
+) -> Result<bool, MediumFault>
     requires { sectors_of (shape_of sizes.now) ≤ (M.state m.old).size }
     ensures { LooksUp M.state M.follows (record_reads_of sizes.now.format)
-        (λ s. s < first_home (shape_of sizes.now)) (FindsRecord (shape_of sizes.now) stamp)
+        (λ s. s < first_home (shape_of sizes.now)) (λ old new found.
+        FindsRecord (shape_of sizes.now) stamp old new (found_in found to.new))
         m.old m.new result }
 {
     match sizes.format {
-        LogFormat::One => v1::read_record(m, sizes, stamp),
-        LogFormat::Two => v2::read_record(m, sizes, stamp),
+        LogFormat::One => v1::read_record(m, sizes, stamp, to),
+        LogFormat::Two => v2::read_record(m, sizes, stamp, to),
     }
 }
 

@@ -13,6 +13,17 @@ pub struct Record {
 impl Record {
     ghost use Rattle.std.specs.Prelude.{◌≡◌, ◌≤◌, [], length, get_or};
 
+    /// A record of no block.
+    pub fn new() -> Self
+        ensures numbers { result.numbers.items ≡ [] }
+        ensures firsts { result.firsts.items ≡ [] }
+    {
+        Record {
+            numbers: ArrayVec::new(),
+            firsts: ArrayVec::new(),
+        }
+    }
+
     /// The first bytes of the i-th block, where its data place does not have them.
     pub fn first(&self, i: usize) -> &[u8]
         ensures is { result.now ≡ get_or self.now.firsts.items i [] }

@@ -68,8 +68,13 @@ fn copy_blocks<M: Medium>(
     Ok(())
 }
 
-// Copies the record of this stamp home, which is whole.
-fn copy_record<M: Medium>(m: &mut M, sizes: &Super, stamp: u64) -> Result<(), MediumFault>
+// Copies the record of this stamp home, which is whole. What is read of it goes through `read`.
+fn copy_record<M: Medium>(
+    m: &mut M,
+    sizes: &Super,
+    stamp: u64,
+    read: &mut Record,
+) -> Result<(), MediumFault>
     requires fits { sectors_of (shape_of sizes.now) ≤ (M.state m.old).size }
     requires whole { HasWhole (shape_of sizes.now) (M.state m.old).content stamp }
     ensures done { (entries : List Entry)
@@ -82,9 +87,10 @@ fn copy_record<M: Medium>(m: &mut M, sizes: &Super, stamp: u64) -> Result<(), Me
     ensures follows { FollowsBy M.state M.follows (limit_of sizes.now.format)
         (LooksOnly (λ s. s < first_home (shape_of sizes.now))) m.old m.new }
 {
-    match read_record(m, sizes, stamp)? {
-        Some(read) => copy_blocks(m, sizes, stamp, &read),
-        None => Ok(()),
+    if read_record(m, sizes, stamp, read)? {
+        copy_blocks(m, sizes, stamp, read)
+    } else {
+        Ok(())
     }
 }
 
@@ -107,8 +113,9 @@ pub(crate) fn copy_records<M: Medium>(m: &mut M, found: &Found) -> Result<(), Me
         (limit_of found.now.sizes.format * found.now.count)
         (LooksOnly (λ s. s < first_home (shape_of found.now.sizes))) m.old m.new }
 {
+    let mut read = Record::new();
     for j in 0..found.count {
-        copy_record(m, &found.sizes, found.head + j)?;
+        copy_record(m, &found.sizes, found.head + j, &mut read)?;
     }
     Ok(())
 }

@@ -6,7 +6,7 @@ ghost use Rattle.journal.specs.Reads.{LooksUp};
 ghost use Rattle.recovery.specs.Copies.{most_reads_of};
 ghost use Rattle.recovery.specs.Found.{CountsBlocks};
 
-use journal::{Super, are_stamped, read_record};
+use journal::{Record, Super, are_stamped, read_record};
 use medium::{Medium, MediumFault};
 
 /// Reads how many blocks the record of a stamp has, if it is whole.
@@ -20,9 +20,10 @@ pub(crate) fn count_blocks<M: Medium>(
         (λ s. s < first_home (shape_of sizes.now)) (CountsBlocks (shape_of sizes.now) stamp)
         m.old m.new result }
 {
-    let Some(record) = read_record(m, sizes, stamp)? else {
+    let mut record = Record::new();
+    if !read_record(m, sizes, stamp, &mut record)? {
         return Ok(None);
-    };
+    }
     let count = record.numbers.len() as u64;
     if are_stamped(m, sizes, stamp, count)? {
         Ok(Some(count))

@@ -6,12 +6,10 @@ ghost use Rattle.journal.specs.Values.{shape_of};
 ghost use Rattle.journal.specs.Record.{Entry, numbers_of};
 ghost use Rattle.journal.specs.Formats.{IsWhole};
 ghost use Rattle.journal.specs.Reads.{LooksUp, LooksUpAll};
-ghost use Rattle.journal.specs.Reading.{FindsRecord};
+ghost use Rattle.journal.specs.Reading.{FindsRecord, found_in};
 
-use crate::fields::list_of;
 use crate::v1::{Descriptor, commit_place, place_of, whole_record};
 use crate::{Record, Super, slot_of};
-use arrayvec::ArrayVec;
 use medium::{Medium, MediumFault};
 
 // Reads the descriptor of the record of a stamp, if it is whole.
@@ -38,23 +36,27 @@ fn read_descriptor<M: Medium>(
     Ok(whole_record(sizes.blocks, stamp, &descriptor, &commit))
 }
 
-/// Reads the record of a stamp up to its data places, if it is whole.
+/// Reads the record of a stamp up to its data places. False where it is not whole.
 pub(crate) fn read_record<M: Medium>(
     m: &mut M,
     sizes: &Super,
     stamp: u64,
-) -> Result<Option<Record>, MediumFault>
+    to: &mut Record,
+) -> Result<bool, MediumFault>
     requires format { sizes.now.format ≡ One }
     requires fits { sectors_of (shape_of sizes.now) ≤ (M.state m.old).size }
     ensures { LooksUp M.state M.follows 2
-        (λ s. s < first_home (shape_of sizes.now)) (FindsRecord (shape_of sizes.now) stamp)
+        (λ s. s < first_home (shape_of sizes.now)) (λ old new found.
+        FindsRecord (shape_of sizes.now) stamp old new (found_in found to.new))
         m.old m.new result }
 {
     let Some(found) = read_descriptor(m, sizes, stamp)? else {
-        return Ok(None);
+        return Ok(false);
     };
-    Ok(Some(Record {
-        numbers: list_of(&found.numbers),
-        firsts: ArrayVec::new(),
-    }))
+    to.numbers.clear();
+    to.firsts.clear();
+    let Ok(()) = to.numbers.try_extend_from_slice(&found.numbers) else {
+        return Ok(false);
+    };
+    Ok(true)
 }

@@ -14,13 +14,12 @@ ghost use Rattle.journal.specs.Values.{shape_of};
 ghost use Rattle.journal.specs.SlotTwo.{HasDescriptors, HasPlaces};
 ghost use Rattle.journal.specs.SlotReads.{StopsAtBad, ReadsUpToBad, HasDescriptor, HasPlace};
 ghost use Rattle.journal.specs.Reads.{LooksUp, LooksUpAll};
-ghost use Rattle.journal.specs.Reading.{FindsRecord, FindsStamps};
+ghost use Rattle.journal.specs.Reading.{FindsRecord, FindsStamps, found_in};
 
 use crate::v2::{
     Commit, Descriptor, commit_place, data_place, descriptor_place, descriptors, is_data,
 };
 use crate::{Record, Super, are_rising, slot_of};
-use arrayvec::ArrayVec;
 use medium::{Medium, MediumFault};
 
 // Reads how many blocks the record of a stamp has, if its commit is there.
@@ -72,18 +71,19 @@ fn read_descriptor<M: Medium>(
     }
 }
 
-// Reads what the descriptors of a record of so many blocks say, if they are there.
+// Reads what the descriptors of a record of so many blocks say. False where they are not there.
 fn read_descriptors<M: Medium>(
     m: &mut M,
     slot: u64,
     stamp: u64,
     count: u64,
-) -> Result<Option<Record>, MediumFault>
+    to: &mut Record,
+) -> Result<bool, MediumFault>
     requires slot { slot < 64 }
     requires few { count ≤ 240 }
     requires inside { slot_end slot ≤ (M.state m.old).size }
     ensures reads { LooksUp M.state M.follows 8 (λ s. s < slot_end slot)
-        (λ old new found. MatchOption found
+        (λ old new found. MatchOption (found_in found to.new)
         ((reads : ℕ) × StopsAtBad (HasDescriptor old.content (place_of slot) stamp count)
         (descriptors_of count) reads × (new.calls ≡ old.calls + reads))
         (λ read. (length read.numbers.items ≡ count)
@@ -91,27 +91,29 @@ fn read_descriptors<M: Medium>(
         × (new.calls ≡ old.calls + descriptors_of count))) m.old m.new result }
     ensures all { (numbers : List ℕ) → length numbers ≡ count
         → HasDescriptors (M.state m.old).content (place_of slot) stamp numbers
-        → IfOk result (λ found. IsSomeAnd found (λ read. read.numbers.items ≡ numbers)) }
+        → IfOk result (λ found. IsSomeAnd (found_in found to.new)
+        (λ read. read.numbers.items ≡ numbers)) }
     ensures firsts { (entries : List Entry) → length entries ≡ count
         → ((j : ℕ) → j < descriptors_of count → IsDescriptorTwo stamp count j
         (numbers_of (chunk_of entries j)) (firsts_of (chunk_of entries j))
         ((M.state m.old).content (descriptor_place slot j)))
-        → IfOk result (λ found. IfSome found (λ read. read.firsts.items ≡ firsts_of entries)) }
+        → IfOk result (λ found. IfSome (found_in found to.new)
+        (λ read. read.firsts.items ≡ firsts_of entries)) }
 {
-    let mut numbers = ArrayVec::new();
-    let mut firsts = ArrayVec::new();
+    to.numbers.clear();
+    to.firsts.clear();
     for j in 0..descriptors(count as usize) as u64 {
         let Some(found) = read_descriptor(m, slot, stamp, count, j)? else {
-            return Ok(None);
+            return Ok(false);
         };
-        let Ok(()) = numbers.try_extend_from_slice(&found.numbers) else {
-            return Ok(None);
+        let Ok(()) = to.numbers.try_extend_from_slice(&found.numbers) else {
+            return Ok(false);
         };
-        let Ok(()) = firsts.try_extend_from_slice(&found.firsts) else {
-            return Ok(None);
+        let Ok(()) = to.firsts.try_extend_from_slice(&found.firsts) else {
+            return Ok(false);
         };
     }
-    Ok(Some(Record { numbers, firsts }))
+    Ok(true)
 }
 
 // Whether these block numbers rise, and each is below the number of blocks.
@@ -121,29 +123,31 @@ fn are_blocks(numbers: &[u64], blocks: u64) -> bool
     are_rising(numbers) && numbers.iter().all(|b| *b < blocks)
 }
 
-/// Reads the record of a stamp up to its data places, if its other sectors are there.
+/// Reads the record of a stamp up to its data places. False where its other sectors are not there.
 pub(crate) fn read_record<M: Medium>(
     m: &mut M,
     sizes: &Super,
     stamp: u64,
-) -> Result<Option<Record>, MediumFault>
+    to: &mut Record,
+) -> Result<bool, MediumFault>
     requires format { sizes.now.format ≡ Two }
     requires fits { sectors_of (shape_of sizes.now) ≤ (M.state m.old).size }
     ensures { LooksUp M.state M.follows 9
-        (λ s. s < first_home (shape_of sizes.now)) (FindsRecord (shape_of sizes.now) stamp)
+        (λ s. s < first_home (shape_of sizes.now)) (λ old new found.
+        FindsRecord (shape_of sizes.now) stamp old new (found_in found to.new))
         m.old m.new result }
 {
     let slot = slot_of(stamp, sizes.slots);
     let Some(count) = read_count(m, slot, stamp)? else {
-        return Ok(None);
+        return Ok(false);
     };
-    let Some(read) = read_descriptors(m, slot, stamp, count)? else {
-        return Ok(None);
-    };
-    if are_blocks(&read.numbers, sizes.blocks) {
-        Ok(Some(read))
+    if !read_descriptors(m, slot, stamp, count, to)? {
+        return Ok(false);
+    }
+    if are_blocks(&to.numbers, sizes.blocks) {
+        Ok(true)
     } else {
-        Ok(None)
+        Ok(false)
     }
 }
 

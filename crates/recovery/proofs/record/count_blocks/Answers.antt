@@ -1,26 +1,27 @@
 use Rattle.std.proofs.Common.{◌≡◌, ◌∙◌, ◌<◌, ◌≤◌, length, sym, ap, subst, arith, rules}
 use Rattle.std.proofs.lemmas.List.{length-map}
-use Rattle.std.specs.Prelude.{ℕ}
+use Rattle.std.specs.Prelude.{ℕ, Bool}
 use Rattle.medium.specs.Medium.{Image}
 use Rattle.medium.proofs.Moments.{quiet_joined}
 use Rattle.medium.proofs.SectorsRead.{looks_joined}
 use Rattle.journal.specs.Places.{first_home}
 use Rattle.journal.specs.Values.{shape_of}
 use Rattle.journal.specs.Entry.{Entry}
-use Rattle.journal.specs.Reading.{AreStamped, IsReadForStamps, FindsRecord}
+use Rattle.journal.specs.Reading.{AreStamped, IsReadForStamps, FindsRecord, found_in}
 use Rattle.journal.proofs.Finding.{stamped_whole}
 use Rattle.journal.proofs.SlotTwo.{untrue}
 use Rattle.recovery.proofs.OneTry.{try_missed, try_read, most_tried}
 use Rattle.recovery.proofs.record.count_blocks.Goals as goal
 
-pub returns-in_default : goal.returns-in_default
-returns-in_default g c = record {
+pub returns-then-not-branch : goal.returns-then-not-branch
+returns-then-not-branch g c = record {
   passes = search rules;
   finds =
       let shape = shape_of c.args.sizes.now in
       let old = g.M.Medium.state c.args.m.now in
       let mid = g.M.Medium.state c.read_record.new.m in
-      let finds = subst (λ o. FindsRecord shape c.args.stamp old mid o) c.in_default.is c.in_ok-record.ensures.finds in
+      let finds = subst (λ (b : Bool). FindsRecord shape c.args.stamp old mid (found_in b c.read_record.new.to))
+      c.if-not-branch.true c.in_ok-read_record.ensures.finds in
       record {
         exact = try_missed shape.format shape old.content c.args.stamp finds.exact.0 old.calls mid.calls finds.exact.1 finds.exact.2;
         counted = λ whole. finds.all whole.0 whole.1;
@@ -36,7 +37,7 @@ returns-in_err-are_stamped g c = record {
       let new = g.M.Medium.state c.are_stamped.new.m in
       let first = c.read_record.ensures.passes in
       let last = c.are_stamped.ensures.passes in
-      let few : length c.in-Some.record.numbers.items ≤ 240 = search rules in
+      let few : length c.read_record.new.to.numbers.items ≤ 240 = search rules in
       record {
         quiet = quiet_joined old mid new first.quiet last.quiet;
         reads = λ kind other. last.reads kind other ∙ first.reads kind other;
@@ -62,7 +63,7 @@ returns-then-branch g c = record {
       let new = g.M.Medium.state c.are_stamped.new.m in
       let first = c.read_record.ensures.passes in
       let last = c.are_stamped.ensures.passes in
-      let few : length c.in-Some.record.numbers.items ≤ 240 = search rules in
+      let few : length c.read_record.new.to.numbers.items ≤ 240 = search rules in
       record {
         quiet = quiet_joined old mid new first.quiet last.quiet;
         reads = λ kind other. last.reads kind other ∙ first.reads kind other;
@@ -76,9 +77,10 @@ returns-then-branch g c = record {
       let mid = g.M.Medium.state c.read_record.new.m in
       let new = g.M.Medium.state c.are_stamped.new.m in
       let path : mid.content ≡ old.content = λ i x. c.read_record.ensures.passes.quiet.content_stays x i in
-      let finds = subst (λ o. FindsRecord shape c.args.stamp old mid o) c.in-Some.is c.in_ok-record.ensures.finds in
+      let finds = subst (λ (b : Bool). FindsRecord shape c.args.stamp old mid (found_in b c.read_record.new.to))
+      c.if-not-branch.false c.in_ok-read_record.ensures.finds in
       let asked = c.in_ok-are_stamped.ensures.finds in
-      let count : c.len-count.result ≡ length c.in-Some.record.numbers.items = c.len-count.ensures.value in
+      let count : c.len-count.result ≡ length c.read_record.new.to.numbers.items = c.len-count.ensures.value in
       let good = subst (λ (i : Image). AreStamped shape.format shape i c.args.stamp c.len-count.result) path
       (asked.is.0 c.if-branch.true) in
       let whole = finds.some (subst (λ (n : ℕ). AreStamped shape.format shape old.content c.args.stamp n) count good) in
@@ -86,7 +88,7 @@ returns-then-branch g c = record {
       asked.exact.1 in
       let f : Entry → ℕ = λ e. e.0 in
       record {
-        exact = try_read shape.format shape old.content c.args.stamp c.in-Some.record finds.exact.0 asked.exact.0 old.calls mid.calls
+        exact = try_read shape.format shape old.content c.args.stamp c.read_record.new.to finds.exact.0 asked.exact.0 old.calls mid.calls
             new.calls
             finds.exact.1 finds.exact.2
             (subst (λ (n : ℕ). IsReadForStamps shape.format shape old.content c.args.stamp n asked.exact.0) count places) asked.exact.2;
@@ -113,7 +115,7 @@ returns-else-branch g c = record {
       let new = g.M.Medium.state c.are_stamped.new.m in
       let first = c.read_record.ensures.passes in
       let last = c.are_stamped.ensures.passes in
-      let few : length c.in-Some.record.numbers.items ≤ 240 = search rules in
+      let few : length c.read_record.new.to.numbers.items ≤ 240 = search rules in
       record {
         quiet = quiet_joined old mid new first.quiet last.quiet;
         reads = λ kind other. last.reads kind other ∙ first.reads kind other;
@@ -127,13 +129,14 @@ returns-else-branch g c = record {
       let mid = g.M.Medium.state c.read_record.new.m in
       let new = g.M.Medium.state c.are_stamped.new.m in
       let path : mid.content ≡ old.content = λ i x. c.read_record.ensures.passes.quiet.content_stays x i in
-      let finds = subst (λ o. FindsRecord shape c.args.stamp old mid o) c.in-Some.is c.in_ok-record.ensures.finds in
+      let finds = subst (λ (b : Bool). FindsRecord shape c.args.stamp old mid (found_in b c.read_record.new.to))
+      c.if-not-branch.false c.in_ok-read_record.ensures.finds in
       let asked = c.in_ok-are_stamped.ensures.finds in
-      let count : c.len-count.result ≡ length c.in-Some.record.numbers.items = c.len-count.ensures.value in
+      let count : c.len-count.result ≡ length c.read_record.new.to.numbers.items = c.len-count.ensures.value in
       let places = subst (λ (i : Image). IsReadForStamps shape.format shape i c.args.stamp c.len-count.result asked.exact.0) path
       asked.exact.1 in
       record {
-        exact = try_read shape.format shape old.content c.args.stamp c.in-Some.record finds.exact.0 asked.exact.0 old.calls mid.calls
+        exact = try_read shape.format shape old.content c.args.stamp c.read_record.new.to finds.exact.0 asked.exact.0 old.calls mid.calls
             new.calls
             finds.exact.1 finds.exact.2
             (subst (λ (n : ℕ). IsReadForStamps shape.format shape old.content c.args.stamp n asked.exact.0) count places) asked.exact.2;

@@ -34,7 +34,7 @@ loop-j-preserved g c =
     let j = c.loop-j.j in
     let at : ℕ = 2 + 249 * c.args.slot in
     let below = c.loop-j-test.true in
-    let ns = c.loop-j.numbers.items in
+    let ns = c.loop-j.to.numbers.items in
     let d = c.in-Some.found in
     let same = inv.quiet.content_stays (at + j) in
     let some = subst (λ o. IfSome o (λ d. (d.index ≡ j) × IsDescriptorTwo s n j d.numbers.items d.firsts.items (mid.content (at + j))))
@@ -42,7 +42,7 @@ loop-j-preserved g c =
     let is = subst (λ (bytes : List ℕ). IsDescriptorTwo s n j d.numbers.items d.firsts.items bytes) same some.1 in
     let more : c.try_extend_from_slice.new.self.items ≡ ns ++ d.numbers.items =
     c.in-Ok.ensures.ok ∙ ap (λ (l : List ℕ). ns ++ l) c.deref.ensures.0 in
-    let fs = c.loop-j.firsts.items in
+    let fs = c.loop-j.to.firsts.items in
     let more_firsts : c.try_extend_from_slice-in-loop-j.new.self.items ≡ fs ++ d.firsts.items =
     c.in-Ok-try_extend_from_slice.ensures.ok ∙ ap (λ (l : List (List ℕ)). fs ++ l) c.deref-in-loop-j.ensures.0 in
     let full : length ns ≡ 30 * j = omega (arith, inv.long, below, c.descriptors-j-end.ensures) in
@@ -107,13 +107,13 @@ returns-clause-reads g c = record {
       let inv = c.loop-j.invariant in
       let n = c.args.count in
       let over = c.loop-j-test.false in
-      let long : length c.loop-j.numbers.items ≡ c.args.count = omega (arith, inv.long, over, c.descriptors-j-end.ensures) in (
+      let long : length c.loop-j.to.numbers.items ≡ c.args.count = omega (arith, inv.long, over, c.descriptors-j-end.ensures) in (
         long,
         λ j below.
             let was = inv.described j (omega (arith, below, long, over, c.descriptors-j-end.ensures)) in (
               was.0,
               subst
-                  (λ (k : ℕ). IsDescriptorTwo c.args.stamp k j (take 30 (drop (30 * j) c.loop-j.numbers.items)) was.0
+                  (λ (k : ℕ). IsDescriptorTwo c.args.stamp k j (take 30 (drop (30 * j) c.loop-j.to.numbers.items)) was.0
                   ((g.M.Medium.state c.args.m.now).content (2 + 249 * c.args.slot + j)))
                   (sym long) was.1,
             ),
@@ -149,7 +149,7 @@ returns-in_default-clause-reads g c = record {
         record {
           first = j;
           inside = omega (arith, c.descriptors-j-end.ensures, c.loop-j-test.true);
-          before = λ k below. let d = inv.described k below in (take 30 (drop (30 * k) c.loop-j.numbers.items), d.0, d.1);
+          before = λ k below. let d = inv.described k below in (take 30 (drop (30 * k) c.loop-j.to.numbers.items), d.0, d.1);
           bad = λ has.
               let there = subst (λ (bytes : List ℕ). IsDescriptorTwo s n j has.0 has.1 bytes) (sym same) has.2 in
               absurd (subst (λ o. IsSomeAnd o (λ d. (d.numbers.items ≡ has.0) × (d.firsts.items ≡ has.1))) c.in_default.is

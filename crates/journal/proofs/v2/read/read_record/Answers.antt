@@ -1,5 +1,5 @@
 use Rattle.std.proofs.Common.{◌≡◌, ◌∙◌, ◌+◌, ◌*◌, ◌%◌, ◌<◌, ℕ, List, inl, inr, refl, sym, subst, rules, arith}
-use Rattle.std.specs.Prelude.{length, IfSome, IsSomeAnd, MatchOption, All}
+use Rattle.std.specs.Prelude.{length, Bool, IfSome, IsSomeAnd, MatchOption, All}
 use Rattle.std.proofs.lemmas.Nat.{mod_below}
 use Rattle.std.proofs.lemmas.List.{length-map}
 use Rattle.medium.specs.Medium.{Image}
@@ -13,6 +13,7 @@ use Rattle.journal.specs.Values.{shape_of}
 use Rattle.journal.specs.Record.{numbers_of}
 use Rattle.journal.specs.SlotTwo.{HasDescriptors}
 use Rattle.journal.specs.SlotReads.{StopsAtBad, HasDescriptor}
+use Rattle.journal.specs.Reading.{found_in}
 use Rattle.journal.proofs.Finding.{two_read, reads_two, stamped_two}
 use Rattle.journal.proofs.Naming.{each_there, names_these}
 use Rattle.journal.proofs.SlotTwo.{untrue, as_two, slot_two, two_whole, two_says}
@@ -50,8 +51,8 @@ returns-in_default g c = record {
       (c.read_count.ensures.reads.follows.0, looks_below end (first_home shape) old counted ends c.read_count.ensures.reads.follows.1);
 }
 
-pub returns-in_default-2 : goal.returns-in_default-2
-returns-in_default-2 g c = record {
+pub returns-then-not-branch : goal.returns-then-not-branch
+returns-then-not-branch g c = record {
   passes =
       let old = g.M.Medium.state c.args.m.now in
       let counted = g.M.Medium.state c.read_count.new.m in
@@ -75,11 +76,11 @@ returns-in_default-2 g c = record {
       let same : counted.content ≡ old.content = λ i x. c.read_count.ensures.reads.passes.quiet.content_stays x i in
       let committed = subst (λ o. IfSome o (λ count. IsCommitTwo s count (old.content (at + 248)))) c.in-Some.is
       c.in_ok-count.ensures.reads.finds in
-      let stop = subst (λ o. MatchOption o ((reads : ℕ)
+      let stop = subst (λ (b : Bool). MatchOption (found_in b c.read_descriptors.new.to) ((reads : ℕ)
       × StopsAtBad (HasDescriptor counted.content at s n) (descriptors_of n) reads × (read.calls ≡ counted.calls + reads))
       (λ r. (length r.numbers.items ≡ n) × HasDescriptors counted.content at s r.numbers.items
       × (read.calls ≡ counted.calls + descriptors_of n)))
-      c.in_default-2.is c.in_ok-read.ensures.reads.finds in
+      c.if-not-branch.true c.in_ok-read_descriptors.ensures.reads.finds in
       let here = subst (λ (i : Image). StopsAtBad (HasDescriptor i at s n) (descriptors_of n) stop.0) same stop.1 in
       record {
         some = tt;
@@ -87,8 +88,9 @@ returns-in_default-2 g c = record {
             let ns : List ℕ = numbers_of entries in
             let says = two_says shape old.content s c.slot_of-slot.result entries c.requires.format c.slot_of-slot.ensures whole in
             let count = subst (λ o. IsSomeAnd o (λ k. k ≡ length ns)) c.in-Some.is (c.in_ok-count.ensures.all (length ns) says.committed) in
-            absurd (subst (λ o. IsSomeAnd o (λ r. r.numbers.items ≡ ns)) c.in_default-2.is
-            (c.in_ok-read.ensures.all ns (sym count) (subst (λ (i : Image). HasDescriptors i at s ns) (sym same) says.described)));
+            absurd (subst (λ (b : Bool). IsSomeAnd (found_in b c.read_descriptors.new.to) (λ r. r.numbers.items ≡ ns)) c.if-not-branch.true
+            (c.in_ok-read_descriptors.ensures.all ns (sym count)
+            (subst (λ (i : Image). HasDescriptors i at s ns) (sym same) says.described)));
         exact = (
           1 + stop.0,
           reads_two _ shape old.content s c.slot_of-slot.result (1 + stop.0) c.requires.format c.slot_of-slot.ensures
@@ -136,12 +138,12 @@ returns-then-are_blocks g c = record {
       let same : counted.content ≡ old.content = λ i x. c.read_count.ensures.reads.passes.quiet.content_stays x i in
       let committed = subst (λ o. IfSome o (λ count. IsCommitTwo s count (old.content (at + 248)))) c.in-Some.is
       c.in_ok-count.ensures.reads.finds in
-      let named = subst (λ o. MatchOption o ((reads : ℕ)
+      let named = subst (λ (b : Bool). MatchOption (found_in b c.read_descriptors.new.to) ((reads : ℕ)
       × StopsAtBad (HasDescriptor counted.content at s n) (descriptors_of n) reads × (read.calls ≡ counted.calls + reads))
       (λ r. (length r.numbers.items ≡ n) × HasDescriptors counted.content at s r.numbers.items
       × (read.calls ≡ counted.calls + descriptors_of n)))
-      c.in-Some-2.is c.in_ok-read.ensures.reads.finds in
-      let ns = c.in-Some-2.read.numbers.items in
+      c.if-not-branch.false c.in_ok-read_descriptors.ensures.reads.finds in
+      let ns = c.read_descriptors.new.to.numbers.items in
       let slot = c.slot_of-slot.result in
       let two = c.requires.format in
       let where_is = c.slot_of-slot.ensures in
@@ -172,13 +174,15 @@ returns-then-are_blocks g c = record {
             let long : length entries ≡ length (numbers_of entries) = sym (length-map entries f) in
             let count = subst (λ o. IsSomeAnd o (λ k. k ≡ length (numbers_of entries))) c.in-Some.is
             (c.in_ok-count.ensures.all (length (numbers_of entries)) says.committed) in
-            let numbers = subst (λ o. IsSomeAnd o (λ r. r.numbers.items ≡ numbers_of entries)) c.in-Some-2.is
-            (c.in_ok-read.ensures.all (numbers_of entries) (sym count)
+            let numbers = subst (λ (b : Bool). IsSomeAnd (found_in b c.read_descriptors.new.to) (λ r. r.numbers.items ≡ numbers_of entries))
+            c.if-not-branch.false
+            (c.in_ok-read_descriptors.ensures.all (numbers_of entries) (sym count)
             (subst (λ (i : Image). HasDescriptors i at s (numbers_of entries)) (sym same) says.described)) in
             let w = as_two shape old.content s entries two whole in
             let many : length entries ≡ n = long ∙ sym count in
-            let firsts = subst (λ o. IfSome o (λ r. r.firsts.items ≡ firsts_of entries)) c.in-Some-2.is
-            (c.in_ok-read.ensures.firsts entries many (λ j below.
+            let firsts = subst (λ (b : Bool). IfSome (found_in b c.read_descriptors.new.to) (λ r. r.firsts.items ≡ firsts_of entries))
+            c.if-not-branch.false
+            (c.in_ok-read_descriptors.ensures.firsts entries many (λ j below.
             subst (λ (i : Image). IsDescriptorTwo s n j (numbers_of (chunk_of entries j)) (firsts_of (chunk_of entries j)) (i (at + j)))
             (sym same)
             (subst (λ (k : ℕ). IsDescriptorTwo s n j (numbers_of (chunk_of entries j)) (firsts_of (chunk_of entries j))
@@ -237,12 +241,12 @@ returns-else-are_blocks g c = record {
       let same : counted.content ≡ old.content = λ i x. c.read_count.ensures.reads.passes.quiet.content_stays x i in
       let committed = subst (λ o. IfSome o (λ count. IsCommitTwo s count (old.content (at + 248)))) c.in-Some.is
       c.in_ok-count.ensures.reads.finds in
-      let named = subst (λ o. MatchOption o ((reads : ℕ)
+      let named = subst (λ (b : Bool). MatchOption (found_in b c.read_descriptors.new.to) ((reads : ℕ)
       × StopsAtBad (HasDescriptor counted.content at s n) (descriptors_of n) reads × (read.calls ≡ counted.calls + reads))
       (λ r. (length r.numbers.items ≡ n) × HasDescriptors counted.content at s r.numbers.items
       × (read.calls ≡ counted.calls + descriptors_of n)))
-      c.in-Some-2.is c.in_ok-read.ensures.reads.finds in
-      let ns = c.in-Some-2.read.numbers.items in
+      c.if-not-branch.false c.in_ok-read_descriptors.ensures.reads.finds in
+      let ns = c.read_descriptors.new.to.numbers.items in
       let has = subst (λ (i : Image). HasDescriptors i at s ns) same named.1 in
       let blocks = c.args.sizes.now.blocks in
       record {
@@ -251,8 +255,10 @@ returns-else-are_blocks g c = record {
             let ns : List ℕ = numbers_of entries in
             let says = two_says shape old.content s c.slot_of-slot.result entries c.requires.format c.slot_of-slot.ensures whole in
             let count = subst (λ o. IsSomeAnd o (λ k. k ≡ length ns)) c.in-Some.is (c.in_ok-count.ensures.all (length ns) says.committed) in
-            let numbers = subst (λ o. IsSomeAnd o (λ r. r.numbers.items ≡ ns)) c.in-Some-2.is
-            (c.in_ok-read.ensures.all ns (sym count) (subst (λ (i : Image). HasDescriptors i at s ns) (sym same) says.described)) in
+            let numbers = subst (λ (b : Bool). IsSomeAnd (found_in b c.read_descriptors.new.to) (λ r. r.numbers.items ≡ ns))
+            c.if-not-branch.false
+            (c.in_ok-read_descriptors.ensures.all ns (sym count)
+            (subst (λ (i : Image). HasDescriptors i at s ns) (sym same) says.described)) in
             let read = c.deref.ensures.0 ∙ numbers in
             absurd (untrue (sym c.if-are_blocks.false ∙ c.are_blocks.ensures.1
             (subst IsRising (sym read) whole.fit.rising, subst (All (λ (b : ℕ). b < blocks)) (sym read) whole.fit.inside)));
@@ -267,8 +273,9 @@ returns-else-are_blocks g c = record {
                   each_there old.content at s n ns named.0 has,
                   λ fit.
                       let there = subst (λ (i : Image). HasDescriptors i at s fit.0) (sym same) fit.2 in
-                      let numbers = subst (λ o. IsSomeAnd o (λ r. r.numbers.items ≡ fit.0)) c.in-Some-2.is
-                      (c.in_ok-read.ensures.all fit.0 fit.1 there) in
+                      let numbers = subst (λ (b : Bool). IsSomeAnd (found_in b c.read_descriptors.new.to) (λ r. r.numbers.items ≡ fit.0))
+                      c.if-not-branch.false
+                      (c.in_ok-read_descriptors.ensures.all fit.0 fit.1 there) in
                       let read = c.deref.ensures.0 ∙ numbers in
                       untrue (sym c.if-are_blocks.false ∙ c.are_blocks.ensures.1
                       (subst IsRising (sym read) fit.3, subst (All (λ (b : ℕ). b < blocks)) (sym read) fit.4)),
@@ -308,8 +315,8 @@ returns-in_err-count g c = record {
       (c.read_count.ensures.reads.follows.0, looks_below end (first_home shape) old counted ends c.read_count.ensures.reads.follows.1);
 }
 
-pub returns-in_err-read : goal.returns-in_err-read
-returns-in_err-read g c = record {
+pub returns-in_err-read_descriptors : goal.returns-in_err-read_descriptors
+returns-in_err-read_descriptors g c = record {
   passes = search rules;
   finds = search rules;
   follows =
