@@ -19,6 +19,3 @@ pub use batch_error::BatchError;
 pub use counter::Steps;
 pub use entry::BLOCK;
 pub use frozen::Frozen;
-
-#[cfg(test)]
-mod tests;

@@ -6,7 +6,6 @@ pub mod SectorsRead
 pub mod Masks
 pub mod Moments
 pub mod FileRuns
-pub mod RememberedMoments
 pub mod Rows
 pub mod CallsSent
 pub mod SparedSectors

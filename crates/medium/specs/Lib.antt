@@ -1,5 +1,3 @@
-pub mod History
-pub mod HistoryLaws
 pub mod FileStory
 pub mod ImageFile
 pub mod ImageFileLaws

@@ -28,6 +28,3 @@ pub use outlet::Outlet;
 pub use sector_file::SectorFile;
 pub use sim::{SimError, SimMedium};
 pub use switch::Switch;
-
-#[cfg(test)]
-mod history;

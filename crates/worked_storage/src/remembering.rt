@@ -1,14 +1,10 @@
-//! A medium for tests that remembers, for proofs alone, what it was at each moment.
+//! A medium that remembers, for proofs alone, what it was at each moment. So it meets the clauses
+//! on what a cut could have left since an earlier moment by exactly that.
 ghost use Rattle.std.specs.Prelude.{◌≡◌, []};
 
-use crate::fault::MediumFault;
-use crate::medium::Medium;
-use crate::sim::SimMedium;
-use past::Past;
+use crate::past::Past;
+use medium::{Medium, MediumFault, SimMedium};
 use std::marker::Model;
-
-mod past;
-mod turns;
 
 // What a cut since an earlier moment may have left is told of that moment, and not of this one.
 #[derive(Drop)]
@@ -18,7 +14,7 @@ pub(crate) struct Remembering {
 }
 
 impl Model for Remembering {
-    ghost use Rattle.medium.specs.History.{Remembered};
+    ghost use Rattle.worked_storage.specs.History.{Remembered};
 
     ghost Value = { Remembered };
 
@@ -38,8 +34,9 @@ impl Remembering {
 }
 
 impl Medium for Remembering {
-    ghost use Rattle.medium.specs.History.{state_of, ComesAfter};
-    ghost use Rattle.medium.specs.HistoryLaws.{is_sound, comes_after_itself, comes_after_through};
+    ghost use Rattle.worked_storage.specs.History.{state_of, ComesAfter};
+    ghost use Rattle.worked_storage.specs.HistoryLaws.{is_sound};
+    ghost use Rattle.worked_storage.specs.HistoryLaws.{comes_after_itself, comes_after_through};
 
     ghost state = { state_of };
 

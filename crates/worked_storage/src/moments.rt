@@ -1,21 +1,23 @@
 //! A sector there and back, and what a cut between could have left.
 ghost use Rattle.std.specs.Prelude.{◌≡◌, ◌<◌, ◌≤◌, ℕ, length, IfOk, OnOk};
-ghost use Rattle.medium.specs.History.{state_of, EachMoment};
+ghost use Rattle.worked_storage.specs.History.{state_of, EachMoment};
 ghost use Rattle.medium.specs.Medium.{Image, CutLeaves, Holds, Only};
 ghost use Rattle.medium.specs.Moments.{EachCut, SparesFrom};
 ghost use Rattle.medium.specs.Sim as sim;
 
-use super::*;
-use std::alloc::AllocError;
-use std::test::Fail;
+use crate::difference::Difference;
+use crate::remembering::Remembering;
+use medium::{Medium, MediumFault, SimMedium};
+use std::alloc::Global;
+use worked::{Mismatch, holds, same};
 
 // Sectors of zeros.
-fn zeros(rt: HostRuntime, sectors: usize, room: usize) -> Result<SimMedium, AllocError>
+fn zeros(alloc: Global, sectors: usize, room: usize) -> Result<SimMedium, Difference>
     requires { sectors ≤ 8 }
     ensures { IfOk result (λ m. (sim.state_of m).size ≡ sectors) }
 {
-    let image = vec![in rt.alloc(); 0u8; sectors * 512]?;
-    SimMedium::new(rt.alloc(), image, room).map_err(|_| AllocError)
+    let image = vec![in alloc; 0u8; sectors * 512]?;
+    Ok(SimMedium::new(alloc, image, room)?)
 }
 
 // Writes the first sector and makes it durable.
@@ -49,10 +51,20 @@ fn put_twice(m: &mut Remembering, first: &[u8; 512], last: &[u8; 512]) -> Result
     put(m, last)
 }
 
-#[test]
-fn a_moment_between_is_remembered(rt: HostRuntime) -> Result<(), Fail> {
-    let mut m = Remembering::new(zeros(rt, 2, 4)?);
-    assert_eq!(rt; m.sectors(), 2);
-    assert_eq!(rt; put_twice(&mut m, &[1; 512], &[0; 512]), Ok(()));
-    Ok(())
+/// A medium that remembers takes a sector twice.
+pub(crate) fn a_moment_between(alloc: Global) -> Result<(), Difference> {
+    let mut m = Remembering::new(zeros(alloc, 2, 4)?);
+    Ok(play(&mut m)?)
+}
+
+fn play(m: &mut Remembering) -> Result<(), Mismatch> {
+    let sectors = m.sectors();
+    if sectors != 2 {
+        return holds("the count of sectors", false);
+    }
+    same(
+        "a sector that is put twice",
+        put_twice(m, &[1; 512], &[0; 512]),
+        Ok(()),
+    )
 }

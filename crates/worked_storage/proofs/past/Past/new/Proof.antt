@@ -21,11 +21,11 @@ use denote.Triple.Entry.{on_entry, alive}
 use denote.Triple.Spec.{Meets, triple_of}
 use denote.Triple.Table.{entered}
 use denote.Triple.Walked.{says, Stays, walk_of, Walks, ends_at, walked, walk_Meets}
-use Rattle.medium.specs.contracts.history.past.Past.new.Key.{name as key}
-use Rattle.medium.specs.contracts.history.past.Past.new as f
-use Rattle.medium.proofs.history.past.Past.new.Statement as stated
-use Rattle.medium.proofs.history.past.Past.new.Code as code
-use Rattle.medium.specs.contracts.history.past.Past as made
+use Rattle.worked_storage.specs.contracts.past.Past.new.Key.{name as key}
+use Rattle.worked_storage.specs.contracts.past.Past.new as f
+use Rattle.worked_storage.proofs.past.Past.new.Statement as stated
+use Rattle.worked_storage.proofs.past.Past.new.Code as code
+use Rattle.worked_storage.specs.contracts.past.Past as made
 
 abbrev stayed : Stays (f.ended).signature.params (f.ended).kept
 stayed = tt
