@@ -93,3 +93,21 @@ firsts_of_batch numbers bytes firsts j size count each =
     ∙ sym (first_eight bytes (30 * j + i) (omega arith))
     ∙ ap (λ (e : Entry). take 8 e.1) (sym entry)
     ∙ sym (get_or-map first (chunk_of es j) i (0, [])))
+
+-- the first bytes of all of them
+pub all_firsts_of : (numbers bytes : List ℕ) (firsts : List (List ℕ)) (count : ℕ) → length bytes ≡ 512 * length numbers
+    → count ≡ length numbers → length firsts ≡ count
+    → ((i : ℕ) → i < count → get_or firsts i [] ≡ slice_range bytes (512 * (0 + i)) (512 * (0 + i) + 8))
+    → firsts ≡ firsts_of (entries_of numbers bytes)
+all_firsts_of numbers bytes firsts count size all many each =
+    let es : List Entry = entries_of numbers bytes in
+    let first : Entry → List ℕ = λ e. take 8 e.1 in
+    ext_get_or [] firsts (firsts_of es) (omega (arith, many, all, length_of_batch numbers bytes, length-map es first))
+    (λ i below.
+    let inside : i < length numbers = omega (arith, below, many, all) in
+    let none : 0 + i ≡ i = omega arith in
+    each i (omega (arith, below, many))
+    ∙ ap (λ (j : ℕ). slice_range bytes (512 * j) (512 * j + 8)) none
+    ∙ sym (first_eight bytes i (omega (arith, size, inside)))
+    ∙ ap (λ (e : Entry). take 8 e.1) (sym (entry_of_batch i numbers bytes (0, []) inside))
+    ∙ sym (get_or-map first es i (0, [])))

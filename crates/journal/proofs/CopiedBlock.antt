@@ -1,15 +1,20 @@
 -- A block of a whole record, read back from its two sectors.
 use Rattle.std.proofs.Common.{◌≡◌, ℕ, ◌+◌, ◌-◌, ◌*◌, ◌/◌, ◌%◌, ◌<◌, ◌≤◌, List, [], ◌++◌, length, get_or, take, drop, sym, ◌∙◌, ap, arith}
-use Rattle.std.specs.Prelude.{slice_range}
+use Rattle.std.specs.Prelude.{slice_range, Option}
 use Rattle.std.proofs.lemmas.List.{drop-drop, drop-take}
 use Rattle.medium.specs.Medium.{Image}
-use Rattle.journal.specs.Places.{Shape}
+use Rattle.journal.specs.declared.log_format.LogFormat.{LogFormat}
+use Rattle.journal.specs.declared.log_format.LogFormat.TheVariants.{One, Two}
+use Rattle.journal.specs.Places.{Shape, first_data_of}
 use Rattle.journal.specs.Record.{Entry}
-use Rattle.journal.specs.Layout.{IsWholeIn}
+use Rattle.journal.specs.Layout.{slot_at, IsWholeIn}
 use Rattle.journal.specs.SectorsTwo.{descriptor_bytes, place_bytes}
 use Rattle.journal.specs.Record.{block_of}
 use Rattle.journal.specs.Format2.{format2, offset2}
+use Rattle.journal.specs.Formats.{layout_of}
+use Rattle.journal.specs.Copies.{begun_with, first_of}
 use Rattle.journal.proofs.BytesTwo.{entry_stands, entry_begins, place_rest, two_parts}
+use Rattle.journal.proofs.ReadingOne.{place_there as place_there_one}
 use Rattle.journal.proofs.Format2Laws.{offset_descriptor, offset_place, part_descriptor, part_place}
 
 module _ (shape : Shape) (image : Image) (s : ℕ) (es : List Entry) (w : IsWholeIn format2 shape image s es) (i : ℕ)
@@ -56,3 +61,18 @@ module _ (shape : Shape) (image : Image) (s : ℕ) (es : List Entry) (w : IsWhol
       ap (λ (l : List ℕ). l ++ drop 8 sector) (f ∙ begins_there descriptor d)
       ∙ (ap (λ (l : List ℕ). take 8 (block_of es i) ++ drop 8 l) p
       ∙ (ap (λ (l : List ℕ). take 8 (block_of es i) ++ l) (place_rest s (block_of es i)) ∙ two_parts (block_of es i)))
+
+-- its first bytes, where its data place does not have them, and the rest of that make the block
+pub begun_is : (format : LogFormat) (shape : Shape) (image : Image) (stamp : ℕ) (entries : List Entry)
+    → IsWholeIn (layout_of format) shape image stamp entries → (i : ℕ) → i < length entries → (first : Option (List ℕ))
+    → first ≡ first_of format entries i → (sector : List ℕ)
+    → sector ≡ image (slot_at (layout_of format) shape stamp + first_data_of format + i) → begun_with first sector ≡ block_of entries i
+begun_is One shape image stamp entries w i below first is sector there =
+    ap (λ (f : Option (List ℕ)). begun_with f sector) is ∙ there ∙ place_there_one shape image stamp entries w i below
+begun_is Two shape image stamp entries w i below first is sector there =
+    let b : List ℕ = block_of entries i in
+    let at : 2 + 249 * (stamp % shape.slots) + 8 + i ≡ 2 + 249 * (stamp % shape.slots) + (8 + i) = omega arith in
+    ap (λ (f : Option (List ℕ)). begun_with f sector) is
+    ∙ ap (λ (l : List ℕ). take 8 b ++ drop 8 l) (there ∙ ap image at ∙ place_there shape image stamp entries w i below)
+    ∙ ap (λ (l : List ℕ). take 8 b ++ l) (place_rest stamp b)
+    ∙ two_parts b

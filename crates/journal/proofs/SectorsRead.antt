@@ -1,5 +1,5 @@
 -- Each sector that is read of a copy is one of the log.
-use Rattle.std.proofs.Common.{◌≡◌, ℕ, ◌+◌, ◌*◌, ◌/◌, ◌<◌, arith}
+use Rattle.std.proofs.Common.{◌≡◌, ℕ, ◌+◌, ◌*◌, ◌<◌, arith}
 use Rattle.journal.specs.declared.log_format.LogFormat.{LogFormat}
 use Rattle.journal.specs.declared.log_format.LogFormat.TheVariants.{One, Two}
 use Rattle.journal.specs.Places.{limit_of, first_data_of, IsFirstHome}
@@ -10,9 +10,3 @@ pub place_before : (format : LogFormat) (slots home slot i : ℕ) → IsFirstHom
     → 2 + (layout_of format).slot_sectors * slot + first_data_of format + i < home
 place_before One slots home slot i first low inside = omega (arith, first.0, low, inside)
 place_before Two slots home slot i first low inside = omega (arith, first.0, low, inside)
-
--- so does a descriptor
-pub descriptor_before : (format : LogFormat) (slots home slot i : ℕ) → format ≡ Two → IsFirstHome format slots home → slot < slots
-    → i < limit_of format → 2 + 249 * slot + i / 30 < home
-descriptor_before One slots home slot i two first low inside = absurd (cc two)
-descriptor_before Two slots home slot i two first low inside = omega (arith, first.0, low, inside)

@@ -6,7 +6,6 @@ pub mod Sectors
 pub mod SuperFaults
 pub mod Entry
 pub mod SectorsTwo
-pub mod HomeTurns
 pub mod Values
 pub mod SectorLaws
 pub mod Record

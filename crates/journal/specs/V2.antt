@@ -1,5 +1,5 @@
 -- Where the parts of a record of format 2 stand, and how many they are.
-use Rattle.std.specs.Prelude.{ℕ, ◌+◌, ◌*◌, ◌%◌, List, slice_range}
+use Rattle.std.specs.Prelude.{ℕ, ◌+◌, ◌*◌}
 
 -- how many blocks a record has at most
 abbrev pub limit : ℕ
@@ -40,12 +40,3 @@ data_place slot i = 2 + 249 * slot + (8 + i)
 -- the last sector of a slot, which holds the commit
 abbrev pub commit_place : ℕ → ℕ
 commit_place slot = 2 + 249 * slot + 248
-
--- which block of its record entry e of descriptor j names
-abbrev pub block_at : ℕ → ℕ → ℕ
-block_at j e = 30 * j + e
-
--- the first 8 bytes of the i-th block, which its descriptor has
-abbrev pub first_bytes : List ℕ → ℕ → List ℕ
-first_bytes descriptor i =
-    slice_range descriptor (40 + 16 * (i % 30)) (40 + 16 * (i % 30) + 8)

@@ -8,8 +8,8 @@
 
 mod copies;
 mod fields;
+mod firsts;
 mod head;
-mod home_turns;
 mod laws;
 mod log_format;
 mod places;
@@ -22,10 +22,10 @@ mod super_sector;
 pub mod v1;
 pub mod v2;
 
-pub use copies::read_copy;
+pub use copies::{put_first, read_copy};
 pub use fields::are_rising;
+pub use firsts::{Firsts, first_bytes};
 pub use head::Head;
-pub use home_turns::{HomeTurn, home_turn, turns_home};
 pub use laws::{image_laws, layout_laws};
 pub use log_format::LogFormat;
 pub use places::slot_of;

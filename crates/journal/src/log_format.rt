@@ -65,6 +65,16 @@ impl LogFormat {
         }
     }
 
+    /// Whether a record's data places lack the first 8 bytes of its blocks, which is so in format 2.
+    pub fn lacks_firsts(self) -> bool
+        ensures { IsTrue result ↔ self ≡ LogFormat.Two }
+    {
+        match self {
+            LogFormat::One => false,
+            LogFormat::Two => true,
+        }
+    }
+
     /// Whether an image of the format can be made one of another, which is so of format 1.
     pub fn migrates(self) -> bool
         ensures { IsTrue result ↔ self ≡ LogFormat.One }

@@ -6,14 +6,13 @@ mod places;
 mod read;
 mod record;
 mod sectors;
-mod turns;
 
 pub use commit::Commit;
 pub use data::{data_sector, is_data};
-pub use descriptor::{Descriptor, first_bytes};
+pub use descriptor::Descriptor;
+pub(crate) use descriptor::firsts_in;
 pub(crate) use places::{COMMIT, ENTRIES, FIRST_DATA, GAP, LIMIT, SLOT_SECTORS};
-pub use places::{block_at, commit_place, data_place, descriptor_place, place_of};
+pub use places::{commit_place, data_place, descriptor_place, place_of};
 pub(crate) use read::{are_stamped, read_record};
 pub use record::descriptors;
 pub(crate) use record::{early, part, parts};
-pub(crate) use turns::home_turn;

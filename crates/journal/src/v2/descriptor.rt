@@ -8,7 +8,6 @@ ghost use Rattle.journal.specs.Spelling.{number_in, AreItems};
 ghost use Rattle.journal.specs.SectorsTwo.{AreEntriesTwo, IsDescriptorTwo, entries_here};
 ghost use Rattle.journal.specs.SectorsTwo.{entry_bytes, padded};
 ghost use Rattle.journal.specs.Parts.{CanDescribe, Describes};
-ghost use Rattle.journal.specs.V2.{first_bytes};
 
 use crate::fields::{are_rising, list_of, mark_number, number_at};
 use crate::v2::places::ENTRIES;
@@ -128,9 +127,13 @@ fn are_small(numbers: &[u64]) -> bool
     numbers.iter().all(|b| *b < 1 << 31)
 }
 
-// The first 8 bytes of so many blocks from this one on.
-fn firsts_in(bytes: &[u8], from: usize, count: usize) -> ArrayVec<[u8; 8], 30>
-    requires few { count ≤ 30 }
+/// The first 8 bytes of so many blocks from this one on.
+pub(crate) fn firsts_in<const N: usize>(
+    bytes: &[u8],
+    from: usize,
+    count: usize,
+) -> ArrayVec<[u8; 8], N>
+    requires few { count ≤ N }
     requires inside { 512 * (from + count) ≤ length bytes.now }
     ensures { AreItems count (λ i. slice_range bytes.now
         (512 * (from + i)) (512 * (from + i) + 8)) [] result.items }
@@ -188,14 +191,4 @@ fn firsts_at(sector: &[u8], count: usize) -> ArrayVec<[u8; 8], 30>
         firsts.push(first);
     }
     firsts
-}
-
-/// The first 8 bytes of the i-th block of a record, which this descriptor of it has.
-pub fn first_bytes(descriptor: &[u8; 512], i: usize) -> [u8; 8]
-    ensures { result ≡ first_bytes descriptor.now i }
-{
-    let at = 40 + 16 * (i % ENTRIES);
-    let mut first = [0; 8];
-    first.copy_from_slice(&descriptor[at..at + 8]);
-    first
 }

@@ -1,6 +1,6 @@
 //! Where the parts of a record of format 2 stand.
 ghost use Rattle.std.specs.Prelude.{◌≡◌, ◌<◌};
-ghost use Rattle.journal.specs.V2.{place_of, descriptor_place, data_place, commit_place, block_at};
+ghost use Rattle.journal.specs.V2.{place_of, descriptor_place, data_place, commit_place};
 
 use crate::places::FIRST_SLOT;
 
@@ -54,13 +54,4 @@ pub fn commit_place(slot: u64) -> u64
     ensures { result ≡ commit_place slot }
 {
     place_of(slot) + COMMIT
-}
-
-/// Which block of its record entry e of descriptor j names.
-pub fn block_at(j: u64, e: u64) -> u64
-    requires descriptor { j < 8 }
-    requires entry { e < 30 }
-    ensures { result ≡ block_at j e }
-{
-    ENTRIES as u64 * j + e
 }
