@@ -1,11 +1,8 @@
 //! The copies of blocks in the log.
 ghost use Rattle.std.specs.Prelude.{◌≡◌, ◌≤◌, ◌<◌, ◌%◌, ℕ, List, length, OnOk};
-ghost use Rattle.medium.specs.Medium.{Passes, LooksOnly};
-ghost use Rattle.medium.specs.Moments.{IsQuiet};
-ghost use Rattle.medium.specs.declared.fault.MediumFault.TheVariants.{Read};
 ghost use Rattle.journal.specs.Places.{first_home, limit_of, sectors_of};
 ghost use Rattle.journal.specs.Values.{shape_of};
-ghost use Rattle.journal.specs.Copies.{begun_with, first_of};
+ghost use Rattle.journal.specs.Copies.{begun_with, first_of, ReadsOne};
 ghost use Rattle.journal.specs.Formats.{IsWhole};
 ghost use Rattle.journal.specs.Record.{Entry, block_of};
 
@@ -33,10 +30,8 @@ pub fn read_copy<M: Medium>(
         → i < length entries → first.now ≡ first_of sizes.now.format entries i
         → IsWhole (shape_of sizes.now) (M.state m.old).content stamp entries
         → OnOk result (to.new ≡ block_of entries i) }
-    ensures passes { Passes Read result (M.state m.old) (M.state m.new) }
-    ensures quiet { IsQuiet (M.state m.old) (M.state m.new) }
-    ensures follows { M.follows m.old m.new
-        × LooksOnly (λ s. s < first_home (shape_of sizes.now)) (M.state m.old) (M.state m.new) }
+    ensures reads { ReadsOne M.state M.follows (λ s. s < first_home (shape_of sizes.now))
+        m.old m.new result }
 {
     m.read(copy_place(sizes.format, slot, i), to)?;
     put_first(to, first);

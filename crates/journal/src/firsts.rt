@@ -1,5 +1,5 @@
 //! The first 8 bytes of blocks, whose place in the log the stamp of their record takes.
-ghost use Rattle.std.specs.Prelude.{◌≡◌, ◌≤◌, ◌*◌, ℕ, List, length, MatchOption};
+ghost use Rattle.std.specs.Prelude.{◌≡◌, ◌≤◌, ◌*◌, ℕ, List, length, IfSome, MatchOption};
 ghost use Rattle.journal.specs.SectorsTwo.{firsts_of};
 ghost use Rattle.journal.specs.Record.{entries_of};
 
@@ -13,9 +13,9 @@ pub type Firsts = ArrayVec<[u8; 8], 240>;
 /// them, which is so in format 2.
 pub fn first_bytes(format: LogFormat, bytes: &[u8]) -> Option<Firsts>
     requires { length bytes.now ≤ 512 * 240 }
-    ensures { (numbers : List ℕ) → length bytes.now ≡ 512 * length numbers
-        → MatchOption result (format ≡ LogFormat.One) (λ firsts. (format ≡ LogFormat.Two)
-        × (firsts.items ≡ firsts_of (entries_of numbers bytes.now))) }
+    ensures kind { MatchOption result (format ≡ LogFormat.One) (λ _. format ≡ LogFormat.Two) }
+    ensures are { (numbers : List ℕ) → length bytes.now ≡ 512 * length numbers
+        → IfSome result (λ firsts. firsts.items ≡ firsts_of (entries_of numbers bytes.now)) }
 {
     match format {
         LogFormat::One => None,

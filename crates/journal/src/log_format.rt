@@ -65,7 +65,7 @@ impl LogFormat {
         }
     }
 
-    /// Whether a record's data places lack the first 8 bytes of its blocks, which is so in format 2.
+    /// Whether a record's data places lack the first 8 bytes of its blocks: so they do in format 2.
     pub fn lacks_firsts(self) -> bool
         ensures { IsTrue result ↔ self ≡ LogFormat.Two }
     {

@@ -1,18 +1,10 @@
 -- What the flush of a record that became durable covers.
-use Rattle.std.proofs.Common.{◌≡◌, ◌≢◌, ◌⊎◌, inl, inr, ⊎_elim, ℕ, zero, suc, ◌+◌, ◌<◌, ◌≤◌, List, [], ◌∷◌, ◌++◌, refl, arith}
+use Rattle.std.proofs.Common.{◌≡◌, ◌⊎◌, inl, inr, ⊎_elim, ℕ, zero, suc, ◌+◌, ◌<◌, List, [], ◌∷◌, ◌++◌, refl, arith}
 use Rattle.std.specs.Prelude.{Bool, true, false, if◌then◌else◌, ◌==◌, nat_lt}
 use Rattle.std.proofs.lemmas.Bool.{cases_eq, cases_lt, eq-eqb, ne_eqb}
-use Rattle.journal.specs.declared.log_format.LogFormat.{LogFormat}
-use Rattle.journal.specs.declared.log_format.LogFormat.TheVariants.{One, Two}
 use Rattle.journal.proofs.Format1Laws.{below_is, above_is}
-use Rattle.journal.specs.Places.{Shape}
-use Rattle.redo_log.specs.Value.{Ahead, turns_home}
+use Rattle.redo_log.specs.Value.{Ahead}
 use Rattle.redo_log.specs.Stages.{needed_at, IsAheadOf}
-
--- a record with blocks is not at home before its first turn
-pub turns_some : (format : LogFormat) (n : ℕ) → 1 ≤ n → 0 < turns_home format n
-turns_some One n some = some
-turns_some Two n some = omega (arith, some)
 
 both : (b c : Bool) → ◌≡◌ {A = ℕ} (if b then (if c then 1 else 2) else 2) 1 → (b ≡ true) × (c ≡ true)
 both true true e = (refl, refl)
@@ -42,13 +34,13 @@ needed_covered ahead head behind same since =
     rw (eq-eqb ahead.home head same, below_is ahead.before behind since) refl
 
 -- a record becomes durable
-pub ahead_durable : (ahead : Ahead) (shape : Shape) (head : ℕ) (waiting : List (List ℕ)) (turned : ℕ) (numbers : List ℕ)
-    → IsAheadOf ahead shape head waiting turned → IsAheadOf ahead shape head (waiting ++ numbers ∷ []) turned
-ahead_durable ahead shape head [] turned numbers is = ⊎_elim inl (λ home. absurd (omega (arith, home.1))) is
-ahead_durable ahead shape head (n ∷ waiting) turned numbers is = ⊎_elim inl (λ home. inr (home.0, omega arith, home.2)) is
+pub ahead_durable : (ahead : Ahead) (head : ℕ) (waiting : List (List ℕ)) (turned : ℕ) (numbers : List ℕ)
+    → IsAheadOf ahead head waiting turned → IsAheadOf ahead head (waiting ++ numbers ∷ []) turned
+ahead_durable ahead head [] turned numbers is = ⊎_elim inl (λ home. absurd (omega (arith, home.1))) is
+ahead_durable ahead head (n ∷ waiting) turned numbers is = ⊎_elim inl (λ home. inr (home.0, omega arith, home.2)) is
 
 -- the oldest record is retired
-pub ahead_retired : (ahead : Ahead) (shape : Shape) (head : ℕ) (waiting newer : List (List ℕ)) (turned left : ℕ)
-    → IsAheadOf ahead shape head waiting turned → IsAheadOf ahead shape (head + 1) newer left
-ahead_retired ahead shape head waiting newer turned left is =
+pub ahead_retired : (ahead : Ahead) (head : ℕ) (waiting newer : List (List ℕ)) (turned left : ℕ)
+    → IsAheadOf ahead head waiting turned → IsAheadOf ahead (head + 1) newer left
+ahead_retired ahead head waiting newer turned left is =
     ⊎_elim (λ (less : ahead.home < head). inl (omega (arith, less))) (λ home. inl (omega (arith, home.0))) is

@@ -1,12 +1,12 @@
 -- The head goes past the oldest record ahead of its flush: what that leaves, and what the log holds then.
 use Rattle.std.proofs.Common.{◌≡◌, ℕ, ◌+◌, ◌-◌, ◌^◌, ◌<◌, ◌≤◌, List, [], ◌∷◌, length, drop, refl, sym, ◌∙◌, ap, subst, arith}
-use Rattle.std.specs.Prelude.{replicate, Bool, true, false, Option}
+use Rattle.std.specs.Prelude.{Bool, true, false, Option}
 use Rattle.medium.specs.Medium.{State, Holds, IsSound}
 use Rattle.medium.specs.Moments.{LeavesOnly}
 use Rattle.journal.specs.Places.{Shape}
 use Rattle.journal.specs.declared.head.Head.{Head}
 use Rattle.redo_log.specs.declared.turn.Turn.TheVariants as turn
-use Rattle.redo_log.specs.Value.{LogValue, Ahead, turns_home, of_oldest, CanPass}
+use Rattle.redo_log.specs.Value.{AllFirsts, LogValue, Ahead, of_oldest, CanPass}
 use Rattle.redo_log.specs.Stages.{value_at, begun_at, IsRing, IsAheadOf, IsSized}
 use Rattle.redo_log.specs.Calls.{WritesOnly}
 use Rattle.redo_log.specs.Turns.{head_bytes, IsNextTurn}
@@ -20,10 +20,10 @@ pub record IsFirst (shape : Shape) (waiting : List (List ℕ)) (turned : ℕ) : 
   pub numbers : List ℕ
   pub newer : List (List ℕ)
   pub waits : waiting ≡ numbers ∷ newer
-  pub last : turned ≡ turns_home shape.format (length numbers) + 1
+  pub last : turned ≡ length numbers + 1
 
 -- where one retire step is left of the oldest, a record waits
-pub first_of : (ahead : Ahead) (shape : Shape) (head : ℕ) (waiting : List (List ℕ)) (turned : ℕ) (kept items : List ℕ)
+pub first_of : (ahead : Ahead) (shape : Shape) (head : ℕ) (waiting : List (List ℕ)) (turned : ℕ) (kept : AllFirsts) (items : List ℕ)
     (writing : Option ℕ) (dead : Bool) (log : LogValue) → value_at ahead shape head waiting turned kept items writing dead ≡ log
     → of_oldest log ≡ 1 → IsFirst shape waiting turned
 first_of ahead shape head [] turned kept items writing dead log shown one =
@@ -35,10 +35,11 @@ first_of ahead shape head (numbers ∷ newer) turned kept items writing dead log
   last = omega (arith, one, left_is log ahead shape head (numbers ∷ newer) turned kept items writing dead numbers newer shown refl);
 }
 
-module _ (ahead : Ahead) (shape : Shape) (sized : IsSized shape) (head : ℕ) (waiting : List (List ℕ)) (turned : ℕ) (kept items : List ℕ)
+module _ (ahead : Ahead) (shape : Shape) (sized : IsSized shape) (head : ℕ) (waiting : List (List ℕ)) (turned : ℕ) (kept : AllFirsts)
+    (items : List ℕ)
     (writing : Option ℕ) (dead : Bool) (log : LogValue) (shown : value_at ahead shape head waiting turned kept items writing dead ≡ log)
     (live : log.dead ≡ false) (ring : IsRing shape waiting turned items writing)
-    (sent : IsAheadOf ahead shape head waiting turned) (least : 1 ≤ head)
+    (sent : IsAheadOf ahead head waiting turned) (least : 1 ≤ head)
     (most : head + length waiting + begun_at writing < 2 ^ 63) (can : CanPass log) (old new : State) (sound : IsSound old)
     (h : Head) (stamp_is : h.stamp ≡ head + 1) (view : View) (holds : HoldsView log old view)
     (adds : WritesOnly 1 (head_bytes h.stamp) old new) where
@@ -59,11 +60,12 @@ module _ (ahead : Ahead) (shape : Shape) (sized : IsSized shape) (head : ℕ) (w
       first.waits old new sound (turn.Head h) next adds view holds ours
 
   -- then the log has one record less
-  pub leads_held : (left : List (List ℕ)) → left ≡ drop 1 waiting → new.size ≡ old.size
+  pub leads_held : (left : List (List ℕ)) (rest : AllFirsts) → left ≡ drop 1 waiting → drop 1 kept ≡ rest
+      → new.size ≡ old.size
       → Holds 1 (head_bytes h.stamp) old.content new.content
-      → HoldsView (value_at ahead shape (head + 1) left 0 (replicate 512 0) items writing dead) new
+      → HoldsView (value_at ahead shape (head + 1) left 0 rest items writing dead) new
       (view_retired (head + 1 - log.head) view)
-  leads_held left is same_size wrote =
+  leads_held left rest is less same_size wrote =
       let ring_now = ring_is ahead shape sized head waiting turned kept items writing dead log shown live ring sent least most first.numbers
       first.newer first.waits in
       let head_is : head ≡ log.head = ap (λ (l : LogValue). l.head) shown in
@@ -79,13 +81,17 @@ module _ (ahead : Ahead) (shape : Shape) (sized : IsSized shape) (head : ℕ) (w
         ap (λ (l : LogValue). l.next) shown,
         ap (λ (l : LogValue). l.shape.slots) shown,
       ) in
-      subst (λ (n : ℕ). HoldsView (value_at ahead shape (head + 1) left 0 (replicate 512 0) items writing dead) new (view_retired n view))
+      subst
+      (λ (k : AllFirsts). HoldsView (value_at ahead shape (head + 1) left 0 k items writing dead) new
+      (view_retired (head + 1 - log.head) view))
+      less
+      (subst (λ (n : ℕ). HoldsView (value_at ahead shape (head + 1) left 0 (drop 1 kept) items writing dead) new (view_retired n view))
       one
       (subst
-      (λ (d : Bool). HoldsView (value_at ahead shape (head + 1) left 0 (replicate 512 0) items writing d) new (view_retired 1 view))
+      (λ (d : Bool). HoldsView (value_at ahead shape (head + 1) left 0 (drop 1 kept) items writing d) new (view_retired 1 view))
       (sym (dead_is ahead shape sized head waiting turned kept items writing dead log shown live ring sent least most))
       (subst
-      (λ (l : List (List ℕ)). HoldsView (value_at ahead shape (head + 1) l 0 (replicate 512 0) items writing false) new
+      (λ (l : List (List ℕ)). HoldsView (value_at ahead shape (head + 1) l 0 (drop 1 kept) items writing false) new
       (view_retired 1 view))
       (sym fewer)
       (ahead_held ahead shape sized head first.numbers first.newer turned kept items writing
@@ -100,4 +106,4 @@ module _ (ahead : Ahead) (shape : Shape) (sized : IsSized shape) (head : ℕ) (w
       (subst (λ (v : LogValue). HoldsView v old view)
       (sym (waiting_is ahead shape sized head waiting turned kept items writing dead log shown live ring sent least most first.numbers
       first.newer first.waits)) holds)
-      new same_size h stamp_is first.last besides adds.sets wrote)))
+      new same_size h stamp_is first.last besides adds.sets wrote))))

@@ -20,7 +20,7 @@ use Rattle.journal.proofs.Engine.{rests_logged, Guarded-write, Guarded-lost, Gua
 use Rattle.journal.proofs.WrittenRecord.{guarded_leaves, rest_early, durable_rests}
 use Rattle.journal.proofs.RetiredRecord.{Resting-home, Resting-head, Guarded-home, Guarded-head, HasSlots-less}
 use Rattle.redo_log.specs.Logged.{HasRecords, Logged, AreHome}
-use Rattle.redo_log.specs.Stages.{homed_at, IsSized}
+use Rattle.redo_log.specs.Stages.{IsSized}
 use Rattle.redo_log.specs.Held.{View, with_record, view_retired, image_view, written_of, flushed_of, Stores, Safe, Guards}
 use Rattle.redo_log.proofs.LoggedImage.{Logged-records}
 use Rattle.redo_log.proofs.RecordSteps.{all_flushed}
@@ -179,7 +179,7 @@ module _ (shape : Shape) (sized : IsSized shape) (head : ℕ) (view : View) wher
     pub durable_guards : (steps made next turned retire left : ℕ) → 0 < steps
         → (layout_of shape.format).parts (length view.under_way) ≤ written_of shape view made
         → (left ≡ 1
-        → (0 < length view.records) × ((retire ≡ 1) ⊎ (length (get_or view.records 0 []) ≤ homed_at shape.format turned)))
+        → (0 < length view.records) × ((retire ≡ 1) ⊎ (length (get_or view.records 0 []) ≤ turned)))
         → HasSlots (layout_of shape.format) (image_view shape head view)
         → Only old.content new.may_leave → Stores shape head view steps made turned old.content
         → Guards shape head view steps made retire old → Guards shape head (with_record view) 0 next left new
@@ -204,7 +204,7 @@ module _ (shape : Shape) (sized : IsSized shape) (head : ℕ) (view : View) wher
               (sym (oldest-append view.records view.under_way was.0))
               (each_flush (IsHomed v) old.content new only (⊎_elim
               (λ (one : retire ≡ 1). content_has (IsHomed v) old sound (g.homed one))
-              (λ (home : length (get_or view.records 0 []) ≤ homed_at shape.format turned) i inside.
+              (λ (home : length (get_or view.records 0 []) ≤ turned) i inside.
               s.copied i (omega (arith, inside, home)) inside) was.1));
         }
 

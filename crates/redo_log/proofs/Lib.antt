@@ -5,6 +5,7 @@ pub mod LogFields
 pub mod RecordSteps
 pub mod CoveredRecord
 pub mod IndexRoom
+pub mod KeptFirsts
 pub mod NewestCopy
 pub mod StepFlushes
 pub mod GuardedCalls

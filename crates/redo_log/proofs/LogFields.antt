@@ -1,35 +1,39 @@
 -- From a log's fields to what a caller sees of it.
-use Rattle.std.proofs.Common.{◌≡◌, ◌≢◌, ⊎_elim, ℕ, ◌+◌, ◌*◌, ◌-◌, ◌^◌, ◌<◌, ◌≤◌, List, [], ◌∷◌, ◌++◌, length, get_or, refl, sym, ◌∙◌}
+use Rattle.std.proofs.Common.{◌≡◌, ◌≢◌, ⊎_elim, ℕ, ◌+◌, ◌*◌, ◌-◌, ◌^◌, ◌<◌, ◌≤◌, List, [], ◌∷◌, ◌++◌, length, get_or, drop, refl, sym, ◌∙◌}
 use Rattle.std.proofs.Common.{ap, subst}
 use Rattle.std.proofs.Common.{arith}
-use Rattle.std.specs.Prelude.{All, replicate, Bool, true, false, Option, Some, None, Result, Ok, Err, OnOk, is_err, is_ok}
+use Rattle.std.specs.Prelude.{All, Bool, true, false, Option, Some, None, Result, Ok, Err, OnOk, is_err, is_ok}
+use Rattle.std.proofs.lemmas.List.{length-map}
 use Rattle.medium.specs.Medium.{State, Passes, IsSound}
 use Rattle.medium.specs.Moments.{EachCut, LeavesOnly, IsQuiet}
 use Rattle.medium.specs.declared.fault.MediumFault.{MediumFault}
 use Rattle.medium.specs.declared.fault.MediumFault.TheVariants as fault
 use Rattle.medium.proofs.Moments.{one_call, at_exit, shrunk, weaker, quiet_leaves}
+use Rattle.journal.specs.declared.log_format.LogFormat.{LogFormat}
 use Rattle.journal.specs.Places.{Shape, first_home}
 use Rattle.journal.specs.Values.{shape_of}
 use Rattle.journal.specs.declared.super_sector.Super.{Super}
-use Rattle.journal.specs.Sectors.{IsSuper}
-use Rattle.journal.specs.Record.{block_of, entries_of, home_of}
+use Rattle.journal.specs.Record.{Entry, numbers_of, block_of, entries_of, home_of}
+use Rattle.journal.specs.Copies.{first_of}
 use Rattle.journal.proofs.Overlay.{with_records-same}
 use Rattle.journal.specs.Formats.{layout_of, IsWhole}
 use Rattle.journal.proofs.Engine.{rests_logged}
 use Rattle.journal.proofs.Formats.{laws_of, sectors_are}
 use Rattle.redo_log.specs.declared.turn.Turn.{Turn}
-use Rattle.redo_log.specs.declared.turn.Turn.TheVariants.{Load, Copy, Flush, Head}
-use Rattle.redo_log.specs.Value.{LogValue, Ahead, steps_for, turns_home, IsNewestCopy, died}
+use Rattle.redo_log.specs.declared.turn.Turn.TheVariants.{Copy, Flush, Head}
+use Rattle.redo_log.specs.Value.{AllFirsts, LogValue, Ahead, steps_for, IsNewestCopy, died}
+use Rattle.redo_log.specs.Firsts.{first_kept}
 use Rattle.redo_log.specs.Logged.{Logged}
 use Rattle.redo_log.specs.Stages.{value_at, begun_at, needed_at, AreInside, IsRecord, IsUnderWay, IsRing, IsAheadOf, IsSized}
-use Rattle.redo_log.specs.Turns.{kept_by, MayTurn, IsTurned, IsNextTurn}
+use Rattle.redo_log.specs.Turns.{MayTurn, IsTurned, IsNextTurn}
 use Rattle.redo_log.specs.Calls.{Call, fault_of, MayAdd, IsDone, IsNextCall}
 use Rattle.redo_log.specs.Flushes.{next_step_flushes}
-use Rattle.redo_log.specs.Held.{View, with_record, view_retired, needed_of, with_head, HasDurable, MayLeave, HoldsView}
+use Rattle.redo_log.specs.Held.{View, with_record, view_retired, needed_of, with_head, kept_firsts, HasDurable, MayLeave, HoldsView}
 use Rattle.redo_log.proofs.CoveredRecord.{needed_one}
 use Rattle.redo_log.proofs.Heads.{head_within, older_one, heads_quiet, each_head}
 use Rattle.redo_log.proofs.LoggedImage.{Logged-records}
 use Rattle.redo_log.proofs.RecordTurns.{step_leaves, step_held, step_last}
+use Rattle.redo_log.proofs.KeptFirsts.{kept_is}
 use Rattle.redo_log.proofs.NewestCopy.{copy_is}
 use Rattle.redo_log.proofs.StepFlushes.{call_flushes, next_flushes}
 use Rattle.redo_log.proofs.RetireTurns.{turn_leaves, turn_held, sent_held, turn_last}
@@ -65,7 +69,7 @@ dead_held log view old new sound hv same_size cuts = record {
   next = hv.next;
   few = hv.few;
   sized = hv.sized;
-  kept = λ live. cc live;
+  firsts = hv.firsts;
   leaves = λ ours.
       subst (λ (n : ℕ). EachCut (MayLeave n log view) new) (sym same_size) (at_exit (MayLeave old.size log view) old new sound (cuts ours));
   stores = λ live. cc live;
@@ -91,15 +95,15 @@ durable_whole log m view sized holds live ours no_steps =
 
 -- no count falls in a turn
 pub turn_moments : (turn : Turn) (old new : State) → IsSound old → MayTurn turn old new → LeavesOnly (λ _. Unit {0}) old new
-turn_moments (Load from) old new sound adds = quiet_leaves (λ _. Unit {0}) old new sound (λ image cut. tt) adds
 turn_moments (Copy from to first) old new sound adds = weaker _ (λ _. Unit {0}) old new (λ image left. tt) adds.moments
 turn_moments Flush old new sound adds = quiet_leaves (λ _. Unit {0}) old new sound (λ image cut. tt) adds
 turn_moments (Head h) old new sound adds = weaker _ (λ _. Unit {0}) old new (λ image left. tt) adds.moments
 
-module _ (ahead : Ahead) (shape : Shape) (sized : IsSized shape) (head : ℕ) (waiting : List (List ℕ)) (turned : ℕ) (kept items : List ℕ)
+module _ (ahead : Ahead) (shape : Shape) (sized : IsSized shape) (head : ℕ) (waiting : List (List ℕ)) (turned : ℕ) (kept : AllFirsts)
+    (items : List ℕ)
     (writing : Option ℕ) (dead : Bool) (log : LogValue) (shown : value_at ahead shape head waiting turned kept items writing dead ≡ log)
     (live : log.dead ≡ false) (ring : IsRing shape waiting turned items writing)
-    (sent : IsAheadOf ahead shape head waiting turned) (least : 1 ≤ head)
+    (sent : IsAheadOf ahead head waiting turned) (least : 1 ≤ head)
     (most : head + length waiting + begun_at writing < 2 ^ 63) where
   pub dead_is : dead ≡ false
   dead_is = ap (λ (v : LogValue). v.dead) shown ∙ live
@@ -224,9 +228,9 @@ module _ (ahead : Ahead) (shape : Shape) (sized : IsSized shape) (head : ℕ) (w
     pub past : ahead.home ≤ head
     past = ⊎_elim (λ (less : ahead.home < head). omega (arith, less)) (λ same. omega (arith, same.0)) sent
 
-    pub away : turned < turns_home shape.format (length numbers) → ahead.home ≢ head
+    pub away : turned < length numbers → ahead.home ≢ head
     away below same = ⊎_elim (λ (less : ahead.home < head). omega (arith, less, same))
-        (λ home. omega (arith, below, home.2, ap (λ (l : List (List ℕ)). turns_home shape.format (length (get_or l 0 []))) waits)) sent
+        (λ home. omega (arith, below, home.2, ap (λ (l : List (List ℕ)). length (get_or l 0 [])) waits)) sent
 
     pub under_is : (made : ℕ) → writing ≡ Some made
         → IsRecord shape (head + length (numbers ∷ newer)) items × (made < steps_for shape.format (length items))
@@ -252,99 +256,107 @@ module _ (ahead : Ahead) (shape : Shape) (sized : IsSized shape) (head : ℕ) (w
         pub turn_dead : IsSound new → HoldsView (died log) new view
         turn_dead after = dead_held log view old new after holds same_size turn_cuts
 
-        module _ (done : IsTurned turn old new) (after : List ℕ) (keeps : after ≡ kept_by turn old kept) where
+        module _ (done : IsTurned turn old new) where
           -- after a retire step that is not the last the log holds what it held
-          pub turn_more : turned ≤ turns_home shape.format (length numbers)
-              → HoldsView (value_at ahead shape head waiting (turned + 1) after items writing dead) new
+          pub turn_more : turned ≤ length numbers
+              → HoldsView (value_at ahead shape head waiting (turned + 1) kept items writing dead) new
               (view_retired (head - log.head) view)
           turn_more more =
               let head_is : head ≡ log.head = ap (λ (l : LogValue). l.head) shown in
               let none : 0 ≡ head - log.head = omega (arith, head_is) in
-              subst (λ (n : ℕ). HoldsView (value_at ahead shape head waiting (turned + 1) after items writing dead) new
+              subst (λ (n : ℕ). HoldsView (value_at ahead shape head waiting (turned + 1) kept items writing dead) new
               (view_retired n view))
               none
-              (subst (λ (d : Bool). HoldsView (value_at ahead shape head waiting (turned + 1) after items writing d) new view) (sym dead_is)
-              (subst (λ (l : List (List ℕ)). HoldsView (value_at ahead shape head l (turned + 1) after items writing false) new view)
+              (subst (λ (d : Bool). HoldsView (value_at ahead shape head waiting (turned + 1) kept items writing d) new view) (sym dead_is)
+              (subst (λ (l : List (List ℕ)). HoldsView (value_at ahead shape head l (turned + 1) kept items writing false) new view)
               (sym waits)
-              (subst
-              (λ (k : List ℕ).
-              HoldsView (value_at ahead shape head (numbers ∷ newer) (turned + 1) k items writing false) new view)
-              (sym keeps)
               (turn_held ahead shape sized head numbers newer turned kept items writing past away view ring_is.each ring_is.fits
-              ring_is.oldest under_is old sound waiting_held new same_size turn more next adds done))))
+              ring_is.oldest under_is old sound waiting_held new same_size turn more next adds done)))
 
           -- after a turn ahead too, where no flush covers the record yet
           pub turn_sent : (then : Ahead)
-              → needed_at then head (head + length (numbers ∷ newer)) (turns_home shape.format (length numbers) + 2 - (turned + 1)) ≢ 1
-              → turned < turns_home shape.format (length numbers)
-              → HoldsView (value_at then shape head waiting (turned + 1) after items writing dead) new view
+              → needed_at then head (head + length (numbers ∷ newer)) (length numbers + 2 - (turned + 1)) ≢ 1
+              → turned < length numbers
+              → HoldsView (value_at then shape head waiting (turned + 1) kept items writing dead) new view
           turn_sent then not below =
-              subst (λ (d : Bool). HoldsView (value_at then shape head waiting (turned + 1) after items writing d) new view) (sym dead_is)
-              (subst (λ (l : List (List ℕ)). HoldsView (value_at then shape head l (turned + 1) after items writing false) new view)
+              subst (λ (d : Bool). HoldsView (value_at then shape head waiting (turned + 1) kept items writing d) new view) (sym dead_is)
+              (subst (λ (l : List (List ℕ)). HoldsView (value_at then shape head l (turned + 1) kept items writing false) new view)
               (sym waits)
-              (subst
-              (λ (k : List ℕ).
-              HoldsView (value_at then shape head (numbers ∷ newer) (turned + 1) k items writing false) new view)
-              (sym keeps)
               (sent_held ahead shape sized head numbers newer turned kept items writing past away view ring_is.each ring_is.fits
-              ring_is.oldest under_is old sound waiting_held new same_size then not turn below next adds done)))
+              ring_is.oldest under_is old sound waiting_held new same_size then not turn below next adds done))
 
           -- it is not home yet
-          pub turn_sent_more : turned + 1 < turns_home shape.format (length numbers)
-              → HoldsView (value_at ahead shape head waiting (turned + 1) after items writing dead) new view
+          pub turn_sent_more : turned + 1 < length numbers
+              → HoldsView (value_at ahead shape head waiting (turned + 1) kept items writing dead) new view
           turn_sent_more more =
               turn_sent ahead
               (λ one. ⊎_elim (λ e. omega (arith, e, more)) (λ covered. omega (arith, covered.0, more))
               (needed_one ahead head (head + length (numbers ∷ newer))
-              (turns_home shape.format (length numbers) + 2 - (turned + 1)) one))
+              (length numbers + 2 - (turned + 1)) one))
               (omega (arith, more))
 
           -- it is home now, and a record is to become durable first
-          pub turn_sent_last : (before : ℕ) → before ≡ head + length waiting → turned + 1 ≡ turns_home shape.format (length numbers)
-              → HoldsView (value_at (record { home = head; before = before }) shape head waiting (turned + 1) after items writing dead) new
+          pub turn_sent_last : (before : ℕ) → before ≡ head + length waiting → turned + 1 ≡ length numbers
+              → HoldsView (value_at (record { home = head; before = before }) shape head waiting (turned + 1) kept items writing dead) new
               view
           turn_sent_last before then last =
               turn_sent (record { home = head; before = before })
               (λ one. ⊎_elim (λ e. omega (arith, e, last))
               (λ covered. omega (arith, covered.2, then, ap (λ (l : List (List ℕ)). length l) waits))
               (needed_one (record { home = head; before = before }) head (head + length (numbers ∷ newer))
-              (turns_home shape.format (length numbers) + 2 - (turned + 1)) one))
+              (length numbers + 2 - (turned + 1)) one))
               (omega (arith, last))
 
           -- after the last one it has one record less
-          pub turn_retires : (left : List (List ℕ)) → turns_home shape.format (length numbers) < turned → left ≡ newer
-              → HoldsView (value_at ahead shape (head + 1) left 0 (replicate 512 0) items writing dead) new
+          pub turn_retires : (left : List (List ℕ)) (rest : AllFirsts) → length numbers < turned → left ≡ newer
+              → drop 1 kept ≡ rest
+              → HoldsView (value_at ahead shape (head + 1) left 0 rest items writing dead) new
               (view_retired (head + 1 - log.head) view)
-          turn_retires left last fewer =
+          turn_retires left rest last fewer less =
               let head_is : head ≡ log.head = ap (λ (l : LogValue). l.head) shown in
               let one : 1 ≡ head + 1 - log.head = omega (arith, head_is) in
-              subst (λ (n : ℕ). HoldsView (value_at ahead shape (head + 1) left 0 (replicate 512 0) items writing dead) new
+              subst (λ (k : AllFirsts). HoldsView (value_at ahead shape (head + 1) left 0 k items writing dead) new
+              (view_retired (head + 1 - log.head) view))
+              less
+              (subst (λ (n : ℕ). HoldsView (value_at ahead shape (head + 1) left 0 (drop 1 kept) items writing dead) new
               (view_retired n view))
               one
               (subst
               (λ (d : Bool).
-              HoldsView (value_at ahead shape (head + 1) left 0 (replicate 512 0) items writing d) new (view_retired 1 view))
+              HoldsView (value_at ahead shape (head + 1) left 0 (drop 1 kept) items writing d) new (view_retired 1 view))
               (sym dead_is)
               (subst
               (λ (l : List (List ℕ)).
-              HoldsView (value_at ahead shape (head + 1) l 0 (replicate 512 0) items writing false) new (view_retired 1 view))
+              HoldsView (value_at ahead shape (head + 1) l 0 (drop 1 kept) items writing false) new (view_retired 1 view))
               (sym fewer)
               (turn_last ahead shape sized head numbers newer turned kept items writing past away view ring_is.each ring_is.fits
               ring_is.oldest
-              under_is old sound waiting_held new same_size turn last next adds done)))
+              under_is old sound waiting_held new same_size turn last next adds done))))
 
   -- a copy is a block of a whole record, and has the bytes of its block
   pub copy_read : (m : State) (view : View) → HoldsView log m view → (block slot place : ℕ) → (copy : IsNewestCopy log block slot place)
       → (place < length (get_or view.records copy.age []))
       × IsWhole log.shape m.content (log.head + copy.age) (get_or view.records copy.age [])
       × (block_of (get_or view.records copy.age []) place ≡ view.array block)
+      × (first_kept kept copy.age place ≡ first_of shape.format (get_or view.records copy.age []) place)
   copy_read m view holds block slot place copy =
       let waiting_is : waiting ≡ log.waiting = ap (λ (v : LogValue). v.waiting) shown in
       let each : All (AreInside shape) log.waiting = subst (λ (l : List (List ℕ)). All (AreInside shape) l) waiting_is ring.each in
       let blocks_are : shape.blocks ≡ log.shape.blocks = ap (λ (v : LogValue). v.shape.blocks) shown in
       let below : block < log.shape.blocks =
       omega (arith, (each copy.age [] copy.waits).inside place 0 copy.inside, copy.named, blocks_are) in
-      copy_is log m view holds live block slot place below (λ j waits. (each j [] waits).rising) copy
+      let f : List Entry → List ℕ = λ r. numbers_of r in
+      let many = ap (λ (l : List (List ℕ)). length l) holds.durable ∙ length-map view.records f in
+      let format : log.shape.format ≡ shape.format = ap (λ (v : LogValue). v.shape.format) (sym shown) in
+      let kept_now : kept ≡ kept_firsts shape.format view.records view.under_way =
+      ap (λ (v : LogValue). v.firsts) shown ∙ holds.firsts
+      ∙ ap (λ (f : LogFormat). kept_firsts f view.records view.under_way) format in
+      let there = copy_is log m view holds live block slot place below (λ j waits. (each j [] waits).rising) copy in (
+        there.0,
+        there.1,
+        there.2,
+        kept_is shape.format view.records view.under_way kept kept_now copy.age place (omega (arith, copy.waits, many)) there.0,
+      )
 
 -- calls that wrote nothing leave what the log and its medium hold
 pub quiet_held : (log : LogValue) (view : View) (old new : State) → IsQuiet old new → HoldsView log old view → HoldsView log new view
@@ -355,7 +367,7 @@ quiet_held log view old new quiet holds = record {
   next = holds.next;
   few = holds.few;
   sized = holds.sized;
-  kept = holds.kept;
+  firsts = holds.firsts;
   leaves = λ ours. subst (λ (n : ℕ). EachCut (MayLeave n log view) new) (sym quiet.size_stays)
       (shrunk (MayLeave old.size log view) old new quiet.sets_shrink (holds.leaves ours));
   stores = λ live.

@@ -7,8 +7,8 @@ use Rattle.journal.specs.Places.{limit_of}
 use Rattle.journal.specs.Layout.{Layout}
 use Rattle.journal.specs.Formats.{layout_of}
 use Rattle.journal.proofs.Format1Laws.{below_is, above_is}
-use Rattle.redo_log.specs.Value.{steps_for, turns_home, most_steps, most_retire_steps}
-use Rattle.redo_log.specs.Stages.{flush_of, written_at, flushed_at, homed_at}
+use Rattle.redo_log.specs.Value.{steps_for, most_steps, most_retire_steps}
+use Rattle.redo_log.specs.Stages.{flush_of, written_at, flushed_at}
 use Rattle.redo_log.specs.Calls.{IsFlushDue}
 
 pub flush_some : (early : ℕ) → 0 < early → flush_of early ≡ 1
@@ -132,19 +132,8 @@ pub few_steps_for : (format : LogFormat) (n : ℕ) → n ≤ limit_of format →
 few_steps_for One n few = omega (arith, few)
 few_steps_for Two n few = omega (arith, few)
 
-pub few_turns : (format : LogFormat) (n : ℕ) → n ≤ limit_of format → turns_home format n + 2 ≤ most_retire_steps format
-few_turns One n few = omega (arith, few)
-few_turns Two n few = omega (arith, few)
-
--- nothing is home at first, and all is after the turns
-pub none_home : (format : LogFormat) → homed_at format 0 ≡ 0
-none_home One = refl
-none_home Two = omega arith
-
-pub all_home : (format : LogFormat) (n turned : ℕ) → turns_home format n ≤ turned → turned < turns_home format n + 2
-    → n ≤ homed_at format turned
-all_home One n turned all below = all
-all_home Two n turned all below = omega (arith, all, below)
+pub few_turns : (format : LogFormat) (n : ℕ) → n ≤ limit_of format → n + 2 ≤ most_retire_steps format
+few_turns format n few = omega (arith, few)
 
 -- a record needs steps
 pub steps_some : (format : LogFormat) (n : ℕ) → 0 < steps_for format n

@@ -16,24 +16,24 @@ use Rattle.journal.specs.Formats.{layout_of}
 use Rattle.journal.specs.Staged.{HasSlots}
 use Rattle.journal.proofs.Formats.{laws_of}
 use Rattle.journal.proofs.BatchEntries.{length_of_batch}
-use Rattle.redo_log.specs.Value.{LogValue, Ahead, steps_for, turns_home}
-use Rattle.redo_log.specs.Stages.{value_at, oldest_at, written_at, homed_at, flush_of, needed_at, IsRecord, IsOldest, IsRead, IsSized}
+use Rattle.redo_log.specs.Value.{AllFirsts, LogValue, Ahead, steps_for}
+use Rattle.redo_log.specs.Stages.{value_at, oldest_at, written_at, flush_of, needed_at, IsRecord, IsOldest, IsSized}
 use Rattle.redo_log.specs.Calls.{gaining, Call, Write, Flush, MayAdd, IsDone, IsNextCall, IsFlush, IsFlushDue, IsWriteOf}
-use Rattle.redo_log.specs.Held.{View, with_record, image_view, oldest_of, written_of, made_of, turned_of, needed_of, MayLeave, Stores}
+use Rattle.redo_log.specs.Held.{View, with_record, image_view, written_of, made_of, turned_of, needed_of, MayLeave, Stores}
 use Rattle.redo_log.specs.Held.{Shields, with_head}
 use Rattle.redo_log.specs.Held.{HasHead, HoldsView}
-use Rattle.redo_log.proofs.RecordSteps.{steps_are, due_or_not, last_call, not_last, one_left, early_written, part_written, all_home}
+use Rattle.redo_log.proofs.RecordSteps.{steps_are, due_or_not, last_call, not_last, one_left, early_written, part_written}
 use Rattle.redo_log.proofs.CoveredRecord.{needed_one}
 use Rattle.redo_log.proofs.Heads.{head_sound, head_only, head_gains, older_slot, heads_write, heads_flush}
 use Rattle.redo_log.proofs.GuardedCuts.{durable_numbers, leave_of, guards_leave}
 use Rattle.redo_log.proofs.BatchRecord.{count_of, record_entries, record_batch}
-use Rattle.redo_log.proofs.StoredLog.{oldest-append, Stores-stays, part_stores, durable_stores}
+use Rattle.redo_log.proofs.StoredLog.{Stores-stays, part_stores, durable_stores}
 use Rattle.redo_log.proofs.GuardedCalls.{IsEither, other_each, last_each, part_guards, flush_guards, durable_guards}
 use Rattle.redo_log.proofs.OldestRecord.{turned_at, turned_of_is, needed_of_is, made_of_is, oldest_more, oldest_alone}
-use Rattle.redo_log.proofs.CopiedTurns.{none_read}
+use Rattle.redo_log.proofs.KeptFirsts.{durable_kept}
 
 module _ (ahead : Ahead) (shape : Shape) (sized : IsSized shape) (head : ℕ) (waiting : List (List ℕ)) (turned : ℕ)
-    (kept numbers bytes : List ℕ)
+    (kept : AllFirsts) (numbers bytes : List ℕ)
     (view : View) (rec : IsRecord shape (head + length waiting) numbers) (room : length waiting < shape.slots)
     (size : length bytes ≡ 512 * length numbers) where
   abbrev L : Layout
@@ -48,14 +48,14 @@ module _ (ahead : Ahead) (shape : Shape) (sized : IsSized shape) (head : ℕ) (w
 
   -- how many turns the oldest record needs, and how many are made
   abbrev left : ℕ
-  left = oldest_at shape.format waiting turned
+  left = oldest_at waiting turned
 
   abbrev done : ℕ
-  done = turned_at shape.format waiting turned
+  done = turned_at waiting turned
 
   -- how many it needs, where a flush that covers its blocks counts
   abbrev needs : ℕ
-  needs = needed_at ahead head (head + length waiting) (oldest_at shape.format waiting turned)
+  needs = needed_at ahead head (head + length waiting) (oldest_at waiting turned)
 
   abbrev n : ℕ
   n = length view.under_way
@@ -120,18 +120,12 @@ module _ (ahead : Ahead) (shape : Shape) (sized : IsSized shape) (head : ℕ) (w
         (subst (λ (k : ℕ). Shields shape head view (steps made) k (needed_of (writing_log made)) old)
         (made_of_is ahead shape head waiting turned kept numbers made false below) (hv.guards refl ours))
 
-    read : IsRead shape.format head (oldest_of view) done kept
-    read =
-        subst (λ (t : ℕ). IsRead shape.format head (oldest_of view) t kept)
-        (turned_of_is ahead shape head waiting turned kept numbers (Some made) false) (hv.kept refl)
-
-    -- the oldest record's turns are those of its blocks
-    oldest_home : turns_home shape.format (length (get_or waiting 0 [])) ≡ turns_home shape.format (length (get_or view.records 0 []))
+    -- the oldest record has as many blocks as numbers
+    oldest_home : length (get_or waiting 0 []) ≡ length (get_or view.records 0 [])
     oldest_home =
         let f : List Entry → List ℕ = λ r. numbers_of r in
-        ap (λ (k : ℕ). turns_home shape.format k)
-        (count_of (get_or waiting 0 []) (get_or view.records 0 [])
-        (ap (λ (l : List (List ℕ)). get_or l 0 []) hv.durable ∙ get_or-map f view.records 0 []))
+        count_of (get_or waiting 0 []) (get_or view.records 0 [])
+        (ap (λ (l : List (List ℕ)). get_or l 0 []) hv.durable ∙ get_or-map f view.records 0 [])
 
     -- the next call, by the count of the record under way
     next_is : (call : Call) → IsNextCall (layout_of shape.format) shape (head + length waiting) (entries_of numbers bytes) made call
@@ -240,7 +234,7 @@ module _ (ahead : Ahead) (shape : Shape) (sized : IsSized shape) (head : ℕ) (w
               next = hv.next;
               few = hv.few;
               sized = hv.sized;
-              kept = λ live. subst (λ (t : ℕ). IsRead shape.format head (oldest_of view) t kept) (sym turned_is) read;
+              firsts = hv.firsts;
               leaves = λ ours. guards_leave new.size (writing_log (made + 1)) view new (made + 1) needs fits sized hv.few (λ _. slots)
                   (λ all. omega (arith, one_left (L.early n) (L.parts n) late (made + 1) all, all_steps)) (g ours);
               stores = λ live. subst (λ (t : ℕ). Stores shape head view (steps (made + 1)) (made_of (writing_log (made + 1))) t new.content)
@@ -304,40 +298,40 @@ module _ (ahead : Ahead) (shape : Shape) (sized : IsSized shape) (head : ℕ) (w
       durable_log = value_at ahead shape head (waiting ++ numbers ∷ []) turned kept [] None false
 
       -- all is flushed
-      durable_held : (call : Call) → L.parts n ≤ written_of shape view made → IsOldest shape.format waiting turned → IsFlush call
+      durable_held : (call : Call) → L.parts n ≤ written_of shape view made → IsOldest waiting turned → IsFlush call
           → IsDone call old new → HoldsView durable_log new (with_record view)
       durable_held (Write place sector) all oldest is wrote = absurd is
       durable_held Flush all oldest is wrote =
           let after : ℕ = needed_at ahead head (head + length (waiting ++ numbers ∷ []))
-          (oldest_at shape.format (waiting ++ numbers ∷ []) turned) in
-          let then_done : ℕ = turned_at shape.format (waiting ++ numbers ∷ []) turned in
+          (oldest_at (waiting ++ numbers ∷ []) turned) in
+          let then_done : ℕ = turned_at (waiting ++ numbers ∷ []) turned in
           let needs_is = needed_of_is ahead shape head (waiting ++ numbers ∷ []) turned kept [] None false in
           let turned_is = turned_of_is ahead shape head (waiting ++ numbers ∷ []) turned kept [] None false in
           let fits : sectors_of shape ≤ new.size = omega (arith, same_size, hv.fits) in
           let longer : length (view.records ++ view.under_way ∷ []) ≡ length view.records + 1 =
           length-append view.records (view.under_way ∷ []) in
           let alone : length view.records ≡ 0
-          → (2 < oldest_at shape.format (waiting ++ numbers ∷ []) turned)
-          × (turned_at shape.format (waiting ++ numbers ∷ []) turned ≡ 0) =
-          λ none. oldest_alone shape.format waiting turned numbers rec.numbers_are.some oldest (omega (arith, none, many)) in
+          → (2 < oldest_at (waiting ++ numbers ∷ []) turned)
+          × (turned_at (waiting ++ numbers ∷ []) turned ≡ 0) =
+          λ none. oldest_alone waiting turned numbers rec.numbers_are.some oldest (omega (arith, none, many)) in
           let waits : 0 < length view.records
-          → (oldest_at shape.format (waiting ++ numbers ∷ []) turned ≡ left)
-          × (turned_at shape.format (waiting ++ numbers ∷ []) turned ≡ done) =
-          λ some. oldest_more shape.format waiting turned numbers (omega (arith, some, many)) in
+          → (oldest_at (waiting ++ numbers ∷ []) turned ≡ left)
+          × (turned_at (waiting ++ numbers ∷ []) turned ≡ done) =
+          λ some. oldest_more waiting turned numbers (omega (arith, some, many)) in
           let made_then : ℕ = made_of durable_log in
-          let stores : Stores shape head (with_record view) 0 made_then (turned_at shape.format (waiting ++ numbers ∷ []) turned)
+          let stores : Stores shape head (with_record view) 0 made_then (turned_at (waiting ++ numbers ∷ []) turned)
           new.content =
           Stores-rest (durable_stores shape sized head view (steps made) made done
-          (turned_at shape.format (waiting ++ numbers ∷ []) turned) new.content (omega (arith, below)) slots.under_way all
+          (turned_at (waiting ++ numbers ∷ []) turned) new.content (omega (arith, below)) slots.under_way all
           (λ none. (alone none).1) (λ some. (waits some).1)
           (Stores-stays shape sized head view (steps made) (steps made) made made done old.content new.content wrote.0
           (λ some. some) (omega arith) stored)) in
           let few_left : (after ≡ 1)
-          → (oldest_at shape.format (waiting ++ numbers ∷ []) turned ≡ 1) ⊎ (oldest_at shape.format (waiting ++ numbers ∷ []) turned ≡ 2) =
+          → (oldest_at (waiting ++ numbers ∷ []) turned ≡ 1) ⊎ (oldest_at (waiting ++ numbers ∷ []) turned ≡ 2) =
           λ one. ⊎_elim inl (λ two. inr two.0)
-          (needed_one ahead head (head + length (waiting ++ numbers ∷ [])) (oldest_at shape.format (waiting ++ numbers ∷ []) turned) one) in
+          (needed_one ahead head (head + length (waiting ++ numbers ∷ [])) (oldest_at (waiting ++ numbers ∷ []) turned) one) in
           let one_less : after ≡ 1
-          → (0 < length view.records) × ((needs ≡ 1) ⊎ (length (get_or view.records 0 []) ≤ homed_at shape.format done)) =
+          → (0 < length view.records) × ((needs ≡ 1) ⊎ (length (get_or view.records 0 []) ≤ done)) =
           λ one. elim (cases_eq (length view.records) 0) [
             | inl none ↦ absurd (⊎_elim (λ e. omega (arith, e, (alone none).0)) (λ e. omega (arith, e, (alone none).0)) (few_left one))
             | inr some ↦
@@ -345,8 +339,7 @@ module _ (ahead : Ahead) (shape : Shape) (sized : IsSized shape) (head : ℕ) (w
                   w,
                   ⊎_elim
                       (λ e. inl (ap (λ (l : ℕ). needed_at ahead head (head + length waiting) l) (sym (waits w).0 ∙ e)))
-                      (λ e. inr (all_home shape.format (length (get_or view.records 0 [])) done
-                      (omega (arith, e, (waits w).0, oldest_home)) (omega (arith, e, (waits w).0, oldest_home)))) (few_left one),
+                      (λ e. inr (omega (arith, e, (waits w).0, oldest_home))) (few_left one),
                 )
           ] in
           let guards : view.ours ≡ true → Shields shape head (with_record view) 0 made_then after new =
@@ -363,17 +356,7 @@ module _ (ahead : Ahead) (shape : Shape) (sized : IsSized shape) (head : ℕ) (w
             next = omega (arith, many, length-append waiting (numbers ∷ []), longer);
             few = omega (arith, many, room, longer);
             sized = λ j d none. absurd (omega (arith, none));
-            kept = λ live. subst (λ (t : ℕ). IsRead shape.format head (oldest_of (with_record view)) t kept) (sym turned_is)
-                (elim (cases_eq (length view.records) 0) [
-                  | inl none ↦
-                      subst (λ (t : ℕ). IsRead shape.format head (oldest_of (with_record view)) t kept) (sym (alone none).1)
-                      (none_read shape.format head _ kept)
-                  | inr some ↦
-                      let w : 0 < length view.records = omega (arith, some) in
-                      subst (λ (t : ℕ). IsRead shape.format head (oldest_of (with_record view)) t kept) (sym (waits w).1)
-                      (subst (λ (r : List Entry). IsRead shape.format head r done kept)
-                      (sym (oldest-append view.records view.under_way w)) read)
-                ]);
+            firsts = durable_kept shape.format view.records view.under_way kept hv.firsts (omega (arith, count, rec.numbers_are.some));
             leaves = λ ours. guards_leave new.size durable_log (with_record view) new made_then after fits sized
                 (omega (arith, many, room, longer))
                 (λ some. absurd (omega (arith, some))) (λ _. omega arith) (guards ours);
@@ -386,7 +369,7 @@ module _ (ahead : Ahead) (shape : Shape) (sized : IsSized shape) (head : ℕ) (w
           Stores-rest s = record { laid = s.laid; written = λ none. absurd (omega (arith, none)); copied = s.copied }
 
       -- after the last call they hold the one with the record
-      pub step_last : (call : Call) → steps_for shape.format (length numbers) ≤ made + 1 → IsOldest shape.format waiting turned
+      pub step_last : (call : Call) → steps_for shape.format (length numbers) ≤ made + 1 → IsOldest waiting turned
           → IsNextCall (layout_of shape.format) shape (head + length waiting) (entries_of numbers bytes) made call → IsDone call old new
           → HoldsView (value_at ahead shape head (waiting ++ numbers ∷ []) turned kept [] None false) new (with_record view)
       step_last call last oldest next wrote =

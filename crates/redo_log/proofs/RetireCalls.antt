@@ -1,91 +1,55 @@
 -- How many calls a retire step makes.
-use Rattle.std.proofs.Common.{◌≡◌, ⊎_elim, ℕ, zero, suc, ◌+◌, ◌-◌, ◌%◌, ◌<◌, ◌≤◌, List, [], ◌∷◌, length, refl, sym, ◌∙◌, ap, arith}
-use Rattle.std.specs.Prelude.{Bool, true, false, Option, if◌then◌else◌, ◌==◌}
-use Rattle.std.proofs.lemmas.Bool.{cases_eq, eq-eqb, ne_eqb}
-use Rattle.journal.specs.declared.log_format.LogFormat.{LogFormat}
-use Rattle.journal.specs.declared.log_format.LogFormat.TheVariants.{One, Two}
+use Rattle.std.proofs.Common.{◌≡◌, ℕ, zero, suc, ◌+◌, ◌-◌, ◌<◌, ◌≤◌, List, [], ◌∷◌, length, refl, sym, ◌∙◌, ap, arith}
+use Rattle.std.specs.Prelude.{Bool, Option}
 use Rattle.journal.specs.Places.{Shape}
 use Rattle.journal.proofs.Format1Laws.{below_is, above_is}
-use Rattle.redo_log.specs.Value.{LogValue, Ahead, turns_home, of_oldest, home_calls, turn_calls, next_calls, ahead_calls}
+use Rattle.redo_log.specs.Value.{AllFirsts, LogValue, Ahead, of_oldest, turn_calls, next_calls, ahead_calls}
 use Rattle.redo_log.specs.Stages.{value_at}
-use Rattle.redo_log.specs.Turns.{calls_of, IsLoadOf, IsCopyOf, IsFlushTurn, IsHeadTurn, IsHomeTurn, IsNextTurn}
+use Rattle.redo_log.specs.Turns.{calls_of, IsCopyOf, IsFlushTurn, IsHeadTurn, IsNextTurn}
 use Rattle.redo_log.specs.declared.turn.Turn.{Turn}
-use Rattle.redo_log.specs.declared.turn.Turn.TheVariants.{Load, Copy, Flush, Head}
-
-load_calls : (source : ℕ) (turn : Turn) → IsLoadOf source turn → calls_of turn ≡ 1
-load_calls source (Load from) is = refl
-load_calls source (Copy from to first) is = absurd is
-load_calls source Flush is = absurd is
-load_calls source (Head head) is = absurd is
+use Rattle.redo_log.specs.declared.turn.Turn.TheVariants.{Copy, Flush, Head}
 
 copy_calls : (source target : ℕ) (begins : Option (List ℕ)) (turn : Turn) → IsCopyOf source target begins turn → calls_of turn ≡ 2
-copy_calls source target begins (Load from) is = absurd is
 copy_calls source target begins (Copy from to first) is = refl
 copy_calls source target begins Flush is = absurd is
 copy_calls source target begins (Head head) is = absurd is
 
 flush_calls : (turn : Turn) → IsFlushTurn turn → calls_of turn ≡ 1
-flush_calls (Load from) is = absurd is
 flush_calls (Copy from to first) is = absurd is
 flush_calls Flush is = refl
 flush_calls (Head head) is = absurd is
 
 head_calls : (stamp : ℕ) (turn : Turn) → IsHeadTurn stamp turn → calls_of turn ≡ 2
-head_calls stamp (Load from) is = absurd is
 head_calls stamp (Copy from to first) is = absurd is
 head_calls stamp Flush is = absurd is
 head_calls stamp (Head head) is = refl
 
-home_two : (turned : ℕ) (b : Bool) → (turned % 31 == 0) ≡ b → home_calls Two turned ≡ (if b then 1 else 2)
-home_two turned b e = ap (λ (t : Bool). if t then 1 else 2) e
-
--- a turn that brings a block home, or reads a descriptor
-pub home_turn : (format : LogFormat) (shape : Shape) (stamp : ℕ) (numbers kept : List ℕ) (turned : ℕ) (turn : Turn)
-    → IsHomeTurn format shape stamp numbers kept turned turn → calls_of turn ≡ home_calls format turned
-home_turn One shape stamp numbers kept turned turn is = copy_calls _ _ _ turn is
-home_turn Two shape stamp numbers kept turned turn is = ⊎_elim
-    (λ (first : turned % 31 ≡ 0). load_calls _ turn (is.0 first) ∙ sym (home_two turned true (eq-eqb (turned % 31) 0 first)))
-    (λ (not : turned % 31 ≡ 0 → ⊥).
-    copy_calls _ _ _ turn (is.1 (some (turned % 31) not)) ∙ sym (home_two turned false (ne_eqb (turned % 31) 0 not)))
-    (cases_eq (turned % 31) 0)
-  where
-    some : (n : ℕ) → (n ≡ 0 → ⊥) → 0 < n
-    some zero not = absurd (not refl)
-    some (suc n) not = omega arith
-
 -- the next turn of a record makes as many calls as its step
-pub turn_costs : (shape : Shape) (stamp : ℕ) (numbers kept : List ℕ) (turned : ℕ) (turn : Turn)
-    → IsNextTurn shape stamp numbers kept turned turn → turned < turns_home shape.format (length numbers) + 2
-    → calls_of turn
-    ≡ turn_calls shape.format (turns_home shape.format (length numbers)) (turns_home shape.format (length numbers) + 2 - turned)
-turn_costs shape stamp numbers kept turned turn next below =
-    from (turns_home shape.format (length numbers)) (turns_home shape.format (length numbers) + 2 - turned) refl refl
+pub turn_costs : (shape : Shape) (stamp : ℕ) (numbers : List ℕ) (kept : AllFirsts) (turned : ℕ) (turn : Turn)
+    → IsNextTurn shape stamp numbers kept turned turn → turned < length numbers + 2
+    → calls_of turn ≡ turn_calls (length numbers + 2 - turned)
+turn_costs shape stamp numbers kept turned turn next below = from (length numbers + 2 - turned) refl
   where
-    from : (home left : ℕ) → home ≡ turns_home shape.format (length numbers) → left ≡ turns_home shape.format (length numbers) + 2 - turned
-        → calls_of turn ≡ turn_calls shape.format home left
-    from home zero home_is left_is = absurd (omega (arith, left_is, below))
-    from home (suc zero) home_is left_is = head_calls (stamp + 1) turn (next.head (omega (arith, left_is, below)))
-    from home (suc (suc zero)) home_is left_is = flush_calls turn (next.flush (omega (arith, left_is, below)))
-    from home (suc (suc (suc left))) home_is left_is =
-        home_turn shape.format shape stamp numbers kept turned turn (next.home (omega (arith, left_is, below)))
-        ∙ ap (λ (n : ℕ). home_calls shape.format n) (omega (arith, home_is, left_is, below))
+    from : (left : ℕ) → left ≡ length numbers + 2 - turned → calls_of turn ≡ turn_calls left
+    from zero left_is = absurd (omega (arith, left_is, below))
+    from (suc zero) left_is = head_calls (stamp + 1) turn (next.head (omega (arith, left_is, below)))
+    from (suc (suc zero)) left_is = flush_calls turn (next.flush (omega (arith, left_is, below)))
+    from (suc (suc (suc left))) left_is = copy_calls _ _ _ turn (next.home (omega (arith, left_is, below)))
 
 -- a log of which the oldest record has come so far makes as many by its next step
 pub step_costs : (log : LogValue) (ahead : Ahead) (shape : Shape) (head : ℕ) (waiting : List (List ℕ)) (turned : ℕ)
-    (kept under_way : List ℕ)
+    (kept : AllFirsts) (under_way : List ℕ)
     (made : Option ℕ) (dead : Bool) (numbers : List ℕ) (newer : List (List ℕ))
     → value_at ahead shape head waiting turned kept under_way made dead ≡ log
     → waiting ≡ numbers ∷ newer
-    → turn_calls shape.format (turns_home shape.format (length numbers)) (turns_home shape.format (length numbers) + 2 - turned)
-    ≡ next_calls log
+    → turn_calls (length numbers + 2 - turned) ≡ next_calls log
 step_costs log ahead shape head waiting turned kept under_way made dead numbers newer shown waits =
-    ap (λ (n : ℕ). turn_calls shape.format (turns_home shape.format (length numbers)) n) (omega arith)
+    ap (λ (n : ℕ). turn_calls n) (omega arith)
     ∙ ap (λ (l : List (List ℕ)). next_calls (value_at ahead shape head l turned kept under_way made dead)) (sym waits)
     ∙ ap (λ (v : LogValue). next_calls v) shown
 
 -- no turn makes more than two calls
 pub few_calls : (turn : Turn) → calls_of turn ≤ 2
-few_calls (Load from) = omega arith
 few_calls (Copy from to first) = omega arith
 few_calls Flush = omega arith
 few_calls (Head head) = omega arith
@@ -96,22 +60,23 @@ pub turn_refused : (turn : Turn) (count before after : ℕ) → calls_of turn �
 turn_refused turn count before after costs calls = (omega (arith, calls, few_calls turn), omega (arith, calls, costs))
 
 -- how many retire steps the oldest record itself still needs
-pub left_is : (log : LogValue) (ahead : Ahead) (shape : Shape) (head : ℕ) (waiting : List (List ℕ)) (turned : ℕ) (kept under_way : List ℕ)
+pub left_is : (log : LogValue) (ahead : Ahead) (shape : Shape) (head : ℕ) (waiting : List (List ℕ)) (turned : ℕ) (kept : AllFirsts)
+    (under_way : List ℕ)
     (made : Option ℕ) (dead : Bool) (numbers : List ℕ) (newer : List (List ℕ))
     → value_at ahead shape head waiting turned kept under_way made dead ≡ log
-    → waiting ≡ numbers ∷ newer → of_oldest log ≡ turns_home shape.format (length numbers) + 2 - turned
+    → waiting ≡ numbers ∷ newer → of_oldest log ≡ length numbers + 2 - turned
 left_is log ahead shape head waiting turned kept under_way made dead numbers newer shown waits =
     sym (ap (λ (v : LogValue). of_oldest v) shown)
     ∙ (ap (λ (l : List (List ℕ)). of_oldest (value_at ahead shape head l turned kept under_way made dead)) waits
     ∙ of_first)
   where
     of_first : of_oldest (value_at ahead shape head (numbers ∷ newer) turned kept under_way made dead)
-        ≡ turns_home shape.format (length numbers) + 2 - turned
+        ≡ length numbers + 2 - turned
     of_first = omega arith
 
 -- none where none waits
 pub none_left : (log : LogValue) (ahead : Ahead) (shape : Shape) (head : ℕ) (waiting : List (List ℕ)) (turned : ℕ)
-    (kept under_way : List ℕ) (made : Option ℕ) (dead : Bool)
+    (kept : AllFirsts) (under_way : List ℕ) (made : Option ℕ) (dead : Bool)
     → value_at ahead shape head waiting turned kept under_way made dead ≡ log
     → waiting ≡ [] → of_oldest log ≡ 0
 none_left log ahead shape head waiting turned kept under_way made dead shown waits =

@@ -1,13 +1,13 @@
 -- Each turn that retires the oldest durable record: what the log and its medium hold after it.
 use Rattle.std.proofs.Common.{◌≡◌, ◌≢◌, ◌⊎◌, inl, inr, ⊎_elim, ℕ, ◌+◌, ◌-◌, ◌<◌, ◌≤◌, List, [], ◌∷◌, length, get_or, drop, refl, ◌∙◌}
 use Rattle.std.proofs.Common.{ap, subst, arith}
-use Rattle.std.specs.Prelude.{All, replicate, true, false, Option, Some, None}
+use Rattle.std.specs.Prelude.{All, true, false, Option, Some, None}
 use Rattle.std.proofs.lemmas.Bool.{cases_eq, cases_lt}
 use Rattle.std.proofs.lemmas.List.{length-map}
 use Rattle.std.proofs.Math.ListN.{get_or-map}
 use Rattle.medium.specs.Medium.{State, Image, Holds, Gains, IsSound}
 use Rattle.medium.specs.Moments.{LeavesOnly}
-use Rattle.medium.proofs.Moments.{quiet_leaves, shrunk}
+use Rattle.medium.proofs.Moments.{quiet_leaves}
 use Rattle.journal.specs.declared.head.Head.{Head as HeadOf}
 use Rattle.journal.specs.Places.{Shape}
 use Rattle.journal.specs.Sectors.{IsRising}
@@ -16,18 +16,18 @@ use Rattle.journal.specs.Layout.{Layout}
 use Rattle.journal.specs.Formats.{layout_of, IsWhole}
 use Rattle.journal.specs.Staged.{HasSlots}
 use Rattle.redo_log.specs.declared.turn.Turn.{Turn}
-use Rattle.redo_log.specs.declared.turn.Turn.TheVariants.{Load, Copy, Flush, Head}
-use Rattle.redo_log.specs.Value.{LogValue, Ahead, steps_for, turns_home, of_oldest}
-use Rattle.redo_log.specs.Stages.{value_at, steps_at, begun_at, homed_at, needed_at, AreInside, IsRecord, IsRead, IsSized}
+use Rattle.redo_log.specs.declared.turn.Turn.TheVariants.{Copy, Flush, Head}
+use Rattle.redo_log.specs.Value.{AllFirsts, LogValue, Ahead, steps_for, of_oldest}
+use Rattle.redo_log.specs.Stages.{value_at, steps_at, begun_at, needed_at, AreInside, IsRecord, IsSized}
 use Rattle.redo_log.specs.Calls.{gaining}
-use Rattle.redo_log.specs.Turns.{begun_with, head_bytes, kept_by, MayTurn, IsTurned, IsNextTurn, IsFlushTurn, IsHeadTurn}
+use Rattle.redo_log.specs.Turns.{begun_with, head_bytes, MayTurn, IsTurned, IsNextTurn, IsFlushTurn, IsHeadTurn}
 use Rattle.redo_log.specs.Held.{View, view_retired, image_view, written_of, made_of, turned_of, MayLeave, Stores, Safe, Guards, HoldsView}
 use Rattle.redo_log.specs.Held.{with_head, Shields}
 use Rattle.redo_log.proofs.OneSector.{moments_have}
 use Rattle.redo_log.proofs.BatchRecord.{count_of, record_entries}
-use Rattle.redo_log.proofs.RecordSteps.{steps_are, one_left, all_home}
+use Rattle.redo_log.proofs.RecordSteps.{steps_are, one_left}
 use Rattle.redo_log.proofs.CoveredRecord.{needed_one}
-use Rattle.redo_log.proofs.Heads.{head_sound, head_only, head_within, head_gains, heads_home, heads_quiet}
+use Rattle.redo_log.proofs.Heads.{head_sound, head_only, head_gains, heads_home}
 use Rattle.redo_log.proofs.Heads.{heads_flush, one_head}
 use Rattle.redo_log.proofs.LoggedImage.{Logged-records}
 use Rattle.redo_log.proofs.PassedHead.{ahead_guards, ahead_heads}
@@ -37,27 +37,28 @@ use Rattle.redo_log.proofs.GuardedCalls.{past_records}
 use Rattle.redo_log.proofs.OldestRecord.{of_oldest_is, turned_of_is, needed_of_is}
 use Rattle.redo_log.proofs.GuardedCuts.{leave_of}
 use Rattle.redo_log.proofs.TurnPremises.{needs_then, needs_more, still_held, passed_held}
-use Rattle.redo_log.proofs.CopiedTurns.{BringsHome, new_head, all_read, brings_home}
+use Rattle.redo_log.proofs.CopiedTurns.{BringsHome, new_head, brings_home}
+use Rattle.redo_log.proofs.KeptFirsts.{kept_is}
 use Rattle.journal.proofs.Formats.{laws_of}
 
 module _ (ahead : Ahead) (shape : Shape) (sized : IsSized shape) (head : ℕ) (numbers : List ℕ) (newer : List (List ℕ)) (turned : ℕ)
-    (kept under_way : List ℕ) (writing : Option ℕ) (past : ahead.home ≤ head)
-    (away : turned < turns_home shape.format (length numbers) → ahead.home ≢ head) (view : View)
+    (kept : AllFirsts) (under_way : List ℕ) (writing : Option ℕ) (past : ahead.home ≤ head)
+    (away : turned < length numbers → ahead.home ≢ head) (view : View)
     (each : All (AreInside shape) (numbers ∷ newer))
     (fits_slots : length (numbers ∷ newer) + begun_at writing ≤ shape.slots)
-    (so_far : turned < turns_home shape.format (length numbers) + 2)
+    (so_far : turned < length numbers + 2)
     (under : (made : ℕ) → writing ≡ Some made
     → IsRecord shape (head + length (numbers ∷ newer)) under_way × (made < steps_for shape.format (length under_way))) where
   abbrev L : Layout
   L = layout_of shape.format
 
   -- a log whose oldest record has come so far
-  abbrev pub waiting_log : ℕ → List ℕ → LogValue
-  waiting_log t k = value_at ahead shape head (numbers ∷ newer) t k under_way writing false
+  abbrev pub waiting_log : ℕ → LogValue
+  waiting_log t = value_at ahead shape head (numbers ∷ newer) t kept under_way writing false
 
   -- where so much was done ahead
-  abbrev pub sent_log : Ahead → ℕ → List ℕ → LogValue
-  sent_log sent t k = value_at sent shape head (numbers ∷ newer) t k under_way writing false
+  abbrev pub sent_log : Ahead → ℕ → LogValue
+  sent_log sent t = value_at sent shape head (numbers ∷ newer) t kept under_way writing false
 
   -- how many steps the record under way needs, and how many calls of it are made
   abbrev steps : ℕ
@@ -67,16 +68,16 @@ module _ (ahead : Ahead) (shape : Shape) (sized : IsSized shape) (head : ℕ) (n
   made = made_of (value_at ahead shape head (numbers ∷ newer) turned kept under_way writing false)
 
   abbrev left : ℕ → ℕ
-  left t = turns_home shape.format (length numbers) + 2 - t
+  left t = length numbers + 2 - t
 
   -- how many it needs, where a flush that covers its blocks counts
   abbrev needs : Ahead → ℕ → ℕ
-  needs sent t = needed_at sent head (head + length (numbers ∷ newer)) (turns_home shape.format (length numbers) + 2 - t)
+  needs sent t = needed_at sent head (head + length (numbers ∷ newer)) (length numbers + 2 - t)
 
   -- a record whose blocks went home by retire steps needs its flush
-  not_covered : turned < turns_home shape.format (length numbers) → needs ahead (turned + 1) ≢ 1
+  not_covered : turned < length numbers → needs ahead (turned + 1) ≢ 1
   not_covered below one = ⊎_elim (λ e. omega (arith, e, below)) (λ covered. away below covered.1)
-      (needed_one ahead head (head + length (numbers ∷ newer)) (turns_home shape.format (length numbers) + 2 - (turned + 1)) one)
+      (needed_one ahead head (head + length (numbers ∷ newer)) (length numbers + 2 - (turned + 1)) one)
 
   first : AreInside shape numbers
   first = each 0 [] (omega arith)
@@ -88,7 +89,7 @@ module _ (ahead : Ahead) (shape : Shape) (sized : IsSized shape) (head : ℕ) (n
   begun_or_not None is = inl refl
   begun_or_not (Some m) is = inr (m, is, refl)
 
-  module _ (old : State) (sound : IsSound old) (hv : HoldsView (waiting_log turned kept) old view) where
+  module _ (old : State) (sound : IsSound old) (hv : HoldsView (waiting_log turned) old view) where
     many : length newer + 1 ≡ length view.records
     many =
         let f : List Entry → List ℕ = λ r. numbers_of r in
@@ -104,9 +105,6 @@ module _ (ahead : Ahead) (shape : Shape) (sized : IsSized shape) (head : ℕ) (n
 
     count : length numbers ≡ length (get_or view.records 0 [])
     count = count_of numbers (get_or view.records 0 []) numbers_are
-
-    home_is : turns_home shape.format (length numbers) ≡ turns_home shape.format (length (get_or view.records 0 []))
-    home_is = ap (λ (k : ℕ). turns_home shape.format k) count
 
     under_count : length under_way ≡ length view.under_way
     under_count = count_of under_way view.under_way hv.under_way
@@ -149,7 +147,7 @@ module _ (ahead : Ahead) (shape : Shape) (sized : IsSized shape) (head : ℕ) (n
           omega (arith, begun.2, all_steps, one)
     ]
 
-    turned_is : turned_of (waiting_log turned kept) ≡ turned
+    turned_is : turned_of (waiting_log turned) ≡ turned
     turned_is = turned_of_is ahead shape head (numbers ∷ newer) turned kept under_way writing false ∙ (omega (arith, so_far))
 
     stored : Stores shape head view steps made turned old.content
@@ -160,30 +158,28 @@ module _ (ahead : Ahead) (shape : Shape) (sized : IsSized shape) (head : ℕ) (n
         subst (λ (r : ℕ). Shields shape head view steps made r old)
         (needed_of_is ahead shape head (numbers ∷ newer) turned kept under_way writing false) (hv.guards refl ours)
 
-    read : IsRead shape.format head (get_or view.records 0 []) turned kept
-    read = subst (λ (t : ℕ). IsRead shape.format head (get_or view.records 0 []) t kept) turned_is (hv.kept refl)
-
     whole : IsWhole shape old.content head (get_or view.records 0 [])
     whole =
         let none : head + 0 ≡ head = omega arith in
         subst (λ (s : ℕ). IsWhole shape old.content s (get_or view.records 0 [])) none (stored.laid.whole 0 waits)
 
     -- what the next turn does, where not all is home
-    brings : (turn : Turn) → turned < turns_home shape.format (length numbers) → IsNextTurn shape head numbers kept turned turn
-        → BringsHome shape.format shape old.content head (get_or view.records 0 []) turned kept turn
+    brings : (turn : Turn) → turned < length numbers → IsNextTurn shape head numbers kept turned turn
+        → BringsHome shape old.content (get_or view.records 0 []) turned turn
     brings turn below next =
-        brings_home shape old.content head (get_or view.records 0 []) numbers numbers_are shape.format turned kept turn whole
-        (omega (arith, below, home_is)) read (next.home below)
+        let inside : turned < length (get_or view.records 0 []) = omega (arith, below, count) in
+        brings_home shape old.content head (get_or view.records 0 []) numbers numbers_are whole turned inside _
+        (kept_is shape.format view.records view.under_way kept hv.firsts 0 turned waits inside) turn (next.home below)
 
     -- with the record under way or without it a cut may leave the image
-    safe_leaves : (image : Image) → Safe shape head view steps made image → MayLeave old.size (waiting_log turned kept) view image
+    safe_leaves : (image : Image) → Safe shape head view steps made image → MayLeave old.size (waiting_log turned) view image
     safe_leaves image safe = ⊎_elim
         (λ rest. inl (Logged-records old.size shape head view.records view.array image hv.fits rest))
         (λ both. inr (inl (both.0, short both.1, Logged-records old.size shape head _ _ image hv.fits both.2)))
         (safe_either shape sized head view steps made image slots hv.few safe)
 
     -- the oldest record is flushed at home, and the one head is there
-    one_now : turned ≡ turns_home shape.format (length numbers) + 1 → view.ours ≡ true → Guards shape head view steps made 1 old
+    one_now : turned ≡ length numbers + 1 → view.ours ≡ true → Guards shape head view steps made 1 old
     one_now last ours =
         let one : left turned ≡ 1 = omega (arith, last) in
         let needs_one : needs ahead turned ≡ 1 = ap (λ (l : ℕ). needed_at ahead head (head + length (numbers ∷ newer)) l) one in
@@ -191,51 +187,47 @@ module _ (ahead : Ahead) (shape : Shape) (sized : IsSized shape) (head : ℕ) (n
 
     module _ (new : State) where
       -- a record that still waits
-      held : (sent : Ahead) (same_size : new.size ≡ old.size) (t : ℕ) (k : List ℕ) → t < turns_home shape.format (length numbers) + 2
-          → IsRead shape.format head (get_or view.records 0 []) t k → Stores shape head view steps made t new.content
-          → (view.ours ≡ true → Shields shape head view steps made (needs sent t) new) → HoldsView (sent_log sent t k) new view
-      held sent same_size t k below r s g =
-          still_held ahead shape sized head numbers newer turned kept under_way writing view old hv slots short new same_size sent t k
-          below r s g
+      held : (sent : Ahead) (same_size : new.size ≡ old.size) (t : ℕ) → t < length numbers + 2
+          → Stores shape head view steps made t new.content
+          → (view.ours ≡ true → Shields shape head view steps made (needs sent t) new) → HoldsView (sent_log sent t) new view
+      held sent same_size t below s g =
+          still_held ahead shape sized head numbers newer turned kept under_way writing view old hv slots short new same_size sent t
+          below s g
 
       -- a turn before the flush
-      home_leaves : (turn : Turn) → BringsHome shape.format shape old.content head (get_or view.records 0 []) turned kept turn
-          → MayTurn turn old new → view.ours ≡ true → LeavesOnly (MayLeave old.size (waiting_log turned kept) view) old new
-      home_leaves (Load from) does adds ours =
-          quiet_leaves (MayLeave old.size (waiting_log turned kept) view) old new sound (hv.leaves ours) adds
+      home_leaves : (turn : Turn) → BringsHome shape old.content (get_or view.records 0 []) turned turn
+          → MayTurn turn old new → view.ours ≡ true → LeavesOnly (MayLeave old.size (waiting_log turned) view) old new
       home_leaves (Copy from to begin) does adds ours =
           let bytes : List ℕ = begun_with begin (old.content from) in
           let gained : State = record old { may_leave = gaining to (begun_with begin (old.content from)) old.may_leave } in
-          moments_have (MayLeave old.size (waiting_log turned kept) view) to (begun_with begin (old.content from)) old new adds
-          (leave_of old.size (waiting_log turned kept) view gained (needs ahead turned) hv.fits sized (Safe shape head view steps made)
+          moments_have (MayLeave old.size (waiting_log turned) view) to (begun_with begin (old.content from)) old new adds
+          (leave_of old.size (waiting_log turned) view gained (needs ahead turned) hv.fits sized (Safe shape head view steps made)
           (heads_home shape sized head view old gained to (begun_with begin (old.content from)) (needs ahead turned) (needs ahead turned)
-          (homed_at shape.format turned) sound waits does.below does.at refl (λ s c left. left) (λ not. not) (guarded ours).heads)
+          turned sound waits does.below does.at refl (λ s c left. left) (λ not. not) (guarded ours).heads)
           (home_each shape sized head view (with_head old) (with_head gained) (head_sound old sound) steps made slots to
           (begun_with begin (old.content from)) (head_gains old gained to (begun_with begin (old.content from)) refl (λ s c left. left))
-          (homed_at shape.format turned) waits does.below does.at (guarded ours).guards.each)
+          turned waits does.below does.at (guarded ours).guards.each)
           (λ image safe. ⊎_elim inl (λ both. inr (both.0, short both.1, both.2))
           (safe_either shape sized head view steps made image slots hv.few safe)))
       home_leaves Flush does adds ours = absurd does
       home_leaves (Head h) does adds ours = absurd does
 
       flush_leaves : (turn : Turn) → IsFlushTurn turn → MayTurn turn old new → view.ours ≡ true
-          → LeavesOnly (MayLeave old.size (waiting_log turned kept) view) old new
-      flush_leaves (Load from) is adds ours = absurd is
+          → LeavesOnly (MayLeave old.size (waiting_log turned) view) old new
       flush_leaves (Copy from to begin) is adds ours = absurd is
-      flush_leaves Flush is adds ours = quiet_leaves (MayLeave old.size (waiting_log turned kept) view) old new sound (hv.leaves ours) adds
+      flush_leaves Flush is adds ours = quiet_leaves (MayLeave old.size (waiting_log turned) view) old new sound (hv.leaves ours) adds
       flush_leaves (Head h) is adds ours = absurd is
 
-      head_leaves : (turn : Turn) → turned ≡ turns_home shape.format (length numbers) + 1 → IsHeadTurn (head + 1) turn
-          → MayTurn turn old new → view.ours ≡ true → LeavesOnly (MayLeave old.size (waiting_log turned kept) view) old new
-      head_leaves (Load from) last is adds ours = absurd is
+      head_leaves : (turn : Turn) → turned ≡ length numbers + 1 → IsHeadTurn (head + 1) turn
+          → MayTurn turn old new → view.ours ≡ true → LeavesOnly (MayLeave old.size (waiting_log turned) view) old new
       head_leaves (Copy from to begin) last is adds ours = absurd is
       head_leaves Flush last is adds ours = absurd is
       head_leaves (Head h) last is adds ours =
           let gained : State = record old { may_leave = gaining 1 (head_bytes h.stamp) old.may_leave } in
           let one : left turned ≡ 1 = omega (arith, last) in
-          let last_one : of_oldest (waiting_log turned kept) ≡ 1 =
+          let last_one : of_oldest (waiting_log turned) ≡ 1 =
           of_oldest_is ahead shape head (numbers ∷ newer) turned kept under_way writing false ∙ one in
-          moments_have (MayLeave old.size (waiting_log turned kept) view) 1 (head_bytes h.stamp) old new adds
+          moments_have (MayLeave old.size (waiting_log turned) view) 1 (head_bytes h.stamp) old new adds
           (λ image cut. ⊎_elim (safe_leaves image)
           (λ past. ⊎_elim
           (λ rest. inr (inr (
@@ -253,39 +245,25 @@ module _ (ahead : Ahead) (shape : Shape) (sized : IsSized shape) (head : ℕ) (n
 
       -- at each moment of the next turn a cut leaves what it might leave before, and with the new head the same array
       pub turn_leaves : (turn : Turn) → IsNextTurn shape head numbers kept turned turn → MayTurn turn old new → view.ours ≡ true
-          → LeavesOnly (MayLeave old.size (waiting_log turned kept) view) old new
-      turn_leaves turn next adds ours = elim (cases_lt turned (turns_home shape.format (length numbers))) [
+          → LeavesOnly (MayLeave old.size (waiting_log turned) view) old new
+      turn_leaves turn next adds ours = elim (cases_lt turned (length numbers)) [
         | inl below ↦ home_leaves turn (brings turn below next) adds ours
-        | inr all ↦ elim (cases_eq turned (turns_home shape.format (length numbers))) [
+        | inr all ↦ elim (cases_eq turned (length numbers)) [
           | inl is ↦ flush_leaves turn (next.flush is) adds ours
           | inr not ↦
-              let last : turned ≡ turns_home shape.format (length numbers) + 1 = omega (arith, all, not, so_far) in
+              let last : turned ≡ length numbers + 1 = omega (arith, all, not, so_far) in
               head_leaves turn last (next.head last) adds ours
         ]
       ]
 
       module _ (same_size : new.size ≡ old.size) where
-        home_held : (sent : Ahead) → needs sent (turned + 1) ≢ 1 → (turn : Turn) → turned < turns_home shape.format (length numbers)
-            → BringsHome shape.format shape old.content head (get_or view.records 0 []) turned kept turn → MayTurn turn old new
-            → IsTurned turn old new → HoldsView (sent_log sent (turned + 1) (kept_by turn old kept)) new view
-        home_held sent not (Load from) below does adds wrote =
-            held sent same_size (turned + 1) (old.content from) (omega (arith, below)) does.1
-            (Stores-turned shape sized head view steps made turned (turned + 1) new.content (λ i low high. omega (arith, low, does.0))
-            (Stores-stays shape sized head view steps steps made made turned old.content new.content wrote (λ some. some)
-            (omega arith) stored))
-            (λ ours. record {
-              guards = record {
-                each = shrunk (Safe shape head view steps made) (with_head old) (with_head new)
-                    (head_within old new (adds.content_stays 1) adds.sets_shrink) (guarded ours).guards.each;
-                homed = λ e. absurd (not e);
-              };
-              heads = heads_quiet shape head view old new (needs ahead turned) (needs sent (turned + 1)) (adds.content_stays 1)
-                  adds.sets_shrink (λ _. not) (guarded ours).heads;
-            })
+        home_held : (sent : Ahead) → needs sent (turned + 1) ≢ 1 → (turn : Turn) → turned < length numbers
+            → BringsHome shape old.content (get_or view.records 0 []) turned turn → MayTurn turn old new
+            → IsTurned turn old new → HoldsView (sent_log sent (turned + 1)) new view
         home_held sent not (Copy from to begin) below does adds wrote =
-            held sent same_size (turned + 1) kept (omega (arith, below)) does.read
+            held sent same_size (turned + 1) (omega (arith, below))
             (home_stores shape sized head view steps made turned old.content new.content to (begun_with begin (old.content from)) wrote
-            (homed_at shape.format turned) few_under_way waits rising refl does.more does.below does.at does.bytes stored)
+            few_under_way waits rising does.below does.at does.bytes stored)
             (λ ours.
             let same : new.content 1 ≡ old.content 1 = wrote.elsewhere 1 (λ e. omega (arith, e, does.at, sized.behind)) in
             record {
@@ -293,75 +271,69 @@ module _ (ahead : Ahead) (shape : Shape) (sized : IsSized shape) (head : ℕ) (n
                 each = home_each shape sized head view (with_head old) (with_head new) (head_sound old sound) steps made slots to
                     (begun_with begin (old.content from))
                     (head_gains old new to (begun_with begin (old.content from)) same adds.sets)
-                    (homed_at shape.format turned) waits does.below does.at (guarded ours).guards.each;
+                    turned waits does.below does.at (guarded ours).guards.each;
                 homed = λ e. absurd (not e);
               };
               heads = heads_home shape sized head view old new to (begun_with begin (old.content from)) (needs ahead turned)
-                  (needs sent (turned + 1)) (homed_at shape.format turned) sound waits does.below does.at same adds.sets (λ _. not)
+                  (needs sent (turned + 1)) turned sound waits does.below does.at same adds.sets (λ _. not)
                   (guarded ours).heads;
             })
         home_held sent not Flush below does adds wrote = absurd does
         home_held sent not (Head h) below does adds wrote = absurd does
 
         -- after a turn ahead too
-        pub sent_held : (sent : Ahead) → needs sent (turned + 1) ≢ 1 → (turn : Turn) → turned < turns_home shape.format (length numbers)
+        pub sent_held : (sent : Ahead) → needs sent (turned + 1) ≢ 1 → (turn : Turn) → turned < length numbers
             → IsNextTurn shape head numbers kept turned turn → MayTurn turn old new → IsTurned turn old new
-            → HoldsView (sent_log sent (turned + 1) (kept_by turn old kept)) new view
+            → HoldsView (sent_log sent (turned + 1)) new view
         sent_held sent not turn below next adds wrote = home_held sent not turn below (brings turn below next) adds wrote
 
         -- the blocks are flushed at home
-        flush_held : (turn : Turn) → turned ≡ turns_home shape.format (length numbers) → IsFlushTurn turn → IsTurned turn old new
-            → HoldsView (waiting_log (turned + 1) (kept_by turn old kept)) new view
-        flush_held (Load from) all is wrote = absurd is
+        flush_held : (turn : Turn) → turned ≡ length numbers → IsFlushTurn turn → IsTurned turn old new
+            → HoldsView (waiting_log (turned + 1)) new view
         flush_held (Copy from to begin) all is wrote = absurd is
         flush_held Flush all is wrote =
             let s = Stores-stays shape sized head view steps steps made made turned old.content new.content wrote.0 (λ some. some)
             (omega arith) stored in
-            let there : length (get_or view.records 0 []) ≤ homed_at shape.format turned =
-            all_home shape.format (length (get_or view.records 0 [])) turned (omega (arith, all, home_is))
-            (omega (arith, so_far, home_is)) in
-            held ahead same_size (turned + 1) kept (omega (arith, all))
-            (all_read shape.format head (get_or view.records 0 []) (turned + 1) kept (omega (arith, all, home_is)))
+            let there : length (get_or view.records 0 []) ≤ turned = omega (arith, all, count) in
+            held ahead same_size (turned + 1) (omega (arith, all))
             (Stores-turned shape sized head view steps made turned (turned + 1) new.content (λ i low high. omega (arith, high, there))
             s)
             (λ ours. record {
               guards = homed_guards shape sized head view (with_head old) (with_head new) (head_sound old sound) steps made
-                  (needs ahead turned) (needs ahead (turned + 1)) (homed_at shape.format turned)
+                  (needs ahead turned) (needs ahead (turned + 1)) turned
                   (head_only old.content new (wrote.0 1) wrote.1) there stored.copied (guarded ours).guards;
               heads = heads_flush shape head view old.content new (needs ahead (turned + 1)) (wrote.0 1) wrote.1;
             })
         flush_held (Head h) all is wrote = absurd is
 
         -- after a turn that is not the last the log and its medium hold the same view
-        pub turn_held : (turn : Turn) → turned ≤ turns_home shape.format (length numbers) → IsNextTurn shape head numbers kept turned turn
-            → MayTurn turn old new → IsTurned turn old new → HoldsView (waiting_log (turned + 1) (kept_by turn old kept)) new view
-        turn_held turn more next adds wrote = elim (cases_lt turned (turns_home shape.format (length numbers))) [
+        pub turn_held : (turn : Turn) → turned ≤ length numbers → IsNextTurn shape head numbers kept turned turn
+            → MayTurn turn old new → IsTurned turn old new → HoldsView (waiting_log (turned + 1)) new view
+        turn_held turn more next adds wrote = elim (cases_lt turned (length numbers)) [
           | inl below ↦ home_held ahead (not_covered below) turn below (brings turn below next) adds wrote
           | inr all ↦
-              let is : turned ≡ turns_home shape.format (length numbers) = omega (arith, all, more) in
+              let is : turned ≡ length numbers = omega (arith, all, more) in
               flush_held turn is (next.flush is) wrote
         ]
 
         -- the log after the last turn, with one record less
-        abbrev retired_log : List ℕ → LogValue
-        retired_log k = value_at ahead shape (head + 1) newer 0 k under_way writing false
+        abbrev retired_log : LogValue
+        retired_log = value_at ahead shape (head + 1) newer 0 (drop 1 kept) under_way writing false
 
         -- the head goes past the record
-        past_held : (bytes : List ℕ) → turned ≡ turns_home shape.format (length numbers) + 1 → Holds 1 bytes old.content new.content
+        past_held : (bytes : List ℕ) → turned ≡ length numbers + 1 → Holds 1 bytes old.content new.content
             → (view.ours ≡ true → Shields shape (head + 1) (view_retired 1 view) steps made (needs_then ahead shape head newer) new)
-            → HoldsView (retired_log (replicate 512 0)) new (view_retired 1 view)
+            → HoldsView retired_log new (view_retired 1 view)
         past_held bytes last wrote guards =
             passed_held ahead shape sized head numbers newer turned kept under_way writing view old hv slots short new same_size stored
-            (all_home shape.format (length (get_or view.records 0 [])) turned (omega (arith, last, home_is))
-            (omega (arith, so_far, home_is))) bytes wrote guards
+            (omega (arith, last, count)) bytes wrote guards
 
         abbrev after : ℕ
         after = needs_then ahead shape head newer
 
         -- it is flushed
-        head_held : (turn : Turn) → turned ≡ turns_home shape.format (length numbers) + 1 → IsHeadTurn (head + 1) turn
-            → MayTurn turn old new → IsTurned turn old new → HoldsView (retired_log (replicate 512 0)) new (view_retired 1 view)
-        head_held (Load from) last is adds wrote = absurd is
+        head_held : (turn : Turn) → turned ≡ length numbers + 1 → IsHeadTurn (head + 1) turn
+            → MayTurn turn old new → IsTurned turn old new → HoldsView retired_log new (view_retired 1 view)
         head_held (Copy from to begin) last is adds wrote = absurd is
         head_held Flush last is adds wrote = absurd is
         head_held (Head h) last is adds wrote = past_held (head_bytes h.stamp) last wrote.0 (λ ours. record {
@@ -372,10 +344,10 @@ module _ (ahead : Ahead) (shape : Shape) (sized : IsSized shape) (head : ℕ) (n
         })
 
         -- it is not flushed yet, and a slot is free besides the one that is passed
-        pub ahead_held : (h : HeadOf) → h.stamp ≡ head + 1 → turned ≡ turns_home shape.format (length numbers) + 1
+        pub ahead_held : (h : HeadOf) → h.stamp ≡ head + 1 → turned ≡ length numbers + 1
             → length (numbers ∷ newer) + begun_at writing < shape.slots → Gains 1 (head_bytes h.stamp) old.may_leave new.may_leave
             → Holds 1 (head_bytes h.stamp) old.content new.content
-            → HoldsView (value_at ahead shape (head + 1) newer 0 (replicate 512 0) under_way writing false) new (view_retired 1 view)
+            → HoldsView (value_at ahead shape (head + 1) newer 0 (drop 1 kept) under_way writing false) new (view_retired 1 view)
         ahead_held h is last besides gains wrote =
             let fewer : length view.records ≡ length (drop 1 view.records) + 1 = drop-length view.records waits in
             past_held (head_bytes h.stamp) last wrote (λ ours. record {
@@ -388,9 +360,9 @@ module _ (ahead : Ahead) (shape : Shape) (sized : IsSized shape) (head : ℕ) (n
             })
 
         -- after the last turn they hold the one without the record
-        pub turn_last : (turn : Turn) → turns_home shape.format (length numbers) < turned → IsNextTurn shape head numbers kept turned turn
+        pub turn_last : (turn : Turn) → length numbers < turned → IsNextTurn shape head numbers kept turned turn
             → MayTurn turn old new → IsTurned turn old new
-            → HoldsView (value_at ahead shape (head + 1) newer 0 (replicate 512 0) under_way writing false) new (view_retired 1 view)
+            → HoldsView (value_at ahead shape (head + 1) newer 0 (drop 1 kept) under_way writing false) new (view_retired 1 view)
         turn_last turn past next adds wrote =
-            let last : turned ≡ turns_home shape.format (length numbers) + 1 = omega (arith, past, so_far) in
+            let last : turned ≡ length numbers + 1 = omega (arith, past, so_far) in
             head_held turn last (next.head last) adds wrote

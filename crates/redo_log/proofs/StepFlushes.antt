@@ -1,8 +1,8 @@
 -- How many flushes a step of a log makes.
-use Rattle.std.proofs.Common.{◌≡◌, ◌≢◌, ◌⊎◌, inl, inr, ⊎_elim, ℕ, zero, suc, ◌+◌, ◌*◌, ◌%◌, ◌<◌, ◌≤◌, List, length, refl}
+use Rattle.std.proofs.Common.{◌≡◌, ◌≢◌, ◌⊎◌, inl, inr, ⊎_elim, ℕ, zero, suc, ◌+◌, ◌*◌, ◌<◌, ◌≤◌, List, length, refl}
 use Rattle.std.proofs.Common.{sym, ◌∙◌, ap, arith, Result}
 use Rattle.std.specs.Prelude.{Option}
-use Rattle.std.proofs.lemmas.Bool.{cases_eq, cases_lt, ne_eqb}
+use Rattle.std.proofs.lemmas.Bool.{cases_lt, ne_eqb}
 use Rattle.medium.specs.Medium.{State, Passes}
 use Rattle.medium.specs.declared.fault.MediumFault.{MediumFault}
 use Rattle.medium.specs.declared.fault.MediumFault.TheVariants as fault
@@ -14,9 +14,9 @@ use Rattle.journal.specs.Record.{entries_of}
 use Rattle.journal.specs.Formats.{layout_of}
 use Rattle.redo_log.specs.Calls.{Call, Write, Flush, fault_of, IsFlush, IsWriteOf, IsFlushDue, IsNextCall}
 use Rattle.redo_log.specs.Flushes.{step_flushes, turn_flushes}
-use Rattle.redo_log.specs.Value.{steps_for, turns_home}
+use Rattle.redo_log.specs.Value.{AllFirsts, steps_for}
 use Rattle.redo_log.specs.Stages.{written_at}
-use Rattle.redo_log.specs.Turns.{flushes_of, IsFlushTurn, IsHeadTurn, IsHomeTurn, IsLoadOf, IsCopyOf, IsNextTurn}
+use Rattle.redo_log.specs.Turns.{flushes_of, IsFlushTurn, IsHeadTurn, IsHomeTurn, IsCopyOf, IsNextTurn}
 use Rattle.redo_log.specs.declared.turn.Turn.{Turn}
 use Rattle.redo_log.specs.declared.turn.Turn.TheVariants as turn
 use Rattle.journal.proofs.BatchEntries.{length_of_batch}
@@ -96,49 +96,32 @@ next_flushes shape stamp numbers bytes made left call size sum some next =
 
 -- ---- retire steps
 
-load_flushes : (source : ℕ) (t : Turn) → IsLoadOf source t → flushes_of t ≡ 0
-load_flushes source (turn.Load from) is = refl
-load_flushes source (turn.Copy from to first) is = absurd is
-load_flushes source turn.Flush is = absurd is
-load_flushes source (turn.Head head) is = absurd is
-
 copy_flushes : (source target : ℕ) (begins : Option (List ℕ)) (t : Turn) → IsCopyOf source target begins t → flushes_of t ≡ 0
-copy_flushes source target begins (turn.Load from) is = absurd is
 copy_flushes source target begins (turn.Copy from to first) is = refl
 copy_flushes source target begins turn.Flush is = absurd is
 copy_flushes source target begins (turn.Head head) is = absurd is
 
 flush_turn : (t : Turn) → IsFlushTurn t → flushes_of t ≡ 1
-flush_turn (turn.Load from) is = absurd is
 flush_turn (turn.Copy from to first) is = absurd is
 flush_turn turn.Flush is = refl
 flush_turn (turn.Head head) is = absurd is
 
 head_turn : (stamp : ℕ) (t : Turn) → IsHeadTurn stamp t → flushes_of t ≡ 1
-head_turn stamp (turn.Load from) is = absurd is
 head_turn stamp (turn.Copy from to first) is = absurd is
 head_turn stamp turn.Flush is = absurd is
 head_turn stamp (turn.Head head) is = refl
 
--- a turn that brings a block home, or reads a descriptor, is none
-pub home_flushes : (format : LogFormat) (shape : Shape) (stamp : ℕ) (numbers kept : List ℕ) (turned : ℕ) (t : Turn)
-    → IsHomeTurn format shape stamp numbers kept turned t → flushes_of t ≡ 0
-home_flushes One shape stamp numbers kept turned t is = copy_flushes _ _ _ t is
-home_flushes Two shape stamp numbers kept turned t is = ⊎_elim
-    (λ (first : turned % 31 ≡ 0). load_flushes _ t (is.0 first))
-    (λ (not : turned % 31 ≡ 0 → ⊥). copy_flushes _ _ _ t (is.1 (some (turned % 31) not)))
-    (cases_eq (turned % 31) 0)
-  where
-    some : (n : ℕ) → (n ≡ 0 → ⊥) → 0 < n
-    some zero not = absurd (not refl)
-    some (suc n) not = omega arith
+-- a turn that brings a block home makes none
+pub home_flushes : (shape : Shape) (stamp : ℕ) (numbers : List ℕ) (first : Option (List ℕ)) (turned : ℕ) (t : Turn)
+    → IsHomeTurn shape stamp numbers first turned t → flushes_of t ≡ 0
+home_flushes shape stamp numbers first turned t is = copy_flushes _ _ _ t is
 
 -- the next turn of a record makes as many flushes as its step
-pub turn_flushed : (shape : Shape) (stamp : ℕ) (numbers kept : List ℕ) (turned left : ℕ) (t : Turn)
-    → IsNextTurn shape stamp numbers kept turned t → turned + left ≡ turns_home shape.format (length numbers) + 2
+pub turn_flushed : (shape : Shape) (stamp : ℕ) (numbers : List ℕ) (kept : AllFirsts) (turned left : ℕ) (t : Turn)
+    → IsNextTurn shape stamp numbers kept turned t → turned + left ≡ length numbers + 2
     → 0 < left → flushes_of t ≡ turn_flushes left
 turn_flushed shape stamp numbers kept turned zero t next sum some = absurd (omega (arith, some))
 turn_flushed shape stamp numbers kept turned (suc zero) t next sum some = head_turn (stamp + 1) t (next.head (omega (arith, sum)))
 turn_flushed shape stamp numbers kept turned (suc (suc zero)) t next sum some = flush_turn t (next.flush (omega (arith, sum)))
 turn_flushed shape stamp numbers kept turned (suc (suc (suc left))) t next sum some =
-    home_flushes shape.format shape stamp numbers kept turned t (next.home (omega (arith, sum)))
+    home_flushes shape stamp numbers _ turned t (next.home (omega (arith, sum)))

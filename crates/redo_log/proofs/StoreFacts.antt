@@ -8,6 +8,7 @@ use Rattle.medium.specs.Moments.{EachCut}
 use Rattle.spec.specs.Blocks.{Array}
 use Rattle.medium.proofs.Moments.{updated_elsewhere}
 use Rattle.journal.specs.Places.{Shape, first_home, sectors_of}
+use Rattle.journal.specs.SectorsTwo.{firsts_of}
 use Rattle.journal.specs.Record.{Entry, numbers_of, with_blocks, entries_of}
 use Rattle.journal.specs.Formats.{layout_of}
 use Rattle.journal.specs.Standing.{IsOurs}
@@ -15,19 +16,19 @@ use Rattle.journal.specs.Staged.{Guarded}
 use Rattle.journal.proofs.BatchEntries.{numbers_of_batch, length_of_batch, sized_batch}
 use Rattle.journal.proofs.Engine.{rests_logged, rests_begun}
 use Rattle.journal.proofs.Formats.{laws_of, most_is}
-use Rattle.redo_log.specs.Value.{LogValue, HasRoom, IsCovered, steps_of, turns_home, retire_steps_of, behind_oldest, of_oldest, idle_from}
+use Rattle.redo_log.specs.Value.{LogValue, HasRoom, IsCovered, steps_of, retire_steps_of, behind_oldest, of_oldest, idle_from}
 use Rattle.redo_log.specs.Value.{begun, died, settled}
 use Rattle.redo_log.specs.Batch.{IsBatch}
 use Rattle.redo_log.specs.Logged.{HasNoRecord, AreHome}
-use Rattle.redo_log.specs.Stages.{homed_at, needed_at, IsRead}
+use Rattle.redo_log.specs.Stages.{needed_at}
 use Rattle.redo_log.specs.Held.{View, resting_view, with_begun, image_view, written_of, flushed_of, made_of, turned_of, oldest_of}
 use Rattle.redo_log.specs.Held.{needed_of, MayLeave, Safe, Shields, stamps_of, HoldsView}
-use Rattle.redo_log.proofs.RecordSteps.{none_written, steps_some, all_home}
+use Rattle.redo_log.proofs.RecordSteps.{none_written, steps_some}
 use Rattle.redo_log.proofs.CoveredRecord.{needed_covered}
 use Rattle.redo_log.proofs.BatchRecord.{count_of}
 use Rattle.redo_log.proofs.Heads.{head_cut, heads_begun, put_head, put_cut}
 use Rattle.redo_log.proofs.LoggedImage.{Logged-records}
-use Rattle.redo_log.proofs.CopiedTurns.{all_read}
+use Rattle.redo_log.proofs.KeptFirsts.{none_kept, begun_kept}
 pub use Rattle.redo_log.proofs.LogFields.{quiet_held, durable_whole}
 pub use Rattle.redo_log.proofs.NewestCopy.{home_is, copy_is}
 
@@ -42,7 +43,7 @@ idle_holds shape next array ours m sound fits home fresh = record {
   next = omega arith;
   few = omega arith;
   sized = λ j d below. absurd (omega (arith, below));
-  kept = λ live. all_read shape.format next [] (turned_of (idle_from shape next)) _ (omega arith);
+  firsts = none_kept shape.format;
   leaves = λ is image cut.
       let rests = fresh is image cut in
       inl (Logged-records m.size shape next [] array image fits
@@ -75,7 +76,7 @@ died_holds log m view holds = record {
   next = holds.next;
   few = holds.few;
   sized = holds.sized;
-  kept = λ live. cc live;
+  firsts = holds.firsts;
   leaves = holds.leaves;
   stores = λ live. cc live;
   guards = λ live ours. cc live;
@@ -90,16 +91,11 @@ settled_holds log m view holds covered =
     ap (λ (l : ℕ). needed_at log.ahead log.head (log.head + length log.waiting) l) covered.flushes
     ∙ (needed_covered log.ahead log.head (log.head + length log.waiting) covered.oldest covered.since
     ∙ sym (ap (λ (l : ℕ). needed_at log.ahead log.head (log.head + length log.waiting) l) one)) in
-    let home : turns_home log.shape.format (length (get_or log.waiting 0 []))
-    ≡ turns_home log.shape.format (length (get_or view.records 0 [])) =
-    ap (λ (k : ℕ). turns_home log.shape.format k)
-    (count_of (get_or log.waiting 0 []) (get_or view.records 0 [])
-    (ap (λ (l : List (List ℕ)). get_or l 0 []) holds.durable ∙ get_or-map f view.records 0 [])) in
-    let was : turned_of log ≡ turns_home log.shape.format (length (get_or view.records 0 [])) = omega (arith, covered.flushes, home) in
-    let is : turned_of (settled log) ≡ turns_home log.shape.format (length (get_or view.records 0 [])) + 1 =
-    omega (arith, one, home) in
-    let all : length (get_or view.records 0 []) ≤ homed_at log.shape.format (turned_of log) =
-    all_home log.shape.format (length (get_or view.records 0 [])) (turned_of log) (omega (arith, was)) (omega (arith, was)) in
+    let home : length (get_or log.waiting 0 []) ≡ length (get_or view.records 0 []) =
+    count_of (get_or log.waiting 0 []) (get_or view.records 0 [])
+    (ap (λ (l : List (List ℕ)). get_or l 0 []) holds.durable ∙ get_or-map f view.records 0 []) in
+    let was : turned_of log ≡ length (get_or view.records 0 []) = omega (arith, covered.flushes, home) in
+    let all : length (get_or view.records 0 []) ≤ turned_of log = omega (arith, was) in
     record {
       fits = holds.fits;
       durable = holds.durable;
@@ -107,7 +103,7 @@ settled_holds log m view holds covered =
       next = holds.next;
       few = holds.few;
       sized = holds.sized;
-      kept = λ live. all_read log.shape.format log.head (get_or view.records 0 []) (turned_of (settled log)) log.kept (omega (arith, is));
+      firsts = holds.firsts;
       leaves = λ ours image cut. ⊎_elim (λ rest. inl rest)
           (λ other. ⊎_elim (λ both. inr (inl both)) (λ less. absurd (omega (arith, less.1, covered.flushes))) other)
           (holds.leaves ours image cut);
@@ -150,21 +146,24 @@ may_leave_ours size log view image found =
 
 -- a record is begun in a log with room
 pub begun_holds : (log : LogValue) (m : State) (view : View) (numbers bytes : List ℕ) → HoldsView log m view → HasRoom log
-    → IsBatch log.shape numbers bytes → HoldsView (begun numbers log) m (with_begun (entries_of numbers bytes) view)
+    → IsBatch log.shape numbers bytes
+    → HoldsView (begun numbers (firsts_of (entries_of numbers bytes)) log) m (with_begun (entries_of numbers bytes) view)
 begun_holds log m view numbers bytes holds room batch =
     let many : length (entries_of numbers bytes) ≡ length numbers = length_of_batch numbers bytes in
-    let none : retire_steps_of log.shape.format log.under_way ≡ 0 =
-    ap (λ (l : List ℕ). retire_steps_of log.shape.format l) room.none_under_way in
-    let behind : behind_oldest (begun numbers log) ≡ behind_oldest log + retire_steps_of log.shape.format numbers = omega (arith, none) in
-    let same : of_oldest log ≡ of_oldest (begun numbers log) = omega (arith, behind) in
-    let needs : needed_of log ≡ needed_of (begun numbers log) =
+    let none : retire_steps_of log.under_way ≡ 0 =
+    ap (λ (l : List ℕ). retire_steps_of l) room.none_under_way in
+    let none_yet : view.under_way ≡ [] = no_entries view.under_way (sym holds.under_way ∙ room.none_under_way) in
+    let firsts : List (List ℕ) = firsts_of (entries_of numbers bytes) in
+    let behind : behind_oldest (begun numbers firsts log) ≡ behind_oldest log + retire_steps_of numbers = omega (arith, none) in
+    let same : of_oldest log ≡ of_oldest (begun numbers firsts log) = omega (arith, behind) in
+    let needs : needed_of log ≡ needed_of (begun numbers firsts log) =
     ap (λ (l : ℕ). needed_at log.ahead log.head (log.head + length log.waiting) l) same in
-    let turned : turned_of log ≡ turned_of (begun numbers log) = omega (arith, same) in
-    let none_made : made_of (begun numbers log) ≡ 0 = omega arith in
+    let turned : turned_of log ≡ turned_of (begun numbers firsts log) = omega (arith, same) in
+    let none_made : made_of (begun numbers firsts log) ≡ 0 = omega arith in
     let early : ℕ = (layout_of log.shape.format).early (length (entries_of numbers bytes)) in
-    let w : written_of log.shape (with_begun (entries_of numbers bytes) view) (made_of (begun numbers log)) ≡ 0 =
+    let w : written_of log.shape (with_begun (entries_of numbers bytes) view) (made_of (begun numbers firsts log)) ≡ 0 =
     ap (λ (k : ℕ). written_of log.shape (with_begun (entries_of numbers bytes) view) k) none_made ∙ (none_written early).0 in
-    let f : flushed_of log.shape (with_begun (entries_of numbers bytes) view) (made_of (begun numbers log)) ≡ 0 =
+    let f : flushed_of log.shape (with_begun (entries_of numbers bytes) view) (made_of (begun numbers firsts log)) ≡ 0 =
     ap (λ (k : ℕ). flushed_of log.shape (with_begun (entries_of numbers bytes) view) k) none_made ∙ (none_written early).1 in
     let few : length (entries_of numbers bytes) ≤ (layout_of log.shape.format).most =
     omega (arith, many, batch.few, most_is log.shape.format) in
@@ -175,7 +174,8 @@ begun_holds log m view numbers bytes holds room batch =
       next = omega (arith, holds.next, ap (λ (l : List ℕ). stamps_of l) room.none_under_way, one_stamp numbers batch.some);
       few = holds.few;
       sized = sized_batch numbers bytes batch.size;
-      kept = λ live. subst (λ (t : ℕ). IsRead log.shape.format log.head (oldest_of view) t log.kept) turned (holds.kept live);
+      firsts = begun_kept log.shape.format view.records view.under_way (entries_of numbers bytes) log.firsts holds.firsts none_yet
+          (omega (arith, many, batch.some));
       leaves = λ ours image cut. ⊎_elim (λ rest. inl rest)
           (λ other. ⊎_elim (λ both. absurd (omega (arith, both.0, room.no_steps)))
           (λ less. inr (inr (less.0, omega (arith, less.1, behind), less.2))) other)
@@ -184,7 +184,7 @@ begun_holds log m view numbers bytes holds room batch =
         laid = (holds.stores live).laid;
         written = λ left p low small. absurd (omega (arith, low, w));
         copied =
-            subst (λ (t : ℕ). AreHome log.shape (oldest_of view) (homed_at log.shape.format t) m.content) turned (holds.stores live).copied;
+            subst (λ (t : ℕ). AreHome log.shape (oldest_of view) t m.content) turned (holds.stores live).copied;
       };
       guards = λ live ours. record {
         guards = record {
@@ -195,7 +195,7 @@ begun_holds log m view numbers bytes holds room batch =
                 guarded = λ _. subst
                     (λ (k : ℕ). Guarded (layout_of log.shape.format)
                     (image_view log.shape log.head (with_begun (entries_of numbers bytes) view)) k
-                    (flushed_of log.shape (with_begun (entries_of numbers bytes) view) (made_of (begun numbers log))) image)
+                    (flushed_of log.shape (with_begun (entries_of numbers bytes) view) (made_of (begun numbers firsts log))) image)
                     (sym w)
                     (subst
                     (λ (d : ℕ). Guarded (layout_of log.shape.format)
@@ -207,11 +207,15 @@ begun_holds log m view numbers bytes holds room batch =
               };
           homed = λ is. (holds.guards live ours).guards.homed (needs ∙ is);
         };
-        heads = heads_begun log.shape log.head view (entries_of numbers bytes) m (needed_of log) (needed_of (begun numbers log))
+        heads = heads_begun log.shape log.head view (entries_of numbers bytes) m (needed_of log) (needed_of (begun numbers firsts log))
             (λ not is. not (needs ∙ is)) (holds.guards live ours).heads;
       };
     }
   where
+    no_entries : (entries : List Entry) → numbers_of entries ≡ [] → entries ≡ []
+    no_entries [] none = refl
+    no_entries (e ∷ entries) none = absurd (cc none)
+
     one_stamp : (numbers : List ℕ) → 1 ≤ length numbers → stamps_of numbers ≡ 1
     one_stamp [] some = absurd (omega arith)
     one_stamp (n ∷ numbers) some = refl

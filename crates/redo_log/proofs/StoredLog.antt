@@ -12,9 +12,8 @@ use Rattle.journal.specs.Formats.{layout_of}
 use Rattle.journal.proofs.Formats.{laws_of}
 use Rattle.journal.proofs.Overlay.{records-hide}
 use Rattle.redo_log.specs.Logged.{AreHome}
-use Rattle.redo_log.specs.Stages.{homed_at, IsSized}
+use Rattle.redo_log.specs.Stages.{IsSized}
 use Rattle.redo_log.specs.Held.{View, with_record, view_retired, written_of, Stores}
-use Rattle.redo_log.proofs.RecordSteps.{none_home}
 use Rattle.redo_log.proofs.LaidBlocks.{before_home, AreHome-log, Laid-slot, Laid-home, AreHome-write, Laid-oldest, Laid-stays, Laid-more}
 
 -- the oldest record stays the oldest where there is one
@@ -55,7 +54,7 @@ module _ (shape : Shape) (sized : IsSized shape) (head : ℕ) (view : View) wher
 
   -- no more of the oldest record is home
   pub Stores-turned : (steps made turned next : ℕ) (content : Image)
-      → ((i : ℕ) → i < homed_at shape.format next → i < length (get_or view.records 0 []) → i < homed_at shape.format turned)
+      → ((i : ℕ) → i < next → i < length (get_or view.records 0 []) → i < turned)
       → Stores shape head view steps made turned content → Stores shape head view steps made next content
   Stores-turned steps made turned next content no_more s = record {
     laid = s.laid;
@@ -99,36 +98,35 @@ module _ (shape : Shape) (sized : IsSized shape) (head : ℕ) (view : View) wher
     written = λ none. absurd (omega arith);
     copied = elim (cases_eq (length view.records) 0) [
       | inl none ↦
-          let nothing : homed_at shape.format after ≡ 0 = ap (λ (t : ℕ). homed_at shape.format t) (alone none) ∙ none_home shape.format in
-          λ i low high. absurd (omega (arith, low, nothing))
+          λ i low high. absurd (omega (arith, low, alone none))
       | inr some ↦
           let waits : 0 < length view.records = omega arith in
-          let P : List Entry → ℕ → Type 0 = λ r t. AreHome shape r (homed_at shape.format t) content in
+          let P : List Entry → ℕ → Type 0 = λ r t. AreHome shape r t content in
           subst (λ (t : ℕ). P (get_or (view.records ++ view.under_way ∷ []) 0 []) t) (sym (more waits))
           (subst (λ (r : List Entry). P r turned) (sym (oldest-append view.records view.under_way waits)) s.copied)
     ];
   }
 
   -- a block of the oldest record is written home
-  pub home_stores : (steps made turned : ℕ) (old new : Image) (place : ℕ) (bytes : List ℕ) (write : Holds place bytes old new) (i : ℕ)
+  pub home_stores : (steps made turned : ℕ) (old new : Image) (place : ℕ) (bytes : List ℕ) (write : Holds place bytes old new)
       → (0 < steps → length view.under_way ≤ (layout_of shape.format).most) → 0 < length view.records
-      → IsRising (numbers_of (get_or view.records 0 [])) → i ≡ homed_at shape.format turned → homed_at shape.format (turned + 1) ≡ i + 1
-      → i < length (get_or view.records 0 []) → place ≡ first_home shape + (get_or (get_or view.records 0 []) i (0, [])).0
-      → bytes ≡ (get_or (get_or view.records 0 []) i (0, [])).1 → Stores shape head view steps made turned old
+      → IsRising (numbers_of (get_or view.records 0 []))
+      → turned < length (get_or view.records 0 []) → place ≡ first_home shape + (get_or (get_or view.records 0 []) turned (0, [])).0
+      → bytes ≡ (get_or (get_or view.records 0 []) turned (0, [])).1 → Stores shape head view steps made turned old
       → Stores shape head view steps made (turned + 1) new
-  home_stores steps made turned old new place bytes write i few waits rising here more below place_is is s = record {
-    laid = Laid-home shape sized old new place bytes write head view.records view.array (get_or (get_or view.records 0 []) i (0, [])).0
-        place_is (records-hide view.records 0 i waits below) s.laid;
+  home_stores steps made turned old new place bytes write few waits rising below place_is is s = record {
+    laid = Laid-home shape sized old new place bytes write head view.records view.array (get_or (get_or view.records 0 []) turned (0, [])).0
+        place_is (records-hide view.records 0 turned waits below) s.laid;
     written = λ left p low small. write.elsewhere (at p)
         (λ e. omega (arith, e, place_is, before_home shape sized stamp (L.offset n p) ((laws_of shape.format).inside n p (few left) small)))
         ∙ s.written left p low small;
-    copied = λ j low high. AreHome-write shape sized old new place bytes write (get_or view.records 0 []) i rising below place_is is
-        (λ k less inside. s.copied k (omega (arith, less, here)) inside) j (omega (arith, low, more)) high;
+    copied = λ j low high. AreHome-write shape sized old new place bytes write (get_or view.records 0 []) turned rising below place_is is
+        (λ k less inside. s.copied k less inside) j (omega (arith, low)) high;
   }
 
   -- the head goes past the oldest record, and nothing of the next one is home
   pub head_stores : (steps made turned : ℕ) (old new : Image) (bytes : List ℕ) → Holds 1 bytes old new → 0 < length view.records
-      → length (get_or view.records 0 []) ≤ homed_at shape.format turned → Stores shape head view steps made turned old
+      → length (get_or view.records 0 []) ≤ turned → Stores shape head view steps made turned old
       → Stores shape (head + 1) (view_retired 1 view) steps made 0 new
   head_stores steps made turned old new bytes write waits all s =
       let same : head + length view.records ≡ head + 1 + length (drop 1 view.records) = omega (arith, drop-length view.records waits) in
@@ -138,5 +136,5 @@ module _ (shape : Shape) (sized : IsSized shape) (head : ℕ) (view : View) wher
         written = λ left p low small. subst
             (λ (t : ℕ). new (2 + L.slot_sectors * (t % shape.slots) + L.offset n p) ≡ L.part t view.under_way p) same
             (write.elsewhere (at p) (λ e. omega arith) ∙ s.written left p low small);
-        copied = λ i low high. absurd (omega (arith, low, none_home shape.format));
+        copied = λ i low high. absurd (omega (arith, low));
       }

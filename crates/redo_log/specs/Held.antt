@@ -4,8 +4,11 @@ use Rattle.std.specs.Prelude.{get_or, drop, map, All, Bool, true, false}
 use Rattle.medium.specs.Medium.{State, Image, Sets, CutLeaves}
 use Rattle.medium.specs.Moments.{EachCut}
 use Rattle.spec.specs.Blocks.{Array}
+use Rattle.journal.specs.declared.log_format.LogFormat.{LogFormat}
+use Rattle.journal.specs.declared.log_format.LogFormat.TheVariants.{One, Two}
 use Rattle.journal.specs.Places.{Shape, sectors_of}
 use Rattle.journal.specs.Sectors.{IsHead}
+use Rattle.journal.specs.SectorsTwo.{firsts_of}
 use Rattle.journal.specs.Record.{Entry, numbers_of, with_blocks}
 use Rattle.journal.specs.Layout.{part_at}
 use Rattle.journal.specs.Formats.{layout_of}
@@ -13,9 +16,9 @@ use Rattle.journal.specs.Staged as staged
 use Rattle.journal.specs.Staged.{Resting, Guarded, IsHomed}
 use Rattle.redo_log.specs.declared.progress.Progress.{Progress}
 use Rattle.redo_log.specs.declared.progress.Progress.TheVariants.{More, Durable}
-use Rattle.redo_log.specs.Value.{LogValue, steps_of, turns_home, behind_oldest, of_oldest}
+use Rattle.redo_log.specs.Value.{AllFirsts, LogValue, steps_of, behind_oldest, of_oldest}
 use Rattle.redo_log.specs.Logged.{HasRecords, AreHome, Laid}
-use Rattle.redo_log.specs.Stages.{written_at, flushed_at, homed_at, needed_at, IsRead}
+use Rattle.redo_log.specs.Stages.{written_at, flushed_at, needed_at}
 
 -- what a log has
 pub record View : Type 0 where
@@ -116,7 +119,7 @@ pub record Stores (shape : Shape) (head : ℕ) (view : View) (steps made turned 
       (length view.under_way) p)
       ≡ (layout_of shape.format).part (stamp_behind head view) view.under_way p
   -- the oldest record as far as it is copied home
-  pub copied : AreHome shape (oldest_of view) (homed_at shape.format turned) content
+  pub copied : AreHome shape (oldest_of view) turned content
 
 -- what a cut may leave of the log, where so many steps are left
 pub record Safe (shape : Shape) (head : ℕ) (view : View) (steps made : ℕ) (image : Image)
@@ -179,11 +182,22 @@ made_of log = steps_of log.shape.format log.under_way - log.steps_left
 
 -- how many turns of the oldest record are made
 abbrev pub turned_of : LogValue → ℕ
-turned_of log = turns_home log.shape.format (length (get_or log.waiting 0 [])) + 2 - of_oldest log
+turned_of log = length (get_or log.waiting 0 []) + 2 - of_oldest log
 
 -- how many retire steps the oldest record needs, where a flush that covers its blocks counts
 abbrev pub needed_of : LogValue → ℕ
 needed_of log = needed_at log.ahead log.head (log.head + length log.waiting) (of_oldest log)
+
+-- the first bytes of the blocks of a record under way; none where none is
+abbrev pub begun_firsts : List Entry → AllFirsts
+begun_firsts [] = []
+begun_firsts (e ∷ entries) = firsts_of (e ∷ entries) ∷ []
+
+-- In format 2 those of the durable records, the oldest first, and then of the one under way. In
+-- format 1 the data places have all bytes.
+abbrev pub kept_firsts : LogFormat → List (List Entry) → List Entry → AllFirsts
+kept_firsts One records under_way = []
+kept_firsts Two records under_way = map firsts_of records ++ begun_firsts under_way
 
 -- The log and its medium hold this: contents always, and, where every image was ours, all that a
 -- cut may leave. Of a dead log only what a cut may leave is known.
@@ -194,8 +208,7 @@ pub record HoldsView (log : LogValue) (m : State) (view : View) : Type 0 where
   pub next : log.next ≡ log.head + length view.records + stamps_of log.under_way
   pub few : length view.records ≤ log.shape.slots
   pub sized : All (λ e. length e.1 ≡ 512) view.under_way
-  pub kept : log.dead ≡ false
-      → IsRead log.shape.format log.head (oldest_of view) (turned_of log) log.kept
+  pub firsts : log.firsts ≡ kept_firsts log.shape.format view.records view.under_way
   pub leaves : view.ours ≡ true → EachCut (MayLeave m.size log view) m
   pub stores : log.dead ≡ false
       → Stores log.shape log.head view log.steps_left (made_of log) (turned_of log) m.content

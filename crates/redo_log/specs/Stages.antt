@@ -3,14 +3,10 @@ use Rattle.std.specs.Prelude.{◌≡◌, ◌⊎◌, ℕ, zero, suc, ◌≤◌, �
 use Rattle.std.specs.Prelude.{[], ◌∷◌, length, get_or, drop, sum_by, All, Bool, Option, Some, None}
 use Rattle.std.specs.Prelude.{if◌then◌else◌, nat_lt, ◌==◌}
 use Rattle.journal.specs.declared.log_format.LogFormat.{LogFormat}
-use Rattle.journal.specs.declared.log_format.LogFormat.TheVariants.{One, Two}
 use Rattle.journal.specs.Places.{Shape, limit_of}
 use Rattle.journal.specs.Sectors.{IsRising}
-use Rattle.journal.specs.Record.{Entry}
 use Rattle.journal.specs.Formats.{layout_of}
-use Rattle.journal.specs.HomeTurns.{turns_of_round, rounds_at}
-pub use Rattle.journal.specs.HomeTurns.{homed_at}
-use Rattle.redo_log.specs.Value.{LogValue, Ahead, steps_for, turns_home, retire_steps_of}
+use Rattle.redo_log.specs.Value.{AllFirsts, LogValue, Ahead, steps_for, retire_steps_of}
 
 -- one flush for the parts that are flushed early, none where there are none
 unfoldable pub flush_of : ℕ → ℕ
@@ -25,22 +21,15 @@ written_at early made = if nat_lt early made then made - flush_of early else mad
 unfoldable pub flushed_at : ℕ → ℕ → ℕ
 flushed_at early made = if nat_lt early made then early else 0
 
--- In format 2 a descriptor was read for the next block: these bytes are that part of the record.
-abbrev pub IsRead : LogFormat → ℕ → List Entry → ℕ → List ℕ → Type 0
-IsRead One stamp entries turned kept = Unit {0}
-IsRead Two stamp entries turned kept =
-    0 < turns_of_round turned → turned < turns_home Two (length entries)
-    → kept ≡ (layout_of Two).part stamp entries (rounds_at turned)
-
 -- how many steps are left, where perhaps a record is under way
 abbrev pub steps_at : LogFormat → ℕ → Option ℕ → ℕ
 steps_at format count None = 0
 steps_at format count (Some made) = steps_for format count - made
 
 -- how many retire steps the oldest of the durable records needs after so many turns
-abbrev pub oldest_at : LogFormat → List (List ℕ) → ℕ → ℕ
-oldest_at format [] turned = 0
-oldest_at format (numbers ∷ newer) turned = turns_home format (length numbers) + 2 - turned
+abbrev pub oldest_at : List (List ℕ) → ℕ → ℕ
+oldest_at [] turned = 0
+oldest_at (numbers ∷ newer) turned = length numbers + 2 - turned
 
 -- how many stamps are taken behind those of the durable records
 abbrev pub begun_at : Option ℕ → ℕ
@@ -48,9 +37,9 @@ begun_at None = 0
 begun_at (Some made) = 1
 
 -- A log with these durable records, of which so many turns of the oldest are made, and perhaps this
--- one under way, of which so many calls are made.
-abbrev pub value_at : Ahead → Shape → ℕ → List (List ℕ) → ℕ → List ℕ → List ℕ → Option ℕ → Bool
-    → LogValue
+-- one under way, of which so many calls are made. These first bytes of their blocks are kept.
+abbrev pub value_at : Ahead → Shape → ℕ → List (List ℕ) → ℕ → AllFirsts → List ℕ
+    → Option ℕ → Bool → LogValue
 value_at ahead shape head waiting turned kept under_way writing dead = record {
   shape = shape;
   head = head;
@@ -58,10 +47,9 @@ value_at ahead shape head waiting turned kept under_way writing dead = record {
   under_way = under_way;
   waiting = waiting;
   steps_left = steps_at shape.format (length under_way) writing;
-  retire_steps_left = oldest_at shape.format waiting turned
-      + (sum_by (retire_steps_of shape.format) (drop 1 waiting)
-      + retire_steps_of shape.format under_way);
-  kept = kept;
+  retire_steps_left = oldest_at waiting turned
+      + (sum_by retire_steps_of (drop 1 waiting) + retire_steps_of under_way);
+  firsts = kept;
   ahead = ahead;
   dead = dead;
 }
@@ -95,9 +83,9 @@ pub record IsRecord (shape : Shape) (stamp : ℕ) (numbers : List ℕ) : Type 0 
   pub numbers_are : AreInside shape numbers
 
 -- the oldest durable record may have come so far
-abbrev pub IsOldest : LogFormat → List (List ℕ) → ℕ → Type 0
-IsOldest format [] turned = turned ≡ 0
-IsOldest format (numbers ∷ newer) turned = turned < turns_home format (length numbers) + 2
+abbrev pub IsOldest : List (List ℕ) → ℕ → Type 0
+IsOldest [] turned = turned ≡ 0
+IsOldest (numbers ∷ newer) turned = turned < length numbers + 2
 
 -- the record under way may have come so far
 abbrev pub IsUnderWay : Shape → List ℕ → Option ℕ → Type 0
@@ -106,15 +94,14 @@ IsUnderWay shape numbers (Some made) =
     AreInside shape numbers × (made < steps_for shape.format (length numbers))
 
 -- the record that went home ahead is retired, or it is the oldest one, whose blocks are home
-abbrev pub IsAheadOf : Ahead → Shape → ℕ → List (List ℕ) → ℕ → Type 0
-IsAheadOf ahead shape head waiting turned = (ahead.home < head)
-    ⊎ ((ahead.home ≡ head) × (0 < length waiting)
-    × (turns_home shape.format (length (get_or waiting 0 [])) ≤ turned))
+abbrev pub IsAheadOf : Ahead → ℕ → List (List ℕ) → ℕ → Type 0
+IsAheadOf ahead head waiting turned = (ahead.home < head)
+    ⊎ ((ahead.home ≡ head) × (0 < length waiting) × (length (get_or waiting 0 []) ≤ turned))
 
 -- the records of a log with so many slots
 pub record IsRing (shape : Shape) (waiting : List (List ℕ)) (turned : ℕ) (under_way : List ℕ)
     (writing : Option ℕ) : Type 0 where
   pub each : All (AreInside shape) waiting
   pub fits : length waiting + begun_at writing ≤ shape.slots
-  pub oldest : IsOldest shape.format waiting turned
+  pub oldest : IsOldest waiting turned
   pub record_under_way : IsUnderWay shape under_way writing

@@ -8,7 +8,8 @@ use Rattle.medium.specs.Moments.{EachCut, LeavesOnly, SparesFrom, IsQuiet}
 use Rattle.medium.specs.Sent.{SendsUpTo}
 use Rattle.medium.specs.declared.fault.MediumFault.TheVariants.{Flush}
 use Rattle.journal.specs.Places.{first_home, sectors_of}
-use Rattle.journal.specs.Record.{Entry}
+use Rattle.journal.specs.SectorsTwo.{firsts_of}
+use Rattle.journal.specs.Record.{Entry, entries_of}
 use Rattle.redo_log.specs.declared.fault.LogFault.{LogFault}
 use Rattle.redo_log.specs.declared.fault.LogFault.TheVariants.{Medium, StampsUsedUp}
 use Rattle.redo_log.specs.declared.progress.Progress.{Progress}
@@ -108,9 +109,10 @@ pub record MakesStep {M : Type 0} (state : M → State) (Follows : M → M → T
   pub leaves : LeavesLog old (state m) (state n)
 
 -- A record of these blocks is begun, which takes so few steps at most, or no stamp is left for it.
-pub record BeginsRecord (numbers : List ℕ) (result : Result (Unit {0}) LogFault)
+pub record BeginsRecord (numbers bytes : List ℕ) (result : Result (Unit {0}) LogFault)
     (old new : LogValue) : Type 0 where
-  pub ok : OnOk result ((old.next < 2 ^ 63 - 1) × (new ≡ begun numbers old))
+  pub ok : OnOk result ((old.next < 2 ^ 63 - 1)
+      × (new ≡ begun numbers (firsts_of (entries_of numbers bytes)) old))
   pub err : IfErr result (λ fault. (fault ≡ StampsUsedUp) × (old.next ≡ 2 ^ 63 - 1)
       × (new ≡ died old))
   pub short : OnOk result ((0 < new.steps_left) × (new.steps_left ≤ most_steps old.shape.format))

@@ -1,13 +1,11 @@
 -- What a caller sees of a redo log, and how its calls change that.
 use Rattle.std.specs.Prelude.{◌≡◌, ℕ, zero, suc, ◌+◌, ◌-◌, ◌%◌, ◌<◌, List, [], ◌∷◌, ◌++◌, length}
-use Rattle.std.specs.Prelude.{get_or, slice_index, drop, replicate, sum_by, Contains, Bool, All}
+use Rattle.std.specs.Prelude.{get_or, slice_index, drop, sum_by, Contains, Bool, All}
 use Rattle.std.specs.Prelude.{true, false, if◌then◌else◌, ◌==◌, nat_lt}
 use Rattle.journal.specs.declared.log_format.LogFormat.{LogFormat}
 use Rattle.journal.specs.declared.log_format.LogFormat.TheVariants.{One, Two}
 use Rattle.journal.specs.Places.{Shape, limit_of}
 use Rattle.journal.specs.SectorsTwo.{descriptors_of}
-use Rattle.journal.specs.HomeTurns.{turns_of_round}
-pub use Rattle.journal.specs.HomeTurns.{turns_home}
 use Rattle.redo_log.specs.declared.progress.Progress.{Progress}
 use Rattle.redo_log.specs.declared.progress.Progress.TheVariants.{More, Durable}
 
@@ -20,6 +18,10 @@ pub record Ahead : Type 0 where
 
 abbrev pub nothing_ahead : Ahead
 nothing_ahead = record { home = 0; before = 0 }
+
+-- the first 8 bytes of each block of some records
+abbrev pub AllFirsts : Type 0
+AllFirsts = List (List (List ℕ))
 
 pub record LogValue : Type 0 where
   pub shape : Shape
@@ -35,8 +37,9 @@ pub record LogValue : Type 0 where
   pub steps_left : ℕ
   -- how many retire steps all these records still need
   pub retire_steps_left : ℕ
-  -- the descriptor of the oldest record that was read last, in format 2
-  pub kept : List ℕ
+  -- the first 8 bytes of each block of each record, in format 2: of those that wait, the oldest
+  -- first, then of the one under way
+  pub firsts : AllFirsts
   pub ahead : Ahead
   pub dead : Bool
 
@@ -50,7 +53,7 @@ idle_from shape next = record {
   waiting = [];
   steps_left = 0;
   retire_steps_left = 0;
-  kept = replicate 512 0;
+  firsts = [];
   ahead = nothing_ahead;
   dead = false;
 }
@@ -80,23 +83,29 @@ abbrev pub most_steps : LogFormat → ℕ
 most_steps One = 52
 most_steps Two = 250
 
--- how many retire steps a record of these blocks needs; none where there is no record
-abbrev pub retire_steps_of : LogFormat → List ℕ → ℕ
-retire_steps_of format [] = 0
-retire_steps_of format (n ∷ numbers) = turns_home format (length (n ∷ numbers)) + 2
+-- how many retire steps a record of these blocks needs: one for each of them, a flush, and the
+-- head; none where there is no record
+abbrev pub retire_steps_of : List ℕ → ℕ
+retire_steps_of [] = 0
+retire_steps_of (n ∷ numbers) = length (n ∷ numbers) + 2
 
 -- no record needs more retire steps
 abbrev pub most_retire_steps : LogFormat → ℕ
-most_retire_steps One = turns_home One (limit_of One) + 2
-most_retire_steps Two = turns_home Two (limit_of Two) + 2
+most_retire_steps format = limit_of format + 2
 
--- a record of these blocks is begun, and takes the next stamp
-abbrev pub begun : List ℕ → LogValue → LogValue
-begun numbers log = record log {
+-- the first bytes of one more record behind those that are kept, in format 2
+abbrev pub with_firsts : LogFormat → List (List ℕ) → AllFirsts → AllFirsts
+with_firsts One firsts kept = kept
+with_firsts Two firsts kept = kept ++ firsts ∷ []
+
+-- a record of these blocks is begun, which begin with these bytes, and takes the next stamp
+abbrev pub begun : List ℕ → List (List ℕ) → LogValue → LogValue
+begun numbers firsts log = record log {
   next = log.next + 1;
   under_way = numbers;
   steps_left = steps_of log.shape.format numbers;
-  retire_steps_left = log.retire_steps_left + retire_steps_of log.shape.format numbers;
+  retire_steps_left = log.retire_steps_left + retire_steps_of numbers;
+  firsts = with_firsts log.shape.format firsts log.firsts;
 }
 
 -- a step was made that answered so
@@ -112,62 +121,50 @@ IsStepped Durable old new = (old.steps_left ≡ 1)
 
 -- how many retire steps are left when the oldest durable record is retired
 abbrev pub behind_oldest : LogValue → ℕ
-behind_oldest log = sum_by (retire_steps_of log.shape.format) (drop 1 log.waiting)
-    + retire_steps_of log.shape.format log.under_way
+behind_oldest log = sum_by retire_steps_of (drop 1 log.waiting)
+    + retire_steps_of log.under_way
 
 -- how many retire steps the oldest durable record itself still needs
 abbrev pub of_oldest : LogValue → ℕ
 of_oldest log = log.retire_steps_left - behind_oldest log
 
--- How many calls it takes after so many turns to bring the next block home: it is read and written.
--- In format 2 the first turn of a round reads a descriptor, by one call.
-abbrev pub home_calls : LogFormat → ℕ → ℕ
-home_calls One turned = 2
-home_calls Two turned = if turns_of_round turned == 0 then 1 else 2
-
--- How many calls the next retire step of a record makes that is home after so many turns, where so
--- many steps are left: the last one writes the head and flushes it, the one before it flushes.
-abbrev pub turn_calls : LogFormat → ℕ → ℕ → ℕ
-turn_calls format home zero = 0
-turn_calls format home (suc zero) = 2
-turn_calls format home (suc (suc zero)) = 1
-turn_calls format home (suc (suc (suc left))) = home_calls format (home - suc left)
+-- How many calls the next retire step of a record makes of which so many are left: the last one
+-- writes the head and flushes it, the one before it flushes, and each other reads a block and
+-- writes it home.
+abbrev pub turn_calls : ℕ → ℕ
+turn_calls zero = 0
+turn_calls (suc zero) = 2
+turn_calls (suc (suc zero)) = 1
+turn_calls (suc (suc (suc left))) = 2
 
 -- how many calls all the steps make that are left of it
-abbrev pub turns_calls : LogFormat → ℕ → ℕ → ℕ
-turns_calls format home zero = 0
-turns_calls format home (suc left) =
-    turn_calls format home (suc left) + turns_calls format home left
-
--- after how many turns the oldest durable record is home
-abbrev pub home_of_oldest : LogValue → ℕ
-home_of_oldest log = turns_home log.shape.format (length (get_or log.waiting 0 []))
+abbrev pub turns_calls : ℕ → ℕ
+turns_calls zero = 0
+turns_calls (suc left) = turn_calls (suc left) + turns_calls left
 
 -- how many calls the next retire step makes: none where no record waits
 abbrev pub next_calls : LogValue → ℕ
-next_calls log = turn_calls log.shape.format (home_of_oldest log) (of_oldest log)
+next_calls log = turn_calls (of_oldest log)
 
--- How many writes and flushes the next retire step makes, of which the same is known: all of its
--- calls but the read with which it brings a block home, or reads a descriptor.
-abbrev pub turn_sends : LogFormat → ℕ → ℕ → ℕ
-turn_sends format home zero = 0
-turn_sends format home (suc zero) = 2
-turn_sends format home (suc (suc zero)) = 1
-turn_sends format home (suc (suc (suc left))) = home_calls format (home - suc left) - 1
+-- how many of them are writes and flushes: all but the read with which it brings a block home
+abbrev pub turn_sends : ℕ → ℕ
+turn_sends zero = 0
+turn_sends (suc zero) = 2
+turn_sends (suc (suc zero)) = 1
+turn_sends (suc (suc (suc left))) = 1
 
 -- how many all the steps make that are left of it
-abbrev pub turns_sends : LogFormat → ℕ → ℕ → ℕ
-turns_sends format home zero = 0
-turns_sends format home (suc left) =
-    turn_sends format home (suc left) + turns_sends format home left
+abbrev pub turns_sends : ℕ → ℕ
+turns_sends zero = 0
+turns_sends (suc left) = turn_sends (suc left) + turns_sends left
 
 -- how many the next retire step makes
 abbrev pub next_sends : LogValue → ℕ
-next_sends log = turn_sends log.shape.format (home_of_oldest log) (of_oldest log)
+next_sends log = turn_sends (of_oldest log)
 
 -- how many retire the oldest durable record
 abbrev pub sends_of_oldest : LogValue → ℕ
-sends_of_oldest log = turns_sends log.shape.format (home_of_oldest log) (of_oldest log)
+sends_of_oldest log = turns_sends (of_oldest log)
 
 -- They are never more: each block is written home once, and a flush, the head and a flush follow.
 abbrev pub most_retire_sends : LogFormat → ℕ
@@ -177,22 +174,22 @@ most_retire_sends format = limit_of format + 3
 -- waits. Each record that waits has blocks.
 pub record Owes (log : LogValue) : Type 0 where
   pub none_waits : log.waiting ≡ []
-      → log.retire_steps_left ≡ retire_steps_of log.shape.format log.under_way
+      → log.retire_steps_left ≡ retire_steps_of log.under_way
   pub some_wait : 0 < length log.waiting → 0 < log.retire_steps_left
   pub blocks : All (λ numbers. 0 < length numbers) log.waiting
 
 -- A retire step was made: it was the oldest record's last, which is retired then, or there are
--- more. In format 2 it may have read another descriptor of that record.
+-- more.
 pub record IsRetireStepped (old new : LogValue) : Type 0 where
   pub some : behind_oldest old < old.retire_steps_left
   pub more : behind_oldest old + 1 < old.retire_steps_left
-      → new ≡ record old { retire_steps_left = old.retire_steps_left - 1; kept = new.kept }
+      → new ≡ record old { retire_steps_left = old.retire_steps_left - 1 }
   pub last : old.retire_steps_left ≡ behind_oldest old + 1
       → new ≡ record old {
         head = old.head + 1;
         waiting = drop 1 old.waiting;
         retire_steps_left = behind_oldest old;
-        kept = replicate 512 0;
+        firsts = drop 1 old.firsts;
       }
 
 -- A block of the oldest durable record is not home yet: more is left than a flush and the head.
@@ -207,15 +204,14 @@ ahead_calls log = if nat_lt 2 (of_oldest log) then next_calls log else 0
 abbrev pub ahead_of : LogValue → Ahead
 ahead_of log = record { home = log.head; before = log.head + length log.waiting }
 
--- A turn ahead was made: a block of the oldest record went home, or its next descriptor was read.
--- With the last of these the record is home ahead.
+-- A turn ahead was made: a block of the oldest record went home. With the last of these the record
+-- is home ahead.
 pub record IsSentHome (old new : LogValue) : Type 0 where
   pub more : 3 < of_oldest old
-      → new ≡ record old { retire_steps_left = old.retire_steps_left - 1; kept = new.kept }
+      → new ≡ record old { retire_steps_left = old.retire_steps_left - 1 }
   pub last : of_oldest old ≡ 3
       → new ≡ record old {
         retire_steps_left = old.retire_steps_left - 1;
-        kept = new.kept;
         ahead = ahead_of old;
       }
 

@@ -10,7 +10,7 @@ ghost use Rattle.redo_log.specs.Steps.{CountsStep, IsOn, MakesTurns};
 use crate::index::drop_slot;
 use crate::turn::next_turn;
 use crate::{Log, LogFault};
-use journal::{Head, slot_of, turns_home};
+use journal::{Head, slot_of};
 use medium::Medium;
 
 impl Log {
@@ -19,15 +19,15 @@ impl Log {
         ensures { IsTrue result ↔ IsAway self.now }
     {
         match self.waiting.front() {
-            Some(oldest) => self.turned < turns_home(self.sizes.format, oldest.len()),
+            Some(oldest) => self.turned < oldest.len(),
             None => false,
         }
     }
 
-    /// Makes the next one or two calls that bring a block of the oldest durable record home, none
-    /// where no block is away. They are those of a retire step: the block is read and written, and
-    /// in format 2 a descriptor is read before the blocks that it names. None is a flush: that of
-    /// the next record that becomes durable covers the blocks, and `settle` counts it.
+    /// Makes the two calls that bring the next block of the oldest durable record home, none where
+    /// no block is away. They are those of a retire step: the block is read and written. None is a
+    /// flush: that of the next record that becomes durable covers the blocks, and `settle` counts
+    /// it.
     ///
     /// # Errors
     ///
@@ -42,13 +42,13 @@ impl Log {
         let Some(record) = self.waiting.front() else {
             return Ok(());
         };
-        let turns = turns_home(self.sizes.format, record.len());
+        let turns = record.len();
         if turns <= self.turned {
             return Ok(());
         }
         let numbers = record.as_slice();
-        let turn = next_turn(&self.sizes, self.head, numbers, &self.kept, self.turned);
-        let refused = turn.make(m, &mut self.kept).is_err();
+        let turn = next_turn(&self.sizes, self.head, numbers, &self.firsts, self.turned);
+        let refused = turn.make(m).is_err();
         if refused {
             self.dead = true;
             return Err(LogFault::Medium);
@@ -72,7 +72,7 @@ impl Log {
         let Some(first) = self.waiting.front() else {
             return false;
         };
-        let all = turns_home(self.sizes.format, first.len());
+        let all = first.len();
         let next = self.head + self.waiting.len() as u64;
         if self.homed != self.head || self.turned != all || next <= self.before {
             return false;
@@ -90,8 +90,7 @@ impl Log {
             return false;
         };
         let begun = self.made.is_some() as u64;
-        self.turned == turns_home(self.sizes.format, oldest.len()) + 1
-            && self.waiting.len() as u64 + begun < self.sizes.slots
+        self.turned == oldest.len() + 1 && self.waiting.len() as u64 + begun < self.sizes.slots
     }
 
     /// Whether so many slots are free: the records from the head's on and the one under way have
@@ -129,9 +128,9 @@ impl Log {
         }
         drop_slot(&mut self.index, slot_of(self.head, self.sizes.slots));
         let _ = self.waiting.pop_front();
+        let _ = self.firsts.pop_front();
         self.head += 1;
         self.turned = 0;
-        self.kept = [0; 512];
         Ok(())
     }
 }

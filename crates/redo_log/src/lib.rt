@@ -9,6 +9,7 @@
 mod ahead;
 mod call;
 mod fault;
+mod firsts;
 mod index;
 mod log;
 mod progress;

@@ -1,17 +1,19 @@
 //! A redo log and its records.
 ghost use Rattle.std.specs.Prelude.{◌≡◌, ℕ, ◌+◌, ◌-◌, ◌*◌, ◌^◌, ◌<◌, ◌≤◌, ◌↔◌, true, false, []};
 ghost use Rattle.std.specs.Prelude.{length, if◌then◌else◌};
-ghost use Rattle.std.specs.Prelude.{IsTrue, OnOk, IfOk, IfErr, MatchOption};
+ghost use Rattle.std.specs.Prelude.{IsTrue, IsOk, OnOk, IfOk, IfErr, MatchOption};
+ghost use Rattle.std.specs.VecDeque.{deque_capacity};
 
 use crate::call::make_next;
+use crate::firsts::{age_of, first_kept, keep_firsts};
 use crate::index::{Copied, drop_slot, enter_record, newest};
 use crate::stage::steps_for;
 use crate::turn::next_turn;
 use crate::{LogFault, Progress};
 use arrayvec::ArrayVec;
-use journal::{Super, read_copy, slot_of, turns_home};
+use journal::{Firsts, LogFormat, Super, read_copy, slot_of};
 use medium::{Medium, MediumFault};
-use std::alloc::Global;
+use std::alloc::{AllocError, Global};
 use std::collections::VecDeque;
 use std::marker::Model;
 
@@ -29,8 +31,9 @@ pub struct Log {
     pub(crate) waiting: VecDeque<Numbers>,
     // How many turns of the oldest of them are made.
     pub(crate) turned: usize,
-    // The descriptor of the oldest of them that was read last, in format 2.
-    pub(crate) kept: [u8; 512],
+    // The first 8 bytes of each block of each record, in format 2: of those that wait, the oldest
+    // first, then of the one under way.
+    pub(crate) firsts: VecDeque<Firsts>,
     // The stamp of the record whose last block went home ahead, 0 where there was none, and the one
     // that the next durable record had then.
     pub(crate) homed: u64,
@@ -59,7 +62,8 @@ impl Model for Log {
 impl Log {
     ghost use Rattle.journal.specs.Values.{shape_of};
     ghost use Rattle.redo_log.specs.Value.{HasRoom, Owes, HasNoCopy, IsNewestCopy, idle_from};
-    ghost use Rattle.journal.specs.Copies.{copy_reads_of, MakesReads};
+    ghost use Rattle.medium.specs.Medium.{Passes};
+    ghost use Rattle.medium.specs.declared.fault.MediumFault.TheVariants.{Read};
     ghost use Rattle.redo_log.specs.Value.{IsRetireStepped, next_calls, next_sends};
     ghost use Rattle.redo_log.specs.Value.{sends_of_oldest, most_retire_sends};
     ghost use Rattle.redo_log.specs.Batch.{IsBatch, entries_of};
@@ -69,7 +73,8 @@ impl Log {
     ghost use Rattle.redo_log.specs.Flushes.{next_turn_flushes};
 
     /// A log without records on a medium with this super. Its first record takes the stamp `next`.
-    /// The memory for the records' block numbers and for their index is taken here, and none later.
+    /// The memory for the records' block numbers, for their index and, in format 2, for the first
+    /// bytes of their blocks is taken here, and none later.
     ///
     /// # Errors
     ///
@@ -83,6 +88,9 @@ impl Log {
         let Ok(waiting) = VecDeque::with_capacity(alloc, sup.slots as usize) else {
             return Err(LogFault::NoMemory);
         };
+        let Ok(firsts) = firsts_for(alloc, sup) else {
+            return Err(LogFault::NoMemory);
+        };
         let room = sup.format.limit() as usize * sup.slots as usize;
         let Ok(index) = Vec::with_capacity(alloc, room) else {
             return Err(LogFault::NoMemory);
@@ -92,7 +100,7 @@ impl Log {
             head: next,
             waiting,
             turned: 0,
-            kept: [0; 512],
+            firsts,
             homed: 0,
             before: 0,
             under_way: ArrayVec::new(),
@@ -138,14 +146,13 @@ impl Log {
         requires live { self.old.dead ≡ false }
         requires room { HasRoom self.old }
         requires batch { IsBatch self.old.shape numbers.now bytes.now }
-        ensures { BeginsRecord numbers.now result self.old self.new }
+        ensures { BeginsRecord numbers.now bytes.now result self.old self.new }
     {
-        // The bytes are written by the steps.
-        let _ = bytes;
         if self.head + self.waiting.len() as u64 == (1 << 63) - 1 {
             self.dead = true;
             return Err(LogFault::StampsUsedUp);
         }
+        keep_firsts(&mut self.firsts, self.sizes.format, bytes);
         self.under_way = numbers_of(numbers);
         self.made = Some(0);
         Ok(())
@@ -190,15 +197,14 @@ impl Log {
     }
 
     /// Makes the next one or two calls that retire the oldest durable record, none where none
-    /// waits: each block from its data place home, a flush, and the head with a flush. In format 2
-    /// a descriptor is read before the blocks that it names.
+    /// waits: each block from its data place home, a flush, and the head with a flush.
     ///
     /// # Errors
     ///
     /// `Medium` where the medium refused a call. The log is dead then.
     pub fn retire_step<M: Medium>(&mut self, m: &mut M) -> Result<(), LogFault>
         requires { IsOn self.old (M.state m.old) }
-        // One call reads a descriptor or flushes, two copy a block or write the head and flush it.
+        // Two calls copy a block, one flushes, two write the head and flush it.
         ensures { MakesTurns M.state M.follows (self.old.waiting ≡ [])
             (0 < length self.old.waiting → IsRetireStepped self.old self.new)
             (CountsStep (next_calls self.old) (next_sends self.old) (next_turn_flushes self.old)
@@ -208,10 +214,10 @@ impl Log {
         let Some(oldest) = self.waiting.front() else {
             return Ok(());
         };
-        let home = turns_home(self.sizes.format, oldest.len());
+        let home = oldest.len();
         let numbers = oldest.as_slice();
-        let turn = next_turn(&self.sizes, self.head, numbers, &self.kept, self.turned);
-        if turn.make(m, &mut self.kept).is_err() {
+        let turn = next_turn(&self.sizes, self.head, numbers, &self.firsts, self.turned);
+        if turn.make(m).is_err() {
             self.dead = true;
             return Err(LogFault::Medium);
         }
@@ -221,9 +227,9 @@ impl Log {
         }
         drop_slot(&mut self.index, slot_of(self.head, self.sizes.slots));
         let _ = self.waiting.pop_front();
+        let _ = self.firsts.pop_front();
         self.head += 1;
         self.turned = 0;
-        self.kept = [0; 512];
         Ok(())
     }
 
@@ -237,7 +243,7 @@ impl Log {
         newest(&self.index, block)
     }
 
-    /// Reads a copy that `find` gave.
+    /// Reads a copy that `find` gave, by one read.
     ///
     /// # Errors
     ///
@@ -253,13 +259,30 @@ impl Log {
         requires copy { (block : ℕ) × IsNewestCopy self.now block slot place }
         ensures ok { (view : View) (block : ℕ) → HoldsView self.now (M.state m.old) view
             → IsNewestCopy self.now block slot place → OnOk result (to.new ≡ view.array block) }
-        ensures passes { MakesReads (copy_reads_of self.now.shape.format) result
-            (M.state m.old) (M.state m.new) }
+        ensures passes { Passes Read result (M.state m.old) (M.state m.new) }
         ensures keeps { KeepsLog M.state M.follows self.now m.old m.new }
     {
         prove!(slot < self.sizes.slots && place < self.sizes.format.limit() as usize);
-        read_copy(m, &self.sizes, slot, place, to)
+        let age = age_of(self.sizes.slots, self.head, slot);
+        let first = first_kept(&self.firsts, age, place);
+        read_copy(m, &self.sizes, slot, place, &first, to)
     }
+}
+
+// Room for the first bytes of the blocks of a record in each slot, in format 2. In format 1 no
+// memory is asked for.
+fn firsts_for(alloc: Global, sup: &Super) -> Result<VecDeque<Firsts>, AllocError>
+    ensures free { sup.now.format ≡ LogFormat.One → IsOk result }
+    ensures none { IfOk result (λ firsts. firsts.items ≡ []) }
+    ensures room { IfOk result (λ firsts. sup.now.format ≡ LogFormat.Two
+        → sup.now.slots ≤ deque_capacity firsts) }
+{
+    let slots = if sup.format.lacks_firsts() {
+        sup.slots
+    } else {
+        0
+    };
+    VecDeque::with_capacity(alloc, slots as usize)
 }
 
 // These numbers, of which there are no more than a record has.

@@ -1,27 +1,22 @@
 //! The turns that retire a durable record, one after the other.
-ghost use Rattle.std.specs.Prelude.{◌≡◌, ℕ, ◌≤◌, ◌<◌, ◌+◌, ◌*◌, length, slice_index};
-ghost use Rattle.std.specs.Prelude.{is_ok, if◌then◌else◌};
+ghost use Rattle.std.specs.Prelude.{◌≡◌, ℕ, ◌≤◌, ◌<◌, ◌+◌, ◌*◌, length};
 ghost use Rattle.medium.specs.Medium.{Holds, Only, LooksOnly};
-ghost use Rattle.journal.specs.Places.{first_data_of};
 ghost use Rattle.journal.specs.Values.{shape_of};
-ghost use Rattle.journal.specs.Layout.{slot_at};
-ghost use Rattle.journal.specs.Formats.{layout_of};
-ghost use Rattle.redo_log.specs.Value.{turns_home};
 ghost use Rattle.redo_log.specs.Stages.{IsRecord};
 ghost use Rattle.redo_log.specs.Calls.{CallsUpTo};
-ghost use Rattle.redo_log.specs.Turns.{begun_with, kept_by, calls_of, sends_of, flushes_of};
+ghost use Rattle.redo_log.specs.Shown.{firsts_in};
+ghost use Rattle.redo_log.specs.Turns.{begun_with, calls_of, sends_of, flushes_of};
 ghost use Rattle.redo_log.specs.Turns.{IsInside, MakesTurn, ReadsBefore, WritesSector};
-ghost use Rattle.redo_log.specs.Turns.{StaysInImage};
-ghost use Rattle.redo_log.specs.Turns.{IsCopyOf, IsHomeTurn, IsNextTurn};
+ghost use Rattle.redo_log.specs.Turns.{StaysInImage, IsHomeTurn, IsNextTurn};
 
-use journal::{Head, HomeTurn, Super, copy_place, home_turn, slot_of, slot_place, turns_home, v2};
+use crate::firsts::first_kept;
+use journal::{Firsts, Head, Super, copy_place, put_first, slot_of};
 use medium::{Medium, MediumFault};
+use std::collections::VecDeque;
 
 /// One medium call or two.
 #[derive(Drop)]
 pub(crate) enum Turn {
-    /// Reads the sector, whose bytes the log keeps.
-    Load(u64),
     /// Writes the bytes of the first sector to the second, with these 8 in front, if there are any.
     Copy(u64, u64, Option<[u8; 8]>),
     Flush,
@@ -30,23 +25,15 @@ pub(crate) enum Turn {
 }
 
 impl Turn {
-    pub(crate) fn make<M: Medium>(&self, m: &mut M, kept: &mut [u8; 512]) -> Result<(), MediumFault>
+    pub(crate) fn make<M: Medium>(&self, m: &mut M) -> Result<(), MediumFault>
         requires { IsInside (M.state m.old).size self.now }
         ensures makes { MakesTurn self.now result (M.state m.old) (M.state m.new) }
-        ensures keeps { kept.new
-            ≡ (if is_ok result then kept_by self.now (M.state m.old) kept.old else kept.old) }
         ensures counts { CallsUpTo (calls_of self.now) (sends_of self.now) (flushes_of self.now)
             result (M.state m.old) (M.state m.new) }
         ensures follows { M.follows m.old m.new × ((end : ℕ) → ReadsBefore end self.now
             → LooksOnly (λ s. s < end) (M.state m.old) (M.state m.new)) }
     {
         match self {
-            Turn::Load(from) => {
-                let mut sector = [0; 512];
-                m.read(*from, &mut sector)?;
-                *kept = sector;
-                Ok(())
-            }
             Turn::Copy(from, to, first) => copy_sector(m, *from, *to, first),
             Turn::Flush => m.flush(),
             Turn::Head(head) => write_through(m, 1, &head.encode()),
@@ -76,15 +63,6 @@ fn copy_sector<M: Medium>(
     m.write(to, &sector)
 }
 
-// Puts the bytes in front, if there are any.
-fn put_first(sector: &mut [u8; 512], first: &Option<[u8; 8]>)
-    ensures { sector.new ≡ begun_with first.now sector.old }
-{
-    if let Some(bytes) = first {
-        sector[..8].copy_from_slice(bytes);
-    }
-}
-
 // Writes a sector and flushes it.
 fn write_through<M: Medium>(m: &mut M, place: u64, sector: &[u8; 512]) -> Result<(), MediumFault>
     requires { place < (M.state m.old).size }
@@ -100,23 +78,23 @@ fn write_through<M: Medium>(m: &mut M, place: u64, sector: &[u8; 512]) -> Result
     m.flush()
 }
 
-/// The next turn of the retiring of a record on a medium of these sizes. These bytes were kept.
+/// The next turn of the retiring of a record on a medium of these sizes. It is the oldest of those
+/// of which these first bytes are kept.
 pub(crate) fn next_turn(
     sizes: &Super,
     stamp: u64,
     numbers: &[u64],
-    kept: &[u8; 512],
+    kept: &VecDeque<Firsts>,
     turned: usize,
 ) -> Turn
     requires record { IsRecord (shape_of sizes.now) stamp numbers.now }
-    requires turned { turned < turns_home sizes.now.format (length numbers.now) + 2 }
-    ensures { StaysInImage
-        (IsNextTurn (shape_of sizes.now) stamp numbers.now kept.now turned result)
-        (shape_of sizes.now) result }
+    requires turned { turned < length numbers.now + 2 }
+    ensures { StaysInImage (IsNextTurn (shape_of sizes.now) stamp numbers.now
+        (firsts_in kept.now.items) turned result) (shape_of sizes.now) result }
 {
-    let home = turns_home(sizes.format, numbers.len());
+    let home = numbers.len();
     if turned < home {
-        return turn_home(sizes, stamp, numbers, kept, turned);
+        return copy_turn(sizes, stamp, numbers, first_kept(kept, 0, turned), turned);
     }
     if turned == home {
         Turn::Flush
@@ -125,30 +103,12 @@ pub(crate) fn next_turn(
     }
 }
 
-// The next turn of a record whose blocks are not all home.
-fn turn_home(sizes: &Super, stamp: u64, numbers: &[u64], kept: &[u8; 512], turned: usize) -> Turn
-    requires record { IsRecord (shape_of sizes.now) stamp numbers.now }
-    requires turned { turned < turns_home sizes.now.format (length numbers.now) }
-    ensures { StaysInImage (IsHomeTurn sizes.now.format (shape_of sizes.now) stamp numbers.now
-        kept.now turned result) (shape_of sizes.now) result }
-{
-    match home_turn(sizes.format, turned) {
-        HomeTurn::Read(j) => {
-            let slot = slot_of(stamp, sizes.slots);
-            Turn::Load(slot_place(sizes.format, slot) + j as u64)
-        }
-        HomeTurn::Whole(i) => copy_turn(sizes, stamp, numbers, i, None),
-        HomeTurn::Begun(i) => copy_turn(sizes, stamp, numbers, i, Some(v2::first_bytes(kept, i))),
-    }
-}
-
 // Copies the i-th block of a record home, with these bytes in front, if there are any.
-fn copy_turn(sizes: &Super, stamp: u64, numbers: &[u64], i: usize, first: Option<[u8; 8]>) -> Turn
+fn copy_turn(sizes: &Super, stamp: u64, numbers: &[u64], first: Option<[u8; 8]>, i: usize) -> Turn
     requires record { IsRecord (shape_of sizes.now) stamp numbers.now }
     requires inside { i < length numbers.now }
-    ensures { StaysInImage (IsCopyOf (slot_at (layout_of sizes.now.format) (shape_of sizes.now)
-        stamp + first_data_of sizes.now.format + i)
-        (sizes.now.home + slice_index numbers.now i) first result) (shape_of sizes.now) result }
+    ensures { StaysInImage (IsHomeTurn (shape_of sizes.now) stamp numbers.now first i result)
+        (shape_of sizes.now) result }
 {
     let from = copy_place(sizes.format, slot_of(stamp, sizes.slots), i);
     Turn::Copy(from, sizes.home_of(numbers[i]), first)

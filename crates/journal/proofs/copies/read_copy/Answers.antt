@@ -1,4 +1,5 @@
-use Rattle.std.proofs.Common.{◌≡◌, ◌+◌, ◌*◌, ◌<◌, ℕ, ap, ◌∙◌, arith}
+use Rattle.std.proofs.Common.{◌≡◌, ◌+◌, ◌*◌, ◌<◌, ℕ, ap, ◌∙◌, arith, rules}
+use Rattle.medium.proofs.Moments.{quiet_call}
 use Rattle.medium.proofs.SectorsRead.{look_below}
 use Rattle.journal.specs.Places.{first_home, first_data_of}
 use Rattle.journal.specs.Values.{shape_of}
@@ -16,30 +17,36 @@ returns-clause-ok g c stamp entries slot below is whole =
     ∙ begun_is format (shape_of c.args.sizes.now) old.content stamp entries whole c.args.i below c.args.first.now is c.read.new.to
     (c.in_ok-read.ensures.ok ∙ ap old.content (c.copy_place.ensures ∙ ap at slot))
 
-pub returns-in_err-read-clause-follows : goal.returns-in_err-read-clause-follows
-returns-in_err-read-clause-follows g c =
-    let old = g.M.Medium.state c.args.m.now in
-    let new = g.M.Medium.state c.read.new.self in (
-      c.read.ensures.follows.0,
-      look_below (first_home (shape_of c.args.sizes.now)) old new c.copy_place.result
-          (omega (
-            arith,
-            c.copy_place.ensures,
-            place_before c.args.sizes.now.format c.args.sizes.now.slots c.args.sizes.now.home c.args.slot
-                c.args.i c.args.sizes.now.home_is c.requires.slot c.requires.inside,
-          )) c.read.ensures.follows.1,
-    )
+pub returns-in_err-read-clause-reads : goal.returns-in_err-read-clause-reads
+returns-in_err-read-clause-reads g c = record {
+  passes = search rules;
+  quiet = quiet_call (g.M.Medium.state c.args.m.now) (g.M.Medium.state c.read.new.self) c.read.ensures.passes c.read.ensures.content
+      c.read.ensures.sets;
+  follows = c.read.ensures.follows.0;
+  looks =
+      look_below (first_home (shape_of c.args.sizes.now)) (g.M.Medium.state c.args.m.now) (g.M.Medium.state c.read.new.self)
+      c.copy_place.result
+      (omega (
+        arith,
+        c.copy_place.ensures,
+        place_before c.args.sizes.now.format c.args.sizes.now.slots c.args.sizes.now.home c.args.slot
+            c.args.i c.args.sizes.now.home_is c.requires.slot c.requires.inside,
+      )) c.read.ensures.follows.1;
+}
 
-pub returns-clause-follows : goal.returns-clause-follows
-returns-clause-follows g c =
-    let old = g.M.Medium.state c.args.m.now in
-    let new = g.M.Medium.state c.read.new.self in (
-      c.read.ensures.follows.0,
-      look_below (first_home (shape_of c.args.sizes.now)) old new c.copy_place.result
-          (omega (
-            arith,
-            c.copy_place.ensures,
-            place_before c.args.sizes.now.format c.args.sizes.now.slots c.args.sizes.now.home c.args.slot
-                c.args.i c.args.sizes.now.home_is c.requires.slot c.requires.inside,
-          )) c.read.ensures.follows.1,
-    )
+pub returns-clause-reads : goal.returns-clause-reads
+returns-clause-reads g c = record {
+  passes = search rules;
+  quiet = quiet_call (g.M.Medium.state c.args.m.now) (g.M.Medium.state c.read.new.self) c.read.ensures.passes c.read.ensures.content
+      c.read.ensures.sets;
+  follows = c.read.ensures.follows.0;
+  looks =
+      look_below (first_home (shape_of c.args.sizes.now)) (g.M.Medium.state c.args.m.now) (g.M.Medium.state c.read.new.self)
+      c.copy_place.result
+      (omega (
+        arith,
+        c.copy_place.ensures,
+        place_before c.args.sizes.now.format c.args.sizes.now.slots c.args.sizes.now.home c.args.slot
+            c.args.i c.args.sizes.now.home_is c.requires.slot c.requires.inside,
+      )) c.read.ensures.follows.1;
+}

@@ -2,9 +2,7 @@ use Rattle.std.proofs.Common.{◌≡◌, ◌*◌, ◌/◌, length, arith}
 use Rattle.journal.proofs.BatchEntries.{all_firsts_of}
 use Rattle.journal.proofs.firsts.first_bytes.Goals as goal
 
-pub returns-in-Two : goal.returns-in-Two
-returns-in-Two c numbers size = (
-  c.in-Two.is,
-  all_firsts_of numbers c.args.bytes.now c.firsts_in.result.items _ size (omega (arith, size))
-      c.firsts_in.ensures.count c.firsts_in.ensures.each,
-)
+pub returns-in-Two-clause-are : goal.returns-in-Two-clause-are
+returns-in-Two-clause-are c numbers size =
+    all_firsts_of numbers c.args.bytes.now c.firsts_in.result.items _ size (omega (arith, size))
+    c.firsts_in.ensures.count c.firsts_in.ensures.each

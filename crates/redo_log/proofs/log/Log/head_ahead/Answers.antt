@@ -1,6 +1,6 @@
 use Rattle.std.proofs.Common.{◌≡◌, inr, ℕ, suc, ◌+◌, ◌-◌, ◌<◌, List, length, [], ◌∷◌, drop, subst, sym, refl}
 use Rattle.std.proofs.Common.{◌∙◌, ap, arith, rules, length-drop}
-use Rattle.std.specs.Prelude.{All, replicate, true, Result, Ok, Err, OnErr, is_err}
+use Rattle.std.specs.Prelude.{All, true, Result, Ok, Err, OnErr, is_err}
 use Rattle.std.proofs.lemmas.List.{length-map}
 use Rattle.medium.specs.Medium.{Holds}
 use Rattle.medium.proofs.SectorsRead.{no_looks}
@@ -15,12 +15,12 @@ use Rattle.redo_log.specs.Value.{LogValue, died, CanPass, IsRetireStepped}
 use Rattle.redo_log.specs.Stages.{value_at, IsRing, AreInside}
 use Rattle.redo_log.specs.Calls.{WritesOnly}
 use Rattle.redo_log.specs.Held.{MayLeave, HoldsView}
-use Rattle.redo_log.specs.Shown.{lists_of, ahead_in}
+use Rattle.redo_log.specs.Shown.{kept_in, lists_of, firsts_in, ahead_in}
 use Rattle.redo_log.specs.Index.{look, outside, IsIndex}
 use Rattle.redo_log.proofs.OneSector.{one_write}
 use Rattle.redo_log.proofs.IndexRoom.{index_fewer}
 use Rattle.redo_log.proofs.CoveredRecord.{ahead_retired}
-use Rattle.redo_log.proofs.RingRecords.{ring_retired, retired_last}
+use Rattle.redo_log.proofs.RingRecords.{ring_retired, retired_last, firsts_less}
 use Rattle.redo_log.proofs.LogFields.{on_ok_here, dead_held, sizes_sized}
 use Rattle.redo_log.proofs.FirstHead.{first_of, leads_cuts, leads_held}
 use Rattle.std.proofs.lemmas.Grind.{common_steps}
@@ -69,7 +69,7 @@ returns-then-is_err g c = record {
       let old = g.M.Medium.state c.args.m.now in
       let new = g.M.Medium.state c.write.new.self in
       let sound = g.met.M.Medium.sound c.args.m.now in
-      let cuts = leads_cuts (ahead_in i) (shape_of i.sizes) (sizes_sized i.sizes) i.head (lists_of i.waiting.items) i.turned i.kept
+      let cuts = leads_cuts (ahead_in i) (shape_of i.sizes) (sizes_sized i.sizes) i.head (lists_of i.waiting.items) i.turned (kept_in i)
       i.under_way.items i.made i.dead c.args.self.now c.self.view_is c.requires.live c.self.invariant.ring c.self.invariant.ahead_is
       c.self.invariant.least (omega (arith, c.self.invariant.most, many i.waiting.items)) can old new sound c.new.result
       c.new.ensures view holds (subst (λ (b : List ℕ). WritesOnly 1 b old new) c.encode.ensures.spelled
@@ -84,7 +84,7 @@ returns-then-is_err g c = record {
       record {
         cuts = λ view holds ours.
             let can : CanPass c.args.self.now = search rules in
-            leads_cuts (ahead_in i) (shape_of i.sizes) (sizes_sized i.sizes) i.head (lists_of i.waiting.items) i.turned i.kept
+            leads_cuts (ahead_in i) (shape_of i.sizes) (sizes_sized i.sizes) i.head (lists_of i.waiting.items) i.turned (kept_in i)
             i.under_way.items i.made i.dead c.args.self.now c.self.view_is c.requires.live c.self.invariant.ring c.self.invariant.ahead_is
             c.self.invariant.least (omega (arith, c.self.invariant.most, many i.waiting.items)) can old new sound c.new.result
             c.new.ensures view holds (subst (λ (b : List ℕ). WritesOnly 1 b old new) c.encode.ensures.spelled
@@ -111,7 +111,8 @@ pub invariant_of-self-2 : goal.invariant_of-self-2
 invariant_of-self-2 g c =
     let i = c.self.inside in
     let can : CanPass c.args.self.now = search rules in
-    let first = first_of (ahead_in i) (shape_of i.sizes) i.head (lists_of i.waiting.items) i.turned i.kept i.under_way.items i.made i.dead
+    let first = first_of (ahead_in i) (shape_of i.sizes) i.head (lists_of i.waiting.items) i.turned (kept_in i) i.under_way.items i.made
+    i.dead
     c.args.self.now c.self.view_is can.flushed in
     let one : length (lists_of i.waiting.items) ≡ length (first.numbers ∷ first.newer) =
     ap (λ (l : List (List ℕ)). length l) first.waits in
@@ -124,6 +125,15 @@ invariant_of-self-2 g c =
       least = omega arith;
       most = omega (arith, c.self.invariant.most, fewer, some);
       room = omega (arith, c.self.invariant.room, c.pop_front.ensures.capacity);
+      firsts_room = λ two. omega (arith, c.self.invariant.firsts_room two, c.pop_front-2.ensures.capacity);
+      firsts_few = omega (
+        arith,
+        c.self.invariant.firsts_few,
+        fewer,
+        some,
+        ap (λ (l : List (ArrayVec (List ℕ))). length l) c.pop_front-2.ensures.rest,
+        length-drop 1 i.firsts.items,
+      );
       index_room = omega (arith, c.self.invariant.index_room, c.drop_slot.ensures.capacity);
       index_is = subst (λ (l : List (ArrayVec ℕ)). IsIndex i.sizes.slots (i.head + 1) (lists_of l) c.drop_slot.new.index.items)
           (sym c.pop_front.ensures.rest)
@@ -137,7 +147,7 @@ invariant_of-self-2 g c =
           (ring_retired (shape_of i.sizes) first.numbers (lists_of (drop 1 i.waiting.items)) i.turned i.under_way.items
           i.made
           (subst (λ (l : List (List ℕ)). IsRing (shape_of i.sizes) l i.turned i.under_way.items i.made) waits c.self.invariant.ring));
-      ahead_is = ahead_retired (ahead_in i) (shape_of i.sizes) i.head (lists_of i.waiting.items) (lists_of c.pop_front.new.self.items)
+      ahead_is = ahead_retired (ahead_in i) i.head (lists_of i.waiting.items) (lists_of c.pop_front.new.self.items)
           i.turned 0 c.self.invariant.ahead_is;
     }
 
@@ -147,7 +157,7 @@ returns g c = record {
   answers = record {
     ok = λ can.
         let i = c.self.inside in
-        let first = first_of (ahead_in i) (shape_of i.sizes) i.head (lists_of i.waiting.items) i.turned i.kept i.under_way.items i.made
+        let first = first_of (ahead_in i) (shape_of i.sizes) i.head (lists_of i.waiting.items) i.turned (kept_in i) i.under_way.items i.made
         i.dead
         c.args.self.now c.self.view_is can.flushed in
         let waits : lists_of i.waiting.items ≡ first.numbers ∷ lists_of (drop 1 i.waiting.items) =
@@ -155,22 +165,26 @@ returns g c = record {
         let each : All (AreInside (shape_of i.sizes)) (lists_of (drop 1 i.waiting.items)) = λ j d below.
         (subst (λ (l : List (List ℕ)). All (AreInside (shape_of i.sizes)) l) waits c.self.invariant.ring.each) (suc j) d (omega arith) in
         let last = retired_last (ahead_in i) (shape_of i.sizes) i.head first.numbers (lists_of (drop 1 i.waiting.items))
-        i.turned i.kept i.under_way.items i.made i.dead each first.last in
+        i.turned (kept_in i) i.under_way.items i.made i.dead (firsts_in c.pop_front-2.new.self.items)
+        (firsts_less i.firsts.items c.pop_front-2.new.self.items c.pop_front-2.ensures.rest) each first.last in
         subst
         (λ (v : LogValue). IsRetireStepped v
-        (value_at (ahead_in i) (shape_of i.sizes) (i.head + 1) (lists_of c.pop_front.new.self.items) 0 (replicate 512 0) i.under_way.items
+        (value_at (ahead_in i) (shape_of i.sizes) (i.head + 1) (lists_of c.pop_front.new.self.items) 0
+        (firsts_in c.pop_front-2.new.self.items) i.under_way.items
         i.made
         i.dead))
         c.self.view_is
         (subst
         (λ (l : List (ArrayVec ℕ)). IsRetireStepped
-        (value_at (ahead_in i) (shape_of i.sizes) i.head (lists_of i.waiting.items) i.turned i.kept i.under_way.items i.made i.dead)
-        (value_at (ahead_in i) (shape_of i.sizes) (i.head + 1) (lists_of l) 0 (replicate 512 0) i.under_way.items i.made i.dead))
+        (value_at (ahead_in i) (shape_of i.sizes) i.head (lists_of i.waiting.items) i.turned (kept_in i) i.under_way.items i.made i.dead)
+        (value_at (ahead_in i) (shape_of i.sizes) (i.head + 1) (lists_of l) 0 (firsts_in c.pop_front-2.new.self.items) i.under_way.items
+        i.made i.dead))
         (sym c.pop_front.ensures.rest)
         (subst
         (λ (l : List (List ℕ)). IsRetireStepped
-        (value_at (ahead_in i) (shape_of i.sizes) i.head l i.turned i.kept i.under_way.items i.made i.dead)
-        (value_at (ahead_in i) (shape_of i.sizes) (i.head + 1) (lists_of (drop 1 i.waiting.items)) 0 (replicate 512 0) i.under_way.items
+        (value_at (ahead_in i) (shape_of i.sizes) i.head l i.turned (kept_in i) i.under_way.items i.made i.dead)
+        (value_at (ahead_in i) (shape_of i.sizes) (i.head + 1) (lists_of (drop 1 i.waiting.items)) 0
+        (firsts_in c.pop_front-2.new.self.items) i.under_way.items
         i.made i.dead))
         (sym waits) last));
     err = search rules;
@@ -183,13 +197,14 @@ returns g c = record {
       let old = g.M.Medium.state c.args.m.now in
       let new = g.M.Medium.state c.write.new.self in
       let sound = g.met.M.Medium.sound c.args.m.now in
-      leads_held (ahead_in i) (shape_of i.sizes) (sizes_sized i.sizes) i.head (lists_of i.waiting.items) i.turned i.kept
+      leads_held (ahead_in i) (shape_of i.sizes) (sizes_sized i.sizes) i.head (lists_of i.waiting.items) i.turned (kept_in i)
       i.under_way.items i.made i.dead c.args.self.now c.self.view_is c.requires.live c.self.invariant.ring c.self.invariant.ahead_is
       c.self.invariant.least (omega (arith, c.self.invariant.most, many i.waiting.items)) can old new sound c.new.result
       c.new.ensures view holds (subst (λ (b : List ℕ). WritesOnly 1 b old new) c.encode.ensures.spelled
       (one_write 1 c.encode.result old new sound c.write.ensures.passes c.write.ensures.sets))
-      (lists_of c.pop_front.new.self.items)
+      (lists_of c.pop_front.new.self.items) (firsts_in c.pop_front-2.new.self.items)
       (ap (λ (l : List (ArrayVec ℕ)). lists_of l) c.pop_front.ensures.rest ∙ sym (drop_lists i.waiting.items))
+      (firsts_less i.firsts.items c.pop_front-2.new.self.items c.pop_front-2.ensures.rest)
       c.write.ensures.passes.size_stays
       (subst (λ (b : List ℕ). Holds 1 b old.content new.content) c.encode.ensures.spelled
       (on_ok_here c.write.result (sym c.is_err.ensures.value ∙ c.if-is_err.false) c.write.ensures.ok));
@@ -201,7 +216,7 @@ returns g c = record {
       record {
         cuts = λ view holds ours.
             let can : CanPass c.args.self.now = search rules in
-            leads_cuts (ahead_in i) (shape_of i.sizes) (sizes_sized i.sizes) i.head (lists_of i.waiting.items) i.turned i.kept
+            leads_cuts (ahead_in i) (shape_of i.sizes) (sizes_sized i.sizes) i.head (lists_of i.waiting.items) i.turned (kept_in i)
             i.under_way.items i.made i.dead c.args.self.now c.self.view_is c.requires.live c.self.invariant.ring c.self.invariant.ahead_is
             c.self.invariant.least (omega (arith, c.self.invariant.most, many i.waiting.items)) can old new sound c.new.result
             c.new.ensures view holds (subst (λ (b : List ℕ). WritesOnly 1 b old new) c.encode.ensures.spelled

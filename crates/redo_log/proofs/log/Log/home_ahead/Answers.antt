@@ -1,18 +1,17 @@
 use Rattle.std.proofs.Common.{◌≡◌, ℕ, ◌+◌, ◌<◌, ◌≤◌, List, length, [], ◌∷◌, drop, subst, sym, ◌∙◌, ap, arith, rules}
-use Rattle.std.specs.Prelude.{All, Bool, true, false, slice_index_or, if◌then◌else◌}
+use Rattle.std.specs.Prelude.{All, slice_index_or}
 use Rattle.std.proofs.lemmas.List.{length-map}
 use Rattle.medium.proofs.Moments.{started}
 use Rattle.medium.proofs.SectorsRead.{no_looks}
 use Rattle.journal.specs.Places.{first_home}
 use Rattle.arrayvec.specs.ArrayVec.{ArrayVec}
 use Rattle.journal.specs.Values.{shape_of}
-use Rattle.redo_log.specs.Value.{LogValue, turns_home, of_oldest, died}
-use Rattle.redo_log.specs.Stages.{value_at, IsRing, AreInside}
-use Rattle.redo_log.specs.Turns.{kept_by}
+use Rattle.redo_log.specs.Value.{LogValue, of_oldest, died}
+use Rattle.redo_log.specs.Stages.{IsRing, AreInside}
 use Rattle.redo_log.specs.Held.{MayLeave, HoldsView}
-use Rattle.redo_log.specs.Shown.{lists_of, ahead_in}
+use Rattle.redo_log.specs.Shown.{kept_in, lists_of, ahead_in}
 use Rattle.redo_log.proofs.RingRecords.{front_is}
-use Rattle.redo_log.proofs.LogFields.{on_ok_here, ok_here, err_here, sizes_sized, turn_moments, turn_cuts, turn_dead, turn_sent_more}
+use Rattle.redo_log.proofs.LogFields.{on_ok_here, sizes_sized, turn_moments, turn_cuts, turn_dead, turn_sent_more}
 use Rattle.redo_log.proofs.LogFields.{turn_sent_last}
 use Rattle.redo_log.proofs.RetireCalls.{turn_costs, step_costs, turn_refused, left_is, away_calls}
 use Rattle.redo_log.proofs.StepFlushes.{home_flushes}
@@ -30,10 +29,6 @@ many records = let f : ArrayVec ℕ → List ℕ = λ r. r.items in length-map r
 waits_is : (records : List (ArrayVec ℕ)) (first : ArrayVec ℕ) (numbers : List ℕ) → 0 < length records
     → first ≡ slice_index_or records 0 first → numbers ≡ first.items → lists_of records ≡ numbers ∷ lists_of (drop 1 records)
 waits_is records first numbers some is same = front_is records first some is ∙ ap (λ (l : List ℕ). l ∷ lists_of (drop 1 records)) (sym same)
-
--- the bytes that are kept after a call
-kept_is : (b : Bool) (is : Bool) (now next old : List ℕ) → now ≡ (if b then next else old) → b ≡ is → now ≡ (if is then next else old)
-kept_is b is now next old keeps same = keeps ∙ ap (λ (t : Bool). if t then next else old) same
 
 pub next_turn-turn-requires-clause-record : goal.next_turn-turn-requires-clause-record
 next_turn-turn-requires-clause-record g c =
@@ -70,9 +65,10 @@ returns-then-turns-self g c = record {
       let i = c.self.inside in
       let some : 0 < length i.waiting.items = search rules in
       let front = front_is i.waiting.items c.in-Some.record.now some c.in-Some.ensures.lookup in
-      let turns : c.turns_home-turns.result ≡ turns_home i.sizes.format (length c.in-Some.record.now.items) =
-      c.turns_home-turns.ensures ∙ ap (λ (n : ℕ). turns_home i.sizes.format n) c.len.ensures.value in
-      let left = left_is c.args.self.now (ahead_in i) (shape_of i.sizes) i.head (lists_of i.waiting.items) i.turned i.kept i.under_way.items
+      let turns : c.len-turns.result ≡ length c.in-Some.record.now.items =
+      c.len-turns.ensures.value in
+      let left = left_is c.args.self.now (ahead_in i) (shape_of i.sizes) i.head (lists_of i.waiting.items) i.turned (kept_in i)
+      i.under_way.items
       i.made i.dead c.in-Some.record.now.items (lists_of (drop 1 i.waiting.items)) c.self.view_is front in
       let home : of_oldest c.args.self.now ≤ 2 = omega (arith, left, turns, c.if-turns-self.true) in
       record { ok = λ away. absurd (omega (arith, home, away)); err = search rules; fault = search rules };
@@ -98,9 +94,10 @@ returns-then-refused g c =
     c.as_slice-numbers.ensures.value in
     let long : length c.in-Some.record.now.items ≡ length c.as_slice-numbers.result.now =
     ap (λ (l : List ℕ). length l) (sym c.as_slice-numbers.ensures.value) in
-    let turns : c.turns_home-turns.result ≡ turns_home i.sizes.format (length c.as_slice-numbers.result.now) =
-    c.turns_home-turns.ensures ∙ ap (λ (n : ℕ). turns_home i.sizes.format n) (c.len.ensures.value ∙ long) in
-    let left = left_is c.args.self.now (ahead_in i) (shape_of i.sizes) i.head (lists_of i.waiting.items) i.turned i.kept i.under_way.items
+    let turns : c.len-turns.result ≡ length c.as_slice-numbers.result.now =
+    c.len-turns.ensures.value ∙ long in
+    let left = left_is c.args.self.now (ahead_in i) (shape_of i.sizes) i.head (lists_of i.waiting.items) i.turned (kept_in i)
+    i.under_way.items
     i.made i.dead c.as_slice-numbers.result.now (lists_of (drop 1 i.waiting.items)) c.self.view_is waits in
     let away : 2 < of_oldest c.args.self.now = omega (arith, left, turns, c.if-turns-self.false) in
     record {
@@ -108,21 +105,23 @@ returns-then-refused g c =
           λ home. absurd (home away);
       answers = search rules;
       passes =
-          let oldest : i.turned < turns_home i.sizes.format (length c.as_slice-numbers.result.now) + 2 =
+          let oldest : i.turned < length c.as_slice-numbers.result.now + 2 =
           (subst (λ (l : List (List ℕ)). IsRing (shape_of i.sizes) l i.turned i.under_way.items i.made) waits c.self.invariant.ring).oldest
           in
-          let costs = turn_costs (shape_of i.sizes) i.head c.as_slice-numbers.result.now i.kept i.turned c.next_turn-turn.result
+          let costs = turn_costs (shape_of i.sizes) i.head c.as_slice-numbers.result.now (kept_in i) i.turned c.next_turn-turn.result
           c.next_turn-turn.ensures.next oldest
-          ∙ (step_costs c.args.self.now (ahead_in i) (shape_of i.sizes) i.head (lists_of i.waiting.items) i.turned i.kept i.under_way.items
+          ∙ (step_costs c.args.self.now (ahead_in i) (shape_of i.sizes) i.head (lists_of i.waiting.items) i.turned (kept_in i)
+          i.under_way.items
           i.made i.dead c.as_slice-numbers.result.now (lists_of (drop 1 i.waiting.items)) c.self.view_is waits
           ∙ sym (away_calls c.args.self.now away)) in
           let few = turn_refused c.next_turn-turn.result _ _ _ costs c.make.ensures.counts.calls in
-          let sends = turn_sent (shape_of i.sizes) i.head c.as_slice-numbers.result.now i.kept i.turned c.next_turn-turn.result
+          let sends = turn_sent (shape_of i.sizes) i.head c.as_slice-numbers.result.now (kept_in i) i.turned c.next_turn-turn.result
           c.next_turn-turn.ensures.next oldest
-          ∙ step_sends c.args.self.now (ahead_in i) (shape_of i.sizes) i.head (lists_of i.waiting.items) i.turned i.kept i.under_way.items
+          ∙ step_sends c.args.self.now (ahead_in i) (shape_of i.sizes) i.head (lists_of i.waiting.items) i.turned (kept_in i)
+          i.under_way.items
           i.made
           i.dead c.as_slice-numbers.result.now (lists_of (drop 1 i.waiting.items)) c.self.view_is waits in
-          let none = home_flushes i.sizes.format (shape_of i.sizes) i.head c.as_slice-numbers.result.now i.kept i.turned
+          let none = home_flushes (shape_of i.sizes) i.head c.as_slice-numbers.result.now _ i.turned
           c.next_turn-turn.result (c.next_turn-turn.ensures.next.home (omega (arith, turns, c.if-turns-self.false))) in
           let counted = c.make.ensures.counts.flushed in
           record {
@@ -138,23 +137,17 @@ returns-then-refused g c =
             follows = search rules;
           };
       holds = λ view holds.
-          let dead = turn_dead (ahead_in i) (shape_of i.sizes) (sizes_sized i.sizes) i.head (lists_of i.waiting.items) i.turned i.kept
+          let dead = turn_dead (ahead_in i) (shape_of i.sizes) (sizes_sized i.sizes) i.head (lists_of i.waiting.items) i.turned (kept_in i)
           i.under_way.items i.made
           i.dead c.args.self.now c.self.view_is c.requires.live c.self.invariant.ring c.self.invariant.ahead_is c.self.invariant.least
           (omega (arith, c.self.invariant.most, many i.waiting.items)) c.as_slice-numbers.result.now (lists_of (drop 1 i.waiting.items))
           waits (g.M.Medium.state c.args.m.now) (g.M.Medium.state c.make.new.m) (g.met.M.Medium.sound c.args.m.now) c.next_turn-turn.result
           c.next_turn-turn.ensures.next c.make.ensures.makes.adds view holds c.make.ensures.counts.size (g.met.M.Medium.sound c.make.new.m)
           in
-          let keeps = kept_is _ false c.make.new.kept (kept_by c.next_turn-turn.result (g.M.Medium.state c.args.m.now) i.kept) i.kept
-          c.make.ensures.keeps (err_here c.make.result (sym c.is_err-refused.ensures.value ∙ c.if-refused.true)) in
-          subst
-          (λ (k : List ℕ). HoldsView
-          (died (value_at (ahead_in i) (shape_of i.sizes) i.head (lists_of i.waiting.items) i.turned k i.under_way.items i.made i.dead))
-          (g.M.Medium.state c.make.new.m) view)
-          (sym keeps) (subst (λ (v : LogValue). HoldsView (died v) (g.M.Medium.state c.make.new.m) view) (sym c.self.view_is) dead);
+          subst (λ (v : LogValue). HoldsView (died v) (g.M.Medium.state c.make.new.m) view) (sym c.self.view_is) dead;
       leaves = record {
         cuts = λ view holds ours.
-            turn_cuts (ahead_in i) (shape_of i.sizes) (sizes_sized i.sizes) i.head (lists_of i.waiting.items) i.turned i.kept
+            turn_cuts (ahead_in i) (shape_of i.sizes) (sizes_sized i.sizes) i.head (lists_of i.waiting.items) i.turned (kept_in i)
             i.under_way.items i.made i.dead
             c.args.self.now c.self.view_is c.requires.live c.self.invariant.ring c.self.invariant.ahead_is c.self.invariant.least
             (omega (arith, c.self.invariant.most, many i.waiting.items)) c.as_slice-numbers.result.now (lists_of (drop 1 i.waiting.items))
@@ -181,9 +174,10 @@ returns-then-self-turns g c =
     c.as_slice-numbers.ensures.value in
     let long : length c.in-Some.record.now.items ≡ length c.as_slice-numbers.result.now =
     ap (λ (l : List ℕ). length l) (sym c.as_slice-numbers.ensures.value) in
-    let turns : c.turns_home-turns.result ≡ turns_home i.sizes.format (length c.as_slice-numbers.result.now) =
-    c.turns_home-turns.ensures ∙ ap (λ (n : ℕ). turns_home i.sizes.format n) (c.len.ensures.value ∙ long) in
-    let left = left_is c.args.self.now (ahead_in i) (shape_of i.sizes) i.head (lists_of i.waiting.items) i.turned i.kept i.under_way.items
+    let turns : c.len-turns.result ≡ length c.as_slice-numbers.result.now =
+    c.len-turns.ensures.value ∙ long in
+    let left = left_is c.args.self.now (ahead_in i) (shape_of i.sizes) i.head (lists_of i.waiting.items) i.turned (kept_in i)
+    i.under_way.items
     i.made i.dead c.as_slice-numbers.result.now (lists_of (drop 1 i.waiting.items)) c.self.view_is waits in
     let away : 2 < of_oldest c.args.self.now = omega (arith, left, turns, c.if-turns-self.false) in
     record {
@@ -191,22 +185,24 @@ returns-then-self-turns g c =
           λ home. absurd (home away);
       answers = grind (arith, common_steps);
       passes =
-          let oldest : i.turned < turns_home i.sizes.format (length c.as_slice-numbers.result.now) + 2 =
+          let oldest : i.turned < length c.as_slice-numbers.result.now + 2 =
           (subst (λ (l : List (List ℕ)). IsRing (shape_of i.sizes) l i.turned i.under_way.items i.made) waits c.self.invariant.ring).oldest
           in
-          let costs = turn_costs (shape_of i.sizes) i.head c.as_slice-numbers.result.now i.kept i.turned c.next_turn-turn.result
+          let costs = turn_costs (shape_of i.sizes) i.head c.as_slice-numbers.result.now (kept_in i) i.turned c.next_turn-turn.result
           c.next_turn-turn.ensures.next oldest
-          ∙ (step_costs c.args.self.now (ahead_in i) (shape_of i.sizes) i.head (lists_of i.waiting.items) i.turned i.kept i.under_way.items
+          ∙ (step_costs c.args.self.now (ahead_in i) (shape_of i.sizes) i.head (lists_of i.waiting.items) i.turned (kept_in i)
+          i.under_way.items
           i.made i.dead c.as_slice-numbers.result.now (lists_of (drop 1 i.waiting.items)) c.self.view_is waits
           ∙ sym (away_calls c.args.self.now away)) in
           let few = turn_refused c.next_turn-turn.result _ _ _ costs c.make.ensures.counts.calls in
-          let sends = turn_sent (shape_of i.sizes) i.head c.as_slice-numbers.result.now i.kept i.turned c.next_turn-turn.result
+          let sends = turn_sent (shape_of i.sizes) i.head c.as_slice-numbers.result.now (kept_in i) i.turned c.next_turn-turn.result
           c.next_turn-turn.ensures.next oldest
-          ∙ step_sends c.args.self.now (ahead_in i) (shape_of i.sizes) i.head (lists_of i.waiting.items) i.turned i.kept i.under_way.items
+          ∙ step_sends c.args.self.now (ahead_in i) (shape_of i.sizes) i.head (lists_of i.waiting.items) i.turned (kept_in i)
+          i.under_way.items
           i.made
           i.dead c.as_slice-numbers.result.now (lists_of (drop 1 i.waiting.items)) c.self.view_is waits in
           let made = on_ok_here c.make.result (sym c.is_err-refused.ensures.value ∙ c.if-refused.false) c.make.ensures.counts.exact in
-          let none = home_flushes i.sizes.format (shape_of i.sizes) i.head c.as_slice-numbers.result.now i.kept i.turned
+          let none = home_flushes (shape_of i.sizes) i.head c.as_slice-numbers.result.now _ i.turned
           c.next_turn-turn.result (c.next_turn-turn.ensures.next.home (omega (arith, turns, c.if-turns-self.false))) in
           let counted = c.make.ensures.counts.flushed in
           record {
@@ -226,19 +222,17 @@ returns-then-self-turns g c =
             follows = search rules;
           };
       holds = λ view holds.
-          turn_sent_more (ahead_in i) (shape_of i.sizes) (sizes_sized i.sizes) i.head (lists_of i.waiting.items) i.turned i.kept
+          turn_sent_more (ahead_in i) (shape_of i.sizes) (sizes_sized i.sizes) i.head (lists_of i.waiting.items) i.turned (kept_in i)
           i.under_way.items i.made i.dead
           c.args.self.now c.self.view_is c.requires.live c.self.invariant.ring c.self.invariant.ahead_is c.self.invariant.least
           (omega (arith, c.self.invariant.most, many i.waiting.items)) c.as_slice-numbers.result.now (lists_of (drop 1 i.waiting.items))
           waits (g.M.Medium.state c.args.m.now) (g.M.Medium.state c.make.new.m) (g.met.M.Medium.sound c.args.m.now) c.next_turn-turn.result
           c.next_turn-turn.ensures.next c.make.ensures.makes.adds view holds c.make.ensures.counts.size
-          (on_ok_here c.make.result (sym c.is_err-refused.ensures.value ∙ c.if-refused.false) c.make.ensures.makes.done) c.make.new.kept
-          (kept_is _ true c.make.new.kept (kept_by c.next_turn-turn.result (g.M.Medium.state c.args.m.now) i.kept) i.kept
-          c.make.ensures.keeps (ok_here c.make.result (sym c.is_err-refused.ensures.value ∙ c.if-refused.false)))
+          (on_ok_here c.make.result (sym c.is_err-refused.ensures.value ∙ c.if-refused.false) c.make.ensures.makes.done)
           (omega (arith, turns, c.if-self-turns.true));
       leaves = record {
         cuts = λ view holds ours.
-            turn_cuts (ahead_in i) (shape_of i.sizes) (sizes_sized i.sizes) i.head (lists_of i.waiting.items) i.turned i.kept
+            turn_cuts (ahead_in i) (shape_of i.sizes) (sizes_sized i.sizes) i.head (lists_of i.waiting.items) i.turned (kept_in i)
             i.under_way.items i.made i.dead
             c.args.self.now c.self.view_is c.requires.live c.self.invariant.ring c.self.invariant.ahead_is c.self.invariant.least
             (omega (arith, c.self.invariant.most, many i.waiting.items)) c.as_slice-numbers.result.now (lists_of (drop 1 i.waiting.items))
@@ -265,9 +259,10 @@ returns g c =
     c.as_slice-numbers.ensures.value in
     let long : length c.in-Some.record.now.items ≡ length c.as_slice-numbers.result.now =
     ap (λ (l : List ℕ). length l) (sym c.as_slice-numbers.ensures.value) in
-    let turns : c.turns_home-turns.result ≡ turns_home i.sizes.format (length c.as_slice-numbers.result.now) =
-    c.turns_home-turns.ensures ∙ ap (λ (n : ℕ). turns_home i.sizes.format n) (c.len.ensures.value ∙ long) in
-    let left = left_is c.args.self.now (ahead_in i) (shape_of i.sizes) i.head (lists_of i.waiting.items) i.turned i.kept i.under_way.items
+    let turns : c.len-turns.result ≡ length c.as_slice-numbers.result.now =
+    c.len-turns.ensures.value ∙ long in
+    let left = left_is c.args.self.now (ahead_in i) (shape_of i.sizes) i.head (lists_of i.waiting.items) i.turned (kept_in i)
+    i.under_way.items
     i.made i.dead c.as_slice-numbers.result.now (lists_of (drop 1 i.waiting.items)) c.self.view_is waits in
     let away : 2 < of_oldest c.args.self.now = omega (arith, left, turns, c.if-turns-self.false) in
     record {
@@ -275,22 +270,24 @@ returns g c =
           λ home. absurd (home away);
       answers = grind (arith, common_steps);
       passes =
-          let oldest : i.turned < turns_home i.sizes.format (length c.as_slice-numbers.result.now) + 2 =
+          let oldest : i.turned < length c.as_slice-numbers.result.now + 2 =
           (subst (λ (l : List (List ℕ)). IsRing (shape_of i.sizes) l i.turned i.under_way.items i.made) waits c.self.invariant.ring).oldest
           in
-          let costs = turn_costs (shape_of i.sizes) i.head c.as_slice-numbers.result.now i.kept i.turned c.next_turn-turn.result
+          let costs = turn_costs (shape_of i.sizes) i.head c.as_slice-numbers.result.now (kept_in i) i.turned c.next_turn-turn.result
           c.next_turn-turn.ensures.next oldest
-          ∙ (step_costs c.args.self.now (ahead_in i) (shape_of i.sizes) i.head (lists_of i.waiting.items) i.turned i.kept i.under_way.items
+          ∙ (step_costs c.args.self.now (ahead_in i) (shape_of i.sizes) i.head (lists_of i.waiting.items) i.turned (kept_in i)
+          i.under_way.items
           i.made i.dead c.as_slice-numbers.result.now (lists_of (drop 1 i.waiting.items)) c.self.view_is waits
           ∙ sym (away_calls c.args.self.now away)) in
           let few = turn_refused c.next_turn-turn.result _ _ _ costs c.make.ensures.counts.calls in
-          let sends = turn_sent (shape_of i.sizes) i.head c.as_slice-numbers.result.now i.kept i.turned c.next_turn-turn.result
+          let sends = turn_sent (shape_of i.sizes) i.head c.as_slice-numbers.result.now (kept_in i) i.turned c.next_turn-turn.result
           c.next_turn-turn.ensures.next oldest
-          ∙ step_sends c.args.self.now (ahead_in i) (shape_of i.sizes) i.head (lists_of i.waiting.items) i.turned i.kept i.under_way.items
+          ∙ step_sends c.args.self.now (ahead_in i) (shape_of i.sizes) i.head (lists_of i.waiting.items) i.turned (kept_in i)
+          i.under_way.items
           i.made
           i.dead c.as_slice-numbers.result.now (lists_of (drop 1 i.waiting.items)) c.self.view_is waits in
           let made = on_ok_here c.make.result (sym c.is_err-refused.ensures.value ∙ c.if-refused.false) c.make.ensures.counts.exact in
-          let none = home_flushes i.sizes.format (shape_of i.sizes) i.head c.as_slice-numbers.result.now i.kept i.turned
+          let none = home_flushes (shape_of i.sizes) i.head c.as_slice-numbers.result.now _ i.turned
           c.next_turn-turn.result (c.next_turn-turn.ensures.next.home (omega (arith, turns, c.if-turns-self.false))) in
           let counted = c.make.ensures.counts.flushed in
           record {
@@ -310,20 +307,18 @@ returns g c =
             follows = search rules;
           };
       holds = λ view holds.
-          turn_sent_last (ahead_in i) (shape_of i.sizes) (sizes_sized i.sizes) i.head (lists_of i.waiting.items) i.turned i.kept
+          turn_sent_last (ahead_in i) (shape_of i.sizes) (sizes_sized i.sizes) i.head (lists_of i.waiting.items) i.turned (kept_in i)
           i.under_way.items i.made i.dead
           c.args.self.now c.self.view_is c.requires.live c.self.invariant.ring c.self.invariant.ahead_is c.self.invariant.least
           (omega (arith, c.self.invariant.most, many i.waiting.items)) c.as_slice-numbers.result.now (lists_of (drop 1 i.waiting.items))
           waits (g.M.Medium.state c.args.m.now) (g.M.Medium.state c.make.new.m) (g.met.M.Medium.sound c.args.m.now) c.next_turn-turn.result
           c.next_turn-turn.ensures.next c.make.ensures.makes.adds view holds c.make.ensures.counts.size
-          (on_ok_here c.make.result (sym c.is_err-refused.ensures.value ∙ c.if-refused.false) c.make.ensures.makes.done) c.make.new.kept
-          (kept_is _ true c.make.new.kept (kept_by c.next_turn-turn.result (g.M.Medium.state c.args.m.now) i.kept) i.kept
-          c.make.ensures.keeps (ok_here c.make.result (sym c.is_err-refused.ensures.value ∙ c.if-refused.false)))
-          (i.head + c.len-2.result) (omega (arith, c.len-2.ensures, many i.waiting.items))
+          (on_ok_here c.make.result (sym c.is_err-refused.ensures.value ∙ c.if-refused.false) c.make.ensures.makes.done)
+          (i.head + c.len.result) (omega (arith, c.len.ensures, many i.waiting.items))
           (omega (arith, turns, c.if-self-turns.false, c.if-turns-self.false));
       leaves = record {
         cuts = λ view holds ours.
-            turn_cuts (ahead_in i) (shape_of i.sizes) (sizes_sized i.sizes) i.head (lists_of i.waiting.items) i.turned i.kept
+            turn_cuts (ahead_in i) (shape_of i.sizes) (sizes_sized i.sizes) i.head (lists_of i.waiting.items) i.turned (kept_in i)
             i.under_way.items i.made i.dead
             c.args.self.now c.self.view_is c.requires.live c.self.invariant.ring c.self.invariant.ahead_is c.self.invariant.least
             (omega (arith, c.self.invariant.most, many i.waiting.items)) c.as_slice-numbers.result.now (lists_of (drop 1 i.waiting.items))

@@ -2,8 +2,8 @@ use Rattle.std.proofs.Common.{◌≡◌, ℕ, ◌+◌, ◌<◌, List, length, dr
 use Rattle.std.proofs.lemmas.List.{length-map}
 use Rattle.arrayvec.specs.ArrayVec.{ArrayVec}
 use Rattle.journal.specs.Values.{shape_of}
-use Rattle.redo_log.specs.Value.{LogValue, turns_home}
-use Rattle.redo_log.specs.Shown.{lists_of, ahead_in}
+use Rattle.redo_log.specs.Value.{LogValue}
+use Rattle.redo_log.specs.Shown.{kept_in, lists_of, ahead_in}
 use Rattle.redo_log.proofs.RetireCalls.{left_is}
 use Rattle.redo_log.proofs.RingRecords.{front_is}
 use Rattle.redo_log.proofs.log.Log.settle.Goals as goal
@@ -19,13 +19,14 @@ returns-then-self-clause-covered c = (
       let many : length (lists_of i.waiting.items) ≡ length i.waiting.items = length-map i.waiting.items f in
       let some : 0 < length i.waiting.items = search rules in
       let front = front_is i.waiting.items c.in-Some.first.now some c.in-Some.ensures.lookup in
-      let turns : c.turns_home-all.result ≡ turns_home i.sizes.format (length c.in-Some.first.now.items) =
-      c.turns_home-all.ensures ∙ ap (λ (n : ℕ). turns_home i.sizes.format n) c.len.ensures.value in
-      let left = left_is c.args.self.now (ahead_in i) (shape_of i.sizes) i.head (lists_of i.waiting.items) i.turned i.kept i.under_way.items
+      let turns : c.len-all.result ≡ length c.in-Some.first.now.items =
+      c.len-all.ensures.value in
+      let left = left_is c.args.self.now (ahead_in i) (shape_of i.sizes) i.head (lists_of i.waiting.items) i.turned (kept_in i)
+      i.under_way.items
       i.made i.dead c.in-Some.first.now.items (lists_of (drop 1 i.waiting.items)) c.self.view_is front in
       let same : i.homed ≡ i.head =
       ap (λ (v : LogValue). v.ahead.home) c.self.view_is ∙ (covered.oldest ∙ sym (ap (λ (v : LogValue). v.head) c.self.view_is)) in
-      let home : i.turned ≡ c.turns_home-all.result = omega (arith, left, covered.flushes, turns) in
+      let home : i.turned ≡ c.len-all.result = omega (arith, left, covered.flushes, turns) in
       let since : i.before < i.head + length i.waiting.items =
       omega (
         arith,
@@ -38,6 +39,6 @@ returns-then-self-clause-covered c = (
       elim c.then-self.branch [
         | then-self-via-then-self w ↦ absurd (omega (arith, same))
         | then-self-via-else-self+then-self-all w ↦ absurd (omega (arith, home))
-        | then-self-via-else-self+else-self-all+then-next-self w ↦ absurd (omega (arith, since, c.len-2.ensures))
+        | then-self-via-else-self+else-self-all+then-next-self w ↦ absurd (omega (arith, since, c.len.ensures))
       ],
 )

@@ -8,7 +8,7 @@ use Rattle.journal.specs.Values.{shape_of}
 use Rattle.redo_log.specs.Value.{LogValue, died}
 use Rattle.redo_log.specs.Held.{HoldsView, with_record}
 use Rattle.redo_log.specs.Stages.{value_at, begun_at, AreInside, IsRing, IsUnderWay, IsAheadOf}
-use Rattle.redo_log.specs.Shown.{lists_of, ahead_in}
+use Rattle.redo_log.specs.Shown.{kept_in, lists_of, ahead_in}
 use Rattle.redo_log.specs.Index.{look, with_copies, IsIndex}
 use Rattle.redo_log.proofs.CoveredRecord.{ahead_durable}
 use Rattle.redo_log.proofs.RingRecords.{lists_more, ring_durable}
@@ -29,7 +29,8 @@ returns-then-is_err g c = record {
   answers = search rules;
   passes =
       let i = c.self.inside in
-      let flushed = step_flushed (ahead_in i) (shape_of i.sizes) (sizes_sized i.sizes) i.head (lists_of i.waiting.items) i.turned i.kept
+      let flushed = step_flushed (ahead_in i) (shape_of i.sizes) (sizes_sized i.sizes) i.head (lists_of i.waiting.items) i.turned
+      (kept_in i)
       i.under_way.items i.made i.dead c.args.self.now c.self.view_is c.requires.on.live c.self.invariant.ring c.self.invariant.ahead_is
       c.self.invariant.least
       (omega (arith, c.self.invariant.most, many i.waiting.items)) c.args.numbers.now c.args.bytes.now c.in-Some.made c.in-Some.is
@@ -44,7 +45,7 @@ returns-then-is_err g c = record {
       };
   holds = λ view holds entries.
       let i = c.self.inside in
-      let dead = step_dead (ahead_in i) (shape_of i.sizes) (sizes_sized i.sizes) i.head (lists_of i.waiting.items) i.turned i.kept
+      let dead = step_dead (ahead_in i) (shape_of i.sizes) (sizes_sized i.sizes) i.head (lists_of i.waiting.items) i.turned (kept_in i)
       i.under_way.items i.made
       i.dead c.args.self.now c.self.view_is c.requires.on.live c.self.invariant.ring c.self.invariant.ahead_is c.self.invariant.least
       (omega (arith, c.self.invariant.most, many i.waiting.items)) c.args.numbers.now c.args.bytes.now c.in-Some.made c.in-Some.is
@@ -59,7 +60,8 @@ returns-then-is_err g c = record {
   leaves = record {
     cuts = λ view holds ours.
         let i = c.self.inside in
-        step_cuts (ahead_in i) (shape_of i.sizes) (sizes_sized i.sizes) i.head (lists_of i.waiting.items) i.turned i.kept i.under_way.items
+        step_cuts (ahead_in i) (shape_of i.sizes) (sizes_sized i.sizes) i.head (lists_of i.waiting.items) i.turned (kept_in i)
+        i.under_way.items
         i.made i.dead
         c.args.self.now c.self.view_is c.requires.on.live c.self.invariant.ring c.self.invariant.ahead_is c.self.invariant.least
         (omega (arith, c.self.invariant.most, many i.waiting.items)) c.args.numbers.now c.args.bytes.now c.in-Some.made c.in-Some.is
@@ -84,7 +86,8 @@ returns-then-made-steps_for g c = record {
   answers = search rules;
   passes =
       let i = c.self.inside in
-      let flushed = step_flushed (ahead_in i) (shape_of i.sizes) (sizes_sized i.sizes) i.head (lists_of i.waiting.items) i.turned i.kept
+      let flushed = step_flushed (ahead_in i) (shape_of i.sizes) (sizes_sized i.sizes) i.head (lists_of i.waiting.items) i.turned
+      (kept_in i)
       i.under_way.items i.made i.dead c.args.self.now c.self.view_is c.requires.on.live c.self.invariant.ring c.self.invariant.ahead_is
       c.self.invariant.least
       (omega (arith, c.self.invariant.most, many i.waiting.items)) c.args.numbers.now c.args.bytes.now c.in-Some.made c.in-Some.is
@@ -99,7 +102,8 @@ returns-then-made-steps_for g c = record {
       };
   holds = λ view holds entries.
       let i = c.self.inside in
-      step_goes_on (ahead_in i) (shape_of i.sizes) (sizes_sized i.sizes) i.head (lists_of i.waiting.items) i.turned i.kept i.under_way.items
+      step_goes_on (ahead_in i) (shape_of i.sizes) (sizes_sized i.sizes) i.head (lists_of i.waiting.items) i.turned (kept_in i)
+      i.under_way.items
       i.made i.dead
       c.args.self.now c.self.view_is c.requires.on.live c.self.invariant.ring c.self.invariant.ahead_is c.self.invariant.least
       (omega (arith, c.self.invariant.most, many i.waiting.items)) c.args.numbers.now c.args.bytes.now c.in-Some.made c.in-Some.is
@@ -114,7 +118,8 @@ returns-then-made-steps_for g c = record {
   leaves = record {
     cuts = λ view holds ours.
         let i = c.self.inside in
-        step_cuts (ahead_in i) (shape_of i.sizes) (sizes_sized i.sizes) i.head (lists_of i.waiting.items) i.turned i.kept i.under_way.items
+        step_cuts (ahead_in i) (shape_of i.sizes) (sizes_sized i.sizes) i.head (lists_of i.waiting.items) i.turned (kept_in i)
+        i.under_way.items
         i.made i.dead
         c.args.self.now c.self.view_is c.requires.on.live c.self.invariant.ring c.self.invariant.ahead_is c.self.invariant.least
         (omega (arith, c.self.invariant.most, many i.waiting.items)) c.args.numbers.now c.args.bytes.now c.in-Some.made c.in-Some.is
@@ -165,6 +170,8 @@ invariant_of-self-2 g c =
         length-append (lists_of i.waiting.items) (i.under_way.items ∷ []),
       );
       room = omega (arith, c.self.invariant.room, c.push_back_reserved.ensures.capacity);
+      firsts_room = c.self.invariant.firsts_room;
+      firsts_few = omega (arith, c.self.invariant.firsts_few, one, c.push_back_reserved.ensures.len);
       index_room = omega (arith, c.self.invariant.index_room, c.enter_record.ensures.capacity);
       index_is = subst (λ (l : List (List ℕ)). IsIndex i.sizes.slots i.head l c.enter_record.new.index.items) (sym waiting)
           (index_more i.sizes.slots i.head (lists_of i.waiting.items) i.under_way.items i.index.items c.enter_record.new.index.items
@@ -175,8 +182,8 @@ invariant_of-self-2 g c =
           (c.slot_of.ensures ∙ ap (λ (n : ℕ). n % i.sizes.slots) stamp))));
       ring = subst (λ (l : List ℕ). IsRing (shape_of i.sizes) (lists_of c.push_back_reserved.new.self.items) i.turned l None)
           (sym c.take.ensures.after) (subst (λ (l : List (List ℕ)). IsRing (shape_of i.sizes) l i.turned [] None) (sym waiting) ring);
-      ahead_is = subst (λ (l : List (List ℕ)). IsAheadOf (ahead_in i) (shape_of i.sizes) i.head l i.turned) (sym waiting)
-          (ahead_durable (ahead_in i) (shape_of i.sizes) i.head (lists_of i.waiting.items) i.turned i.under_way.items
+      ahead_is = subst (λ (l : List (List ℕ)). IsAheadOf (ahead_in i) i.head l i.turned) (sym waiting)
+          (ahead_durable (ahead_in i) i.head (lists_of i.waiting.items) i.turned i.under_way.items
           c.self.invariant.ahead_is);
     }
 
@@ -208,7 +215,8 @@ returns g c = record {
   answers = grind (arith, common_steps);
   passes =
       let i = c.self.inside in
-      let flushed = step_flushed (ahead_in i) (shape_of i.sizes) (sizes_sized i.sizes) i.head (lists_of i.waiting.items) i.turned i.kept
+      let flushed = step_flushed (ahead_in i) (shape_of i.sizes) (sizes_sized i.sizes) i.head (lists_of i.waiting.items) i.turned
+      (kept_in i)
       i.under_way.items i.made i.dead c.args.self.now c.self.view_is c.requires.on.live c.self.invariant.ring c.self.invariant.ahead_is
       c.self.invariant.least
       (omega (arith, c.self.invariant.most, many i.waiting.items)) c.args.numbers.now c.args.bytes.now c.in-Some.made c.in-Some.is
@@ -227,7 +235,7 @@ returns g c = record {
       let waiting = after_is i.waiting.items c.push_back_reserved.new.self.items i.under_way c.take.result
       c.push_back_reserved.ensures.items
       c.take.ensures.value in
-      let after = step_durable (ahead_in i) (shape_of i.sizes) (sizes_sized i.sizes) i.head (lists_of i.waiting.items) i.turned i.kept
+      let after = step_durable (ahead_in i) (shape_of i.sizes) (sizes_sized i.sizes) i.head (lists_of i.waiting.items) i.turned (kept_in i)
       i.under_way.items
       i.made i.dead c.args.self.now c.self.view_is c.requires.on.live c.self.invariant.ring c.self.invariant.ahead_is c.self.invariant.least
       (omega (arith, c.self.invariant.most, many i.waiting.items)) c.args.numbers.now c.args.bytes.now c.in-Some.made c.in-Some.is
@@ -240,16 +248,18 @@ returns g c = record {
       (omega (arith, c.if-made-steps_for.false, c.steps_for.ensures)) in
       subst
       (λ (l : List ℕ). HoldsView
-      (value_at (ahead_in i) (shape_of i.sizes) i.head (lists_of c.push_back_reserved.new.self.items) i.turned i.kept l None i.dead) new
+      (value_at (ahead_in i) (shape_of i.sizes) i.head (lists_of c.push_back_reserved.new.self.items) i.turned (kept_in i) l None i.dead)
+      new
       (with_record view))
       (sym c.take.ensures.after)
       (subst
-      (λ (l : List (List ℕ)). HoldsView (value_at (ahead_in i) (shape_of i.sizes) i.head l i.turned i.kept [] None i.dead) new
+      (λ (l : List (List ℕ)). HoldsView (value_at (ahead_in i) (shape_of i.sizes) i.head l i.turned (kept_in i) [] None i.dead) new
       (with_record view))
       (sym waiting) after);
   durable = λ view holds entries ours answers.
       let i = c.self.inside in
-      step_whole (ahead_in i) (shape_of i.sizes) (sizes_sized i.sizes) i.head (lists_of i.waiting.items) i.turned i.kept i.under_way.items
+      step_whole (ahead_in i) (shape_of i.sizes) (sizes_sized i.sizes) i.head (lists_of i.waiting.items) i.turned (kept_in i)
+      i.under_way.items
       i.made i.dead
       c.args.self.now c.self.view_is c.requires.on.live c.self.invariant.ring c.self.invariant.ahead_is c.self.invariant.least
       (omega (arith, c.self.invariant.most, many i.waiting.items)) c.args.numbers.now c.args.bytes.now c.in-Some.made c.in-Some.is
@@ -263,7 +273,8 @@ returns g c = record {
   leaves = record {
     cuts = λ view holds ours.
         let i = c.self.inside in
-        step_cuts (ahead_in i) (shape_of i.sizes) (sizes_sized i.sizes) i.head (lists_of i.waiting.items) i.turned i.kept i.under_way.items
+        step_cuts (ahead_in i) (shape_of i.sizes) (sizes_sized i.sizes) i.head (lists_of i.waiting.items) i.turned (kept_in i)
+        i.under_way.items
         i.made i.dead
         c.args.self.now c.self.view_is c.requires.on.live c.self.invariant.ring c.self.invariant.ahead_is c.self.invariant.least
         (omega (arith, c.self.invariant.most, many i.waiting.items)) c.args.numbers.now c.args.bytes.now c.in-Some.made c.in-Some.is

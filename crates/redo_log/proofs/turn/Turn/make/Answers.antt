@@ -14,20 +14,6 @@ returns-in-Copy-clause-makes g c =
       spares = λ first inside. c.copy_sector.ensures.writes.spares first inside.1;
     })
 
-pub returns-in_err-read-in-Load-clause-follows : goal.returns-in_err-read-in-Load-clause-follows
-returns-in_err-read-in-Load-clause-follows g c = (
-  c.read.ensures.follows.0,
-  λ end before. look_below end (g.M.Medium.state c.args.m.now) (g.M.Medium.state c.read.new.self) _
-      (subst (λ (t : Turn). ReadsBefore end t) c.in-Load.is before) c.read.ensures.follows.1,
-)
-
-pub returns-in_ok-read-in-Load-clause-follows : goal.returns-in_ok-read-in-Load-clause-follows
-returns-in_ok-read-in-Load-clause-follows g c = (
-  c.read.ensures.follows.0,
-  λ end before. look_below end (g.M.Medium.state c.args.m.now) (g.M.Medium.state c.read.new.self) _
-      (subst (λ (t : Turn). ReadsBefore end t) c.in-Load.is before) c.read.ensures.follows.1,
-)
-
 pub returns-in-Copy-clause-follows : goal.returns-in-Copy-clause-follows
 returns-in-Copy-clause-follows g c = (
   c.copy_sector.ensures.follows.0,
