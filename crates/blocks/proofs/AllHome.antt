@@ -91,7 +91,7 @@ settled m s owes under_way live none =
 
 -- no retire step is owed where no record waits and none is under way
 pub owes_none : (log : LogValue) → Owes log → log.under_way ≡ [] → log.waiting ≡ [] → log.retire_steps_left ≡ 0
-owes_none log owes under_way empty = owes.none_waits empty ∙ ap (λ (l : List ℕ). retire_steps_of log.shape.format l) under_way
+owes_none log owes under_way empty = owes.none_waits empty ∙ ap (λ (l : List ℕ). retire_steps_of l) under_way
 
 -- no step is left where no record is under way, none is owed, and both batches are empty
 pub none_left : (s : Cached) → s.log.steps_left ≡ 0 → s.log.retire_steps_left ≡ 0 → s.frozen.numbers ≡ [] → s.active.numbers ≡ []

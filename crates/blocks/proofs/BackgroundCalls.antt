@@ -2,9 +2,8 @@
 use Rattle.std.proofs.Common.{◌≡◌, ◌≤◌, ◌<◌, ◌+◌, inl, inr, arith, sym, ◌∙◌, Bool, true, false, length}
 use Rattle.std.proofs.lemmas.Bool.{false≢true, cases_lt}
 use Rattle.medium.specs.Medium.{State}
-use Rattle.blocks.specs.StoreValue.{Cached, is_dead, steps_for, batch_steps, steps_left}
+use Rattle.blocks.specs.StoreValue.{Cached, is_dead, steps_left}
 use Rattle.blocks.specs.Turns.{IsPaid}
-use Rattle.blocks.proofs.LogTurns.{waiting_idle}
 
 -- no call was made
 pub pays : (m : State) (s : Cached) → IsPaid m m s s

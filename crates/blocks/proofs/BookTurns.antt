@@ -19,7 +19,7 @@ use Rattle.cache.proofs.Arrays.{over_put}
 use Rattle.blocks.specs.Book.{Same}
 use Rattle.spec.specs.Book.{Book, after_first, array_of, with_write, promised}
 use Rattle.blocks.specs.Finding.{StandsAs, MayFind}
-use Rattle.blocks.specs.StoreValue.{Cached, FitsBook, wants, steps_for}
+use Rattle.blocks.specs.StoreValue.{firsts_in, Cached, FitsBook, wants, steps_for}
 
 -- blocks over two arrays that have the same block
 pub over_same : (blocks : Blocks) (a c : Array) (b : ℕ) → a b ≡ c b → over blocks a b ≡ over blocks c b
@@ -154,7 +154,8 @@ moves m m' s book log' view' f holds array under_way ours shape stamp fewer = re
 
 -- the frozen batch is begun
 pub begins : (m : State) (s : Cached) (book : Book) (f : FitsBook m s book) → HasRoom s.log
-    → IsBatch s.log.shape s.frozen.numbers s.frozen.bytes → FitsBook m (record s { log = begun s.frozen.numbers s.log }) book
+    → IsBatch s.log.shape s.frozen.numbers s.frozen.bytes → FitsBook m
+    (record s { log = begun s.frozen.numbers (firsts_in s.frozen) s.log }) book
 begins m s book f room batch = record {
   view = with_begun (entries_of s.frozen.numbers s.frozen.bytes) f.view;
   holds = begun_holds s.log m f.view s.frozen.numbers s.frozen.bytes f.holds room batch;

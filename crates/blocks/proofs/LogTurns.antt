@@ -19,7 +19,7 @@ use Rattle.cache.specs.Blocks.{with_range}
 use Rattle.cache.specs.Entries.{Entries, map_of}
 use Rattle.spec.specs.Book.{Book, promised}
 use Rattle.blocks.specs.Finding.{MayFind, Found}
-use Rattle.blocks.specs.StoreValue.{Cached, layout_of, steps_for, batch_steps, waiting, steps_left, FitsBook}
+use Rattle.blocks.specs.StoreValue.{firsts_in, Cached, layout_of, steps_for, batch_steps, waiting, steps_left, FitsBook}
 use Rattle.blocks.specs.Turns.{GoesOn, IsTurn, IsWriteTurn}
 use Rattle.blocks.proofs.BookTurns.{moves, begins, becomes_durable, freezes, appends, settles, finds, no_steps_for}
 use Rattle.blocks.proofs.TurnsJoined.{exits}
@@ -162,11 +162,11 @@ module _ (m : State) (sound : IsSound m) (s : Cached) where
 
   -- the record of the frozen batch is begun
   pub begins_record : HasRoom s.log → IsBatch s.log.shape s.frozen.numbers s.frozen.bytes → IsTurn m m s
-      (record s { log = begun s.frozen.numbers s.log })
+      (record s { log = begun s.frozen.numbers (firsts_in s.frozen) s.log })
   begins_record room batch = record {
     fits = λ book f. begins m s book f room batch;
     cuts = still_found;
-    goes_on = here m sound s (record s { log = begun s.frozen.numbers s.log }) refl refl;
+    goes_on = here m sound s (record s { log = begun s.frozen.numbers (firsts_in s.frozen) s.log }) refl refl;
   }
 
   -- no stamp is left for it, and the log is dead

@@ -4,148 +4,88 @@ use Rattle.std.specs.Prelude.{ℕ, suc, zero, List, [], ◌∷◌, length, nat_l
 use Rattle.std.specs.Prelude.{◌==◌, Ok, Err, OnOk}
 use Rattle.std.proofs.lemmas.Bool.{cases_Bool, ltb-true, lt-ltb}
 use Rattle.journal.specs.Places.{Shape}
-use Rattle.redo_log.specs.Value.{LogValue, HasRoom, begun, behind_oldest, of_oldest, ahead_of, settled, pass_calls, steps_of}
+use Rattle.redo_log.specs.Value.{AllFirsts, LogValue, HasRoom, begun, behind_oldest, of_oldest, ahead_of, settled, pass_calls, steps_of}
 use Rattle.blocks.specs.Ahead.{oldest_retired, is_covered, is_short, counted, past, passed, passed_calls, gone_home, sent_home}
-use Rattle.blocks.specs.Ahead.{sent_calls, ahead_room, ahead_room_calls, retiring_calls, IsBut}
-use Rattle.blocks.specs.Retiring.{HasSlots, with_room, room_calls, made_ready, ready_calls, IsLog, written_out, finished_from, finished}
+use Rattle.blocks.specs.Ahead.{sent_calls, ahead_room, ahead_room_calls, retiring_calls}
+use Rattle.blocks.specs.Retiring.{HasSlots, with_room, room_calls, made_ready, ready_calls, written_out, finished_from, finished_with}
 use Rattle.blocks.specs.Retiring.{finish_from, finish_calls, both_calls, record_calls, calls_from, to_begin, with_spare}
 use Rattle.blocks.specs.Finishing.{Answer}
 use Rattle.blocks.specs.Passing.{TellsLife}
 use Rattle.blocks.specs.StoreValue.{Cached, is_dead, wants, waiting}
+use Rattle.blocks.proofs.Room.{but_firsts}
 use Rattle.blocks.proofs.OldestHome.{rests_passed, rests_calls, rests_home_calls}
 
--- ---- a log but for the descriptor that is kept
+-- ---- the calls of a batch do not depend on the bytes with which the blocks before it begin
 
--- the two are the same, whichever descriptor is kept
-abbrev pub Alike : LogValue → LogValue → Type 0
-Alike a b = (k : List ℕ) → record a { kept = k } ≡ record b { kept = k }
-
-pub is_but : (is log : LogValue) → log ≡ is → IsBut is log
-is_but is log e = e ∙ ap (λ (k : List ℕ). record is { kept = k }) (sym (ap (λ (l : LogValue). l.kept) e))
-
-pub is_log : (ahead : Bool) (is log : LogValue) → log ≡ is → IsLog ahead is log
-is_log false is log e = e
-is_log true is log e = is_but is log e
-
-pub alike_but : (is log : LogValue) → IsBut is log → Alike log is
-alike_but is log e k = ap (λ (l : LogValue). record l { kept = k }) e
-
-pub but_alike : (is log : LogValue) → Alike log is → IsBut is log
-but_alike is log alike = alike log.kept
+-- the two are the same, whichever first bytes are kept
+abbrev Alike : LogValue → LogValue → Type 0
+Alike a b = (k : AllFirsts) → record a { firsts = k } ≡ record b { firsts = k }
 
 alike_if : (b : Bool) (x y v w : LogValue) → Alike x v → Alike y w → Alike (if b then x else y) (if b then v else w)
 alike_if true x y v w one other = one
 alike_if false x y v w one other = other
 
--- what is so of a log with another descriptor is so of each that is alike
-lifted : (f : LogValue → LogValue) → ((log : LogValue) (k : List ℕ) → Alike (f (record log { kept = k })) (f log)) → (a b : LogValue)
-    → Alike a b → Alike (f a) (f b)
-lifted f one a b alike = subst (λ (l : LogValue). Alike (f l) (f b)) (sym (alike a.kept)) (one b a.kept)
+same : (f : LogValue → ℕ) → ((log : LogValue) (k : AllFirsts) → f (record log { firsts = k }) ≡ f log) → (a b : LogValue) → Alike a b
+    → f a ≡ f b
+same f one a b alike = ap (λ (l : LogValue). f l) (alike a.firsts) ∙ one b a.firsts
 
-same : (f : LogValue → ℕ) → ((log : LogValue) (k : List ℕ) → f (record log { kept = k }) ≡ f log) → (a b : LogValue) → Alike a b → f a ≡ f b
-same f one a b alike = ap (λ (l : LogValue). f l) (alike a.kept) ∙ one b a.kept
-
-counted_one : (log : LogValue) (k : List ℕ) → Alike (counted (record log { kept = k })) (counted log)
-counted_one log k = alike_if (is_covered log) (settled (record log { kept = k })) (record log { kept = k }) (settled log) log
+counted_one : (log : LogValue) (k : AllFirsts) → Alike (counted (record log { firsts = k })) (counted log)
+counted_one log k = alike_if (is_covered log) (settled (record log { firsts = k })) (record log { firsts = k }) (settled log) log
     (λ j. refl) (λ j. refl)
 
-past_one : (log : LogValue) (k : List ℕ) → Alike (past (record log { kept = k })) (past log)
-past_one log k = alike_if (pass_calls log == 1) (oldest_retired (record log { kept = k })) (record log { kept = k })
+past_one : (log : LogValue) (k : AllFirsts) → Alike (past (record log { firsts = k })) (past log)
+past_one log k = alike_if (pass_calls log == 1) (oldest_retired (record log { firsts = k })) (record log { firsts = k })
     (oldest_retired log) log
     (λ j. refl) (λ j. refl)
 
-passed_one : (log : LogValue) (k : List ℕ) → Alike (passed (record log { kept = k })) (passed log)
-passed_one log k = alike_if (is_short log) (past (counted (record log { kept = k }))) (record log { kept = k }) (past (counted log)) log
-    (lifted (λ (l : LogValue). past l) past_one (counted (record log { kept = k })) (counted log) (counted_one log k)) (λ j. refl)
+past_alike : (a b : LogValue) → Alike a b → Alike (past a) (past b)
+past_alike a b alike = subst (λ (l : LogValue). Alike (past l) (past b)) (sym (alike a.firsts)) (past_one b a.firsts)
 
-gone_one : (log : LogValue) (k : List ℕ) → Alike (gone_home (record log { kept = k })) (gone_home log)
-gone_one log k = alike_if (nat_lt 2 (of_oldest log))
-    (record log { retire_steps_left = behind_oldest log + 2; ahead = ahead_of log; kept = k }) (record log { kept = k })
-    (record log { retire_steps_left = behind_oldest log + 2; ahead = ahead_of log }) log (λ j. refl) (λ j. refl)
+passed_one : (log : LogValue) (k : AllFirsts) → Alike (passed (record log { firsts = k })) (passed log)
+passed_one log k =
+    alike_if (is_short log) (past (counted (record log { firsts = k }))) (record log { firsts = k }) (past (counted log)) log
+    (past_alike (counted (record log { firsts = k })) (counted log) (counted_one log k)) (λ j. refl)
 
-sent_one : (log : LogValue) (k : List ℕ) → Alike (sent_home (record log { kept = k })) (sent_home log)
-sent_one log k = alike_if (is_short log) (gone_home (record log { kept = k })) (record log { kept = k }) (gone_home log) log
-    (gone_one log k) (λ j. refl)
-
-ahead_one : (log : LogValue) (k : List ℕ) → Alike (ahead_room (record log { kept = k })) (ahead_room log)
-ahead_one log k = alike_if (nat_lt (log.next - log.head) log.shape.slots) (sent_home (passed (record log { kept = k })))
-    (oldest_retired (record log { kept = k })) (sent_home (passed log)) (oldest_retired log)
-    (lifted (λ (l : LogValue). sent_home l) sent_one (passed (record log { kept = k })) (passed log) (passed_one log k)) (λ j. refl)
-
--- the record of a batch is written behind the same log
-wrote_one : (numbers : List ℕ) (log : LogValue) (k : List ℕ)
-    → Alike (written_out (begun numbers (record log { kept = k }))) (written_out (begun numbers log))
-wrote_one numbers log k j = refl
-
-finished_one : (numbers : List ℕ) (log : LogValue) (k : List ℕ)
-    → Alike (finished true numbers (record log { kept = k })) (finished true numbers log)
-finished_one numbers log k = from log.steps_left numbers
-  where
-    from : (steps : ℕ) (ns : List ℕ) → Alike (finished_from true steps ns (record log { kept = k })) (finished_from true steps ns log)
-    from (suc steps) ns = λ j. refl
-    from zero [] = λ j. refl
-    from zero (n ∷ ns) = lifted (λ (l : LogValue). written_out (begun (n ∷ ns) l)) (wrote_one (n ∷ ns))
-        (ahead_room (record log { kept = k }))
-        (ahead_room log) (ahead_one log k)
-
--- ---- its calls
-
-pass_same : (a b : LogValue) → Alike a b → pass_calls a ≡ pass_calls b
-pass_same a b alike = same (λ (l : LogValue). pass_calls l) (λ log k. refl) a b alike
-
-going_same : (a b : LogValue) → Alike a b → sent_calls a ≡ sent_calls b
-going_same a b alike = same (λ (l : LogValue). sent_calls l) (λ log k. refl) a b alike
-
-passed_same : (log : LogValue) (k : List ℕ) → passed_calls (record log { kept = k }) ≡ passed_calls log
+passed_same : (log : LogValue) (k : AllFirsts) → passed_calls (record log { firsts = k }) ≡ passed_calls log
 passed_same log k =
-    ap (λ (n : ℕ). if is_short log then n else 0) (pass_same (counted (record log { kept = k })) (counted log) (counted_one log k))
+    ap (λ (n : ℕ). if is_short log then n else 0)
+    (same (λ (l : LogValue). pass_calls l) (λ l j. refl) (counted (record log { firsts = k })) (counted log) (counted_one log k))
 
-ahead_same : (log : LogValue) (k : List ℕ) → ahead_room_calls (record log { kept = k }) ≡ ahead_room_calls log
+ahead_same : (log : LogValue) (k : AllFirsts) → ahead_room_calls (record log { firsts = k }) ≡ ahead_room_calls log
 ahead_same log k =
     let first = passed_same log k in
-    let last = going_same (passed (record log { kept = k })) (passed log) (passed_one log k) in
-    let both : passed_calls (record log { kept = k }) + sent_calls (passed (record log { kept = k }))
+    let last = same (λ (l : LogValue). sent_calls l) (λ l j. refl) (passed (record log { firsts = k })) (passed log) (passed_one log k) in
+    let both : passed_calls (record log { firsts = k }) + sent_calls (passed (record log { firsts = k }))
     ≡ passed_calls log + sent_calls (passed log) = omega (arith, first, last) in
     ap (λ (n : ℕ). if nat_lt (log.next - log.head) log.shape.slots then n else retiring_calls log) both
 
-calls_one : (numbers : List ℕ) (log : LogValue) (k : List ℕ)
-    → finish_calls true numbers (record log { kept = k }) ≡ finish_calls true numbers log
-calls_one numbers log k = from log.steps_left numbers
+calls_one : (ahead : Bool) (numbers : List ℕ) (log : LogValue) (k : AllFirsts)
+    → finish_calls ahead numbers (record log { firsts = k }) ≡ finish_calls ahead numbers log
+calls_one ahead numbers log k = from ahead log.steps_left numbers
   where
-    from : (steps : ℕ) (ns : List ℕ) → finish_from true steps ns (record log { kept = k }) ≡ finish_from true steps ns log
-    from (suc steps) ns = refl
-    from zero [] = refl
-    from zero (n ∷ ns) = ap (λ (calls : ℕ). calls + steps_of log.shape.format (n ∷ ns)) (ahead_same log k)
+    from : (b : Bool) (steps : ℕ) (ns : List ℕ) → finish_from b steps ns (record log { firsts = k }) ≡ finish_from b steps ns log
+    from b (suc steps) ns = refl
+    from b zero [] = refl
+    from false zero (n ∷ ns) = refl
+    from true zero (n ∷ ns) = ap (λ (calls : ℕ). calls + steps_of log.shape.format (n ∷ ns)) (ahead_same log k)
 
 -- ---- one batch, and then another
 
-pub twice : (ahead : Bool) (frozen active : List ℕ) (old mid new : LogValue) → IsLog ahead (finished ahead frozen old) mid
-    → IsLog ahead (finished ahead active mid) new → IsLog ahead (finished ahead active (finished ahead frozen old)) new
-twice false frozen active old mid new first last = last ∙ ap (λ (l : LogValue). finished false active l) first
-twice true frozen active old mid new first last =
-    but_alike (finished true active (finished true frozen old)) new (λ k.
-    alike_but (finished true active mid) new last k
-    ∙ lifted (λ (l : LogValue). finished true active l) (finished_one active) mid (finished true frozen old)
-    (alike_but (finished true frozen old) mid first) k)
-
-pub calls_of : (ahead : Bool) (numbers : List ℕ) (is log : LogValue) → IsLog ahead is log
-    → finish_calls ahead numbers log ≡ finish_calls ahead numbers is
-calls_of false numbers is log e = ap (λ (l : LogValue). finish_calls false numbers l) e
-calls_of true numbers is log e = same (λ (l : LogValue). finish_calls true numbers l) (calls_one numbers) log is (alike_but is log e)
+pub calls_of : (ahead : Bool) (frozen active : List ℕ) (firsts : List (List ℕ)) (old mid : LogValue)
+    → mid ≡ finished_with ahead frozen firsts old
+    → finish_calls ahead active mid ≡ finish_calls ahead active (finished_with ahead frozen [] old)
+calls_of ahead frozen active firsts old mid is =
+    ap (λ (l : LogValue). finish_calls ahead active l) (is ∙ but_firsts ahead frozen firsts old)
+    ∙ calls_one ahead active (finished_with ahead frozen [] old) (finished_with ahead frozen firsts old).firsts
 
 -- the record of a batch is written behind a log that has room
-pub made_finished : (ahead : Bool) (numbers : List ℕ) (old mid new : LogValue) → old.steps_left ≡ 0 → 0 < length numbers
-    → IsLog ahead (made_ready ahead old) mid → new ≡ written_out (begun numbers mid) → IsLog ahead (finished ahead numbers old) new
-made_finished ahead [] old mid new idle some ready is = absurd (omega (arith, some))
-made_finished false (n ∷ numbers) old mid new idle some ready is =
-    is ∙ ap (λ (l : LogValue). written_out (begun (n ∷ numbers) l)) ready
-    ∙ ap (λ (steps : ℕ). finished_from false steps (n ∷ numbers) old) (sym idle)
-made_finished true (n ∷ numbers) old mid new idle some ready is =
-    let all = is ∙ ap (λ (l : LogValue). written_out (begun (n ∷ numbers) l)) ready in
-    all
-    ∙ ap (λ (k : List ℕ). record (written_out (begun (n ∷ numbers) (ahead_room old))) { kept = k })
-    (sym (ap (λ (l : LogValue). l.kept) all))
-    ∙ ap (λ (steps : ℕ). record (finished_from true steps (n ∷ numbers) old) { kept = new.kept }) (sym idle)
+pub made_finished : (ahead : Bool) (numbers : List ℕ) (firsts : List (List ℕ)) (old mid new : LogValue) → old.steps_left ≡ 0
+    → 0 < length numbers → mid ≡ made_ready ahead old → new ≡ written_out (begun numbers firsts mid)
+    → new ≡ finished_with ahead numbers firsts old
+made_finished ahead [] firsts old mid new idle some ready is = absurd (omega (arith, some))
+made_finished ahead (n ∷ numbers) firsts old mid new idle some ready is =
+    is ∙ ap (λ (l : LogValue). written_out (begun (n ∷ numbers) firsts l)) ready
+    ∙ ap (λ (steps : ℕ). finished_from ahead steps (n ∷ numbers) firsts old) (sym idle)
 
 -- ---- what stays
 
@@ -204,7 +144,7 @@ ready_so true log = prepared_if (nat_lt (log.next - log.head) log.shape.slots) l
     (ahead_so log) (retired_so log)
 
 -- what has room still has it
-pub still_room : (old new : LogValue) → IsBut (sent_home (passed old)) new → HasRoom old → HasRoom new
+pub still_room : (old new : LogValue) → new ≡ sent_home (passed old) → HasRoom old → HasRoom new
 still_room old new is room =
     let so = ahead_so old in
     let slots = ap (λ (l : LogValue). l.shape.slots) is in
@@ -281,11 +221,12 @@ roomy_one ahead numbers log more = from log.steps_left numbers
 
 -- behind the record of a batch there are so many left
 pub slots_behind : (ahead : Bool) (numbers : List ℕ) (log : LogValue) (more : ℕ)
-    → HasSlots (with_spare ahead (to_begin numbers log + more)) log → HasSlots (with_spare ahead more) (finished ahead numbers log)
+    → HasSlots (with_spare ahead (to_begin numbers log + more)) log
+    → HasSlots (with_spare ahead more) (finished_with ahead numbers [] log)
 slots_behind ahead numbers log more = from log.steps_left numbers
   where
     from : (steps : ℕ) (ns : List ℕ) → HasSlots (with_spare ahead (waiting steps (wants ns) + more)) log
-        → HasSlots (with_spare ahead more) (finished_from ahead steps ns log)
+        → HasSlots (with_spare ahead more) (finished_from ahead steps ns [] log)
     from (suc steps) ns slots =
         let same : with_spare ahead (0 + more) ≡ with_spare ahead more = ap (λ (count : ℕ). with_spare ahead count) (omega arith) in
         omega (arith, slots, same)
@@ -299,18 +240,18 @@ slots_behind ahead numbers log more = from log.steps_left numbers
         omega (arith, slots, all, shape, so.next, so.head)
 
 -- no step is left of a batch that is durable, and the shape stays
-pub idle_behind : (ahead : Bool) (numbers : List ℕ) (log : LogValue) → (finished ahead numbers log).steps_left ≡ 0
+pub idle_behind : (ahead : Bool) (numbers : List ℕ) (log : LogValue) → (finished_with ahead numbers [] log).steps_left ≡ 0
 idle_behind ahead numbers log = from log.steps_left numbers refl
   where
-    from : (steps : ℕ) (ns : List ℕ) → log.steps_left ≡ steps → (finished_from ahead steps ns log).steps_left ≡ 0
+    from : (steps : ℕ) (ns : List ℕ) → log.steps_left ≡ steps → (finished_from ahead steps ns [] log).steps_left ≡ 0
     from (suc steps) ns is = refl
     from zero [] is = is
     from zero (n ∷ ns) is = refl
 
-pub shape_behind : (ahead : Bool) (numbers : List ℕ) (log : LogValue) → (finished ahead numbers log).shape ≡ log.shape
+pub shape_behind : (ahead : Bool) (numbers : List ℕ) (log : LogValue) → (finished_with ahead numbers [] log).shape ≡ log.shape
 shape_behind ahead numbers log = from log.steps_left numbers
   where
-    from : (steps : ℕ) (ns : List ℕ) → (finished_from ahead steps ns log).shape ≡ log.shape
+    from : (steps : ℕ) (ns : List ℕ) → (finished_from ahead steps ns [] log).shape ≡ log.shape
     from (suc steps) ns = refl
     from zero [] = refl
     from zero (n ∷ ns) = (ready_so ahead log).shape
@@ -321,7 +262,7 @@ pub roomy_both : (ahead : Bool) (frozen active : List ℕ) (log : LogValue)
     → both_calls ahead frozen active log ≡ record_calls frozen log + calls_from 0 log.shape.format active
 roomy_both ahead frozen active log slots =
     let first = roomy_one ahead frozen log (wants active) slots in
-    let behind = finished ahead frozen log in
+    let behind = finished_with ahead frozen [] log in
     let idle = idle_behind ahead frozen log in
     let left = slots_behind ahead frozen log (wants active) slots in
     let begins : to_begin active behind ≡ wants active = ap (λ (steps : ℕ). waiting steps (wants active)) idle in

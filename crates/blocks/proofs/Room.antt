@@ -7,7 +7,7 @@ use Rattle.std.proofs.lemmas.Bool.{cases_Bool, ltb-true, lt-ltb}
 use Rattle.redo_log.specs.Value.{LogValue, HasRoom, IsStepped, IsRetireStepped, behind_oldest}
 use Rattle.redo_log.specs.declared.progress.Progress.{Progress}
 use Rattle.redo_log.specs.declared.progress.Progress.TheVariants.{More, Durable}
-use Rattle.blocks.specs.Retiring.{oldest_retired, with_room, written_out, finished_from, finished}
+use Rattle.blocks.specs.Retiring.{oldest_retired, with_room, written_out, finished_from, finished_with}
 
 -- so far the head stays, or one record is retired and a slot is free
 abbrev pub OneAtMost : LogValue → LogValue → Type 0
@@ -37,7 +37,7 @@ most_one old new so_far = ⊎_elim (λ same. omega (arith, same)) (λ freed. ome
 
 -- so far nothing but retire steps of the oldest record were made, or that is retired
 abbrev pub RetiresOldest : LogValue → LogValue → Type 0
-RetiresOldest old new = (new ≡ record old { retire_steps_left = new.retire_steps_left; kept = new.kept }) ⊎ (new ≡ oldest_retired old)
+RetiresOldest old new = (new ≡ record old { retire_steps_left = new.retire_steps_left }) ⊎ (new ≡ oldest_retired old)
 
 -- one retire step more, of a log without room
 pub retires_more : (old mid new : LogValue) → (HasRoom mid → ⊥) → mid.under_way ≡ [] → mid.steps_left ≡ 0 → IsRetireStepped mid new
@@ -47,9 +47,9 @@ retires_more old mid new full under_way idle stepped one so_far =
     (λ same. ⊎_elim
     (λ more.
     let is = stepped.more more in
-    let all = is ∙ ap (λ (l : LogValue). record l { retire_steps_left = mid.retire_steps_left - 1; kept = new.kept }) same in
+    let all = is ∙ ap (λ (l : LogValue). record l { retire_steps_left = mid.retire_steps_left - 1 }) same in
     inl (all
-    ∙ ap (λ (n : ℕ). record old { retire_steps_left = n; kept = new.kept })
+    ∙ ap (λ (n : ℕ). record old { retire_steps_left = n })
     (sym (ap (λ (l : LogValue). l.retire_steps_left) all))))
     (λ few. let is = stepped.last (omega (arith, few, stepped.some)) in inr (is ∙ ap (λ (l : LogValue). oldest_retired l) same))
     (cases_lt (behind_oldest mid + 1) mid.retire_steps_left))
@@ -109,19 +109,32 @@ writes_last old mid new Durable stepped none same = stepped.1 ∙ ap (λ (l : Lo
 -- ---- a batch is durable
 
 -- its record was under way
-pub finishes_under_way : (ahead : Bool) (numbers : List ℕ) (log : LogValue) → 0 < log.steps_left
-    → written_out log ≡ finished ahead numbers log
-finishes_under_way ahead numbers log some = from log.steps_left some
+pub finishes_under_way : (ahead : Bool) (numbers : List ℕ) (firsts : List (List ℕ)) (log : LogValue) → 0 < log.steps_left
+    → written_out log ≡ finished_with ahead numbers firsts log
+finishes_under_way ahead numbers firsts log some = from log.steps_left some
   where
-    from : (steps : ℕ) → 0 < steps → written_out log ≡ finished_from ahead steps numbers log
+    from : (steps : ℕ) → 0 < steps → written_out log ≡ finished_from ahead steps numbers firsts log
     from zero some = absurd (omega (arith, some))
     from (suc steps) some = refl
 
 -- it is empty
-pub finishes_none : (ahead : Bool) (numbers : List ℕ) (log : LogValue) → log.steps_left ≡ 0 → numbers ≡ []
-    → log ≡ finished ahead numbers log
-finishes_none ahead numbers log idle none =
-    ap (λ (steps : ℕ). finished_from ahead steps [] log) (sym idle) ∙ ap (λ (ns : List ℕ). finished ahead ns log) (sym none)
+pub finishes_none : (ahead : Bool) (numbers : List ℕ) (firsts : List (List ℕ)) (log : LogValue) → log.steps_left ≡ 0 → numbers ≡ []
+    → log ≡ finished_with ahead numbers firsts log
+finishes_none ahead numbers firsts log idle none =
+    ap (λ (steps : ℕ). finished_from ahead steps [] firsts log) (sym idle)
+    ∙ ap (λ (ns : List ℕ). finished_with ahead ns firsts log) (sym none)
+
+-- with which bytes its blocks begin is told by what is kept of them alone
+pub but_firsts : (ahead : Bool) (numbers : List ℕ) (firsts : List (List ℕ)) (log : LogValue)
+    → finished_with ahead numbers firsts log
+    ≡ record (finished_with ahead numbers [] log) { firsts = (finished_with ahead numbers firsts log).firsts }
+but_firsts ahead numbers firsts log = from log.steps_left numbers
+  where
+    from : (steps : ℕ) (ns : List ℕ) → finished_from ahead steps ns firsts log
+        ≡ record (finished_from ahead steps ns [] log) { firsts = (finished_from ahead steps ns firsts log).firsts }
+    from (suc steps) ns = refl
+    from zero [] = refl
+    from zero (n ∷ ns) = refl
 
 -- a list that is not empty has a number
 pub some_listed : (numbers : List ℕ) → (numbers ≡ [] → ⊥) → 0 < length numbers

@@ -2,39 +2,25 @@
 use Rattle.std.proofs.Common.{◌≡◌, ◌⊎◌, ◌<◌, ◌+◌, ◌-◌, ◌∙◌, inl, inr, ⊎_elim, ap, sym, subst, arith, refl, []}
 use Rattle.std.specs.Prelude.{ℕ, suc, zero, List, ◌∷◌, length, nat_lt, Bool, true, false, if◌then◌else◌}
 use Rattle.std.proofs.lemmas.Bool.{cases_Bool, cases_lt, ltb-true, lt-ltb}
-use Rattle.journal.specs.declared.log_format.LogFormat.{LogFormat}
-use Rattle.redo_log.specs.Value.{LogValue, HasRoom, IsRetireStepped, behind_oldest, of_oldest, home_of_oldest, turn_calls, turns_calls}
+use Rattle.redo_log.specs.Value.{LogValue, HasRoom, IsRetireStepped, behind_oldest, of_oldest, turn_calls, turns_calls}
 use Rattle.redo_log.specs.Value.{next_calls, steps_of}
 use Rattle.blocks.specs.Retiring.{oldest_retired, room_calls, ready_calls, finish_from, finish_calls}
 use Rattle.blocks.proofs.Room.{OneAtMost}
 
 -- the calls of the steps that are left are those of the next one and of the others
-pub turns_more : (format : LogFormat) (home left : ℕ) → 0 < left
-    → turns_calls format home left ≡ turn_calls format home left + turns_calls format home (left - 1)
-turns_more format home zero some = absurd (omega (arith, some))
-turns_more format home (suc left) some =
+pub turns_more : (left : ℕ) → 0 < left
+    → turns_calls left ≡ turn_calls left + turns_calls (left - 1)
+turns_more zero some = absurd (omega (arith, some))
+turns_more (suc left) some =
     let less : left ≡ suc left - 1 = omega arith in
-    ap (λ (n : ℕ). turn_calls format home (suc left) + turns_calls format home n) less
-
--- the calls of all steps that are left of the oldest record
-abbrev pub retiring_calls : LogValue → ℕ → ℕ
-retiring_calls log left = turns_calls log.shape.format (home_of_oldest log) left
+    ap (λ (n : ℕ). turn_calls (suc left) + turns_calls n) less
 
 -- so far nothing but retire steps of the oldest record were made, with their calls, or that is retired, with all of them
 abbrev pub CostsOldest : LogValue → LogValue → ℕ → ℕ → Type 0
 CostsOldest old new before after =
-    ((new ≡ record old { retire_steps_left = new.retire_steps_left; kept = new.kept })
-    × (after + retiring_calls old (of_oldest new) ≡ before + retiring_calls old (of_oldest old)))
-    ⊎ ((new ≡ oldest_retired old) × (after ≡ before + retiring_calls old (of_oldest old)))
-
--- a log that came only so far makes the calls of a step of the old one
-pub next_is : (old mid : LogValue) → mid ≡ record old { retire_steps_left = mid.retire_steps_left; kept = mid.kept }
-    → next_calls mid ≡ turn_calls old.shape.format (home_of_oldest old) (of_oldest mid)
-next_is old mid same =
-    let format = ap (λ (l : LogValue). l.shape.format) same in
-    let home = ap (λ (l : LogValue). home_of_oldest l) same in
-    ap (λ (f : LogFormat). turn_calls f (home_of_oldest mid) (of_oldest mid)) format
-    ∙ ap (λ (h : ℕ). turn_calls old.shape.format h (of_oldest mid)) home
+    ((new ≡ record old { retire_steps_left = new.retire_steps_left })
+    × (after + turns_calls (of_oldest new) ≡ before + turns_calls (of_oldest old)))
+    ⊎ ((new ≡ oldest_retired old) × (after ≡ before + turns_calls (of_oldest old)))
 
 -- one retire step more, of a log without room
 pub costs_more : (old mid new : LogValue) (before between after : ℕ) → (HasRoom mid → ⊥) → mid.under_way ≡ [] → mid.steps_left ≡ 0
@@ -42,30 +28,29 @@ pub costs_more : (old mid new : LogValue) (before between after : ℕ) → (HasR
     → CostsOldest old new before after
 costs_more old mid new before between after full under_way idle stepped one made so_far =
     ⊎_elim
-    (λ (first : (mid ≡ record old { retire_steps_left = mid.retire_steps_left; kept = mid.kept })
-    × (between + retiring_calls old (of_oldest mid) ≡ before + retiring_calls old (of_oldest old))).
+    (λ (first : (mid ≡ record old { retire_steps_left = mid.retire_steps_left })
+    × (between + turns_calls (of_oldest mid) ≡ before + turns_calls (of_oldest old))).
     let same = first.0 in
-    let next = next_is old mid same in
     let some : 0 < of_oldest mid = omega (arith, stepped.some) in
-    let sum = turns_more old.shape.format (home_of_oldest old) (of_oldest mid) some in
+    let sum = turns_more (of_oldest mid) some in
     ⊎_elim
     (λ more.
     let is = stepped.more more in
-    let all = is ∙ ap (λ (l : LogValue). record l { retire_steps_left = mid.retire_steps_left - 1; kept = new.kept }) same in
+    let all = is ∙ ap (λ (l : LogValue). record l { retire_steps_left = mid.retire_steps_left - 1 }) same in
     let left_is = ap (λ (l : LogValue). of_oldest l) is in
     let left : of_oldest new ≡ of_oldest mid - 1 = omega (arith, left_is, stepped.some) in
-    let rest = ap (λ (n : ℕ). retiring_calls old n) left in
+    let rest = ap (λ (n : ℕ). turns_calls n) left in
     inl (
-      all ∙ ap (λ (n : ℕ). record old { retire_steps_left = n; kept = new.kept }) (sym (ap (λ (l : LogValue). l.retire_steps_left) all)),
-      omega (arith, made, next, sum, rest, first.1),
+      all ∙ ap (λ (n : ℕ). record old { retire_steps_left = n }) (sym (ap (λ (l : LogValue). l.retire_steps_left) all)),
+      omega (arith, made, sum, rest, first.1),
     ))
     (λ few.
     let is = stepped.last (omega (arith, few, stepped.some)) in
     let none : of_oldest mid - 1 ≡ 0 = omega (arith, few, stepped.some) in
-    let rest = ap (λ (n : ℕ). retiring_calls old n) none in
-    inr (is ∙ ap (λ (l : LogValue). oldest_retired l) same, omega (arith, made, next, sum, rest, first.1)))
+    let rest = ap (λ (n : ℕ). turns_calls n) none in
+    inr (is ∙ ap (λ (l : LogValue). oldest_retired l) same, omega (arith, made, sum, rest, first.1)))
     (cases_lt (behind_oldest mid + 1) mid.retire_steps_left))
-    (λ (retired : (mid ≡ oldest_retired old) × (between ≡ before + retiring_calls old (of_oldest old))).
+    (λ (retired : (mid ≡ oldest_retired old) × (between ≡ before + turns_calls (of_oldest old))).
     absurd (⊎_elim
     (λ (stays : mid.head ≡ old.head). let h = ap (λ (l : LogValue). l.head) retired.0 in let e : ⊥ = omega (arith, h, stays) in e)
     (λ (freed : (mid.head ≡ old.head + 1) × (mid.next - mid.head < mid.shape.slots)). full (record {
@@ -76,15 +61,15 @@ costs_more old mid new before between after full under_way idle stepped one made
 
 -- the calls for room, where a slot is free, or none is
 room_is : (log : LogValue) (b : Bool) → nat_lt (log.next - log.head) log.shape.slots ≡ b
-    → room_calls log ≡ (if b then 0 else retiring_calls log (of_oldest log))
-room_is log b e = ap (λ (x : Bool). if x then 0 else retiring_calls log (of_oldest log)) e
+    → room_calls log ≡ (if b then 0 else turns_calls (of_oldest log))
+room_is log b e = ap (λ (x : Bool). if x then 0 else turns_calls (of_oldest log)) e
 
 -- then there is room for one record
 pub costs_room : (old new : LogValue) (before after : ℕ) → (HasRoom old → new ≡ old) → (HasRoom old → after ≡ before) → HasRoom new
     → CostsOldest old new before after → after ≡ before + room_calls old
 costs_room old new before after stays quiet room so_far = ⊎_elim
-    (λ (first : (new ≡ record old { retire_steps_left = new.retire_steps_left; kept = new.kept })
-    × (after + retiring_calls old (of_oldest new) ≡ before + retiring_calls old (of_oldest old))).
+    (λ (first : (new ≡ record old { retire_steps_left = new.retire_steps_left })
+    × (after + turns_calls (of_oldest new) ≡ before + turns_calls (of_oldest old))).
     let same = first.0 in
     let had : HasRoom old = record {
       none_under_way = sym (ap (λ (l : LogValue). l.under_way) same) ∙ room.none_under_way;
@@ -93,7 +78,7 @@ costs_room old new before after stays quiet room so_far = ⊎_elim
     } in
     let none = room_is old true (lt-ltb (old.next - old.head) old.shape.slots had.free) in
     omega (arith, quiet had, none))
-    (λ (last : (new ≡ oldest_retired old) × (after ≡ before + retiring_calls old (of_oldest old))). ⊎_elim
+    (λ (last : (new ≡ oldest_retired old) × (after ≡ before + turns_calls (of_oldest old))). ⊎_elim
     (λ free.
     let had : HasRoom old = record {
       none_under_way = sym (ap (λ (l : LogValue). l.under_way) last.0) ∙ room.none_under_way;

@@ -4,14 +4,14 @@ use Rattle.std.specs.Prelude.{ℕ, suc, zero, List, ◌∷◌, length, nat_lt, B
 use Rattle.std.proofs.lemmas.Bool.{cases_Bool, cases_lt, ltb-true, lt-ltb, ne_eqb}
 use Rattle.journal.specs.declared.log_format.LogFormat.{LogFormat}
 use Rattle.journal.specs.declared.log_format.LogFormat.TheVariants.{Two}
-use Rattle.redo_log.specs.Value.{LogValue, HasRoom, IsStepped, IsRetireStepped, behind_oldest, of_oldest, steps_of}
+use Rattle.redo_log.specs.Value.{AllFirsts, LogValue, HasRoom, IsStepped, IsRetireStepped, behind_oldest, of_oldest, steps_of}
 use Rattle.redo_log.specs.Flushes.{step_flushes, steps_flushes, turn_flushes, turns_flushes, next_step_flushes, next_turn_flushes}
 use Rattle.redo_log.specs.declared.progress.Progress.{Progress}
 use Rattle.redo_log.specs.declared.progress.Progress.TheVariants.{More, Durable}
 use Rattle.blocks.specs.Ahead.{oldest_retired}
 use Rattle.blocks.specs.Flushing.{left_flushes, room_flushes, finish_flushes_from, finish_flushes, both_flushes}
-use Rattle.blocks.specs.Retiring.{IsLog}
-use Rattle.blocks.proofs.Room.{OneAtMost, finishes_none}
+use Rattle.blocks.specs.Retiring.{finished_with}
+use Rattle.blocks.proofs.Room.{OneAtMost, finishes_none, but_firsts}
 
 -- ---- the record under way
 
@@ -61,7 +61,7 @@ turns_more (suc left) some =
 -- so far nothing but retire steps of the oldest record were made, with their flushes, or that is retired, with all of them
 abbrev pub FlushesOldest : LogValue → LogValue → ℕ → ℕ → Type 0
 FlushesOldest old new before after =
-    ((new ≡ record old { retire_steps_left = new.retire_steps_left; kept = new.kept })
+    ((new ≡ record old { retire_steps_left = new.retire_steps_left })
     × (after + turns_flushes (of_oldest new) ≡ before + turns_flushes (of_oldest old)))
     ⊎ ((new ≡ oldest_retired old) × (after ≡ before + turns_flushes (of_oldest old)))
 
@@ -71,7 +71,7 @@ pub flushes_more : (old mid new : LogValue) (before between after : ℕ) → (Ha
     → FlushesOldest old new before after
 flushes_more old mid new before between after full under_way idle stepped one made so_far =
     ⊎_elim
-    (λ (first : (mid ≡ record old { retire_steps_left = mid.retire_steps_left; kept = mid.kept })
+    (λ (first : (mid ≡ record old { retire_steps_left = mid.retire_steps_left })
     × (between + turns_flushes (of_oldest mid) ≡ before + turns_flushes (of_oldest old))).
     let same = first.0 in
     let some : 0 < of_oldest mid = omega (arith, stepped.some) in
@@ -79,12 +79,12 @@ flushes_more old mid new before between after full under_way idle stepped one ma
     ⊎_elim
     (λ more.
     let is = stepped.more more in
-    let all = is ∙ ap (λ (l : LogValue). record l { retire_steps_left = mid.retire_steps_left - 1; kept = new.kept }) same in
+    let all = is ∙ ap (λ (l : LogValue). record l { retire_steps_left = mid.retire_steps_left - 1 }) same in
     let left_is = ap (λ (l : LogValue). of_oldest l) is in
     let left : of_oldest new ≡ of_oldest mid - 1 = omega (arith, left_is, stepped.some) in
     let rest = ap (λ (n : ℕ). turns_flushes n) left in
     inl (
-      all ∙ ap (λ (n : ℕ). record old { retire_steps_left = n; kept = new.kept }) (sym (ap (λ (l : LogValue). l.retire_steps_left) all)),
+      all ∙ ap (λ (n : ℕ). record old { retire_steps_left = n }) (sym (ap (λ (l : LogValue). l.retire_steps_left) all)),
       omega (arith, made, sum, rest, first.1),
     ))
     (λ few.
@@ -114,7 +114,7 @@ room_free log free = room_is log true (lt-ltb (log.next - log.head) log.shape.sl
 pub flushes_room : (old new : LogValue) (before after : ℕ) → (HasRoom old → new ≡ old) → (HasRoom old → after ≡ before) → HasRoom new
     → FlushesOldest old new before after → after ≡ before + room_flushes old
 flushes_room old new before after stays quiet room so_far = ⊎_elim
-    (λ (first : (new ≡ record old { retire_steps_left = new.retire_steps_left; kept = new.kept })
+    (λ (first : (new ≡ record old { retire_steps_left = new.retire_steps_left })
     × (after + turns_flushes (of_oldest new) ≡ before + turns_flushes (of_oldest old))).
     let same = first.0 in
     let had : HasRoom old = record {
@@ -154,27 +154,28 @@ pub flushes_begun : (numbers : List ℕ) (log : LogValue) → log.steps_left ≡
 flushes_begun [] log idle some = absurd (omega (arith, some))
 flushes_begun (n ∷ numbers) log idle some = ap (λ (s : ℕ). finish_flushes_from s (n ∷ numbers) log) idle
 
--- they are the same for a log with another descriptor
-kept_flushes : (numbers : List ℕ) (log : LogValue) (k : List ℕ)
-    → finish_flushes numbers (record log { kept = k }) ≡ finish_flushes numbers log
-kept_flushes numbers log k = from log.steps_left numbers
+-- with which bytes the blocks of the batches before begin counts for nothing
+same_flushes : (numbers : List ℕ) (log : LogValue) (k : AllFirsts)
+    → finish_flushes numbers (record log { firsts = k }) ≡ finish_flushes numbers log
+same_flushes numbers log k = from log.steps_left numbers
   where
-    from : (steps : ℕ) (ns : List ℕ) → finish_flushes_from steps ns (record log { kept = k }) ≡ finish_flushes_from steps ns log
+    from : (steps : ℕ) (ns : List ℕ) → finish_flushes_from steps ns (record log { firsts = k }) ≡ finish_flushes_from steps ns log
     from (suc steps) ns = refl
     from zero [] = refl
     from zero (n ∷ ns) = refl
 
-pub flushes_of : (ahead : Bool) (numbers : List ℕ) (is log : LogValue) → IsLog ahead is log
-    → finish_flushes numbers log ≡ finish_flushes numbers is
-flushes_of false numbers is log e = ap (λ (l : LogValue). finish_flushes numbers l) e
-flushes_of true numbers is log e = ap (λ (l : LogValue). finish_flushes numbers l) e ∙ kept_flushes numbers is log.kept
+pub flushes_of : (ahead : Bool) (frozen active : List ℕ) (firsts : List (List ℕ)) (old mid : LogValue)
+    → mid ≡ finished_with ahead frozen firsts old → finish_flushes active mid ≡ finish_flushes active (finished_with ahead frozen [] old)
+flushes_of ahead frozen active firsts old mid is =
+    ap (λ (l : LogValue). finish_flushes active l) (is ∙ but_firsts ahead frozen firsts old)
+    ∙ same_flushes active (finished_with ahead frozen [] old) (finished_with ahead frozen firsts old).firsts
 
 -- where a slot is free a sync of one batch flushes once
 pub once : (ahead : Bool) (frozen active : List ℕ) (log : LogValue) → log.shape.format ≡ Two → HasRoom log → frozen ≡ []
     → 0 < length active → both_flushes ahead frozen active log ≡ 1
 once ahead frozen active log two room none some =
     let first = flushes_none frozen log room.no_steps none in
-    let same = finishes_none ahead frozen log room.no_steps none in
+    let same = finishes_none ahead frozen [] log room.no_steps none in
     let last = ap (λ (l : LogValue). finish_flushes active l) (sym same) ∙ flushes_begun active log room.no_steps some in
     let free = room_free log room.free in
     let one = ap (λ (f : LogFormat). steps_flushes f (steps_of f active)) two ∙ steps_once (steps_of Two active) (omega (arith, some)) in

@@ -6,17 +6,18 @@ use Rattle.std.proofs.lemmas.Bool.{false≢true, ne_eqb, lt-ltb, leb-true, cases
 use Rattle.std.proofs.lemmas.List.Sums.{sum_by-cons, sum_by_push}
 use Rattle.std.proofs.lemmas.List.Elements.{All-append, All-cons}
 use Rattle.medium.specs.Medium.{State}
+use Rattle.cache.specs.Entries.{Entries}
 use Rattle.journal.specs.declared.log_format.LogFormat.{LogFormat}
 use Rattle.journal.specs.declared.log_format.LogFormat.TheVariants.{One, Two}
 use Rattle.journal.specs.Places.{Shape}
 use Rattle.redo_log.specs.Value.{LogValue, CanPass, behind_oldest, of_oldest, ahead_of, retire_steps_of, settled, begun}
 use Rattle.redo_log.specs.Value.{idle_from}
-use Rattle.blocks.specs.Ahead.{oldest_retired, counted, past, passed, gone_home, sent_home, ahead_room, IsBut}
+use Rattle.blocks.specs.Ahead.{oldest_retired, counted, past, passed, gone_home, sent_home, ahead_room}
 use Rattle.blocks.specs.Ahead.{may_go_by, may_go_ahead}
-use Rattle.blocks.specs.Retiring.{HasSlots, written_out, finished_from, finished}
+use Rattle.blocks.specs.Retiring.{HasSlots, written_out, finished_from, finished_with, finished}
 use Rattle.blocks.specs.Started.{IsStarted}
 use Rattle.blocks.specs.Steady.{IsSteady, IsFilling, IsFuller, finished_each, ReachesSteady}
-use Rattle.blocks.specs.StoreValue.{Cached, layout_of}
+use Rattle.blocks.specs.StoreValue.{Cached, layout_of, firsts_in}
 use Rattle.blocks.proofs.AheadTurns.{no_pass}
 use Rattle.blocks.proofs.OldestHome.{not_short, short_is, rests_passed, passes_short}
 use Rattle.blocks.proofs.Ready.{ahead_free}
@@ -39,37 +40,36 @@ blocks_behind [] each = each
 blocks_behind (r ∷ records) each = λ j d below. each (suc j) d (omega arith)
 
 -- a record that has blocks owes three steps at least
-owes_three : (format : LogFormat) (numbers : List ℕ) → 0 < length numbers → 3 ≤ retire_steps_of format numbers
-owes_three format [] some = absurd (omega (arith, some))
-owes_three One (n ∷ numbers) some = omega arith
-owes_three Two (n ∷ numbers) some = omega arith
+owes_three : (numbers : List ℕ) → 0 < length numbers → 3 ≤ retire_steps_of numbers
+owes_three [] some = absurd (omega (arith, some))
+owes_three (n ∷ numbers) some = omega arith
 
 -- the steps of a ring are those of its oldest record and of those behind it
-first_owed : (format : LogFormat) (w : List (List ℕ)) → 0 < length w → HaveBlocks w
-    → 3 + sum_by (retire_steps_of format) (drop 1 w) ≤ sum_by (retire_steps_of format) w
-first_owed format [] some each = absurd (omega (arith, some))
-first_owed format (a ∷ rest) some each =
-    let sum = sum_by-cons (retire_steps_of format) a rest in
-    let three = owes_three format a (each 0 [] (omega arith)) in
+first_owed : (w : List (List ℕ)) → 0 < length w → HaveBlocks w
+    → 3 + sum_by retire_steps_of (drop 1 w) ≤ sum_by retire_steps_of w
+first_owed [] some each = absurd (omega (arith, some))
+first_owed (a ∷ rest) some each =
+    let sum = sum_by-cons retire_steps_of a rest in
+    let three = owes_three a (each 0 [] (omega arith)) in
     omega (arith, sum, three)
 
 -- those behind the oldest, and one more
-behind_more : (format : LogFormat) (w : List (List ℕ)) (numbers : List ℕ) → 0 < length w
-    → sum_by (retire_steps_of format) (drop 1 (w ++ numbers ∷ []))
-    ≡ sum_by (retire_steps_of format) (drop 1 w) + retire_steps_of format numbers
-behind_more format [] numbers some = absurd (omega (arith, some))
-behind_more format (a ∷ rest) numbers some = sum_by_push (retire_steps_of format) rest numbers
+behind_more : (w : List (List ℕ)) (numbers : List ℕ) → 0 < length w
+    → sum_by retire_steps_of (drop 1 (w ++ numbers ∷ []))
+    ≡ sum_by retire_steps_of (drop 1 w) + retire_steps_of numbers
+behind_more [] numbers some = absurd (omega (arith, some))
+behind_more (a ∷ rest) numbers some = sum_by_push retire_steps_of rest numbers
 
 -- ---- the log behind one record more
 
 -- the log with one record more
-abbrev with_more : List ℕ → LogValue → LogValue
-with_more numbers log = written_out (begun numbers log)
+abbrev with_more : List ℕ → List (List ℕ) → LogValue → LogValue
+with_more numbers firsts log = written_out (begun numbers firsts log)
 
-finished_is : (numbers : List ℕ) (log : LogValue) → log.steps_left ≡ 0 → 0 < length numbers
-    → finished true numbers log ≡ with_more numbers (ahead_room log)
-finished_is [] log idle some = absurd (omega (arith, some))
-finished_is (n ∷ numbers) log idle some = ap (λ (steps : ℕ). finished_from true steps (n ∷ numbers) log) idle
+finished_is : (numbers : List ℕ) (firsts : List (List ℕ)) (log : LogValue) → log.steps_left ≡ 0 → 0 < length numbers
+    → finished_with true numbers firsts log ≡ with_more numbers firsts (ahead_room log)
+finished_is [] firsts log idle some = absurd (omega (arith, some))
+finished_is (n ∷ numbers) firsts log idle some = ap (λ (steps : ℕ). finished_from true steps (n ∷ numbers) firsts log) idle
 
 -- the same log, whose oldest record is home
 abbrev home_of : LogValue → LogValue
@@ -81,13 +81,13 @@ goes_home log few away =
     ∙ ap (λ (b : Bool). if b then home_of log else log) (lt-ltb 2 (of_oldest log) away)
 
 -- Where its oldest record is home, and one slot is free once the next one is written, the ring is steady then.
-then_steady : (numbers : List ℕ) (log : LogValue) → log.under_way ≡ [] → 0 < length log.waiting → HaveBlocks log.waiting
-    → 0 < length numbers → ((log.next + 1) - log.head) + 1 ≡ log.shape.slots → IsSteady (with_more numbers (home_of log))
-then_steady numbers log under_way waits each some one_free =
-    let format = log.shape.format in
+then_steady : (numbers : List ℕ) (firsts : List (List ℕ)) (log : LogValue) → log.under_way ≡ [] → 0 < length log.waiting → HaveBlocks
+    log.waiting
+    → 0 < length numbers → ((log.next + 1) - log.head) + 1 ≡ log.shape.slots → IsSteady (with_more numbers firsts (home_of log))
+then_steady numbers firsts log under_way waits each some one_free =
     let longer = length-append log.waiting (numbers ∷ []) in
-    let behind = behind_more format log.waiting numbers waits in
-    let none = ap (λ (ns : List ℕ). retire_steps_of format ns) under_way in
+    let behind = behind_more log.waiting numbers waits in
+    let none = ap (λ (ns : List ℕ). retire_steps_of ns) under_way in
     record {
       idle = refl;
       none_under_way = refl;
@@ -105,12 +105,11 @@ pub record Filled (old new : LogValue) : Type 0 where
   pub shape : new.shape ≡ old.shape
 
 -- three slots are free, or two
-fills_on : (numbers : List ℕ) (log : LogValue) → IsFilling log → HaveBlocks log.waiting → 0 < length numbers
-    → length log.waiting + 3 ≤ log.shape.slots → Filled log (with_more numbers log)
-fills_on numbers log f each some free =
-    let format = log.shape.format in
+fills_on : (numbers : List ℕ) (firsts : List (List ℕ)) (log : LogValue) → IsFilling log → HaveBlocks log.waiting → 0 < length numbers
+    → length log.waiting + 3 ≤ log.shape.slots → Filled log (with_more numbers firsts log)
+fills_on numbers firsts log f each some free =
     let longer = length-append log.waiting (numbers ∷ []) in
-    let sum = sum_by_push (retire_steps_of format) log.waiting numbers in
+    let sum = sum_by_push retire_steps_of log.waiting numbers in
     record {
       fuller = record {
         one_more = omega (arith, longer);
@@ -140,51 +139,51 @@ none_passed : (log : LogValue) → 2 < of_oldest log → past log ≡ log
 none_passed log away =
     ap (λ (n : ℕ). if n == 1 then oldest_retired log else log) (no_pass log (λ (can : CanPass log). omega (arith, can.flushed, away)))
 
-fills_last : (numbers : List ℕ) (log : LogValue) → IsFilling log → HaveBlocks log.waiting → 0 < length numbers
-    → length log.waiting + 2 ≡ log.shape.slots → Filled log (with_more numbers (home_of log))
-fills_last numbers log f each some two =
+fills_last : (numbers : List ℕ) (firsts : List (List ℕ)) (log : LogValue) → IsFilling log → HaveBlocks log.waiting → 0 < length numbers
+    → length log.waiting + 2 ≡ log.shape.slots → Filled log (with_more numbers firsts (home_of log))
+fills_last numbers firsts log f each some two =
     let longer = length-append log.waiting (numbers ∷ []) in
     record {
       fuller = record {
         one_more = omega (arith, longer);
         on = λ free. absurd (omega (arith, two, free));
-        full = λ last. then_steady numbers log f.none_under_way (omega (arith, f.three, two)) each some (omega (arith, f.used, two));
+        full = λ last. then_steady numbers firsts log f.none_under_way (omega (arith, f.three, two)) each some (omega (arith, f.used, two));
       };
       blocks = blocks_more log.waiting numbers each some;
       shape = refl;
     }
 
 -- a ring that fills comes by one record more, and is steady where only one slot is left then
-pub fills : (numbers : List ℕ) (log : LogValue) → IsFilling log → HaveBlocks log.waiting → 0 < length numbers
-    → Filled log (finished true numbers log)
-fills numbers log f each some =
-    subst (λ (l : LogValue). Filled log l) (sym (finished_is numbers log f.idle some)) (⊎_elim
+pub fills : (numbers : List ℕ) (firsts : List (List ℕ)) (log : LogValue) → IsFilling log → HaveBlocks log.waiting → 0 < length numbers
+    → Filled log (finished_with true numbers firsts log)
+fills numbers firsts log f each some =
+    subst (λ (l : LogValue). Filled log l) (sym (finished_is numbers firsts log f.idle some)) (⊎_elim
     (λ (less : length log.waiting + 2 < log.shape.slots).
     let slots : HasSlots 3 log = omega (arith, f.used, less) in
     let is : ahead_room log ≡ log =
     ahead_free log (omega (arith, f.used, less))
     ∙ ap (λ (l : LogValue). sent_home l) (sym (rests_passed log slots))
     ∙ ap (λ (b : Bool). if b then gone_home log else log) (not_short log slots) in
-    subst (λ (l : LogValue). Filled log (with_more numbers l)) (sym is)
-    (fills_on numbers log f each some (omega (arith, less))))
+    subst (λ (l : LogValue). Filled log (with_more numbers firsts l)) (sym is)
+    (fills_on numbers firsts log f each some (omega (arith, less))))
     (λ (most : log.shape.slots ≤ length log.waiting + 2).
     let two : length log.waiting + 2 ≡ log.shape.slots = omega (arith, most, f.two_free) in
     let few : HasSlots 3 log → ⊥ = λ slots. omega (arith, slots, f.used, two) in
-    let owed = first_owed log.shape.format log.waiting (omega (arith, f.three, two)) each in
-    let none = ap (λ (ns : List ℕ). retire_steps_of log.shape.format ns) f.none_under_way in
+    let owed = first_owed log.waiting (omega (arith, f.three, two)) each in
+    let none = ap (λ (ns : List ℕ). retire_steps_of ns) f.none_under_way in
     let away : 2 < of_oldest log = omega (arith, owed, none, f.none_home) in
     let same : passed log ≡ log =
     sym (passes_short log few) ∙ ap (λ (l : LogValue). past l) (none_counted log f.none_ahead) ∙ none_passed log away in
     let is : ahead_room log ≡ home_of log =
     ahead_free log (omega (arith, f.used, two)) ∙ ap (λ (l : LogValue). sent_home l) same ∙ goes_home log few away in
-    subst (λ (l : LogValue). Filled log (with_more numbers l)) (sym is) (fills_last numbers log f each some two))
+    subst (λ (l : LogValue). Filled log (with_more numbers firsts l)) (sym is) (fills_last numbers firsts log f each some two))
     (cases_lt (length log.waiting + 2) log.shape.slots))
 
 -- ---- a steady ring
 
-pub keeps_on : (numbers : List ℕ) (log : LogValue) → IsSteady log → HaveBlocks log.waiting → 0 < length numbers
-    → IsSteady (finished true numbers log) × HaveBlocks (finished true numbers log).waiting
-keeps_on numbers log s each some =
+pub keeps_on : (numbers : List ℕ) (firsts : List (List ℕ)) (log : LogValue) → IsSteady log → HaveBlocks log.waiting → 0 < length numbers
+    → IsSteady (finished_with true numbers firsts log) × HaveBlocks (finished_with true numbers firsts log).waiting
+keeps_on numbers firsts log s each some =
     let next : LogValue = oldest_retired (settled log) in
     let two : 1 < length log.waiting = more log.waiting s.some in
     let fewer : length (drop 1 log.waiting) + 1 ≡ length log.waiting = behind log.waiting (omega (arith, two)) in
@@ -193,9 +192,9 @@ keeps_on numbers log s each some =
     let is : ahead_room log ≡ home_of next =
     ahead_free log (omega (arith, s.one_free)) ∙ ap (λ (l : LogValue). sent_home l) (steady_passed log s)
     ∙ goes_home next still.0 still.1 in
-    let all = finished_is numbers log s.idle some ∙ ap (λ (l : LogValue). with_more numbers l) is in (
+    let all = finished_is numbers firsts log s.idle some ∙ ap (λ (l : LogValue). with_more numbers firsts l) is in (
       subst (λ (l : LogValue). IsSteady l) (sym all)
-          (then_steady numbers next s.none_under_way (omega (arith, two, fewer)) rest some (omega (arith, s.one_free))),
+          (then_steady numbers firsts next s.none_under_way (omega (arith, two, fewer)) rest some (omega (arith, s.one_free))),
       subst (λ (l : LogValue). HaveBlocks l.waiting) (sym all) (blocks_more (drop 1 log.waiting) numbers rest some),
     )
   where
@@ -209,60 +208,37 @@ keeps_on numbers log s each some =
     behind (a ∷ w) waits = omega arith
 
 -- whatever a batch is, it stays steady
-pub stays_on : (numbers : List ℕ) (log : LogValue) → IsSteady log → HaveBlocks log.waiting → IsSteady (finished true numbers log)
-stays_on [] log s each = subst (λ (steps : ℕ). IsSteady (finished_from true steps [] log)) (sym s.idle) s
-stays_on (n ∷ numbers) log s each = (keeps_on (n ∷ numbers) log s each (omega arith)).0
-
--- ---- but for the descriptor that is kept
-
-pub steady_but : (is log : LogValue) → IsBut is log → IsSteady is → IsSteady log
-steady_but is log same s = subst (λ (l : LogValue). IsSteady l) (sym same) (record {
-  idle = s.idle;
-  none_under_way = s.none_under_way;
-  one_free = s.one_free;
-  covered = record { oldest = s.covered.oldest; flushes = s.covered.flushes; since = s.covered.since };
-  some = s.some;
-})
-
-pub fuller_but : (old is log : LogValue) → IsBut is log → IsFuller old is → IsFuller old log
-fuller_but old is log same f = record {
-  one_more = ap (λ (l : LogValue). length l.waiting) same ∙ f.one_more;
-  on = λ three.
-      let filling = f.on three in
-      subst (λ (l : LogValue). IsFilling l) (sym same) (record {
-        idle = filling.idle;
-        none_under_way = filling.none_under_way;
-        three = filling.three;
-        used = filling.used;
-        two_free = filling.two_free;
-        none_home = filling.none_home;
-        none_ahead = filling.none_ahead;
-      });
-  full = λ two. steady_but is log same (f.full two);
-}
+pub stays_on : (numbers : List ℕ) (firsts : List (List ℕ)) (log : LogValue) → IsSteady log → HaveBlocks log.waiting → IsSteady
+    (finished_with true numbers firsts log)
+stays_on [] firsts log s each = subst (λ (steps : ℕ). IsSteady (finished_from true steps [] firsts log)) (sym s.idle) s
+stays_on (n ∷ numbers) firsts log s each = (keeps_on (n ∷ numbers) firsts log s each (omega arith)).0
 
 -- ---- many records
 
-keeps_each : (batches : List (List ℕ)) (log : LogValue) → IsSteady log → HaveBlocks log.waiting → HaveBlocks batches
+-- each of these batches has blocks
+abbrev pub ListBlocks : List Entries → Type 0
+ListBlocks batches = All (λ batch. 0 < length batch.numbers) batches
+
+keeps_each : (batches : List Entries) (log : LogValue) → IsSteady log → HaveBlocks log.waiting → ListBlocks batches
     → IsSteady (finished_each batches log)
 keeps_each [] log s each blocks = s
-keeps_each (numbers ∷ batches) log s each blocks =
-    let one = keeps_on numbers log s each (blocks 0 [] (omega arith)) in
-    keeps_each batches (finished true numbers log) one.0 one.1 (λ j d below. blocks (suc j) d (omega arith))
+keeps_each (batch ∷ batches) log s each blocks =
+    let one = keeps_on batch.numbers (firsts_in batch) log s each (blocks 0 batch (omega arith)) in
+    keeps_each batches (finished true batch log) one.0 one.1 (λ j d below. blocks (suc j) d (omega arith))
 
-fills_each : (batches : List (List ℕ)) (log : LogValue) → IsFilling log → HaveBlocks log.waiting → HaveBlocks batches
+fills_each : (batches : List Entries) (log : LogValue) → IsFilling log → HaveBlocks log.waiting → ListBlocks batches
     → log.shape.slots ≤ length log.waiting + length batches + 1 → IsSteady (finished_each batches log)
 fills_each [] log f each blocks enough = absurd (omega (arith, f.two_free, enough))
-fills_each (numbers ∷ batches) log f each blocks enough =
-    let one = fills numbers log f each (blocks 0 [] (omega arith)) in
-    let rest : HaveBlocks batches = λ j d below. blocks (suc j) d (omega arith) in
+fills_each (batch ∷ batches) log f each blocks enough =
+    let one = fills batch.numbers (firsts_in batch) log f each (blocks 0 batch (omega arith)) in
+    let rest : ListBlocks batches = λ j d below. blocks (suc j) d (omega arith) in
     let slots = ap (λ (s : Shape). s.slots) one.shape in
     ⊎_elim
     (λ (less : length log.waiting + 2 < log.shape.slots).
-    fills_each batches (finished true numbers log) (one.fuller.on (omega (arith, less))) one.blocks rest
+    fills_each batches (finished true batch log) (one.fuller.on (omega (arith, less))) one.blocks rest
     (omega (arith, slots, one.fuller.one_more, enough)))
     (λ (most : log.shape.slots ≤ length log.waiting + 2).
-    keeps_each batches (finished true numbers log) (one.fuller.full (omega (arith, most, f.two_free))) one.blocks rest)
+    keeps_each batches (finished true batch log) (one.fuller.full (omega (arith, most, f.two_free))) one.blocks rest)
     (cases_lt (length log.waiting + 2) log.shape.slots)
 
 -- a ring that fills becomes steady, and stays so

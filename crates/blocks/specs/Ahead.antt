@@ -1,12 +1,12 @@
 -- What a store that retires ahead does before it begins a record, and how many calls that takes:
 -- the head goes past an oldest record whose blocks an earlier flush covers, and the oldest one goes
 -- home. None of these calls is a flush: that of the record that is begun covers them.
-use Rattle.std.specs.Prelude.{◌≡◌, ◌+◌, ◌-◌, ◌&&◌, ◌==◌, ℕ, Bool, length}
-use Rattle.std.specs.Prelude.{nat_lt, nat_le, false, if◌then◌else◌, drop, replicate}
+use Rattle.std.specs.Prelude.{◌+◌, ◌-◌, ◌&&◌, ◌==◌, ℕ, Bool, length}
+use Rattle.std.specs.Prelude.{nat_lt, nat_le, false, if◌then◌else◌, drop}
 use Rattle.journal.specs.Places.{Shape}
 use Rattle.journal.specs.declared.log_format.LogFormat.{LogFormat}
 use Rattle.journal.specs.declared.log_format.LogFormat.TheVariants.{One, Two}
-use Rattle.redo_log.specs.Value.{LogValue, settled, behind_oldest, of_oldest, home_of_oldest}
+use Rattle.redo_log.specs.Value.{LogValue, settled, behind_oldest, of_oldest}
 use Rattle.redo_log.specs.Value.{ahead_of, turns_calls, pass_calls}
 
 -- the oldest record is retired
@@ -15,12 +15,12 @@ oldest_retired log = record log {
   head = log.head + 1;
   waiting = drop 1 log.waiting;
   retire_steps_left = behind_oldest log;
-  kept = replicate 512 0;
+  firsts = drop 1 log.firsts;
 }
 
 -- how many calls make all the steps that are left of the oldest record
 abbrev pub retiring_calls : LogValue → ℕ
-retiring_calls log = turns_calls log.shape.format (home_of_oldest log) (of_oldest log)
+retiring_calls log = turns_calls (of_oldest log)
 
 -- fewer slots are free than three
 abbrev pub is_short : LogValue → Bool
@@ -65,9 +65,9 @@ sent_home log = if is_short log then gone_home log else log
 abbrev pub sent_calls : LogValue → ℕ
 sent_calls log = if is_short log then going_calls log else 0
 
--- Room for one more record, but for the descriptor that is kept. Where a slot is free: nothing is
--- done, or the oldest record is passed, or it is passed and the next one sent home, or the oldest
--- is sent home alone. Where none is free the oldest is retired.
+-- Room for one more record. Where a slot is free: nothing is done, or the oldest record is
+-- passed, or it is passed and the next one sent home, or the oldest is sent home alone. Where none
+-- is free the oldest is retired.
 abbrev pub ahead_room : LogValue → LogValue
 ahead_room log = if nat_lt (log.next - log.head) log.shape.slots then sent_home (passed log)
     else oldest_retired log
@@ -75,11 +75,6 @@ ahead_room log = if nat_lt (log.next - log.head) log.shape.slots then sent_home 
 abbrev pub ahead_room_calls : LogValue → ℕ
 ahead_room_calls log = if nat_lt (log.next - log.head) log.shape.slots
     then passed_calls log + sent_calls (passed log) else retiring_calls log
-
--- the log is this one, but for the descriptor of its oldest record that is kept: which that is, the
--- medium tells
-abbrev pub IsBut : LogValue → LogValue → Type 0
-IsBut is log = log ≡ record is { kept = log.kept }
 
 -- a store of such a log may go ahead: the one record that is passed, the one that is on its way
 -- home and the one that is begun have a slot each, and the record's one flush covers all that goes

@@ -13,6 +13,7 @@ use Rattle.redo_log.specs.declared.progress.Progress.{Progress}
 use Rattle.redo_log.specs.declared.progress.Progress.TheVariants.{More, Durable}
 use Rattle.blocks.specs.declared.fault.StoreFault.{StoreFault}
 use Rattle.blocks.specs.StoreValue.{Cached, StoreValue, is_dead, active_of, unwritten, steps_left}
+use Rattle.blocks.specs.StoreValue.{firsts_in}
 use Rattle.blocks.specs.Turns.{IsTurn}
 use Rattle.blocks.specs.Passing.{PassesOn, KeepsMedium, TellsLife, MayEmpty}
 
@@ -57,7 +58,8 @@ pub record WritesOn (old new : Cached) : Type 0 where
 -- it, the log is dead. No record is retired, and both batches stay.
 pub record BeginsFrozen (old new : Cached) : Type 0 where
   pub live : is_dead new ≡ false
-      → (old.log.next < 2 ^ 63 - 1) × (new.log ≡ begun old.frozen.numbers old.log)
+      → (old.log.next < 2 ^ 63 - 1)
+      × (new.log ≡ begun old.frozen.numbers (firsts_in old.frozen) old.log)
   pub dies : is_dead new ≡ true → (old.log.next ≡ 2 ^ 63 - 1) × (new.log ≡ died old.log)
   pub falls : is_dead new ≡ false → steps_left new < steps_left old
   pub head : new.log.head ≡ old.log.head
@@ -77,7 +79,8 @@ pub record IsBeginning (before after : State) (old new : Cached) : Type 0 where
   pub unchanged : IsUnchanged before after
   pub next : FreezesNext old new
   pub live : is_dead new ≡ false
-      → (old.log.next < 2 ^ 63 - 1) × (new.log ≡ begun new.frozen.numbers old.log)
+      → (old.log.next < 2 ^ 63 - 1)
+      × (new.log ≡ begun new.frozen.numbers (firsts_in new.frozen) old.log)
   pub dies : is_dead new ≡ true → (old.log.next ≡ 2 ^ 63 - 1) × (new.log ≡ died old.log)
 
 -- The oldest record is retired by exactly one step, which makes that step's calls and never more

@@ -1,37 +1,22 @@
 -- How many calls of the medium a read of a store makes, and what a write does to the batches.
-use Rattle.std.specs.Prelude.{◌≡◌, ℕ, ◌+◌, ◌*◌, zero, suc, Bool, true, false, List, [], ◌∷◌}
+use Rattle.std.specs.Prelude.{◌≡◌, ℕ, ◌+◌, ◌*◌, zero, suc, Bool, true}
 use Rattle.std.specs.Prelude.{◌≤◌, if◌then◌else◌, Result, OnOk}
 use Rattle.medium.specs.Medium.{State}
 use Rattle.medium.specs.Sent.{SendsUpTo}
 use Rattle.medium.specs.declared.fault.MediumFault.TheVariants.{Flush}
 use Rattle.cache.specs.Blocks.{is_listed}
-pub use Rattle.journal.specs.Copies.{copy_reads_of}
-use Rattle.redo_log.specs.Value.{LogValue}
-use Rattle.blocks.specs.Retiring.{finished, finish_calls, IsLog}
+use Rattle.blocks.specs.Retiring.{finished, finish_calls}
 use Rattle.blocks.specs.Flushing.{finish_flushes}
 use Rattle.blocks.specs.Steady.{IsSteady}
-use Rattle.blocks.specs.StoreValue.{Cached, layout_of, FitsBeside, TakesRange, transfer_limit}
+use Rattle.blocks.specs.StoreValue.{Cached, FitsBeside, TakesRange, transfer_limit}
 use Rattle.blocks.specs.StoreValue.{active_of, batch_steps, steps_left}
 
--- one of these records has this block
-abbrev pub is_logged : List (List ℕ) → ℕ → Bool
-is_logged [] b = false
-is_logged (numbers ∷ records) b = if is_listed numbers b then true else is_logged records b
-
--- how many calls it takes to read a block that no batch has: from its newest logged copy, or from
--- home
-abbrev pub durable_reads : LogValue → ℕ → ℕ
-durable_reads log b = if is_logged log.waiting b then copy_reads_of log.shape.format else 1
-
--- how many it takes at most to read a block
-abbrev pub most_reads : Cached → ℕ
-most_reads s = copy_reads_of (layout_of s).format
-
--- how many it takes to read a block: none where a batch has it
+-- how many calls it takes to read a block: none where a batch has it, and else one, from its newest
+-- logged copy or from home
 abbrev pub block_reads : Cached → ℕ → ℕ
 block_reads s b =
     if is_listed s.active.numbers b then 0 else
-    (if is_listed s.frozen.numbers b then 0 else durable_reads s.log b)
+    (if is_listed s.frozen.numbers b then 0 else 1)
 
 -- how many it takes to read so many blocks from this address on
 abbrev pub reads_of : Cached → ℕ → ℕ → ℕ
@@ -55,7 +40,7 @@ pub record TurnsBatches (ahead : Bool) (old new : Cached) (address count : ℕ) 
   pub beside : FitsBeside (transfer_limit old) old.active.numbers address count
       → (new.frozen ≡ old.frozen) × (new.log ≡ old.log)
   pub alone : ¬ FitsBeside (transfer_limit old) old.active.numbers address count
-      → (new.frozen ≡ old.active) × IsLog ahead (finished ahead old.frozen.numbers old.log) new.log
+      → (new.frozen ≡ old.active) × (new.log ≡ finished ahead old.frozen old.log)
 
 -- What a good write of so many blocks from this address on costs. One batch more is to become a
 -- record. Where the range does not fit beside the active batch, it makes the calls that make the

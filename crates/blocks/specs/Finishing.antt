@@ -9,7 +9,7 @@ use Rattle.blocks.specs.declared.fault.StoreFault.{StoreFault}
 use Rattle.blocks.specs.StoreValue.{Cached, StoreValue, layout_of, active_of, unwritten, wants}
 use Rattle.blocks.specs.StoreValue.{steps_left}
 use Rattle.blocks.specs.Passing.{MayEmpty, PassesPaid, TellsLife, Answers}
-use Rattle.blocks.specs.Retiring.{RetiresForRoom, finished, made_ready, written_out, IsLog, IsRoomy}
+use Rattle.blocks.specs.Retiring.{RetiresForRoom, finished, made_ready, written_out, IsRoomy}
 use Rattle.blocks.specs.Retiring.{HasSlots, with_spare, to_begin, record_calls, calls_from}
 use Rattle.blocks.specs.Retiring.{both_calls, ready_calls, room_calls}
 use Rattle.blocks.specs.Steady.{IsSteady, IsFilling, IsFuller, steady_calls}
@@ -46,7 +46,7 @@ pub record MakesRoom {M : Type 0} (ahead : Bool) (result : Answer) (old new : St
     : Type 0 where
   pub retires : RetiresForRoom ahead old.cached.log new.cached.log
   pub room : OnOk result (HasRoom new.cached.log)
-  pub made : OnOk result (IsLog ahead (made_ready ahead old.cached.log) new.cached.log)
+  pub made : OnOk result (new.cached.log ≡ made_ready ahead old.cached.log)
   pub quiet : IsRoomy ahead old.cached.log → new.medium ≡ old.medium
   pub active : new.cached.active ≡ old.cached.active
   pub frozen : new.cached.frozen ≡ old.cached.frozen
@@ -84,8 +84,8 @@ pub record FinishesFrozen {M : Type 0} (result : Answer) (old new : StoreValue M
   pub rests : old.cached.frozen.numbers ≡ [] → new ≡ old
   pub waits : 0 < length old.cached.frozen.numbers
       → OnOk result (0 < new.cached.log.retire_steps_left)
-  pub finishes : OnOk result (IsLog old.goes_ahead
-      (finished old.goes_ahead old.cached.frozen.numbers old.cached.log) new.cached.log)
+  pub finishes : OnOk result (new.cached.log
+      ≡ finished old.goes_ahead old.cached.frozen old.cached.log)
   pub retires : RetiresForRoom old.goes_ahead old.cached.log new.cached.log
   pub active : new.cached.active ≡ old.cached.active
   pub fills : old.goes_ahead ≡ true → IsFilling old.cached.log
@@ -128,9 +128,8 @@ pub record FinishesBoth {M : Type 0} (result : Answer) (old new : StoreValue M) 
   pub waits : 0 < unwritten old.cached → OnOk result (0 < steps_left new.cached)
   -- Where Ok: the record of each batch is written, and nothing is retired but the oldest record
   -- before one that finds no slot free, or, where the store goes ahead, what that makes of the log.
-  pub finishes : OnOk result (IsLog old.goes_ahead (finished old.goes_ahead
-      old.cached.active.numbers
-      (finished old.goes_ahead old.cached.frozen.numbers old.cached.log)) new.cached.log)
+  pub finishes : OnOk result (new.cached.log ≡ finished old.goes_ahead old.cached.active
+      (finished old.goes_ahead old.cached.frozen old.cached.log))
   -- Where the store goes ahead, records alone fill the ring, by one for each sync of one batch.
   -- Then it is steady, and stays so, whatever a sync writes.
   pub fills : old.goes_ahead ≡ true → IsFilling old.cached.log → old.cached.frozen.numbers ≡ []

@@ -2,7 +2,7 @@
 use Rattle.std.specs.Prelude.{ℕ, zero, suc, ◌+◌, ◌-◌, List, [], ◌∷◌, nat_lt, Bool, if◌then◌else◌}
 use Rattle.redo_log.specs.Value.{LogValue, of_oldest, steps_of}
 use Rattle.redo_log.specs.Flushes.{steps_flushes, turns_flushes}
-use Rattle.blocks.specs.Retiring.{finished}
+use Rattle.blocks.specs.Retiring.{finished_with}
 
 -- those of the steps that are left of the record under way
 abbrev pub left_flushes : LogValue → ℕ
@@ -28,4 +28,4 @@ finish_flushes numbers log = finish_flushes_from log.steps_left numbers log
 -- those for this batch, and then for another one
 abbrev pub both_flushes : Bool → List ℕ → List ℕ → LogValue → ℕ
 both_flushes ahead frozen active log =
-    finish_flushes frozen log + finish_flushes active (finished ahead frozen log)
+    finish_flushes frozen log + finish_flushes active (finished_with ahead frozen [] log)

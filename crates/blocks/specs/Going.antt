@@ -5,7 +5,7 @@ use Rattle.medium.specs.Sent.{SendsUpTo}
 use Rattle.medium.specs.declared.fault.MediumFault.TheVariants.{Flush}
 use Rattle.redo_log.specs.Value.{LogValue, IsSentHome, next_calls, next_sends, pass_calls}
 use Rattle.blocks.specs.declared.fault.StoreFault.{StoreFault}
-use Rattle.blocks.specs.Ahead.{counted, past, IsBut}
+use Rattle.blocks.specs.Ahead.{counted, past}
 use Rattle.blocks.specs.Passing.{PassesPaid, KeepsMedium, TellsLife}
 use Rattle.blocks.specs.StoreValue.{Cached, StoreValue, is_dead, steps_left}
 use Rattle.blocks.specs.Turns.{IsTurn}
@@ -32,7 +32,7 @@ pub record PassesHead (before after : State) (old new : Cached) : Type 0 where
   pub fewer : is_dead new ≡ false → steps_left new ≤ steps_left old
   pub stays : StaysIdle old new
 
--- one more block of the oldest record goes home, or a descriptor of it is read
+-- one more block of the oldest record goes home
 pub record BringsHome (before after : State) (old new : Cached) : Type 0 where
   pub log : is_dead new ≡ false → IsSentHome old.log new.log
   pub calls : is_dead new ≡ false → after.calls ≡ before.calls + next_calls old.log
@@ -42,12 +42,11 @@ pub record BringsHome (before after : State) (old new : Cached) : Type 0 where
   pub head : new.log.head ≡ old.log.head
   pub stays : StaysIdle old new
 
--- Where it is good, the log is this one but for the descriptor that is kept, by exactly so many
--- calls. None of its calls is a flush, good or refused. No more records are passed than so many,
--- and whether the store is live it tells.
+-- Where it is good, the log is this one, by exactly so many calls. None of its calls is a flush,
+-- good or refused. No more records are passed than so many, and whether the store is live it tells.
 pub record GoesAhead (result : Result (Unit {0}) StoreFault) (is : LogValue) (count most : ℕ)
     (before after : State) (old new : Cached) : Type 0 where
-  pub log : is_dead new ≡ false → IsBut is new.log
+  pub log : is_dead new ≡ false → new.log ≡ is
   pub calls : is_dead new ≡ false → after.calls ≡ before.calls + count
   pub flushed : after.made Flush ≡ before.made Flush
   pub stays : StaysIdle old new

@@ -1,5 +1,5 @@
 -- What the calls of a store do that read blocks for a caller.
-use Rattle.std.specs.Prelude.{◌≡◌, ◌<◌, ◌+◌, ◌*◌, ℕ, false, List, [], None}
+use Rattle.std.specs.Prelude.{◌≡◌, ◌<◌, ◌+◌, ℕ, false, List, [], None}
 use Rattle.std.specs.Prelude.{Result, OnOk, OnErr, IfErr}
 use Rattle.medium.specs.Medium.{State}
 use Rattle.medium.specs.declared.fault.MediumFault.{MediumFault}
@@ -9,7 +9,7 @@ use Rattle.cache.specs.Entries.{map_of}
 use Rattle.cache.specs.Places.{HasPlace}
 use Rattle.spec.specs.Book.{Book, array_of, blocks_at}
 use Rattle.blocks.specs.declared.fault.StoreFault.{StoreFault}
-use Rattle.blocks.specs.Calls.{durable_reads, block_reads, reads_of, CostsReads}
+use Rattle.blocks.specs.Calls.{block_reads, reads_of, CostsReads}
 use Rattle.blocks.specs.Passing.{KeepsStore}
 use Rattle.blocks.specs.StoreValue.{Cached, StoreValue, blocks_of, is_dead, FitsBook}
 use Rattle.blocks.specs.Turns.{IsTurn, IsReadCause}
@@ -46,7 +46,7 @@ pub record ReadsBlock {M : Type 0} (state : M → State) (Follows : M → M → 
   pub err : IfErr result (λ fault. IsReadCause (state old.medium) (state new.medium)
       old.cached fault)
   pub keeps : KeepsStore state Follows block 1 old new
-  pub cost : CostsReads result 2 (block_reads old.cached block)
+  pub cost : CostsReads result 1 (block_reads old.cached block)
       (state old.medium) (state new.medium)
 
 -- the same, and the places are those of the next block
@@ -66,7 +66,7 @@ pub record ReadsBlocks {M : Type 0} (state : M → State) (Follows : M → M →
       old.cached fault)
   pub keeps : KeepsStore state Follows address count old new
   pub turn : IsTurn (state old.medium) (state new.medium) old.cached new.cached
-  pub cost : CostsReads result (2 * count) (reads_of old.cached address count)
+  pub cost : CostsReads result count (reads_of old.cached address count)
       (state old.medium) (state new.medium)
 
 -- a block that no batch has is read, as what the log and the medium hold of it
@@ -78,5 +78,4 @@ pub record ReadsDurable {M : Type 0} (state : M → State) (Follows : M → M �
   pub err : OnErr result (((state old.medium).failures < (state new.medium).failures)
       × ((state old.medium).refused Read < (state new.medium).refused Read))
   pub keeps : KeepsStore state Follows block 1 old new
-  pub cost : CostsReads result 2 (durable_reads old.cached.log block)
-      (state old.medium) (state new.medium)
+  pub cost : CostsReads result 1 1 (state old.medium) (state new.medium)

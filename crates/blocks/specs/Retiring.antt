@@ -3,11 +3,12 @@
 use Rattle.std.specs.Prelude.{◌≡◌, ◌+◌, ◌-◌, ◌≤◌, ℕ, zero, suc, List, [], ◌∷◌, ◌++◌, nat_lt}
 use Rattle.std.specs.Prelude.{Bool, true, false, if◌then◌else◌}
 use Rattle.journal.specs.declared.log_format.LogFormat.{LogFormat}
+use Rattle.cache.specs.Entries.{Entries}
 use Rattle.redo_log.specs.Value.{LogValue, HasRoom, begun, steps_of}
-use Rattle.redo_log.specs.Value.{of_oldest, home_of_oldest, turns_calls}
+use Rattle.redo_log.specs.Value.{of_oldest, turns_calls}
 pub use Rattle.blocks.specs.Ahead.{oldest_retired}
-use Rattle.blocks.specs.Ahead.{ahead_room, ahead_room_calls, IsBut}
-use Rattle.blocks.specs.StoreValue.{wants, waiting}
+use Rattle.blocks.specs.Ahead.{ahead_room, ahead_room_calls}
+use Rattle.blocks.specs.StoreValue.{wants, waiting, firsts_in}
 
 -- so many slots are free
 abbrev pub HasSlots : ℕ → LogValue → Type 0
@@ -34,11 +35,6 @@ abbrev pub made_ready : Bool → LogValue → LogValue
 made_ready false log = with_room log
 made_ready true log = ahead_room log
 
--- the log is this one, and where the store goes ahead, but for the descriptor that is kept
-abbrev pub IsLog : Bool → LogValue → LogValue → Type 0
-IsLog false is log = log ≡ is
-IsLog true is log = IsBut is log
-
 -- the record under way is durable
 abbrev pub written_out : LogValue → LogValue
 written_out log = record log {
@@ -48,16 +44,20 @@ written_out log = record log {
 }
 
 -- where so many steps are left of the record of a batch
-abbrev pub finished_from : Bool → ℕ → List ℕ → LogValue → LogValue
-finished_from ahead (suc steps) numbers log = written_out log
-finished_from ahead zero [] log = log
-finished_from ahead zero (n ∷ numbers) log =
-    written_out (begun (n ∷ numbers) (made_ready ahead log))
+abbrev pub finished_from : Bool → ℕ → List ℕ → List (List ℕ) → LogValue → LogValue
+finished_from ahead (suc steps) numbers firsts log = written_out log
+finished_from ahead zero [] firsts log = log
+finished_from ahead zero (n ∷ numbers) firsts log =
+    written_out (begun (n ∷ numbers) firsts (made_ready ahead log))
 
--- The batch of these blocks is durable: its record is written, or, where that is under way already,
--- goes on. An empty batch has none.
-abbrev pub finished : Bool → List ℕ → LogValue → LogValue
-finished ahead numbers log = finished_from ahead log.steps_left numbers log
+-- A batch of these blocks, which begin with these bytes, is durable: its record is written, or,
+-- where that is under way already, goes on. An empty batch has none.
+abbrev pub finished_with : Bool → List ℕ → List (List ℕ) → LogValue → LogValue
+finished_with ahead numbers firsts log = finished_from ahead log.steps_left numbers firsts log
+
+-- this batch is durable
+abbrev pub finished : Bool → Entries → LogValue → LogValue
+finished ahead batch log = finished_with ahead batch.numbers (firsts_in batch) log
 
 -- how many calls write the record of a batch, of whose record so many are left
 abbrev pub calls_from : ℕ → LogFormat → List ℕ → ℕ
@@ -74,7 +74,7 @@ record_calls numbers log = calls_from log.steps_left log.shape.format numbers
 -- the steps that retire the oldest
 abbrev pub room_calls : LogValue → ℕ
 room_calls log = if nat_lt (log.next - log.head) log.shape.slots then 0
-    else turns_calls log.shape.format (home_of_oldest log) (of_oldest log)
+    else turns_calls (of_oldest log)
 
 -- the same, as the store makes it that goes ahead or does not
 abbrev pub ready_calls : Bool → LogValue → ℕ
@@ -93,10 +93,11 @@ finish_from ahead zero (n ∷ numbers) log =
 abbrev pub finish_calls : Bool → List ℕ → LogValue → ℕ
 finish_calls ahead numbers log = finish_from ahead log.steps_left numbers log
 
--- how many for this batch, and then for another one
+-- how many for this batch, and then for another one: with which bytes the blocks of the first begin
+-- counts for nothing
 abbrev pub both_calls : Bool → List ℕ → List ℕ → LogValue → ℕ
 both_calls ahead frozen active log =
-    finish_calls ahead frozen log + finish_calls ahead active (finished ahead frozen log)
+    finish_calls ahead frozen log + finish_calls ahead active (finished_with ahead frozen [] log)
 
 -- how many records are to be begun of a batch: none where that is under way, or empty
 abbrev pub to_begin : List ℕ → LogValue → ℕ

@@ -1,16 +1,10 @@
 -- How records alone fill the ring of a store that goes ahead, and what a sync costs it then.
-use Rattle.std.specs.Prelude.{◌≡◌, ◌+◌, ◌-◌, ◌<◌, ◌≤◌, ℕ, List, [], ◌∷◌, length, get_or, sum_by}
-use Rattle.std.specs.Prelude.{true, All}
-use Rattle.journal.specs.declared.log_format.LogFormat.{LogFormat}
-use Rattle.redo_log.specs.Value.{LogValue, IsCovered, turns_home, turns_calls, steps_of}
+use Rattle.std.specs.Prelude.{◌≡◌, ◌+◌, ◌-◌, ◌*◌, ◌<◌, ◌≤◌, ℕ, List, []}
+use Rattle.std.specs.Prelude.{◌∷◌, length, get_or, sum_by, true, All}
+use Rattle.cache.specs.Entries.{Entries}
+use Rattle.redo_log.specs.Value.{LogValue, IsCovered, steps_of}
 use Rattle.redo_log.specs.Value.{retire_steps_of}
 use Rattle.blocks.specs.Retiring.{finished}
-
--- so many calls bring a record of so many blocks home: each block is read and written, and in
--- format 2 each descriptor is read
-abbrev pub home_calls_of : LogFormat → ℕ → ℕ
-home_calls_of format count =
-    turns_calls format (turns_home format count) (turns_home format count + 2) - 3
 
 -- the record that is the oldest once the oldest one is passed
 abbrev pub second_of : LogValue → List ℕ
@@ -26,10 +20,9 @@ pub record IsSteady (log : LogValue) : Type 0 where
   pub some : 0 < length (second_of log)
 
 -- One record then costs its own calls, of which the last is a flush and each other one a write, one
--- write of the head, and the calls that bring one record home.
+-- write of the head, and the calls that bring one record home: each block is read and written.
 abbrev pub steady_calls : List ℕ → LogValue → ℕ
-steady_calls numbers log = steps_of log.shape.format numbers + 1
-    + home_calls_of log.shape.format (length (second_of log))
+steady_calls numbers log = steps_of log.shape.format numbers + 1 + 2 * length (second_of log)
 
 -- Records alone have come so far. Two slots are free at least, nothing is under way, and no block
 -- of a record went home.
@@ -40,7 +33,7 @@ pub record IsFilling (log : LogValue) : Type 0 where
   pub used : log.next ≡ log.head + length log.waiting
   pub two_free : length log.waiting + 2 ≤ log.shape.slots
   pub none_home : log.retire_steps_left
-      ≡ sum_by (retire_steps_of log.shape.format) log.waiting
+      ≡ sum_by retire_steps_of log.waiting
   pub none_ahead : log.ahead.home < log.head
 
 -- One record more has come: two slots are free still, or the ring is steady.
@@ -51,12 +44,12 @@ pub record IsFuller (old new : LogValue) : Type 0 where
 
 -- what the records of these batches make of a log, the first batch first, where the store goes
 -- ahead
-abbrev pub finished_each : List (List ℕ) → LogValue → LogValue
+abbrev pub finished_each : List Entries → LogValue → LogValue
 finished_each [] log = log
-finished_each (numbers ∷ batches) log = finished_each batches (finished true numbers log)
+finished_each (batch ∷ batches) log = finished_each batches (finished true batch log)
 
 -- Where as many batches have become records as there are slots but one, or more, the ring is
 -- steady.
 abbrev pub ReachesSteady : LogValue → Type 0
-ReachesSteady log = (batches : List (List ℕ)) → All (λ numbers. 0 < length numbers) batches
+ReachesSteady log = (batches : List Entries) → All (λ batch. 0 < length batch.numbers) batches
     → log.shape.slots ≤ length batches + 1 → IsSteady (finished_each batches log)

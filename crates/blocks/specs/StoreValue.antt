@@ -5,6 +5,7 @@ use Rattle.medium.specs.Medium.{State}
 use Rattle.cache.specs.Blocks.{over, Listed, unlisted, InRange}
 use Rattle.cache.specs.Entries.{Entries, map_of}
 use Rattle.journal.specs.Places.{Shape, limit_of}
+use Rattle.journal.specs.SectorsTwo.{firsts_of}
 use Rattle.redo_log.specs.Value.{LogValue, most_steps, most_retire_steps}
 use Rattle.redo_log.specs.Batch.{entries_of}
 use Rattle.redo_log.specs.Held.{View, HoldsView}
@@ -24,6 +25,10 @@ pub record StoreValue (M : Type 0) : Type 0 where
   pub cached : Cached
   -- whether it retires ahead
   pub goes_ahead : Bool
+
+-- the first 8 bytes of each block of a batch
+abbrev pub firsts_in : Entries → List (List ℕ)
+firsts_in batch = firsts_of (entries_of batch.numbers batch.bytes)
 
 -- the format of the log, how many logical blocks and log slots there are, and where block 0 is at
 -- home

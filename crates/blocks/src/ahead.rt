@@ -36,7 +36,7 @@ impl<M: Medium> Store<M> {
         }
     }
 
-    // Brings one block of the oldest record home, or reads a descriptor of it.
+    // Brings one block of the oldest record home.
     fn bring_home(&mut self) -> Result<(), StoreFault>
         requires live { is_dead self.old.cached ≡ false }
         requires idle { self.old.cached.log.steps_left ≡ 0 }

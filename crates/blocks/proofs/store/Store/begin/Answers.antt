@@ -15,7 +15,7 @@ returns-in-Ok g c = record {
     turn =
         let m = c.self.inside.medium in
         let some = rw (← c.self.view_is) at c.requires.some in
-        rw (← c.self.view_is, c.in-Ok.ensures.ok.1, c.numbers.ensures.value)
+        rw (← c.self.view_is, c.in-Ok.ensures.ok.1, c.numbers.ensures.value, c.bytes.ensures.value)
         (begins_record (g.M.Medium.state m) (g.met.M.Medium.sound m) _
         (rw (← c.self.view_is) at c.requires.room) (is_batch _ c.self.inside.frozen c.self.invariant.frozen some));
     medium = search rules;

@@ -1,4 +1,4 @@
-use Rattle.std.proofs.Common.{◌≡◌, ◌<◌, ◌≤◌, ◌∙◌, ℕ, [], List, length, ap, sym, subst, arith, Bool, true, false, rules}
+use Rattle.std.proofs.Common.{◌≡◌, ◌<◌, ◌≤◌, ◌∙◌, ℕ, [], List, length, ap, sym, subst, arith, Bool, false, rules}
 use Rattle.std.specs.Prelude.{OnOk}
 use Rattle.std.proofs.lemmas.Bool.{false≢true}
 use Rattle.std.proofs.lemmas.Result.{on_ok_weaker}
@@ -7,15 +7,16 @@ use Rattle.medium.specs.Sent.{sent}
 use Rattle.redo_log.specs.Value.{LogValue, begun, steps_of, most_steps}
 use Rattle.redo_log.proofs.RecordSteps.{few_steps_for}
 use Rattle.journal.specs.Places.{Shape, limit_of}
-use Rattle.blocks.specs.Retiring.{written_out, finished, IsLog}
+use Rattle.blocks.specs.Retiring.{written_out, finished}
 use Rattle.blocks.specs.Flushing.{left_flushes}
 use Rattle.medium.specs.declared.fault.MediumFault.TheVariants.{Flush}
 use Rattle.redo_log.specs.Flushes.{steps_flushes}
-use Rattle.blocks.proofs.SteadyRing.{fills, stays_on, fuller_but, steady_but}
+use Rattle.blocks.proofs.SteadyRing.{fills, stays_on}
 use Rattle.blocks.proofs.RoomFlushes.{flushes_under_way, flushes_none, flushes_begun}
 use Rattle.blocks.proofs.Room.{some_listed, finishes_under_way, finishes_none}
-use Rattle.blocks.proofs.Ready.{is_log, made_finished}
-use Rattle.blocks.specs.StoreValue.{is_dead}
+use Rattle.blocks.proofs.Ready.{made_finished}
+use Rattle.blocks.specs.StoreValue.{is_dead, firsts_in}
+use Rattle.blocks.specs.Steady.{IsSteady, IsFuller}
 use Rattle.blocks.proofs.RoomCalls.{finish_under_way, finish_none, finish_begun}
 use Rattle.blocks.proofs.TurnsJoined.{turns, stays}
 use Rattle.blocks.proofs.SectorsRead.{none, looks_on}
@@ -48,9 +49,9 @@ returns-then-self-clause-batch g c = record {
       let log_is : c.self.inside.log ≡ c.args.self.now.cached.log = ap (λ v. v.cached.log) c.self.view_is in
       let old = c.args.self.now.cached in
       let ahead = c.args.self.now.goes_ahead in
-      let finishing = finishes_under_way ahead old.frozen.numbers old.log (subst (λ (log : LogValue). 0 < log.steps_left) log_is some) in
-      on_ok_weaker c.write_out.result (λ written. is_log ahead (finished ahead old.frozen.numbers old.log)
-      c.write_out.new.self.cached.log (written ∙ finishing)) c.write_out.ensures.batch.written;
+      let finishing = finishes_under_way ahead old.frozen.numbers (firsts_in old.frozen) old.log
+      (subst (λ (log : LogValue). 0 < log.steps_left) log_is some) in
+      on_ok_weaker c.write_out.result (λ written. written ∙ finishing) c.write_out.ensures.batch.written;
   retires = search rules;
   active = search rules;
   fills = λ on filling listed.
@@ -92,7 +93,7 @@ returns-clause-passes g c = record {
       let frozen_is : c.self.inside.frozen ≡ old.frozen = ap (λ v. v.cached.frozen) c.self.view_is in
       let log_is : c.self.inside.log ≡ old.log = ap (λ v. v.cached.log) c.self.view_is in
       let begun_is = (c.begin.ensures.begins.live c.in_ok-begin.ensures.answer).1
-      ∙ ap (λ (batch : Entries). begun batch.numbers mid.log) c.make_ready.ensures.ready.room.frozen in
+      ∙ ap (λ (batch : Entries). begun batch.numbers (firsts_in batch) mid.log) c.make_ready.ensures.ready.room.frozen in
       let steps = ap (λ (log : LogValue). log.steps_left) begun_is
       ∙ ap (λ (shape : Shape). steps_of shape.format old.frozen.numbers) c.make_ready.ensures.ready.passes.turn.goes_on.layout_stays in
       let long = ap (λ (batch : Entries). length batch.numbers) frozen_is in
@@ -102,7 +103,9 @@ returns-clause-passes g c = record {
       let quiet = ap (λ m. sent (g.M.Medium.state m)) c.begin.ensures.keeps.medium in
       omega (arith, c.make_ready.ensures.ready.passes.sent, c.write_out-2.ensures.passes.sent, steps, few, quiet);
   none_refused = search rules;
-  follows = search rules;
+  follows = g.met.M.Medium.follows_through c.args.self.now.medium c.make_ready.new.self.medium c.write_out-2.new.self.medium
+      c.make_ready.ensures.ready.passes.follows
+      (subst (λ m. g.M.Medium.follows m c.write_out-2.new.self.medium) c.begin.ensures.keeps.medium c.write_out-2.ensures.passes.follows);
   looks =
       let mid = g.M.Medium.state c.make_ready.new.self.medium in
       let begun = g.M.Medium.state c.begin.new.self.medium in
@@ -130,7 +133,7 @@ returns-then-is_empty-clause-batch g c = record {
       (c.self.invariant.rests (rw (← c.self.view_is) at live) c.if-self.false) in
       let empty : old.frozen.numbers ≡ [] = subst (λ (batch : Entries). batch.numbers ≡ []) frozen_is
       (c.is_empty.ensures.0 c.if-is_empty.true) in
-      is_log ahead (finished ahead old.frozen.numbers old.log) old.log (finishes_none ahead old.frozen.numbers old.log idle empty);
+      finishes_none ahead old.frozen.numbers (firsts_in old.frozen) old.log idle empty;
   retires = search rules;
   active = search rules;
   fills = λ on filling listed.
@@ -157,10 +160,10 @@ returns-clause-batch g c =
     let some : 0 < length old.frozen.numbers = subst (λ (batch : Entries). 0 < length batch.numbers) frozen_is
     (some_listed c.self.inside.frozen.numbers (λ none. false≢true (sym c.if-is_empty.false ∙ c.is_empty.ensures.1 none))) in
     let begun_is = (c.begin.ensures.begins.live c.in_ok-begin.ensures.answer).1
-    ∙ ap (λ (batch : Entries). begun batch.numbers mid.log) c.make_ready.ensures.ready.room.frozen in
-    let finishes : OnOk c.write_out-2.result (IsLog ahead (finished ahead old.frozen.numbers old.log) new.log) =
+    ∙ ap (λ (batch : Entries). begun batch.numbers (firsts_in batch) mid.log) c.make_ready.ensures.ready.room.frozen in
+    let finishes : OnOk c.write_out-2.result (new.log ≡ finished ahead old.frozen old.log) =
     on_ok_weaker c.write_out-2.result
-    (λ written. made_finished ahead old.frozen.numbers old.log mid.log new.log idle some
+    (λ written. made_finished ahead old.frozen.numbers (firsts_in old.frozen) old.log mid.log new.log idle some
     c.in_ok-make_ready.ensures.ready.room.made (written ∙ ap (λ (log : LogValue). written_out log) begun_is))
     c.write_out-2.ensures.batch.written in
     record {
@@ -172,15 +175,15 @@ returns-clause-batch g c =
       retires = search rules;
       active = search rules;
       fills = λ on filling listed.
-          let fuller = (fills old.frozen.numbers old.log filling (c.in_ok-make_ready.ensures.ready.blocks on) listed).fuller in
+          let fuller = (fills old.frozen.numbers (firsts_in old.frozen) old.log filling (c.in_ok-make_ready.ensures.ready.blocks on)
+          listed).fuller in
           on_ok_weaker c.write_out-2.result
-          (λ is. fuller_but old.log (finished true old.frozen.numbers old.log) new.log
-          (subst (λ (b : Bool). IsLog b (finished b old.frozen.numbers old.log) new.log) on is) fuller) finishes;
+          (λ is. subst (λ (l : LogValue). IsFuller old.log l) (sym (is ∙ ap (λ (b : Bool). finished b old.frozen old.log) on)) fuller)
+          finishes;
       stays = λ on steady.
-          let stays = stays_on old.frozen.numbers old.log steady (c.in_ok-make_ready.ensures.ready.blocks on) in
+          let stays = stays_on old.frozen.numbers (firsts_in old.frozen) old.log steady (c.in_ok-make_ready.ensures.ready.blocks on) in
           on_ok_weaker c.write_out-2.result
-          (λ is. steady_but (finished true old.frozen.numbers old.log) new.log
-          (subst (λ (b : Bool). IsLog b (finished b old.frozen.numbers old.log) new.log) on is) stays) finishes;
+          (λ is. subst (λ (l : LogValue). IsSteady l) (sym (is ∙ ap (λ (b : Bool). finished b old.frozen old.log) on)) stays) finishes;
     }
 
 pub returns-in_err-begin-clause-passes : goal.returns-in_err-begin-clause-passes
@@ -236,7 +239,7 @@ returns-clause-cost g c =
     let some : 0 < length old.frozen.numbers = subst (λ (batch : Entries). 0 < length batch.numbers) frozen_is
     (some_listed c.self.inside.frozen.numbers (λ none. false≢true (sym c.if-is_empty.false ∙ c.is_empty.ensures.1 none))) in
     let begun_is = (c.begin.ensures.begins.live c.in_ok-begin.ensures.answer).1
-    ∙ ap (λ (batch : Entries). begun batch.numbers mid.log) c.make_ready.ensures.ready.room.frozen in
+    ∙ ap (λ (batch : Entries). begun batch.numbers (firsts_in batch) mid.log) c.make_ready.ensures.ready.room.frozen in
     let steps = ap (λ (log : LogValue). log.steps_left) begun_is
     ∙ ap (λ (shape : Shape). steps_of shape.format old.frozen.numbers) c.make_ready.ensures.ready.passes.turn.goes_on.layout_stays in
     let calls = finish_begun c.args.self.now.goes_ahead old.frozen.numbers old.log idle some in
@@ -320,7 +323,7 @@ returns-clause-flushes g c =
     let some : 0 < length old.frozen.numbers = subst (λ (batch : Entries). 0 < length batch.numbers) frozen_is
     (some_listed c.self.inside.frozen.numbers (λ none. false≢true (sym c.if-is_empty.false ∙ c.is_empty.ensures.1 none))) in
     let begun_is = (c.begin.ensures.begins.live c.in_ok-begin.ensures.answer).1
-    ∙ ap (λ (batch : Entries). begun batch.numbers mid.log) c.make_ready.ensures.ready.room.frozen in
+    ∙ ap (λ (batch : Entries). begun batch.numbers (firsts_in batch) mid.log) c.make_ready.ensures.ready.room.frozen in
     let steps = ap (λ (log : LogValue). left_flushes log) begun_is
     ∙ ap (λ (shape : Shape). steps_flushes shape.format (steps_of shape.format old.frozen.numbers))
     c.make_ready.ensures.ready.passes.turn.goes_on.layout_stays in

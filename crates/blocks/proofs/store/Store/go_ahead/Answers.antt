@@ -5,7 +5,7 @@ use Rattle.medium.specs.Medium.{State}
 use Rattle.medium.specs.Sent.{sent}
 use Rattle.medium.specs.declared.fault.MediumFault.TheVariants.{Flush}
 use Rattle.redo_log.specs.Value.{LogValue, pass_calls}
-use Rattle.blocks.specs.Ahead.{past, passed, sent_home, sent_calls, IsBut}
+use Rattle.blocks.specs.Ahead.{past, passed, sent_home, sent_calls}
 use Rattle.blocks.specs.Going.{StaysIdle, CountsFlush}
 use Rattle.blocks.specs.Passing.{PassesPaid, KeepsMedium}
 use Rattle.blocks.specs.Retiring.{HasSlots}
@@ -40,7 +40,7 @@ returns-then-has_slots-clause-going g c =
     let more = rests_home_calls log slots in
     let still = ap (λ (l : LogValue). sent_calls l) same in
     record {
-      log = λ alive. subst (λ (l : LogValue). IsBut (sent_home l) log) same (rests_home log slots);
+      log = λ alive. rests_home log slots ∙ ap (λ (l : LogValue). sent_home l) same;
       calls = λ alive. omega (arith, no, more, still);
       flushed = refl;
       stays = record { active = refl; frozen = refl; idle = c.requires.idle; head = omega arith };
@@ -140,7 +140,7 @@ returns-then-has_slots-2-clause-going g c =
     let no = rests_home_calls mid slots in
     let more = ap (λ (l : LogValue). sent_calls l) is in
     record {
-      log = λ alive. subst (λ (l : LogValue). IsBut (sent_home l) mid) is (rests_home mid slots);
+      log = λ alive. rests_home mid slots ∙ ap (λ (l : LogValue). sent_home l) is;
       calls = λ alive. omega (arith, made, same, all, quiet, no, more);
       flushed = passing.flushed ∙ ap (λ m. (g.M.Medium.state m).made Flush) c.count_flush.ensures.keeps.medium;
       stays = idles c.args.self.now.cached c.count_flush.new.self.cached c.pass_head.new.self.cached counts passing.stays;
@@ -193,7 +193,7 @@ returns-clause-going g c =
     let more = ap (λ (l : LogValue). sent_calls l) is in
     let stays = idles c.args.self.now.cached c.count_flush.new.self.cached c.pass_head.new.self.cached counts passing.stays in
     record {
-      log = λ alive. subst (λ (l : LogValue). IsBut (sent_home l) new) is (goes_short mid new fewer (going.log alive));
+      log = λ alive. going.log alive ∙ goes_short mid fewer ∙ ap (λ (l : LogValue). sent_home l) is;
       calls = λ alive. let last = going.calls alive in omega (arith, made, same, all, quiet, home, more, last);
       flushed =
           let none = ap (λ m. (g.M.Medium.state m).made Flush) c.count_flush.ensures.keeps.medium in

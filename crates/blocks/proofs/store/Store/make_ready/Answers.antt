@@ -4,12 +4,12 @@ use Rattle.std.proofs.lemmas.Result.{on_ok_weaker}
 use Rattle.std.specs.Prelude.{All, length}
 use Rattle.medium.specs.declared.fault.MediumFault.TheVariants.{Flush}
 use Rattle.redo_log.specs.Value.{LogValue, HasRoom}
-use Rattle.blocks.specs.Ahead.{IsBut, ahead_room}
+use Rattle.blocks.specs.Ahead.{ahead_room}
 use Rattle.blocks.specs.Finishing.{MakesRoom}
 use Rattle.blocks.specs.Retiring.{ready_calls}
 use Rattle.blocks.specs.Flushing.{room_flushes}
 use Rattle.blocks.proofs.RoomFlushes.{room_free}
-use Rattle.blocks.proofs.Ready.{is_but, still_room, ahead_free, ahead_free_calls, ahead_full, ahead_full_calls, on_live}
+use Rattle.blocks.proofs.Ready.{still_room, ahead_free, ahead_free_calls, ahead_full, ahead_full_calls, on_live}
 use Rattle.blocks.proofs.store.Store.make_ready.Goals as goal
 
 pub returns-then-has_room : goal.returns-then-has_room
@@ -29,8 +29,8 @@ returns-then-has_room g c =
       retires = record { one = going.head; roomy = λ roomy. ap (λ v. v.cached.log.head) (c.go_ahead.ensures.rests roomy.1) };
       room = on_live c.go_ahead.result new.cached (HasRoom new.cached.log) going.answer
           (λ live. still_room old.cached.log new.cached.log (going.log live) room);
-      made = on_live c.go_ahead.result new.cached (IsBut (ahead_room old.cached.log) new.cached.log) going.answer
-          (λ live. subst (λ (l : LogValue). IsBut l new.cached.log) (sym (ahead_free old.cached.log room.free)) (going.log live));
+      made = on_live c.go_ahead.result new.cached (new.cached.log ≡ ahead_room old.cached.log) going.answer
+          (λ live. going.log live ∙ sym (ahead_free old.cached.log room.free));
       quiet = λ roomy. ap (λ v. v.medium) (c.go_ahead.ensures.rests roomy.1);
       active = going.stays.active;
       frozen = going.stays.frozen;
@@ -92,7 +92,7 @@ returns g c =
       retires = record { one = made.retires.one; roomy = λ roomy. made.retires.roomy roomy.0 };
       room = made.room;
       made = on_ok_weaker c.make_room-2.result
-          (λ is. is_but (ahead_room old.cached.log) new.cached.log (is ∙ ahead_full old.cached.log full)) made.made;
+          (λ is. is ∙ ahead_full old.cached.log full) made.made;
       quiet = λ roomy. made.quiet roomy.0;
       active = made.active;
       frozen = made.frozen;

@@ -13,7 +13,7 @@ invariant-loop-i g l = record {
   policy : l.self.goes_ahead ≡ l.fn.self.goes_ahead;
   stays : l.self.cached ≡ l.fn.self.cached;
   quiet : IsQuiet (g.M.Medium.state l.fn.self.medium) (g.M.Medium.state l.self.medium);
-  calls : (g.M.Medium.state l.self.medium).calls ≤ (g.M.Medium.state l.fn.self.medium).calls + 2 * l.i;
+  calls : (g.M.Medium.state l.self.medium).calls ≤ (g.M.Medium.state l.fn.self.medium).calls + l.i;
   reads : (g.M.Medium.state l.self.medium).calls ≡ (g.M.Medium.state l.fn.self.medium).calls + reads_of l.fn.self.cached l.address l.i;
   none_sent : SendsUpTo 0 (g.M.Medium.state l.fn.self.medium) (g.M.Medium.state l.self.medium);
   follows : g.M.Medium.follows l.fn.self.medium l.self.medium;

@@ -1,8 +1,8 @@
-use Rattle.std.proofs.Common.{◌≡◌, ◌∙◌, ℕ, List, Option, ap, subst, refl, arith, Some, None, rules}
+use Rattle.std.proofs.Common.{◌≡◌, ◌∙◌, ◌+◌, ℕ, List, Option, ap, subst, refl, arith, Some, None, rules}
 use Rattle.cache.specs.Entries.{Entries, map_of}
+use Rattle.cache.specs.Places.{HasPlace}
 use Rattle.blocks.proofs.ReadBlocks.{durable_is}
 use Rattle.blocks.proofs.ReadCalls.{reads_active, reads_frozen, reads_copy}
-use Rattle.blocks.specs.Calls.{durable_reads}
 use Rattle.blocks.proofs.SectorsRead.{none_read}
 use Rattle.blocks.proofs.store.Store.read_block.Goals as goal
 
@@ -37,18 +37,20 @@ returns-in-Ok g c = record {
           let active = same_map _ _ c.args.block None (ap (λ v. v.cached.active) c.self.view_is) none in
           let none = c.in_default-older.ensures.gets.none.0 refl in
           let frozen = same_map _ _ c.args.block None (ap (λ v. v.cached.frozen) c.self.view_is) none in
-          let log = ap (λ v. durable_reads v.cached.log c.args.block) c.self.view_is in
-          omega (arith, log, c.read_durable.ensures.cost.reads, reads_copy c.args.self.now.cached c.args.block active frozen);
+          omega (arith, c.read_durable.ensures.cost.reads, reads_copy c.args.self.now.cached c.args.block active frozen);
       exactly =
           let none = c.in_default.ensures.gets.none.0 refl in
           let active = same_map _ _ c.args.block None (ap (λ v. v.cached.active) c.self.view_is) none in
           let none = c.in_default-older.ensures.gets.none.0 refl in
           let frozen = same_map _ _ c.args.block None (ap (λ v. v.cached.frozen) c.self.view_is) none in
-          let log = ap (λ v. durable_reads v.cached.log c.args.block) c.self.view_is in
-          omega (arith, log, c.in-Ok.ensures.cost.exactly, reads_copy c.args.self.now.cached c.args.block active frozen);
+          omega (arith, c.in-Ok.ensures.cost.exactly, reads_copy c.args.self.now.cached c.args.block active frozen);
     };
   };
-  next = search rules;
+  next = record {
+    active = subst (λ v. HasPlace v.cached.active.numbers (c.args.block + 1) c.get_at.new.place) c.self.view_is c.in_default.ensures.next;
+    frozen = subst (λ v. HasPlace v.cached.frozen.numbers (c.args.block + 1) c.get_at-older.new.place) c.self.view_is
+        c.in_default-older.ensures.next;
+  };
 }
 
 pub returns-in-Some : goal.returns-in-Some
@@ -125,10 +127,13 @@ returns-in-Err g c = record {
           let active = same_map _ _ c.args.block None (ap (λ v. v.cached.active) c.self.view_is) none in
           let none = c.in_default-older.ensures.gets.none.0 refl in
           let frozen = same_map _ _ c.args.block None (ap (λ v. v.cached.frozen) c.self.view_is) none in
-          let log = ap (λ v. durable_reads v.cached.log c.args.block) c.self.view_is in
-          omega (arith, log, c.read_durable.ensures.cost.reads, reads_copy c.args.self.now.cached c.args.block active frozen);
+          omega (arith, c.read_durable.ensures.cost.reads, reads_copy c.args.self.now.cached c.args.block active frozen);
       exactly = search rules;
     };
   };
-  next = search rules;
+  next = record {
+    active = subst (λ v. HasPlace v.cached.active.numbers (c.args.block + 1) c.get_at.new.place) c.self.view_is c.in_default.ensures.next;
+    frozen = subst (λ v. HasPlace v.cached.frozen.numbers (c.args.block + 1) c.get_at-older.new.place) c.self.view_is
+        c.in_default-older.ensures.next;
+  };
 }

@@ -1,15 +1,20 @@
 use Rattle.std.proofs.Common.{◌≡◌, ℕ, ◌+◌, ◌∙◌, ap, arith, subst, rules}
+use Rattle.std.specs.Prelude.{Result, Ok, Err, OnOk}
 use Rattle.std.proofs.lemmas.Result.{on_ok_weaker}
+use Rattle.medium.specs.declared.fault.MediumFault.{MediumFault}
 use Rattle.medium.specs.Medium.{LooksOnly}
 use Rattle.medium.specs.Sent.{sent}
-use Rattle.medium.proofs.CallsSent.{none_sent, read_sends}
+use Rattle.medium.proofs.CallsSent.{read_sends}
 use Rattle.journal.specs.Places.{Shape, first_home}
 use Rattle.redo_log.specs.Value.{LogValue, HasNoCopy}
 use Rattle.redo_log.proofs.StoreFacts.{home_is}
-use Rattle.blocks.specs.Calls.{durable_reads}
-use Rattle.blocks.proofs.ReadCalls.{reads_logged, reads_home, few_copy_reads}
 use Rattle.blocks.proofs.SectorsRead.{log_read, home_read}
 use Rattle.blocks.proofs.store.Store.read_durable.Goals as goal
+
+-- what is so is so where a read is good
+always : {P : Type 0} (r : Result (Unit {0}) MediumFault) → P → OnOk r P
+always (Ok done) so = so
+always (Err fault) so = tt
 
 pub returns-in-None : goal.returns-in-None
 returns-in-None g c = record {
@@ -41,14 +46,12 @@ returns-in-None g c = record {
         (ap (λ v. v.medium) c.self.view_is) c.read.ensures.follows.1);
   };
   cost =
-      let log = ap (λ v. durable_reads v.cached.log c.args.block) c.self.view_is in
       let before = ap (λ v. (g.M.Medium.state v.medium).calls) c.self.view_is in
-      let home = reads_home c.self.inside.log c.args.block c.in-None.ensures in
       let one = c.read.ensures.passes.calls_are in
       record {
         calls = omega (arith, one, before);
-        reads = omega (arith, one, log, before, home);
-        exactly = on_ok_weaker c.read.result (λ _. omega (arith, one, log, before, home)) c.read.ensures.ok;
+        reads = omega (arith, one, before);
+        exactly = on_ok_weaker c.read.result (λ _. omega (arith, one, before)) c.read.ensures.ok;
         none_sent =
             let same = ap (λ v. sent (g.M.Medium.state v.medium)) c.self.view_is in
             let none = read_sends (g.M.Medium.state c.self.inside.medium) (g.M.Medium.state c.read.new.self) c.read.ensures.passes in
@@ -70,18 +73,15 @@ returns-in-Some g c = record {
         c.read_copy.ensures.keeps.looks);
   };
   cost =
-      let log = ap (λ v. durable_reads v.cached.log c.args.block) c.self.view_is in
       let before = ap (λ v. (g.M.Medium.state v.medium).calls) c.self.view_is in
-      let logged = reads_logged c.self.inside.log c.args.block c.in-Some.slot c.in-Some.place c.in-Some.ensures in
-      let few = few_copy_reads c.self.inside.log.shape.format in
+      let one = c.read_copy.ensures.passes.calls_are in
       record {
-        calls = omega (arith, c.read_copy.ensures.passes.few_calls, before, few);
-        reads = omega (arith, c.read_copy.ensures.passes.few_calls, log, before, logged);
-        exactly = on_ok_weaker c.read_copy.result (λ all. omega (arith, all, log, before, logged)) c.read_copy.ensures.passes.all_calls;
+        calls = omega (arith, one, before);
+        reads = omega (arith, one, before);
+        exactly = always c.read_copy.result (omega (arith, one, before));
         none_sent =
             let same = ap (λ v. sent (g.M.Medium.state v.medium)) c.self.view_is in
-            let none = none_sent (g.M.Medium.state c.self.inside.medium) (g.M.Medium.state c.read_copy.new.m)
-            c.read_copy.ensures.passes.others_made in
+            let none = read_sends (g.M.Medium.state c.self.inside.medium) (g.M.Medium.state c.read_copy.new.m) c.read_copy.ensures.passes in
             omega (arith, none, same);
       };
 }

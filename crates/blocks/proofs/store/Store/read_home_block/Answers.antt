@@ -1,4 +1,4 @@
-use Rattle.std.proofs.Common.{◌≡◌, ◌∙◌, ℕ, ◌+◌, List, [], length, None, ap, arith, rules, subst}
+use Rattle.std.proofs.Common.{◌≡◌, ◌∙◌, ℕ, ◌+◌, List, [], length, ap, arith, rules, subst}
 use Rattle.medium.specs.Medium.{LooksOnly}
 use Rattle.medium.proofs.Moments.{quiet_call}
 use Rattle.medium.specs.Sent.{sent}
@@ -6,21 +6,14 @@ use Rattle.medium.proofs.CallsSent.{read_sends}
 use Rattle.journal.specs.Places.{Shape, first_home}
 use Rattle.redo_log.specs.Value.{LogValue, HasNoCopy}
 use Rattle.redo_log.proofs.StoreFacts.{home_is}
-use Rattle.cache.specs.Entries.{map_of}
-use Rattle.blocks.specs.Calls.{block_reads}
-use Rattle.blocks.specs.StoreValue.{Cached}
 use Rattle.blocks.proofs.ReadBlocks.{durable_is}
-use Rattle.blocks.proofs.ReadCalls.{reads_home, reads_copy}
+use Rattle.blocks.proofs.ReadCalls.{reads_copy}
 use Rattle.blocks.proofs.SectorsRead.{home_read}
 use Rattle.blocks.proofs.store.Store.read_home_block.Goals as goal
 
 -- no record that waits has a copy where none waits
 no_copy : (log : LogValue) (b : ℕ) → log.waiting ≡ [] → HasNoCopy log b
 no_copy log b empty age waits = let none = ap (λ (w : List (List ℕ)). length w) empty in absurd (omega (arith, waits, none))
-
--- a block that is at home alone takes one call
-one_read : (s : Cached) (b : ℕ) → s.log.waiting ≡ [] → map_of s.active b ≡ None → map_of s.frozen b ≡ None → block_reads s b ≡ 1
-one_read s b empty active frozen = reads_copy s b active frozen ∙ reads_home s.log b (no_copy s.log b empty)
 
 pub returns : goal.returns
 returns g c = record {
@@ -53,7 +46,7 @@ returns g c = record {
   cost =
       let before = ap (λ v. (g.M.Medium.state v.medium).calls) c.self.view_is in
       let one = c.read.ensures.passes.calls_are in
-      let cost = one_read c.args.self.now.cached c.args.block c.requires.home.log c.requires.home.active c.requires.home.frozen in
+      let cost = reads_copy c.args.self.now.cached c.args.block c.requires.home.active c.requires.home.frozen in
       record {
         calls = omega (arith, one, before);
         reads = omega (arith, one, before, cost);
@@ -84,7 +77,7 @@ returns-in_default-read g c = record {
   cost =
       let before = ap (λ v. (g.M.Medium.state v.medium).calls) c.self.view_is in
       let one = c.read.ensures.passes.calls_are in
-      let cost = one_read c.args.self.now.cached c.args.block c.requires.home.log c.requires.home.active c.requires.home.frozen in
+      let cost = reads_copy c.args.self.now.cached c.args.block c.requires.home.active c.requires.home.frozen in
       record {
         calls = omega (arith, one, before);
         reads = omega (arith, one, before, cost);

@@ -3,14 +3,14 @@ use Rattle.std.proofs.lemmas.Result.{on_ok_weaker}
 use Rattle.cache.specs.Entries.{Entries}
 use Rattle.redo_log.specs.Value.{LogValue}
 use Rattle.journal.specs.Places.{Shape}
-use Rattle.blocks.specs.Retiring.{finished, finish_calls, both_calls, IsLog}
+use Rattle.blocks.specs.Retiring.{finished, finish_calls, both_calls}
 use Rattle.medium.specs.Sent.{sent}
 use Rattle.medium.specs.declared.fault.MediumFault.TheVariants.{Flush}
 use Rattle.blocks.specs.Flushing.{finish_flushes}
 use Rattle.blocks.specs.Sent.{most_sent}
 use Rattle.blocks.specs.Steady.{IsSteady, IsFilling, IsFuller}
-use Rattle.blocks.specs.StoreValue.{Cached}
-use Rattle.blocks.proofs.Ready.{twice, calls_of, roomy_both}
+use Rattle.blocks.specs.StoreValue.{Cached, firsts_in}
+use Rattle.blocks.proofs.Ready.{calls_of, roomy_both}
 use Rattle.blocks.proofs.BookTurns.{settles}
 use Rattle.blocks.proofs.AllHome.{none_of}
 use Rattle.blocks.proofs.RoomFlushes.{flushes_of, once}
@@ -70,17 +70,14 @@ returns-clause-batches g c = record {
   finishes =
       let old = c.args.self.now.cached in
       let half = c.finish.new.self.cached in
-      let last = c.finish-2.new.self.cached.log in
       let ahead = c.args.self.now.goes_ahead in
       let policy = c.freeze.ensures.keeps.policy ∙ c.finish.ensures.passes.policy in
       let first = c.in_ok-finish.ensures.batch.finishes in
-      let is = ap (λ (cached : Cached). finished ahead cached.frozen.numbers cached.log) c.freeze.ensures.swapped
-      ∙ ap (λ (batch : Entries). finished ahead batch.numbers half.log) c.finish.ensures.batch.active in
-      on_ok_weaker c.finish-2.result
-      (λ done. twice ahead old.frozen.numbers old.active.numbers old.log half.log last first
-      (subst (λ (l : LogValue). IsLog ahead l last) is
-      (subst (λ (b : Bool). IsLog b (finished b c.freeze.new.self.cached.frozen.numbers c.freeze.new.self.cached.log) last) policy done)))
-      c.finish-2.ensures.batch.finishes;
+      let is = ap (λ (b : Bool). finished b c.freeze.new.self.cached.frozen c.freeze.new.self.cached.log) policy
+      ∙ ap (λ (cached : Cached). finished ahead cached.frozen cached.log) c.freeze.ensures.swapped
+      ∙ ap (λ (batch : Entries). finished ahead batch half.log) c.finish.ensures.batch.active
+      ∙ ap (λ (l : LogValue). finished ahead old.active l) first in
+      on_ok_weaker c.finish-2.result (λ done. done ∙ is) c.finish-2.ensures.batch.finishes;
   retires = search rules;
   fills = λ on filling none listed.
       let old = c.args.self.now.cached in
@@ -119,12 +116,14 @@ returns-clause-cost g c =
     let calls = ap (λ (b : Bool). finish_calls b c.freeze.new.self.cached.frozen.numbers c.freeze.new.self.cached.log) policy
     ∙ ap (λ (cached : Cached). finish_calls ahead cached.frozen.numbers cached.log) c.freeze.ensures.swapped
     ∙ ap (λ (batch : Entries). finish_calls ahead batch.numbers half.log) c.finish.ensures.batch.active
-    ∙ calls_of ahead old.active.numbers (finished ahead old.frozen.numbers old.log) half.log c.in_ok-finish.ensures.batch.finishes in
+    ∙ calls_of ahead old.frozen.numbers old.active.numbers (firsts_in old.frozen) old.log half.log
+    c.in_ok-finish.ensures.batch.finishes in
     let quiet = ap (λ m. (g.M.Medium.state m).calls) c.freeze.ensures.keeps.medium in
     let before = c.in_ok-finish.ensures.cost in
     let flushes = ap (λ (cached : Cached). finish_flushes cached.frozen.numbers cached.log) c.freeze.ensures.swapped
     ∙ ap (λ (batch : Entries). finish_flushes batch.numbers half.log) c.finish.ensures.batch.active
-    ∙ flushes_of ahead old.active.numbers (finished ahead old.frozen.numbers old.log) half.log c.in_ok-finish.ensures.batch.finishes in
+    ∙ flushes_of ahead old.frozen.numbers old.active.numbers (firsts_in old.frozen) old.log half.log
+    c.in_ok-finish.ensures.batch.finishes in
     let silent = ap (λ m. (g.M.Medium.state m).made Flush) c.freeze.ensures.keeps.medium in
     let flushed = c.in_ok-finish.ensures.flushes in
     record {
