@@ -1,10 +1,9 @@
 -- No command makes more calls of the medium than the most.
 use Rattle.std.proofs.Common.{◌≡◌, ◌≤◌, ◌+◌, ◌*◌, ℕ, Bool, true, false, List, Result, Ok, arith, subst}
 use Rattle.std.specs.Prelude.{◌||◌, not, if◌then◌else◌}
-use Rattle.std.proofs.lemmas.Nat.{mul-le}
-use Rattle.blocks.specs.StoreValue.{Cached, HasLimits, layout_of, blocks_of, slots_of, transfer_limit, batch_steps, steps_left}
-use Rattle.blocks.specs.Calls.{reads_of, most_reads}
-use Rattle.blocks.proofs.ReadCalls.{few_copy_reads, reads_few}
+use Rattle.blocks.specs.StoreValue.{Cached, HasLimits, blocks_of, slots_of, transfer_limit, batch_steps, steps_left}
+use Rattle.blocks.specs.Calls.{reads_of}
+use Rattle.blocks.proofs.ReadCalls.{reads_few}
 use Rattle.blocks.proofs.Limits.{few_batch_steps}
 use Rattle.spec.specs.Sense.{Sense}
 use Rattle.cdb.specs.Supported.{IsSupported}
@@ -29,9 +28,6 @@ with_more slots limit steps more few few_more = omega (arith, few_more, one_more
 two_calls : (slots limit : ℕ) → 2 ≤ most_calls_of slots limit
 two_calls slots limit = omega (arith, one_more slots (2 * limit + 16) 0 (omega arith))
 
-few_reads : (reads count limit : ℕ) → reads ≤ 2 → count ≤ limit → reads * count ≤ 6 * limit + 32
-few_reads reads count limit few within = omega (arith, mul-le reads count 2 limit few within)
-
 either : (b : Bool) (x y most : ℕ) → x ≤ most → y ≤ most → (if b then x else y) ≤ most
 either true x y most first second = first
 either false x y most first second = second
@@ -54,10 +50,9 @@ module _ (cached : Cached) (limits : HasLimits cached) where
 
   few_read : (transfer : Transfer) → transfer.count ≤ transfer_limit cached → calls_of_read transfer cached ≤ most
   few_read transfer within =
-      let all = most_reads cached * transfer.count in
+      let all = transfer.count in
       let some = reads_of cached transfer.address transfer.count in
-      let few = few_copy_reads (layout_of cached).format in
-      let sum = sync_and all (few_reads (most_reads cached) transfer.count (transfer_limit cached) few within) in
+      let sum = sync_and transfer.count (omega (arith, within)) in
       either (forces_reading transfer) (calls_of_sync cached + all) some most sum
       (part (calls_of_sync cached) some all most (reads_few cached transfer.address transfer.count) sum)
 

@@ -3,9 +3,8 @@ use Rattle.std.proofs.Common.{◌≡◌, ◌≤◌, ◌+◌, ◌*◌, ℕ, Bool,
 use Rattle.std.specs.Prelude.{◌&&◌, ◌||◌, not, if◌then◌else◌, OnOk, Result, Ok, List}
 use Rattle.std.proofs.lemmas.Bool.{false≢true}
 use Rattle.std.proofs.lemmas.Result.{IfOk-at_ok}
-use Rattle.blocks.specs.Limit.{Shape}
-use Rattle.blocks.specs.StoreValue.{Cached, layout_of, batch_steps}
-use Rattle.blocks.specs.Calls.{copy_reads_of, reads_of, most_reads}
+use Rattle.blocks.specs.StoreValue.{Cached, batch_steps}
+use Rattle.blocks.specs.Calls.{reads_of}
 use Rattle.blocks.proofs.ReadCalls.{reads_few}
 use Rattle.spec.specs.Sense.{Sense}
 use Rattle.spec.specs.declared.command.Command.TheVariants as command
@@ -25,7 +24,7 @@ stops_at false moves sync count reads before after moved calls = omega (arith, c
 pub read_stops : (transfer : Transfer) (cached : Cached) (before after : ℕ) → moves_blocks transfer ≡ true
     → after ≤ before + (if transfer.fua then calls_of_sync cached else 0) → after ≤ before + calls_of_read transfer cached
 read_stops transfer cached before after moved calls =
-    stops_at transfer.fua (moves_blocks transfer) (calls_of_sync cached) (most_reads cached * transfer.count)
+    stops_at transfer.fua (moves_blocks transfer) (calls_of_sync cached) transfer.count
     (reads_of cached transfer.address transfer.count) before after moved calls
 
 ends_at : (fua moves : Bool) (sync count reads now before mid after : ℕ) → moves ≡ true → mid ≤ before + (if fua then sync else 0)
@@ -38,14 +37,12 @@ ends_at false moves sync count reads now before mid after moved calls same few m
 -- a READ that read
 pub read_ends : (transfer : Transfer) (old half : Cached) (before mid after : ℕ) → moves_blocks transfer ≡ true
     → mid ≤ before + (if transfer.fua then calls_of_sync old else 0) → (transfer.fua ≡ false → half ≡ old)
-    → layout_of half ≡ layout_of old
     → after ≤ mid + reads_of half transfer.address transfer.count → after ≤ before + calls_of_read transfer old
-read_ends transfer old half before mid after moved calls same layout more =
-    let few = ap (λ (shape : Shape). copy_reads_of shape.format * transfer.count) layout in
-    ends_at transfer.fua (moves_blocks transfer) (calls_of_sync old) (most_reads old * transfer.count)
+read_ends transfer old half before mid after moved calls same more =
+    ends_at transfer.fua (moves_blocks transfer) (calls_of_sync old) transfer.count
     (reads_of old transfer.address transfer.count) (reads_of half transfer.address transfer.count) before mid after moved calls
     (λ plain. ap (λ (s : Cached). reads_of s transfer.address transfer.count) (same plain))
-    (omega (arith, few, reads_few half transfer.address transfer.count)) more
+    (reads_few half transfer.address transfer.count) more
 
 -- ---- WRITE
 

@@ -5,9 +5,8 @@ use Rattle.medium.specs.Medium.{State}
 use Rattle.medium.specs.Sent.{SendsUpTo}
 use Rattle.blocks.specs.Sent.{LogFormat, most_sent}
 use Rattle.blocks.specs.StoreValue.{Cached, layout_of, slots_of, batch_steps, steps_left}
--- handed on to the layers above: for each block that no batch has, one call from home, and from
--- the log one in format 1 and two in format 2
-pub use Rattle.blocks.specs.Calls.{reads_of, most_reads}
+-- handed on to the layers above: one call for each block that no batch has
+pub use Rattle.blocks.specs.Calls.{reads_of}
 use Rattle.spec.specs.Sense.{Sense}
 use Rattle.spec.specs.declared.command.Command.{Command}
 use Rattle.spec.specs.declared.command.Command.TheVariants as command
@@ -25,7 +24,7 @@ calls_of_sync cached = 2 * steps_left cached
 -- a READ: those of each block that is in no batch; with FUA the batches are empty by then
 abbrev pub calls_of_read : Transfer → Cached → ℕ
 calls_of_read transfer cached =
-    if forces_reading transfer then calls_of_sync cached + most_reads cached * transfer.count
+    if forces_reading transfer then calls_of_sync cached + transfer.count
     else reads_of cached transfer.address transfer.count
 
 -- a WRITE: those that make room for it; with FUA or without the cache it is made durable too: two

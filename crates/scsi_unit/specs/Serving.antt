@@ -11,7 +11,7 @@ use Rattle.blocks.specs.Finding.{MayFind, FoundWith}
 use Rattle.blocks.specs.Calls.{TurnsBatches}
 use Rattle.blocks.specs.Looks.{LooksAtLog}
 use Rattle.blocks.specs.Passing.{MayEmpty}
-use Rattle.blocks.specs.Retiring.{finished, IsLog}
+use Rattle.blocks.specs.Retiring.{finished}
 use Rattle.blocks.specs.StoreValue.{Cached, layout_of, blocks_of, is_dead, active_of, steps_left}
 use Rattle.blocks.specs.StoreValue.{transfer_limit, FitsBeside, TakesRange}
 use Rattle.spec.specs.Sense.{Sense}
@@ -106,8 +106,8 @@ ActiveAfter limit (Err sense) taken write_cache old new = new ≡ old
 -- room, as the store's policy says; else nothing changes.
 abbrev pub IsFinished : Bool → Bool → Cached → Cached → Type 0
 IsFinished ahead false old new = new ≡ old
-IsFinished ahead true old new = IsLog ahead
-    (finished ahead old.active.numbers (finished ahead old.frozen.numbers old.log)) new.log
+IsFinished ahead true old new =
+    new.log ≡ finished ahead old.active (finished ahead old.frozen old.log)
 
 -- a good write of the store, and then its writes are made durable or are not
 pub record IsWrittenThrough (ahead durable : Bool) (transfer : Transfer) (old new : Cached)

@@ -83,7 +83,7 @@ returns-clause-bounded g c =
       calls = read_ends c.args.transfer i.store.cached half.cached (state i.store.medium).calls (state half.medium).calls
           (state last.medium).calls (moves_some c.args.transfer c.if-transfer-eq0.false) c.make_durable.ensures.makes.calls
           (λ plain. ap (λ (s : StoreValue g.row.M.Denot). s.cached) (c.make_durable.ensures.passes.unwanted plain).0)
-          c.make_durable.ensures.makes.turn.goes_on.layout_stays c.read_blocks.ensures.reads.calls;
+          c.read_blocks.ensures.reads.calls;
       sent = omega (arith, c.make_durable.ensures.makes.sent, c.read_blocks.ensures.reads.sent);
       looks = read_looked (state i.store.medium) (state half.medium) (state last.medium) seen half.cached c.args.transfer
           (moves_some c.args.transfer c.if-transfer-eq0.false) c.make_durable.ensures.makes.turn.goes_on.layout_stays
