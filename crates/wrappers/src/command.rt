@@ -1,6 +1,8 @@
 //! Command block wrappers.
-ghost use Rattle.std.specs.Prelude.{◌≡◌, ◌↔◌, IsTrue, MatchResult, IfOk, OnErr, length};
-ghost use Rattle.spec.specs.CommandWrapper.{Announces, IsMeaningful, SpellsCommand, SpellsNone};
+ghost use Rattle.std.specs.Prelude.{◌≡◌, ◌↔◌, ◌<◌, ◌≤◌, ◌%◌, IsTrue, MatchResult, IfOk, OnErr};
+ghost use Rattle.std.specs.Prelude.{length, take};
+ghost use Rattle.spec.specs.CommandWrapper.{command_signature, Announces, IsMeaningful};
+ghost use Rattle.spec.specs.CommandWrapper.{SpellsCommand, SpellsNone};
 ghost use Rattle.wrappers.specs.Command.{HasFault};
 
 use arrayvec::ArrayVec;
@@ -35,12 +37,33 @@ fn announced(length: u32, flags: u8) -> Way
     }
 }
 
+// Whether the packet begins with the signature.
+fn is_signed(packet: &[u8]) -> bool
+    ensures { IsTrue result ↔ (take 4 packet.now ≡ command_signature) }
+{
+    packet.starts_with(b"USBC")
+}
+
+// Whether the flags have no reserved bit.
+fn is_direction(flags: u8) -> bool
+    ensures { IsTrue result ↔ (flags % 128 ≡ 0) }
+{
+    matches!(flags, 0 | DIRECTION_IN)
+}
+
+// Whether a command block may have so many bytes.
+fn is_block_length(length: u8) -> bool
+    ensures { IsTrue result ↔ ((0 < length) × (length ≤ 16)) }
+{
+    matches!(length, 1..=16)
+}
+
 // Whether the fields are meaningful: no reserved flag, unit 0, a command block of 1 to 16 bytes.
 fn is_meaningful(packet: &[u8]) -> bool
     requires { length packet.now ≡ 31 }
     ensures { IsTrue result ↔ IsMeaningful packet.now }
 {
-    matches!(packet[12], 0 | DIRECTION_IN) && packet[13] == 0 && matches!(packet[14], 1..=16)
+    is_direction(packet[12]) && packet[13] == 0 && is_block_length(packet[14])
 }
 
 /// Reads a command block wrapper (Bulk-Only Transport 1.0, 5.1 and 6.2). The bytes past the command
@@ -58,7 +81,7 @@ pub fn read_cbw(packet: &[u8]) -> Result<Cbw, CbwFault>
     if packet.len() != 31 {
         return Err(CbwFault::Length);
     }
-    if !packet.starts_with(b"USBC") {
+    if !is_signed(packet) {
         return Err(CbwFault::Signature);
     }
     if !is_meaningful(packet) {
