@@ -48,7 +48,7 @@ extern "C" {
 
 /* The version, 0.12.0: two bytes hold the first number, and one byte each of the others. The library
  * tells its own. Where the two differ, header and library are not of one version. */
-#define USBDISK_VERSION 0x000D00u
+#define USBDISK_VERSION 0x000E00u
 
 uint32_t usbdisk_version(void);
 
