@@ -4,7 +4,7 @@ ghost use Rattle.journal.specs.Places.{limit_of};
 
 use crate::answer::Answer;
 use crate::call::Call;
-use journal::{LogFormat, Super, part, parts, read_copy, slot_place};
+use journal::{LogFormat, Super, first_bytes, part, parts, read_copy, slot_place};
 use medium::{Medium, MediumFault, SimMedium};
 use recovery::{format, format2};
 
@@ -76,5 +76,9 @@ fn write_then_read<M: Medium>(
     if m.sectors() < sizes.sectors() {
         return Err(MediumFault::Read);
     }
-    read_copy(m, &sizes, 0, 0, to)
+    let first = match first_bytes(format, &[0xcc; 512]) {
+        Some(firsts) if !firsts.is_empty() => Some(firsts[0]),
+        _ => None,
+    };
+    read_copy(m, &sizes, 0, 0, &first, to)
 }
