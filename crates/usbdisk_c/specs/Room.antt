@@ -39,13 +39,13 @@ TellsRoom format slots told =
 -- how many bytes each slot takes, by measure
 abbrev pub slot_memory : LogFormat → ℕ
 slot_memory One = 2312
-slot_memory Two = 3848
+slot_memory Two = 5776
 
 -- How many bytes of memory a start takes, by measure: the first sectors, the window, the outbox,
 -- two batches and two buffers of a transfer each, so many for each slot, and the disk.
 abbrev pub memory_of : ℕ → ℕ → ℕ → ℕ → LogFormat → ℕ
 memory_of size slots span room format =
-    size + 512 * span + 528 * room + 2096 * limit_of format + slot_memory format * slots + 3144
+    size + 512 * span + 528 * room + 2096 * limit_of format + slot_memory format * slots + 2672
 
 abbrev pub TellsMemory : ℕ → ℕ → ℕ → ℕ → ℕ → ℕ → Type 0
 TellsMemory size format slots span room told =

@@ -26,8 +26,8 @@ pub(crate) fn memory_for(size: u64, version: u32, slots: u64, span: u32, room: u
         return 0;
     }
     let kept = match version {
-        1 => 100_608 + 2_312 * slots + 3_144,
-        2 => 503_040 + 3_848 * slots + 3_144,
+        1 => 100_608 + 2_312 * slots + 2_672,
+        2 => 503_040 + 5_776 * slots + 2_672,
         _ => return 0,
     };
     size.saturating_add(room.saturating_mul(528))
