@@ -19,6 +19,7 @@ use crate::sectors::{SECTOR, load, store};
 use crate::tally::Calls;
 use crate::told_file::ToldFile;
 use crate::whole::{lock_and_empty, lock_and_measure, put, read_whole};
+use std::alloc::Global;
 use std::fs::{Files, OpenOptions};
 use std::io;
 use std::marker::Model;
@@ -90,16 +91,7 @@ impl<F: SectorFile + Drop> FileMedium<F> {
             return Err(FileError::File);
         };
         let mut file = OpenedFile::new(file);
-        let Ok(length) = lock_and_measure(&mut file) else {
-            return Err(FileError::File);
-        };
-        let length = check_length(length)?;
-        let Ok(mut bytes) = vec![in rt.alloc(); 0u8; length] else {
-            return Err(FileError::NoMemory);
-        };
-        let Ok(()) = read_whole(&mut file, &mut bytes) else {
-            return Err(FileError::File);
-        };
+        let bytes = bytes_of(rt.alloc(), &mut file)?;
         Ok(FileMedium::over(file, bytes))
     }
 
@@ -121,14 +113,8 @@ impl<F: SectorFile + Drop> FileMedium<F> {
         ensures none { IsErrOf result FileError.BadLength ↔ sectors ≡ 0 }
         ensures long { IsErrOf result FileError.TooLong ↔ 65536 < sectors }
     {
-        let length = length_of(sectors)?;
-        let Ok(bytes) = vec![in rt.alloc(); 0u8; length] else {
-            return Err(FileError::NoMemory);
-        };
-        let Ok(mut file) = emptied_file(rt, path) else {
-            return Err(FileError::File);
-        };
-        let Ok(()) = put(&mut file, &bytes, 0) else {
+        let bytes = zeros(rt.alloc(), length_of(sectors)?)?;
+        let Ok(file) = made_file(rt, path, &bytes) else {
             return Err(FileError::File);
         };
         Ok(FileMedium::over(file, bytes))
@@ -148,6 +134,48 @@ impl<F> FileMedium<F> {
             refused: Calls::new(),
         }
     }
+}
+
+// The bytes of a file that was just opened, which is locked, then measured, and then read.
+fn bytes_of<S: ToldFile>(alloc: Global, file: &mut S) -> Result<Vec<u8>, FileError>
+    requires { (S.told file.old).asked ≡ [] }
+    ensures image { IfOk result (λ bytes. IsImage bytes.items) }
+    ensures copied { IfOk result (λ bytes. IsReadWhole bytes.items (S.told file.new)) }
+{
+    let Ok(length) = lock_and_measure(file) else {
+        return Err(FileError::File);
+    };
+    let mut bytes = zeros(alloc, check_length(length)?)?;
+    let Ok(()) = read_whole(file, &mut bytes) else {
+        return Err(FileError::File);
+    };
+    Ok(bytes)
+}
+
+// So many bytes of zeros.
+fn zeros(alloc: Global, length: usize) -> Result<Vec<u8>, FileError>
+    ensures ok { IfOk result (λ bytes. bytes.items ≡ replicate length 0) }
+    ensures err { IfErr result (λ e. e ≡ FileError.NoMemory) }
+{
+    let Ok(bytes) = vec![in alloc; 0u8; length] else {
+        return Err(FileError::NoMemory);
+    };
+    Ok(bytes)
+}
+
+// A file of these bytes at this path, in place of one that is there.
+fn made_file<F: SectorFile + Drop, R: Files<File = F>>(
+    rt: &R,
+    path: &str,
+    bytes: &[u8],
+) -> io::Result<OpenedFile<F>>
+    requires some { 0 < length bytes.now }
+    requires few { length bytes.now < 2 ^ 63 }
+    ensures { IfOk result (λ file. IsMadeOf bytes.now file.story.told) }
+{
+    let mut file = emptied_file(rt, path)?;
+    put(&mut file, bytes, 0)?;
+    Ok(file)
 }
 
 // The file at this path, made where there is none, locked and only then emptied. To open a pipe for
@@ -213,9 +241,18 @@ fn write_through<S: ToldFile>(
         × MayPut (512 * sector) 512 (S.told file.old) (S.told file.new)) }
     ensures length { length copy.new.items ≡ length copy.old.items }
 {
-    put(file, block, sector * SECTOR as u64)?;
+    put_block(file, sector, block)?;
     store(copy, sector, block);
     Ok(())
+}
+
+// Writes a block to a sector's place in a file.
+fn put_block<S: ToldFile>(file: &mut S, sector: u64, block: &[u8; 512]) -> io::Result<()>
+    requires { 512 * (sector + 1) < 2 ^ 63 }
+    ensures ok { OnOk result (IsPut (512 * sector) block.now (S.told file.old) (S.told file.new)) }
+    ensures err { OnErr result (MayPut (512 * sector) 512 (S.told file.old) (S.told file.new)) }
+{
+    put(file, block, sector * SECTOR as u64)
 }
 
 impl<F: SectorFile> Medium for FileMedium<F> {

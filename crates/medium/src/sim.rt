@@ -4,7 +4,7 @@ ghost use Rattle.medium.specs.Medium.{CutLeaves};
 ghost use Rattle.medium.specs.Moments.{IsFlushed};
 ghost use Rattle.medium.specs.Power.{powered};
 ghost use Rattle.medium.specs.Tally.{none};
-ghost use Rattle.medium.specs.Sim.{state_of, IsAdmitted, IsCut};
+ghost use Rattle.medium.specs.Sim.{state_of, fits, IsAdmitted, IsCut};
 ghost use Rattle.medium.specs.Writes.{keeps};
 
 use crate::count::Count;
@@ -153,6 +153,13 @@ impl SimMedium {
         &self.bytes
     }
 
+    // Whether there is room for one more unflushed write.
+    fn has_room(&self) -> bool
+        ensures { result ≡ fits self.now }
+    {
+        self.writes.len() < self.room
+    }
+
     // Whether a call of this kind happens, where there is room for it or not. It is counted.
     fn admit(&mut self, kind: MediumFault, fits: bool) -> bool
         ensures { IsAdmitted kind fits result self.old self.new }
@@ -221,7 +228,7 @@ impl Medium for SimMedium {
         ensures passes { Passes Write result (state_of self.old) (state_of self.new) }
         ensures follows { ComesAfter self.old self.new }
     {
-        let fits = self.writes.len() < self.room;
+        let fits = self.has_room();
         if !self.admit(MediumFault::Write, fits) {
             return Err(MediumFault::Write);
         }
