@@ -2,7 +2,8 @@
 ghost use Rattle.std.specs.Prelude.{◌≡◌, ◌≢◌, ◌⊎◌, ◌+◌, ◌*◌, ◌%◌, ◌<◌, ◌≤◌, ◌↔◌, ◌^◌, length};
 ghost use Rattle.std.specs.Prelude.{replicate, [], ◌∷◌};
 ghost use Rattle.std.specs.Prelude.{IfOk, IfErr, IsErrOf, OnOk, OnErr};
-ghost use Rattle.medium.specs.FileStory.{IsReadWhole, IsMadeOf, IsPut, MayPut};
+ghost use Rattle.medium.specs.FileStory.{IsMeasured, IsReadWhole, IsMadeOf, IsPut, MayPut};
+ghost use Rattle.medium.specs.FileStory.{Calls as CallsMade, IsRead, HoldsFirst};
 ghost use Rattle.medium.specs.ImageFile.{state_of, fresh, IsImage};
 ghost use Rattle.medium.specs.Lengths.{IsLengthOf};
 ghost use Rattle.medium.specs.Medium.{Holds};
@@ -145,7 +146,32 @@ fn bytes_of<S: ToldFile>(alloc: Global, file: &mut S) -> Result<Vec<u8>, FileErr
     let Ok(length) = lock_and_measure(file) else {
         return Err(FileError::File);
     };
-    let mut bytes = zeros(alloc, check_length(length)?)?;
+    measured_bytes(alloc, file, length)
+}
+
+// The bytes of a file that was locked and measured, where they are an image.
+fn measured_bytes<S: ToldFile>(
+    alloc: Global,
+    file: &mut S,
+    length: u64,
+) -> Result<Vec<u8>, FileError>
+    requires { IsMeasured length (S.told file.old) }
+    ensures image { IfOk result (λ bytes. IsImage bytes.items) }
+    ensures copied { IfOk result (λ bytes. IsReadWhole bytes.items (S.told file.new)) }
+{
+    let count = check_length(length)?;
+    first_bytes(alloc, file, count)
+}
+
+// So many bytes of a file, the first ones.
+fn first_bytes<S: ToldFile>(alloc: Global, file: &mut S, count: usize) -> Result<Vec<u8>, FileError>
+    requires { count < 2 ^ 63 }
+    ensures count { IfOk result (λ bytes. length bytes.items ≡ count) }
+    ensures reads { OnOk result (CallsMade IsRead (S.told file.old) (S.told file.new)) }
+    ensures size { OnOk result ((S.told file.new).size ≡ (S.told file.old).size) }
+    ensures holds { IfOk result (λ bytes. HoldsFirst bytes.items (S.told file.new)) }
+{
+    let mut bytes = zeros(alloc, count)?;
     let Ok(()) = read_whole(file, &mut bytes) else {
         return Err(FileError::File);
     };
