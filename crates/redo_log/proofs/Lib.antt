@@ -23,6 +23,7 @@ pub mod PassedHead
 pub mod RingRecords
 pub mod CallsSent
 pub mod OldestRecord
+pub mod OldestTurn
 pub mod SectorsRead
 pub mod SparedSectors
 pub mod RecordTurns
@@ -30,3 +31,4 @@ pub mod StoredLog
 pub mod CopiedTurns
 pub mod TurnPremises
 pub mod RecordCalls
+pub mod RecordCounted

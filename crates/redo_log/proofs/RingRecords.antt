@@ -66,7 +66,7 @@ ring_retired shape numbers newer turned under_way made ring = record {
   record_under_way = ring.record_under_way;
 }
 
-retire_steps_some : (numbers : List ℕ) → 1 ≤ length numbers
+pub retire_steps_some : (numbers : List ℕ) → 1 ≤ length numbers
     → retire_steps_of numbers ≡ length numbers + 2
 retire_steps_some [] some = absurd (omega arith)
 retire_steps_some (n ∷ numbers) some = refl

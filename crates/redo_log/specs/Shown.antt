@@ -43,3 +43,9 @@ pub record Invariant (log : Inside) : Type 0 where
   pub ring : IsRing (shape_of log.sizes) (lists_of log.waiting.items) log.turned
       log.under_way.items log.made
   pub ahead_is : IsAheadOf (ahead_in log) log.head (lists_of log.waiting.items) log.turned
+
+-- a caller sees this of the fields of some log
+pub record IsShown (log : LogValue) : Type 0 where
+  pub inside : Inside
+  pub view_is : shown inside ≡ log
+  pub invariant : Invariant inside

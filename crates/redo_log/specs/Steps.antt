@@ -6,6 +6,7 @@ use Rattle.std.specs.Prelude.{IsOk, IfOk, IfErr, OnOk, OnErr, MatchResult}
 use Rattle.medium.specs.Medium.{State, LooksOnly}
 use Rattle.medium.specs.Moments.{EachCut, LeavesOnly, SparesFrom, IsQuiet}
 use Rattle.medium.specs.Sent.{SendsUpTo}
+use Rattle.medium.specs.declared.fault.MediumFault.{MediumFault}
 use Rattle.medium.specs.declared.fault.MediumFault.TheVariants.{Flush}
 use Rattle.journal.specs.Places.{first_home, sectors_of}
 use Rattle.journal.specs.SectorsTwo.{firsts_of}
@@ -15,8 +16,9 @@ use Rattle.redo_log.specs.declared.fault.LogFault.TheVariants.{Medium, StampsUse
 use Rattle.redo_log.specs.declared.progress.Progress.{Progress}
 use Rattle.redo_log.specs.declared.progress.Progress.TheVariants.{Durable}
 use Rattle.redo_log.specs.Value.{LogValue, died, begun, most_steps, most_retire_steps, IsStepped}
-use Rattle.redo_log.specs.Value.{Owes}
+use Rattle.redo_log.specs.Value.{Owes, IsSentHome, IsRetireStepped}
 use Rattle.redo_log.specs.Held.{View, HoldsView, MayLeave, HasDurable, with_record, view_stepped}
+use Rattle.redo_log.specs.Held.{view_retired}
 use Rattle.redo_log.specs.Flushes.{FlushesUpTo, next_step_flushes}
 
 -- a step that answers Ok did this, and else the medium refused a call, and the log is dead
@@ -28,8 +30,8 @@ pub record AnswersStep {X : Type 0} (Done : X → Type 0) (result : Result X Log
 
 -- A step makes so many calls of the medium, of which none is refused but the last one, which it
 -- answers. The medium comes after what it was, by calls alone.
-pub record PassesStep {M X : Type 0} (state : M → State) (Follows : M → M → Type 0)
-    (Counted : Type 0) (result : Result X LogFault) (old new : M) : Type 0 where
+pub record PassesStep {M X E : Type 0} (state : M → State) (Follows : M → M → Type 0)
+    (Counted : Type 0) (result : Result X E) (old new : M) : Type 0 where
   pub calls : Counted
   pub failures : (state new).failures
       ≡ (if is_ok result then (state old).failures else (state old).failures + 1)
@@ -91,6 +93,44 @@ pub record MakesTurns {M : Type 0} (state : M → State) (Follows : M → M → 
       → MatchResult result (λ _. HoldsView new (state n) (after view))
       (λ _. HoldsView new (state n) view)
   pub leaves : LeavesLog old (state m) (state n)
+
+-- The calls of a retire step of this log are made, or one of them is refused. The log itself does
+-- not count the step yet.
+pub record BringsOn {M : Type 0} (state : M → State) (Follows : M → M → Type 0) (Counted : Type 0)
+    (result : Result (Unit {0}) MediumFault) (log : LogValue) (m n : M) : Type 0 where
+  pub passes : PassesStep state Follows Counted result m n
+  pub leaves : LeavesLog log (state m) (state n)
+  -- given up, the log and the medium hold what they held
+  pub dead : (view : View) → HoldsView log (state m) view → HoldsView (died log) (state n) view
+  -- where no call is refused, they do so with the step counted
+  pub counted : (view : View) → HoldsView log (state m) view → (next : LogValue)
+      → IsRetireStepped log next
+      → OnOk result (HoldsView next (state n) (view_retired (next.head - log.head) view))
+
+-- Where no call of a turn ahead is refused, the log and the medium hold what they held, with the
+-- turn counted.
+abbrev pub StaysSent : Result (Unit {0}) MediumFault → LogValue → State → State → Type 0
+StaysSent result log old new = (view : View) → HoldsView log old view → (next : LogValue)
+    → IsSentHome log next → OnOk result (HoldsView next new view)
+
+-- The next call of the record under way, which is one of these entries, is made, or it is refused.
+-- The log itself does not count it yet.
+pub record BringsRecordOn {M : Type 0} (state : M → State) (Follows : M → M → Type 0)
+    (entries : List Entry) (result : Result (Unit {0}) MediumFault) (log : LogValue) (m n : M)
+    : Type 0 where
+  pub passes : PassesStep state Follows (CountsOne (next_step_flushes log) (state m) (state n))
+      result m n
+  pub leaves : LeavesLog log (state m) (state n)
+  -- given up, the log and the medium hold what they held
+  pub dead : (view : View) → HoldsView log (state m) view → HoldsView (died log) (state n) view
+  -- where the call is not refused, they do so with the call counted
+  pub counted : (view : View) → HoldsView log (state m) view → view.under_way ≡ entries
+      → (progress : Progress) → (next : LogValue) → IsStepped progress log next
+      → OnOk result (HoldsView next (state n) (view_stepped progress view))
+  -- with the last one the record is whole in every image that a cut may leave
+  pub durable : (view : View) → HoldsView log (state m) view → view.under_way ≡ entries
+      → view.ours ≡ true → (next : LogValue) → IsStepped Durable log next
+      → OnOk result (EachCut (HasDurable (state n).size next (with_record view)) (state n))
 
 -- A call makes the next step of the record under way, which is one of these entries.
 pub record MakesStep {M : Type 0} (state : M → State) (Follows : M → M → Type 0)

@@ -7,10 +7,7 @@ ghost use Rattle.redo_log.specs.Value.{IsCovered, settled, CanPass, pass_calls, 
 ghost use Rattle.redo_log.specs.Held.{view_retired};
 ghost use Rattle.redo_log.specs.Steps.{CountsStep, IsOn, MakesTurns};
 
-use crate::index::drop_slot;
-use crate::turn::next_turn;
 use crate::{Log, LogFault};
-use journal::{Head, slot_of};
 use medium::Medium;
 
 impl Log {
@@ -39,26 +36,14 @@ impl Log {
             (CountsStep (ahead_calls self.old) (next_sends self.old) 0 result
             (M.state m.old) (M.state m.new)) (λ view. view) result self.old self.new m.old m.new }
     {
-        let Some(record) = self.waiting.front() else {
-            return Ok(());
-        };
-        let turns = record.len();
-        if turns <= self.turned {
+        if !self.is_away() {
             return Ok(());
         }
-        let numbers = record.as_slice();
-        let turn = next_turn(&self.sizes, self.head, numbers, &self.firsts, self.turned);
-        let refused = turn.make(m).is_err();
-        if refused {
-            self.dead = true;
+        if self.make_turn(m).is_err() {
+            self.stop();
             return Err(LogFault::Medium);
         }
-        self.turned += 1;
-        if self.turned < turns {
-            return Ok(());
-        }
-        self.homed = self.head;
-        self.before = self.head + self.waiting.len() as u64;
+        self.count_home();
         Ok(())
     }
 
@@ -122,15 +107,11 @@ impl Log {
         if !self.can_pass() {
             return Ok(());
         }
-        if m.write(1, &Head::new(self.head + 1).encode()).is_err() {
-            self.dead = true;
+        if self.write_head(m).is_err() {
+            self.stop();
             return Err(LogFault::Medium);
         }
-        drop_slot(&mut self.index, slot_of(self.head, self.sizes.slots));
-        let _ = self.waiting.pop_front();
-        let _ = self.firsts.pop_front();
-        self.head += 1;
-        self.turned = 0;
+        self.drop_oldest();
         Ok(())
     }
 }

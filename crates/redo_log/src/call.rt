@@ -24,11 +24,18 @@ fn written_at(early: usize, made: usize) -> usize
     }
 }
 
+// Whether the early parts are written, and not flushed yet.
+fn is_early_due(early: usize, made: usize) -> bool
+    ensures { IsTrue result ↔ ((0 < early) × (made ≡ early)) }
+{
+    0 < early && made == early
+}
+
 // Whether a flush comes next: the early parts are written, or all.
 fn is_flush_due(early: usize, parts: usize, made: usize, written: usize) -> bool
     ensures { IsTrue result ↔ (((0 < early) × (made ≡ early)) ⊎ (parts ≤ written)) }
 {
-    0 < early && made == early || parts <= written
+    is_early_due(early, made) || parts <= written
 }
 
 /// Makes the next call of a record of which so many calls are made.

@@ -12,10 +12,12 @@ mod fault;
 mod firsts;
 mod index;
 mod log;
+mod oldest;
 mod progress;
 mod stage;
 mod stop;
 mod turn;
+mod under_way;
 
 pub use fault::LogFault;
 pub use log::Log;

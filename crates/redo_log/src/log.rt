@@ -4,14 +4,11 @@ ghost use Rattle.std.specs.Prelude.{length, if◌then◌else◌};
 ghost use Rattle.std.specs.Prelude.{IsTrue, IsOk, OnOk, IfOk, IfErr, MatchOption};
 ghost use Rattle.std.specs.VecDeque.{deque_capacity};
 
-use crate::call::make_next;
 use crate::firsts::{age_of, first_kept, keep_firsts};
-use crate::index::{Copied, drop_slot, enter_record, newest};
-use crate::stage::steps_for;
-use crate::turn::next_turn;
+use crate::index::{Copied, newest};
 use crate::{LogFault, Progress};
 use arrayvec::ArrayVec;
-use journal::{Firsts, LogFormat, Super, read_copy, slot_of};
+use journal::{Firsts, LogFormat, Super, read_copy};
 use medium::{Medium, MediumFault};
 use std::alloc::{AllocError, Global};
 use std::collections::VecDeque;
@@ -39,7 +36,7 @@ pub struct Log {
     pub(crate) homed: u64,
     pub(crate) before: u64,
     // The record under way, empty where none is.
-    under_way: Numbers,
+    pub(crate) under_way: Numbers,
     // How many calls of it are made.
     pub(crate) made: Option<usize>,
     // The newest copies of the durable records' blocks.
@@ -178,22 +175,11 @@ impl Log {
         ensures { MakesStep M.state M.follows (entries_of numbers.now bytes.now) result
             self.old self.new m.old m.new }
     {
-        let Some(made) = self.made else {
-            unreachable!()
-        };
-        let stamp = self.head + self.waiting.len() as u64;
-        if make_next(m, &self.sizes, stamp, numbers, bytes, made).is_err() {
-            self.dead = true;
+        if self.make_call(m, numbers, bytes).is_err() {
+            self.stop();
             return Err(LogFault::Medium);
         }
-        if made + 1 < steps_for(self.sizes.format, numbers.len()) {
-            self.made = Some(made + 1);
-            return Ok(Progress::More);
-        }
-        self.made = None;
-        enter_record(&mut self.index, slot_of(stamp, self.sizes.slots), numbers);
-        self.waiting.push_back_reserved(self.under_way.take());
-        Ok(Progress::Durable)
+        Ok(self.count_call(numbers))
     }
 
     /// Makes the next one or two calls that retire the oldest durable record, none where none
@@ -211,25 +197,14 @@ impl Log {
             result (M.state m.old) (M.state m.new)) (view_retired (self.new.head - self.old.head))
             result self.old self.new m.old m.new }
     {
-        let Some(oldest) = self.waiting.front() else {
+        if self.waiting.is_empty() {
             return Ok(());
-        };
-        let home = oldest.len();
-        let numbers = oldest.as_slice();
-        let turn = next_turn(&self.sizes, self.head, numbers, &self.firsts, self.turned);
-        if turn.make(m).is_err() {
-            self.dead = true;
+        }
+        if self.make_turn(m).is_err() {
+            self.stop();
             return Err(LogFault::Medium);
         }
-        if self.turned <= home {
-            self.turned += 1;
-            return Ok(());
-        }
-        drop_slot(&mut self.index, slot_of(self.head, self.sizes.slots));
-        let _ = self.waiting.pop_front();
-        let _ = self.firsts.pop_front();
-        self.head += 1;
-        self.turned = 0;
+        self.count_turn();
         Ok(())
     }
 

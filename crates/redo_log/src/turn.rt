@@ -1,5 +1,5 @@
 //! The turns that retire a durable record, one after the other.
-ghost use Rattle.std.specs.Prelude.{◌≡◌, ℕ, ◌≤◌, ◌<◌, ◌+◌, ◌*◌, length};
+ghost use Rattle.std.specs.Prelude.{◌≡◌, ℕ, ◌≤◌, ◌<◌, ◌+◌, ◌-◌, ◌*◌, ◌^◌, length};
 ghost use Rattle.medium.specs.Medium.{Holds, Only, LooksOnly};
 ghost use Rattle.journal.specs.Values.{shape_of};
 ghost use Rattle.redo_log.specs.Stages.{IsRecord};
@@ -7,7 +7,9 @@ ghost use Rattle.redo_log.specs.Calls.{CallsUpTo};
 ghost use Rattle.redo_log.specs.Shown.{firsts_in};
 ghost use Rattle.redo_log.specs.Turns.{begun_with, calls_of, sends_of, flushes_of};
 ghost use Rattle.redo_log.specs.Turns.{IsInside, MakesTurn, ReadsBefore, WritesSector};
-ghost use Rattle.redo_log.specs.Turns.{StaysInImage, IsHomeTurn, IsNextTurn};
+ghost use Rattle.redo_log.specs.Firsts.{first_kept};
+ghost use Rattle.redo_log.specs.Turns.{StaysInImage, IsHomeTurn, IsFlushTurn, IsHeadTurn};
+ghost use Rattle.redo_log.specs.Turns.{IsNextTurn};
 
 use crate::firsts::first_kept;
 use journal::{Firsts, Head, Super, copy_place, put_first, slot_of};
@@ -92,10 +94,19 @@ pub(crate) fn next_turn(
     ensures { StaysInImage (IsNextTurn (shape_of sizes.now) stamp numbers.now
         (firsts_in kept.now.items) turned result) (shape_of sizes.now) result }
 {
-    let home = numbers.len();
-    if turned < home {
-        return copy_turn(sizes, stamp, numbers, first_kept(kept, 0, turned), turned);
+    if turned < numbers.len() {
+        return copy_turn(sizes, stamp, numbers, kept, turned);
     }
+    last_turn(sizes, stamp, numbers.len(), turned)
+}
+
+// One of the last two turns of a record of so many blocks: a flush, and then the head.
+fn last_turn(sizes: &Super, stamp: u64, home: usize, turned: usize) -> Turn
+    requires stamp { stamp < 2 ^ 63 - 1 }
+    requires turned { turned < home + 2 }
+    ensures { StaysInImage ((turned ≡ home → IsFlushTurn result)
+        × (turned ≡ home + 1 → IsHeadTurn (stamp + 1) result)) (shape_of sizes.now) result }
+{
     if turned == home {
         Turn::Flush
     } else {
@@ -103,13 +114,13 @@ pub(crate) fn next_turn(
     }
 }
 
-// Copies the i-th block of a record home, with these bytes in front, if there are any.
-fn copy_turn(sizes: &Super, stamp: u64, numbers: &[u64], first: Option<[u8; 8]>, i: usize) -> Turn
+// Copies the i-th block of a record home, with its first bytes in front, if they are kept.
+fn copy_turn(sizes: &Super, stamp: u64, numbers: &[u64], kept: &VecDeque<Firsts>, i: usize) -> Turn
     requires record { IsRecord (shape_of sizes.now) stamp numbers.now }
     requires inside { i < length numbers.now }
-    ensures { StaysInImage (IsHomeTurn (shape_of sizes.now) stamp numbers.now first i result)
-        (shape_of sizes.now) result }
+    ensures { StaysInImage (IsHomeTurn (shape_of sizes.now) stamp numbers.now
+        (first_kept (firsts_in kept.now.items) 0 i) i result) (shape_of sizes.now) result }
 {
     let from = copy_place(sizes.format, slot_of(stamp, sizes.slots), i);
-    Turn::Copy(from, sizes.home_of(numbers[i]), first)
+    Turn::Copy(from, sizes.home_of(numbers[i]), first_kept(kept, 0, i))
 }

@@ -1,0 +1,90 @@
+use Rattle.std.proofs.Common.{◌≡◌, ℕ, ◌+◌, ◌%◌, vec_capacity, List, length, ◌++◌, [], ◌∷◌, subst, sym, ◌∙◌, ap, arith, rules, length-append}
+use Rattle.std.specs.Prelude.{Option, Some, None}
+use Rattle.arrayvec.specs.ArrayVec.{ArrayVec}
+use Rattle.journal.specs.Places.{Shape, limit_of}
+use Rattle.journal.specs.Values.{shape_of}
+use Rattle.redo_log.specs.Value.{LogValue}
+use Rattle.redo_log.specs.Stages.{begun_at, AreInside, IsRing, IsUnderWay, IsAheadOf}
+use Rattle.redo_log.specs.Shown.{lists_of, ahead_in}
+use Rattle.redo_log.specs.Index.{look, with_copies, IsIndex}
+use Rattle.redo_log.proofs.CoveredRecord.{ahead_durable}
+use Rattle.redo_log.proofs.RingRecords.{lists_more, ring_durable}
+use Rattle.redo_log.proofs.IndexRoom.{record_room, index_more}
+use Rattle.redo_log.proofs.OldestTurn.{many_lists}
+use Rattle.redo_log.proofs.log.Log.count_call.Goals as goal
+
+-- the durable records after the last step
+after_is : (records after : List (ArrayVec ℕ)) (old taken : ArrayVec ℕ) → after ≡ records ++ taken ∷ [] → taken ≡ old
+    → lists_of after ≡ lists_of records ++ old.items ∷ []
+after_is records after old taken is same =
+    ap (λ (l : List (ArrayVec ℕ)). lists_of l) is
+    ∙ (lists_more records taken ∙ ap (λ (x : ArrayVec ℕ). lists_of records ++ x.items ∷ []) same)
+
+pub invariant_of-self-2 : goal.invariant_of-self-2
+invariant_of-self-2 c =
+    let i = c.self.inside in
+    let waiting = after_is i.waiting.items c.push_back_reserved.new.self.items i.under_way c.take.result c.push_back_reserved.ensures.items
+    c.take.ensures.value in
+    let numbers : c.args.numbers.now ≡ i.under_way.items = c.requires.1 ∙ ap (λ (v : LogValue). v.under_way) (sym c.self.view_is) in
+    let stamp : i.head + c.len.result ≡ i.head + length (lists_of i.waiting.items) = omega (
+      arith,
+      c.len.ensures,
+      many_lists
+          i.waiting.items,
+    ) in
+    let one : begun_at i.made ≡ 1 = ap (λ (w : Option ℕ). begun_at w) c.in-Some.is in
+    let was : IsRing (shape_of i.sizes) (lists_of i.waiting.items) i.turned i.under_way.items (Some c.in-Some.made) =
+    subst (λ (w : Option ℕ). IsRing (shape_of i.sizes) (lists_of i.waiting.items) i.turned i.under_way.items w) c.in-Some.is
+    c.self.invariant.ring in
+    let ring = ring_durable (shape_of i.sizes) (lists_of i.waiting.items) i.turned i.under_way.items c.in-Some.made was in
+    record {
+      least = c.self.invariant.least;
+      most = omega (
+        arith,
+        c.self.invariant.most,
+        one,
+        many_lists i.waiting.items,
+        many_lists c.push_back_reserved.new.self.items,
+        ap (λ (l : List (List ℕ)). length l) waiting,
+        length-append (lists_of i.waiting.items) (i.under_way.items ∷ []),
+      );
+      room = omega (arith, c.self.invariant.room, c.push_back_reserved.ensures.capacity);
+      firsts_room = c.self.invariant.firsts_room;
+      firsts_few = omega (arith, c.self.invariant.firsts_few, one, c.push_back_reserved.ensures.len);
+      index_room = omega (arith, c.self.invariant.index_room, c.enter_record.ensures.capacity);
+      index_is = subst (λ (l : List (List ℕ)). IsIndex i.sizes.slots i.head l c.enter_record.new.index.items) (sym waiting)
+          (index_more i.sizes.slots i.head (lists_of i.waiting.items) i.under_way.items i.index.items c.enter_record.new.index.items
+          c.self.invariant.index_is c.enter_record.ensures.sorted
+          (λ b. c.enter_record.ensures.looks b
+          ∙ (ap (λ (l : List ℕ). with_copies c.slot_of.result 0 l (look i.index.items) b) numbers
+          ∙ ap (λ (n : ℕ). with_copies n 0 i.under_way.items (look i.index.items) b)
+          (c.slot_of.ensures ∙ ap (λ (n : ℕ). n % i.sizes.slots) stamp))));
+      ring = subst (λ (l : List ℕ). IsRing (shape_of i.sizes) (lists_of c.push_back_reserved.new.self.items) i.turned l None)
+          (sym c.take.ensures.after) (subst (λ (l : List (List ℕ)). IsRing (shape_of i.sizes) l i.turned [] None) (sym waiting) ring);
+      ahead_is = subst (λ (l : List (List ℕ)). IsAheadOf (ahead_in i) i.head l i.turned) (sym waiting)
+          (ahead_durable (ahead_in i) i.head (lists_of i.waiting.items) i.turned i.under_way.items
+          c.self.invariant.ahead_is);
+    }
+
+-- the block numbers of the record under way
+numbers_inside : (shape : Shape) (waiting : List (List ℕ)) (turned : ℕ) (under_way numbers : List ℕ) (made : Option ℕ) (m : ℕ)
+    → IsRing shape waiting turned under_way made → made ≡ Some m → numbers ≡ under_way → AreInside shape numbers
+numbers_inside shape waiting turned under_way numbers made m ring is same =
+    subst (AreInside shape) (sym same) ((subst (λ (o : Option ℕ). IsUnderWay shape under_way o) is ring.record_under_way).0)
+
+pub enter_record-requires-clause-numbers : goal.enter_record-requires-clause-numbers
+enter_record-requires-clause-numbers c =
+    let i = c.self.inside in
+    let inside = numbers_inside (shape_of i.sizes) (lists_of i.waiting.items) i.turned i.under_way.items c.args.numbers.now i.made
+    c.in-Some.made c.self.invariant.ring c.in-Some.is (c.requires.1 ∙ ap (λ (v : LogValue). v.under_way) (sym c.self.view_is)) in
+    record { few = search rules; rising = inside.rising; below = search rules }
+
+pub enter_record-requires-clause-fits : goal.enter_record-requires-clause-fits
+enter_record-requires-clause-fits c =
+    let i = c.self.inside in
+    let inside = numbers_inside (shape_of i.sizes) (lists_of i.waiting.items) i.turned i.under_way.items c.args.numbers.now i.made
+    c.in-Some.made c.self.invariant.ring c.in-Some.is (c.requires.1 ∙ ap (λ (v : LogValue). v.under_way) (sym c.self.view_is)) in
+    let one : begun_at i.made ≡ 1 = ap (λ (w : Option ℕ). begun_at w) c.in-Some.is in
+    record_room i.sizes.slots i.head (limit_of i.sizes.format) (lists_of i.waiting.items) i.index.items c.self.invariant.index_is
+    (omega (arith, c.self.invariant.ring.fits, one)) (λ age below. (c.self.invariant.ring.each age [] below).few) (vec_capacity i.index)
+    (length c.args.numbers.now) inside.few c.self.invariant.index_room

@@ -1,0 +1,102 @@
+//! The turns of the oldest durable record, one after the other.
+ghost use Rattle.std.specs.Prelude.{◌≡◌, ◌+◌, ◌<◌, length, get_or, []};
+ghost use Rattle.redo_log.specs.Value.{next_calls, next_sends, of_oldest};
+ghost use Rattle.redo_log.specs.Value.{IsAway, IsSentHome, CanPass, IsRetireStepped};
+ghost use Rattle.redo_log.specs.Held.{turned_of};
+ghost use Rattle.redo_log.specs.Shown.{IsShown};
+ghost use Rattle.redo_log.specs.Flushes.{next_turn_flushes};
+ghost use Rattle.redo_log.specs.Steps.{CountsStep, IsOn, BringsOn, StaysSent};
+ghost use Rattle.redo_log.specs.Turns.{StaysInImage, IsNextTurn};
+
+use crate::Log;
+use crate::index::drop_slot;
+use crate::turn::{Turn, next_turn};
+use journal::{Head, slot_of};
+use medium::{Medium, MediumFault};
+
+impl Log {
+    // The next turn of the oldest durable record.
+    fn oldest_turn(&self) -> Turn
+        requires { 0 < of_oldest self.now }
+        ensures next { StaysInImage (IsNextTurn self.now.shape self.now.head
+            (get_or self.now.waiting 0 []) self.now.firsts (turned_of self.now) result)
+            self.now.shape result }
+        ensures fields { IsShown self.now }
+    {
+        let Some(oldest) = self.waiting.front() else {
+            unreachable!()
+        };
+        let numbers = oldest.as_slice();
+        next_turn(&self.sizes, self.head, numbers, &self.firsts, self.turned)
+    }
+
+    /// Makes the next turn of the oldest durable record, which is not counted yet.
+    pub(crate) fn make_turn<M: Medium>(&self, m: &mut M) -> Result<(), MediumFault>
+        requires on { IsOn self.now (M.state m.old) }
+        requires owed { 0 < of_oldest self.now }
+        ensures brings { BringsOn M.state M.follows (CountsStep (next_calls self.now)
+            (next_sends self.now) (next_turn_flushes self.now) result (M.state m.old)
+            (M.state m.new)) result self.now m.old m.new }
+        ensures sent { IsAway self.now
+            → StaysSent result self.now (M.state m.old) (M.state m.new) }
+    {
+        self.oldest_turn().make(m)
+    }
+
+    /// Writes the head past the oldest durable record, which is not counted yet, and does not flush
+    /// it.
+    pub(crate) fn write_head<M: Medium>(&self, m: &mut M) -> Result<(), MediumFault>
+        requires on { IsOn self.now (M.state m.old) }
+        requires can { CanPass self.now }
+        ensures { BringsOn M.state M.follows
+            (CountsStep 1 1 0 result (M.state m.old) (M.state m.new)) result self.now m.old
+            m.new }
+    {
+        m.write(1, &Head::new(self.head + 1).encode())
+    }
+
+    /// Counts a block of the oldest durable record that went home by a turn ahead.
+    pub(crate) fn count_home(&mut self)
+        requires { IsAway self.old }
+        ensures { IsSentHome self.old self.new }
+    {
+        let Some(oldest) = self.waiting.front() else {
+            unreachable!()
+        };
+        let turns = oldest.len();
+        self.turned += 1;
+        if self.turned < turns {
+            return;
+        }
+        self.homed = self.head;
+        self.before = self.head + self.waiting.len() as u64;
+    }
+
+    /// Counts a turn of the oldest durable record, which is retired with its last one.
+    pub(crate) fn count_turn(&mut self)
+        requires { 0 < length self.old.waiting }
+        ensures { IsRetireStepped self.old self.new }
+    {
+        let Some(oldest) = self.waiting.front() else {
+            unreachable!()
+        };
+        let home = oldest.len();
+        if self.turned <= home {
+            self.turned += 1;
+        } else {
+            self.drop_oldest();
+        }
+    }
+
+    /// Retires the oldest durable record, of which one turn is left.
+    pub(crate) fn drop_oldest(&mut self)
+        requires { of_oldest self.old ≡ 1 }
+        ensures { (self.new.head ≡ self.old.head + 1) × IsRetireStepped self.old self.new }
+    {
+        drop_slot(&mut self.index, slot_of(self.head, self.sizes.slots));
+        let _ = self.waiting.pop_front();
+        let _ = self.firsts.pop_front();
+        self.head += 1;
+        self.turned = 0;
+    }
+}
