@@ -130,13 +130,18 @@ pub record IsWellFormed (w : Window) : Type 0 where
   pub held : w.held ≤ w.span
   pub behind : w.near ≤ w.from ⊎ (w.held ≡ 0)
 
+-- these bytes may be shown from this sector on: no call waits in the outbox, and they are whole
+-- sectors, no more than there is room for, all of the device and behind the first ones
+abbrev pub HasPlace : ℕ → List ℕ → Window → Type 0
+HasPlace first bytes m =
+    (length m.outbox ≡ 0) × (length bytes % 512 ≡ 0) × (length bytes / 512 ≤ m.span)
+    × (m.near ≤ first) × (512 * first + length bytes ≤ length m.seen.told.opening)
+
 -- Sectors were shown, and taken or not. Where they are what was thought, nothing but the window has
 -- changed; where they are not, the medium is one of a device that holds them.
 pub record IsShown (first : ℕ) (bytes : List ℕ) (taken : Bool) (old new : Window) : Type 0 where
   pub refused : taken ≡ false → new ≡ old
-  pub fits : IsTrue taken ↔ ((length old.outbox ≡ 0) × (length bytes % 512 ≡ 0)
-      × (length bytes / 512 ≤ old.span) × (old.near ≤ first)
-      × (512 * first + length bytes ≤ length old.seen.told.opening))
+  pub fits : IsTrue taken ↔ HasPlace first bytes old
   pub honest : taken ≡ true → AreHeld (state_of old).content first (length bytes / 512) bytes
       → new ≡ moved old first (length bytes / 512)
   pub content : taken ≡ true → AreHeld (state_of new).content first (length bytes / 512) bytes

@@ -5,7 +5,7 @@ ghost use Rattle.medium.specs.Moments.{IsFlushed};
 ghost use Rattle.medium.specs.Writes.{sector_of};
 ghost use Rattle.mirror.specs.Mirror.{first_of};
 ghost use Rattle.window.specs.Window.{Window, state_of, fresh, without_first, ComesAfter};
-ghost use Rattle.window.specs.Window.{CoversDevice, IsServed, IsShown, is_in_sight};
+ghost use Rattle.window.specs.Window.{CoversDevice, IsServed, HasPlace, IsShown, is_in_sight};
 
 use crate::holds::DeviceHolds;
 use crate::look::Look;
@@ -114,6 +114,20 @@ impl WindowMedium {
     pub fn fill(&mut self, first: u64, bytes: &[u8]) -> bool
         ensures { IsShown first bytes.now result self.old self.new }
     {
+        if !self.has_place_for(first, bytes) {
+            return false;
+        }
+        self.pane.fill(first, bytes);
+        self.story = self.story.shown(&self.pane);
+        true
+    }
+
+    // Whether these bytes may be shown from this sector on: no call waits in the outbox, and they
+    // are whole sectors, no more than there is room for, all of the device and behind the first
+    // ones.
+    fn has_place_for(&self, first: u64, bytes: &[u8]) -> bool
+        ensures { IsTrue result ↔ HasPlace first bytes.now self.now }
+    {
         if self.outbox.len() > 0 || bytes.len() % SECTOR != 0 {
             return false;
         }
@@ -121,12 +135,7 @@ impl WindowMedium {
         if bytes.len() > self.pane.sectors.bytes.len() || first < self.near() {
             return false;
         }
-        if count > self.size || first > self.size - count {
-            return false;
-        }
-        self.pane.fill(first, bytes);
-        self.story = self.story.shown(&self.pane);
-        true
+        count <= self.size && first <= self.size - count
     }
 
     /// How many of the first sectors lie in memory.

@@ -1,4 +1,4 @@
-use Rattle.std.proofs.Common.{rules, ◌+◌, ◌/◌, ℕ, List, length, refl, sym, ◌∙◌, ap, arith}
+use Rattle.std.proofs.Common.{rules, ◌≡◌, ◌≤◌, ◌+◌, ◌*◌, ◌/◌, ℕ, List, [], length, refl, sym, ◌∙◌, ap, arith, IsTrue}
 use Rattle.medium.specs.Writes.{sector_of}
 use Rattle.mirror.specs.Mirror.{device_of, size_of}
 use Rattle.window.specs.Window.{Window, moved}
@@ -10,11 +10,17 @@ use Rattle.window.proofs.window.WindowMedium.fill.Goals as goal
 
 pub invariant_of-self : goal.invariant_of-self
 invariant_of-self c =
+    let has : IsTrue c.has_place_for.result = search rules in
+    let place = c.has_place_for.ensures.0 has in
+    let view = c.self.view_is in
+    let span = ap (λ (w : Window). w.span) view in
+    let near = ap (λ (w : Window). w.near) view in
+    let size = ap (λ (w : Window). length w.seen.told.opening) view in
     kept_shown c.self.inside _ c.self.invariant refl refl refl refl
-    (none_of c.self.inside.outbox.items (omega (arith, c.self.inside.outbox.ok.0)))
-    c.shown-self-inside.ensures (omega (arith, c.fill.ensures.held, c.fill.ensures.length))
-    (omega (arith, c.fill.ensures.from, c.fill.ensures.held))
-    (omega (arith, c.fill.ensures.from, c.near.ensures, ap (λ (w : Window). w.near) c.self.view_is))
+    (none_of c.self.inside.outbox.items (ap (λ (w : Window). length w.outbox) view ∙ place.0))
+    c.shown-self-inside.ensures (omega (arith, place.1, place.2, span, c.fill.ensures.held, c.fill.ensures.length))
+    (omega (arith, place.1, place.4, size, c.self.invariant.size_is, c.fill.ensures.from, c.fill.ensures.held))
+    (omega (arith, place.3, near, c.fill.ensures.from))
 
 pub returns : goal.returns
 returns c =
@@ -26,19 +32,29 @@ returns c =
       room = c.self.inside.room;
       story = c.shown-self-inside.result;
     } in
+    let has : IsTrue c.has_place_for.result = search rules in
+    let place = c.has_place_for.ensures.0 has in
+    let view = c.self.view_is in
+    let span = ap (λ (w : Window). w.span) view in
+    let near = ap (λ (w : Window). w.near) view in
+    let size = ap (λ (w : Window). length w.seen.told.opening) view in
+    let empty : c.self.inside.outbox.items ≡ [] =
+    none_of c.self.inside.outbox.items (ap (λ (w : Window). length w.outbox) view ∙ place.0) in
+    let fits : 512 * n.pane.held ≤ length n.pane.sectors.bytes.items =
+    omega (arith, place.1, place.2, span, c.fill.ensures.held, c.fill.ensures.length) in
+    let inside : n.pane.from + n.pane.held ≤ c.self.inside.size =
+    omega (arith, place.1, place.4, size, c.self.invariant.size_is, c.fill.ensures.from, c.fill.ensures.held) in
+    let after : length c.self.inside.near.bytes.items / 512 ≤ n.pane.from = omega (arith, place.3, near, c.fill.ensures.from) in
+    let seen = c.shown-self-inside.ensures in
     record {
       refused = search rules;
       fits = search rules;
       honest = λ took held.
-          let same = as_held c.self.inside n c.self.invariant refl refl refl refl
-          (none_of c.self.inside.outbox.items (omega (arith, c.self.inside.outbox.ok.0)))
-          c.shown-self-inside.ensures (omega (arith, c.fill.ensures.held, c.fill.ensures.length))
-          (omega (arith, c.fill.ensures.from, c.fill.ensures.held))
-          (omega (arith, c.fill.ensures.from, c.near.ensures, ap (λ (w : Window). w.near) c.self.view_is))
+          let same = as_held c.self.inside n c.self.invariant refl refl refl refl empty seen fits inside after
           (λ i lt. (ap (λ (l : List ℕ). sector_of l i) c.fill.ensures.bytes
           ∙ front c.args.bytes.now _ i (omega (arith, lt, c.fill.ensures.held)))
           ∙ held i (omega (arith, lt, c.fill.ensures.held))
-          ∙ ap (λ (w : Window). (device_of w.seen.told).content (c.args.first + i)) (sym c.self.view_is)
+          ∙ ap (λ (w : Window). (device_of w.seen.told).content (c.args.first + i)) (sym view)
           ∙ ap (λ (k : ℕ). (device_of c.self.inside.story.seen.told).content (k + i)) (sym c.fill.ensures.from)) in
           (λ i. record (view_of c.self.inside) {
             seen = same i;
@@ -46,29 +62,18 @@ returns c =
             held = c.fill.ensures.held i;
             span = c.fill.ensures.length i / 512;
           })
-          ∙ ap (λ (w : Window). moved w c.args.first (length c.args.bytes.now / 512)) c.self.view_is;
+          ∙ ap (λ (w : Window). moved w c.args.first (length c.args.bytes.now / 512)) view;
       content = λ took i lt.
           sym (ap (λ (l : List ℕ). sector_of l i) c.fill.ensures.bytes
           ∙ front c.args.bytes.now _ i (omega (arith, lt)))
-          ∙ there c.self.inside n c.self.invariant refl refl refl refl
-          (none_of c.self.inside.outbox.items (omega (arith, c.self.inside.outbox.ok.0)))
-          c.shown-self-inside.ensures (omega (arith, c.fill.ensures.held, c.fill.ensures.length))
-          (omega (arith, c.fill.ensures.from, c.fill.ensures.held))
-          (omega (arith, c.fill.ensures.from, c.near.ensures, ap (λ (w : Window). w.near) c.self.view_is))
+          ∙ there c.self.inside n c.self.invariant refl refl refl refl empty seen fits inside after
           i (omega (arith, lt, c.fill.ensures.held))
           ∙ ap (λ (k : ℕ). (device_of c.shown-self-inside.result.seen.told).content (k + i)) c.fill.ensures.from;
       others = search rules;
       there = search rules;
-      calls = calls_stay c.self.inside n c.self.invariant refl refl refl refl
-          (none_of c.self.inside.outbox.items (omega (arith, c.self.inside.outbox.ok.0)))
-          c.shown-self-inside.ensures (omega (arith, c.fill.ensures.held, c.fill.ensures.length))
-          (omega (arith, c.fill.ensures.from, c.fill.ensures.held))
-          (omega (arith, c.fill.ensures.from, c.near.ensures, ap (λ (w : Window). w.near) c.self.view_is))
-          ∙ ap (λ (w : Window). length w.seen.told.asked) c.self.view_is;
-      size = same_size c.self.inside n c.self.invariant (kept_shown c.self.inside n c.self.invariant refl refl refl refl
-          (none_of c.self.inside.outbox.items (omega (arith, c.self.inside.outbox.ok.0)))
-          c.shown-self-inside.ensures (omega (arith, c.fill.ensures.held, c.fill.ensures.length))
-          (omega (arith, c.fill.ensures.from, c.fill.ensures.held))
-          (omega (arith, c.fill.ensures.from, c.near.ensures, ap (λ (w : Window). w.near) c.self.view_is))) refl
-          ∙ ap (λ (w : Window). size_of w.seen.told) c.self.view_is;
+      calls = calls_stay c.self.inside n c.self.invariant refl refl refl refl empty seen fits inside after
+          ∙ ap (λ (w : Window). length w.seen.told.asked) view;
+      size = same_size c.self.inside n c.self.invariant
+          (kept_shown c.self.inside n c.self.invariant refl refl refl refl empty seen fits inside after) refl
+          ∙ ap (λ (w : Window). size_of w.seen.told) view;
     }
