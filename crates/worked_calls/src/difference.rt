@@ -1,14 +1,10 @@
 //! The errors of this program.
-use bot_machine::StartFault;
 use judging::Finding;
-use std::alloc::AllocError;
 use std::fmt;
 
 /// What is not as it should be, or why nothing could be played.
 #[derive(Clone, Copy)]
 pub(crate) enum Difference {
-    /// A start was refused.
-    Start(StartFault),
     /// A start that is to be refused was not, or with another fault.
     NotRefused,
     /// Another medium came back.
@@ -17,32 +13,21 @@ pub(crate) enum Difference {
     Flushes,
     /// Another answer than one of an abstract disk, or the preparations failed.
     Judged(Finding),
-    /// Memory ran out.
-    NoMemory(AllocError),
 }
 
 impl fmt::Display for Difference {
     fn fmt<W: fmt::Write>(&self, f: &mut fmt::Formatter<W>) -> fmt::Result {
-        let words = match *self {
-            Difference::Start(fault) => return write!(f, "a start was refused: {fault}"),
-            Difference::NotRefused => "a start was not refused as it should be",
-            Difference::Medium => "another medium came back",
-            Difference::Flushes => "another number of flushes",
-            Difference::Judged(finding) => return write!(f, "{finding}"),
-            Difference::NoMemory(_) => "out of memory",
-        };
-        write!(f, "{words}")
+        match *self {
+            Difference::NotRefused => f.write_str("a start was not refused as it should be"),
+            Difference::Medium => f.write_str("another medium came back"),
+            Difference::Flushes => f.write_str("another number of flushes"),
+            Difference::Judged(finding) => finding.fmt(f),
+        }
     }
 }
 
 impl From<Finding> for Difference {
     fn from(finding: Finding) -> Difference {
         Difference::Judged(finding)
-    }
-}
-
-impl From<AllocError> for Difference {
-    fn from(error: AllocError) -> Difference {
-        Difference::NoMemory(error)
     }
 }

@@ -2,9 +2,9 @@
 ghost use Rattle.std.specs.Prelude.{◌≡◌, IfOk};
 
 use crate::difference::Difference;
-use abstract_disk::{Array, Hearing, Write};
-use bot_machine::{Answers, Disk, Event, PacketSize, StartFault, run_events};
-use judging::{Finding, Format, Host, Shape, disk_identity, hear};
+use abstract_disk::{Array, Hearing};
+use bot_machine::{Answer, Answers, Disk, Event, PacketSize, StartError, StartFault, run_events};
+use judging::{Finding, Format, Host, Shape, TestWrite, disk_identity, hear};
 use medium::{Medium, SimMedium};
 use std::alloc::{AllocError, Global};
 
@@ -26,10 +26,16 @@ pub(crate) fn make_no_flush(alloc: Global) -> Result<(), Difference> {
 
 /// A start on what is no image is refused, and the medium comes back.
 pub(crate) fn medium_comes_back(alloc: Global) -> Result<(), Difference> {
+    let identity = disk_identity()?;
     let medium = zeros(alloc)?;
-    let Err(refused) = Disk::start(alloc, medium, disk_identity()?) else {
-        return Err(Difference::NotRefused);
-    };
+    match Disk::start(alloc, medium, identity) {
+        Ok(_) => Err(Difference::NotRefused),
+        Err(refused) => gives_back(&refused),
+    }
+}
+
+// The start was refused for what the medium has, and all of its bytes are 0 still.
+fn gives_back(refused: &StartError<SimMedium>) -> Result<(), Difference> {
     if refused.fault != StartFault::BadSuper {
         return Err(Difference::NotRefused);
     }
@@ -40,35 +46,68 @@ pub(crate) fn medium_comes_back(alloc: Global) -> Result<(), Difference> {
 }
 
 /// So many sectors as make no image.
-pub(crate) fn zeros(alloc: Global) -> Result<SimMedium, Difference> {
+pub(crate) fn zeros(alloc: Global) -> Result<SimMedium, Finding> {
     let bytes = vec![in alloc; 0u8; 68 * 512]?;
-    Ok(SimMedium::new(alloc, bytes, 1).map_err(Finding::from)?)
+    Ok(SimMedium::new(alloc, bytes, 1)?)
 }
 
 // Plays the forty writes with so many steps in the background between any two events. Gives the
 // number of flushes since the start.
-fn forty_writes(alloc: Global, between: u32) -> Result<u64, Difference> {
+fn forty_writes(alloc: Global, between: u32) -> Result<u64, Finding> {
+    let host = host_of_forty(alloc, between)?;
     let mut disk = started(alloc)?;
-    let before = disk.medium().flushes();
+    flushes_in(alloc, &mut disk, host.events())
+}
+
+// A host that sends the forty writes.
+fn host_of_forty(alloc: Global, between: u32) -> Result<Host, Finding> {
     let mut host = Host::with_ticks(alloc, between);
+    send_forty(alloc, &mut host)?;
+    Ok(host)
+}
+
+// REQUEST SENSE, and the forty writes, each with its READ.
+fn send_forty(alloc: Global, host: &mut Host) -> Result<(), Finding> {
     host.request_sense()?;
     for address in 0..40u8 {
-        host.write(&one_block(alloc, address)?, false)?;
-        host.read(u32::from(address), 1)?;
+        send_one(alloc, host, address)?;
     }
-    let answers = played(alloc, &mut disk, host.events())?;
-    let opening = Array::zeros(alloc, 64)?;
-    let mut hearing = Hearing::new(alloc, &opening, 48, PacketSize::High512)?;
-    hear(host.events(), answers.list(), &mut hearing)?;
-    Ok(disk.medium().flushes().saturating_sub(before))
+    Ok(())
+}
+
+// A write of one block, whose bytes are its address, and a READ of it.
+fn send_one(alloc: Global, host: &mut Host, address: u8) -> Result<(), Finding> {
+    let write = TestWrite {
+        address: u32::from(address),
+        count: 1,
+        forced: false,
+    };
+    host.write(&write.filled(alloc, address)?, write.forced)?;
+    host.read(write.address, 1)
 }
 
 // A disk on a fresh image.
-fn started(alloc: Global) -> Result<Disk<SimMedium>, Difference>
+fn started(alloc: Global) -> Result<Disk<SimMedium>, Finding>
     ensures { IfOk result (λ disk. disk.line.packet_size ≡ 512) }
 {
-    let started = Disk::start(alloc, SHAPE.fresh(alloc)?, disk_identity()?);
-    started.map_err(|error| Difference::Start(error.fault))
+    let identity = disk_identity()?;
+    let medium = SHAPE.fresh(alloc)?;
+    match Disk::start(alloc, medium, identity) {
+        Ok(disk) => Ok(disk),
+        Err(refused) => Err(Finding::Start(refused.fault)),
+    }
+}
+
+// Judges what a disk with packets of 512 bytes, whose blocks are all 0, answers to events. Gives
+// the number of flushes in them.
+fn flushes_in(alloc: Global, disk: &mut Disk<SimMedium>, events: &[Event]) -> Result<u64, Finding>
+    requires { disk.old.line.packet_size ≡ 512 }
+{
+    let before = disk.medium().flushes();
+    let answers = played(alloc, disk, events)?;
+    let opening = Array::zeros(alloc, 64)?;
+    judge(alloc, &opening, 48, events, answers.list())?;
+    Ok(disk.medium().flushes().saturating_sub(before))
 }
 
 // What a disk with packets of 512 bytes answers to events.
@@ -84,10 +123,15 @@ fn played(
     Ok(answers)
 }
 
-// A write of one block, whose bytes are its address.
-fn one_block(alloc: Global, address: u8) -> Result<Write, AllocError> {
-    Ok(Write {
-        address: u32::from(address),
-        blocks: vec![in alloc; [address; 512]; 1]?,
-    })
+/// Judges answers by an abstract disk over these blocks, whose commands move so many at most.
+pub(crate) fn judge(
+    alloc: Global,
+    opening: &Array,
+    limit: u32,
+    events: &[Event],
+    told: &[Answer],
+) -> Result<(), Finding> {
+    let mut hearing = Hearing::new(alloc, opening, limit, PacketSize::High512)?;
+    hear(events, told, &mut hearing)?;
+    Ok(())
 }
