@@ -2,8 +2,8 @@
 use crate::counts::Counts;
 use crate::finding::Finding;
 use runner::command;
-use std::fs;
 use std::fs::{File, Files};
+use std::{fs, io};
 
 /// A script, the word that plays it, and the status and the text that must come.
 struct Row {
@@ -79,7 +79,8 @@ const ROWS: [Row; 8] = [
     },
 ];
 
-/// Plays the rows on one image file, which stays as a start leaves it.
+/// Plays the rows on one image file, which stays as a start leaves it; then tries image files that
+/// are too short.
 pub(crate) fn try_commands<R: Files<File = File> + AllocGlobal>(
     rt: &R,
     counts: &mut Counts,
@@ -87,15 +88,32 @@ pub(crate) fn try_commands<R: Files<File = File> + AllocGlobal>(
     let words = ["format", "image", "--blocks", "16", "--slots", "1"];
     ends(rt, &words, "formatted\n", 0, "", 0)?;
     for (place, row) in ROWS.iter().enumerate() {
-        fs::write(rt, "script", row.script.as_bytes())?;
-        let words = [row.word, "image", "script"];
-        ends(rt, &words, row.out, row.status, row.err, place)?;
+        try_row(rt, row, place)?;
         counts.script(row.status == 0);
     }
     let image = fs::read(rt, "image")?;
+    try_short(rt, &image, counts)
+}
+
+// Plays a row.
+fn try_row<R: Files<File = File> + AllocGlobal>(
+    rt: &R,
+    row: &Row,
+    place: usize,
+) -> Result<(), Finding> {
+    fs::write(rt, "script", row.script.as_bytes())?;
+    let words = [row.word, "image", "script"];
+    ends(rt, &words, row.out, row.status, row.err, place)
+}
+
+// Tries the first bytes of an image.
+fn try_short<R: Files<File = File> + AllocGlobal>(
+    rt: &R,
+    image: &[u8],
+    counts: &mut Counts,
+) -> Result<(), Finding> {
     for length in [0, 1, 511, 512, 1024, 67 * 512, 68 * 512 - 1] {
-        let bytes = image.get(..length).unwrap_or(&[]);
-        refuses(rt, bytes)?;
+        refuses(rt, image.get(..length).unwrap_or(&[]))?;
         counts.script(false);
     }
     Ok(())
@@ -131,9 +149,19 @@ fn refuses<R: Files<File = File> + AllocGlobal>(rt: &R, bytes: &[u8]) -> Result<
     };
     for word in ["run", "sim"] {
         ends(rt, &[word, "short", "script"], "", 3, told, bytes.len())?;
-        if fs::read(rt, "short")?.as_slice() != bytes {
+        if !has_bytes(rt, "short", bytes)? {
             return Err(Finding::Length(bytes.len()));
         }
     }
     Ok(())
+}
+
+/// Whether these are the bytes of a file.
+pub(crate) fn has_bytes<R: Files<File = File> + AllocGlobal>(
+    rt: &R,
+    path: &str,
+    bytes: &[u8],
+) -> io::Result<bool> {
+    let found = fs::read(rt, path)?;
+    Ok(found.as_slice() == bytes)
 }

@@ -1,6 +1,4 @@
 //! What the judge finds.
-use medium::SimError;
-use recovery::FormatFault;
 use runner::ScriptFault;
 use std::alloc::AllocError;
 use std::{fmt, io};
@@ -32,12 +30,8 @@ pub(crate) enum Finding {
     Size(usize),
     /// No disk.
     NoDisk,
-    /// What a host sends was not laid out.
+    /// No image was made.
     Host(judging::Finding),
-    /// An image was not made.
-    Medium(SimError),
-    /// An image was not formatted.
-    NoFormat(FormatFault),
     /// A file failed.
     File(io::Error),
     /// Memory ran out.
@@ -95,12 +89,10 @@ impl fmt::Display for Finding {
                 "a disk answers otherwise to a packet of {length} bytes, in step {step}"
             ),
             Finding::Refused(fault) => write!(f, "a good script is refused: {fault}"),
-            Finding::NoDisk => write!(f, "no disk started"),
-            Finding::Host(finding) => write!(f, "{finding}"),
-            Finding::Medium(error) => write!(f, "no image: {error}"),
-            Finding::NoFormat(fault) => write!(f, "no format: {fault}"),
-            Finding::File(error) => write!(f, "{error}"),
-            _ => write!(f, "out of memory"),
+            Finding::NoDisk => f.write_str("no disk started"),
+            Finding::Host(finding) => finding.fmt(f),
+            Finding::File(error) => error.fmt(f),
+            _ => f.write_str("out of memory"),
         }
     }
 }
@@ -108,18 +100,6 @@ impl fmt::Display for Finding {
 impl From<judging::Finding> for Finding {
     fn from(finding: judging::Finding) -> Finding {
         Finding::Host(finding)
-    }
-}
-
-impl From<SimError> for Finding {
-    fn from(error: SimError) -> Finding {
-        Finding::Medium(error)
-    }
-}
-
-impl From<FormatFault> for Finding {
-    fn from(fault: FormatFault) -> Finding {
-        Finding::NoFormat(fault)
     }
 }
 

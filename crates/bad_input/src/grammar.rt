@@ -19,79 +19,82 @@ pub(crate) fn answers_to(
         return Ok(Some(0));
     }
     let words: Vec<&[u8]> = line.split(|byte| *byte == b' ').collect(alloc)?;
-    Ok(match words.as_slice() {
+    Ok(answers_to_words(kind, &words))
+}
+
+// A line of these words.
+fn answers_to_words(kind: Kind, words: &[&[u8]]) -> Option<u64> {
+    match words {
         [word] => answers_to_one(word),
         [word, only] => answers_to_two(kind, word, only),
-        [word, byte, count] if *word == b"fill".as_slice() => fill(kind, byte, count),
-        [word, numbers @ ..] if kind.switches && *word == b"cut".as_slice() => cut(numbers),
+        [word, rest @ ..] => answers_to_more(kind, word, rest),
+        [] => None,
+    }
+}
+
+// A line of three words or more.
+fn answers_to_more(kind: Kind, word: &[u8], rest: &[&[u8]]) -> Option<u64> {
+    if word == b"cut".as_slice() {
+        return answers_where(0, kind.switches && are_cut(rest));
+    }
+    match rest {
+        [byte, count] if word == b"fill".as_slice() => fill(kind, byte, count),
         _ => None,
-    })
+    }
+}
+
+// So many answers, where the line is good.
+fn answers_where(count: u64, good: bool) -> Option<u64> {
+    if good { Some(count) } else { None }
 }
 
 // A line of one word.
 fn answers_to_one(word: &[u8]) -> Option<u64> {
-    let known = word == b"in".as_slice() || word == b"out".as_slice();
-    if known { Some(1) } else { None }
+    answers_where(1, word == b"in".as_slice() || word == b"out".as_slice())
 }
 
 // A line of two words.
 fn answers_to_two(kind: Kind, word: &[u8], only: &[u8]) -> Option<u64> {
     if word == b"out".as_slice() {
         let bytes = bytes_of_hex(only)?;
-        return if bytes > 0 && bytes <= kind.packet {
-            Some(1)
-        } else {
-            None
-        };
+        return answers_where(1, bytes > 0 && bytes <= kind.packet);
     }
     if word == b"setup".as_slice() {
-        return if bytes_of_hex(only)? == 8 {
-            Some(1)
-        } else {
-            None
-        };
+        return answers_where(1, bytes_of_hex(only) == Some(8));
     }
     if word == b"tick".as_slice() {
-        return number(only, 1, 1_000_000).map(|_| 0);
+        return answers_where(0, is_number(only, 1, 1_000_000));
     }
-    if !kind.switches || !moves_power(word, only) {
-        return None;
-    }
-    Some(0)
+    answers_where(0, kind.switches && moves_power(word, only))
 }
 
 // A line of two words that arms a fuse or a failure, or cuts.
 fn moves_power(word: &[u8], only: &[u8]) -> bool {
     if word == b"fuse".as_slice() {
-        return number(only, 0, 1_000_000_000).is_some();
+        return is_number(only, 0, 1_000_000_000);
     }
     if word == b"fail".as_slice() {
-        return number(only, 1, 1_000_000_000).is_some();
+        return is_number(only, 1, 1_000_000_000);
     }
-    if word != b"cut".as_slice() {
-        return false;
-    }
-    only == b"none".as_slice() || only == b"all".as_slice() || number(only, 0, 16_383).is_some()
+    word == b"cut".as_slice() && is_kept(only)
+}
+
+// What `cut` keeps: nothing, all, or a write of this number.
+fn is_kept(only: &[u8]) -> bool {
+    only == b"none".as_slice() || only == b"all".as_slice() || is_number(only, 0, 16_383)
 }
 
 // `fill` writes one answer a packet.
 fn fill(kind: Kind, byte: &[u8], count: &[u8]) -> Option<u64> {
-    let count = number(count, 1, 131_072)?;
-    if bytes_of_hex(byte)? == 1 {
-        Some(count.div_ceil((kind.packet as u64).max(1)))
-    } else {
-        None
-    }
+    let count = number(count)?;
+    let packets = count.div_ceil((kind.packet as u64).max(1));
+    let good = count > 0 && count <= 131_072 && bytes_of_hex(byte) == Some(1);
+    answers_where(packets, good)
 }
 
-// `cut` and several numbers of writes.
-fn cut(numbers: &[&[u8]]) -> Option<u64> {
-    let all = numbers.iter().all(|word| number(word, 0, 16_383).is_some());
-    if all && (1..=64).contains(&numbers.len()) {
-        Some(0)
-    } else {
-        None
-    }
+// Several numbers of writes that `cut` keeps.
+fn are_cut(numbers: &[&[u8]]) -> bool {
+    numbers.len() <= 64 && numbers.iter().all(|word| is_number(word, 0, 16_383))
 }
 
 // How many bytes these hex digits spell.
@@ -104,8 +107,16 @@ fn bytes_of_hex(digits: &[u8]) -> Option<usize> {
     }
 }
 
-// A number in decimal digits without leading zeros.
-fn number(digits: &[u8], least: u64, most: u64) -> Option<u64> {
+// Whether these digits are a number within these limits.
+fn is_number(digits: &[u8], least: u64, most: u64) -> bool {
+    match number(digits) {
+        Some(number) => least <= number && number <= most,
+        None => false,
+    }
+}
+
+// A number in decimal digits, ten at most, without leading zeros.
+fn number(digits: &[u8]) -> Option<u64> {
     let leads = digits.len() > 1 && digits.first() == Some(&b'0');
     if digits.is_empty() || digits.len() > 10 || leads {
         return None;
@@ -118,11 +129,7 @@ fn number(digits: &[u8], least: u64, most: u64) -> Option<u64> {
         let value = u64::from(*digit).saturating_sub(48);
         number = number.saturating_mul(10).saturating_add(value);
     }
-    if (least..=most).contains(&number) {
-        Some(number)
-    } else {
-        None
-    }
+    Some(number)
 }
 
 /// What must come of a script: so many answers, or the number of the first line that is none.

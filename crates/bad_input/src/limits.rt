@@ -2,14 +2,16 @@
 use crate::counts::Counts;
 use crate::finding::Finding;
 use crate::scripts::{Play, play_on, try_script};
+use crate::text::Text;
 use bot_machine::PacketSize;
 use medium::SimMedium;
 use runner::{SCRIPT_LIMIT, ScriptFault};
-use std::alloc::{AllocError, Global};
+use std::alloc::Global;
 
-/// Lines of several lives: a text, bytes that stand behind it so many times, and whether it is a
-/// line.
-const LINES: [(&str, &str, usize, bool); 46] = [
+/// A text, bytes that stand behind it so many times, and whether it is a line of several lives.
+type Line = (&'static str, &'static str, usize, bool);
+
+const LINES: [Line; 46] = [
     ("out ", "a5", 511, true),
     ("out ", "a5", 512, true),
     ("out ", "a5", 513, false),
@@ -58,85 +60,145 @@ const LINES: [(&str, &str, usize, bool); 46] = [
     ("in\r", "", 0, false),
 ];
 
-/// Tries each line at its limit, with a line feed behind it and without.
-pub(crate) fn try_lines(
+// As many bytes as a script may have, one less and one more: comments, and empty lines.
+const LENGTHS: [(usize, u8, bool); 6] = [
+    (0, b'#', true),
+    (SCRIPT_LIMIT - 1, b'#', true),
+    (SCRIPT_LIMIT, b'#', true),
+    (SCRIPT_LIMIT, b'\n', true),
+    (SCRIPT_LIMIT + 1, b'?', false),
+    (SCRIPT_LIMIT + 1, b'\n', false),
+];
+
+/// Tries lines, packets and scripts at their limits.
+pub(crate) fn try_limits(
     alloc: Global,
     medium: &SimMedium,
     counts: &mut Counts,
 ) -> Result<(), Finding> {
-    for (place, (text, run, times, good)) in LINES.iter().enumerate() {
-        let mut script = Vec::from_slice(alloc, text.as_bytes())?;
-        for _ in 0..*times {
-            script.extend_from_slice(run.as_bytes())?;
-        }
-        let bare = try_script(alloc, medium, Play::Sim, PacketSize::High512, &script)?;
-        script.push(b'\n').map_err(AllocError::from)?;
-        let ended = try_script(alloc, medium, Play::Sim, PacketSize::High512, &script)?;
-        counts.script(bare);
-        counts.script(ended);
-        if bare != *good || ended != *good {
+    for (place, line) in LINES.iter().enumerate() {
+        if !try_line(alloc, medium, line, counts)? {
             return Err(Finding::Limit(place));
         }
+    }
+    try_packets(alloc, medium, counts)?;
+    try_lengths(alloc, medium, counts)
+}
+
+// Tries a line in one life, where none may move the power, and in several lives, there with a line
+// feed behind it too. Says whether several lives have it as the table does.
+fn try_line(
+    alloc: Global,
+    medium: &SimMedium,
+    line: &Line,
+    counts: &mut Counts,
+) -> Result<bool, Finding> {
+    let (text, run, times, good) = *line;
+    let mut script = Text::of(alloc, &[text]);
+    script.push_times(run, times);
+    try_in_one_life(alloc, medium, &script, counts)?;
+    let bare = try_in_lives(alloc, medium, &script, counts)?;
+    script.push("\n");
+    let ended = try_in_lives(alloc, medium, &script, counts)?;
+    Ok(bare == good && ended == good)
+}
+
+// Tries a script of one life, with packets of each size.
+fn try_in_one_life(
+    alloc: Global,
+    medium: &SimMedium,
+    script: &Text,
+    counts: &mut Counts,
+) -> Result<(), Finding> {
+    for size in [PacketSize::High512, PacketSize::Full64] {
+        counts.script(try_text(alloc, medium, Play::Run, size, script)?);
     }
     Ok(())
 }
 
-/// Tries the same lines in one life, where none may move the power, and with packets of 64 bytes.
-pub(crate) fn try_others(
+// Tries a script of several lives.
+fn try_in_lives(
     alloc: Global,
     medium: &SimMedium,
+    script: &Text,
     counts: &mut Counts,
-) -> Result<(), Finding> {
-    for (text, run, times, _) in LINES {
-        let mut script = Vec::from_slice(alloc, text.as_bytes())?;
-        for _ in 0..times {
-            script.extend_from_slice(run.as_bytes())?;
-        }
-        counts.script(try_script(alloc, medium, Play::Run, PacketSize::High512, &script)?);
-        counts.script(try_script(alloc, medium, Play::Run, PacketSize::Full64, &script)?);
-    }
-    for (times, good) in [(63, true), (64, true), (65, false)] {
-        let mut script = Vec::from_slice(alloc, b"out ")?;
-        for _ in 0..times {
-            script.extend_from_slice(b"0f")?;
-        }
-        if try_script(alloc, medium, Play::Run, PacketSize::Full64, &script)? != good {
-            return Err(Finding::Limit(times));
+) -> Result<bool, Finding> {
+    let good = try_text(alloc, medium, Play::Sim, PacketSize::High512, script)?;
+    counts.script(good);
+    Ok(good)
+}
+
+// Judges what comes of a text. Says whether it is a script.
+fn try_text(
+    alloc: Global,
+    medium: &SimMedium,
+    play: Play,
+    size: PacketSize,
+    text: &Text,
+) -> Result<bool, Finding> {
+    let script = text.bytes()?;
+    try_script(alloc, medium, play, size, script)
+}
+
+// Tries packets about 64 bytes, where that is the greatest.
+fn try_packets(alloc: Global, medium: &SimMedium, counts: &mut Counts) -> Result<(), Finding> {
+    for bytes in 63..=65 {
+        let good = try_packet(alloc, medium, bytes)?;
+        if good != (bytes <= 64) {
+            return Err(Finding::Limit(bytes));
         }
         counts.script(good);
     }
     Ok(())
 }
 
-/// Tries scripts of as many bytes as one may have, one less and one more: comments, and empty
-/// lines.
-pub(crate) fn try_lengths(
-    alloc: Global,
-    medium: &SimMedium,
-    counts: &mut Counts,
-) -> Result<(), Finding> {
-    for (length, byte, good) in [
-        (0, b'#', true),
-        (SCRIPT_LIMIT - 1, b'#', true),
-        (SCRIPT_LIMIT, b'#', true),
-        (SCRIPT_LIMIT, b'\n', true),
-        (SCRIPT_LIMIT + 1, b'?', false),
-        (SCRIPT_LIMIT + 1, b'\n', false),
-    ] {
+// Tries a packet of so many bytes.
+fn try_packet(alloc: Global, medium: &SimMedium, bytes: usize) -> Result<bool, Finding> {
+    let mut script = Text::of(alloc, &["out "]);
+    script.push_times("0f", bytes);
+    try_text(alloc, medium, Play::Run, PacketSize::Full64, &script)
+}
+
+// Tries scripts of each length.
+fn try_lengths(alloc: Global, medium: &SimMedium, counts: &mut Counts) -> Result<(), Finding> {
+    for (length, byte, good) in LENGTHS {
         let script = vec![in alloc; byte; length]?;
-        for play in [Play::Run, Play::Sim] {
-            let mut out = Vec::new(alloc);
-            let fault = play_on(alloc, medium, play, PacketSize::High512, &script, &mut out)?;
-            let wanted = if good {
-                None
-            } else {
-                Some(ScriptFault::TooLong)
-            };
-            if fault != wanted || !out.is_empty() {
-                return Err(Finding::Length(length));
-            }
-            counts.script(good);
-        }
+        try_length(alloc, medium, &script, good, counts)?;
     }
     Ok(())
+}
+
+// Tries a script that writes nothing, in one life and in several.
+fn try_length(
+    alloc: Global,
+    medium: &SimMedium,
+    script: &[u8],
+    good: bool,
+    counts: &mut Counts,
+) -> Result<(), Finding> {
+    let fault = if good {
+        None
+    } else {
+        Some(ScriptFault::TooLong)
+    };
+    for play in [Play::Run, Play::Sim] {
+        if !writes_nothing(alloc, medium, play, script, fault)? {
+            return Err(Finding::Length(script.len()));
+        }
+        counts.script(good);
+    }
+    Ok(())
+}
+
+// Whether a script has this fault, and writes nothing.
+fn writes_nothing(
+    alloc: Global,
+    medium: &SimMedium,
+    play: Play,
+    script: &[u8],
+    fault: Option<ScriptFault>,
+) -> Result<bool, Finding> {
+    let mut out = Vec::new(alloc);
+    let found = play_on(alloc, medium, play, PacketSize::High512, script, &mut out)?;
+    Ok(found == fault && out.is_empty())
 }

@@ -28,19 +28,25 @@ mod phases;
 mod scripts;
 mod sizes;
 mod streams;
+mod text;
 mod wrong_wrappers;
 
 use counts::Counts;
 use finding::Finding;
-use judging::{copied, cut};
-use medium::{Kept, SimMedium};
-use recovery::format;
-use scripts::{LIFE, LIVES, Play};
+use judging::{Format, Shape};
+use medium::SimMedium;
 use std::alloc::Global;
 use std::fs::{File, Files};
 use std::io;
 use std::io::Write;
 use std::process::ExitCode;
+
+// A fresh image of 16 blocks and one log slot.
+const SHAPE: Shape = Shape {
+    format: Format::One,
+    blocks: 16,
+    slots: 1,
+};
 
 fn main(rt: HostRuntime) -> ExitCode {
     match tell(&rt, &mut rt.stdout()) {
@@ -99,29 +105,15 @@ fn try_all<R: Files<File = File> + AllocGlobal>(
 
 // What is tried on a medium in memory.
 fn try_media(alloc: Global, counts: &mut Counts) -> Result<(), Finding> {
-    let medium = formatted(alloc)?;
-    wrong_wrappers::try_wrappers(alloc, copied(alloc, &medium)?, counts)?;
+    let medium = SHAPE.fresh(alloc)?;
     try_copies(alloc, &medium, counts)
 }
 
 // What is tried on copies of a medium.
 fn try_copies(alloc: Global, medium: &SimMedium, counts: &mut Counts) -> Result<(), Finding> {
-    scripts::change_bytes(alloc, medium, Play::Sim, LIVES, counts)?;
-    scripts::change_bytes(alloc, medium, Play::Run, LIVES, counts)?;
-    scripts::change_bytes(alloc, medium, Play::Run, LIFE, counts)?;
-    limits::try_lines(alloc, medium, counts)?;
-    limits::try_others(alloc, medium, counts)?;
-    limits::try_lengths(alloc, medium, counts)?;
-    phases::try_sending(alloc, medium, counts)?;
-    phases::try_taking(alloc, medium, counts)?;
-    phases::try_endings(alloc, medium, counts)?;
+    wrong_wrappers::try_wrappers(alloc, medium, counts)?;
+    scripts::change_scripts(alloc, medium, counts)?;
+    limits::try_limits(alloc, medium, counts)?;
+    phases::try_phases(alloc, medium, counts)?;
     streams::try_streams(alloc, medium, counts)
-}
-
-// A fresh image of 16 blocks and one log slot.
-fn formatted(alloc: Global) -> Result<SimMedium, Finding> {
-    let image = vec![in alloc; 0u8; 68 * 512]?;
-    let mut medium = SimMedium::new(alloc, image, 128)?;
-    format(&mut medium, 16, 1)?;
-    Ok(cut(medium, &Kept::None))
 }

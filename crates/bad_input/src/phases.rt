@@ -2,9 +2,10 @@
 use crate::counts::Counts;
 use crate::finding::Finding;
 use crate::scripts::{Play, play_on};
+use crate::text::Text;
 use bot_machine::PacketSize;
 use medium::SimMedium;
-use std::alloc::{AllocError, Global};
+use std::alloc::Global;
 
 /// REQUEST SENSE, which ends the unit attention of a start, and what comes of it.
 pub(crate) const SENSE: &str =
@@ -22,70 +23,74 @@ const WRITE: &str = "out 55534243030000000002000000000a2a08000000030000010000000
 // What comes of a WRITE whose phase of data was ended, and of the next command's wrapper.
 const BROKEN_OFF: &str = "ack\nack\ndata 55534253030000000002000002\nack\n";
 
-/// Packets of every size to a disk that is to send are not taken, and the exchange goes on.
-pub(crate) fn try_sending(
+/// Tries packets of every size in each phase of data, and scripts that end in one.
+pub(crate) fn try_phases(
     alloc: Global,
     medium: &SimMedium,
     counts: &mut Counts,
 ) -> Result<(), Finding> {
-    let mut script = text_of(alloc, &[SENSE, READ])?;
-    let mut wanted = text_of(alloc, &[ATTENTION, "ack\n"])?;
-    for size in 0..=512 {
-        push_out(&mut script, size)?;
-        push(&mut wanted, &["nak\n"])?;
-    }
-    push(&mut script, &["in\nin\n"])?;
-    push_block(&mut wanted)?;
     counts.script(true);
+    try_sending(alloc, medium)?;
+    for size in 0..512 {
+        counts.script(true);
+        try_taking(alloc, medium, size)?;
+    }
+    try_endings(alloc, medium, counts)
+}
+
+// Packets of every size to a disk that is to send are not taken, and the exchange goes on.
+fn try_sending(alloc: Global, medium: &SimMedium) -> Result<(), Finding> {
+    let mut script = Text::of(alloc, &[SENSE, READ]);
+    let mut wanted = Text::of(alloc, &[ATTENTION, "ack\n"]);
+    for size in 0..=512 {
+        push_out(&mut script, size);
+        wanted.push("nak\n");
+    }
+    script.push("in\nin\n");
+    push_block(&mut wanted);
     plays_to(alloc, medium, &script, &wanted)
 }
 
-/// A first packet of another size than the one that is due ends the phase with status 02h, and the
-/// block stays.
-pub(crate) fn try_taking(
-    alloc: Global,
-    medium: &SimMedium,
-    counts: &mut Counts,
-) -> Result<(), Finding> {
-    for size in 0..512 {
-        let mut script = text_of(alloc, &[SENSE, WRITE])?;
-        push_out(&mut script, size)?;
-        push(&mut script, &["in\n", READ, "in\nin\n"])?;
-        let mut wanted = text_of(alloc, &[ATTENTION, BROKEN_OFF])?;
-        push_block(&mut wanted)?;
+// A first packet of another size than the one that is due ends the phase with status 02h, and the
+// block stays.
+fn try_taking(alloc: Global, medium: &SimMedium, size: usize) -> Result<(), Finding> {
+    let mut script = Text::of(alloc, &[SENSE, WRITE]);
+    push_out(&mut script, size);
+    script.push_all(&["in\n", READ, "in\nin\n"]);
+    let mut wanted = Text::of(alloc, &[ATTENTION, BROKEN_OFF]);
+    push_block(&mut wanted);
+    plays_to(alloc, medium, &script, &wanted)
+}
+
+// A script may end in a phase of data.
+fn try_endings(alloc: Global, medium: &SimMedium, counts: &mut Counts) -> Result<(), Finding> {
+    for cut in ["", "cut none\n", "cut all\n"] {
         counts.script(true);
-        plays_to(alloc, medium, &script, &wanted)?;
+        try_ending(alloc, medium, cut)?;
     }
     Ok(())
 }
 
-/// A script may end in a phase of data; the block is as it was.
-pub(crate) fn try_endings(
-    alloc: Global,
-    medium: &SimMedium,
-    counts: &mut Counts,
-) -> Result<(), Finding> {
-    for cut in ["", "cut none\n", "cut all\n"] {
-        let mut script = text_of(alloc, &[SENSE, WRITE])?;
-        let mut wanted = text_of(alloc, &[ATTENTION, "ack\n"])?;
-        if !cut.is_empty() {
-            push(&mut script, &[cut, SENSE, READ, "in\n"])?;
-            push(&mut wanted, &[ATTENTION, "ack\n"])?;
-            push_zeros(&mut wanted)?;
-        }
-        counts.script(true);
-        plays_to(alloc, medium, &script, &wanted)?;
+// Behind a cut in a phase of data the block is as it was.
+fn try_ending(alloc: Global, medium: &SimMedium, cut: &str) -> Result<(), Finding> {
+    let mut script = Text::of(alloc, &[SENSE, WRITE]);
+    let mut wanted = Text::of(alloc, &[ATTENTION, "ack\n"]);
+    if !cut.is_empty() {
+        script.push_all(&[cut, SENSE, READ, "in\n"]);
+        wanted.push_all(&[ATTENTION, "ack\n"]);
+        push_zeros(&mut wanted);
     }
-    Ok(())
+    plays_to(alloc, medium, &script, &wanted)
 }
 
 // Whether a script writes this text.
 fn plays_to(
     alloc: Global,
     medium: &SimMedium,
-    script: &[u8],
-    wanted: &[u8],
+    script: &Text,
+    wanted: &Text,
 ) -> Result<(), Finding> {
+    let (script, wanted) = (script.bytes()?, wanted.bytes()?);
     let mut out = Vec::new(alloc);
     match play_on(
         alloc,
@@ -101,45 +106,22 @@ fn plays_to(
     }
 }
 
-/// A text of these parts.
-pub(crate) fn text_of(alloc: Global, parts: &[&str]) -> Result<Vec<u8>, AllocError> {
-    let mut text = Vec::new(alloc);
-    push(&mut text, parts)?;
-    Ok(text)
-}
-
-// These parts go to the end of a text.
-fn push(text: &mut Vec<u8>, parts: &[&str]) -> Result<(), AllocError> {
-    for part in parts {
-        text.extend_from_slice(part.as_bytes())?;
-    }
-    Ok(())
-}
-
 /// The line of a block of zeros, and the status of the READ.
-pub(crate) fn push_block(text: &mut Vec<u8>) -> Result<(), AllocError> {
-    push_zeros(text)?;
-    push(text, &["data 55534253020000000000000000\n"])
+pub(crate) fn push_block(text: &mut Text) {
+    push_zeros(text);
+    text.push("data 55534253020000000000000000\n");
 }
 
 // A packet of so many bytes.
-fn push_out(script: &mut Vec<u8>, size: usize) -> Result<(), AllocError> {
-    script.extend_from_slice(if size == 0 {
-        b"out".as_slice()
-    } else {
-        b"out "
-    })?;
-    for _ in 0..size {
-        script.extend_from_slice(b"5a")?;
-    }
-    script.push(b'\n').map_err(AllocError::from)
+fn push_out(script: &mut Text, size: usize) {
+    script.push(if size == 0 { "out" } else { "out " });
+    script.push_times("5a", size);
+    script.push("\n");
 }
 
 // The line of a block of zeros.
-fn push_zeros(text: &mut Vec<u8>) -> Result<(), AllocError> {
-    text.extend_from_slice(b"data ")?;
-    for _ in 0..512 {
-        text.extend_from_slice(b"00")?;
-    }
-    text.push(b'\n').map_err(AllocError::from)
+fn push_zeros(text: &mut Text) {
+    text.push("data ");
+    text.push_times("00", 512);
+    text.push("\n");
 }

@@ -1,5 +1,5 @@
 //! Images at their greatest sizes, on files.
-use crate::commands::ends;
+use crate::commands::{ends, has_bytes};
 use crate::counts::{Counts, count};
 use crate::finding::Finding;
 use std::fs;
@@ -44,7 +44,7 @@ pub(crate) fn try_sizes<R: Files<File = File> + AllocGlobal>(
     fs::write(rt, "limit", b"kept")?;
     for (place, words) in REFUSED.iter().enumerate() {
         ends(rt, words, "", 3, "image refused: size\n", place)?;
-        if fs::read(rt, "limit")?.as_slice() != b"kept".as_slice() {
+        if !has_bytes(rt, "limit", b"kept")? {
             return Err(Finding::Size(place));
         }
         count(&mut counts.no_sizes);

@@ -3,11 +3,13 @@ ghost use Rattle.std.specs.Prelude.{◌≤◌, length};
 
 use crate::counts::{Counts, count};
 use crate::finding::Finding;
-use crate::phases::{ATTENTION, READ, SENSE, push_block, text_of};
+use crate::phases::{ATTENTION, READ, SENSE, push_block};
 use crate::scripts::{Play, play_streams};
+use crate::text::Text;
+use bot_machine::PacketSize;
 use medium::SimMedium;
 use runner::ScriptFault;
-use std::alloc::{AllocError, Global};
+use std::alloc::Global;
 use std::io;
 use std::io::{ErrorKind, Read, Write};
 
@@ -16,6 +18,16 @@ use std::io::{ErrorKind, Read, Write};
 struct Row<'a> {
     play: Play,
     script: &'a [u8],
+    text: &'a [u8],
+}
+
+/// Behind how many lines a reader fails and behind how many bytes a writer, and what must come of
+/// it.
+#[derive(Clone, Copy)]
+struct Failure<'a> {
+    lines: usize,
+    bytes: usize,
+    fault: Option<ScriptFault>,
     text: &'a [u8],
 }
 
@@ -65,38 +77,50 @@ pub(crate) fn try_streams(
             script: script.as_bytes(),
             text: text.as_bytes(),
         };
-        try_row(alloc, medium, row, counts)?;
+        try_row(alloc, medium, &row, counts)?;
     }
-    let (script, text) = read_of_a_block(alloc)?;
-    for play in [Play::Run, Play::Sim] {
-        let row = Row {
-            play,
-            script: &script,
-            text: &text,
-        };
-        try_row(alloc, medium, row, counts)?;
-    }
-    Ok(())
+    try_read(alloc, medium, counts)
 }
 
 // REQUEST SENSE and a READ of a block of zeros, and the text that comes of them.
-fn read_of_a_block(alloc: Global) -> Result<(Vec<u8>, Vec<u8>), AllocError> {
-    let script = text_of(alloc, &[SENSE, READ, "in\nin\n"])?;
-    let mut text = text_of(alloc, &[ATTENTION, "ack\n"])?;
-    push_block(&mut text)?;
-    Ok((script, text))
+fn try_read(alloc: Global, medium: &SimMedium, counts: &mut Counts) -> Result<(), Finding> {
+    let script = Text::of(alloc, &[SENSE, READ, "in\nin\n"]);
+    let mut text = Text::of(alloc, &[ATTENTION, "ack\n"]);
+    push_block(&mut text);
+    try_texts(alloc, medium, &script, &text, counts)
+}
+
+// A script that is one life as well as several.
+fn try_texts(
+    alloc: Global,
+    medium: &SimMedium,
+    script: &Text,
+    text: &Text,
+    counts: &mut Counts,
+) -> Result<(), Finding> {
+    let (script, text) = (script.bytes()?, text.bytes()?);
+    for play in [Play::Run, Play::Sim] {
+        let row = Row { play, script, text };
+        try_row(alloc, medium, &row, counts)?;
+    }
+    Ok(())
 }
 
 // A script is played whole where nothing fails; then every failure.
 fn try_row(
     alloc: Global,
     medium: &SimMedium,
-    row: Row,
+    row: &Row,
     counts: &mut Counts,
 ) -> Result<(), Finding> {
     let all = row.text.len();
-    let (fault, written) = play_row(alloc, medium, row, usize::MAX, all)?;
-    if fault.is_some() || written.as_slice() != row.text {
+    let whole = Failure {
+        lines: usize::MAX,
+        bytes: all,
+        fault: None,
+        text: row.text,
+    };
+    if !comes_to(alloc, medium, row, &whole)? {
         return Err(Finding::Writer(all));
     }
     try_writers(alloc, medium, row, counts)?;
@@ -107,12 +131,17 @@ fn try_row(
 fn try_writers(
     alloc: Global,
     medium: &SimMedium,
-    row: Row,
+    row: &Row,
     counts: &mut Counts,
 ) -> Result<(), Finding> {
     for left in 0..row.text.len() {
-        let (fault, written) = play_row(alloc, medium, row, usize::MAX, left)?;
-        if fault != Some(ScriptFault::Writer) || Some(written.as_slice()) != row.text.get(..left) {
+        let failure = Failure {
+            lines: usize::MAX,
+            bytes: left,
+            fault: Some(ScriptFault::Writer),
+            text: row.text.get(..left).unwrap_or(row.text),
+        };
+        if !comes_to(alloc, medium, row, &failure)? {
             return Err(Finding::Writer(left));
         }
         count(&mut counts.writers);
@@ -124,13 +153,17 @@ fn try_writers(
 fn try_readers(
     alloc: Global,
     medium: &SimMedium,
-    row: Row,
+    row: &Row,
     counts: &mut Counts,
 ) -> Result<(), Finding> {
-    let lines = row.script.iter().filter(|byte| **byte == b'\n').count();
-    for left in 0..=lines {
-        let (fault, written) = play_row(alloc, medium, row, left, row.text.len())?;
-        if fault != Some(ScriptFault::Reader) || !written.is_empty() {
+    for left in 0..=lines_in(row.script) {
+        let failure = Failure {
+            lines: left,
+            bytes: row.text.len(),
+            fault: Some(ScriptFault::Reader),
+            text: &[],
+        };
+        if !comes_to(alloc, medium, row, &failure)? {
             return Err(Finding::Reader(left));
         }
         count(&mut counts.readers);
@@ -138,25 +171,29 @@ fn try_readers(
     Ok(())
 }
 
-// Plays a script whose reader fails behind so many lines, to a writer that fails behind so many
-// bytes. Gives the fault and what was written.
-fn play_row(
+// How many lines there are.
+fn lines_in(script: &[u8]) -> usize {
+    script.iter().filter(|byte| **byte == b'\n').count()
+}
+
+// Whether a play ends as it must where its reader and its writer fail so.
+fn comes_to(
     alloc: Global,
     medium: &SimMedium,
-    row: Row,
-    lines: usize,
-    bytes: usize,
-) -> Result<(Option<ScriptFault>, Vec<u8>), Finding> {
+    row: &Row,
+    failure: &Failure,
+) -> Result<bool, Finding> {
     let mut script = FailingReader {
-        left: lines,
+        left: failure.lines,
         lines: row.script,
     };
     let mut out = FailingWriter {
-        left: bytes,
+        left: failure.bytes,
         bytes: Vec::new(alloc),
     };
-    let fault = play_streams(alloc, medium, row.play, &mut script, &mut out)?;
-    Ok((fault, out.bytes))
+    let size = PacketSize::High512;
+    let fault = play_streams(alloc, medium, row.play, size, &mut script, &mut out)?;
+    Ok(fault == failure.fault && out.bytes.as_slice() == failure.text)
 }
 
 impl Write for FailingWriter {

@@ -3,7 +3,7 @@ use crate::counts::Counts;
 use crate::finding::Finding;
 use crate::packets::{READY, try_packet};
 use bot_machine::Disk;
-use judging::disk_identity;
+use judging::{copied, disk_identity};
 use medium::SimMedium;
 use std::alloc::Global;
 
@@ -14,16 +14,18 @@ const READ: [u8; 31] = [
 ];
 
 /// Tries every length of packet, and wrappers with each single bit flipped and each value in the
-/// byte of the command block's length.
+/// byte of the command block's length, on a copy of a medium.
 pub(crate) fn try_wrappers(
     alloc: Global,
-    medium: SimMedium,
+    medium: &SimMedium,
     counts: &mut Counts,
 ) -> Result<(), Finding> {
-    let Ok(mut disk) = Disk::start(alloc, medium, disk_identity()?) else {
-        return Err(Finding::NoDisk);
-    };
-    try_each(&mut disk, counts)
+    let identity = disk_identity()?;
+    let medium = copied(alloc, medium)?;
+    match Disk::start(alloc, medium, identity) {
+        Ok(mut disk) => try_each(&mut disk, counts),
+        Err(_) => Err(Finding::NoDisk),
+    }
 }
 
 // Each wrapper.
