@@ -86,24 +86,33 @@ pub(crate) fn try_commands<R: Files<File = File> + AllocGlobal>(
     counts: &mut Counts,
 ) -> Result<(), Finding> {
     let words = ["format", "image", "--blocks", "16", "--slots", "1"];
-    ends(rt, &words, "formatted\n", 0, "", 0)?;
-    for (place, row) in ROWS.iter().enumerate() {
-        try_row(rt, row, place)?;
-        counts.script(row.status == 0);
+    if !ends(rt, &words, 0, "formatted\n", "") {
+        return Err(Finding::Differs("blocks of an image that is not made", 16));
     }
+    try_rows(rt, counts)?;
     let image = fs::read(rt, "image")?;
     try_short(rt, &image, counts)
 }
 
-// Plays a row.
-fn try_row<R: Files<File = File> + AllocGlobal>(
+// Plays each row.
+fn try_rows<R: Files<File = File> + AllocGlobal>(
     rt: &R,
-    row: &Row,
-    place: usize,
+    counts: &mut Counts,
 ) -> Result<(), Finding> {
+    for (place, row) in ROWS.iter().enumerate() {
+        if !plays(rt, row)? {
+            return Err(Finding::Differs("place of a command that ends otherwise", place));
+        }
+        counts.script(row.status == 0);
+    }
+    Ok(())
+}
+
+// Whether a row ends as it must.
+fn plays<R: Files<File = File> + AllocGlobal>(rt: &R, row: &Row) -> io::Result<bool> {
     fs::write(rt, "script", row.script.as_bytes())?;
     let words = [row.word, "image", "script"];
-    ends(rt, &words, row.out, row.status, row.err, place)
+    Ok(ends(rt, &words, row.status, row.out, row.err))
 }
 
 // Tries the first bytes of an image.
@@ -113,47 +122,70 @@ fn try_short<R: Files<File = File> + AllocGlobal>(
     counts: &mut Counts,
 ) -> Result<(), Finding> {
     for length in [0, 1, 511, 512, 1024, 67 * 512, 68 * 512 - 1] {
-        refuses(rt, image.get(..length).unwrap_or(&[]))?;
+        if !refuses(rt, image.get(..length).unwrap_or(&[]))? {
+            return Err(Finding::Differs("bytes of an image that is not refused", length));
+        }
         counts.script(false);
     }
     Ok(())
 }
 
-/// A command writes this text and ends with this status.
-pub(crate) fn ends<R: Files<File = File> + AllocGlobal>(
-    rt: &R,
-    words: &[&str],
-    text: &str,
-    status: u8,
-    told: &str,
-    place: usize,
-) -> Result<(), Finding> {
-    let mut out = Vec::new(rt.alloc());
-    let mut err = Vec::new(rt.alloc());
-    let found = command(rt, words, &mut out, &mut err).status;
-    if found == status && out.as_slice() == text.as_bytes() && err.as_slice() == told.as_bytes() {
-        Ok(())
-    } else {
-        Err(Finding::Command(place))
-    }
+// Whether an image file that is too short is refused.
+fn refuses<R: Files<File = File> + AllocGlobal>(rt: &R, bytes: &[u8]) -> io::Result<bool> {
+    fs::write(rt, "short", bytes)?;
+    let by_run = stays(rt, "run", bytes)?;
+    let by_sim = stays(rt, "sim", bytes)?;
+    Ok(by_run && by_sim)
 }
 
-// An image file that is too short is refused, and its bytes stay.
-fn refuses<R: Files<File = File> + AllocGlobal>(rt: &R, bytes: &[u8]) -> Result<(), Finding> {
-    fs::write(rt, "short", bytes)?;
-    let sectors = bytes.len() % 512 == 0 && !bytes.is_empty();
-    let told = if sectors {
+// Whether a command refuses the image file, and its bytes stay.
+fn stays<R: Files<File = File> + AllocGlobal>(
+    rt: &R,
+    word: &str,
+    bytes: &[u8],
+) -> io::Result<bool> {
+    let told = refusal_of(bytes.len());
+    let refused = ends(rt, &[word, "short", "script"], 3, "", told);
+    let same = has_bytes(rt, "short", bytes)?;
+    Ok(refused && same)
+}
+
+// What is told of an image of so many bytes.
+fn refusal_of(length: usize) -> &'static str {
+    if length > 0 && length % 512 == 0 {
         "image refused: 7\n"
     } else {
         "image refused: length\n"
-    };
-    for word in ["run", "sim"] {
-        ends(rt, &[word, "short", "script"], "", 3, told, bytes.len())?;
-        if !has_bytes(rt, "short", bytes)? {
-            return Err(Finding::Length(bytes.len()));
-        }
     }
-    Ok(())
+}
+
+/// Whether a command ends with this status, and writes these texts to its two streams.
+pub(crate) fn ends<R: Files<File = File> + AllocGlobal>(
+    rt: &R,
+    words: &[&str],
+    status: u8,
+    out: &str,
+    err: &str,
+) -> bool {
+    let mut written = Vec::new(rt.alloc());
+    let mut told = Vec::new(rt.alloc());
+    let found = status_of(rt, words, &mut written, &mut told);
+    found == status && is_text(&written, out) && is_text(&told, err)
+}
+
+// The status that a command ends with.
+fn status_of<R: Files<File = File> + AllocGlobal>(
+    rt: &R,
+    words: &[&str],
+    out: &mut Vec<u8>,
+    err: &mut Vec<u8>,
+) -> u8 {
+    command(rt, words, out, err).status
+}
+
+// Whether these are the bytes of a text.
+fn is_text(bytes: &[u8], text: &str) -> bool {
+    bytes == text.as_bytes()
 }
 
 /// Whether these are the bytes of a file.

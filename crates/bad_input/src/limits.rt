@@ -78,7 +78,7 @@ pub(crate) fn try_limits(
 ) -> Result<(), Finding> {
     for (place, line) in LINES.iter().enumerate() {
         if !try_line(alloc, medium, line, counts)? {
-            return Err(Finding::Limit(place));
+            return Err(Finding::Differs("place of a line among the limits", place));
         }
     }
     try_packets(alloc, medium, counts)?;
@@ -96,10 +96,21 @@ fn try_line(
     let (text, run, times, good) = *line;
     let mut script = Text::of(alloc, &[text]);
     script.push_times(run, times);
-    try_in_one_life(alloc, medium, &script, counts)?;
-    let bare = try_in_lives(alloc, medium, &script, counts)?;
+    try_made(alloc, medium, &mut script, good, counts)
+}
+
+// Tries the text of a line.
+fn try_made(
+    alloc: Global,
+    medium: &SimMedium,
+    script: &mut Text,
+    good: bool,
+    counts: &mut Counts,
+) -> Result<bool, Finding> {
+    try_in_one_life(alloc, medium, script, counts)?;
+    let bare = try_in_lives(alloc, medium, script, counts)?;
     script.push("\n");
-    let ended = try_in_lives(alloc, medium, &script, counts)?;
+    let ended = try_in_lives(alloc, medium, script, counts)?;
     Ok(bare == good && ended == good)
 }
 
@@ -145,7 +156,7 @@ fn try_packets(alloc: Global, medium: &SimMedium, counts: &mut Counts) -> Result
     for bytes in 63..=65 {
         let good = try_packet(alloc, medium, bytes)?;
         if good != (bytes <= 64) {
-            return Err(Finding::Limit(bytes));
+            return Err(Finding::Differs("bytes of a packet at its limit", bytes));
         }
         counts.script(good);
     }
@@ -183,7 +194,7 @@ fn try_length(
     };
     for play in [Play::Run, Play::Sim] {
         if !writes_nothing(alloc, medium, play, script, fault)? {
-            return Err(Finding::Length(script.len()));
+            return Err(Finding::Differs("bytes of a script at its limit", script.len()));
         }
         counts.script(good);
     }

@@ -25,7 +25,7 @@ const STATUS_OUT: [u8; 8] = [0x82, 0, 0, 0, 0x02, 0, 2, 0];
 pub(crate) fn try_packet(disk: &mut Disk<SimMedium>, packet: &[u8]) -> Result<bool, Finding> {
     let length = packet.len();
     if !is_read(packet) {
-        return Err(Finding::Reading(length));
+        return Err(Finding::Differs("bytes of a packet that is read otherwise", length));
     }
     let good = fault_of(packet).is_none();
     let step = if good {

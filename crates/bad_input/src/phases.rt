@@ -5,6 +5,7 @@ use crate::scripts::{Play, play_on};
 use crate::text::Text;
 use bot_machine::PacketSize;
 use medium::SimMedium;
+use runner::ScriptFault;
 use std::alloc::Global;
 
 /// REQUEST SENSE, which ends the unit attention of a start, and what comes of it.
@@ -90,19 +91,26 @@ fn plays_to(
     script: &Text,
     wanted: &Text,
 ) -> Result<(), Finding> {
-    let (script, wanted) = (script.bytes()?, wanted.bytes()?);
+    let script = script.bytes()?;
+    let wanted = wanted.bytes()?;
     let mut out = Vec::new(alloc);
-    match play_on(
+    let fault = play_on(
         alloc,
         medium,
         Play::Sim,
         PacketSize::High512,
         script,
         &mut out,
-    )? {
+    )?;
+    is_written(fault, &out, wanted)
+}
+
+// A script has no fault, and this text is written.
+fn is_written(fault: Option<ScriptFault>, out: &[u8], wanted: &[u8]) -> Result<(), Finding> {
+    match fault {
         Some(fault) => Err(Finding::Refused(fault)),
-        None if out.as_slice() == wanted => Ok(()),
-        None => Err(Finding::Answers(wanted.len() as u64)),
+        None if out == wanted => Ok(()),
+        None => Err(Finding::Differs("bytes in place of others", wanted.len())),
     }
 }
 

@@ -139,7 +139,7 @@ pub(crate) fn try_script(
 fn answers_so(fault: Option<ScriptFault>, out: &[u8], answers: u64) -> Result<bool, Finding> {
     match fault {
         None if are_answers(out, answers) => Ok(true),
-        None => Err(Finding::Answers(answers)),
+        None => Err(Finding::Differs("answers in place of others", answers as usize)),
         Some(fault) => Err(Finding::Refused(fault)),
     }
 }
@@ -149,7 +149,7 @@ fn refuses_line(fault: Option<ScriptFault>, out: &[u8], line: u64) -> Result<boo
     if fault == Some(ScriptFault::Line(line)) && out.is_empty() {
         Ok(false)
     } else {
-        Err(Finding::Line(line))
+        Err(Finding::Differs("not refused for line", line as usize))
     }
 }
 

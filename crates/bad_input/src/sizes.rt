@@ -2,8 +2,8 @@
 use crate::commands::{ends, has_bytes};
 use crate::counts::{Counts, count};
 use crate::finding::Finding;
-use std::fs;
 use std::fs::{File, Files};
+use std::{fs, io};
 
 /// Words that ask for an image over its limits.
 const REFUSED: [&[&str]; 4] = [
@@ -43,27 +43,44 @@ pub(crate) fn try_sizes<R: Files<File = File> + AllocGlobal>(
 ) -> Result<(), Finding> {
     fs::write(rt, "limit", b"kept")?;
     for (place, words) in REFUSED.iter().enumerate() {
-        ends(rt, words, "", 3, "image refused: size\n", place)?;
-        if !has_bytes(rt, "limit", b"kept")? {
-            return Err(Finding::Size(place));
+        if !is_refused(rt, words)? {
+            return Err(Finding::Differs("place of an image that is not refused", place));
         }
         count(&mut counts.no_sizes);
     }
-    makes_images(rt, counts)
+    make_images(rt, counts)?;
+    fs::remove_file(rt, "limit")?;
+    Ok(())
+}
+
+// Whether an image is refused for its size, and the file stays.
+fn is_refused<R: Files<File = File> + AllocGlobal>(rt: &R, words: &[&str]) -> io::Result<bool> {
+    let refused = ends(rt, words, 3, "", "image refused: size\n");
+    let same = has_bytes(rt, "limit", b"kept")?;
+    Ok(refused && same)
 }
 
 // Images within the limits are made.
-fn makes_images<R: Files<File = File> + AllocGlobal>(
+fn make_images<R: Files<File = File> + AllocGlobal>(
     rt: &R,
     counts: &mut Counts,
 ) -> Result<(), Finding> {
     for (place, (words, sectors)) in MADE.iter().enumerate() {
-        ends(rt, words, "formatted\n", 0, "", place)?;
-        if Some(fs::metadata(rt, "limit")?.len()) != sectors.checked_mul(512) {
-            return Err(Finding::Size(place));
+        if !is_made(rt, words, *sectors)? {
+            return Err(Finding::Differs("place of an image that is not made", place));
         }
         count(&mut counts.made);
     }
-    fs::remove_file(rt, "limit")?;
     Ok(())
+}
+
+// Whether an image of so many sectors is made.
+fn is_made<R: Files<File = File> + AllocGlobal>(
+    rt: &R,
+    words: &[&str],
+    sectors: u64,
+) -> io::Result<bool> {
+    let made = ends(rt, words, 0, "formatted\n", "");
+    let length = fs::metadata(rt, "limit")?.len();
+    Ok(made && length == sectors.saturating_mul(512))
 }

@@ -48,20 +48,30 @@ struct FailingReader<'a> {
 // The most bytes that a writer takes at a call.
 const MOST: usize = 7;
 
+const WRITER: &str = "bytes of a writer that ends otherwise";
+
 // Tokens, packets that spell no wrapper, steps, a setup packet, and cuts.
-const LINES: [(Play, &str, &str); 4] = [
-    (Play::Run, "in\nin\nin\nin\n", "nak\nnak\nnak\nnak\n"),
-    (Play::Sim, "in\nin\nin\nin\n", "nak\nnak\nnak\nnak\n"),
-    (
-        Play::Run,
-        "# a note\n\nfill 00 1537\ntick 3\nsetup a1fe000000000100\nin\n",
-        "ack\nstall\nstall\nstall\ndata 00\nstall\n",
-    ),
-    (
-        Play::Sim,
-        "in\ncut all\nfill 00 1537\ncut none\nfuse 0\nin\nout 00\n",
-        "nak\nack\nstall\nstall\nstall\noff\noff\n",
-    ),
+const ROWS: [Row<'static>; 4] = [
+    Row {
+        play: Play::Run,
+        script: b"in\nin\nin\nin\n",
+        text: b"nak\nnak\nnak\nnak\n",
+    },
+    Row {
+        play: Play::Sim,
+        script: b"in\nin\nin\nin\n",
+        text: b"nak\nnak\nnak\nnak\n",
+    },
+    Row {
+        play: Play::Run,
+        script: b"# a note\n\nfill 00 1537\ntick 3\nsetup a1fe000000000100\nin\n",
+        text: b"ack\nstall\nstall\nstall\ndata 00\nstall\n",
+    },
+    Row {
+        play: Play::Sim,
+        script: b"in\ncut all\nfill 00 1537\ncut none\nfuse 0\nin\nout 00\n",
+        text: b"nak\nack\nstall\nstall\nstall\noff\noff\n",
+    },
 ];
 
 /// Fails a writer behind each number of bytes that a script writes but all of them, and a reader
@@ -71,13 +81,8 @@ pub(crate) fn try_streams(
     medium: &SimMedium,
     counts: &mut Counts,
 ) -> Result<(), Finding> {
-    for (play, script, text) in LINES {
-        let row = Row {
-            play,
-            script: script.as_bytes(),
-            text: text.as_bytes(),
-        };
-        try_row(alloc, medium, &row, counts)?;
+    for row in ROWS.iter() {
+        try_row(alloc, medium, row, counts)?;
     }
     try_read(alloc, medium, counts)
 }
@@ -121,7 +126,7 @@ fn try_row(
         text: row.text,
     };
     if !comes_to(alloc, medium, row, &whole)? {
-        return Err(Finding::Writer(all));
+        return Err(Finding::Differs(WRITER, all));
     }
     try_writers(alloc, medium, row, counts)?;
     try_readers(alloc, medium, row, counts)
@@ -142,7 +147,7 @@ fn try_writers(
             text: row.text.get(..left).unwrap_or(row.text),
         };
         if !comes_to(alloc, medium, row, &failure)? {
-            return Err(Finding::Writer(left));
+            return Err(Finding::Differs(WRITER, left));
         }
         count(&mut counts.writers);
     }
@@ -164,7 +169,7 @@ fn try_readers(
             text: &[],
         };
         if !comes_to(alloc, medium, row, &failure)? {
-            return Err(Finding::Reader(left));
+            return Err(Finding::Differs("lines of a reader that ends otherwise", left));
         }
         count(&mut counts.readers);
     }

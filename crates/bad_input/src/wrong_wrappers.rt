@@ -24,7 +24,7 @@ pub(crate) fn try_wrappers(
     let medium = copied(alloc, medium)?;
     match Disk::start(alloc, medium, identity) {
         Ok(mut disk) => try_each(&mut disk, counts),
-        Err(_) => Err(Finding::NoDisk),
+        Err(refused) => Err(Finding::Host(judging::Finding::Start(refused.fault))),
     }
 }
 
@@ -61,13 +61,19 @@ fn try_bits(
     counts: &mut Counts,
 ) -> Result<(), Finding> {
     for bit in 0..248_usize {
-        let mut packet = *wrapper;
-        if let Some(byte) = packet.get_mut(bit / 8) {
-            *byte ^= 1 << (bit % 8);
-        }
+        let packet = flipped(wrapper, bit);
         counts.wrapper(try_packet(disk, &packet)?);
     }
     Ok(())
+}
+
+// A wrapper with one bit flipped.
+fn flipped(wrapper: &[u8; 31], bit: usize) -> [u8; 31] {
+    let mut packet = *wrapper;
+    if let Some(byte) = packet.get_mut(bit / 8) {
+        *byte ^= 1 << (bit % 8);
+    }
+    packet
 }
 
 // Each value of the command block's length.
