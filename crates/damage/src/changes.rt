@@ -1,7 +1,9 @@
 //! The changes of an image.
+ghost use Rattle.std.specs.Prelude.{◌<◌};
+
 use crate::counts::count;
 use crate::judge::{Judge, Patch};
-use crate::numbers::number_at;
+use crate::numbers::number_or_zero;
 use crate::places::{Shared, Stretch};
 use crate::shape::LAST_STAMP;
 use crate::standing::Standing;
@@ -10,33 +12,38 @@ use std::alloc::{AllocError, Global};
 /// Each byte of these stretches is set to 0, to 255, to one more, and has one bit flipped.
 pub(crate) fn each_byte(judge: &mut Judge, stretches: &[Stretch]) -> Result<(), AllocError> {
     for stretch in stretches {
-        for place in stretch.start..stretch.start.saturating_add(stretch.count) {
-            bytes_of_number(judge, place)?;
-        }
+        bytes_of_stretch(judge, *stretch)?;
+    }
+    Ok(())
+}
+
+fn bytes_of_stretch(judge: &mut Judge, stretch: Stretch) -> Result<(), AllocError> {
+    for place in stretch.start..stretch.start.saturating_add(stretch.count) {
+        bytes_of_number(judge, place)?;
     }
     Ok(())
 }
 
 // Each byte of one number.
 fn bytes_of_number(judge: &mut Judge, place: usize) -> Result<(), AllocError> {
-    let old = number_at(&judge.image, place).unwrap_or(0);
+    let old = number_or_zero(&judge.image, place);
     for byte in 0..8_u32 {
         count(&mut judge.counts.bytes);
-        let shift = byte * 8;
-        let was = (old >> shift) & 0xff;
-        let mut tried = [was; 4];
-        let values = [0, 0xff, (was + 1) & 0xff, was ^ (1 << byte)];
-        for (number, value) in values.iter().enumerate() {
-            if !tried.contains(value) {
-                let number_now = old & !(0xff << shift) | *value << shift;
-                judge.change(&[Patch {
-                    place,
-                    number: number_now,
-                }])?;
-            }
-            if let Some(to) = tried.get_mut(number) {
-                *to = *value;
-            }
+        others_of_byte(judge, place, old, byte)?;
+    }
+    Ok(())
+}
+
+// This byte of a number is set to each of the other values, once.
+fn others_of_byte(judge: &mut Judge, place: usize, old: u64, byte: u32) -> Result<(), AllocError>
+    requires { byte < 8 }
+{
+    let shift = byte * 8;
+    let was = (old >> shift) & 0xff;
+    let others = [0, 0xff, (was + 1) & 0xff, was ^ (1 << byte)];
+    for (number, value) in others.iter().enumerate() {
+        if *value != was && !others[..number].contains(value) {
+            judge.change(&[patch(place, old & !(0xff << shift) | *value << shift)])?;
         }
     }
     Ok(())
@@ -50,11 +57,18 @@ pub(crate) fn each_number(
     standing: &Standing,
 ) -> Result<(), AllocError> {
     for stretch in stretches {
-        for place in 0..stretch.count {
-            let old = number_at(&judge.image, stretch.start.saturating_add(place)).unwrap_or(0);
-            if old != 0 || place < 8 {
-                others_of(judge, stretch.start.saturating_add(place), old, standing)?;
-            }
+        numbers_of(judge, *stretch, standing)?;
+    }
+    Ok(())
+}
+
+fn numbers_of(judge: &mut Judge, stretch: Stretch, standing: &Standing) -> Result<(), AllocError> {
+    for behind in 0..stretch.count {
+        let place = stretch.start.saturating_add(behind);
+        let old = number_or_zero(&judge.image, place);
+        if old != 0 || behind < 8 {
+            set_each(judge, place, &near(old, standing))?;
+            set_each(judge, place, &LIMITS)?;
         }
     }
     Ok(())
@@ -77,20 +91,12 @@ const LIMITS: [u64; 13] = [
     u64::MAX,
 ];
 
-// The number at this place is set to others.
-fn others_of(
-    judge: &mut Judge,
-    place: usize,
-    old: u64,
-    standing: &Standing,
-) -> Result<(), AllocError> {
-    let near = near(old, standing);
-    for number in near.iter().chain(LIMITS.iter()) {
+// The number at this place is set to each of these that is another one.
+fn set_each(judge: &mut Judge, place: usize, numbers: &[u64]) -> Result<(), AllocError> {
+    let old = number_or_zero(&judge.image, place);
+    for number in numbers {
         if *number != old {
-            judge.change(&[Patch {
-                place,
-                number: *number,
-            }])?;
+            judge.change(&[patch(place, *number)])?;
         }
     }
     Ok(())
@@ -117,11 +123,17 @@ fn near(old: u64, standing: &Standing) -> [u64; 11] {
 /// Every two of the faults of super and head at once, so that their order is seen.
 pub(crate) fn two_faults(judge: &mut Judge, standing: &Standing) -> Result<(), AllocError> {
     let faults = faults_of(standing);
-    for first in faults {
-        for second in faults {
-            if first.place != second.place {
-                judge.change(&[first, second])?;
-            }
+    for first in &faults {
+        fault_with_each(judge, *first, &faults)?;
+    }
+    Ok(())
+}
+
+// A fault, and each of these at another place behind it.
+fn fault_with_each(judge: &mut Judge, first: Patch, faults: &[Patch]) -> Result<(), AllocError> {
+    for second in faults {
+        if first.place != second.place {
+            judge.change(&[first, *second])?;
         }
     }
     Ok(())
@@ -165,19 +177,22 @@ fn supers_of(
 ) -> Result<(), AllocError> {
     let blocks = standing.shape.blocks;
     for home in homes(slots, standing.shape.home) {
-        for count in [
-            1,
-            blocks.saturating_sub(1),
-            blocks,
-            blocks.saturating_add(1),
-        ] {
-            judge.change(&[
-                patch(1, version),
-                patch(2, count),
-                patch(3, slots),
-                patch(5, home),
-            ])?;
-        }
+        let placed = [patch(1, version), patch(3, slots), patch(5, home)];
+        supers_like(judge, &placed, blocks)?;
+    }
+    Ok(())
+}
+
+// Supers with these numbers, and numbers of blocks around this one.
+fn supers_like(judge: &mut Judge, placed: &[Patch; 3], blocks: u64) -> Result<(), AllocError> {
+    let [version, slots, home] = *placed;
+    for count in [
+        1,
+        blocks.saturating_sub(1),
+        blocks,
+        blocks.saturating_add(1),
+    ] {
+        judge.change(&[version, patch(2, count), slots, home])?;
     }
     Ok(())
 }
@@ -222,13 +237,17 @@ pub(crate) fn stamps(
     ];
     for other in others {
         let mut patches = same(alloc, &shared.stamps, other)?;
-        judge.change(&patches)?;
-        for behind in 0..3 {
-            patches
-                .push(patch(65, other.wrapping_sub(behind)))
-                .map_err(AllocError::from)?;
-            judge.change(&patches)?;
-        }
+        heads_around(judge, &mut patches, other)?;
+    }
+    Ok(())
+}
+
+// The stamp stands in all sectors of the record, and then stamps up to it in the head too.
+fn heads_around(judge: &mut Judge, patches: &mut Vec<Patch>, stamp: u64) -> Result<(), AllocError> {
+    judge.change(patches)?;
+    for behind in 0..3 {
+        patches.push(patch(65, stamp.wrapping_sub(behind)))?;
+        judge.change(patches)?;
     }
     Ok(())
 }
@@ -253,14 +272,23 @@ pub(crate) fn counts(
     ] {
         let mut patches = same(alloc, &shared.counts, other)?;
         judge.change(&patches)?;
-        for entry in shared.entries.iter().skip(other as usize) {
-            for number in 0..shared.width {
-                patches
-                    .push(patch(entry.saturating_add(number), 0))
-                    .map_err(AllocError::from)?;
-            }
-        }
+        clear_entries(&mut patches, shared, other as usize)?;
         judge.change(&patches)?;
+    }
+    Ok(())
+}
+
+// The entries from this one on are zeros.
+fn clear_entries(
+    patches: &mut Vec<Patch>,
+    shared: &Shared,
+    first: usize,
+) -> Result<(), AllocError> {
+    for entry in shared.entries.get(first..).unwrap_or(&[]) {
+        patches.push(patch(*entry, 0))?;
+        if shared.width == 2 {
+            patches.push(patch(entry.saturating_add(1), 0))?;
+        }
     }
     Ok(())
 }
@@ -269,9 +297,7 @@ pub(crate) fn counts(
 fn same(alloc: Global, places: &[usize], number: u64) -> Result<Vec<Patch>, AllocError> {
     let mut patches = Vec::new(alloc);
     for place in places {
-        patches
-            .push(patch(*place, number))
-            .map_err(AllocError::from)?;
+        patches.push(patch(*place, number))?;
     }
     Ok(patches)
 }

@@ -32,25 +32,34 @@ impl Counts {
     }
 }
 
+impl Counts {
+    // Writes how many images were refused with each fault.
+    fn write_refused<W: fmt::Write>(&self, f: &mut fmt::Formatter<W>) -> fmt::Result {
+        let Counts {
+            bad_super,
+            bad_version,
+            bad_size,
+            bad_head,
+            used_up,
+            ..
+        } = *self;
+        write!(f, "refused with 5: {bad_super}, 6: {bad_version}, ")?;
+        write!(f, "7: {bad_size}, 8: {bad_head}, 9: {used_up}")
+    }
+}
+
 impl fmt::Display for Counts {
     fn fmt<W: fmt::Write>(&self, f: &mut fmt::Formatter<W>) -> fmt::Result {
         let Counts {
             bytes,
             images,
             served,
-            bad_super,
-            bad_version,
-            bad_size,
-            bad_head,
-            used_up,
             outside,
+            ..
         } = *self;
         write!(f, "{bytes} bytes, {images} images, {served} served, ")?;
-        write!(f, "refused with 5: {bad_super}, 6: {bad_version}, ")?;
-        write!(
-            f,
-            "7: {bad_size}, 8: {bad_head}, 9: {used_up}; {outside} outside"
-        )
+        self.write_refused(f)?;
+        write!(f, "; {outside} outside")
     }
 }
 

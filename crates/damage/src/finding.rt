@@ -71,6 +71,8 @@ impl Finding {
             Finding::Touched => "a refused image is changed",
             Finding::Blocks => "other blocks are served",
             Finding::NoSubject => "the image has no records that wait",
+            Finding::Image(Step::Recovery) => "another image after a recovery",
+            Finding::Image(Step::Start) => "another image after a start",
             _ => "out of memory",
         }
     }
@@ -88,13 +90,9 @@ impl fmt::Display for Finding {
             Finding::Fault { found, wanted } => {
                 write!(f, "the fault '{found}' where '{wanted}' comes first")
             }
-            Finding::Image(step) => write!(f, "another image after {step}"),
             Finding::Life(finding) => write!(f, "{finding}"),
             Finding::Medium(error) => write!(f, "no image: {error}"),
-            _ => {
-                let words = self.words();
-                write!(f, "{words}")
-            }
+            _ => f.write_str(self.words()),
         }
     }
 }
@@ -122,14 +120,4 @@ impl From<AllocError> for Finding {
 pub(crate) enum Step {
     Recovery,
     Start,
-}
-
-impl fmt::Display for Step {
-    fn fmt<W: fmt::Write>(&self, f: &mut fmt::Formatter<W>) -> fmt::Result {
-        let words = match self {
-            Step::Recovery => "a recovery",
-            Step::Start => "a start",
-        };
-        write!(f, "{words}")
-    }
 }

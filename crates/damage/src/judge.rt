@@ -35,22 +35,36 @@ impl Judge {
 
     /// Judges the image with these numbers at their places, and puts the old ones back.
     pub(crate) fn change(&mut self, patches: &[Patch]) -> Result<(), AllocError> {
-        let mut old = Vec::new(self.alloc);
-        for patch in patches {
-            let number = number_at(&self.image, patch.place).unwrap_or(0);
-            let place = patch.place;
-            old.push(Patch { place, number }).map_err(AllocError::from)?;
-            put(&mut self.image, place, patch.number);
-        }
-        count(&mut self.counts.images);
-        let tried = try_image(self.alloc, &self.image, &mut self.counts);
-        for patch in old.iter().rev() {
-            put(&mut self.image, patch.place, patch.number);
-        }
-        match tried {
+        match self.try_with(patches) {
             Ok(()) => Ok(()),
             Err(Finding::NoMemory(_)) => Err(AllocError),
             Err(finding) => self.note(patches, finding),
+        }
+    }
+
+    // Tries the image with these numbers, and puts the old ones back.
+    fn try_with(&mut self, patches: &[Patch]) -> Result<(), Finding> {
+        let old = self.numbers_at(patches)?;
+        self.put_each(patches);
+        count(&mut self.counts.images);
+        let tried = try_image(self.alloc, &self.image, &mut self.counts);
+        self.put_each(&old);
+        tried
+    }
+
+    // The numbers that stand at the places of these.
+    fn numbers_at(&self, patches: &[Patch]) -> Result<Vec<Patch>, AllocError> {
+        let mut old = Vec::from_slice(self.alloc, patches)?;
+        for patch in &mut old {
+            patch.number = number_at(&self.image, patch.place).unwrap_or(0);
+        }
+        Ok(old)
+    }
+
+    // Puts these numbers at their places.
+    fn put_each(&mut self, patches: &[Patch]) {
+        for patch in patches {
+            put(&mut self.image, patch.place, patch.number);
         }
     }
 

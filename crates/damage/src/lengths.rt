@@ -12,8 +12,14 @@ pub(crate) fn try_lengths(alloc: Global, judge: &mut Judge) -> Result<(), Findin
     for length in [0, 1, 511, 513, 1023, judge.image.len().saturating_sub(1)] {
         try_no_sectors(alloc, length, judge)?;
     }
-    let all = judge.image.len() / 512;
     let whole = Vec::from_slice(alloc, &judge.image)?;
+    try_sectors(judge, &whole)?;
+    Ok(())
+}
+
+// Tries images with fewer sectors and with more than the whole one.
+fn try_sectors(judge: &mut Judge, whole: &[u8]) -> Result<(), AllocError> {
+    let all = whole.len() / 512;
     for sectors in [
         1,
         2,
@@ -24,12 +30,17 @@ pub(crate) fn try_lengths(alloc: Global, judge: &mut Judge) -> Result<(), Findin
         all + 1,
         all + 2,
     ] {
-        let bytes = sectors.saturating_mul(512);
-        judge.image.resize(bytes, 0xff).map_err(AllocError::from)?;
-        judge.whole()?;
-        judge.image.clear();
-        judge.image.extend_from_slice(&whole)?;
+        try_resized(judge, sectors.saturating_mul(512), whole)?;
     }
+    Ok(())
+}
+
+// Tries the image with so many bytes, and makes it whole again.
+fn try_resized(judge: &mut Judge, bytes: usize, whole: &[u8]) -> Result<(), AllocError> {
+    judge.image.resize(bytes, 0xff)?;
+    judge.whole()?;
+    judge.image.clear();
+    judge.image.extend_from_slice(whole)?;
     Ok(())
 }
 

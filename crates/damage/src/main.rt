@@ -31,10 +31,10 @@ mod standing;
 mod subject;
 mod trial;
 
-use counts::Counts;
 use finding::Finding;
-use judge::Judge;
+use judge::{Judge, Patch};
 use places::{shared_by, stretches};
+use record::Record;
 use standing::Standing;
 use std::alloc::{AllocError, Global};
 use std::io;
@@ -53,15 +53,16 @@ fn main(rt: HostRuntime) -> ExitCode {
 fn try_all<W: Write>(alloc: Global, out: &mut W) -> io::Result<bool> {
     let mut all = true;
     for subject in Subject::ALL {
-        match try_subject(alloc, subject) {
-            Ok(judge) => all &= tell(&judge, out)?,
-            Err(finding) => {
-                all = false;
-                writeln!(out, "{finding}")?;
-            }
-        }
+        all &= tell_subject(alloc, subject, out)?;
     }
     Ok(all)
+}
+
+fn tell_subject<W: Write>(alloc: Global, subject: Subject, out: &mut W) -> io::Result<bool> {
+    match try_subject(alloc, subject) {
+        Ok(judge) => tell(&judge, out),
+        Err(finding) => tell_finding(&finding, out),
+    }
 }
 
 // Writes how much was judged, and what was found first.
@@ -69,14 +70,27 @@ fn tell<W: Write>(judge: &Judge, out: &mut W) -> io::Result<bool> {
     let sectors = judge.image.len() / 512;
     let counts = judge.counts;
     writeln!(out, "{sectors} sectors: {counts}")?;
-    let Some((patches, finding)) = &judge.found else {
-        return Ok(true);
-    };
+    match &judge.found {
+        None => Ok(true),
+        Some((patches, finding)) => {
+            tell_patches(patches, out)?;
+            tell_finding(finding, out)
+        }
+    }
+}
+
+// Writes what was changed.
+fn tell_patches<W: Write>(patches: &[Patch], out: &mut W) -> io::Result<()> {
     for patch in patches {
         let place = patch.place.saturating_mul(8);
         let number = patch.number;
         writeln!(out, "from byte {place} on the number {number}:")?;
     }
+    Ok(())
+}
+
+// Writes what is not as the definition has it.
+fn tell_finding<W: Write>(finding: &Finding, out: &mut W) -> io::Result<bool> {
     writeln!(out, "{finding}")?;
     Ok(false)
 }
@@ -85,26 +99,54 @@ fn tell<W: Write>(judge: &Judge, out: &mut W) -> io::Result<bool> {
 fn try_subject(alloc: Global, subject: Subject) -> Result<Judge, Finding> {
     let Made { image, standing } = subject.make(alloc)?;
     let mut judge = Judge::new(alloc, image);
-    judge.whole()?;
-    let stretches = stretches(alloc, &standing)?;
-    changes::each_byte(&mut judge, &stretches)?;
-    changes::each_number(&mut judge, &stretches, &standing)?;
-    changes::two_faults(&mut judge, &standing)?;
-    changes::supers(&mut judge, &standing)?;
-    change_records(alloc, &mut judge, &standing)?;
-    lengths::try_lengths(alloc, &mut judge)?;
+    try_changes(alloc, &mut judge, &standing)?;
     Ok(judge)
+}
+
+// Changes an image that stands for this.
+fn try_changes(alloc: Global, judge: &mut Judge, standing: &Standing) -> Result<(), Finding> {
+    change_numbers(alloc, judge, standing)?;
+    lengths::try_lengths(alloc, judge)
+}
+
+fn change_numbers(alloc: Global, judge: &mut Judge, standing: &Standing) -> Result<(), AllocError> {
+    judge.whole()?;
+    change_stretches(alloc, judge, standing)?;
+    changes::two_faults(judge, standing)?;
+    changes::supers(judge, standing)?;
+    change_records(alloc, judge, standing)
+}
+
+// Changes the bytes and the numbers that are no block of the host's.
+fn change_stretches(
+    alloc: Global,
+    judge: &mut Judge,
+    standing: &Standing,
+) -> Result<(), AllocError> {
+    let stretches = stretches(alloc, standing)?;
+    changes::each_byte(judge, &stretches)?;
+    changes::each_number(judge, &stretches, standing)
 }
 
 // Changes the numbers that all sectors of a record share.
 fn change_records(alloc: Global, judge: &mut Judge, standing: &Standing) -> Result<(), AllocError> {
     let mut stamp = standing.head;
     for record in &standing.records {
-        let count = record.blocks.len() as u64;
-        let shared = shared_by(alloc, standing, record.slot, count)?;
-        changes::stamps(judge, alloc, &shared, stamp, standing.shape.slots)?;
-        changes::counts(judge, alloc, &shared, count)?;
+        change_record(alloc, judge, standing, record, stamp)?;
         stamp = stamp.saturating_add(1);
     }
     Ok(())
+}
+
+fn change_record(
+    alloc: Global,
+    judge: &mut Judge,
+    standing: &Standing,
+    record: &Record,
+    stamp: u64,
+) -> Result<(), AllocError> {
+    let count = record.blocks.len() as u64;
+    let shared = shared_by(alloc, standing, record.slot, count)?;
+    changes::stamps(judge, alloc, &shared, stamp, standing.shape.slots)?;
+    changes::counts(judge, alloc, &shared, count)
 }

@@ -1,4 +1,5 @@
 //! The bytes of an image that are no block of the host's: super, head, and what waits in the log.
+use crate::record::Record;
 use crate::standing::Standing;
 use std::alloc::{AllocError, Global};
 
@@ -23,40 +24,50 @@ pub(crate) struct Shared {
 /// Super, head, and of each waiting record descriptors and commit, in format 2 the stamps of its
 /// data places too.
 pub(crate) fn stretches(alloc: Global, standing: &Standing) -> Result<Vec<Stretch>, AllocError> {
-    let mut found = Vec::new(alloc);
-    found.push(sector(0)).map_err(AllocError::from)?;
-    found.push(sector(1)).map_err(AllocError::from)?;
+    let mut found = Vec::from_slice(alloc, &[sector(0), sector(1)])?;
     for record in &standing.records {
-        let count = record.blocks.len() as u64;
-        if standing.shape.version == 1 {
-            found.push(sector(record.slot)).map_err(AllocError::from)?;
-            found
-                .push(sector(record.slot.saturating_add(49)))
-                .map_err(AllocError::from)?;
-        } else {
-            of_two(&mut found, record.slot, count)?;
-        }
+        add_record(&mut found, standing, record)?;
     }
     Ok(found)
 }
 
-// The descriptors, the stamps of the data places and the commit of a record of format 2.
-fn of_two(found: &mut Vec<Stretch>, slot: u64, count: u64) -> Result<(), AllocError> {
-    for part in 0..count.div_ceil(30) {
-        found
-            .push(sector(slot.saturating_add(part)))
-            .map_err(AllocError::from)?;
+// Adds what is no block of the host's in a record.
+fn add_record(
+    found: &mut Vec<Stretch>,
+    standing: &Standing,
+    record: &Record,
+) -> Result<(), AllocError> {
+    let slot = record.slot;
+    if standing.shape.version == 1 {
+        add_sectors(found, slot, 1)?;
+        return add_sectors(found, slot.saturating_add(49), 1);
     }
-    for place in 0..count {
-        let start = sector(slot.saturating_add(8).saturating_add(place)).start;
-        found
-            .push(Stretch { start, count: 1 })
-            .map_err(AllocError::from)?;
+    let count = record.blocks.len() as u64;
+    add_sectors(found, slot, count.div_ceil(30))?;
+    add_stamps(found, slot, count)?;
+    add_sectors(found, slot.saturating_add(248), 1)
+}
+
+// Adds so many sectors from this one on.
+fn add_sectors(found: &mut Vec<Stretch>, first: u64, count: u64) -> Result<(), AllocError> {
+    for behind in 0..count {
+        found.push(sector(first.saturating_add(behind)))?;
     }
-    found
-        .push(sector(slot.saturating_add(248)))
-        .map_err(AllocError::from)?;
     Ok(())
+}
+
+// Adds the stamps of the data places of a record of format 2.
+fn add_stamps(found: &mut Vec<Stretch>, slot: u64, count: u64) -> Result<(), AllocError> {
+    for place in 0..count {
+        let start = stamp_at(slot, place);
+        found.push(Stretch { start, count: 1 })?;
+    }
+    Ok(())
+}
+
+// Where the stamp of a data place of format 2 stands.
+fn stamp_at(slot: u64, place: u64) -> usize {
+    sector(slot.saturating_add(place).saturating_add(8)).start
 }
 
 fn sector(sector: u64) -> Stretch {
@@ -80,31 +91,49 @@ pub(crate) fn shared_by(
         entries: Vec::new(alloc),
         width: if two { 2 } else { 1 },
     };
-    let (heads, last) = if two {
-        (count.div_ceil(30), 248)
-    } else {
-        (1, 49)
-    };
-    for part in (0..heads).chain(last..last + 1) {
-        let start = sector(slot.saturating_add(part)).start;
-        shared.stamps.push(start.saturating_add(1))?;
-        shared.counts.push(start.saturating_add(2))?;
-    }
-    for place in 0..count {
-        shared.entries.push(entry_at(two, slot, place))?;
-    }
-    if two {
-        stamp_data(&mut shared.stamps, slot, count)?;
-    }
+    shared.take(two, slot, count)?;
     Ok(shared)
 }
 
-// Adds where the stamps of so many data places of format 2 stand.
-fn stamp_data(stamps: &mut Vec<usize>, slot: u64, count: u64) -> Result<(), AllocError> {
-    for place in 0..count {
-        stamps.push(sector(slot.saturating_add(place).saturating_add(8)).start)?;
+impl Shared {
+    // Takes the places of a record with so many blocks.
+    fn take(&mut self, two: bool, slot: u64, count: u64) -> Result<(), AllocError> {
+        self.take_entries(two, slot, count)?;
+        if two {
+            self.take_heads(slot, count.div_ceil(30))?;
+            self.take_heads(slot.saturating_add(248), 1)?;
+            self.take_stamps(slot, count)
+        } else {
+            self.take_heads(slot, 1)?;
+            self.take_heads(slot.saturating_add(49), 1)
+        }
     }
-    Ok(())
+
+    // Takes the stamps and the counts of so many descriptors, or of the commit.
+    fn take_heads(&mut self, first: u64, count: u64) -> Result<(), AllocError> {
+        for behind in 0..count {
+            let start = sector(first.saturating_add(behind)).start;
+            self.stamps.push(start.saturating_add(1))?;
+            self.counts.push(start.saturating_add(2))?;
+        }
+        Ok(())
+    }
+
+    // Takes the entries of so many blocks.
+    fn take_entries(&mut self, two: bool, slot: u64, count: u64) -> Result<(), AllocError> {
+        for place in 0..count {
+            self.entries.push(entry_at(two, slot, place))?;
+        }
+        Ok(())
+    }
+
+    // Takes the stamps of so many data places of format 2.
+    fn take_stamps(&mut self, slot: u64, count: u64) -> Result<(), AllocError> {
+        for place in 0..count {
+            self.stamps.push(stamp_at(slot, place))?;
+        }
+        Ok(())
+    }
 }
 
 // Where the entry of a block stands, by its place in the record.

@@ -1,5 +1,5 @@
 //! The super and the head of an image, by the tables of the format alone.
-use crate::numbers::{is_exactly, is_zero_from, mark, number_at, sector_of};
+use crate::numbers::{is_exactly, is_zero_from, mark, number_or_zero, sector_of};
 use bot_machine::StartFault;
 
 /// The last stamp of a record.
@@ -35,43 +35,57 @@ impl Shape {
 
     // Whether the sizes are in their limits and the places those that follow from them.
     fn is_sound(self, log: u64) -> bool {
-        let sized = (1..=1 << 31).contains(&self.blocks) && (1..=64).contains(&self.slots);
+        (1..=1 << 31).contains(&self.blocks)
+            && (1..=64).contains(&self.slots)
+            && log == 2
+            && self.is_home_behind_log()
+    }
+
+    // Whether the home begins behind the log, and no slot fits between the two.
+    fn is_home_behind_log(self) -> bool {
         let end = self
             .slots
             .saturating_mul(self.slot_sectors())
             .saturating_add(2);
         let spare = if self.version == 1 { 1 } else { 249 };
-        sized && log == 2 && self.home >= end && self.home < end.saturating_add(spare)
+        self.home >= end && self.home < end.saturating_add(spare)
     }
 }
 
 /// What the super of an image says, or the first fault of super and length.
 pub(crate) fn shape_of(image: &[u8]) -> Result<Shape, StartFault> {
     let sector = sector_of(image, 0).ok_or(StartFault::BadSize)?;
-    let number = |place| number_at(sector, place).unwrap_or(0);
     let shape = Shape {
-        version: number(1),
-        blocks: number(2),
-        slots: number(3),
-        home: number(5),
+        version: number_or_zero(sector, 1),
+        blocks: number_or_zero(sector, 2),
+        slots: number_or_zero(sector, 3),
+        home: number_or_zero(sector, 5),
     };
-    if number(0) != mark(b"RDSUPER1") {
+    is_super(sector, shape.version)?;
+    if shape.is_sound(number_or_zero(sector, 4)) && has_room(image, shape) {
+        Ok(shape)
+    } else {
+        Err(StartFault::BadSize)
+    }
+}
+
+// The first fault of a super but for its sizes.
+fn is_super(sector: &[u8], version: u64) -> Result<(), StartFault> {
+    if number_or_zero(sector, 0) != mark(b"RDSUPER1") {
         Err(StartFault::BadSuper)
-    } else if shape.version != 1 && shape.version != 2 {
+    } else if version != 1 && version != 2 {
         Err(StartFault::BadVersion)
     } else if !is_zero_from(sector, 6) {
         Err(StartFault::BadSuper)
-    } else if !shape.is_sound(number(4)) || !has_room(image, shape) {
-        Err(StartFault::BadSize)
     } else {
-        Ok(shape)
+        Ok(())
     }
 }
 
 /// The stamp of an image's head.
 pub(crate) fn head_of(image: &[u8]) -> Result<u64, StartFault> {
     let sector = sector_of(image, 1).ok_or(StartFault::BadHead)?;
-    let stamp = number_at(sector, 1).unwrap_or(0);
+    let stamp = number_or_zero(sector, 1);
     let is_stamp = (1..=LAST_STAMP + 1).contains(&stamp);
     if is_stamp && is_exactly(sector, &[mark(b"RDHEAD01"), stamp]) {
         Ok(stamp)

@@ -31,19 +31,25 @@ pub(crate) struct Standing {
 
 /// What the definition says of an image.
 pub(crate) fn examine(alloc: Global, image: &[u8]) -> Result<Verdict, AllocError> {
-    let (shape, head) = match sectors_of(image) {
-        Ok(sectors) => sectors,
-        Err(fault) => return Ok(Verdict::Refused(fault)),
-    };
+    match sectors_of(image) {
+        Ok((shape, head)) => examine_log(alloc, image, shape, head),
+        Err(fault) => Ok(Verdict::Refused(fault)),
+    }
+}
+
+// What the definition says of an image with this super and this head.
+fn examine_log(
+    alloc: Global,
+    image: &[u8],
+    shape: Shape,
+    head: u64,
+) -> Result<Verdict, AllocError> {
     let records = records_of(alloc, image, shape, head)?;
     let next = head.saturating_add(records.len() as u64).saturating_add(1);
     if next > LAST_STAMP + 1 {
         return Ok(Verdict::Refused(StartFault::StampsUsedUp));
     }
-    let mut array = home_of(alloc, image, shape)?;
-    for record in &records {
-        lay_over(&mut array, record);
-    }
+    let array = array_of(alloc, image, shape, &records)?;
     Ok(Verdict::Stands(Standing {
         shape,
         head,
@@ -58,15 +64,20 @@ impl Standing {
     /// else as it was.
     pub(crate) fn recovered(&self, alloc: Global, image: &[u8]) -> Result<Vec<u8>, AllocError> {
         let mut bytes = Vec::from_slice(alloc, image)?;
-        put(&mut bytes, 64, mark(b"RDHEAD01"));
-        put(&mut bytes, 65, self.next);
+        self.recover(&mut bytes);
+        Ok(bytes)
+    }
+
+    // Puts into an image what a start writes.
+    fn recover(&self, image: &mut [u8]) {
+        put(image, 64, mark(b"RDHEAD01"));
+        put(image, 65, self.next);
         let home = self.shape.home.saturating_mul(512) as usize;
-        if let Some(from) = bytes.as_mut_slice().get_mut(home..) {
+        if let Some(from) = image.get_mut(home..) {
             for (to, block) in from.chunks_exact_mut(512).zip(self.array.blocks.iter()) {
                 to.copy_from_slice(block);
             }
         }
-        Ok(bytes)
     }
 }
 
@@ -87,23 +98,40 @@ fn records_of(
     for behind in 0..shape.slots {
         let stamp = head.saturating_add(behind);
         match whole_record(alloc, image, shape, stamp)? {
-            Some(record) => records.push(record).map_err(AllocError::from)?,
+            Some(record) => records.push(record)?,
             None => break,
         }
     }
     Ok(records)
 }
 
+// The blocks at home with those of these records laid over them.
+fn array_of(
+    alloc: Global,
+    image: &[u8],
+    shape: Shape,
+    records: &[Record],
+) -> Result<Array, AllocError> {
+    let mut array = home_of(alloc, image, shape)?;
+    for record in records {
+        lay_over(&mut array, record);
+    }
+    Ok(array)
+}
+
 // The blocks at home.
 fn home_of(alloc: Global, image: &[u8], shape: Shape) -> Result<Array, AllocError> {
     let mut blocks = Vec::new(alloc);
     for block in 0..shape.blocks {
-        let bytes = sector_of(image, shape.home.saturating_add(block)).unwrap_or(&[]);
-        blocks
-            .push(Block::try_from(bytes).unwrap_or([0; 512]))
-            .map_err(AllocError::from)?;
+        blocks.push(block_at(image, shape.home.saturating_add(block)))?;
     }
     Ok(Array { blocks })
+}
+
+// The bytes of a sector, or zeros where the image has no such sector.
+fn block_at(image: &[u8], sector: u64) -> Block {
+    let bytes = sector_of(image, sector).unwrap_or(&[]);
+    Block::try_from(bytes).unwrap_or([0; 512])
 }
 
 // Puts the blocks of a record in place of those that are there.

@@ -76,48 +76,58 @@ impl Subject {
         }
     }
 
-    /// The image after its lives.
+    /// The image after its lives, and what it stands for.
     pub(crate) fn make(self, alloc: Global) -> Result<Made, Finding> {
-        let medium = self.lived(alloc, self.shape().fresh(alloc)?)?;
-        let image = Vec::from_slice(alloc, medium.image())?;
-        match examine(alloc, &image)? {
-            Verdict::Stands(standing) if !standing.records.is_empty() => {
-                Ok(Made { image, standing })
-            }
-            _ => Err(Finding::NoSubject),
-        }
+        let image = self.image(alloc)?;
+        let standing = standing_of(alloc, &image)?;
+        Ok(Made { image, standing })
     }
-}
 
-impl Subject {
+    // The image after its lives.
+    fn image(self, alloc: Global) -> Result<Vec<u8>, Finding> {
+        let writes = self.writes(alloc)?;
+        let medium = self.lived(alloc, self.shape().fresh(alloc)?, &writes)?;
+        Ok(Vec::from_slice(alloc, medium.image())?)
+    }
+
+    // The two writes.
+    fn writes(self, alloc: Global) -> Result<Vec<Write>, AllocError> {
+        let [first, second] = self.strokes();
+        let mut writes = Vec::new(alloc);
+        writes.push(first.write(alloc, 0x11)?)?;
+        writes.push(second.write(alloc, 0x61)?)?;
+        Ok(writes)
+    }
+
     // The medium after the lives, whose cuts keep no unflushed write.
-    fn lived(self, alloc: Global, medium: SimMedium) -> Result<SimMedium, Finding>
+    fn lived(self, alloc: Global, medium: SimMedium, writes: &[Write]) -> Result<SimMedium, Finding>
         requires { RestsUnfused medium }
     {
         let mut array = Array::zeros(alloc, self.shape().blocks as usize)?;
-        let [first, second] = self.strokes();
-        let first = first.write(alloc, 0x11)?;
-        let second = second.write(alloc, 0x61)?;
         match self {
-            Subject::Full | Subject::Two => {
-                let mut writes = Vec::new(alloc);
-                writes.push(first).map_err(AllocError::from)?;
-                writes.push(second).map_err(AllocError::from)?;
-                live(alloc, medium, &array, &writes, self.limit())
-            }
-            Subject::Long | Subject::Single | Subject::Migrated => {
-                let mut medium = live(alloc, medium, &array, slice::from_ref(&first), 48)?;
-                array.apply(&first);
-                self.between(&mut medium)?;
-                live(
-                    alloc,
-                    cut(medium, &Kept::None),
-                    &array,
-                    slice::from_ref(&second),
-                    self.limit(),
-                )
-            }
+            Subject::Full | Subject::Two => live(alloc, medium, &array, writes, self.limit()),
+            _ => self.lived_twice(alloc, medium, &mut array, writes),
         }
+    }
+
+    // The medium after a life for each of two writes, on a disk that has these blocks at first.
+    fn lived_twice(
+        self,
+        alloc: Global,
+        medium: SimMedium,
+        array: &mut Array,
+        writes: &[Write],
+    ) -> Result<SimMedium, Finding>
+        requires { RestsUnfused medium }
+    {
+        let (Some(first), Some(second)) = (writes.first(), writes.get(1)) else {
+            return Err(Finding::NoSubject);
+        };
+        let mut medium = live(alloc, medium, array, slice::from_ref(first), 48)?;
+        array.apply(first);
+        self.between(&mut medium)?;
+        let medium = cut(medium, &Kept::None);
+        live(alloc, medium, array, slice::from_ref(second), self.limit())
     }
 
     // What comes between two lives: a migration, or nothing.
@@ -137,13 +147,21 @@ impl Subject {
     }
 }
 
+// What an image stands for, in whose log records wait.
+fn standing_of(alloc: Global, image: &[u8]) -> Result<Standing, Finding> {
+    match examine(alloc, image)? {
+        Verdict::Stands(standing) if !standing.records.is_empty() => Ok(standing),
+        _ => Err(Finding::NoSubject),
+    }
+}
+
 impl TestWrite {
     // Its write, each block of another byte than the one before.
     fn write(self, alloc: Global, first: u8) -> Result<Write, AllocError> {
         let mut blocks = Vec::new(alloc);
         let mut byte = first;
         for _ in 0..self.count {
-            blocks.push([byte; 512]).map_err(AllocError::from)?;
+            blocks.push([byte; 512])?;
             byte = byte.wrapping_add(1);
         }
         Ok(Write {
