@@ -32,13 +32,25 @@ fn fill_each(batch: &mut Batch, frozen: &mut Frozen, addresses: &[u8], count: u3
 
 // Fills a batch in this order and freezes it, so many times. The answer is the number of blocks.
 pub(crate) fn fill_batches(alloc: Global, blocks: u8, order: Order, count: u32) -> Option<u64> {
-    let order = addresses(order, blocks);
-    let addresses = order.get(..blocks as usize)?;
     let mut batch = Batch::new(alloc, blocks as usize).ok()?;
     let mut frozen = Frozen::new(alloc, blocks as usize).ok()?;
-    if fill_each(&mut batch, &mut frozen, addresses, count) {
+    if fill_in_order(&mut batch, &mut frozen, blocks, order, count) {
         Some(u64::from(blocks))
     } else {
         None
+    }
+}
+
+// Fills it with so many blocks in this order and freezes it, so many times.
+fn fill_in_order(
+    batch: &mut Batch,
+    frozen: &mut Frozen,
+    blocks: u8,
+    order: Order,
+    count: u32,
+) -> bool {
+    match addresses(order, blocks).get(..blocks as usize) {
+        Some(addresses) => fill_each(batch, frozen, addresses, count),
+        None => false,
     }
 }

@@ -67,16 +67,35 @@ impl Setting {
     }
 }
 
+// A medium of so many sectors of zeros.
+fn blank(alloc: Global, sectors: usize) -> Option<SimMedium>
+    requires { sectors ≤ 65_000 }
+{
+    let image = vec![in alloc; 0u8; sectors * 512].ok()?;
+    SimMedium::new(alloc, image, sectors).ok()
+}
+
 // A medium of 1000 blocks of zeros with these log slots, formatted.
 pub(crate) fn formatted(alloc: Global, setting: Setting) -> Option<SimMedium> {
-    let sectors = setting.sectors();
-    let image = vec![in alloc; 0u8; sectors * 512].ok()?;
-    let mut medium = SimMedium::new(alloc, image, sectors).ok()?;
+    let mut medium = blank(alloc, setting.sectors())?;
     if setting.is_made_on(&mut medium) {
         Some(medium)
     } else {
         None
     }
+}
+
+fn identity() -> Option<Identity> {
+    Identity::new(
+        *b"USBDISK ",
+        *b"POWER SAFE DISK ",
+        *b"0001",
+        *b"000000000001",
+    )
+}
+
+fn start(alloc: Global, medium: SimMedium, size: PacketSize) -> Option<Disk<SimMedium>> {
+    Disk::start_with(alloc, medium, identity()?, size).ok()
 }
 
 // A disk whose unit attention of the power on has ended.
@@ -85,13 +104,7 @@ pub(crate) fn started(
     medium: SimMedium,
     size: PacketSize,
 ) -> Option<Disk<SimMedium>> {
-    let identity = Identity::new(
-        *b"USBDISK ",
-        *b"POWER SAFE DISK ",
-        *b"0001",
-        *b"000000000001",
-    )?;
-    let mut disk = Disk::start_with(alloc, medium, identity, size).ok()?;
+    let mut disk = start(alloc, medium, size)?;
     if request_sense(&mut disk) {
         Some(disk)
     } else {

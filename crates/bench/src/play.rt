@@ -84,22 +84,27 @@ fn repeat(disk: &mut Disk<SimMedium>, kind: Kind, given: &Given, count: u32) -> 
     true
 }
 
-// Plays it so many times on a disk that was just started, or whose active batch was filled then.
-// The answer is the number of flushes so far.
+// The number of flushes so far, if all went well.
+fn flushes_if(all_well: bool, disk: &Disk<SimMedium>) -> Option<u64> {
+    if all_well {
+        Some(disk.medium().flushes())
+    } else {
+        None
+    }
+}
+
+// Plays it so many times on a disk, whose active batch is filled first where that is asked for. The
+// answer is the number of flushes so far.
 pub(crate) fn play_often(
-    alloc: Global,
+    disk: &mut Disk<SimMedium>,
     setting: Setting,
     is_filled: bool,
     kind: Kind,
     count: u32,
 ) -> Option<u64> {
-    let mut disk = fresh(alloc, setting)?;
     let given = Given::new(setting.limit(), Order::Ascending);
-    if (!is_filled || fill(&mut disk, &given)) && repeat(&mut disk, kind, &given, count) {
-        Some(disk.medium().flushes())
-    } else {
-        None
-    }
+    let all_well = (!is_filled || fill(disk, &given)) && repeat(disk, kind, &given, count);
+    flushes_if(all_well, disk)
 }
 
 // Makes the steps in the background until none is left, and tells whether it came to that.
@@ -115,17 +120,12 @@ fn settle(disk: &mut Disk<SimMedium>) -> bool {
 
 // Writes two ranges of blocks in turn so many times on one disk, and then has all of it written out
 // and brought home. The answer is the number of flushes.
-pub(crate) fn write_long(alloc: Global, setting: Setting, count: u32) -> Option<u64> {
-    let mut disk = fresh(alloc, setting)?;
+pub(crate) fn write_long(disk: &mut Disk<SimMedium>, setting: Setting, count: u32) -> Option<u64> {
     let given = Given::new(setting.limit(), Order::Ascending);
-    if repeat(&mut disk, Kind::TwoRanges, &given, count)
-        && synchronize(&mut disk)
-        && settle(&mut disk)
-    {
-        Some(disk.medium().flushes())
-    } else {
-        None
-    }
+    let all_well = repeat(disk, Kind::TwoRanges, &given, count)
+        && synchronize(disk)
+        && settle(disk);
+    flushes_if(all_well, disk)
 }
 
 // Plays it once on a disk that is started on this medium, which comes back.
@@ -137,8 +137,7 @@ fn restart_once(
     given: &Given,
 ) -> Option<SimMedium> {
     let mut disk = started(alloc, medium, setting.packet())?;
-    let is_good = play_once(&mut disk, kind, given);
-    if is_good {
+    if play_once(&mut disk, kind, given) {
         Some(disk.into_medium())
     } else {
         None

@@ -13,10 +13,9 @@ fn write_through(disk: &mut Disk<SimMedium>, blocks: u8) -> bool {
 }
 
 // The flushes in it.
-pub(crate) fn flushes(alloc: Global, setting: Setting, blocks: u8) -> Option<u64> {
-    let mut disk = fresh(alloc, setting)?;
+pub(crate) fn flushes(disk: &mut Disk<SimMedium>, blocks: u8) -> Option<u64> {
     let before = disk.medium().flushes();
-    if write_through(&mut disk, blocks) {
+    if write_through(disk, blocks) {
         disk.medium().flushes().checked_sub(before)
     } else {
         None
