@@ -29,6 +29,9 @@ pub(crate) struct Case {
 // The request to clear the halt of Bulk-In.
 const CLEAR_IN: [u8; 8] = [0x02, 0x01, 0, 0, 0x81, 0, 0, 0];
 
+// The addresses that a forcing host writes to, and how many blocks it writes there.
+const FORCED: [(u32, u32); 5] = [(0, 2), (1, 1), (1, 2), (4, 1), (0, 1)];
+
 impl Case {
     /// Each format with a plain host, and format 2 with one that forces each write, without steps
     /// in the background and with two.
@@ -130,9 +133,9 @@ impl fmt::Display for Case {
 fn watch_life(alloc: Global, host: &mut Host) -> Result<(), Finding> {
     host.request_sense()?;
     let mut byte = 0u8;
-    for stroke in STROKES {
+    for stroke in &STROKES {
         byte = byte.wrapping_add(1);
-        write(alloc, host, stroke, byte)?;
+        write(alloc, host, *stroke, byte)?;
         watch(host)?;
     }
     host.synchronize()?;
@@ -144,15 +147,9 @@ fn watch_life(alloc: Global, host: &mut Host) -> Result<(), Finding> {
 fn force_life(alloc: Global, host: &mut Host) -> Result<(), Finding> {
     host.request_sense()?;
     let mut byte = 0u8;
-    for stroke in [
-        forced(0, 2),
-        forced(1, 1),
-        forced(1, 2),
-        forced(4, 1),
-        forced(0, 1),
-    ] {
+    for (address, count) in FORCED {
         byte = byte.wrapping_add(1);
-        write(alloc, host, stroke, byte)?;
+        write(alloc, host, forced(address, count), byte)?;
     }
     Ok(())
 }

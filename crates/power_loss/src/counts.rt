@@ -44,49 +44,53 @@ pub(crate) struct Migrations {
 
 impl fmt::Display for Cuts {
     fn fmt<W: fmt::Write>(&self, f: &mut fmt::Formatter<W>) -> fmt::Result {
-        let Cuts {
-            cuts,
-            images,
-            restarts,
-            third_lives,
-        } = *self;
-        write!(
+        write_numbers(
             f,
-            "{cuts} cuts, {images} images, {restarts} restarts, {third_lives} third lives"
+            &[
+                (self.cuts, " cuts, "),
+                (self.images, " images, "),
+                (self.restarts, " restarts, "),
+                (self.third_lives, " third lives"),
+            ],
         )
     }
 }
 
 impl fmt::Display for Failures {
     fn fmt<W: fmt::Write>(&self, f: &mut fmt::Formatter<W>) -> fmt::Result {
-        let Failures {
-            calls,
-            starts,
-            images,
-            restarts,
-        } = *self;
-        write!(
+        write_numbers(
             f,
-            "{calls} refusals in events, {starts} in starts, {images} images, {restarts} restarts"
+            &[
+                (self.calls, " refusals in events, "),
+                (self.starts, " in starts, "),
+                (self.images, " images, "),
+                (self.restarts, " restarts"),
+            ],
         )
     }
 }
 
 impl fmt::Display for Migrations {
     fn fmt<W: fmt::Write>(&self, f: &mut fmt::Formatter<W>) -> fmt::Result {
-        let Migrations {
-            cuts,
-            images,
-            of_format_two,
-            restarts,
-            lives,
-        } = *self;
-        write!(
+        write_numbers(
             f,
-            "{cuts} cuts, {images} images, {of_format_two} of them of format 2, "
-        )?;
-        write!(f, "{restarts} restarts, {lives} lives")
+            &[
+                (self.cuts, " cuts, "),
+                (self.images, " images, "),
+                (self.of_format_two, " of them of format 2, "),
+                (self.restarts, " restarts, "),
+                (self.lives, " lives"),
+            ],
+        )
     }
+}
+
+// Numbers, and the words behind each.
+fn write_numbers<W: fmt::Write>(f: &mut fmt::Formatter<W>, numbers: &[(u64, &str)]) -> fmt::Result {
+    for (number, words) in numbers {
+        write!(f, "{number}{words}")?;
+    }
+    Ok(())
 }
 
 /// One more.

@@ -20,10 +20,10 @@ use crate::case::Case;
 use crate::counts::Failures;
 use crate::fault::Fault;
 use crate::image::tell;
+use crate::trial::Trial;
 use std::alloc::Global;
 use std::io;
 use std::io::Write;
-use trial::Trial;
 
 /// Tries every case, and says whether all was as the definitions have it.
 pub(crate) fn play<W: Write>(alloc: Global, out: &mut W) -> io::Result<bool> {

@@ -60,16 +60,13 @@ impl Fault {
 impl fmt::Display for Fault {
     fn fmt<W: fmt::Write>(&self, f: &mut fmt::Formatter<W>) -> fmt::Result {
         match *self {
-            Fault::Finding(finding) => write!(f, "{finding}"),
+            Fault::Finding(finding) => finding.fmt(f),
             Fault::Writes(least, most) => write!(f, "{least} to {most} writes may be found"),
             Fault::Blame(fault) => write!(f, "where a call was refused the answer is: {fault}"),
             Fault::Migration(fault) => write!(f, "a migration was refused: {fault}"),
             Fault::Stamp(stamp) => write!(f, "a migration answers the stamp {stamp}"),
             Fault::Unflushed(count) => write!(f, "{count} unflushed writes"),
-            _ => {
-                let words = self.words();
-                write!(f, "{words}")
-            }
+            _ => f.write_str(self.words()),
         }
     }
 }

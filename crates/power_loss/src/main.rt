@@ -16,6 +16,7 @@ mod image;
 mod migrations;
 mod part;
 mod starts;
+mod trial;
 
 use part::{Asked, Part};
 use std::alloc::Global;

@@ -21,7 +21,7 @@ pub(crate) struct Restart<'a> {
 impl<'a> Restart<'a> {
     /// Cuts a start on a copy of the image at each of its writes and flushes, with none and all of
     /// the unflushed writes kept. A third life serves the same blocks.
-    pub(crate) fn cut_everywhere(self, alloc: Global, counts: &mut Cuts) -> Result<(), Fault> {
+    pub(crate) fn cut_everywhere(&self, alloc: Global, counts: &mut Cuts) -> Result<(), Fault> {
         let mut life = Life {
             fuse: None,
             events: vec![in alloc; Event::In].map_err(AllocError::from)?,
@@ -30,7 +30,7 @@ impl<'a> Restart<'a> {
         self.cut_each(alloc, &mut life, counts)
     }
 
-    fn cut_each(self, alloc: Global, life: &mut Life, counts: &mut Cuts) -> Result<(), Fault> {
+    fn cut_each(&self, alloc: Global, life: &mut Life, counts: &mut Cuts) -> Result<(), Fault> {
         for fuse in 0..1_000_000 {
             life.fuse = Some(fuse);
             life.kept = Kept::None;
@@ -45,25 +45,20 @@ impl<'a> Restart<'a> {
     }
 
     // A start with a fuse, and a third life. Whether the power went.
-    fn cut(self, alloc: Global, life: &Life, counts: &mut Cuts) -> Result<bool, Fault> {
+    fn cut(&self, alloc: Global, life: &Life, counts: &mut Cuts) -> Result<bool, Fault> {
         let mut hearing = hearing_over(alloc, self.shape.format, self.blocks)?;
         self.heard(alloc, life, &mut hearing, counts)
     }
 
     fn heard(
-        self,
+        &self,
         alloc: Global,
         life: &Life,
         hearing: &mut Hearing,
         counts: &mut Cuts,
     ) -> Result<bool, Fault> {
-        let played = play(
-            alloc,
-            copied(alloc, self.image)?,
-            Retiring::Late,
-            life,
-            hearing,
-        )?;
+        let image = copied(alloc, self.image)?;
+        let played = play(alloc, image, Retiring::Late, life, hearing)?;
         count(&mut counts.restarts);
         let cut = played.cut_in.is_some();
         self.third(alloc, played.medium, counts)?;
@@ -71,7 +66,7 @@ impl<'a> Restart<'a> {
     }
 
     // A third life serves the blocks.
-    fn third(self, alloc: Global, image: SimMedium, counts: &mut Cuts) -> Result<(), Fault>
+    fn third(&self, alloc: Global, image: SimMedium, counts: &mut Cuts) -> Result<(), Fault>
         requires { RestsUnfused image }
     {
         let third = served_by(alloc, self.shape, image)?;

@@ -1,24 +1,15 @@
 //! The judgement of a life that is cut at each of its calls of the medium.
-use crate::case::Case;
 use crate::counts::{Cuts, count};
 use crate::cuts::place::{Place, place_at};
 use crate::cuts::restart::Restart;
 use crate::fault::Fault;
-use crate::image::{cut_copy, hearing_over, served_by, subsets};
-use abstract_disk::{Array, Hearing};
-use bot_machine::{Answer, Life};
-use judging::{Finding, Played, Player, copied, play};
+use crate::image::{cut_copy, served_by, subsets};
+use crate::trial::Trial;
+use abstract_disk::{Found, Hearing};
+use bot_machine::{Answer, Event};
+use judging::{Finding, Played, Player, copied};
 use medium::{Kept, SimMedium};
 use std::alloc::Global;
-
-/// A life on a fresh image.
-#[derive(Drop)]
-pub(crate) struct Trial {
-    case: Case,
-    fresh: SimMedium,
-    opening: Array,
-    life: Life,
-}
 
 // A life whose power went, or that ended: where, with which fuse, and the medium before the cut.
 #[derive(Clone, Copy)]
@@ -29,18 +20,6 @@ struct Burnt<'a> {
 }
 
 impl Trial {
-    /// The worked life on a fresh image.
-    pub(crate) fn new(alloc: Global, case: Case) -> Result<Trial, Fault> {
-        let life = case.life(alloc)?;
-        let opening = Array::zeros(alloc, case.shape().blocks as usize)?;
-        Ok(Trial {
-            case,
-            fresh: case.shape().fresh(alloc)?,
-            opening,
-            life,
-        })
-    }
-
     /// Lives the life with each fuse in turn, up to the first with which the power stays on.
     pub(crate) fn cut_everywhere(&mut self, alloc: Global, counts: &mut Cuts) -> Result<(), Fault> {
         for fuse in 0..1_000_000 {
@@ -54,12 +33,13 @@ impl Trial {
 
     // Cuts the life with this fuse. Gives where the power went.
     fn cut_at(&mut self, alloc: Global, fuse: u64, counts: &mut Cuts) -> Result<Place, Fault> {
-        let mut player = Player::new(copied(alloc, &self.fresh)?, self.case.retiring())?;
+        let mut player = self.player(alloc)?;
         player.fuse(fuse);
         self.life.fuse = Some(fuse);
         self.cut_player(alloc, fuse, &mut player, counts)
     }
 
+    // Cuts the life of a player for whom this fuse is armed.
     fn cut_player(
         &mut self,
         alloc: Global,
@@ -74,7 +54,7 @@ impl Trial {
             place,
             medium: player.medium(),
         };
-        self.keep_each(alloc, burnt, counts)?;
+        self.keep_each(alloc, &burnt, counts)?;
         Ok(place)
     }
 
@@ -85,15 +65,14 @@ impl Trial {
             return Ok(Place::Start);
         }
         let answers = player.play(alloc, &self.life.events)?;
-        let off = answers.iter().position(|answer| *answer == Answer::Off);
-        Ok(off.map_or(Place::Nowhere, Place::Event))
+        Ok(place_of(&answers))
     }
 
     // Cuts the life, with each subset of the unflushed writes kept.
     fn keep_each(
         &mut self,
         alloc: Global,
-        burnt: Burnt<'_>,
+        burnt: &Burnt<'_>,
         counts: &mut Cuts,
     ) -> Result<(), Fault> {
         for mask in subsets(burnt.medium.unflushed())? {
@@ -107,36 +86,24 @@ impl Trial {
     fn keep(
         &self,
         alloc: Global,
-        burnt: Burnt<'_>,
+        burnt: &Burnt<'_>,
         mask: u64,
         counts: &mut Cuts,
     ) -> Result<(), Fault> {
-        let mut hearing = hearing_over(alloc, self.case.format, &self.opening)?;
-        self.keep_heard(alloc, burnt, mask, &mut hearing, counts)
-    }
-
-    fn keep_heard(
-        &self,
-        alloc: Global,
-        burnt: Burnt<'_>,
-        mask: u64,
-        hearing: &mut Hearing,
-        counts: &mut Cuts,
-    ) -> Result<(), Fault> {
-        let image = self.heard(alloc, burnt, mask, hearing)?;
-        self.judge(alloc, burnt, &image, hearing, counts)
+        let mut hearing = self.hearing(alloc)?;
+        let image = self.left(alloc, burnt, mask, &mut hearing)?;
+        self.judge(alloc, burnt, &image, &hearing, counts)
     }
 
     // The image that the life leaves.
-    fn heard(
+    fn left(
         &self,
         alloc: Global,
-        burnt: Burnt<'_>,
+        burnt: &Burnt<'_>,
         mask: u64,
         hearing: &mut Hearing,
     ) -> Result<SimMedium, Fault> {
-        let fresh = copied(alloc, &self.fresh)?;
-        let played = play(alloc, fresh, self.case.retiring(), &self.life, hearing)?;
+        let played = self.play(alloc, hearing)?;
         burnt.is_left(alloc, mask, &played)?;
         Ok(played.medium)
     }
@@ -145,7 +112,7 @@ impl Trial {
     fn judge(
         &self,
         alloc: Global,
-        burnt: Burnt<'_>,
+        burnt: &Burnt<'_>,
         image: &SimMedium,
         hearing: &Hearing,
         counts: &mut Cuts,
@@ -159,41 +126,52 @@ impl Trial {
             image,
             blocks: &blocks,
         };
-        self.judge_restart(alloc, burnt, restart, hearing, counts)
+        self.judge_restart(alloc, burnt, &restart, hearing, counts)
     }
 
+    // Whether the blocks may be found, and what a cut of the next start leaves.
     fn judge_restart(
         &self,
         alloc: Global,
-        burnt: Burnt<'_>,
-        restart: Restart<'_>,
+        burnt: &Burnt<'_>,
+        restart: &Restart<'_>,
         hearing: &Hearing,
         counts: &mut Cuts,
     ) -> Result<(), Fault> {
-        let event = burnt
-            .place
-            .event()
-            .and_then(|event| self.life.events.get(event));
+        let event = self.event_at(burnt.place);
         if self.case.ticks == 0 {
-            let (wanted, writes) = place_at(self.case, burnt.fuse);
-            if burnt.place != wanted {
-                return Err(Fault::Place);
-            }
-            let told = hearing.may_find(event)?;
-            if told != writes {
-                return Err(Fault::Writes(told.least, told.most));
-            }
+            self.judge_place(burnt, hearing.may_find(event)?)?;
         }
         match hearing.found(event, restart.blocks)? {
             Some(_) => restart.cut_everywhere(alloc, counts),
             None => Err(Fault::Finding(Finding::Blocks)),
         }
     }
+
+    // The event in which the power went.
+    fn event_at(&self, place: Place) -> Option<&Event> {
+        match place {
+            Place::Event(event) => self.life.events.get(event),
+            Place::Start | Place::Nowhere => None,
+        }
+    }
+
+    // Whether the power went where it has to, and these many writes may be found then.
+    fn judge_place(&self, burnt: &Burnt<'_>, told: Found) -> Result<(), Fault> {
+        let (place, writes) = place_at(self.case, burnt.fuse);
+        if burnt.place != place {
+            Err(Fault::Place)
+        } else if told != writes {
+            Err(Fault::Writes(told.least, told.most))
+        } else {
+            Ok(())
+        }
+    }
 }
 
 impl<'a> Burnt<'a> {
     // A life with this cut ended in the same place, and left the same image.
-    fn is_left(self, alloc: Global, mask: u64, played: &Played) -> Result<(), Fault> {
+    fn is_left(&self, alloc: Global, mask: u64, played: &Played) -> Result<(), Fault> {
         if played.cut_in != self.place.first_off() {
             return Err(Fault::Place);
         }
@@ -204,4 +182,14 @@ impl<'a> Burnt<'a> {
             Err(Fault::Image)
         }
     }
+}
+
+// Where the power went, by the answers behind a start.
+fn place_of(answers: &[Answer]) -> Place {
+    for (event, answer) in answers.iter().enumerate() {
+        if let Answer::Off = answer {
+            return Place::Event(event);
+        }
+    }
+    Place::Nowhere
 }

@@ -1,28 +1,20 @@
 //! The judgement of a life in which one call of the medium is refused.
 ghost use Rattle.judging.specs.Resting.{RestsUnfused};
 
-use crate::case::Case;
 use crate::counts::{Failures, count};
 use crate::fault::Fault;
-use crate::image::{cut_copy, hearing_over, served_by, subsets};
+use crate::image::{cut_copy, served_by, subsets};
+use crate::trial::Trial;
 use abstract_disk::{Array, Hearing};
-use bot_machine::{Answer, Event};
+use bot_machine::Answer;
 use judging::{Finding, Player, blocks_of, cut, hear, served};
 use medium::{Kept, Medium, SimMedium};
 use std::alloc::{AllocError, Global};
 
-/// The case, the blocks that its image serves, and the events of its life.
-#[derive(Clone, Copy)]
-pub(crate) struct Judge<'a> {
-    pub(crate) case: Case,
-    pub(crate) opening: &'a Array,
-    pub(crate) events: &'a [Event],
-}
-
-impl<'a> Judge<'a> {
+impl Trial {
     /// A start was refused: the next one serves the same blocks, after each cut and at once.
-    pub(crate) fn start(
-        self,
+    pub(crate) fn judge_start(
+        &self,
         alloc: Global,
         player: &mut Player,
         counts: &mut Failures,
@@ -31,69 +23,56 @@ impl<'a> Judge<'a> {
         for mask in subsets(player.medium().unflushed())? {
             count(&mut counts.images);
             let image = cut_copy(alloc, player.medium(), mask)?;
-            self.serves(alloc, image, self.opening, counts)?;
+            self.serves(alloc, image, &self.opening, counts)?;
         }
         let (blocks, limit) = (self.case.shape().blocks, self.case.format.limit());
         let second = served(alloc, player, blocks, limit)?;
-        same(&second, self.opening, counts)
+        same(&second, &self.opening, counts)
     }
 
     /// The answers to the events, and the images of the cuts behind them. Whether a call was
     /// refused.
-    pub(crate) fn life(
-        self,
+    pub(crate) fn judge_life(
+        &self,
         alloc: Global,
         medium: &SimMedium,
         answers: &[Answer],
         counts: &mut Failures,
     ) -> Result<bool, Fault> {
         let failed = has_failed(alloc, medium)?;
+        let mut hearing = self.hearing(alloc)?;
         if failed {
             count(&mut counts.calls);
+            hearing.may_fail();
         }
-        self.answers(alloc, medium, answers, failed, counts)?;
+        self.judge_heard(alloc, medium, answers, &mut hearing, counts)?;
         Ok(failed)
     }
 
-    // The same, where it is known whether a call was refused.
-    fn answers(
-        self,
-        alloc: Global,
-        medium: &SimMedium,
-        answers: &[Answer],
-        failed: bool,
-        counts: &mut Failures,
-    ) -> Result<(), Fault> {
-        let mut hearing = hearing_over(alloc, self.case.format, self.opening)?;
-        if failed {
-            hearing.may_fail();
-        }
-        self.heard(alloc, medium, answers, &mut hearing, counts)
-    }
-
-    fn heard(
-        self,
+    // The same by a hearing.
+    fn judge_heard(
+        &self,
         alloc: Global,
         medium: &SimMedium,
         answers: &[Answer],
         hearing: &mut Hearing,
         counts: &mut Failures,
     ) -> Result<(), Fault> {
-        if let Some(place) = hear(self.events, answers, hearing)? {
+        if let Some(place) = hear(&self.life.events, answers, hearing)? {
             return Err(Fault::Finding(Finding::Off(place)));
         }
         for mask in subsets(medium.unflushed())? {
             count(&mut counts.images);
             let image = cut_copy(alloc, medium, mask)?;
-            self.image(alloc, image, hearing, counts)?;
+            self.judge_image(alloc, image, hearing, counts)?;
         }
         Ok(())
     }
 
     // The blocks of the next start are those after some of the accepted writes, and those of the
     // start behind it are the same.
-    fn image(
-        self,
+    fn judge_image(
+        &self,
         alloc: Global,
         image: SimMedium,
         hearing: &Hearing,
@@ -104,20 +83,8 @@ impl<'a> Judge<'a> {
         let (blocks, limit) = (self.case.shape().blocks, self.case.format.limit());
         let (image, found) = blocks_of(alloc, image, blocks, limit)?;
         count(&mut counts.restarts);
-        self.found(alloc, image, &found, hearing, counts)
-    }
-
-    // These are blocks after some of the accepted writes, and the image serves them again.
-    fn found(
-        self,
-        alloc: Global,
-        image: SimMedium,
-        found: &Array,
-        hearing: &Hearing,
-        counts: &mut Failures,
-    ) -> Result<(), Fault> {
-        self.serves(alloc, cut(image, &Kept::None), found, counts)?;
-        match hearing.found(None, found)? {
+        self.serves(alloc, cut(image, &Kept::None), &found, counts)?;
+        match hearing.found(None, &found)? {
             Some(_) => Ok(()),
             None => Err(Fault::Finding(Finding::Blocks)),
         }
@@ -125,7 +92,7 @@ impl<'a> Judge<'a> {
 
     // A start on an image serves these blocks.
     fn serves(
-        self,
+        &self,
         alloc: Global,
         image: SimMedium,
         wanted: &Array,

@@ -72,7 +72,7 @@ impl<'a> Trial<'a> {
     // Migrates a copy with each fuse in turn, from the first of the case up to the one that lets
     // the migration end.
     fn cut_everywhere(
-        self,
+        &self,
         alloc: Global,
         case: Case,
         counts: &mut Migrations,
@@ -87,7 +87,7 @@ impl<'a> Trial<'a> {
 
     // Migrates a copy with this fuse. Whether the power went.
     fn cut_at(
-        self,
+        &self,
         alloc: Global,
         fuse: u64,
         choices: Choices,
@@ -103,7 +103,7 @@ impl<'a> Trial<'a> {
 
     // A migration was not cut: each life after it reads the same blocks.
     fn end(
-        self,
+        &self,
         alloc: Global,
         medium: SimMedium,
         answer: &(Recovered, bool),
@@ -118,7 +118,7 @@ impl<'a> Trial<'a> {
 
     // The power went in a migration with this fault.
     fn cut_here(
-        self,
+        &self,
         alloc: Global,
         medium: &SimMedium,
         fault: StartFault,
@@ -142,7 +142,7 @@ impl<'a> Trial<'a> {
 
     // The cut keeps the unflushed write with this number alone.
     fn keep_alone(
-        self,
+        &self,
         alloc: Global,
         medium: &SimMedium,
         number: usize,
@@ -154,7 +154,7 @@ impl<'a> Trial<'a> {
 
     // The image that a cut leaves is migrated again, both at once and after a life in between.
     fn restart(
-        self,
+        &self,
         alloc: Global,
         medium: &SimMedium,
         kept: &Kept,
@@ -172,7 +172,7 @@ impl<'a> Trial<'a> {
     }
 
     fn live_and_migrate(
-        self,
+        &self,
         alloc: Global,
         medium: SimMedium,
         counts: &mut Migrations,
@@ -189,7 +189,7 @@ impl<'a> Trial<'a> {
 
     // A life that reads every block, within the limit of this format.
     fn read(
-        self,
+        &self,
         alloc: Global,
         medium: SimMedium,
         format: Format,
@@ -208,7 +208,7 @@ impl<'a> Trial<'a> {
 
     // Migrates a copy of a medium without a fuse. Gives the stamp.
     fn migrate_copy(
-        self,
+        &self,
         alloc: Global,
         medium: &SimMedium,
         stamps: Range<u64>,
@@ -218,7 +218,7 @@ impl<'a> Trial<'a> {
     }
 
     // Migrates without a fuse. Gives the stamp.
-    fn migrate_again(self, medium: &mut SimMedium, stamps: Range<u64>) -> Result<u64, Fault> {
+    fn migrate_again(&self, medium: &mut SimMedium, stamps: Range<u64>) -> Result<u64, Fault> {
         let was_one = format_of(medium.image()) == Some(1);
         let answer = migrate(medium).map_err(Fault::Migration)?;
         self.judge(medium, &answer, was_one, stamps)
@@ -226,24 +226,19 @@ impl<'a> Trial<'a> {
 
     // What a migration answers, and the image that it makes. Gives the stamp.
     fn judge(
-        self,
+        &self,
         medium: &SimMedium,
         answer: &(Recovered, bool),
         was_one: bool,
         stamps: Range<u64>,
     ) -> Result<u64, Fault> {
-        let (Recovered { sizes, next }, migrated) = *answer;
-        let told = [
-            sizes.format.version(),
-            sizes.blocks,
-            sizes.slots,
-            sizes.home,
-        ];
+        let (recovered, migrated) = *answer;
+        let next = recovered.next;
         if migrated != was_one {
             Err(Fault::Format)
-        } else if told != self.past.size.after() {
+        } else if told_by(&recovered) != self.past.size.after() {
             Err(Fault::Sizes)
-        } else if next < stamps.start || next >= stamps.end {
+        } else if !stamps.contains(&next) {
             Err(Fault::Stamp(next))
         } else if medium.unflushed() > 0 || !is_image(medium.image(), self.wanted, next) {
             Err(Fault::Image)
@@ -251,6 +246,17 @@ impl<'a> Trial<'a> {
             Ok(next)
         }
     }
+}
+
+// What a migration tells of the image: version, blocks, slots and the first home sector.
+fn told_by(answer: &Recovered) -> [u64; 4] {
+    let Recovered { sizes, .. } = *answer;
+    [
+        sizes.format.version(),
+        sizes.blocks,
+        sizes.slots,
+        sizes.home,
+    ]
 }
 
 // A cut that keeps the unflushed write with this number alone.
