@@ -1,11 +1,14 @@
 -- What a look at an image answers.
-use Rattle.std.specs.Prelude.{◌≡◌, ℕ, ◌+◌, ◌*◌, ◌<◌, ◌≤◌, List, length, slice_index, map}
+use Rattle.std.specs.Prelude.{◌≡◌, ◌⊎◌, ℕ, ◌+◌, ◌*◌, ◌<◌, ◌≤◌, List, length, slice_index, map}
 use Rattle.medium.specs.Medium.{State, Image}
 use Rattle.medium.specs.Moments.{IsQuiet}
 use Rattle.spec.specs.Blocks.{Array}
 use Rattle.medium.specs.declared.fault.MediumFault.TheVariants as medium
 use Rattle.journal.specs.declared.log_format.LogFormat.TheVariants.{Two}
-use Rattle.journal.specs.Places.{Shape, slot_sectors_of}
+use Rattle.journal.specs.declared.super_fault.SuperFault.TheVariants.{Magic, Version, Rest, Sizes}
+use Rattle.journal.specs.Places.{Shape, sectors_of, slot_sectors_of}
+use Rattle.journal.specs.Sectors.{IsSuper}
+use Rattle.journal.specs.SuperFaults.{IsSuperFault}
 use Rattle.journal.specs.Values.{shape_of}
 use Rattle.journal.specs.Record.{Entry}
 use Rattle.journal.specs.Formats.{IsWhole}
@@ -55,6 +58,20 @@ IsLookCause old new BadSize = image.HasFault old.size old.content image.BadSize
 IsLookCause old new BadHead = image.HasFault old.size old.content image.BadHead
 IsLookCause old new StampsUsedUp = ⊥
 IsLookCause old new LogTooSmall = ⊥
+
+-- what is wrong with a super on a medium of so many sectors
+abbrev pub IsSuperCause : ℕ → List ℕ → StartFault → Type 0
+IsSuperCause size sector NoMemory = ⊥
+IsSuperCause size sector Read = ⊥
+IsSuperCause size sector Write = ⊥
+IsSuperCause size sector Flush = ⊥
+IsSuperCause size sector BadSuper = IsSuperFault Magic sector ⊎ IsSuperFault Rest sector
+IsSuperCause size sector BadVersion = IsSuperFault Version sector
+IsSuperCause size sector BadSize = IsSuperFault Sizes sector
+    ⊎ ((shape : Shape) × IsSuper shape sector × (size < sectors_of shape))
+IsSuperCause size sector BadHead = ⊥
+IsSuperCause size sector StampsUsedUp = ⊥
+IsSuperCause size sector LogTooSmall = ⊥
 
 -- Contents that stand for something are refused by the device alone.
 pub record IsLookRefusal (old new : State) (fault : StartFault) : Type 0 where

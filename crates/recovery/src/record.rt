@@ -1,5 +1,5 @@
 //! The record of a stamp, where it is whole.
-ghost use Rattle.std.specs.Prelude.{◌≤◌, ◌<◌};
+ghost use Rattle.std.specs.Prelude.{◌≡◌, ◌≤◌, ◌<◌, true, false, MatchOption};
 ghost use Rattle.journal.specs.Places.{first_home, sectors_of};
 ghost use Rattle.journal.specs.Values.{shape_of};
 ghost use Rattle.journal.specs.Reads.{LooksUp};
@@ -25,9 +25,13 @@ pub(crate) fn count_blocks<M: Medium>(
         return Ok(None);
     }
     let count = record.numbers.len() as u64;
-    if are_stamped(m, sizes, stamp, count)? {
-        Ok(Some(count))
-    } else {
-        Ok(None)
-    }
+    Ok(counted(are_stamped(m, sizes, stamp, count)?, count))
+}
+
+// How many blocks a record has with so many numbers, if its data places carry its stamp.
+fn counted(is_stamped: bool, count: u64) -> Option<u64>
+    ensures { MatchOption result (is_stamped ≡ false)
+        (λ blocks. (is_stamped ≡ true) × (blocks ≡ count)) }
+{
+    if is_stamped { Some(count) } else { None }
 }

@@ -6,11 +6,12 @@ ghost use Rattle.journal.specs.declared.log_format.LogFormat.TheVariants.{One};
 ghost use Rattle.journal.specs.Places.{first_home, sectors_of};
 ghost use Rattle.journal.specs.Values.{shape_of};
 ghost use Rattle.journal.specs.ImageFaults.{HasShape};
+ghost use Rattle.journal.specs.Sectors.{IsSuper};
 ghost use Rattle.journal.specs.Reads.{LooksUp};
 ghost use Rattle.recovery.specs.Calls.{ReadsUpTo};
 ghost use Rattle.recovery.specs.Copies.{most_reads_of};
 ghost use Rattle.recovery.specs.Found.{CountsWhole};
-ghost use Rattle.recovery.specs.Inspected.{IsLookCause};
+ghost use Rattle.recovery.specs.Inspected.{IsLookCause, IsSuperCause};
 ghost use Rattle.recovery.specs.Steps.{Surveys};
 
 use crate::StartFault;
@@ -49,13 +50,22 @@ pub(crate) fn read_super<M: Medium>(m: &mut M) -> Result<Super, StartFault>
     }
     let mut sector = [0; 512];
     m.read(0, &mut sector)?;
-    match Super::decode(&sector) {
+    sizes_in(&sector, m.sectors())
+}
+
+// The sizes in a super on a medium of so many sectors, or what is wrong with it.
+fn sizes_in(sector: &[u8; 512], sectors: u64) -> Result<Super, StartFault>
+    ensures ok { IfOk result (λ sizes. IsSuper (shape_of sizes) sector.now
+        × (sectors_of (shape_of sizes) ≤ sectors)) }
+    ensures err { IfErr result (IsSuperCause sectors sector.now) }
+{
+    match Super::decode(sector) {
         Err(SuperFault::Magic) => Err(StartFault::BadSuper),
         Err(SuperFault::Version) => Err(StartFault::BadVersion),
         Err(SuperFault::Rest) => Err(StartFault::BadSuper),
         Err(SuperFault::Sizes) => Err(StartFault::BadSize),
         Ok(sizes) => {
-            if sizes.sectors() <= m.sectors() {
+            if sizes.sectors() <= sectors {
                 Ok(sizes)
             } else {
                 Err(StartFault::BadSize)
