@@ -73,7 +73,9 @@ fn write_patched<R: Files<File = File> + AllocGlobal>(
     patches: &[Patch],
 ) -> Result<(), Fault> {
     for patch in patches {
-        put(image, patch.offset, patch.bytes.as_slice()).ok_or(Fault::Patch)?;
+        if put(image, patch.offset, patch.bytes.as_slice()).is_none() {
+            return Err(Fault::Patch);
+        }
     }
     Ok(fs::write(rt, IMAGE, image)?)
 }

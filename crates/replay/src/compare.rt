@@ -28,12 +28,17 @@ pub(crate) fn compare(
         }));
     }
     if err != step.told.as_slice() {
-        return Ok(Some(Difference::StandardError {
-            found: String::from_str(alloc, text_of(err).trim_end())?,
-            wanted: String::from_str(alloc, text_of(step.told.as_slice()).trim_end())?,
-        }));
+        return Ok(Some(other_error(alloc, text_of(err), text_of(step.told.as_slice()))?));
     }
     Ok(None)
+}
+
+// What standard error got, and what it must get.
+fn other_error(alloc: Global, found: &str, wanted: &str) -> Result<Difference, AllocError> {
+    Ok(Difference::StandardError {
+        found: String::from_str(alloc, found.trim_end())?,
+        wanted: String::from_str(alloc, wanted.trim_end())?,
+    })
 }
 
 // The text of bytes that were written.

@@ -18,10 +18,15 @@ const SECTORS: usize = 65_402;
 
 /// A fresh image, on a medium with room for the zeros of its formatting.
 pub(crate) fn fresh_medium(alloc: Global) -> Result<SimMedium, Fault> {
-    let image = vec![in alloc; 0; 512 * SECTORS]?;
-    let mut medium = SimMedium::new(alloc, image, SECTORS)?;
+    let mut medium = blank(alloc)?;
     recovery::format(&mut medium, BLOCKS, SLOTS)?;
     Ok(medium)
+}
+
+// Such a medium, before its formatting.
+fn blank(alloc: Global) -> Result<SimMedium, Fault> {
+    let image = vec![in alloc; 0; 512 * SECTORS]?;
+    Ok(SimMedium::new(alloc, image, SECTORS)?)
 }
 
 /// The texts by which the recorded disk was known.
@@ -44,12 +49,16 @@ pub(crate) fn play_part(
     recording: &Recording,
     pace: Pace,
 ) -> Result<(SimMedium, u64), Fault> {
-    let mut disk = match Disk::start(alloc, medium, identity) {
-        Ok(disk) => disk,
-        Err(error) => return Err(Fault::Start(error.fault)),
-    };
+    let mut disk = start(alloc, medium, identity)?;
     let answers = serve(&mut disk, recording, pace)?;
     Ok((disk.into_medium(), answers))
+}
+
+fn start(alloc: Global, medium: SimMedium, identity: Identity) -> Result<Disk<SimMedium>, Fault> {
+    match Disk::start(alloc, medium, identity) {
+        Ok(disk) => Ok(disk),
+        Err(error) => Err(Fault::Start(error.fault)),
+    }
 }
 
 // Sends a disk the lines of a recording, and compares each answer. Gives their number.
@@ -67,10 +76,15 @@ fn serve(disk: &mut Disk<SimMedium>, recording: &Recording, pace: Pace) -> Resul
         came: &came,
     };
     let served = serve_lines(disk, &mut sender, &mut comparer);
-    let next = came.get().saturating_add(1);
+    ended(served, comparer.recorded.is_empty(), came.get())
+}
+
+// How many answers came, if all of them did, and as recorded.
+fn ended(served: Result<(), LineFault>, are_all: bool, came: u64) -> Result<u64, Fault> {
+    let next = came.saturating_add(1);
     match served {
-        Ok(()) if comparer.recorded.is_empty() => Ok(came.get()),
-        Ok(()) => Err(Fault::Missing(came.get())),
+        Ok(()) if are_all => Ok(came),
+        Ok(()) => Err(Fault::Missing(came)),
         Err(LineFault::Line(number)) => Err(Fault::ScriptLine(number)),
         Err(LineFault::Reader) => Err(Fault::Early(next)),
         Err(LineFault::Writer) => Err(Fault::Answer(next)),

@@ -1,7 +1,7 @@
 //! The exchanges of a transcript.
 use crate::expand::expand;
 use crate::fault::LineFault;
-use std::alloc::Global;
+use std::alloc::{AllocError, Global};
 
 /// The size of an image, as the words of a command tell it.
 #[derive(Drop)]
@@ -50,9 +50,41 @@ pub(crate) struct Exchange {
     pub(crate) steps: Vec<Step>,
 }
 
+/// What a line says more of an exchange.
+#[derive(Clone, Copy)]
+enum Mark {
+    Image,
+    Bytes,
+    Patch,
+    Command,
+    Script,
+    Written,
+    Ending,
+}
+
+const MARKS: [(&str, Mark); 7] = [
+    ("image", Mark::Image),
+    ("bytes", Mark::Bytes),
+    ("patch", Mark::Patch),
+    ("$", Mark::Command),
+    (">", Mark::Script),
+    ("<", Mark::Written),
+    ("=", Mark::Ending),
+];
+
+// What a line with this mark says.
+fn mark_of(word: &str) -> Result<Mark, LineFault> {
+    for (known, mark) in &MARKS {
+        if *known == word {
+            return Ok(*mark);
+        }
+    }
+    Err(LineFault::Mark)
+}
+
 impl Step {
     // A command of which nothing is known but its words.
-    fn new(alloc: Global, words: &str) -> Result<Step, LineFault> {
+    fn new(alloc: Global, words: &str) -> Result<Step, AllocError> {
         Ok(Step {
             words: String::from_str(alloc, words)?,
             script: Vec::new(alloc),
@@ -62,17 +94,29 @@ impl Step {
         })
     }
 
+    // Takes a line of the script, one that is written, or how the command ends.
+    fn take(&mut self, alloc: Global, mark: Mark, text: &str) -> Result<(), LineFault> {
+        match mark {
+            Mark::Script => push_line(alloc, &mut self.script, text),
+            Mark::Written => push_line(alloc, &mut self.written, text),
+            _ => self.end(alloc, text),
+        }
+    }
+
     // Takes how the command ends: its status, and the line on standard error.
     fn end(&mut self, alloc: Global, ending: &str) -> Result<(), LineFault> {
         let (status, told) = ending.split_once(' ').unwrap_or((ending, ""));
-        self.status = status.parse().map_err(|_| LineFault::Number)?;
+        let Ok(status) = status.parse() else {
+            return Err(LineFault::Number);
+        };
+        self.status = status;
         push_line(alloc, &mut self.told, told)
     }
 }
 
 impl Exchange {
     /// An exchange without commands on a fresh image of 1000 blocks and 8 log slots.
-    pub(crate) fn new(alloc: Global, name: &str) -> Result<Exchange, LineFault> {
+    pub(crate) fn new(alloc: Global, name: &str) -> Result<Exchange, AllocError> {
         Ok(Exchange {
             name: String::from_str(alloc, name)?,
             image: sized(alloc, "1000", "8")?,
@@ -83,39 +127,68 @@ impl Exchange {
 
     /// Takes a line that says more of the exchange: its mark, and the text behind that.
     pub(crate) fn take(&mut self, alloc: Global, mark: &str, text: &str) -> Result<(), LineFault> {
-        match mark {
-            "image" => {
-                let (blocks, slots) = text.split_once(' ').ok_or(LineFault::Number)?;
-                self.image = sized(alloc, blocks, slots)?;
-            }
-            "bytes" => self.image = Image::Bytes(bytes_of(alloc, text)?),
-            "patch" => {
-                let (offset, bytes) = text.split_once(' ').ok_or(LineFault::Number)?;
-                self.patches.push(Patch {
-                    offset: offset.parse().map_err(|_| LineFault::Number)?,
-                    bytes: bytes_of(alloc, bytes)?,
-                })?;
-            }
-            "$" => self.steps.push(Step::new(alloc, text)?)?,
-            ">" => push_line(alloc, &mut self.step(alloc)?.script, text)?,
-            "<" => push_line(alloc, &mut self.step(alloc)?.written, text)?,
-            "=" => self.step(alloc)?.end(alloc, text)?,
-            _ => return Err(LineFault::Mark),
+        match mark_of(mark)? {
+            Mark::Image => self.take_size(alloc, text),
+            Mark::Bytes => self.take_bytes(alloc, text),
+            Mark::Patch => self.take_patch(alloc, text),
+            Mark::Command => Ok(self.push_step(alloc, text)?),
+            mark => self.step(alloc)?.take(alloc, mark, text),
         }
+    }
+
+    // Takes the size of the image.
+    fn take_size(&mut self, alloc: Global, text: &str) -> Result<(), LineFault> {
+        let Some((blocks, slots)) = text.split_once(' ') else {
+            return Err(LineFault::Number);
+        };
+        self.image = sized(alloc, blocks, slots)?;
+        Ok(())
+    }
+
+    // Takes the bytes of the image.
+    fn take_bytes(&mut self, alloc: Global, text: &str) -> Result<(), LineFault> {
+        self.image = Image::Bytes(bytes_of(alloc, text)?);
+        Ok(())
+    }
+
+    fn take_patch(&mut self, alloc: Global, text: &str) -> Result<(), LineFault> {
+        let patch = patch_of(alloc, text)?;
+        self.patches.push(patch).map_err(AllocError::from)?;
+        Ok(())
+    }
+
+    // Takes a command of these words.
+    fn push_step(&mut self, alloc: Global, words: &str) -> Result<(), AllocError> {
+        self.steps.push(Step::new(alloc, words)?)?;
         Ok(())
     }
 
     // The last command. Where there is none yet, it plays the script on a simulated medium.
     fn step(&mut self, alloc: Global) -> Result<&mut Step, LineFault> {
         if self.steps.is_empty() {
-            self.steps.push(Step::new(alloc, "sim image script")?)?;
+            self.push_step(alloc, "sim image script")?;
         }
-        self.steps.last_mut().ok_or(LineFault::NoExchange)
+        match self.steps.last_mut() {
+            Some(step) => Ok(step),
+            None => Err(LineFault::NoExchange),
+        }
     }
 }
 
+// The bytes of a patch, behind their place.
+fn patch_of(alloc: Global, text: &str) -> Result<Patch, LineFault> {
+    let Some((offset, bytes)) = text.split_once(' ') else {
+        return Err(LineFault::Number);
+    };
+    let Ok(offset) = offset.parse() else {
+        return Err(LineFault::Number);
+    };
+    let bytes = bytes_of(alloc, bytes)?;
+    Ok(Patch { offset, bytes })
+}
+
 // A formatted image of a size.
-fn sized(alloc: Global, blocks: &str, slots: &str) -> Result<Image, LineFault> {
+fn sized(alloc: Global, blocks: &str, slots: &str) -> Result<Image, AllocError> {
     Ok(Image::Formatted(Size {
         blocks: String::from_str(alloc, blocks)?,
         slots: String::from_str(alloc, slots)?,
@@ -125,12 +198,22 @@ fn sized(alloc: Global, blocks: &str, slots: &str) -> Result<Image, LineFault> {
 // The bytes that a text spells in hex digits, which may end in a run.
 fn bytes_of(alloc: Global, text: &str) -> Result<Vec<u8>, LineFault> {
     let digits = expand(alloc, text.as_bytes())?;
-    hex::decode(alloc, digits.as_slice()).map_err(|_| LineFault::Hex)
+    match hex::decode(alloc, digits.as_slice()) {
+        Ok(bytes) => Ok(bytes),
+        Err(_) => Err(LineFault::Hex),
+    }
 }
 
 // Appends what a line stands for, and its line feed.
 fn push_line(alloc: Global, lines: &mut Vec<u8>, line: &str) -> Result<(), LineFault> {
-    lines.extend_from_slice(expand(alloc, line.as_bytes())?.as_slice())?;
+    let text = expand(alloc, line.as_bytes())?;
+    end_line(lines, text.as_slice())?;
+    Ok(())
+}
+
+// Appends a line, and its line feed.
+fn end_line(lines: &mut Vec<u8>, text: &[u8]) -> Result<(), AllocError> {
+    lines.extend_from_slice(text)?;
     lines.push(b'\n')?;
     Ok(())
 }

@@ -54,5 +54,8 @@ fn read_count(digits: &[u8]) -> Result<usize, LineFault>
     let Ok(digits) = str::from_utf8(digits) else {
         return Err(LineFault::Run);
     };
-    digits.parse::<usize>().map_err(|_| LineFault::Run)
+    match digits.parse::<usize>() {
+        Ok(count) => Ok(count),
+        Err(_) => Err(LineFault::Run),
+    }
 }

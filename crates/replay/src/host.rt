@@ -6,7 +6,7 @@ use std::io::{ErrorKind, Read, Write};
 use std::{fmt, io};
 
 /// How a host sends its lines.
-#[derive(Clone, Copy, Debug, PartialEq, Eq)]
+#[derive(Clone, Copy)]
 pub(crate) enum Pace {
     /// A line at a time.
     Waits,

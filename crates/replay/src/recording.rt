@@ -94,33 +94,42 @@ fn packets_of(count: &str) -> u64 {
 // Appends the lines of a text, with their blocks.
 fn expand(alloc: Global, text: &str, blocks: &[u8], lines: &mut Vec<u8>) -> Result<(), Fault> {
     for line in text.lines() {
-        match line.split_once('@') {
-            None => lines.extend_from_slice(line.as_bytes())?,
-            Some((word, number)) => {
-                lines.extend_from_slice(word.as_bytes())?;
-                append_block(alloc, number, blocks, lines)?;
-            }
-        }
-        lines.push(b'\n')?;
+        expand_line(alloc, line, blocks, lines)?;
+        lines.push(b'\n').map_err(AllocError::from)?;
     }
     Ok(())
 }
 
-// Appends the digits of the block with this number.
+// Appends a line, with its block.
+fn expand_line(alloc: Global, line: &str, blocks: &[u8], lines: &mut Vec<u8>) -> Result<(), Fault> {
+    match line.split_once('@') {
+        None => Ok(lines.extend_from_slice(line.as_bytes())?),
+        Some((word, number)) => append_block(alloc, word, number, blocks, lines),
+    }
+}
+
+// Appends a word, and the digits of the block with this number.
 fn append_block(
     alloc: Global,
+    word: &str,
     number: &str,
     blocks: &[u8],
     lines: &mut Vec<u8>,
 ) -> Result<(), Fault> {
+    lines.extend_from_slice(word.as_bytes())?;
     let mut digits = [0; 2 * BLOCK];
-    let Some(block) = block_at(number, blocks) else {
-        return Err(Fault::Block(String::from_str(alloc, number)?));
-    };
-    if hex::encode_to_slice(block, &mut digits).is_err() {
+    if !is_spelled(number, blocks, &mut digits) {
         return Err(Fault::Block(String::from_str(alloc, number)?));
     }
     Ok(lines.extend_from_slice(&digits)?)
+}
+
+// Whether there is a block with this number, whose digits these are.
+fn is_spelled(number: &str, blocks: &[u8], digits: &mut [u8; 2 * BLOCK]) -> bool {
+    match block_at(number, blocks) {
+        Some(block) => hex::encode_to_slice(block, digits).is_ok(),
+        None => false,
+    }
 }
 
 // The block with this number, counted from 0.

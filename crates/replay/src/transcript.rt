@@ -1,7 +1,7 @@
 //! The text of a transcript is read.
 use crate::exchange::Exchange;
 use crate::fault::{Fault, LineFault};
-use std::alloc::Global;
+use std::alloc::{AllocError, Global};
 
 /// Exchanges, in their order.
 #[derive(Drop)]
@@ -15,14 +15,19 @@ impl Transcript {
         let mut transcript = Transcript {
             exchanges: Vec::new(alloc),
         };
+        transcript.take_lines(alloc, text)?;
+        Ok(transcript)
+    }
+
+    fn take_lines(&mut self, alloc: Global, text: &str) -> Result<(), Fault> {
         let mut number: u64 = 0;
         for line in text.lines() {
             number = number.saturating_add(1);
-            if let Err(fault) = transcript.take(alloc, line) {
+            if let Err(fault) = self.take(alloc, line) {
                 return Err(Fault::Line { number, fault });
             }
         }
-        Ok(transcript)
+        Ok(())
     }
 
     // Takes the next line.
@@ -32,10 +37,23 @@ impl Transcript {
         }
         let (mark, text) = line.split_once(' ').unwrap_or((line, ""));
         if mark == "#" {
-            self.exchanges.push(Exchange::new(alloc, text)?)?;
-            return Ok(());
+            Ok(self.begin(alloc, text)?)
+        } else {
+            self.take_more(alloc, mark, text)
         }
-        let exchange = self.exchanges.last_mut().ok_or(LineFault::NoExchange)?;
-        exchange.take(alloc, mark, text)
+    }
+
+    // Takes a line that says more of the last exchange.
+    fn take_more(&mut self, alloc: Global, mark: &str, text: &str) -> Result<(), LineFault> {
+        match self.exchanges.last_mut() {
+            Some(exchange) => exchange.take(alloc, mark, text),
+            None => Err(LineFault::NoExchange),
+        }
+    }
+
+    // An exchange of this name begins.
+    fn begin(&mut self, alloc: Global, name: &str) -> Result<(), AllocError> {
+        self.exchanges.push(Exchange::new(alloc, name)?)?;
+        Ok(())
     }
 }
