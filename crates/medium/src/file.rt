@@ -156,8 +156,8 @@ fn measured_bytes<S: ToldFile>(
     length: u64,
 ) -> Result<Vec<u8>, FileError>
     requires { IsMeasured length (S.told file.old) }
-    ensures image { IfOk result (λ bytes. IsImage bytes.items) }
-    ensures copied { IfOk result (λ bytes. IsReadWhole bytes.items (S.told file.new)) }
+    ensures { IfOk result (λ bytes. IsImage bytes.items
+        × IsReadWhole bytes.items (S.told file.new)) }
 {
     let count = check_length(length)?;
     first_bytes(alloc, file, count)
