@@ -28,9 +28,44 @@ pub(crate) enum Data {
     List([u8; 24]),
 }
 
+impl Command {
+    /// The command block wrapper with this tag, and a byte more.
+    pub(crate) fn wrapper(&self, tag: u32) -> [u8; 32] {
+        let (flags, announced) = match self.way {
+            Way::In(bytes) => (0x80, bytes),
+            Way::Out(bytes) => (0x00, bytes),
+        };
+        let mut bytes = [0; 32];
+        bytes[..4].copy_from_slice(b"USBC");
+        bytes[4..8].copy_from_slice(&tag.to_le_bytes());
+        bytes[8..12].copy_from_slice(&announced.to_le_bytes());
+        bytes[12] = flags;
+        bytes[14] = self.length;
+        bytes[15..31].copy_from_slice(&self.block);
+        bytes
+    }
+
+    /// How many bytes of data the disk may send.
+    pub(crate) fn sent(&self) -> u32 {
+        match self.way {
+            Way::In(bytes) => bytes,
+            Way::Out(_) => 0,
+        }
+    }
+}
+
 impl Data {
-    /// The byte at this place.
-    pub(crate) fn byte(&self, place: u32) -> u8 {
+    /// So many bytes from this place on, but no more than a packet has.
+    pub(crate) fn part(&self, from: u32, length: u32) -> [u8; 512] {
+        let mut bytes = [0; 512];
+        for (place, byte) in (0..length).zip(bytes.iter_mut()) {
+            *byte = self.byte(from.saturating_add(place));
+        }
+        bytes
+    }
+
+    // The byte at this place.
+    fn byte(&self, place: u32) -> u8 {
         match self {
             Data::Blocks(first) => {
                 let [number, ..] = (place / 512).to_le_bytes();
@@ -76,6 +111,22 @@ pub(crate) fn any_command(random: &mut Random, shape: &Shape) -> Command {
     command
 }
 
+/// REQUEST SENSE for 18 bytes.
+pub(crate) fn request_sense() -> Command {
+    let mut block = [0; 16];
+    block[0] = 0x03;
+    block[4] = 18;
+    sends(block, 6, 18)
+}
+
+/// READ(10).
+pub(crate) fn read_10(address: u32, count: u32) -> Command {
+    let [a, b, c, d] = address.to_be_bytes();
+    let [_, _, e, f] = count.to_be_bytes();
+    let block = [0x28, 0, a, b, c, d, 0, e, f, 0, 0, 0, 0, 0, 0, 0];
+    sends(block, 10, count.saturating_mul(512))
+}
+
 // A command of 6 bytes that sends at most so many.
 fn short(random: &mut Random, code: u8, most: u32) -> Command {
     let mut block = [0; 16];
@@ -92,6 +143,7 @@ fn short(random: &mut Random, code: u8, most: u32) -> Command {
     sends(block, 6, allocation.min(most))
 }
 
+// A command that is to send so many bytes.
 fn sends(block: [u8; 16], length: u8, bytes: u32) -> Command {
     Command {
         block,

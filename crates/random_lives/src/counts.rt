@@ -28,26 +28,25 @@ const CODES: [u8; 13] = [
 impl Counts {
     /// An exchange of this case began, with this operation code.
     pub(crate) fn exchange(&mut self, case: u8, code: u8) {
-        let place = usize::from(case).saturating_sub(1);
-        if let Some(number) = self.cases.get_mut(place) {
-            count(number);
-        }
+        count_at(&mut self.cases, usize::from(case).saturating_sub(1));
         let place = CODES.iter().position(|known| *known == code);
-        if let Some(number) = self.commands.get_mut(place.unwrap_or(13)) {
-            count(number);
-        }
+        count_at(&mut self.commands, place.unwrap_or(CODES.len()));
     }
 
-    // The first lines, and how the next one begins.
+    // The first lines.
     fn write_lives<W: fmt::Write>(&self, f: &mut fmt::Formatter<W>) -> fmt::Result {
-        let (seeds, lives, events) = (self.seeds, self.lives, self.events);
-        writeln!(f, "{seeds} seeds, {lives} lives, {events} events")?;
-        let (start, event, after) = (self.cut_in_start, self.cut_in_event, self.cut_after);
-        let (failures, restarts) = (self.failures, self.restarts);
-        write!(
+        write_numbers(
             f,
-            "cuts: {start} in a start, {event} in an event, {after} after the last\n\
-             {failures} failures armed, {restarts} restarts\ncommands:"
+            &[
+                (self.seeds, " seeds, "),
+                (self.lives, " lives, "),
+                (self.events, " events\ncuts: "),
+                (self.cut_in_start, " in a start, "),
+                (self.cut_in_event, " in an event, "),
+                (self.cut_after, " after the last\n"),
+                (self.failures, " failures armed, "),
+                (self.restarts, " restarts\n"),
+            ],
         )
     }
 }
@@ -60,11 +59,18 @@ impl fmt::Display for Counts {
     }
 }
 
+// Numbers, and the words behind each.
+fn write_numbers<W: fmt::Write>(f: &mut fmt::Formatter<W>, numbers: &[(u64, &str)]) -> fmt::Result {
+    for (number, words) in numbers {
+        write!(f, "{number}{words}")?;
+    }
+    Ok(())
+}
+
 // How many exchanges there were of each operation code, and of unknown ones.
 fn write_commands<W: fmt::Write>(f: &mut fmt::Formatter<W>, commands: &[u64; 14]) -> fmt::Result {
-    let mut number = commands.iter();
-    for code in CODES {
-        let number = number.next().copied().unwrap_or(0);
+    f.write_str("commands:")?;
+    for (code, number) in CODES.iter().zip(commands.iter()) {
         write!(f, " {code:02x}h {number},")?;
     }
     let [.., unknown] = *commands;
@@ -73,11 +79,18 @@ fn write_commands<W: fmt::Write>(f: &mut fmt::Formatter<W>, commands: &[u64; 14]
 
 // How many exchanges there were of each case.
 fn write_cases<W: fmt::Write>(f: &mut fmt::Formatter<W>, cases: &[u64; 13]) -> fmt::Result {
-    write!(f, "cases:")?;
+    f.write_str("cases:")?;
     for number in cases {
         write!(f, " {number}")?;
     }
     Ok(())
+}
+
+// One more at this place.
+fn count_at(numbers: &mut [u64], place: usize) {
+    if let Some(number) = numbers.get_mut(place) {
+        count(number);
+    }
 }
 
 /// One more.

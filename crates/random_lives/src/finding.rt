@@ -26,22 +26,30 @@ pub(crate) enum Finding {
     NoMemory(AllocError),
 }
 
-impl fmt::Display for Finding {
-    fn fmt<W: fmt::Write>(&self, f: &mut fmt::Formatter<W>) -> fmt::Result {
-        let words = match *self {
+impl Finding {
+    // The words of a finding that tells no more.
+    fn words(self) -> &'static str {
+        match self {
             Finding::Answer => "an answer that no abstract disk gives",
             Finding::Off => "the power went off without a fuse",
             Finding::On => "the power is on again before the cut",
-            Finding::Start(fault) => return write!(f, "a start was refused: {fault}"),
             Finding::Unread => "a disk that was started after the cut does not read its blocks",
             Finding::Blocks => {
                 "after the cut blocks that no beginning of the accepted writes leaves"
             }
             Finding::Packet => "a packet that is too long",
-            Finding::Judged(finding) => return write!(f, "{finding}"),
-            Finding::NoMemory(_) => "out of memory",
-        };
-        write!(f, "{words}")
+            _ => "out of memory",
+        }
+    }
+}
+
+impl fmt::Display for Finding {
+    fn fmt<W: fmt::Write>(&self, f: &mut fmt::Formatter<W>) -> fmt::Result {
+        match self {
+            Finding::Start(fault) => write!(f, "a start was refused: {fault}"),
+            Finding::Judged(finding) => finding.fmt(f),
+            _ => f.write_str(self.words()),
+        }
     }
 }
 

@@ -1,12 +1,14 @@
 //! A script of lives, played and judged step by step.
 use crate::counts::{Counts, count};
 use crate::finding::Finding;
+use crate::heard::Heard;
+use crate::life::Life;
 use crate::player::Player;
 use crate::reading::blocks_of;
 use crate::shape::Shape;
-use crate::step::{Step, copy_of};
+use crate::step::Step;
 use abstract_disk::{Array, Hearing};
-use bot_machine::{Answer, Disk, Event, StartError};
+use bot_machine::{Answer, Disk, Event, StartFault};
 use judging::disk_identity;
 use medium::{Kept, SimMedium};
 use std::alloc::{AllocError, Global};
@@ -33,10 +35,8 @@ pub(crate) struct Judge {
 enum Stage {
     // No disk was started yet.
     Waits,
-    // A disk runs.
-    Runs(Hearing),
-    // The power went in this event.
-    OffIn(Hearing, Event),
+    // A disk runs, or the power went in an event.
+    Started(Life),
     // The power went in the start.
     OffInStart,
     // The start was refused by a failure that was armed.
@@ -45,12 +45,13 @@ enum Stage {
 
 impl Judge {
     /// Nothing was played on this fresh image.
-    pub(crate) fn new(alloc: Global, shape: Shape, medium: SimMedium) -> Result<Judge, Finding> {
+    pub(crate) fn new(alloc: Global, shape: Shape, fresh: &SimMedium) -> Result<Judge, Finding> {
+        let opening = Array::zeros(alloc, shape.image.blocks as usize)?;
         Ok(Judge {
             alloc,
             shape,
-            player: Player::new(medium, shape)?,
-            opening: Array::zeros(alloc, shape.image.blocks as usize)?,
+            player: Player::new(alloc, shape, fresh)?,
+            opening,
             stage: Stage::Waits,
             fused: false,
             failing: false,
@@ -66,7 +67,10 @@ impl Judge {
     /// Plays a step.
     pub(crate) fn step(&mut self, step: &Step) -> Result<(), Finding> {
         match step {
-            Step::Event(event) => self.event(event).map(|_| ()),
+            Step::Event(event) => {
+                self.event(event)?;
+                Ok(())
+            }
             Step::Fuse(writes) => {
                 self.fused = true;
                 self.player.fuse(*writes);
@@ -80,88 +84,69 @@ impl Judge {
         }
     }
 
+    // A failure is armed.
     fn fail(&mut self, call: u64) {
         count(&mut self.counts.failures);
         self.failing = true;
-        if let Stage::Runs(hearing) = &mut self.stage {
-            hearing.may_fail();
+        if let Stage::Started(life) = &mut self.stage {
+            life.may_fail();
         }
         self.player.fail(call);
     }
 
     /// Plays an event, and judges its answer.
-    pub(crate) fn event(&mut self, event: &Event) -> Result<Answer, Finding> {
+    pub(crate) fn event(&mut self, event: &Event) -> Result<Heard, Finding> {
         if let Stage::Waits = self.stage {
             self.start()?;
         }
         if let Stage::Refused = self.stage {
-            return Ok(Answer::Off);
+            return Ok(Heard::Off);
         }
         count(&mut self.counts.events);
         let answer = self.player.event(self.alloc, event)?;
-        let stage = mem::replace(&mut self.stage, Stage::Waits);
-        self.stage = match stage {
-            Stage::Runs(hearing) => self.hear(hearing, event, &answer)?,
-            stage => {
-                if answer != Answer::Off {
-                    return Err(Finding::On);
-                }
-                stage
-            }
-        };
-        Ok(answer)
+        self.hear(event, &answer)
     }
 
-    // What the hearing says of an answer.
-    fn hear(
-        &mut self,
-        mut hearing: Hearing,
-        event: &Event,
-        answer: &Answer,
-    ) -> Result<Stage, Finding> {
-        if *answer == Answer::Off {
-            return if self.fused {
-                Ok(Stage::OffIn(hearing, copy_of(event)))
-            } else {
-                Err(Finding::Off)
-            };
-        }
-        if !hearing.hear(event, answer)? {
-            return Err(Finding::Answer);
-        }
-        if let Event::Out(packet) = event {
-            if hearing.begun_case() > 0 {
-                let code = packet.get(15).copied().unwrap_or(0);
-                self.counts.exchange(hearing.begun_case(), code);
+    // Judges the answer to an event.
+    fn hear(&mut self, event: &Event, answer: &Answer) -> Result<Heard, Finding> {
+        let heard = Heard::of(answer);
+        match (&mut self.stage, heard) {
+            (Stage::Started(life), _) => {
+                life.hear(event, answer, self.fused, &mut self.counts)?;
+                Ok(heard)
             }
+            (_, Heard::Off) => Ok(heard),
+            _ => Err(Finding::On),
         }
-        Ok(Stage::Runs(hearing))
     }
 
     // A life begins.
     fn start(&mut self) -> Result<(), Finding> {
         count(&mut self.counts.lives);
-        if let Err(fault) = self.player.start(self.alloc) {
-            if !self.failing {
-                return Err(Finding::Start(fault));
-            }
-            self.stage = Stage::Refused;
-            return Ok(());
-        }
-        if self.player.medium().is_off() {
-            if !self.fused {
-                return Err(Finding::Off);
-            }
-            self.stage = Stage::OffInStart;
-            return Ok(());
-        }
-        let (limit, size) = (self.shape.limit(), self.shape.size);
-        let mut hearing = Hearing::new(self.alloc, &self.opening, limit, size)?;
-        if self.failing {
-            hearing.may_fail();
-        }
-        self.stage = Stage::Runs(hearing);
+        let started = self.player.start(self.alloc);
+        self.stage = self.stage_behind(started)?;
         Ok(())
+    }
+
+    // The stage behind a start that ended so.
+    fn stage_behind(&self, started: Result<(), StartFault>) -> Result<Stage, Finding> {
+        match started {
+            Ok(()) if !self.player.medium().is_off() => Ok(Stage::Started(self.life()?)),
+            Ok(()) if self.fused => Ok(Stage::OffInStart),
+            Ok(()) => Err(Finding::Off),
+            Err(_) if self.failing => Ok(Stage::Refused),
+            Err(fault) => Err(Finding::Start(fault)),
+        }
+    }
+
+    // A life opens.
+    fn life(&self) -> Result<Life, AllocError> {
+        let (limit, size) = (self.shape.limit(), self.shape.size);
+        let mut life = Life::new(Hearing::new(self.alloc, &self.opening, limit, size)?);
+        if self.failing {
+            life.may_fail();
+        }
+        Ok(life)
     }
 
     // A life ends. A disk that is started on a copy of the medium tells which blocks are left.
@@ -170,47 +155,47 @@ impl Judge {
         self.fused = false;
         self.failing = false;
         let stage = mem::replace(&mut self.stage, Stage::Waits);
-        match stage {
-            Stage::Waits => Ok(()),
-            stage => self.end_life(&stage),
-        }
+        self.end_life(&stage)
     }
 
     // A life ended at this stage.
     fn end_life(&mut self, stage: &Stage) -> Result<(), Finding> {
-        let blocks = self.served()?;
-        if !self.may_be_left(stage, &blocks)? {
-            return Err(Finding::Blocks);
+        if let Stage::Waits = stage {
+            return Ok(());
         }
-        self.opening = blocks;
-        Ok(())
+        let blocks = self.served()?;
+        if self.may_be_left(stage, &blocks)? {
+            self.opening = blocks;
+            Ok(())
+        } else {
+            Err(Finding::Blocks)
+        }
     }
 
     // Whether a cut at this stage may leave these blocks. It is counted by what was going on.
-    fn may_be_left(&mut self, stage: &Stage, blocks: &Array) -> Result<bool, Finding> {
-        match stage {
-            Stage::Runs(hearing) => {
-                count(&mut self.counts.cut_after);
-                Ok(hearing.found(None, blocks)?.is_some())
-            }
-            Stage::OffIn(hearing, event) => {
-                count(&mut self.counts.cut_in_event);
-                Ok(hearing.found(Some(event), blocks)?.is_some())
-            }
-            Stage::OffInStart | Stage::Waits | Stage::Refused => {
-                count(&mut self.counts.cut_in_start);
-                Ok(*blocks == self.opening)
-            }
+    fn may_be_left(&mut self, stage: &Stage, blocks: &Array) -> Result<bool, AllocError> {
+        if let Stage::Started(life) = stage {
+            life.count_cut(&mut self.counts);
+            return life.may_leave(blocks);
         }
+        count(&mut self.counts.cut_in_start);
+        Ok(*blocks == self.opening)
     }
 
     // The blocks that a disk on a copy of the medium serves.
     fn served(&mut self) -> Result<Array, Finding> {
         count(&mut self.counts.restarts);
+        let mut disk = self.restarted()?;
+        blocks_of(self.alloc, &mut disk, self.shape.image.blocks)
+    }
+
+    // A disk on a copy of the medium.
+    fn restarted(&self) -> Result<Disk<SimMedium>, Finding> {
+        let identity = disk_identity()?;
         let copy = self.player.medium().copy(self.alloc).ok_or(AllocError)?;
-        match Disk::start_with(self.alloc, copy, disk_identity()?, self.shape.size) {
-            Ok(mut disk) => blocks_of(self.alloc, &mut disk, self.shape.image.blocks),
-            Err(StartError { fault, medium: _ }) => Err(Finding::Start(fault)),
+        match Disk::start_with(self.alloc, copy, identity, self.shape.size) {
+            Ok(disk) => Ok(disk),
+            Err(error) => Err(Finding::Start(error.fault)),
         }
     }
 }

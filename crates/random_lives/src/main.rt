@@ -19,28 +19,27 @@
 mod command;
 mod counts;
 mod finding;
+mod heard;
 mod host;
 mod judge;
+mod life;
 mod player;
 mod random;
 mod reading;
 mod shape;
 mod shrink;
 mod step;
+mod trial;
 
-use counts::{Counts, count};
+use counts::Counts;
 use finding::Finding;
-use host::Host;
-use medium::SimMedium;
-use random::Random;
-use shape::Shape;
-use shrink::{finds, shrunk};
-use std::alloc::{AllocError, Global};
+use shrink::{play, shrunk};
+use std::alloc::Global;
 use std::env::Env;
 use std::io::Write;
 use std::process::ExitCode;
-use std::{env, io, mem};
-use step::Step;
+use std::{env, io};
+use trial::Trial;
 
 /// How many seeds are tried without words.
 const SEEDS: u64 = 3000;
@@ -52,109 +51,121 @@ fn main(rt: HostRuntime) -> ExitCode {
     }
 }
 
-// Tries the seeds that the words name. Says whether all was as the definitions have it.
-fn try_words<R: Env + AllocGlobal, W: Write>(rt: &R, out: &mut W) -> io::Result<bool> {
-    let mut first: u64 = 1;
-    let mut seeds = SEEDS;
-    for (place, word) in env::args(rt)?.skip(1).enumerate() {
-        let Ok(number) = word.as_str().parse::<u64>() else {
-            writeln!(out, "no number: {word}")?;
-            return Ok(false);
+// The first seed, and how many are tried.
+#[derive(Clone, Copy)]
+struct Seeds {
+    first: u64,
+    count: u64,
+}
+
+impl Seeds {
+    // The word at this place names a number. Whether it does.
+    fn name(&mut self, place: usize, word: &str) -> bool {
+        let Ok(number) = word.parse::<u64>() else {
+            return false;
         };
         if place == 0 {
-            first = number;
+            self.first = number;
         } else {
-            seeds = number;
+            self.count = number;
+        }
+        true
+    }
+}
+
+// Tries the seeds that the words name. Says whether all was as the definitions have it.
+fn try_words<R: Env + AllocGlobal, W: Write>(rt: &R, out: &mut W) -> io::Result<bool> {
+    let mut seeds = Seeds {
+        first: 1,
+        count: SEEDS,
+    };
+    for (place, word) in env::args(rt)?.skip(1).enumerate() {
+        if !seeds.name(place, word.as_str()) {
+            return refuse(word.as_str(), out);
         }
     }
-    try_seeds(rt.alloc(), first, seeds, out)
+    try_seeds(rt.alloc(), seeds, out)
+}
+
+// A word names no number.
+fn refuse<W: Write>(word: &str, out: &mut W) -> io::Result<bool> {
+    writeln!(out, "no number: {word}")?;
+    Ok(false)
 }
 
 // Tries seeds, up to the first in which something is found.
-fn try_seeds<W: Write>(alloc: Global, first: u64, seeds: u64, out: &mut W) -> io::Result<bool> {
+fn try_seeds<W: Write>(alloc: Global, seeds: Seeds, out: &mut W) -> io::Result<bool> {
     let mut counts = Counts::default();
-    for seed in first..first.saturating_add(seeds) {
-        match try_seed(alloc, seed, &mut counts) {
-            Ok(None) => {}
-            Ok(Some(failed)) => {
-                writeln!(out, "# seed {seed}")?;
-                report(alloc, &failed, out)?;
-                return Ok(false);
-            }
-            Err(finding) => {
-                writeln!(out, "seed {seed}: {finding}")?;
-                return Ok(false);
-            }
+    for seed in seeds.first..seeds.first.saturating_add(seeds.count) {
+        if !try_seed(alloc, seed, &mut counts, out)? {
+            return Ok(false);
         }
     }
-    writeln!(out, "{counts}")?;
-    writeln!(out, "0 outside")?;
+    write!(out, "{counts}\n0 outside\n")?;
     Ok(true)
 }
 
-/// Steps in which something was found.
-#[derive(Drop)]
-struct Failed {
-    shape: Shape,
-    fresh: SimMedium,
-    steps: Vec<Step>,
-}
-
-// The lives of a seed.
-fn try_seed(alloc: Global, seed: u64, counts: &mut Counts) -> Result<Option<Failed>, Finding> {
-    let mut random = Random::new(seed);
-    let shape = Shape::random(&mut random);
-    let fresh = shape.image.fresh(alloc)?;
-    let mut host = host_on(alloc, random, shape, &fresh)?;
-    match live(&mut host, counts) {
-        Ok(()) => Ok(None),
-        Err(Finding::NoMemory(error)) => Err(Finding::NoMemory(error)),
-        Err(_) => Ok(Some(Failed {
-            shape,
-            fresh,
-            steps: host.steps,
-        })),
+// Tries a seed. Whether nothing was found.
+fn try_seed<W: Write>(
+    alloc: Global,
+    seed: u64,
+    counts: &mut Counts,
+    out: &mut W,
+) -> io::Result<bool> {
+    match Trial::new(alloc, seed) {
+        Ok(mut trial) => try_lives(alloc, seed, &mut trial, counts, out),
+        Err(finding) => give_up(seed, finding, out),
     }
 }
 
-// A host on a copy of a fresh image.
-fn host_on(
+// The lives of a seed.
+fn try_lives<W: Write>(
     alloc: Global,
-    random: Random,
-    shape: Shape,
-    fresh: &SimMedium,
-) -> Result<Host, Finding> {
-    let copy = fresh.copy(alloc).ok_or(AllocError)?;
-    Host::new(alloc, random, shape, copy)
+    seed: u64,
+    trial: &mut Trial,
+    counts: &mut Counts,
+    out: &mut W,
+) -> io::Result<bool> {
+    match trial.live(counts) {
+        Ok(()) => Ok(true),
+        Err(Finding::NoMemory(error)) => give_up(seed, Finding::NoMemory(error), out),
+        Err(_) => {
+            let shape = &trial.host.shape;
+            writeln!(out, "# seed {seed}\n{shape}")?;
+            report(alloc, trial, out)?;
+            Ok(false)
+        }
+    }
 }
 
-// The lives of a host, which go on with these counts.
-fn live(host: &mut Host, counts: &mut Counts) -> Result<(), Finding> {
-    host.judge.counts = mem::take(counts);
-    let lived = host.lives();
-    *counts = mem::take(&mut host.judge.counts);
-    count(&mut counts.seeds);
-    lived
+// Nothing could be judged.
+fn give_up<W: Write>(seed: u64, finding: Finding, out: &mut W) -> io::Result<bool> {
+    writeln!(out, "seed {seed}: {finding}")?;
+    Ok(false)
 }
 
 // Writes the smallest script that shows what was found.
-fn report<W: Write>(alloc: Global, failed: &Failed, out: &mut W) -> io::Result<()> {
-    let Failed {
-        shape,
-        fresh,
-        steps,
-    } = failed;
-    writeln!(out, "{shape}")?;
-    let Ok(stays) = shrunk(alloc, *shape, fresh, steps) else {
-        return writeln!(out, "# out of memory");
-    };
-    for (step, stays) in steps.iter().zip(stays.iter()) {
+fn report<W: Write>(alloc: Global, trial: &Trial, out: &mut W) -> io::Result<()> {
+    match shrunk(alloc, trial) {
+        Ok(stays) => write_script(alloc, trial, &stays, out),
+        Err(_) => writeln!(out, "# out of memory"),
+    }
+}
+
+// Writes the steps that stay, and what is found in them.
+fn write_script<W: Write>(
+    alloc: Global,
+    trial: &Trial,
+    stays: &[bool],
+    out: &mut W,
+) -> io::Result<()> {
+    for (step, stays) in trial.host.steps.iter().zip(stays.iter()) {
         if *stays {
             writeln!(out, "{step}")?;
         }
     }
-    match finds(alloc, *shape, fresh, steps, &stays) {
-        Ok(Some(finding)) | Err(finding) => writeln!(out, "# {finding}"),
-        Ok(None) => writeln!(out, "# nothing is found"),
+    match play(alloc, trial, stays) {
+        Ok(()) => writeln!(out, "# nothing is found"),
+        Err(finding) => writeln!(out, "# {finding}"),
     }
 }

@@ -7,7 +7,7 @@ use crate::shape::Shape;
 use bot_machine::{Answer, Event, Lives, PacketSize, StartFault};
 use judging::disk_identity;
 use medium::{Kept, SimMedium};
-use std::alloc::Global;
+use std::alloc::{AllocError, Global};
 
 /// Lives over a medium in memory, with packets of one size.
 #[derive(Drop)]
@@ -18,12 +18,14 @@ pub(crate) struct Player {
 }
 
 impl Player {
-    /// No life has been yet.
-    pub(crate) fn new(medium: SimMedium, shape: Shape) -> Result<Player, Finding> {
+    /// No life has been yet on a copy of this fresh image.
+    pub(crate) fn new(alloc: Global, shape: Shape, fresh: &SimMedium) -> Result<Player, Finding> {
         let Shape { size, retiring, .. } = shape;
+        let identity = disk_identity()?;
+        let medium = fresh.copy(alloc).ok_or(AllocError)?;
         Ok(Player {
             size,
-            lives: Lives::new_by(medium, disk_identity()?, size, retiring),
+            lives: Lives::new_by(medium, identity, size, retiring),
         })
     }
 

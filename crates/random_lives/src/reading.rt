@@ -1,9 +1,13 @@
 //! The blocks that a disk serves.
+use crate::command::{Command, read_10, request_sense};
 use crate::finding::Finding;
 use abstract_disk::{Array, Block};
 use bot_machine::{Disk, InAnswer, OutAnswer};
 use medium::SimMedium;
 use std::alloc::{AllocError, Global};
+
+// The status of a command with the tag 0 that passed.
+const PASSED: &[u8] = b"USBS\0\0\0\0\0\0\0\0\0";
 
 /// Reads every block of a disk that was just started.
 pub(crate) fn blocks_of(
@@ -12,73 +16,86 @@ pub(crate) fn blocks_of(
     blocks: u32,
 ) -> Result<Array, Finding> {
     let mut bytes = Vec::new(alloc);
-    exchange(disk, 18, &[0x03, 0, 0, 0, 18, 0, 0, 0, 0, 0], &mut bytes)?;
-    bytes.clear();
     read_all(disk, blocks, &mut bytes)?;
     array_of(alloc, &bytes, blocks)
 }
 
-// Reads every block. Its bytes go to the end of these.
+// REQUEST SENSE, and a READ of every block. Their bytes take the place of these.
 fn read_all(disk: &mut Disk<SimMedium>, blocks: u32, bytes: &mut Vec<u8>) -> Result<(), Finding> {
+    exchange(disk, &request_sense(), bytes)?;
+    bytes.clear();
     let limit = disk.limit();
     for address in (0..blocks).step_by(limit as usize) {
         let count = limit.min(blocks.saturating_sub(address));
-        let command = read_command(address, count);
-        exchange(disk, count.saturating_mul(512), &command, bytes)?;
+        exchange(disk, &read_10(address, count), bytes)?;
     }
     Ok(())
 }
 
-// READ(10).
-fn read_command(address: u32, count: u32) -> [u8; 10] {
-    let [a, b, c, d] = address.to_be_bytes();
-    let [_, _, e, f] = count.to_be_bytes();
-    [0x28, 0, a, b, c, d, 0, e, f, 0]
-}
-
 // The blocks of these bytes, if they are so many.
 fn array_of(alloc: Global, bytes: &[u8], blocks: u32) -> Result<Array, Finding> {
-    let mut array = Vec::new(alloc);
-    for part in bytes.chunks(512) {
-        let block = Block::try_from(part).map_err(|_| Finding::Unread)?;
-        array.push(block).map_err(AllocError::from)?;
+    let mut array = Array {
+        blocks: Vec::new(alloc),
+    };
+    push_blocks(&mut array.blocks, bytes)?;
+    if array.blocks.len() == blocks as usize {
+        Ok(array)
+    } else {
+        Err(Finding::Unread)
     }
-    if array.len() != blocks as usize {
-        return Err(Finding::Unread);
-    }
-    Ok(Array { blocks: array })
 }
 
-// A command that sends so many bytes, which go to the end of these, and passes.
+// The blocks of these bytes go to the end of these.
+fn push_blocks(blocks: &mut Vec<Block>, bytes: &[u8]) -> Result<(), Finding> {
+    for part in bytes.chunks(512) {
+        let Ok(block) = Block::try_from(part) else {
+            return Err(Finding::Unread);
+        };
+        push_block(blocks, block)?;
+    }
+    Ok(())
+}
+
+fn push_block(blocks: &mut Vec<Block>, block: Block) -> Result<(), AllocError> {
+    blocks.push(block)?;
+    Ok(())
+}
+
+// A command that sends all its bytes, which go to the end of these, and passes.
 fn exchange(
     disk: &mut Disk<SimMedium>,
-    length: u32,
-    command: &[u8; 10],
+    command: &Command,
     bytes: &mut Vec<u8>,
 ) -> Result<(), Finding> {
-    if disk.packet_size() < 31 || disk.bulk_out(&wrapper_of(length, command)) != OutAnswer::Ack {
-        return Err(Finding::Unread);
-    }
+    send_wrapper(disk, &command.wrapper(0))?;
     let packet = disk.packet_size().max(1);
-    for _ in (0..length).step_by(packet as usize) {
-        match disk.bulk_in() {
-            InAnswer::Data(data) => bytes.extend_from_slice(data)?,
-            InAnswer::Nak | InAnswer::Stall => return Err(Finding::Unread),
-        }
+    for _ in (0..command.sent()).step_by(packet as usize) {
+        take_packet(disk, bytes)?;
     }
-    match disk.bulk_in() {
-        InAnswer::Data(b"USBS\0\0\0\0\0\0\0\0\0") => Ok(()),
-        _ => Err(Finding::Unread),
+    take_status(disk)
+}
+
+// A wrapper, which is taken.
+fn send_wrapper(disk: &mut Disk<SimMedium>, wrapper: &[u8; 32]) -> Result<(), Finding> {
+    if disk.packet_size() >= 31 && disk.bulk_out(&wrapper[..31]) == OutAnswer::Ack {
+        Ok(())
+    } else {
+        Err(Finding::Unread)
     }
 }
 
-// The wrapper of a command that sends so many bytes.
-fn wrapper_of(length: u32, command: &[u8; 10]) -> [u8; 31] {
-    let mut wrapper = [0; 31];
-    wrapper[..4].copy_from_slice(b"USBC");
-    wrapper[8..12].copy_from_slice(&length.to_le_bytes());
-    wrapper[12] = 0x80;
-    wrapper[14] = 10;
-    wrapper[15..25].copy_from_slice(command);
-    wrapper
+// A packet of data, whose bytes go to the end of these.
+fn take_packet(disk: &mut Disk<SimMedium>, bytes: &mut Vec<u8>) -> Result<(), Finding> {
+    match disk.bulk_in() {
+        InAnswer::Data(data) => Ok(bytes.extend_from_slice(data)?),
+        InAnswer::Nak | InAnswer::Stall => Err(Finding::Unread),
+    }
+}
+
+// The status of a command that passed.
+fn take_status(disk: &mut Disk<SimMedium>) -> Result<(), Finding> {
+    match disk.bulk_in() {
+        InAnswer::Data(data) if data == PASSED => Ok(()),
+        _ => Err(Finding::Unread),
+    }
 }
