@@ -45,6 +45,14 @@ impl Command {
         bytes
     }
 
+    /// How many bytes of data the host is to send.
+    pub(crate) fn taken(&self) -> u32 {
+        match self.way {
+            Way::In(_) => 0,
+            Way::Out(bytes) => bytes,
+        }
+    }
+
     /// How many bytes of data the disk may send.
     pub(crate) fn sent(&self) -> u32 {
         match self.way {

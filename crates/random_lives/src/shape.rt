@@ -56,14 +56,15 @@ impl fmt::Display for Shape {
             Format::One => 1,
             Format::Two => 2,
         };
+        let policy = match self.retiring {
+            Retiring::Ahead => "# by a disk that retires ahead, which sim's does not\n",
+            Retiring::Late => "",
+        };
         let packet = self.size.bytes();
-        writeln!(
+        write!(
             f,
-            "# usbdisk format IMAGE --blocks {blocks} --slots {slots} --format {format}"
-        )?;
-        if self.retiring == Retiring::Ahead {
-            writeln!(f, "# by a disk that retires ahead, which sim's does not")?;
-        }
-        write!(f, "# usbdisk sim IMAGE SCRIPT --packet {packet}")
+            "# usbdisk format IMAGE --blocks {blocks} --slots {slots} --format {format}\n\
+             {policy}# usbdisk sim IMAGE SCRIPT --packet {packet}"
+        )
     }
 }

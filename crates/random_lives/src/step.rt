@@ -18,12 +18,12 @@ impl fmt::Display for Step {
     fn fmt<W: fmt::Write>(&self, f: &mut fmt::Formatter<W>) -> fmt::Result {
         match self {
             Step::Event(Event::Out(packet)) => write_packet(f, packet),
-            Step::Event(Event::In) => write!(f, "in"),
+            Step::Event(Event::In) => f.write_str("in"),
             Step::Event(Event::Setup(packet)) => {
-                write!(f, "setup ")?;
+                f.write_str("setup ")?;
                 write_hex(f, packet)
             }
-            Step::Event(Event::Tick) => write!(f, "tick 1"),
+            Step::Event(Event::Tick) => f.write_str("tick 1"),
             Step::Fuse(writes) => write!(f, "fuse {writes}"),
             Step::Fail(call) => write!(f, "fail {call}"),
             Step::Cut(kept) => write_cut(f, kept),
@@ -34,16 +34,17 @@ impl fmt::Display for Step {
 // A packet to Bulk-Out.
 fn write_packet<W: fmt::Write>(f: &mut fmt::Formatter<W>, packet: &[u8]) -> fmt::Result {
     let Some(first) = packet.first() else {
-        return write!(f, "out");
+        return f.write_str("out");
     };
     if packet.iter().all(|byte| *byte == *first) {
         let length = packet.len();
         return write!(f, "fill {first:02x} {length}");
     }
-    write!(f, "out ")?;
+    f.write_str("out ")?;
     write_hex(f, packet)
 }
 
+// Bytes as digits.
 fn write_hex<W: fmt::Write>(f: &mut fmt::Formatter<W>, bytes: &[u8]) -> fmt::Result {
     for byte in bytes {
         write!(f, "{byte:02x}")?;
@@ -51,28 +52,34 @@ fn write_hex<W: fmt::Write>(f: &mut fmt::Formatter<W>, bytes: &[u8]) -> fmt::Res
     Ok(())
 }
 
+// The numbers of the unflushed writes that are kept.
 fn write_cut<W: fmt::Write>(f: &mut fmt::Formatter<W>, kept: &Kept) -> fmt::Result {
     match kept {
-        Kept::None | Kept::Mask(0) => write!(f, "cut none"),
-        Kept::All => write!(f, "cut all"),
-        Kept::These(numbers) if numbers.is_empty() => write!(f, "cut none"),
-        Kept::These(numbers) => {
-            write!(f, "cut")?;
-            for number in numbers {
-                write!(f, " {number}")?;
-            }
-            Ok(())
-        }
-        Kept::Mask(mask) => {
-            write!(f, "cut")?;
-            for number in 0..64u32 {
-                if mask.wrapping_shr(number) & 1 == 1 {
-                    write!(f, " {number}")?;
-                }
-            }
-            Ok(())
+        Kept::All => f.write_str("cut all"),
+        Kept::These(numbers) if !numbers.is_empty() => write_these(f, numbers),
+        Kept::Mask(mask) if *mask > 0 => write_mask(f, *mask),
+        _ => f.write_str("cut none"),
+    }
+}
+
+// A cut that keeps the writes with these numbers.
+fn write_these<W: fmt::Write>(f: &mut fmt::Formatter<W>, numbers: &[u32]) -> fmt::Result {
+    f.write_str("cut")?;
+    for number in numbers {
+        write!(f, " {number}")?;
+    }
+    Ok(())
+}
+
+// A cut that keeps the writes of this mask.
+fn write_mask<W: fmt::Write>(f: &mut fmt::Formatter<W>, mask: u64) -> fmt::Result {
+    f.write_str("cut")?;
+    for number in 0..64u32 {
+        if mask.wrapping_shr(number) & 1 == 1 {
+            write!(f, " {number}")?;
         }
     }
+    Ok(())
 }
 
 /// The same event.

@@ -28,9 +28,9 @@ impl Trial {
     /// The lives, which go on with these counts.
     pub(crate) fn live(&mut self, counts: &mut Counts) -> Result<(), Finding> {
         self.host.judge.counts = mem::take(counts);
-        let lived = self.host.lives();
+        self.host.lives();
         *counts = mem::take(&mut self.host.judge.counts);
         count(&mut counts.seeds);
-        lived
+        self.host.found
     }
 }
