@@ -1,6 +1,6 @@
 -- How many calls of the medium a read of a store makes, and what a write does to the batches.
 use Rattle.std.specs.Prelude.{◌≡◌, ℕ, ◌+◌, ◌*◌, zero, suc, Bool, true}
-use Rattle.std.specs.Prelude.{◌≤◌, if◌then◌else◌, Result, OnOk}
+use Rattle.std.specs.Prelude.{◌≤◌, if◌then◌else◌, Result, OnOk, is_ok}
 use Rattle.medium.specs.Medium.{State}
 use Rattle.medium.specs.Sent.{SendsUpTo}
 use Rattle.medium.specs.declared.fault.MediumFault.TheVariants.{Flush}
@@ -8,7 +8,12 @@ use Rattle.cache.specs.Blocks.{is_listed}
 use Rattle.blocks.specs.Retiring.{finished, finish_calls}
 use Rattle.blocks.specs.Flushing.{finish_flushes}
 use Rattle.blocks.specs.Steady.{IsSteady}
-use Rattle.blocks.specs.StoreValue.{Cached, FitsBeside, TakesRange, transfer_limit}
+use Rattle.spec.specs.Blocks.{Write}
+use Rattle.blocks.specs.declared.fault.StoreFault.{StoreFault}
+use Rattle.blocks.specs.Passing.{PassesOn, Answers}
+use Rattle.blocks.specs.Sent.{batch_sends}
+use Rattle.blocks.specs.Turns.{IsWriteTurn}
+use Rattle.blocks.specs.StoreValue.{Cached, StoreValue, FitsBeside, TakesRange, transfer_limit}
 use Rattle.blocks.specs.StoreValue.{active_of, batch_steps, steps_left}
 
 -- how many calls it takes to read a block: none where a batch has it, and else one, from its newest
@@ -64,6 +69,27 @@ pub record WritesRange {A E : Type 0} (ahead : Bool) (result : Result A E) (addr
   pub batches : OnOk result (TurnsBatches ahead old new address count)
   -- where the store goes ahead, a ring that is steady stays so
   pub stays : ahead ≡ true → IsSteady old.log → OnOk result (IsSteady new.log)
+
+-- A write whose range does not fit beside the active batch: the batch before that is made durable,
+-- the active one takes its place, and the range has one of its own.
+pub record WritesAlone {M A : Type 0} (state : M → State) (Follows : M → M → Type 0)
+    (result : Result A StoreFault) (write : Write) (address count : ℕ) (old new : StoreValue M)
+    : Type 0 where
+  pub passes : PassesOn state Follows (IsWriteTurn write (is_ok result)) (2 * steps_left old.cached)
+      (batch_sends old.cached) old new
+  pub answers : Answers result old new
+  pub batches : WritesRange old.goes_ahead result address count old.cached new.cached
+
+-- What such a write costs where it is good: one batch more is to become a record, and it makes the
+-- calls and the flushes that make the frozen one durable, and no other.
+pub record CostsAlone {A E : Type 0} (ahead : Bool) (result : Result A E) (before after : State)
+    (old new : Cached) : Type 0 where
+  pub paid : OnOk result (after.calls + 2 * steps_left new
+      ≤ before.calls + 2 * steps_left old + 2 * batch_steps old)
+  pub calls : OnOk result (after.calls
+      ≡ before.calls + finish_calls ahead old.frozen.numbers old.log)
+  pub flushes : OnOk result (after.made Flush
+      ≡ before.made Flush + finish_flushes old.frozen.numbers old.log)
 
 -- The active batch takes the range, for which one more is to become a record at most. The log and
 -- the frozen batch stay.

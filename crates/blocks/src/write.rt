@@ -9,6 +9,7 @@ ghost use Rattle.blocks.specs.Turns.{IsWriteTurn};
 ghost use Rattle.blocks.specs.Sent.{batch_sends};
 ghost use Rattle.blocks.specs.Passing.{PassesOn, KeepsMedium, Answers};
 ghost use Rattle.blocks.specs.Calls.{WritesRange, AppendsRange, CostsWrite};
+ghost use Rattle.blocks.specs.Calls.{WritesAlone, CostsAlone};
 
 use crate::{Store, StoreFault};
 use cache::BLOCK;
@@ -49,6 +50,22 @@ impl<M: Medium> Store<M> {
             self.append(address, bytes);
             return Ok(());
         }
+        self.write_alone(address, bytes)
+    }
+
+    // Makes the frozen batch durable, and lets the active one take its place: the write has a batch
+    // of its own.
+    fn write_alone(&mut self, address: u64, bytes: &[u8]) -> Result<(), StoreFault>
+        requires live { is_dead self.old.cached ≡ false }
+        requires range { IsTransfer (transfer_limit self.old.cached) (blocks_of self.old.cached)
+            address (length bytes.now) }
+        requires alone { ¬ FitsBeside (transfer_limit self.old.cached) (active_of self.old.cached)
+            address (length bytes.now / 512) }
+        ensures writes { WritesAlone M.state M.follows result (write_of address bytes.now)
+            address (length bytes.now / 512) self.old self.new }
+        ensures cost { CostsAlone self.old.goes_ahead result (M.state self.old.medium)
+            (M.state self.new.medium) self.old.cached self.new.cached }
+    {
         self.finish()?;
         self.freeze();
         self.append(address, bytes);
