@@ -1,11 +1,11 @@
 //! The background work, one step at a time.
-ghost use Rattle.std.specs.Prelude.{◌≡◌, ◌<◌, false, [], length};
+ghost use Rattle.std.specs.Prelude.{◌≡◌, ◌⊎◌, ◌↔◌, ◌<◌, false, [], length, IsTrue};
 ghost use Rattle.redo_log.specs.Value.{HasRoom};
-ghost use Rattle.blocks.specs.StoreValue.{is_dead, active_of, unwritten};
+ghost use Rattle.blocks.specs.StoreValue.{is_dead, active_of, unwritten, steps_left};
 ghost use Rattle.blocks.specs.Turns.{IsTurn};
 ghost use Rattle.blocks.specs.Passing.{PassesOn, MayEmpty};
 ghost use Rattle.blocks.specs.Background.{IsBackgroundStep, CountsDown, WorksOn, BeginsNext};
-ghost use Rattle.blocks.specs.Background.{Freezes, Begins, StepsOn, RetiresOn};
+ghost use Rattle.blocks.specs.Background.{Freezes, Begins, StepsOn, RetiresOn, MayBegin};
 
 use crate::{Store, StoreFault};
 use medium::Medium;
@@ -40,11 +40,21 @@ impl<M: Medium> Store<M> {
             let _ = self.step();
             return;
         }
-        if self.log.has_room() && !(self.frozen.is_empty() && self.active.is_empty()) {
+        if self.may_begin() {
             let _ = self.begin_next();
             return;
         }
         let _ = self.retire();
+    }
+
+    // Whether a record may be begun: the log has room, and a batch holds blocks. Where none may,
+    // one waits to be retired, or nothing is left to do.
+    fn may_begin(&self) -> bool
+        ensures begins { IsTrue result ↔ MayBegin self.now.cached }
+        ensures else_retires { result ≡ false → self.now.cached.log.steps_left ≡ 0
+            → (0 < length self.now.cached.log.waiting) ⊎ (steps_left self.now.cached ≡ 0) }
+    {
+        self.log.has_room() && !(self.frozen.is_empty() && self.active.is_empty())
     }
 
     // Begins the frozen batch, or the active one in its place.
