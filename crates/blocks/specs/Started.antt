@@ -6,6 +6,7 @@ use Rattle.spec.specs.Blocks.{Array}
 use Rattle.journal.specs.Places.{Shape}
 use Rattle.journal.specs.Standing.{StandsFor, IsOurs}
 use Rattle.journal.specs.ImageFaults.{HasShape}
+use Rattle.journal.specs.declared.super_sector.Super.{Super}
 use Rattle.recovery.specs.Causes.{IsCause, IsDeviceFault}
 use Rattle.recovery.specs.Copies.{most_start_of}
 use Rattle.recovery.specs.Recovered.{IsRecoveredFrom, IsOursForSome, IsOursWithNext, StandsForOneOf}
@@ -19,6 +20,7 @@ use Rattle.blocks.specs.Ahead.{may_go_ahead}
 use Rattle.blocks.specs.Steady.{IsFilling, ReachesSteady}
 use Rattle.spec.specs.Book.{Book, opened}
 use Rattle.blocks.specs.Finding.{MayFind}
+use Rattle.blocks.specs.Kept.{Invariant}
 use Rattle.blocks.specs.Opening.{OpensOn}
 use Rattle.blocks.specs.StoreValue.{Cached, layout_of, blocks_of, is_dead, active_of, steps_left}
 use Rattle.blocks.specs.StoreValue.{FitsBook, StoreValue}
@@ -98,6 +100,19 @@ pub record LeavesMedium {M : Type 0} (state : M → State) (Follows : M → M �
   pub follows : Follows old new
   -- each read names a sector of the log
   pub looks : recovery.LooksAtLog (state old) (state new)
+
+-- The medium was recovered, and what a store on it keeps in memory was made.
+pub record MakesParts (before after : State) (sizes : Super) (cached : Cached) : Type 0 where
+  pub started : IsStarted before after cached
+  pub kept : Invariant after.size sizes cached false
+
+-- It was not: contents that stand for something with a stamp left are refused by the device alone,
+-- or for want of memory.
+pub record RefusesParts (before after : State) (fault : StartFault) : Type 0 where
+  pub cause : IsStartCause before after fault
+  pub served : (shape : Shape) (array : Array) (next : ℕ)
+      → StandsFor before.size shape before.content array next → next < 2 ^ 63
+      → IsDeviceFault fault ⊎ (fault ≡ NoMemory)
 
 -- A store that was started as any, and that goes ahead where its log allows it. The ring that
 -- records alone fill then is steady after as many syncs of one batch as it has slots but one.

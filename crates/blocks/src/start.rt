@@ -9,7 +9,7 @@ ghost use Rattle.redo_log.specs.Value.{idle_from};
 ghost use Rattle.recovery.specs.Causes.{IsDeviceFault};
 ghost use Rattle.blocks.specs.Ahead.{may_go_ahead};
 ghost use Rattle.blocks.specs.Started.{IsStarted, IsStartCause, LeavesMedium, StartsAhead};
-ghost use Rattle.blocks.specs.Started.{RefusesStart};
+ghost use Rattle.blocks.specs.Started.{RefusesStart, MakesParts, RefusesParts};
 
 use crate::{StartError, Store};
 use cache::{Batch, Frozen};
@@ -19,20 +19,35 @@ use recovery::{Recovered, StartFault, recover};
 use redo_log::Log;
 use std::alloc::Global;
 
-// What a store keeps in memory.
+// What a store has but for its medium.
 #[derive(Drop)]
 struct Parts {
+    sizes: Super,
     log: Log,
     active: Batch,
     frozen: Frozen,
 }
 
 impl Parts {
+    // Recovers a medium, and makes what a store on it keeps in memory.
+    fn recovered<M: Medium>(alloc: Global, medium: &mut M) -> Result<Parts, StartFault>
+        ensures ok { IfOk result (λ parts. MakesParts (M.state medium.old) (M.state medium.new)
+            parts.sizes
+            (record { log = parts.log; active = parts.active; frozen = parts.frozen })) }
+        ensures refused { IfErr result
+            (RefusesParts (M.state medium.old) (M.state medium.new)) }
+        ensures leaves { LeavesMedium M.state M.follows medium.old medium.new }
+    {
+        let recovered = recover(medium)?;
+        Parts::new(alloc, &recovered)
+    }
+
     // A log without records and two empty batches. No other call takes memory.
     fn new(alloc: Global, recovered: &Recovered) -> Result<Parts, StartFault>
         requires least { 1 ≤ recovered.now.next }
         requires most { recovered.now.next < 2 ^ 63 }
         ensures ok { IfOk result (λ parts. parts ≡ record {
+          sizes = recovered.now.sizes;
           log = idle_from (shape_of recovered.now.sizes) recovered.now.next;
           active = record { room = limit_of recovered.now.sizes.format; numbers = []; bytes = [] };
           frozen = record { room = limit_of recovered.now.sizes.format; numbers = []; bytes = [] };
@@ -43,9 +58,14 @@ impl Parts {
             return Err(StartFault::NoMemory);
         };
         let limit = recovered.sizes.format.limit() as usize;
-        let active = Batch::new(alloc, limit).map_err(|_| StartFault::NoMemory)?;
-        let frozen = Frozen::new(alloc, limit).map_err(|_| StartFault::NoMemory)?;
+        let Ok(active) = Batch::new(alloc, limit) else {
+            return Err(StartFault::NoMemory);
+        };
+        let Ok(frozen) = Frozen::new(alloc, limit) else {
+            return Err(StartFault::NoMemory);
+        };
         Ok(Parts {
+            sizes: recovered.sizes,
             log,
             active,
             frozen,
@@ -81,14 +101,10 @@ impl<M: Medium> Store<M> {
             (λ error. LeavesMedium M.state M.follows medium error.medium) }
     {
         let mut medium = medium;
-        let recovered = match recover(&mut medium) {
-            Ok(recovered) => recovered,
-            Err(fault) => return Err(StartError { fault, medium }),
-        };
-        match Parts::new(alloc, &recovered) {
+        match Parts::recovered(alloc, &mut medium) {
             Ok(parts) => Ok(Store {
                 medium,
-                sizes: recovered.sizes,
+                sizes: parts.sizes,
                 log: parts.log,
                 active: parts.active,
                 frozen: parts.frozen,
