@@ -3,7 +3,5 @@ pub mod NewImages
 pub mod ExportLaw
 pub mod InOrder
 pub mod Lines
-pub mod Known
-pub mod Numerals
 pub mod Options
 pub mod Exports

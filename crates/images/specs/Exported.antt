@@ -9,9 +9,10 @@ use Rattle.device_file.specs.FileValue.{FileValue}
 use Rattle.device_file.specs.declared.copying.CopyFault.{CopyFault}
 use Rattle.device_file.specs.declared.copying.CopyFault.TheVariants as fault
 use Rattle.device_file.specs.declared.opening.FirstSectors.{FirstSectors}
+use Rattle.console.specs.Streams.{AppendsSome}
 use Rattle.images.specs.Exporting.{HasBlocks, HasSomeBlocks, IsNotRecoveredIn, IsRecoveredIn}
 use Rattle.images.specs.Opened.{IsTargetUnmade}
-use Rattle.images.specs.Streams.{AppendsSome, blocks_text}
+use Rattle.images.specs.Texts.{blocks_text}
 use Rattle.images.specs.declared.refusal.Refusal.{Refusal}
 use Rattle.images.specs.declared.refusal.Refusal.TheVariants as refused
 

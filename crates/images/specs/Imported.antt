@@ -7,10 +7,11 @@ use Rattle.device_file.specs.Asked.{begun}
 use Rattle.device_file.specs.FileValue.{FileValue}
 use Rattle.device_file.specs.declared.copying.CopyFault.{CopyFault}
 use Rattle.device_file.specs.declared.copying.CopyFault.TheVariants as fault
+use Rattle.console.specs.Streams.{AppendsSome}
 use Rattle.images.specs.Importing.{IsImported, IsNotImported}
 use Rattle.images.specs.Limits.{AreLimits}
 use Rattle.images.specs.Opened.{IsTargetUnmade}
-use Rattle.images.specs.Streams.{AppendsSome, blocks_text}
+use Rattle.images.specs.Texts.{blocks_text}
 use Rattle.images.specs.declared.refusal.Refusal.{Refusal}
 use Rattle.images.specs.declared.refusal.Refusal.TheVariants as refused
 

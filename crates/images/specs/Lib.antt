@@ -1,6 +1,5 @@
 pub mod NewImage
-pub mod Numbers
-pub mod Streams
+pub mod Texts
 pub mod Opened
 pub mod Limits
 pub mod Showing

@@ -12,7 +12,7 @@ use Rattle.device_file.specs.Outbox.{IsCarriedOut}
 use Rattle.device_file.specs.declared.fault.FileFault.{FileFault}
 use Rattle.device_file.specs.declared.opening.FirstSectors.{FirstSectors}
 use Rattle.images.specs.Opened.{IsWindowOver}
-use Rattle.images.specs.Streams.{ended}
+use Rattle.images.specs.Texts.{ended}
 use Rattle.images.specs.declared.refusal.Refusal.{Refusal}
 use Rattle.images.specs.declared.refusal.Refusal.TheVariants as refused
 

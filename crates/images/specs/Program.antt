@@ -8,8 +8,9 @@ use Rattle.device_file.specs.Asked.{begun}
 use Rattle.device_file.specs.FileValue.{FileValue, fresh}
 use Rattle.device_file.specs.declared.fault.FileFault.{FileFault}
 use Rattle.device_file.specs.declared.opening.FirstSectors.{FirstSectors}
+use Rattle.console.specs.Streams.{AppendsSome}
 use Rattle.images.specs.NewImage.{IsAskedToBe}
-use Rattle.images.specs.Streams.{AppendsSome, ended}
+use Rattle.images.specs.Texts.{ended}
 use Rattle.images.specs.Limits.{AreLimits}
 use Rattle.images.specs.Opened.{IsOpened, IsOpenedAlone, IsPlainUnopened, IsUnmade, HasFirst}
 use Rattle.images.specs.Showing.{IsShown, IsNotShown}

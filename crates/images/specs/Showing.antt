@@ -7,8 +7,8 @@ use Rattle.recovery.specs.Inspected.{IsInspected, IsLookRefusal}
 use Rattle.recovery.specs.declared.inspection.Inspection.{Inspection}
 use Rattle.recovery.specs.declared.start_fault.StartFault.{StartFault}
 use Rattle.device_file.specs.declared.opening.FirstSectors.{FirstSectors}
+use Rattle.console.specs.Streams.{AppendsSome}
 use Rattle.images.specs.Opened.{IsWindowOver}
-use Rattle.images.specs.Streams.{AppendsSome}
 use Rattle.images.specs.declared.refusal.Refusal.{Refusal}
 use Rattle.images.specs.declared.refusal.Refusal.TheVariants as refused
 

@@ -1,8 +1,9 @@
 -- The words of a command line.
-use Rattle.std.specs.Prelude.{◌≡◌, ◌≢◌, ℕ, Bool, true, false, List, [], ◌∷◌, ◌++◌, codes}
+use Rattle.std.specs.Prelude.{◌≡◌, ℕ, Bool, true, false, List, [], ◌∷◌, codes}
 use Rattle.journal.specs.declared.log_format.LogFormat.{LogFormat}
 use Rattle.journal.specs.declared.log_format.LogFormat.TheVariants.{One, Two}
-use Rattle.images.specs.Numbers.{SpellsNumber}
+use Rattle.console.specs.Numbers.{SpellsNumber}
+use Rattle.console.specs.Words.{IsFileWord}
 use Rattle.images.specs.declared.task.Task.{Task}
 use Rattle.images.specs.declared.task.Task.TheVariants as task
 
@@ -15,10 +16,6 @@ pub data Wanted : Type 0 where
   Make : List ℕ → LogFormat → ℕ → ℕ → Bool → Wanted
   Import : List ℕ → List ℕ → LogFormat → ℕ → Bool → Wanted
   Export : List ℕ → List ℕ → Bool → Wanted
-
--- a word for a file does not begin with a hyphen
-abbrev pub IsFileWord : List ℕ → Type 0
-IsFileWord word = (rest : List ℕ) → word ≢ codes "-" ++ rest
 
 -- the number of a format
 abbrev pub format_word : LogFormat → List ℕ

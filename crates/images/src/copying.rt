@@ -1,6 +1,6 @@
 //! What a copy of blocks needs.
 ghost use Rattle.std.specs.Prelude.{◌≡◌, ◌≤◌, IfOk, IfErr, length};
-ghost use Rattle.images.specs.Streams.{blocks_text};
+ghost use Rattle.images.specs.Texts.{blocks_text};
 
 use crate::refusal::Refusal;
 use crate::text::blocks_line;

@@ -21,8 +21,8 @@ use crate::ended::{LeftFiles, Refused, Stopped};
 use crate::gauge::Gauge;
 use crate::image::new_target;
 use crate::opening::{Access, open_image, window_over};
-use crate::output::write_out;
 use crate::refusal::Refusal;
+use console::write_out;
 use device_file::{
     CopyFault, DeviceFile, FirstSectors, Meter, Run, SystemFile, carry_moved, copy_sectors,
 };

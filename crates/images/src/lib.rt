@@ -10,16 +10,12 @@ mod importing;
 mod laws;
 mod making;
 mod migrating;
-mod number;
 mod opening;
-mod output;
 mod program;
 mod refusal;
 mod showing;
-mod streams;
 mod task;
 mod text;
-mod words;
 
 pub use ended::Ended;
 pub use exporting::{export_blocks, recover_in_window};

@@ -12,7 +12,7 @@ ghost use Rattle.images.specs.Opened.{
 
 use crate::ended::Stopped;
 use crate::refusal::Refusal;
-use crate::streams::hold_streams;
+use console::hold_streams;
 use device_file::{FileCall, FileFault, FirstSectors, OpenFault, SystemFile};
 use std::alloc::Global;
 use std::fs;
@@ -73,7 +73,7 @@ fn open_file<R: Files<File = File>>(
     ensures ok { IfOk result (λ file. file ≡ fresh file.size) }
     ensures err { IfErr result IsUnmade }
 {
-    let _streams = hold_streams(rt)?;
+    let _streams = hold_streams(rt).ok_or(Refusal::Streams)?;
     let opened = match access {
         Access::Look => open_to_read(rt, path),
         Access::Change => SystemFile::open(rt, path),

@@ -24,11 +24,10 @@ use crate::image::{new_file, sizes_of};
 use crate::importing::import;
 use crate::making::ask_to_be;
 use crate::migrating::migrate;
-use crate::output::write_out;
 use crate::refusal::Refusal;
 use crate::showing::show;
 use crate::task::{Task, read_words};
-use crate::words::{arguments, words_of};
+use console::{arguments, words_of, write_out};
 use device_file::{Run, SystemFile};
 use journal::{LogFormat, Super};
 use std::env::Env;
@@ -249,7 +248,7 @@ pub fn run_program<R: Env + Files<File = File> + AllocGlobal, O: Write, E: Write
 {
     let args = match arguments(rt) {
         Ok(args) => args,
-        Err(refusal) => return refuse(refusal, err),
+        Err(fault) => return refuse(Refusal::from(fault), err),
     };
     match words_of(rt.alloc(), args.as_slice()) {
         Ok(words) => command(rt, words.as_slice(), out, err),

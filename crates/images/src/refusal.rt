@@ -2,6 +2,7 @@
 ghost use Rattle.std.specs.Prelude.{◌≡◌};
 ghost use Rattle.images.specs.declared.refusal.Refusal.TheVariants as refused;
 
+use console::ArgumentFault;
 use device_file::{FileCall, FileFault};
 use recovery::StartFault;
 use std::io::ErrorKind;
@@ -111,6 +112,19 @@ fn call_text(call: FileCall) -> &'static str {
         FileCall::Read => "it was not read",
         FileCall::Write => "it was not written",
         FileCall::Sync => "it was not synchronised",
+    }
+}
+
+impl From<ArgumentFault> for Refusal {
+    ghost use Rattle.images.specs.Status.{refusal_of_argument};
+
+    ghost from_gives = { λ fault e. e ≡ refusal_of_argument fault };
+
+    fn from(fault: ArgumentFault) -> Refusal {
+        match fault {
+            ArgumentFault::NoText => Refusal::Words,
+            ArgumentFault::NoMemory => Refusal::NoMemory,
+        }
     }
 }
 

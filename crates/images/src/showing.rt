@@ -5,9 +5,9 @@ ghost use Rattle.images.specs.Showing.{IsShown, IsNotShown};
 
 use crate::ended::{LeftFile, Stopped};
 use crate::opening::{Access, open_image, window_over};
-use crate::output::write_out;
 use crate::refusal::Refusal;
 use crate::text::text_of;
+use console::write_out;
 use device_file::FirstSectors;
 use recovery::inspect;
 use std::alloc::Global;

@@ -1,11 +1,9 @@
 //! The words of a command line.
-ghost use Rattle.std.specs.Prelude.{◌≡◌, ◌↔◌, [], ◌∷◌, ◌++◌, IfSome, IfNone, IsTrue, Bool, map};
-ghost use Rattle.std.specs.Prelude.{codes};
+ghost use Rattle.std.specs.Prelude.{◌≡◌, [], ◌∷◌, IfSome, IfNone, Bool, map, codes};
 ghost use Rattle.images.specs.Task.{
   Wanted,
   Asks,
   IsExportLine,
-  IsFileWord,
   IsImportLine,
   IsMakeLine,
   format_word,
@@ -14,7 +12,7 @@ ghost use Rattle.images.specs.Task.{
 };
 ghost use Rattle.journal.specs.declared.log_format.LogFormat.{LogFormat};
 
-use crate::number::read_number;
+use console::{is_file_word, read_number};
 use journal::LogFormat;
 
 // The greatest size that a word may tell.
@@ -275,15 +273,5 @@ fn named_replace(word: &str) -> Option<bool>
     match word {
         "--replace" => Some(true),
         _ => None,
-    }
-}
-
-// Whether a word may be that of a file.
-fn is_file_word(word: &str) -> bool
-    ensures { IsTrue result ↔ IsFileWord word.now }
-{
-    match word.as_bytes() {
-        [b'-', ..] => false,
-        _ => true,
     }
 }

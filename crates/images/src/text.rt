@@ -1,7 +1,7 @@
 //! The lines that tell what is in an image, and what was copied.
 ghost use Rattle.std.specs.Prelude.{◌≡◌, ◌+◌, ◌<◌, ◌≤◌, ◌^◌, ◌++◌, length, IfOk, OnOk};
 ghost use Rattle.std.specs.Prelude.{codes, decimal};
-ghost use Rattle.images.specs.Streams.{blocks_text};
+ghost use Rattle.images.specs.Texts.{blocks_text};
 ghost use Rattle.images.specs.Showing.{image_text, sizes_text, number_line, record_lines};
 
 use itoa::Buffer;

@@ -2,6 +2,8 @@
 use Rattle.std.specs.Prelude.{ℕ, Option, Some, None}
 use Rattle.bot_machine.specs.StartFaults.{StartFault}
 use Rattle.bot_machine.specs.StartFaults as start
+use Rattle.console.specs.declared.words.ArgumentFault.{ArgumentFault}
+use Rattle.console.specs.declared.words.ArgumentFault.TheVariants as argument
 use Rattle.device_file.specs.declared.fault.FileCall.{FileCall}
 use Rattle.device_file.specs.declared.fault.FileCall.TheVariants as call
 use Rattle.device_file.specs.declared.fault.FileFault.{FileFault}
@@ -34,6 +36,11 @@ status_of refused.Streams = 4
 status_of refused.Input = 4
 status_of refused.Output = 4
 status_of refused.NoMemory = 5
+
+-- an argument that is no text is no word of a command
+abbrev pub refusal_of_argument : ArgumentFault → Refusal
+refusal_of_argument argument.NoText = refused.Words
+refusal_of_argument argument.NoMemory = refused.NoMemory
 
 -- a file over which no window was made
 abbrev pub refusal_of_open : OpenFault → Refusal

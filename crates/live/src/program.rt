@@ -10,8 +10,9 @@ ghost use Rattle.runner.specs.Live.{IsLiveLine};
 use crate::ended::{Ended, Stopped};
 use crate::refusal::Refusal;
 use crate::serving::serve_file;
+use console::{arguments, hold_streams, words_of};
 use device_file::SystemFile;
-use runner::{arguments, hold_streams, read_live_words, words_of};
+use runner::read_live_words;
 use std::env::Env;
 use std::fs::{File, Files};
 use std::io::{Read, Write};
@@ -74,8 +75,7 @@ pub fn run_live<R: Env + Files<File = File> + AllocGlobal, I: Read, O: Write, E:
 {
     let args = match arguments(rt) {
         Ok(args) => args,
-        Err(runner::Refusal::NoMemory) => return refuse(Refusal::NoMemory, err),
-        Err(_) => return refuse(Refusal::Words, err),
+        Err(fault) => return refuse(Refusal::from(fault), err),
     };
     match words_of(rt.alloc(), args.as_slice()) {
         Ok(words) => live_command(rt, words.as_slice(), input, out, err),
@@ -100,7 +100,7 @@ fn serve_image<R: Files<File = File> + AllocGlobal, I: Read, O: Write>(
     let Some((image, size)) = read_live_words(words) else {
         return Err(stopped(Refusal::Words));
     };
-    let Ok(_streams) = hold_streams(rt) else {
+    let Some(_streams) = hold_streams(rt) else {
         return Err(stopped(Refusal::Streams));
     };
     let file = match SystemFile::open(rt, image) {

@@ -3,6 +3,7 @@ ghost use Rattle.std.specs.Prelude.{◌≡◌};
 ghost use Rattle.live.specs.Status.{status_of_call, status_of_start};
 
 use bot_machine::StartFault;
+use console::ArgumentFault;
 use device_file::{FileCall, FileFault};
 
 /// Why an image file was not served to the end of the input.
@@ -80,5 +81,18 @@ fn status_of_refused(call: FileCall) -> u8
     match call {
         FileCall::Length => 3,
         _ => 4,
+    }
+}
+
+impl From<ArgumentFault> for Refusal {
+    ghost use Rattle.live.specs.Status.{refusal_of_argument};
+
+    ghost from_gives = { λ fault e. e ≡ refusal_of_argument fault };
+
+    fn from(fault: ArgumentFault) -> Refusal {
+        match fault {
+            ArgumentFault::NoText => Refusal::Words,
+            ArgumentFault::NoMemory => Refusal::NoMemory,
+        }
     }
 }

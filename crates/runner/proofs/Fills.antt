@@ -3,8 +3,8 @@ use Rattle.std.proofs.Common.{◌≡◌, ◌≤◌, ℕ, List, [], ◌∷◌, �
 use Rattle.std.proofs.lemmas.List.{append_cancel_left}
 use Rattle.hex.specs.Hex.{decode_of}
 use Rattle.hex.proofs.HexLemmas.{decode_of-ok}
+use Rattle.console.specs.Numbers.{SpellsNumber}
 use Rattle.runner.specs.Line.{SpellsFill}
-use Rattle.runner.specs.Numbers.{SpellsNumber}
 
 -- two digits, a space and a number
 pub record AreParts (fill : List ℕ) (byte count : ℕ) : Type 0 where

@@ -1,24 +1,8 @@
 -- What a writer holds, where it is known.
-use Rattle.std.proofs.Common.{ℕ, List, [], ◌++◌, Option, Some, None, sym, ap, subst, ◌∙◌, append_assoc, append-nil}
-use Rattle.std.specs.Io.KnownBytes.{Appends, Keeps}
-use Rattle.runner.specs.Streams.{AppendsUpTo, AppendsSome}
-
-pub Appends-none : (old : Option (List ℕ)) → Appends old old []
-Appends-none None = tt
-Appends-none (Some bytes) = sym (append-nil bytes)
-
-pub Appends-more : (old mid new : Option (List ℕ)) (text more : List ℕ) → Appends old mid text → Appends mid new more
-    → Appends old new (text ++ more)
-Appends-more None mid new text more first next = tt
-Appends-more (Some old) None new text more first next = absurd first
-Appends-more (Some old) (Some mid) None text more first next = absurd next
-Appends-more (Some old) (Some mid) (Some new) text more first next = next ∙ ap (λ l. l ++ more) first ∙ append_assoc old text more
-
-pub Appends-kept : (old mid new : Option (List ℕ)) (text : List ℕ) → Appends old mid text → Keeps mid new → Appends old new text
-Appends-kept None mid new text first kept = tt
-Appends-kept (Some old) None new text first kept = absurd first
-Appends-kept (Some old) (Some mid) None text first kept = absurd kept
-Appends-kept (Some old) (Some mid) (Some new) text first kept = kept ∙ first
+use Rattle.std.proofs.Common.{ℕ, List, [], ◌++◌, Option, sym, subst, append_assoc, append-nil}
+use Rattle.std.proofs.KnownBytes.{Appends-trans}
+use Rattle.std.specs.Io.KnownBytes.{Appends}
+use Rattle.console.specs.Streams.{AppendsUpTo, AppendsSome}
 
 -- all of one text, and then all of another and a first part of more
 pub AppendsUpTo-more : (old mid new : Option (List ℕ)) (text more bytes : List ℕ) → Appends old mid text → AppendsUpTo mid new more bytes
@@ -29,7 +13,7 @@ AppendsUpTo-more old mid new text more bytes first next = record {
   parts = next.parts;
   missing = next.missing;
   appended = subst (λ (l : List ℕ). Appends old new l) (sym (append_assoc text more next.written))
-      (Appends-more old mid new text (more ++ next.written) first next.appended);
+      (Appends-trans old mid new text (more ++ next.written) first next.appended);
 }
 
 -- all of one text, and a first part of another

@@ -1,4 +1,3 @@
-pub mod Numerals
 pub mod Separators
 pub mod CheckedLines
 pub mod Runs

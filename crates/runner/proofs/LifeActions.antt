@@ -3,6 +3,7 @@ use Rattle.std.proofs.Common.{◌≡◌, ◌↔◌, ℕ, Bool, true, false, List
 use Rattle.std.proofs.Common.{append_assoc, append-nil}
 use Rattle.std.proofs.lemmas.Bool.{cases_Bool, true≢false}
 use Rattle.std.specs.Io.KnownBytes.{Appends}
+use Rattle.std.proofs.KnownBytes.{Appends-nil, Appends-trans}
 use Rattle.medium.specs.Sim.{Sim, IsCut, IsFailing, ComesAfter}
 use Rattle.bot_machine.specs.StartFaults.{StartFault}
 use Rattle.spec.specs.declared.event.Event.{Event}
@@ -11,13 +12,13 @@ use Rattle.spec.specs.declared.event.Answer.TheVariants.{Off}
 use Rattle.spec.specs.Lives.{Action, arms, fails, starts, plays, cuts}
 use Rattle.bot_machine.specs.LivesValue.{LivesValue, LivesGoOn, LivesRefuseStart, medium_in}
 use Rattle.bot_machine.proofs.LifeRuns.{rests, lives_go_on}
+use Rattle.console.specs.Streams.{AppendsUpTo, AppendsSome}
 use Rattle.runner.specs.declared.fault.ScriptFault.{ScriptFault}
 use Rattle.runner.specs.declared.fault.ScriptFault.TheVariants.{Line, TooLong, Start, NoMemory, Reader, Writer}
 use Rattle.runner.specs.Lifetimes.{AnswersFit, fused_after, text_of_lives, comes}
 use Rattle.runner.specs.PlayedLives.{FuseIs, Acted, TellsLives, EndsBy, BreaksOff}
-use Rattle.runner.specs.Streams.{AppendsUpTo, AppendsSome}
 use Rattle.runner.specs.Text.{line_for}
-use Rattle.runner.proofs.Known.{Appends-none, Appends-more, AppendsUpTo-more}
+use Rattle.runner.proofs.Known.{AppendsUpTo-more}
 
 AnswersFit-append : (fused : Bool) (first rest : List Action) (told more : List Answer) → AnswersFit fused first told
     → AnswersFit (fused_after fused first) rest more → AnswersFit fused (first ++ rest) (told ++ more)
@@ -112,7 +113,7 @@ fits_any : (old new : LivesValue) (actions : List Action) (answers : List Answer
 fits_any old new actions answers acted = acted.fits true (λ never. absurd (true≢false never))
 
 pub tells-none : (was : Option (List ℕ)) (lives : LivesValue) → TellsLives was was lives [] lives
-tells-none was lives = record { answers = []; acted = acted-none lives; written = Appends-none was }
+tells-none was lives = record { answers = []; acted = acted-none lives; written = Appends-nil was }
 
 -- what has no answer has no text
 pub tells-silently : (was : Option (List ℕ)) (old new : LivesValue) (actions : List Action) → Acted old actions [] new
@@ -120,7 +121,7 @@ pub tells-silently : (was : Option (List ℕ)) (old new : LivesValue) (actions :
 tells-silently was old new actions acted none = record {
   answers = [];
   acted = acted;
-  written = subst (λ (text : List ℕ). Appends was was text) (sym none) (Appends-none was);
+  written = subst (λ (text : List ℕ). Appends was was text) (sym none) (Appends-nil was);
 }
 
 module _ (was mid now : Option (List ℕ)) (old between new : LivesValue) (first : List Action)
@@ -133,7 +134,7 @@ module _ (was mid now : Option (List ℕ)) (old between new : LivesValue) (first
   written_more : (rest : List Action) (more : List Answer) → Appends mid now (text_of_lives rest more)
       → Appends was now (text_of_lives (first ++ rest) (done.answers ++ more))
   written_more rest more written = subst (λ (text : List ℕ). Appends was now text) (sym (told_more rest more))
-      (Appends-more was mid now (text_of_lives first done.answers) (text_of_lives rest more) done.written written)
+      (Appends-trans was mid now (text_of_lives first done.answers) (text_of_lives rest more) done.written written)
 
   pub tells-more : (rest : List Action) → TellsLives mid now between rest new → TellsLives was now old (first ++ rest) new
   tells-more rest next = record {
@@ -208,7 +209,7 @@ breaks-start was old new event fault refused = record {
   rest = plays event ∷ [];
   parts = refl;
   answers = [];
-  ends = record { mid = old; acted = acted-none old; is = refl; refused = refused; written = Appends-none was };
+  ends = record { mid = old; acted = acted-none old; is = refl; refused = refused; written = Appends-nil was };
 }
 
 -- the answer to an event was not written

@@ -1,7 +1,7 @@
 -- Words that are numbers.
 use Rattle.std.proofs.Common.{◌≡◌, ◌≤◌, ℕ, suc, List, [], ◌∷◌, ◌++◌, map, arith}
 use Rattle.std.specs.Prelude.{All, decimal}
-use Rattle.runner.specs.Numbers.{SpellsNumber}
+use Rattle.console.specs.Numbers.{SpellsNumber}
 
 -- where all words are numbers of such a size, the one behind those read is too
 pub number_behind : (read numbers : List ℕ) (word : List ℕ) (left : List (List ℕ)) (most : ℕ)

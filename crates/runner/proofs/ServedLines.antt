@@ -2,7 +2,7 @@
 use Rattle.std.proofs.Common.{◌≡◌, ◌==◌, ◌<◌, ◌≤◌, ◌⊎◌, ℕ, ◌+◌, min, take, false, List, [], ◌∷◌, ◌++◌, length, Option, None, Some, codes}
 use Rattle.std.proofs.Common.{inl, inr, refl, sym, ap, subst, ◌∙◌, arith, length-append, append_assoc, append-nil}
 use Rattle.std.proofs.lemmas.List.Elements.{All-nil}
-use Rattle.std.proofs.KnownBytes.{Consumes-trans}
+use Rattle.std.proofs.KnownBytes.{Consumes-trans, Appends-nil, Appends-trans, Appends-kept}
 use Rattle.std.specs.Io.KnownBytes.{Consumes, IsAtEnd}
 use Rattle.spec.specs.declared.event.Event.{Event}
 use Rattle.spec.specs.declared.event.Answer.{Answer}
@@ -15,7 +15,6 @@ use Rattle.runner.specs.Streams.{IsAll}
 use Rattle.runner.specs.Served.{line_number, AreAnswered, IsAnswered, IsLineStopped, StopsIn, StopsAtBadLine, StopsUnread, IsServedBy}
 use Rattle.runner.specs.Served.{IsStoppedBy, HasServed, IsTooLong, IsUnended, StandsFor}
 use Rattle.runner.proofs.InTurn.{InTurn-append}
-use Rattle.runner.proofs.Known.{Appends-none, Appends-more, Appends-kept}
 use Rattle.runner.proofs.LineEnds.{unended-through, ended_line, last_line, begins, plays_line, holds_line, stands-through, first_is}
 use Rattle.runner.proofs.LineEnds.{too_long}
 use Rattle.runner.proofs.ToldEvents.{tells-none, tells-more, breaks-more, gives-more, most_stays}
@@ -49,8 +48,7 @@ module _ {D : Type 0} (Goes : D → List Event → List Answer → D → Type 0)
     plays = refl;
     text = [];
     tells = tells-none Goes packet laws disk;
-    written = Appends-none
-        was;
+    written = Appends-nil was;
   }
 
   pub served-none : (was : Option (List ℕ)) (disk : D) → HasServed Goes Stops most was was disk disk [] 1 []
@@ -95,7 +93,7 @@ module _ {D : Type 0} (Goes : D → List Event → List Answer → D → Type 0)
               (next.events, [], plays_line most held so.line next.events so.stands next.plays, refl, sym (append-nil next.events));
           text = done.text ++ next.text;
           tells = tells-more Goes packet laws old between new done.events next.events done.text next.text done.tells next.tells;
-          written = Appends-more was mid now done.text next.text done.written next.written;
+          written = Appends-trans was mid now done.text next.text done.written next.written;
         }
 
     -- a line feed ends the line

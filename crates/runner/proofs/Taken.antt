@@ -15,6 +15,8 @@ use Rattle.clap.specs.Walk.{nothing_held, walk}
 use Rattle.clap.proofs.OnLiterals.{clap_on_literals}
 use Rattle.clap.specs.declared.error.kind.ErrorKind.{ErrorKind}
 use Rattle.clap.specs.declared.error.kind.ErrorKind.TheVariants as kinds
+use Rattle.console.specs.Words.{IsFileWord}
+use Rattle.console.proofs.Numerals.{decimal-no_hyphen}
 use Rattle.runner.specs.declared.refusal.Refusal.{Refusal}
 use Rattle.runner.specs.declared.refusal.Refusal.TheVariants as refused
 use Rattle.runner.specs.Status.{refusal_of_kind}
@@ -22,9 +24,8 @@ use Rattle.journal.specs.declared.log_format.LogFormat.{LogFormat}
 use Rattle.journal.specs.declared.log_format.LogFormat.TheVariants.{One, Two}
 use Rattle.spec.specs.declared.packet_size.PacketSize.{PacketSize}
 use Rattle.spec.specs.declared.packet_size.PacketSize.TheVariants.{Full64, High512}
-use Rattle.runner.specs.Task.{IsFileWord, IsSizeWord, IsFormatEnding, IsPacketEnding, IsCommandLine, format_word, packet_word}
+use Rattle.runner.specs.Task.{IsSizeWord, IsFormatEnding, IsPacketEnding, IsCommandLine, format_word, packet_word}
 use Rattle.runner.specs.Parser.{usbdisk_app, format_app, script_app}
-use Rattle.runner.proofs.Numerals.{decimal-no_hyphen}
 
 -- a word for a file has no first hyphen to strip
 no_hyphen : (word : List ℕ) → IsFileWord word → strip_byte 45 word ≡ None

@@ -1,13 +1,14 @@
 -- Events that are played and told, one after another.
 use Rattle.std.proofs.Common.{◌≡◌, ℕ, Option, List, [], ◌∷◌, ◌++◌, refl, sym, ap, ◌∙◌, subst, append_assoc, append-nil}
 use Rattle.std.specs.Io.KnownBytes.{Appends}
+use Rattle.std.proofs.KnownBytes.{Appends-trans}
 use Rattle.spec.specs.declared.event.Event.{Event}
 use Rattle.spec.specs.declared.event.Answer.{Answer}
+use Rattle.console.specs.Streams.{AppendsUpTo, AppendsSome}
 use Rattle.runner.specs.Text.{line_for, text_of}
 use Rattle.runner.specs.Players.{IsPlayer}
 use Rattle.runner.specs.Played.{TellsBy, BreaksOffBy, GivesUpBy}
-use Rattle.runner.specs.Streams.{AppendsUpTo, AppendsSome}
-use Rattle.runner.proofs.Known.{Appends-more, AppendsUpTo-more, AppendsSome-more}
+use Rattle.runner.proofs.Known.{AppendsUpTo-more, AppendsSome-more}
 use Rattle.runner.proofs.Runs.{text_of-append}
 
 module _ {D : Type 0} (Goes : D → List Event → List Answer → D → Type 0) (most : D → ℕ) (laws : IsPlayer Goes most) where
@@ -75,6 +76,6 @@ module _ {D : Type 0} (Goes : D → List Event → List Answer → D → Type 0)
     mid = gives.mid;
     text = text ++ gives.text;
     tells = tells-more old between gives.mid first events text gives.text done gives.tells;
-    written = Appends-more was mid now text gives.text written gives.written;
+    written = Appends-trans was mid now text gives.text written gives.written;
     stops = gives.stops;
   }

@@ -3,6 +3,7 @@ use Rattle.std.specs.Prelude.{◌≡◌, ◌⊎◌, ◌<◌, ◌≤◌, ℕ, Lis
 use Rattle.std.specs.Prelude.{decimal, Ok}
 use Rattle.hex.specs.Hex.{decode_of}
 use Rattle.spec.specs.Packets.{bytes_of}
+use Rattle.console.specs.Numbers.{SpellsNumber}
 use Rattle.runner.specs.declared.line.ScriptLine.{ScriptLine}
 use Rattle.runner.specs.declared.line.ScriptLine.TheVariants.{Skipped, Out, Fill, In, Setup, Tick}
 use Rattle.runner.specs.declared.line.ScriptLine.TheVariants.{Fuse, Fail, Cut}
@@ -11,7 +12,6 @@ use Rattle.runner.specs.declared.line.ScriptKind.TheVariants.{OneLife, Lives}
 use Rattle.runner.specs.declared.kept.KeptWrites.{KeptWrites}
 use Rattle.runner.specs.declared.kept.KeptWrites.TheVariants as kept
 use Rattle.runner.specs.Lines.{words_of}
-use Rattle.runner.specs.Numbers.{SpellsNumber}
 
 -- an empty line, or a comment
 abbrev pub IsSkipped : List ℕ → Type 0

@@ -1,7 +1,8 @@
 -- The words of the program that serves an image file line by line.
 use Rattle.std.specs.Prelude.{◌≡◌, ℕ, List, ◌∷◌}
 use Rattle.spec.specs.declared.packet_size.PacketSize.{PacketSize}
-use Rattle.runner.specs.Task.{IsFileWord, IsPacketEnding}
+use Rattle.console.specs.Words.{IsFileWord}
+use Rattle.runner.specs.Task.{IsPacketEnding}
 
 -- a word for the image, and the bytes of a packet behind their name, or nothing for 512
 pub record AreLiveWords (words : List (List ℕ)) (image : List ℕ) (size : PacketSize)

@@ -6,6 +6,7 @@ use Rattle.spec.specs.declared.event.Event.{Event}
 use Rattle.spec.specs.declared.event.Answer.{Answer}
 use Rattle.bot_machine.specs.Opening.{IsNotOpened, StartLeaves}
 use Rattle.bot_machine.specs.StartFaults.{StartFault}
+use Rattle.console.specs.Streams.{AppendsUpTo}
 use Rattle.runner.specs.declared.fault.ScriptFault.{ScriptFault}
 use Rattle.runner.specs.declared.fault.ScriptFault.TheVariants.{Line, TooLong, Start, NoMemory}
 use Rattle.runner.specs.declared.fault.ScriptFault.TheVariants.{Reader, Writer}
@@ -16,7 +17,7 @@ use Rattle.runner.specs.declared.read.ReadFault.TheVariants as read
 use Rattle.runner.specs.Lines.{lines_of}
 use Rattle.runner.specs.Refused.{IsReadSoFar}
 use Rattle.runner.specs.Script.{LinePlays, Plays, StopsAt, IsFirstBadLine, IsLife, IsLeftBy}
-use Rattle.runner.specs.Streams.{IsAll, AppendsUpTo}
+use Rattle.runner.specs.Streams.{IsAll}
 use Rattle.runner.specs.Text.{line_for, text_of}
 
 -- the most bytes of a script

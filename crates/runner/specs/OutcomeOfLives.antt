@@ -7,6 +7,7 @@ use Rattle.bot_machine.specs.Lifetimes.{KeepsPromise, KeepsPromiseUpTo}
 use Rattle.spec.specs.declared.event.Event.{Event}
 use Rattle.spec.specs.declared.event.Answer.{Answer}
 use Rattle.spec.specs.Lives.{Action, starts, plays}
+use Rattle.console.specs.Streams.{AppendsUpTo}
 use Rattle.runner.specs.declared.fault.ScriptFault.{ScriptFault}
 use Rattle.runner.specs.declared.fault.ScriptFault.TheVariants.{Line, TooLong, Start, NoMemory}
 use Rattle.runner.specs.declared.fault.ScriptFault.TheVariants.{Reader, Writer}
@@ -15,7 +16,6 @@ use Rattle.runner.specs.Lifetimes.{LineActs, Acts, AreMoved, AreStopped, text_of
 use Rattle.runner.specs.Lines.{lines_of}
 use Rattle.runner.specs.Outcome.{script_limit, IsRead, IsLeftAlone, HasBadLine}
 use Rattle.runner.specs.Script.{StopsAt, device}
-use Rattle.runner.specs.Streams.{AppendsUpTo}
 use Rattle.runner.specs.Text.{line_for}
 
 module _ (most : ℕ) (left was now : Option (List ℕ)) (medium : Sim) where

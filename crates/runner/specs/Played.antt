@@ -8,8 +8,8 @@ use Rattle.spec.specs.declared.event.Answer.{Answer}
 use Rattle.spec.specs.Conversation.{refused_events}
 use Rattle.bot_machine.specs.Disk.{DiskValue, FitsDisk, StepsThrough, over}
 use Rattle.spec.specs.UnitConversation.{UnitRun}
+use Rattle.console.specs.Streams.{AppendsUpTo}
 use Rattle.runner.specs.Script.{LinePlays, StopsAt}
-use Rattle.runner.specs.Streams.{AppendsUpTo}
 use Rattle.runner.specs.Text.{line_for, text_of}
 
 -- Over each book that it fits a disk played these events with these answers. The truth values say

@@ -7,12 +7,12 @@ use Rattle.spec.specs.declared.event.Event.{Event}
 use Rattle.spec.specs.declared.event.Answer.{Answer}
 use Rattle.spec.specs.Lives.{Action, starts, plays}
 use Rattle.bot_machine.specs.LivesValue.{LivesValue, LivesGoOn, LivesRefuseStart, medium_in}
+use Rattle.console.specs.Streams.{AppendsUpTo}
 use Rattle.runner.specs.declared.fault.ScriptFault.{ScriptFault}
 use Rattle.runner.specs.declared.fault.ScriptFault.TheVariants.{Line, TooLong, Start, NoMemory}
 use Rattle.runner.specs.declared.fault.ScriptFault.TheVariants.{Reader, Writer}
 use Rattle.runner.specs.Lifetimes.{LineActs, Acts, AnswersFit, fused_after, text_of_lives}
 use Rattle.runner.specs.Script.{StopsAt}
-use Rattle.runner.specs.Streams.{AppendsUpTo}
 use Rattle.runner.specs.Text.{line_for}
 
 -- where this says that no fuse is armed, none is, and the power is on

@@ -17,13 +17,13 @@ use Rattle.recovery.specs.declared.recovered.Recovered.{Recovered}
 use Rattle.spec.specs.Packets.{bytes_of}
 use Rattle.bot_machine.specs.StartFaults.{StartFault}
 use Rattle.spec.specs.declared.packet_size.PacketSize.{PacketSize}
+use Rattle.console.specs.Streams.{AppendsSome}
 use Rattle.runner.specs.declared.fault.ScriptFault.{ScriptFault}
 use Rattle.runner.specs.declared.refusal.Refusal.{Refusal}
 use Rattle.runner.specs.declared.refusal.Refusal.TheVariants as refused
 use Rattle.runner.specs.Outcome.{IsPlayed, IsRefused}
 use Rattle.runner.specs.OutcomeOfLives.{ArePlayed, AreRefused}
 use Rattle.runner.specs.Status.{refusal_of_fault, refusal_of_start}
-use Rattle.runner.specs.Streams.{AppendsSome}
 use Rattle.runner.specs.Task.{AreFormatWords, IsMigrateLine, IsScriptCommand, IsCommandLine}
 use Rattle.runner.specs.Text.{ended}
 

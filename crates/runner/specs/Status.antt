@@ -6,6 +6,8 @@ use Rattle.medium.specs.declared.file.FileError.{FileError}
 use Rattle.medium.specs.declared.file.FileError.TheVariants as file
 use Rattle.bot_machine.specs.StartFaults.{StartFault}
 use Rattle.bot_machine.specs.StartFaults as start
+use Rattle.console.specs.declared.words.ArgumentFault.{ArgumentFault}
+use Rattle.console.specs.declared.words.ArgumentFault.TheVariants as argument
 use Rattle.runner.specs.declared.fault.ScriptFault.{ScriptFault}
 use Rattle.runner.specs.declared.fault.ScriptFault.TheVariants as script
 use Rattle.runner.specs.declared.refusal.Refusal.{Refusal}
@@ -20,6 +22,11 @@ status_of refused.ImageSize = 3
 status_of (refused.Image fault) = 3
 status_of refused.File = 4
 status_of refused.NoMemory = 5
+
+-- an argument that is no text is no word of a command
+abbrev pub refusal_of_argument : ArgumentFault → Refusal
+refusal_of_argument argument.NoText = refused.Words
+refusal_of_argument argument.NoMemory = refused.NoMemory
 
 -- words that a parser refuses, but for want of memory, are none of a command
 abbrev pub refusal_of_kind : ErrorKind → Refusal

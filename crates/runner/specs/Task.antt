@@ -1,16 +1,13 @@
 -- The words of a command line.
-use Rattle.std.specs.Prelude.{◌≡◌, ◌≢◌, ◌⊎◌, ℕ, List, [], ◌∷◌, ◌++◌, codes}
+use Rattle.std.specs.Prelude.{◌≡◌, ◌⊎◌, ℕ, List, [], ◌∷◌, codes}
 use Rattle.journal.specs.declared.log_format.LogFormat.{LogFormat}
 use Rattle.journal.specs.declared.log_format.LogFormat.TheVariants.{One, Two}
 use Rattle.spec.specs.declared.packet_size.PacketSize.{PacketSize}
 use Rattle.spec.specs.declared.packet_size.PacketSize.TheVariants.{Full64, High512}
+use Rattle.console.specs.Numbers.{SpellsNumber}
+use Rattle.console.specs.Words.{IsFileWord}
 use Rattle.runner.specs.declared.task.Task.{Task}
 use Rattle.runner.specs.declared.task.Task.TheVariants.{Format, Migrate, Run, Sim}
-use Rattle.runner.specs.Numbers.{SpellsNumber}
-
--- a word for a file does not begin with a hyphen
-abbrev pub IsFileWord : List ℕ → Type 0
-IsFileWord word = (rest : List ℕ) → word ≢ codes "-" ++ rest
 
 -- a number of the command line is at most 2^32 - 1
 abbrev pub IsSizeWord : List ℕ → ℕ → Type 0

@@ -7,7 +7,7 @@ ghost use Rattle.runner.specs.Program.{AreImageSizes, IsJustOpened, IsMade, simu
 
 use crate::read::{ReadFault, read_to_limit};
 use crate::refusal::Refusal;
-use crate::streams::hold_streams;
+use console::hold_streams;
 use journal::LogFormat;
 use medium::{FileMedium, SimError, SimMedium};
 use recovery::FormatFault;
@@ -35,7 +35,7 @@ pub(crate) fn make_image<R: Files<File = File> + AllocGlobal>(
         ⊎ ((refusal ≡ Refusal.File) ⊎ (refusal ≡ Refusal.NoMemory))) }
 {
     let sectors = image_sectors(format, blocks, slots).ok_or(Refusal::ImageSize)?;
-    let _streams = hold_streams(rt)?;
+    let _streams = hold_streams(rt).ok_or(Refusal::File)?;
     let mut medium = FileMedium::create(rt, path, sectors)?;
     match recovery::make(&mut medium, format, blocks, slots) {
         Ok(()) => Ok(medium),

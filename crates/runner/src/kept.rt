@@ -3,10 +3,10 @@ ghost use Rattle.std.specs.Prelude.{ℕ, List, IfSome, IfNone};
 ghost use Rattle.runner.specs.Line.{SpellsCut, SpellsNumbers};
 ghost use Rattle.runner.specs.declared.kept.KeptWrites.{KeptWrites};
 
-use crate::number::read_number;
 use crate::parts::Parts;
 use crate::words::behind;
 use arrayvec::ArrayVec;
+use console::read_number;
 
 // The greatest number of a write.
 const LAST_WRITE: u64 = 16_383;

@@ -13,10 +13,10 @@ ghost use Rattle.runner.specs.PlayedLives.{Acted, TellsLives, BreaksOff, PlaysAl
 use crate::fault::{ScriptError, ScriptFault};
 use crate::kept::KeptWrites;
 use crate::line::{ScriptKind, ScriptLine, read_line};
-use crate::output::write_out;
 use crate::parts::Parts;
 use crate::text::event_line;
 use bot_machine::{Lives, PacketSize};
+use console::write_out;
 use medium::{Kept, SimMedium};
 use std::alloc::Global;
 use std::io::Write;

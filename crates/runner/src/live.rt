@@ -2,8 +2,9 @@
 ghost use Rattle.std.specs.Prelude.{IfSome, IfNone, map};
 ghost use Rattle.runner.specs.Live.{AreLiveWords, IsLiveLine};
 
-use crate::task::{is_file_word, read_packet_ending};
+use crate::task::read_packet_ending;
 use bot_machine::PacketSize;
+use console::is_file_word;
 
 /// The image and the size of packets that these words tell, if they are exactly a word for the
 /// image, behind which `--packet 64` or `--packet 512` may stand: 512 bytes where nothing is told.

@@ -13,11 +13,11 @@ ghost use Rattle.runner.specs.Served.{IsPlayedInPart};
 
 use crate::fault::{ScriptError, ScriptFault};
 use crate::line::{ScriptKind, ScriptLine, read_line};
-use crate::output::write_out;
 use crate::parts::Parts;
 use crate::player::{Player, ServeFault};
 use crate::text::event_line;
 use bot_machine::{Disk, PacketSize};
+use console::write_out;
 use medium::Medium;
 use std::io::Write;
 

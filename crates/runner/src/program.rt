@@ -1,6 +1,5 @@
 //! From the words of a command to its exit status.
 ghost use Rattle.std.specs.Prelude.{◌≡◌, ◌≢◌, ◌⊎◌, ◌≤◌, List, ℕ, None, IfOk, IfErr, map, drop};
-ghost use Rattle.std.specs.Prelude.{string_bytes};
 ghost use Rattle.spec.specs.Packets.{bytes_of};
 ghost use Rattle.runner.specs.declared.refusal.Refusal.{Refusal};
 ghost use Rattle.runner.specs.Status.{status_of};
@@ -12,20 +11,18 @@ ghost use Rattle.runner.specs.Program.{IsRunRefused, IsSim, IsSimRefused, migrat
 use crate::ended::{Ended, Stopped};
 use crate::fault::ScriptError;
 use crate::image::{make_image, open_image, sim_medium};
-use crate::output::write_out;
 use crate::refusal::Refusal;
 use crate::script::run_script;
 use crate::sim::sim_script;
-use crate::streams::hold_streams;
 use crate::task::{Task, read_words};
 use bot_machine::PacketSize;
+use console::{arguments, hold_streams, words_of, write_out};
 use journal::LogFormat;
 use medium::{FileMedium, Medium};
-use std::alloc::{AllocError, Global};
 use std::env::Env;
+use std::fs;
 use std::fs::{File, Files};
-use std::io::{ErrorKind, Write};
-use std::{env, fs};
+use std::io::Write;
 
 /// The medium of an image file, where one was opened or made.
 type LeftImage = Option<FileMedium<File>>;
@@ -81,7 +78,7 @@ pub fn run_program<R: Env + Files<File = File> + AllocGlobal, O: Write, E: Write
 {
     let args = match arguments(rt) {
         Ok(args) => args,
-        Err(refusal) => return refuse(refusal, err),
+        Err(fault) => return refuse(Refusal::from(fault), err),
     };
     match words_of(rt.alloc(), args.as_slice()) {
         Ok(words) => command(rt, words.as_slice(), out, err),
@@ -97,40 +94,6 @@ fn refuse<E: Write>(refusal: Refusal, err: &mut E) -> Ended
     Ended {
         status: tell(refusal, err),
         medium: None,
-    }
-}
-
-/// The words after the program's name.
-///
-/// # Errors
-///
-/// Memory ran out.
-pub fn words_of<'a>(alloc: Global, args: &'a [String]) -> Result<Vec<&'a str>, AllocError>
-    ensures { IfOk result (λ words. map (λ word. word.now) words.items
-        ≡ drop 1 (map string_bytes args.entry.now)) }
-{
-    let mut words = Vec::new(alloc);
-    let [_, behind @ ..] = args else {
-        return Ok(words);
-    };
-    for arg in behind {
-        words.push(arg.as_str())?;
-    }
-    Ok(words)
-}
-
-/// The program's arguments, its name first.
-///
-/// # Errors
-///
-/// `Words` where one is no text, which is no word of a command, and `NoMemory`.
-pub fn arguments<R: Env + AllocGlobal>(rt: &R) -> Result<Vec<String>, Refusal>
-    ensures { IfErr result (λ refusal. (refusal ≡ Refusal.NoMemory) ⊎ (refusal ≡ Refusal.Words)) }
-{
-    match env::args(rt) {
-        Ok(args) => Ok(args.collect(rt.alloc())?),
-        Err(error) if error.kind() == ErrorKind::OutOfMemory => Err(Refusal::NoMemory),
-        Err(_) => Err(Refusal::Words),
     }
 }
 
@@ -211,7 +174,7 @@ fn migrate<R: Files<File = File> + AllocGlobal, O: Write>(
     ensures refused { IfErr result (λ stopped. IsMigrationRefused (O.contents out.old)
         (O.contents out.new) stopped.medium stopped.refusal) }
 {
-    let _streams = hold_streams(rt)?;
+    let _streams = hold_streams(rt).ok_or(Refusal::File)?;
     let medium = open_image(rt, image)?;
     match migrate_medium(medium, out) {
         Ok(medium) => Ok(Some(medium)),
@@ -272,7 +235,7 @@ fn run<R: Files<File = File> + AllocGlobal, O: Write>(
     ensures refused { IfErr result (λ stopped. IsRunRefused (O.contents out.old)
         (O.contents out.new) stopped.medium (bytes_of size) stopped.refusal) }
 {
-    let _streams = hold_streams(rt)?;
+    let _streams = hold_streams(rt).ok_or(Refusal::File)?;
     let medium = open_image(rt, image)?;
     let Ok(mut script) = fs::open(rt, script) else {
         return Err(Stopped {
@@ -303,7 +266,7 @@ fn sim<R: Files<File = File> + AllocGlobal, O: Write>(
     ensures refused { IfErr result (λ stopped. IsSimRefused (O.contents out.old)
         (O.contents out.new) stopped.medium (bytes_of size) stopped.refusal) }
 {
-    let _streams = hold_streams(rt)?;
+    let _streams = hold_streams(rt).ok_or(Refusal::File)?;
     let medium = sim_medium(rt, image)?;
     let Ok(mut script) = fs::open(rt, script) else {
         return Err(Stopped::from(Refusal::File));

@@ -6,6 +6,7 @@ ghost use Rattle.runner.specs.declared.refusal.Refusal.TheVariants as refused;
 use crate::fault::ScriptFault;
 use bot_machine::StartFault;
 use clap::error::ErrorKind;
+use console::ArgumentFault;
 use medium::FileError;
 use std::alloc::AllocError;
 use thiserror::Error;
@@ -64,6 +65,19 @@ impl From<AllocError> for Refusal {
 
     fn from(_error: AllocError) -> Refusal {
         Refusal::NoMemory
+    }
+}
+
+impl From<ArgumentFault> for Refusal {
+    ghost use Rattle.runner.specs.Status.{refusal_of_argument};
+
+    ghost from_gives = { λ fault e. e ≡ refusal_of_argument fault };
+
+    fn from(fault: ArgumentFault) -> Refusal {
+        match fault {
+            ArgumentFault::NoText => Refusal::Words,
+            ArgumentFault::NoMemory => Refusal::NoMemory,
+        }
     }
 }
 

@@ -1,20 +1,14 @@
 //! The words of a command line.
-ghost use Rattle.std.specs.Prelude.{◌≡◌, ◌≤◌, ◌⊎◌, ◌↔◌, [], ◌∷◌, IfOk, IfErr, IfSome, IfNone};
-ghost use Rattle.std.specs.Prelude.{IsTrue, map, length};
+ghost use Rattle.std.specs.Prelude.{◌≡◌, ◌≤◌, ◌⊎◌, [], ◌∷◌, IfOk, IfErr, IfSome, IfNone};
+ghost use Rattle.std.specs.Prelude.{map, length};
 ghost use Rattle.clap.specs.Words.{app_of};
 ghost use Rattle.runner.specs.Parser.{IsParserOf, usbdisk_app, format_app, migrate_app, script_app};
-ghost use Rattle.runner.specs.Task.{
-  SpellsTask,
-  IsCommandLine,
-  IsFileWord,
-  IsFormatEnding,
-  IsPacketEnding,
-};
+ghost use Rattle.runner.specs.Task.{SpellsTask, IsCommandLine, IsFormatEnding, IsPacketEnding};
 
-use crate::number::read_number;
 use crate::refusal::Refusal;
 use bot_machine::PacketSize;
 use clap::{Arg, Command};
+use console::{is_file_word, read_number};
 use journal::LogFormat;
 use std::alloc::{AllocError, Global};
 
@@ -245,15 +239,5 @@ fn named_format(name: &str, number: &str) -> Option<LogFormat>
         "1" => Some(LogFormat::One),
         "2" => Some(LogFormat::Two),
         _ => None,
-    }
-}
-
-/// Whether a word may be that of a file.
-pub(crate) fn is_file_word(word: &str) -> bool
-    ensures { IsTrue result ↔ IsFileWord word.now }
-{
-    match word.as_bytes() {
-        [b'-', ..] => false,
-        _ => true,
     }
 }

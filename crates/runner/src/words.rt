@@ -5,9 +5,9 @@ ghost use Rattle.hex.specs.Hex.{decode_of};
 ghost use Rattle.spec.specs.Packets.{bytes_of};
 ghost use Rattle.runner.specs.Line.{SpellsOut, SpellsPacket, SpellsFill, SpellsSetup, SpellsCount};
 
-use crate::number::read_number;
 use arrayvec::ArrayVec;
 use bot_machine::PacketSize;
+use console::read_number;
 
 /// Reads `out` and the packet behind it, which has at most the bytes of a size.
 pub(crate) fn read_out(line: &[u8], size: PacketSize) -> Option<ArrayVec<u8, 512>>

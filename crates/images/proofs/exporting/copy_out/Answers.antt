@@ -1,8 +1,8 @@
 use Rattle.std.proofs.Common.{inl, inr, refl, ◌∙◌, ap, subst}
+use Rattle.std.proofs.KnownBytes.{Keeps-refl}
 use Rattle.device_file.specs.Asked.{Told}
 use Rattle.device_file.specs.FileValue.{FileValue}
 use Rattle.images.specs.Exporting.{HasSomeBlocks}
-use Rattle.images.proofs.Known.{Keeps-same}
 use Rattle.images.proofs.exporting.copy_out.Goals as goal
 
 pub returns-in-Err-clause-err : goal.returns-in-Err-clause-err
@@ -16,5 +16,5 @@ returns-in-Err-clause-err g c = rw c.with.ensures (inr (inl (record {
       c.export_blocks-done.new.plain.told c.in-Err.fault)
       (ap (λ (f : FileValue). f.told) c.in_ok-plain.ensures.ok) c.in-Err.ensures.err;
   refused_is = c.refusal_of.ensures;
-  kept = Keeps-same (g.O.Write.contents c.args.out.now);
+  kept = Keeps-refl (g.O.Write.contents c.args.out.now);
 })))

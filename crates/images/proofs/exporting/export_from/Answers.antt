@@ -1,6 +1,6 @@
 use Rattle.std.proofs.Common.{inl, inr, refl}
+use Rattle.std.proofs.KnownBytes.{Keeps-refl}
 use Rattle.images.proofs.Options.{if_ok, if_err}
-use Rattle.images.proofs.Known.{Keeps-same}
 use Rattle.images.proofs.exporting.export_from.Goals as goal
 
 pub returns-in-Ok-clause-ok : goal.returns-in-Ok-clause-ok
@@ -23,5 +23,5 @@ pub returns-in-Err-clause-err : goal.returns-in-Err-clause-err
 returns-in-Err-clause-err g c = inl (record {
   none = refl;
   cause = c.in-Err.ensures.err;
-  kept = Keeps-same (g.O.Write.contents c.args.out.now);
+  kept = Keeps-refl (g.O.Write.contents c.args.out.now);
 })

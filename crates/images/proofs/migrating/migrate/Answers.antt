@@ -1,12 +1,12 @@
 use Rattle.std.proofs.Common.{◌≡◌, ℕ, List, inl, inr, refl, sym, ap, subst}
 use Rattle.std.specs.Io.KnownBytes.{Appends}
+use Rattle.std.proofs.KnownBytes.{Keeps-refl}
 use Rattle.device_file.specs.Asked.{Told, begun}
 use Rattle.device_file.specs.FileValue.{FileValue, fresh}
 use Rattle.device_file.specs.declared.opening.FirstSectors.{FirstSectors}
+use Rattle.console.specs.Streams.{AppendsSome}
 use Rattle.images.specs.Opened.{HasFirst}
 use Rattle.images.specs.Migrating.{IsMigratedOn, IsNotMigratedOn}
-use Rattle.images.specs.Streams.{AppendsSome}
-use Rattle.images.proofs.Known.{Keeps-same}
 use Rattle.images.proofs.migrating.migrate.Goals as goal
 
 -- a file that was just opened was asked nothing
@@ -25,7 +25,7 @@ returns-in-Err-clause-refused g c = inr (inl (record {
   not_migrated = subst
       (λ (told : Told). IsNotMigratedOn c.in_ok-file.first told c.migrate_file.new.file.told c.in-Err.refusal)
       (unasked c.in_ok-file.file c.in_ok-file.ensures.ok.0) c.in-Err.ensures.err;
-  kept = Keeps-same (g.O.Write.contents c.args.out.now);
+  kept = Keeps-refl (g.O.Write.contents c.args.out.now);
 }))
 
 pub returns-in-Ok-write_out-clause-done : goal.returns-in-Ok-write_out-clause-done

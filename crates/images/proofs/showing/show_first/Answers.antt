@@ -1,7 +1,7 @@
 use Rattle.std.proofs.Common.{◌∙◌, ℕ, List, inl, inr, refl, subst}
 use Rattle.std.specs.Io.KnownBytes.{Appends}
-use Rattle.images.specs.Streams.{AppendsSome}
-use Rattle.images.proofs.Known.{Keeps-same}
+use Rattle.std.proofs.KnownBytes.{Keeps-refl}
+use Rattle.console.specs.Streams.{AppendsSome}
 use Rattle.images.proofs.showing.show_first.Goals as goal
 
 pub returns-in-Err-clause-err : goal.returns-in-Err-clause-err
@@ -12,7 +12,7 @@ returns-in-Err-clause-err g c = inr (inl (record {
   fault = c.in-Err.fault;
   cause = c.in-Err.ensures.err;
   refused_is = refl;
-  kept = Keeps-same (g.O.Write.contents c.args.out.now);
+  kept = Keeps-refl (g.O.Write.contents c.args.out.now);
 }))
 
 pub returns-in-Ok-write_out-clause-ok : goal.returns-in-Ok-write_out-clause-ok

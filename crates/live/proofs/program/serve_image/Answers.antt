@@ -7,8 +7,8 @@ returns-in-Ok-serve_file-clause-done g c = (
   c.in-Some.size,
   c.in-Some.ensures.words,
   record {
-    opened = c.in-Ok-open.file;
-    unasked = c.in-Ok-open.ensures;
+    opened = c.in-Ok.file;
+    unasked = c.in-Ok.ensures;
     last = c.in-Ok-serve_file.file;
     given = refl;
     served = c.in-Ok-serve_file.ensures.served;

@@ -1,4 +1,5 @@
 use Rattle.std.proofs.Common.{[], ◌++◌, ◌∙◌, suc, ap, sym, refl, arith}
+use Rattle.std.proofs.KnownBytes.{Appends-nil, Appends-trans}
 use Rattle.spec.specs.Packets.{bytes_of}
 use Rattle.runner.specs.Left.{parts_left}
 use Rattle.runner.specs.Lines.{lines_of}
@@ -7,7 +8,6 @@ use Rattle.runner.specs.Events.{events_of}
 use Rattle.runner.specs.Line.{IsScriptLine}
 use Rattle.runner.specs.Script.{LinePlays}
 use Rattle.runner.proofs.InTurn.{given-start, given-more, given-all, given-part}
-use Rattle.runner.proofs.Known.{Appends-none, Appends-more}
 use Rattle.runner.proofs.Options.{on_ok, on_err}
 use Rattle.runner.specs.DiskLaws.{disk_plays}
 use Rattle.runner.specs.Played.{StepsOn, packets_of}
@@ -25,7 +25,7 @@ loop-line-init g c =
         [],
         tells-none (StepsOn g.M.Medium.state) packets_of (disk_plays g.M.Medium.state) c.args.disk,
         given-start (LinePlays (bytes_of c.args.size)) (lines_of c.args.script.now) left same,
-        Appends-none (g.W.Write.contents c.args.out.now),
+        Appends-nil (g.W.Write.contents c.args.out.now),
       );
     }
 
@@ -57,7 +57,7 @@ loop-line-preserved g c =
             so.2 here.3,
         given-more (LinePlays (bytes_of c.args.size)) (lines_of c.args.script.now) (parts_left c.loop-line.line-iterator)
             (parts_left c.next.new.self) c.in-Some.line.now c.in-Some.ensures.steps so.0 here.0 so.3 here.2,
-        Appends-more (contents c.args.out.now) (contents c.loop-line.out) (contents c.play_line.new.out) so.1 here.1 so.4 here.4,
+        Appends-trans (contents c.args.out.now) (contents c.loop-line.out) (contents c.play_line.new.out) so.1 here.1 so.4 here.4,
       );
     }
 

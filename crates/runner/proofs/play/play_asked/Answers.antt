@@ -1,8 +1,8 @@
 use Rattle.std.proofs.Common.{◌∷◌, [], ◌++◌, ◌∙◌, ℕ, ap, sym, subst, append_assoc}
+use Rattle.std.proofs.KnownBytes.{Appends-nil, Appends-trans}
 use Rattle.bot_machine.specs.Fitting.{IsWithin}
 use Rattle.runner.specs.Events.{events_of}
 use Rattle.runner.specs.Text.{line_for}
-use Rattle.runner.proofs.Known.{Appends-none, Appends-more}
 use Rattle.runner.proofs.Options.{on_err, on_ok}
 use Rattle.runner.proofs.ToldEvents.{tells-none, tells-one, tells-more, breaks-here, most_stays}
 use Rattle.runner.proofs.Within.{next_within}
@@ -15,7 +15,7 @@ loop-event-init g c = record {
     [],
     ap events_of (sym c.into_iter-event-iterator.ensures.into_iter_gives),
     tells-none g.P.Player.goes g.P.Player.most g.met.P.Player.laws c.args.player.now,
-    Appends-none (g.W.Write.contents c.args.out.now),
+    Appends-nil (g.W.Write.contents c.args.out.now),
   );
 }
 
@@ -44,7 +44,7 @@ loop-event-preserved g c =
         so.2 ∙ ap (λ l. so.0 ++ l) c.in-Some.ensures.steps ∙ sym (append_assoc so.0 (event ∷ []) (events_of c.next.new.self)),
         tells-more goes most laws c.args.player.now c.loop-event.player c.play.new.self so.0 (event ∷ []) so.1 (line_for event answer)
             so.3 (tells-one goes most laws c.loop-event.player c.play.new.self event answer c.in-Some-play.ensures.played),
-        Appends-more (contents c.args.out.now) (contents c.loop-event.out) (contents c.write_out.new.out) so.1 (line_for event answer) so.4
+        Appends-trans (contents c.args.out.now) (contents c.loop-event.out) (contents c.write_out.new.out) so.1 (line_for event answer) so.4
             (rw (c.as_slice.ensures.value ∙ c.event_line.ensures) at good),
       );
     }

@@ -1,8 +1,12 @@
-use Rattle.std.proofs.Common.{◌∙◌, ℕ, List, [], refl, sym, ap, subst, inl, inr, ⊎_elim, map, length, arith}
+use Rattle.std.proofs.Common.{◌≡◌, ◌⊎◌, ◌∙◌, ℕ, List, [], refl, sym, ap, subst, inl, inr, ⊎_elim, map, length, arith}
 use Rattle.std.specs.Prelude.{string_bytes}
 use Rattle.std.proofs.KnownBytes.{Keeps-refl}
-use Rattle.runner.specs.declared.refusal.Refusal.TheVariants.{NoMemory}
+use Rattle.console.specs.declared.words.ArgumentFault.{ArgumentFault}
+use Rattle.console.specs.declared.words.ArgumentFault.TheVariants as argument
+use Rattle.console.specs.declared.words.ArgumentFault.TheVariants.{NoText}
+use Rattle.runner.specs.declared.refusal.Refusal.TheVariants.{Words, NoMemory}
 use Rattle.runner.specs.Program.{HasDone, IsRefusedFor}
+use Rattle.runner.specs.Status.{refusal_of_argument}
 use Rattle.runner.specs.Task.{IsCommandLine}
 use Rattle.runner.proofs.Refusals.{some_status}
 use Rattle.runner.proofs.program.run_program.Goals as goal
@@ -14,17 +18,23 @@ no_words (inr (inl line)) = absurd (omega (arith, ap length line.1.words_are))
 no_words (inr (inr (inl line))) = absurd (omega (arith, ap length line.1.2.words_are))
 no_words (inr (inr (inr line))) = absurd (omega (arith, ap length line.1.2.words_are))
 
+-- without arguments there was no memory, or there are no words
+no_arguments : (fault : ArgumentFault) → (refusal_of_argument fault ≡ NoMemory) ⊎ (refusal_of_argument fault ≡ Words)
+no_arguments NoText = inr refl
+no_arguments argument.NoMemory = inl refl
+
 pub returns-in-Err-clause-done : goal.returns-in-Err-clause-done
-returns-in-Err-clause-done g c zero = absurd (some_status c.in-Err.refusal (sym c.refuse.ensures.status ∙ zero))
+returns-in-Err-clause-done g c zero = absurd (some_status c.from.result (sym c.refuse.ensures.status ∙ zero))
 
 pub returns-in-Err-clause-refused : goal.returns-in-Err-clause-refused
 returns-in-Err-clause-refused g c not =
     let kept = Keeps-refl (g.O.Write.contents c.args.out.now) in
-    let none = c.refuse.ensures.medium in (
+    let none = c.refuse.ensures.medium in
+    let told = no_arguments c.in-Err.fault in (
       [],
-      c.in-Err.refusal,
+      c.from.result,
       c.refuse.ensures.status,
-      ⊎_elim (λ is. inl (is, none, kept)) (λ is. inr (inl (is, no_words, none, kept))) c.in-Err.ensures,
+      rw c.from.ensures (⊎_elim (λ is. inl (is, none, kept)) (λ is. inr (inl (is, no_words, none, kept))) told),
     )
 
 pub returns-in-Ok-words_of-clause-done : goal.returns-in-Ok-words_of-clause-done

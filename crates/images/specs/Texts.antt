@@ -1,0 +1,10 @@
+-- The texts of answers.
+use Rattle.std.specs.Prelude.{◌++◌, ◌∷◌, [], ℕ, List, codes, decimal}
+
+-- a text and a line feed
+abbrev pub ended : List ℕ → List ℕ
+ended text = text ++ 10 ∷ []
+
+-- a word with a space behind it, and how many blocks there were
+abbrev pub blocks_text : List ℕ → ℕ → List ℕ
+blocks_text word blocks = word ++ decimal blocks ++ codes " blocks\n"
