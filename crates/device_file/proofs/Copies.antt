@@ -1,10 +1,11 @@
 -- Copies that go on.
 use Rattle.std.proofs.Common.{◌≡◌, ℕ, ◌+◌, ◌/◌, ◌≤◌, List, [], ◌++◌, length, refl, sym, ◌∙◌, ap, subst, arith}
-use Rattle.std.proofs.Common.{length-append}
+use Rattle.std.proofs.Common.{length-append, Result, Ok, Err, OnOk, IfErr}
 use Rattle.mirror.specs.declared.call.DeviceCall.{DeviceCall}
 use Rattle.device_file.specs.Asked.{Told, asked_for, refused}
 use Rattle.device_file.specs.Reads.{AreRead, AreReadFrom, sectors_in}
 use Rattle.device_file.specs.Copied.{Puts, PutsSome, some_writes, asked_until, IsCopied, IsCopying, IsCopiedFrom, IsCopiedInPart}
+use Rattle.device_file.specs.Copied.{StopsWriting}
 use Rattle.device_file.specs.declared.copying.CopyFault.{CopyFault}
 use Rattle.device_file.specs.declared.copying.CopyFault.TheVariants as fault
 use Rattle.device_file.specs.declared.fault.FileFault.{FileFault}
@@ -101,3 +102,15 @@ module _ (holds : ℕ → List ℕ → Type 0) where
         parts = stops.parts;
         told_is = stops.told_is;
       }
+
+  pub ends_all : (first count at : ℕ) (a b e : Told) (v : List DeviceCall) (result : Result (Unit {0}) CopyFault)
+      → IsCopying holds first count at a b [] v → OnOk result (Puts [] b e v []) → OnOk result (IsCopied holds first count at a e)
+  ends_all first count at a b e v (Ok u) f g = copied_all first count at a b e v f g
+  ends_all first count at a b e v (Err why) f g = tt
+
+  pub ends_part : (first count at : ℕ) (a b e : Told) (v : List DeviceCall) (result : Result (Unit {0}) CopyFault)
+      → IsCopying holds first count at a b [] v → IfErr result (StopsWriting b e v)
+      → IfErr result (IsCopiedInPart holds first count at a e)
+  ends_part first count at a b e v (Ok u) f g = tt
+  ends_part first count at a b e v (Err (fault.From why)) f g = absurd g
+  ends_part first count at a b e v (Err (fault.To why)) f g = copied_part first count at a b e v why f g

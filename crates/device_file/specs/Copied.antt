@@ -118,6 +118,18 @@ pub record TakesCopies {D : Type 0} (told : D → Told) (sectors : D → ℕ)
   pub err : IfErr result (IsCopiedFrom holds first count at (told old) (told new) waited)
   pub size : sectors new ≡ sectors old
 
+-- A refusal of the file that was written, the last call of a first part of what waited.
+abbrev pub StopsWriting : Told → Told → List DeviceCall → CopyFault → Type 0
+StopsWriting old new waited (fault.From why) = ⊥
+StopsWriting old new waited (fault.To why) = PutsSome [] old new waited
+
+-- What waited of a copy was to be written. The file written is as large as before.
+pub record EndsCopy {D : Type 0} (told : D → Told) (sectors : D → ℕ) (old new : D)
+    (waited : List DeviceCall) (result : Result (Unit {0}) CopyFault) : Type 0 where
+  pub ok : OnOk result (Puts [] (told old) (told new) waited [])
+  pub err : IfErr result (StopsWriting (told old) (told new) waited)
+  pub size : sectors new ≡ sectors old
+
 -- So many sectors can be copied by reads of so many bytes: they have numbers in both files, and a
 -- read gives a sector at least.
 pub record CanCopy (first count at bytes : ℕ) : Type 0 where

@@ -1,6 +1,6 @@
 -- An outbox of which a first part was taken out.
 use Rattle.std.specs.Prelude.{◌≡◌, ◌⊎◌, ℕ, ◌+◌, Bool, List, [], ◌∷◌, ◌++◌, if◌then◌else◌}
-use Rattle.std.specs.Prelude.{Result, OnOk, IfErr, is_ok}
+use Rattle.std.specs.Prelude.{Result, OnOk, IfErr, is_ok, length, ◌<◌}
 use Rattle.mirror.specs.Story.{Told}
 use Rattle.mirror.specs.declared.call.DeviceCall.{DeviceCall}
 use Rattle.mirror.specs.declared.call.DeviceCall.TheVariants.{Write, Flush}
@@ -36,6 +36,15 @@ pub record CarriesOut {D : Type 0} (told : D → file.Told) (sectors : D → ℕ
     (old new : Window) (result : Result (Unit {0}) FileFault) : Type 0 where
   pub carried : IsCarriedOut (is_ok result) (told was) (told is) old new
   pub all : OnOk result (new.outbox ≡ [])
+  pub size : sectors is ≡ sectors was
+  pub named : IfErr result (λ fault. (fault.call ≡ call.Write) ⊎ (fault.call ≡ call.Sync))
+
+-- A file was to carry out calls that wait first, in order: one at least where it refused none. It is
+-- as large as before.
+pub record CarriesSome {D : Type 0} (told : D → file.Told) (sectors : D → ℕ) (was is : D)
+    (old new : Window) (result : Result (Unit {0}) FileFault) : Type 0 where
+  pub carried : IsCarriedOut (is_ok result) (told was) (told is) old new
+  pub fewer : OnOk result (length new.outbox < length old.outbox)
   pub size : sectors is ≡ sectors was
   pub named : IfErr result (λ fault. (fault.call ≡ call.Write) ⊎ (fault.call ≡ call.Sync))
 

@@ -1,8 +1,9 @@
 //! The carrying out of an outbox by a file.
-ghost use Rattle.std.specs.Prelude.{◌<◌, [], ◌∷◌, length};
-ghost use Rattle.mirror.specs.declared.call.DeviceCall.TheVariants.{Write};
+ghost use Rattle.std.specs.Prelude.{◌≡◌, ◌<◌, [], ◌∷◌, Some, length};
+ghost use Rattle.mirror.specs.declared.call.DeviceCall.TheVariants.{Write, Flush};
+ghost use Rattle.mirror.specs.Mirror.{first_of};
 ghost use Rattle.device_file.specs.Asked.{AsksFor, writes_of};
-ghost use Rattle.device_file.specs.Outbox.{LetsGo, CarriesOut, Begins};
+ghost use Rattle.device_file.specs.Outbox.{LetsGo, CarriesOut, CarriesSome, Begins};
 
 use crate::fault::{FileCall, FileFault};
 use crate::file::DeviceFile;
@@ -23,18 +24,48 @@ pub fn carry_out<D: DeviceFile>(
     ensures { CarriesOut D.told D.size file.old file.new window.old window.new result }
 {
     while let Some(call) = window.first() {
-        match call {
-            DeviceCall::Write(_) => {
-                gather(window, run);
-                file.write(run)?;
-            }
-            DeviceCall::Flush => {
-                let _flush = window.take();
-                file.sync()?;
-            }
-        }
+        carry_first(&call, window, file, run)?;
     }
     Ok(())
+}
+
+// Has a file carry out the call that waits first. Behind a write that are those of neighbouring
+// sectors too.
+fn carry_first<D: DeviceFile>(
+    call: &DeviceCall,
+    window: &mut WindowMedium,
+    file: &mut D,
+    run: &mut Run,
+) -> Result<(), FileFault>
+    requires { first_of window.old.outbox ≡ Some call.now }
+    ensures { CarriesSome D.told D.size file.old file.new window.old window.new result }
+{
+    match call {
+        DeviceCall::Write(_) => carry_writes(window, file, run),
+        DeviceCall::Flush => carry_flush(window, file),
+    }
+}
+
+// Has a file carry out writes that wait first, at once.
+fn carry_writes<D: DeviceFile>(
+    window: &mut WindowMedium,
+    file: &mut D,
+    run: &mut Run,
+) -> Result<(), FileFault>
+    requires { Begins window.old.outbox }
+    ensures { CarriesSome D.told D.size file.old file.new window.old window.new result }
+{
+    gather(window, run);
+    file.write(run)
+}
+
+// Has a file carry out a flush that waits first.
+fn carry_flush<D: DeviceFile>(window: &mut WindowMedium, file: &mut D) -> Result<(), FileFault>
+    requires { first_of window.old.outbox ≡ Some Flush }
+    ensures { CarriesSome D.told D.size file.old file.new window.old window.new result }
+{
+    let _flush = window.take();
+    file.sync()
 }
 
 // Takes writes of neighbouring sectors out of the outbox, until another call waits or the run is

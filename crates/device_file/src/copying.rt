@@ -1,7 +1,7 @@
 //! Sectors of one file that are copied to another.
 ghost use Rattle.std.specs.Prelude.{◌≡◌, ◌+◌, ◌/◌, ◌<◌, ◌^◌, [], length, OnOk, IfErr};
 ghost use Rattle.device_file.specs.Copied.{CanCopy, IsCopied, IsCopiedInPart, TakesCopies};
-ghost use Rattle.device_file.specs.Copied.{waiting_in};
+ghost use Rattle.device_file.specs.Copied.{EndsCopy, waiting_in};
 
 use crate::fault::FileFault;
 use crate::file::DeviceFile;
@@ -47,10 +47,17 @@ pub fn copy_sectors<S: DeviceFile, D: DeviceFile, M: Meter>(
 {
     match copy_runs(from, first, count, to, at, run, bytes, meter) {
         Err(fault) => Err(fault),
-        Ok(()) => match put_rest(to, run) {
-            Ok(()) => Ok(()),
-            Err(fault) => Err(CopyFault::To(fault)),
-        },
+        Ok(()) => end_copy(to, run),
+    }
+}
+
+// Has what waits of a copy written.
+fn end_copy<D: DeviceFile>(to: &mut D, run: &mut Run) -> Result<(), CopyFault>
+    ensures { EndsCopy D.told D.size to.old to.new (waiting_in run.old) result }
+{
+    match put_rest(to, run) {
+        Ok(()) => Ok(()),
+        Err(fault) => Err(CopyFault::To(fault)),
     }
 }
 

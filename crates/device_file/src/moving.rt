@@ -1,5 +1,6 @@
 //! Writes that wait in an outbox, carried out on another file than the window's.
-ghost use Rattle.std.specs.Prelude.{[]};
+ghost use Rattle.std.specs.Prelude.{◌≡◌, ◌≤◌, [], true};
+ghost use Rattle.window.specs.Seen.{lies_in};
 ghost use Rattle.device_file.specs.Copied.{TakesCalls, moved_call, moved_calls, waiting_in};
 
 use crate::fault::FileFault;
@@ -71,7 +72,7 @@ fn move_call<D: DeviceFile>(
     let DeviceCall::Write(write) = call else {
         return Ok(());
     };
-    if write.sector < first || write.sector - first >= count {
+    if !is_among(write.sector, first, count) {
         return Ok(());
     }
     let moved = SectorWrite {
@@ -79,4 +80,12 @@ fn move_call<D: DeviceFile>(
         block: write.block,
     };
     put_block(file, run, &moved)
+}
+
+// Whether a sector is one of so many from this one on.
+fn is_among(sector: u64, first: u64, count: u64) -> bool
+    ensures is { result ≡ lies_in first count sector }
+    ensures order { result ≡ true → first ≤ sector }
+{
+    first <= sector && sector - first < count
 }

@@ -60,15 +60,11 @@ impl FirstSectors {
         ensures read { IfOk result (λ first. AreRead (D.holds file.now) 0 first.bytes.items) }
         ensures err { IfErr result (IsUnopened (D.size file.now)) }
     {
-        let sectors = file.sectors();
-        if sectors == 0 {
-            let fault = FileCall::Length.refused_for(ErrorKind::InvalidData);
-            return Err(OpenFault::File(fault));
-        }
+        let sectors = sectors_of(file)?;
         let mut sector = [0; SECTOR];
         file.read(0, &mut sector)?;
         let sizes = super_in(&sector);
-        let near = near_for(&sizes).min(sectors);
+        let near = near_for(&sizes, sectors);
         let Ok(mut bytes) = vec![in alloc; 0u8; near as usize * SECTOR] else {
             return Err(OpenFault::NoMemory);
         };
@@ -105,6 +101,19 @@ impl FirstSectors {
     }
 }
 
+// How many sectors a file has: one at least.
+fn sectors_of<D: DeviceFile>(file: &D) -> Result<u64, OpenFault>
+    ensures ok { IfOk result (λ sectors. (sectors ≡ D.size file.now) × (0 < sectors)) }
+    ensures err { IfErr result (IsUnopened (D.size file.now)) }
+{
+    let sectors = file.sectors();
+    if sectors == 0 {
+        let fault = FileCall::Length.refused_for(ErrorKind::InvalidData);
+        return Err(OpenFault::File(fault));
+    }
+    Ok(sectors)
+}
+
 // The super that a sector spells.
 fn super_in(sector: &[u8; SECTOR]) -> Option<Super>
     ensures { SpellsSuper result sector.now }
@@ -115,13 +124,13 @@ fn super_in(sector: &[u8; SECTOR]) -> Option<Super>
     }
 }
 
-// How many of the first sectors are to lie in memory.
-fn near_for(sizes: &Option<Super>) -> u64
-    ensures { result ≡ near_of sizes.now }
+// How many of the first of so many sectors are to lie in memory.
+fn near_for(sizes: &Option<Super>, sectors: u64) -> u64
+    ensures { result ≡ min (near_of sizes.now) sectors }
 {
     match sizes {
-        Some(sizes) => sizes.home,
-        None => 2,
+        Some(sizes) => sizes.home.min(sectors),
+        None => sectors.min(2),
     }
 }
 

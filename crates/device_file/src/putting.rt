@@ -4,7 +4,7 @@ ghost use Rattle.std.specs.Prelude.{[], length};
 ghost use Rattle.medium.specs.Writes.{sector_of};
 ghost use Rattle.mirror.specs.declared.call.DeviceCall.TheVariants.{Write};
 ghost use Rattle.device_file.specs.Reads.{sectors_in};
-ghost use Rattle.device_file.specs.Copied.{TakesCalls, is_zeros, some_writes, waiting_in};
+ghost use Rattle.device_file.specs.Copied.{TakesCalls, is_zeros, some_write, some_writes, waiting_in};
 
 use crate::fault::FileFault;
 use crate::file::DeviceFile;
@@ -71,14 +71,27 @@ pub(crate) fn put_sectors<D: DeviceFile>(
             sector: first + i as u64,
             block: block_at(bytes, i),
         };
-        if !has_zeros_alone(&write.block) {
-            match put_block(file, run, &write) {
-                Ok(()) => {}
-                Err(fault) => return Err(fault),
-            }
+        match put_some(file, run, &write) {
+            Ok(()) => {}
+            Err(fault) => return Err(fault),
         }
     }
     Ok(())
+}
+
+// Has one write more wait, but none of zeros.
+fn put_some<D: DeviceFile>(
+    file: &mut D,
+    run: &mut Run,
+    write: &SectorWrite,
+) -> Result<(), FileFault>
+    ensures { TakesCalls D.told D.size (some_write write.now.sector write.now.block) file.old
+        file.new (waiting_in run.old) (waiting_in run.new) result }
+{
+    if has_zeros_alone(&write.block) {
+        return Ok(());
+    }
+    put_block(file, run, write)
 }
 
 // A sector of these bytes.

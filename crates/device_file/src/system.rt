@@ -98,17 +98,8 @@ impl<F: SectorFile + Drop> SystemFile<F> {
         let Some(length) = sectors.checked_mul(SECTOR) else {
             return Err(FileCall::Length.refused_for(ErrorKind::InvalidInput));
         };
-        let mut how = OpenOptions::new();
-        how.read(true).write(true);
-        let how = if replace {
-            how.create(true)
-        } else {
-            how.create_new(true)
-        };
-        let file = opened(rt, how, path)?;
-        lock(&file)?;
-        resize(&file, 0)?;
-        resize(&file, length)?;
+        let file = made(rt, path, replace)?;
+        empty_to(&file, length)?;
         Ok(SystemFile::over(file, sectors))
     }
 }
@@ -134,6 +125,31 @@ fn opened<F, R: Files<File = F>>(rt: &R, how: &OpenOptions, path: &str) -> Resul
         Ok(file) => Ok(file),
         Err(error) => Err(FileCall::Open.refused_for(error.kind())),
     }
+}
+
+// Opens a file to be written, which is made where it is not there. One that is there has to be one
+// that is to be replaced.
+fn made<F, R: Files<File = F>>(rt: &R, path: &str, replace: bool) -> Result<F, FileFault>
+    ensures { IfErr result (λ fault. fault.call ≡ FileCall.Open) }
+{
+    let mut how = OpenOptions::new();
+    how.read(true).write(true);
+    if replace {
+        how.create(true);
+    } else {
+        how.create_new(true);
+    }
+    opened(rt, &how, path)
+}
+
+// Locks a plain file, and only then empties it, and gives it this length.
+fn empty_to<F: SectorFile>(file: &F, length: u64) -> Result<(), FileFault>
+    ensures { IfErr result (λ fault. (fault.call ≡ FileCall.Length)
+        ⊎ (fault.call ≡ FileCall.Lock)) }
+{
+    lock(file)?;
+    resize(file, 0)?;
+    resize(file, length)
 }
 
 // Locks a plain file, and tells its length. What is no plain file is not touched.
