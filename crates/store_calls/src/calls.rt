@@ -1,5 +1,5 @@
 //! What C's calls of a store do.
-ghost use Rattle.std.specs.Prelude.{◌≡◌, ◌↔◌, None, IsTrue, IsSome};
+ghost use Rattle.std.specs.Prelude.{◌≡◌, ◌↔◌, None, true, false, IsTrue, IsSome};
 ghost use Rattle.window.specs.Window.{fresh};
 ghost use Rattle.store_calls.specs.Calls.{ReadsBlocks, WritesBlocks, SyncsStore, StepsOn};
 ghost use Rattle.store_calls.specs.Calls.{HandsOn, HandsOnRun, IsShownTo, TellsSizes};
@@ -46,13 +46,27 @@ pub fn start_in(
     ensures { StartsIn near.now sectors (fresh sectors near.now device.now.bytes span room)
         store.old.store store.new.store result }
 {
-    if let Some(there) = reclaim(store, alloc) {
-        adopt(store, alloc, there);
+    if has_store(alloc, store) {
         return Err(CallFault::Held);
     }
     let held = begin(alloc, near, sectors, device, span, room)?;
     adopt(store, alloc, held);
     Ok(())
+}
+
+// Whether the handle has a store, which stays there.
+fn has_store(alloc: Global, store: &mut UsbDiskStore) -> bool
+    ensures stays { store.new.store ≡ store.old.store }
+    ensures some { result ≡ true → IsSome store.old.store }
+    ensures none { result ≡ false → store.old.store ≡ None }
+{
+    match reclaim(store, alloc) {
+        Some(there) => {
+            adopt(store, alloc, there);
+            true
+        }
+        None => false,
+    }
 }
 
 /// The handle's store goes, with what waits. It answers whether there was one.

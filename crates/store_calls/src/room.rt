@@ -1,5 +1,5 @@
 //! How much room an outbox must have, and whether an image wants more than it was given.
-ghost use Rattle.std.specs.Prelude.{◌≡◌, ◌≤◌, ◌↔◌, IsTrue};
+ghost use Rattle.std.specs.Prelude.{◌≡◌, ◌≤◌, ◌<◌, ◌↔◌, IsTrue};
 ghost use Rattle.store_calls.specs.Rooms.{room_of, WantsMore};
 
 use journal::{LogFormat, Super};
@@ -26,7 +26,14 @@ pub fn has_little_room(near: &[u8], room: usize) -> bool
     let mut sector = [0; SECTOR];
     sector.copy_from_slice(&near[..SECTOR]);
     match Super::decode(&sector) {
-        Ok(sizes) => (room as u64) < room_for(sizes.format, sizes.slots),
+        Ok(sizes) => wants_more(&sizes, room),
         Err(_) => false,
     }
+}
+
+// Whether an image of these sizes wants an outbox with more room.
+fn wants_more(sizes: &Super, room: usize) -> bool
+    ensures { IsTrue result ↔ (room < room_of sizes.now.format sizes.now.slots) }
+{
+    (room as u64) < room_for(sizes.format, sizes.slots)
 }

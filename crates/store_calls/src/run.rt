@@ -1,9 +1,10 @@
 //! Writes to neighbouring sectors leave the outbox together.
-ghost use Rattle.std.specs.Prelude.{◌≡◌, ◌+◌, Some, MatchOption};
+ghost use Rattle.std.specs.Prelude.{◌≡◌, ◌↔◌, ◌+◌, Some, MatchOption, IsTrue, length};
 ghost use Rattle.mirror.specs.declared.call.DeviceCall.TheVariants as call;
 ghost use Rattle.blocks.specs.Passing.{IsUntouched};
 ghost use Rattle.window.specs.Window.{state_of};
-ghost use Rattle.store_calls.specs.Outbox.{IsLongestRun, IsTo};
+ghost use Rattle.mirror.specs.Mirror.{first_of};
+ghost use Rattle.store_calls.specs.Outbox.{IsLongestRun, IsTo, IsNoRoom, ShowsRun};
 ghost use Rattle.store_calls.specs.Calls.{HandsOnRun};
 
 use crate::CallFault;
@@ -22,22 +23,44 @@ pub(crate) fn next_run(
     ensures { HandsOnRun sector.old to.old count.old sector.new to.new count.new
         store.old store.new result }
 {
-    if to.len() == 0 || to.len() % BLOCK != 0 {
+    if is_no_room(to.len()) {
         return Err(CallFault::Length);
     }
+    Ok(take_run(store, sector, to, count))
+}
+
+// Whether so many bytes are room for no sector, or for a part of one.
+fn is_no_room(size: usize) -> bool
+    ensures { IsTrue result ↔ IsNoRoom size }
+{
+    size == 0 || size % BLOCK != 0
+}
+
+// The next calls leave an outbox, where there is room for whole sectors. Their kind.
+fn take_run(
+    store: &mut Store<WindowMedium>,
+    sector: &mut u64,
+    to: &mut [u8],
+    count: &mut usize,
+) -> u32
+    requires { ¬ IsNoRoom (length to.old) }
+    ensures { ShowsRun (first_of store.old.medium.outbox) store.old.medium sector.old to.old
+        count.old store.new.medium sector.new to.new count.new result
+        × IsUntouched state_of store.old store.new }
+{
     match store.medium().first() {
         Some(DeviceCall::Write(write)) => {
             *sector = write.sector;
             *count = gather(store, write.sector, to);
-            Ok(1)
+            1
         }
         Some(DeviceCall::Flush) => {
             store.give();
-            Ok(2)
+            2
         }
         None => {
             store.give();
-            Ok(0)
+            0
         }
     }
 }

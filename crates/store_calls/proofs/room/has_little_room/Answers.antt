@@ -1,5 +1,4 @@
-use Rattle.std.proofs.Common.{◌<◌, ℕ, List, sym, ap, subst, arith}
-use Rattle.std.proofs.lemmas.Bool.{ltb-true, lt-ltb}
+use Rattle.std.proofs.Common.{ℕ, List, sym, ap, subst, arith}
 use Rattle.journal.specs.Places.{Shape}
 use Rattle.journal.specs.Sectors.{IsSuper}
 use Rattle.journal.specs.Values.{shape_of}
@@ -10,16 +9,16 @@ pub returns-in-Ok : goal.returns-in-Ok
 returns-in-Ok c =
     let after = c.copy_from_slice.ensures.after in (
       λ t.
-          let less : c.args.room < c.room_for.result = ltb-true c.args.room c.room_for.result t in (
+          let less = c.wants_more.ensures.0 t in (
             omega (arith, c.if-near-lt-SECTOR.false),
             (
               shape_of c.in-Ok.sizes,
               subst (λ (b : List ℕ). IsSuper (shape_of c.in-Ok.sizes) b) after c.in-Ok.ensures.ok,
-              omega (arith, less, c.room_for.ensures),
+              omega (arith, less),
             ),
           ),
       λ (some, (shape, super, more)).
           let same = c.in-Ok.ensures.all shape (subst (λ (b : List ℕ). IsSuper shape b) (sym after) super) in
           let told = ap (λ (s : Shape). room_for s) same in
-          lt-ltb c.args.room c.room_for.result (omega (arith, more, told, c.room_for.ensures)),
+          c.wants_more.ensures.1 (omega (arith, more, told)),
     )
