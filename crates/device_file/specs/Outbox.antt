@@ -39,8 +39,8 @@ pub record CarriesOut {D : Type 0} (told : D → file.Told) (sectors : D → ℕ
   pub size : sectors is ≡ sectors was
   pub named : IfErr result (λ fault. (fault.call ≡ call.Write) ⊎ (fault.call ≡ call.Sync))
 
--- A file was to carry out calls that wait first, in order: one at least where it refused none. It is
--- as large as before.
+-- A file was to carry out calls that wait first, in order: one at least where it refused none. It
+-- is as large as before.
 pub record CarriesSome {D : Type 0} (told : D → file.Told) (sectors : D → ℕ) (was is : D)
     (old new : Window) (result : Result (Unit {0}) FileFault) : Type 0 where
   pub carried : IsCarriedOut (is_ok result) (told was) (told is) old new

@@ -2,6 +2,7 @@
 ghost use Rattle.std.specs.Prelude.{◌≡◌, ◌<◌, [], ◌∷◌, Some, length};
 ghost use Rattle.mirror.specs.declared.call.DeviceCall.TheVariants.{Write, Flush};
 ghost use Rattle.mirror.specs.Mirror.{first_of};
+ghost use Rattle.window.specs.Window.{without_first};
 ghost use Rattle.device_file.specs.Asked.{AsksFor, writes_of};
 ghost use Rattle.device_file.specs.Outbox.{LetsGo, CarriesOut, CarriesSome, Begins};
 
@@ -41,28 +42,18 @@ fn carry_first<D: DeviceFile>(
     ensures { CarriesSome D.told D.size file.old file.new window.old window.new result }
 {
     match call {
-        DeviceCall::Write(_) => carry_writes(window, file, run),
+        DeviceCall::Write(_) => {
+            gather(window, run);
+            file.write(run)
+        }
         DeviceCall::Flush => carry_flush(window, file),
     }
 }
 
-// Has a file carry out writes that wait first, at once.
-fn carry_writes<D: DeviceFile>(
-    window: &mut WindowMedium,
-    file: &mut D,
-    run: &mut Run,
-) -> Result<(), FileFault>
-    requires { Begins window.old.outbox }
-    ensures { CarriesSome D.told D.size file.old file.new window.old window.new result }
-{
-    gather(window, run);
-    file.write(run)
-}
-
 // Has a file carry out a flush that waits first.
 fn carry_flush<D: DeviceFile>(window: &mut WindowMedium, file: &mut D) -> Result<(), FileFault>
-    requires { first_of window.old.outbox ≡ Some Flush }
-    ensures { CarriesSome D.told D.size file.old file.new window.old window.new result }
+    ensures asks { AsksFor D.told D.size (Flush ∷ []) FileCall.Sync file.old file.new result }
+    ensures taken { window.new ≡ without_first window.old }
 {
     let _flush = window.take();
     file.sync()

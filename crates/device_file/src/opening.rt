@@ -60,7 +60,8 @@ impl FirstSectors {
         ensures read { IfOk result (λ first. AreRead (D.holds file.now) 0 first.bytes.items) }
         ensures err { IfErr result (IsUnopened (D.size file.now)) }
     {
-        let sectors = sectors_of(file)?;
+        let sectors = file.sectors();
+        refuse_empty(sectors)?;
         let mut sector = [0; SECTOR];
         file.read(0, &mut sector)?;
         let sizes = super_in(&sector);
@@ -101,17 +102,16 @@ impl FirstSectors {
     }
 }
 
-// How many sectors a file has: one at least.
-fn sectors_of<D: DeviceFile>(file: &D) -> Result<u64, OpenFault>
-    ensures ok { IfOk result (λ sectors. (sectors ≡ D.size file.now) × (0 < sectors)) }
-    ensures err { IfErr result (IsUnopened (D.size file.now)) }
+// Refuses a file of no sectors.
+fn refuse_empty(sectors: u64) -> Result<(), OpenFault>
+    ensures ok { IfOk result (λ _. 0 < sectors) }
+    ensures err { IfErr result (IsUnopened sectors) }
 {
-    let sectors = file.sectors();
     if sectors == 0 {
         let fault = FileCall::Length.refused_for(ErrorKind::InvalidData);
         return Err(OpenFault::File(fault));
     }
-    Ok(sectors)
+    Ok(())
 }
 
 // The super that a sector spells.

@@ -4,7 +4,8 @@ ghost use Rattle.std.specs.Prelude.{[], length};
 ghost use Rattle.medium.specs.Writes.{sector_of};
 ghost use Rattle.mirror.specs.declared.call.DeviceCall.TheVariants.{Write};
 ghost use Rattle.device_file.specs.Reads.{sectors_in};
-ghost use Rattle.device_file.specs.Copied.{TakesCalls, is_zeros, some_write, some_writes, waiting_in};
+ghost use Rattle.device_file.specs.Copied.{TakesCalls, is_zeros, some_write, some_writes};
+ghost use Rattle.device_file.specs.Copied.{waiting_in};
 
 use crate::fault::FileFault;
 use crate::file::DeviceFile;

@@ -98,7 +98,8 @@ impl<F: SectorFile + Drop> SystemFile<F> {
         let Some(length) = sectors.checked_mul(SECTOR) else {
             return Err(FileCall::Length.refused_for(ErrorKind::InvalidInput));
         };
-        let file = made(rt, path, replace)?;
+        let file = opened(rt, &to_make(replace), path)?;
+        lock(&file)?;
         empty_to(&file, length)?;
         Ok(SystemFile::over(file, sectors))
     }
@@ -127,11 +128,9 @@ fn opened<F, R: Files<File = F>>(rt: &R, how: &OpenOptions, path: &str) -> Resul
     }
 }
 
-// Opens a file to be written, which is made where it is not there. One that is there has to be one
-// that is to be replaced.
-fn made<F, R: Files<File = F>>(rt: &R, path: &str, replace: bool) -> Result<F, FileFault>
-    ensures { IfErr result (λ fault. fault.call ≡ FileCall.Open) }
-{
+// How a file is opened to be written that is made where it is not there. One that is there is
+// refused, where it is not to be replaced.
+fn to_make(replace: bool) -> OpenOptions {
     let mut how = OpenOptions::new();
     how.read(true).write(true);
     if replace {
@@ -139,17 +138,7 @@ fn made<F, R: Files<File = F>>(rt: &R, path: &str, replace: bool) -> Result<F, F
     } else {
         how.create_new(true);
     }
-    opened(rt, &how, path)
-}
-
-// Locks a plain file, and only then empties it, and gives it this length.
-fn empty_to<F: SectorFile>(file: &F, length: u64) -> Result<(), FileFault>
-    ensures { IfErr result (λ fault. (fault.call ≡ FileCall.Length)
-        ⊎ (fault.call ≡ FileCall.Lock)) }
-{
-    lock(file)?;
-    resize(file, 0)?;
-    resize(file, length)
+    how
 }
 
 // Locks a plain file, and tells its length. What is no plain file is not touched.
@@ -175,11 +164,15 @@ fn length_of_plain<F: SectorFile>(file: &F) -> Result<u64, FileFault>
     }
 }
 
-// Gives a file this length.
-fn resize<F: SectorFile>(file: &F, length: u64) -> Result<(), FileFault>
+// Empties a file, and gives it this length.
+fn empty_to<F: SectorFile>(file: &F, length: u64) -> Result<(), FileFault>
     ensures { IfErr result (λ fault. fault.call ≡ FileCall.Length) }
 {
-    match file.set_len(length) {
+    let resized = match file.set_len(0) {
+        Ok(()) => file.set_len(length),
+        Err(error) => Err(error),
+    };
+    match resized {
         Ok(()) => Ok(()),
         Err(error) => Err(FileCall::Length.refused_for(error.kind())),
     }
