@@ -7,10 +7,8 @@ use Rattle.window.specs.Window.{Window, state_of, kept_out, ComesAfter, CoversDe
 use Rattle.window.specs.Looks.{near_in_sight, none_missed}
 use Rattle.journal.specs.Places.{Shape, first_home, slot_sectors_of}
 use Rattle.recovery.specs.Unread.{MakesNoRead}
-use Rattle.recovery.specs.Formatted.{IsLaid, LayingLeaves, AreSizes, IsFormatCause}
+use Rattle.recovery.specs.Formatted.{IsLaid, LayingLeaves}
 use Rattle.recovery.specs.Migrated.{IsMigrationBy, IsMigrationRefusal, MigrationLeaves}
-use Rattle.recovery.specs.declared.format_fault.FormatFault.{FormatFault}
-use Rattle.recovery.specs.declared.format_fault.FormatFault.TheVariants.{BadSize, Medium}
 use Rattle.recovery.specs.declared.recovered.Recovered.{Recovered}
 use Rattle.recovery.specs.declared.start_fault.StartFault.{StartFault}
 use Rattle.journal.specs.Values.{shape_of}

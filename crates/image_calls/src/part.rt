@@ -1,6 +1,7 @@
 //! The parts of a format: each by so few calls that they have room in an outbox.
-ghost use Rattle.std.specs.Prelude.{◌+◌, ◌*◌, ◌<◌, OnErr, IfOk, IfErr};
-ghost use Rattle.journal.specs.Places.{new_shape, slot_sectors_of};
+ghost use Rattle.std.specs.Prelude.{◌+◌, ◌*◌, ◌<◌, ◌≤◌, Some, OnErr, IfOk, IfErr, MatchOption};
+ghost use Rattle.journal.specs.Places.{new_shape, slot_sectors_of, sectors_of};
+ghost use Rattle.journal.specs.Values.{shape_of};
 ghost use Rattle.recovery.specs.Formatted.{IsFormatCause};
 ghost use Rattle.image_calls.specs.Parts.{IsBegun, KeepsOnWay, FailsOnWay, GoesPart};
 ghost use Rattle.image_calls.specs.Parts.{parts_left};
@@ -51,16 +52,28 @@ pub(crate) fn next_part<M: Medium>(m: &mut M, plan: Plan) -> Result<Option<Plan>
     ensures goes { GoesPart M.state M.follows
         (slot_sectors_of plan.sizes.format * plan.sizes.slots + 7) m.old m.new }
 {
-    let end = plan.sizes.sectors();
-    if m.sectors() < end {
+    if m.sectors() < plan.sizes.sectors() {
         return Err(FormatFault::BadSize);
     }
+    let Some(to) = end_of_part(&plan) else {
+        lay_log(m, plan.sizes.format, plan.sizes.blocks, plan.sizes.slots)?;
+        return Ok(None);
+    };
+    clear(m, plan.at, to)?;
+    let sizes = plan.sizes;
+    Ok(Some(Plan { sizes, at: to }))
+}
+
+// Behind which sector the next part of home ends, where home is not cleared yet.
+fn end_of_part(plan: &Plan) -> Option<u64>
+    ensures { let end = sectors_of (shape_of plan.now.sizes) in
+        MatchOption result (end ≤ plan.now.at)
+        (λ to. (plan.now.at < to) × (to ≤ end) × (to ≤ plan.now.at + 48)) }
+{
+    let end = plan.sizes.sectors();
     if plan.at < end {
-        let to = end.min(plan.at + PART);
-        clear(m, plan.at, to)?;
-        let sizes = plan.sizes;
-        return Ok(Some(Plan { sizes, at: to }));
+        Some(end.min(plan.at + PART))
+    } else {
+        None
     }
-    lay_log(m, plan.sizes.format, plan.sizes.blocks, plan.sizes.slots)?;
-    Ok(None)
 }
