@@ -10,7 +10,7 @@ ghost use Rattle.window.specs.Window.{fresh};
 
 use crate::codes::{ACK, EMPTY, NOT_TAKEN, STARTED, VERSION};
 use crate::handle::UsbDisk;
-use crate::moves::{adopt, reclaim};
+use crate::moves::{adopt, has_disk, reclaim};
 use crate::play::{
     answer_request, make_step, next_call, send_packet, show_sectors, take_packet, take_unread,
 };
@@ -74,8 +74,7 @@ pub extern "C" fn usbdisk_start(
     ensures { Starts near.now sectors (fresh sectors near.now device.now.bytes span room)
         (identity_of identity.now) packet disk.old.disk disk.new.disk result }
 {
-    if let Some(there) = reclaim(disk, alloc) {
-        adopt(disk, alloc, there);
+    if has_disk(disk, alloc) {
         return STARTED;
     }
     match begin(alloc, near, sectors, device, identity, packet, span, room) {

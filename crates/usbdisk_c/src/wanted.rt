@@ -1,5 +1,5 @@
 //! Which sectors a disk wants to be shown before it takes a packet.
-ghost use Rattle.std.specs.Prelude.{◌≡◌, ℕ, IfSome, MatchOption, None, ◌≤◌};
+ghost use Rattle.std.specs.Prelude.{◌≡◌, ℕ, IfSome, MatchOption, None, ◌≤◌, ◌<◌, ◌+◌, ◌^◌, max};
 ghost use Rattle.scsi_unit.specs.Reading.{AreHome};
 ghost use Rattle.usbdisk_c.specs.Plays.{medium_of};
 ghost use Rattle.usbdisk_c.specs.Wanted.{AreMissing, AreInSight, Wants, WantsNone};
@@ -30,14 +30,26 @@ fn missing(medium: &WindowMedium, home: &HomeSectors) -> Option<(u64, u32)>
     ensures none { result ≡ None → AreInSight medium.now home.now }
 {
     let _sectors = medium.sectors();
-    let end = home.first + u64::from(home.count);
-    let first = home.first.max(medium.near());
-    if end <= first {
+    let Some((first, count)) = behind(home, medium.near()) else {
         return None;
-    }
-    let count = (end - first) as u32;
+    };
     if medium.holds(first, u64::from(count)) {
         return None;
     }
     Some((first, count))
+}
+
+// Those of some home sectors that are not before this sector: the first, and how many.
+fn behind(home: &HomeSectors, near: u64) -> Option<(u64, u32)>
+    requires { home.now.first + home.now.count < 2 ^ 64 }
+    ensures { MatchOption result (home.now.first + home.now.count ≤ max home.now.first near)
+        (λ told. (told.0 ≡ max home.now.first near) × (0 < told.1)
+        × (told.0 + told.1 ≡ home.now.first + home.now.count)) }
+{
+    let end = home.first + u64::from(home.count);
+    let first = home.first.max(near);
+    if end <= first {
+        return None;
+    }
+    Some((first, (end - first) as u32))
 }
