@@ -3,9 +3,9 @@
 //!
 //! On a simulated medium it makes an image of format 1, lives lives on it, and migrates a copy of
 //! it with a fuse of each length in turn, up to the first with which the migration ends. Each cut
-//! is tried with no unflushed write kept and with all of them; on the small image with each single
-//! one too, and on the one whose log looks like that of format 2 with the newest. Each image that
-//! is left so is migrated again, both at once and after a disk was started on it. Judged are
+//! is tried with no unflushed write kept and with all of them; on the small image, and on the one
+//! whose log looks like that of format 2, with the newest alone too. Each image that is left so is
+//! migrated again, both at once and after a disk was started on it. Judged are
 //!
 //! - each answer of each life: the blocks are those after a beginning of the accepted writes that
 //!   holds every promised one, and the same in every life from the migration on,

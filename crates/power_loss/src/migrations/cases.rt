@@ -12,7 +12,8 @@ use std::alloc::{AllocError, Global};
 /// An image that is migrated.
 #[derive(Clone, Copy)]
 pub(crate) enum Case {
-    /// A few blocks. Its cuts keep none, all, and each single one of the unflushed writes.
+    /// A few blocks. Its cuts keep none, all, and the newest of the unflushed writes, so that each
+    /// single one is kept alone by the cut behind it.
     Small,
     /// Many blocks. Its cuts keep none and all.
     Large,
@@ -46,9 +47,8 @@ impl Case {
 
     pub(crate) fn choices(self) -> Choices {
         match self {
-            Case::Small => Choices::Many,
             Case::Large => Choices::Few,
-            Case::LogLike => Choices::Newest,
+            Case::Small | Case::LogLike => Choices::Newest,
         }
     }
 

@@ -17,19 +17,17 @@ use std::ops::Range;
 pub(crate) enum Choices {
     /// None, and all.
     Few,
-    /// None, all, and the newest alone.
+    /// None, all, and the newest alone. An older one alone leaves the image that it left at the cut
+    /// behind it, when it was the newest: so each single one is tried where every call is cut.
     Newest,
-    /// None, all, and each one alone.
-    Many,
 }
 
 impl Choices {
-    // From which of so many writes on each one is kept alone.
-    fn first_alone(self, unflushed: usize) -> usize {
+    // The number of the write that is kept alone, of so many.
+    fn alone(self, unflushed: usize) -> Option<usize> {
         match self {
-            Choices::Few => unflushed,
-            Choices::Newest => unflushed.saturating_sub(1),
-            Choices::Many => 0,
+            Choices::Few => None,
+            Choices::Newest => unflushed.checked_sub(1),
         }
     }
 }
@@ -134,7 +132,7 @@ impl<'a> Trial<'a> {
         count(&mut counts.cuts);
         self.restart(alloc, medium, &Kept::None, counts)?;
         self.restart(alloc, medium, &Kept::All, counts)?;
-        for number in choices.first_alone(medium.unflushed())..medium.unflushed() {
+        if let Some(number) = choices.alone(medium.unflushed()) {
             self.keep_alone(alloc, medium, number, counts)?;
         }
         Ok(true)
