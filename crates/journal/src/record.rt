@@ -11,7 +11,7 @@ pub struct Record {
 }
 
 impl Record {
-    ghost use Rattle.std.specs.Prelude.{◌≡◌, ◌≤◌, [], length, get_or};
+    ghost use Rattle.std.specs.Prelude.{◌≡◌, ◌≤◌, ◌+◌, ◌++◌, [], length, get_or};
 
     /// A record of no block.
     pub fn new() -> Self
@@ -22,6 +22,26 @@ impl Record {
             numbers: ArrayVec::new(),
             firsts: ArrayVec::new(),
         }
+    }
+
+    /// Makes it a record of no block.
+    pub(crate) fn clear(&mut self)
+        ensures numbers { self.new.numbers.items ≡ [] }
+        ensures firsts { self.new.firsts.items ≡ [] }
+    {
+        self.numbers.clear();
+        self.firsts.clear();
+    }
+
+    /// Writes these numbers and first bytes of blocks behind those that it has.
+    pub(crate) fn append(&mut self, numbers: &[u64], firsts: &[[u8; 8]])
+        requires numbers_fit { length self.old.numbers.items + length numbers.now ≤ 240 }
+        requires firsts_fit { length self.old.firsts.items + length firsts.now ≤ 240 }
+        ensures numbers { self.new.numbers.items ≡ self.old.numbers.items ++ numbers.now }
+        ensures firsts { self.new.firsts.items ≡ self.old.firsts.items ++ firsts.now }
+    {
+        let _ = self.numbers.try_extend_from_slice(numbers);
+        let _ = self.firsts.try_extend_from_slice(firsts);
     }
 
     /// The first bytes of the i-th block, where its data place does not have them.

@@ -53,10 +53,7 @@ pub(crate) fn read_record<M: Medium>(
     let Some(found) = read_descriptor(m, sizes, stamp)? else {
         return Ok(false);
     };
-    to.numbers.clear();
-    to.firsts.clear();
-    let Ok(()) = to.numbers.try_extend_from_slice(&found.numbers) else {
-        return Ok(false);
-    };
+    to.clear();
+    to.append(&found.numbers, &[]);
     Ok(true)
 }

@@ -21,15 +21,23 @@ pub fn whole_record(
         → IsSomeAnd result (λ d. d.numbers.items ≡ numbers) }
 {
     let found = Descriptor::decode(descriptor)?;
-    let end = Commit::decode(commit)?;
     if found.stamp == stamp
-        && end.stamp == stamp
-        && end.count == found.numbers.len() as u64
+        && is_commit(commit, stamp, found.numbers.len() as u64)
         && are_below(&found.numbers, blocks)
     {
         Some(found)
     } else {
         None
+    }
+}
+
+// Whether these bytes are the commit of a record with this stamp and so many blocks.
+fn is_commit(sector: &[u8; 512], stamp: u64, count: u64) -> bool
+    ensures { IsTrue result ↔ IsCommit stamp count sector.now }
+{
+    match Commit::decode(sector) {
+        Some(found) if found.stamp == stamp && found.count == count => true,
+        _ => false,
     }
 }
 

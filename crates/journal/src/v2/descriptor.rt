@@ -11,7 +11,7 @@ ghost use Rattle.journal.specs.Parts.{CanDescribe, Describes};
 
 use crate::fields::{are_rising, list_of, mark_number, number_at};
 use crate::v2::places::ENTRIES;
-use crate::v2::sectors::{append, append_number};
+use crate::v2::sectors::{append, append_number, eight_at};
 use arrayvec::ArrayVec;
 
 /// What one of the first sectors of a slot of format 2 holds.
@@ -140,10 +140,7 @@ pub(crate) fn firsts_in<const N: usize>(
 {
     let mut firsts = ArrayVec::new();
     for i in 0..count {
-        let at = 512 * (from + i);
-        let mut first = [0; 8];
-        first.copy_from_slice(&bytes[at..at + 8]);
-        firsts.push(first);
+        firsts.push(eight_at(bytes, 512 * (from + i)));
     }
     firsts
 }
@@ -185,10 +182,7 @@ fn firsts_at(sector: &[u8], count: usize) -> ArrayVec<[u8; 8], 30>
 {
     let mut firsts = ArrayVec::new();
     for i in 0..count {
-        let at = 40 + 16 * i;
-        let mut first = [0; 8];
-        first.copy_from_slice(&sector[at..at + 8]);
-        firsts.push(first);
+        firsts.push(eight_at(sector, 40 + 16 * i));
     }
     firsts
 }

@@ -22,6 +22,17 @@ use crate::v2::{
 use crate::{Record, Super, are_rising, slot_of};
 use medium::{Medium, MediumFault};
 
+// How many blocks the record of a stamp has, if this is its commit.
+fn count_of(sector: &[u8; 512], stamp: u64) -> Option<u64>
+    ensures some { IfSome result (λ count. IsCommitTwo stamp count sector.now) }
+    ensures all { (n : ℕ) → IsCommitTwo stamp n sector.now → IsSomeAnd result (λ k. k ≡ n) }
+{
+    match Commit::decode(sector) {
+        Some(found) if found.stamp == stamp => Some(found.count),
+        _ => None,
+    }
+}
+
 // Reads how many blocks the record of a stamp has, if its commit is there.
 fn read_count<M: Medium>(m: &mut M, slot: u64, stamp: u64) -> Result<Option<u64>, MediumFault>
     requires slot { slot < 64 }
@@ -34,9 +45,22 @@ fn read_count<M: Medium>(m: &mut M, slot: u64, stamp: u64) -> Result<Option<u64>
 {
     let mut commit = [0; 512];
     m.read(commit_place(slot), &mut commit)?;
-    match Commit::decode(&commit) {
-        Some(found) if found.stamp == stamp => Ok(Some(found.count)),
-        _ => Ok(None),
+    Ok(count_of(&commit, stamp))
+}
+
+// Descriptor j of the record of a stamp with so many blocks, if these bytes are that.
+fn descriptor_of(sector: &[u8; 512], stamp: u64, count: u64, j: u64) -> Option<Descriptor>
+    ensures some { IfSome result (λ d. (d.index ≡ j)
+        × IsDescriptorTwo stamp count j d.numbers.items d.firsts.items sector.now) }
+    ensures all { (numbers : List ℕ) (firsts : List (List ℕ))
+        → IsDescriptorTwo stamp count j numbers firsts sector.now
+        → IsSomeAnd result (λ d. (d.numbers.items ≡ numbers) × (d.firsts.items ≡ firsts)) }
+{
+    let found = Descriptor::decode(sector)?;
+    if found.stamp == stamp && found.count == count && found.index == j {
+        Some(found)
+    } else {
+        None
     }
 }
 
@@ -61,14 +85,7 @@ fn read_descriptor<M: Medium>(
 {
     let mut sector = [0; 512];
     m.read(descriptor_place(slot, j), &mut sector)?;
-    let Some(found) = Descriptor::decode(&sector) else {
-        return Ok(None);
-    };
-    if found.stamp == stamp && found.count == count && found.index == j {
-        Ok(Some(found))
-    } else {
-        Ok(None)
-    }
+    Ok(descriptor_of(&sector, stamp, count, j))
 }
 
 // Reads what the descriptors of a record of so many blocks say. False where they are not there.
@@ -100,18 +117,12 @@ fn read_descriptors<M: Medium>(
         → IfOk result (λ found. IfSome (found_in found to.new)
         (λ read. read.firsts.items ≡ firsts_of entries)) }
 {
-    to.numbers.clear();
-    to.firsts.clear();
+    to.clear();
     for j in 0..descriptors(count as usize) as u64 {
         let Some(found) = read_descriptor(m, slot, stamp, count, j)? else {
             return Ok(false);
         };
-        let Ok(()) = to.numbers.try_extend_from_slice(&found.numbers) else {
-            return Ok(false);
-        };
-        let Ok(()) = to.firsts.try_extend_from_slice(&found.firsts) else {
-            return Ok(false);
-        };
+        to.append(&found.numbers, &found.firsts);
     }
     Ok(true)
 }
@@ -151,6 +162,20 @@ pub(crate) fn read_record<M: Medium>(
     }
 }
 
+// Whether the i-th data place of a slot begins with the stamp.
+fn has_stamp<M: Medium>(m: &mut M, slot: u64, stamp: u64, i: u64) -> Result<bool, MediumFault>
+    requires slot { slot < 64 }
+    requires few { i < 240 }
+    requires inside { slot_end slot ≤ (M.state m.old).size }
+    ensures { LooksUpAll M.state M.follows 1 (λ s. s < slot_end slot)
+        (λ old new good. IsTrue good ↔ HasPlace old.content (place_of slot) stamp i)
+        m.old m.new result }
+{
+    let mut sector = [0; 512];
+    m.read(data_place(slot, i), &mut sector)?;
+    Ok(is_data(stamp, &sector))
+}
+
 // Whether so many data places of a slot begin with the stamp.
 fn has_stamps<M: Medium>(m: &mut M, slot: u64, stamp: u64, count: u64) -> Result<bool, MediumFault>
     requires slot { slot < 64 }
@@ -161,10 +186,8 @@ fn has_stamps<M: Medium>(m: &mut M, slot: u64, stamp: u64, count: u64) -> Result
         × (reads : ℕ) × ReadsUpToBad (HasPlace old.content (place_of slot) stamp) count reads
         × (new.calls ≡ old.calls + reads)) m.old m.new result }
 {
-    let mut sector = [0; 512];
     for i in 0..count {
-        m.read(data_place(slot, i), &mut sector)?;
-        if !is_data(stamp, &sector) {
+        if !has_stamp(m, slot, stamp, i)? {
             return Ok(false);
         }
     }

@@ -1,7 +1,8 @@
 //! The sectors of a record of format 2: descriptors, data places and a commit.
 ghost use Rattle.std.specs.Prelude.{◌≡◌, ◌≤◌, ◌<◌, ◌-◌, ◌^◌, ◌+◌, ◌*◌, ◌/◌, length, All};
+ghost use Rattle.std.specs.Prelude.{slice_range};
 ghost use Rattle.journal.specs.Sectors.{IsRising};
-ghost use Rattle.journal.specs.SectorsTwo.{descriptors_of};
+ghost use Rattle.journal.specs.SectorsTwo.{descriptors_of, place_bytes};
 ghost use Rattle.journal.specs.Record.{entries_of};
 ghost use Rattle.journal.specs.Format2.{format2};
 ghost use Rattle.journal.specs.Parts.{CanWrite};
@@ -49,7 +50,7 @@ pub(crate) fn part(stamp: u64, numbers: &[u64], bytes: &[u8], p: usize) -> Part
         let i = p - first;
         Part {
             offset: FIRST_DATA + i as u64,
-            sector: data_sector(stamp, &bytes[512 * i..512 * i + 512]),
+            sector: place(stamp, bytes, i),
         }
     } else {
         Part {
@@ -57,4 +58,12 @@ pub(crate) fn part(stamp: u64, numbers: &[u64], bytes: &[u8], p: usize) -> Part
             sector: Commit::new(stamp, count as u64).encode(),
         }
     }
+}
+
+// The data place of the i-th block of these bytes.
+fn place(stamp: u64, bytes: &[u8], i: usize) -> [u8; 512]
+    requires { 512 * i + 512 ≤ length bytes.now }
+    ensures { result ≡ place_bytes stamp (slice_range bytes.now (512 * i) (512 * i + 512)) }
+{
+    data_sector(stamp, &bytes[512 * i..512 * i + 512])
 }

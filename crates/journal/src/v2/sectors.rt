@@ -1,5 +1,5 @@
 //! The bytes of the sectors of format 2, one part behind the other.
-ghost use Rattle.std.specs.Prelude.{◌≡◌, ◌≤◌, ◌<◌, ◌+◌, ◌++◌, ℕ, List, length, drop};
+ghost use Rattle.std.specs.Prelude.{◌≡◌, ◌≤◌, ◌<◌, ◌+◌, ◌++◌, ℕ, List, length, drop, slice_range};
 ghost use Rattle.byteorder.specs.Endian.{little_bytes};
 ghost use Rattle.journal.specs.Spelling.{number_in};
 ghost use Rattle.journal.specs.SectorsTwo.{padded, place_bytes};
@@ -26,4 +26,14 @@ pub(crate) fn append_number(sector: &mut [u8], at: usize, number: u64)
     let mut eight = [0; 8];
     LittleEndian::write_u64(&mut eight, number);
     append(sector, at, &eight);
+}
+
+/// The eight bytes from here on.
+pub(crate) fn eight_at(bytes: &[u8], at: usize) -> [u8; 8]
+    requires { at + 8 ≤ length bytes.now }
+    ensures { result ≡ slice_range bytes.now at (at + 8) }
+{
+    let mut eight = [0; 8];
+    eight.copy_from_slice(&bytes[at..at + 8]);
+    eight
 }

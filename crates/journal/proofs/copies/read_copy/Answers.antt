@@ -1,4 +1,4 @@
-use Rattle.std.proofs.Common.{◌≡◌, ◌+◌, ◌*◌, ◌<◌, ℕ, ap, ◌∙◌, arith, rules}
+use Rattle.std.proofs.Common.{◌+◌, ◌*◌, ℕ, ap, ◌∙◌, arith, rules}
 use Rattle.medium.proofs.Moments.{quiet_call}
 use Rattle.medium.proofs.SectorsRead.{look_below}
 use Rattle.journal.specs.Places.{first_home, first_data_of}

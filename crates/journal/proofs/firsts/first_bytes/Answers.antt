@@ -1,4 +1,4 @@
-use Rattle.std.proofs.Common.{◌≡◌, ◌*◌, ◌/◌, length, arith}
+use Rattle.std.proofs.Common.{arith}
 use Rattle.journal.proofs.BatchEntries.{all_firsts_of}
 use Rattle.journal.proofs.firsts.first_bytes.Goals as goal
 

@@ -1,4 +1,4 @@
-use Rattle.std.proofs.Common.{◌≡◌, ◌∙◌, ◌++◌, ℕ, List, ap, subst, rules}
+use Rattle.std.proofs.Common.{◌≡◌, ◌∙◌, ◌++◌, ℕ, List, [], ap, subst, rules}
 use Rattle.std.specs.Prelude.{IfSome, IsSomeAnd}
 use Rattle.journal.specs.Values.{shape_of}
 use Rattle.journal.specs.Record.{Entry, numbers_of}
@@ -13,8 +13,10 @@ returns g c = record {
       let shape = shape_of c.args.sizes.now in
       let image = (g.M.Medium.state c.args.m.now).content in
       let stamp = c.args.stamp in
-      let listed : c.try_extend_from_slice.new.self.items ≡ c.in-Some.found.numbers.items =
-      c.in-Ok.ensures.ok ∙ ap (λ (l : List ℕ). l ++ c.deref.result.now) c.clear.ensures ∙ c.deref.ensures.0 in
+      let listed : c.append.new.self.numbers.items ≡ c.in-Some.found.numbers.items =
+      c.append.ensures.numbers ∙ ap (λ (l : List ℕ). l ++ c.deref.result.now) c.clear.ensures.numbers ∙ c.deref.ensures.0 in
+      let none : c.append.new.self.firsts.items ≡ [] =
+      c.append.ensures.firsts ∙ ap (λ (l : List (List ℕ)). l ++ []) c.clear.ensures.firsts in
       let w = subst (λ o. IfSome o (λ d. (es : List Entry) × IsWhole shape image stamp es × (d.numbers.items ≡ numbers_of es)))
       c.in-Some.is c.in_ok-found.ensures.reads.finds in
       record {
@@ -24,7 +26,7 @@ returns g c = record {
             (c.in_ok-found.ensures.all entries whole) in
             record {
               numbers_are = listed ∙ names;
-              blocks_are = λ i below. one_read shape image stamp entries whole _ i below c.requires.format c.clear-2.ensures;
+              blocks_are = λ i below. one_read shape image stamp entries whole _ i below c.requires.format none;
             };
         exact = (2, reads_one _ shape image stamp c.requires.format, c.in_ok-found.ensures.reads.passes.exact);
       };

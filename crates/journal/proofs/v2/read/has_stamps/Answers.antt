@@ -1,54 +1,48 @@
-use Rattle.std.proofs.Common.{◌≡◌, ◌∙◌, ◌<◌, ◌+◌, ◌*◌, ℕ, List, inl, inr, refl, sym, ap, subst, rules, arith}
+use Rattle.std.proofs.Common.{◌≡◌, ◌<◌, ◌+◌, ◌*◌, ℕ, List, inl, inr, refl, sym, subst, rules, arith}
+use Rattle.std.specs.Prelude.{Bool, IsTrue, ◌↔◌}
 use Rattle.journal.specs.SectorsTwo.{place_bytes}
 use Rattle.journal.specs.SlotTwo.{HasPlaces}
 use Rattle.journal.specs.SlotReads.{HasPlace}
 use Rattle.journal.proofs.SlotTwo.{untrue}
-use Rattle.medium.proofs.SectorsRead.{looks_joined, look_below}
+use Rattle.medium.proofs.SectorsRead.{looks_joined}
 use Rattle.journal.proofs.v2.read.has_stamps.Goals as goal
 
-pub returns-in_err-read : goal.returns-in_err-read
-returns-in_err-read g c = record {
+pub returns-in_err-has_stamp : goal.returns-in_err-has_stamp
+returns-in_err-has_stamp g c = record {
   passes = search rules;
   finds = search rules;
   follows =
-      let mid = g.M.Medium.state c.loop-i.m in
-      let new = g.M.Medium.state c.read.new.self in
       let inv = c.loop-i.invariant in (
-        g.met.M.Medium.follows_through c.args.m.now c.loop-i.m c.read.new.self inv.follows c.read.ensures.follows.0,
-        looks_joined (λ s. s < 2 + 249 * c.args.slot + 249) (g.M.Medium.state c.args.m.now) mid new inv.looks
-            (look_below (2 + 249 * c.args.slot + 249) mid new c.data_place.result
-            (omega (arith, c.data_place.ensures, c.requires.few, c.loop-i-test.true)) c.read.ensures.follows.1),
+        g.met.M.Medium.follows_through c.args.m.now c.loop-i.m c.has_stamp.new.m inv.follows c.has_stamp.ensures.follows.0,
+        looks_joined (λ s. s < 2 + 249 * c.args.slot + 249) (g.M.Medium.state c.args.m.now) (g.M.Medium.state c.loop-i.m)
+            (g.M.Medium.state c.has_stamp.new.m) inv.looks c.has_stamp.ensures.follows.1,
       );
 }
 
-pub returns-then-not-is_data : goal.returns-then-not-is_data
-returns-then-not-is_data g c = record {
+pub returns-then-not-branch : goal.returns-then-not-branch
+returns-then-not-branch g c = record {
   passes = search rules;
   finds =
       let inv = c.loop-i.invariant in
       let i = c.loop-i.i in
       let old = g.M.Medium.state c.args.m.now in
+      let mid = g.M.Medium.state c.loop-i.m in
       let begin : ℕ = 2 + 249 * c.args.slot in
-      let where_is : c.data_place.result ≡ begin + (8 + i) = c.data_place.ensures in
-      let here : c.read.new.to ≡ old.content (begin + (8 + i)) =
-      c.in_ok-read.ensures.ok ∙ inv.quiet.content_stays c.data_place.result ∙ ap (λ (n : ℕ). old.content n) where_is in
+      let same = inv.quiet.content_stays (begin + (8 + i)) in
+      let finds = subst (λ (good : Bool). IsTrue good ↔ HasPlace mid.content begin c.args.stamp i) c.if-not-branch.true
+      c.in_ok-has_stamp.ensures.finds in
       let bad : ¬ HasPlace old.content begin c.args.stamp i =
-      λ has.
-      let is = c.is_data.ensures.1 (subst (λ (bytes : List ℕ). bytes ≡ place_bytes c.args.stamp bytes) (sym here) has) in
-      untrue (sym c.if-not-is_data.true ∙ is) in (
+      λ has. untrue (finds.1 (subst (λ (bytes : List ℕ). bytes ≡ place_bytes c.args.stamp bytes) (sym same) has)) in (
         (untrue, λ all. absurd (bad (all i c.loop-i-test.true))),
         i + 1,
         inr (record { first = i; inside = c.loop-i-test.true; before = inv.stamped; bad = bad; reads_are = refl }),
-        omega (arith, inv.calls, c.read.ensures.passes.calls_are),
+        omega (arith, inv.calls, c.in_ok-has_stamp.ensures.passes.exact),
       );
   follows =
-      let mid = g.M.Medium.state c.loop-i.m in
-      let new = g.M.Medium.state c.read.new.self in
       let inv = c.loop-i.invariant in (
-        g.met.M.Medium.follows_through c.args.m.now c.loop-i.m c.read.new.self inv.follows c.read.ensures.follows.0,
-        looks_joined (λ s. s < 2 + 249 * c.args.slot + 249) (g.M.Medium.state c.args.m.now) mid new inv.looks
-            (look_below (2 + 249 * c.args.slot + 249) mid new c.data_place.result
-            (omega (arith, c.data_place.ensures, c.requires.few, c.loop-i-test.true)) c.read.ensures.follows.1),
+        g.met.M.Medium.follows_through c.args.m.now c.loop-i.m c.has_stamp.new.m inv.follows c.has_stamp.ensures.follows.0,
+        looks_joined (λ s. s < 2 + 249 * c.args.slot + 249) (g.M.Medium.state c.args.m.now) (g.M.Medium.state c.loop-i.m)
+            (g.M.Medium.state c.has_stamp.new.m) inv.looks c.has_stamp.ensures.follows.1,
       );
 }
 

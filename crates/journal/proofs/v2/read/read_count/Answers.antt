@@ -13,19 +13,8 @@ returns-in_err-read-clause-reads g c = record {
   );
 }
 
-pub returns-in-Some-clause-reads : goal.returns-in-Some-clause-reads
-returns-in-Some-clause-reads g c = record {
-  passes = search rules;
-  finds = search rules;
-  follows = (
-    c.read.ensures.follows.0,
-    look_below (2 + 249 * c.args.slot + 249) (g.M.Medium.state c.args.m.now) (g.M.Medium.state c.read.new.self) c.commit_place.result
-        (omega (arith, c.commit_place.ensures)) c.read.ensures.follows.1,
-  );
-}
-
-pub returns-in_default-clause-reads : goal.returns-in_default-clause-reads
-returns-in_default-clause-reads g c = record {
+pub returns-clause-reads : goal.returns-clause-reads
+returns-clause-reads g c = record {
   passes = search rules;
   finds = search rules;
   follows = (

@@ -13,30 +13,8 @@ returns-in_err-read-clause-reads g c = record {
   );
 }
 
-pub returns-in_default-clause-reads : goal.returns-in_default-clause-reads
-returns-in_default-clause-reads g c = record {
-  passes = search rules;
-  finds = search rules;
-  follows = (
-    c.read.ensures.follows.0,
-    look_below (2 + 249 * c.args.slot + 249) (g.M.Medium.state c.args.m.now) (g.M.Medium.state c.read.new.self)
-        c.descriptor_place.result (omega (arith, c.descriptor_place.ensures)) c.read.ensures.follows.1,
-  );
-}
-
-pub returns-then-found-j-clause-reads : goal.returns-then-found-j-clause-reads
-returns-then-found-j-clause-reads g c = record {
-  passes = search rules;
-  finds = search rules;
-  follows = (
-    c.read.ensures.follows.0,
-    look_below (2 + 249 * c.args.slot + 249) (g.M.Medium.state c.args.m.now) (g.M.Medium.state c.read.new.self)
-        c.descriptor_place.result (omega (arith, c.descriptor_place.ensures)) c.read.ensures.follows.1,
-  );
-}
-
-pub returns-else-found-stamp-clause-reads : goal.returns-else-found-stamp-clause-reads
-returns-else-found-stamp-clause-reads g c = record {
+pub returns-clause-reads : goal.returns-clause-reads
+returns-clause-reads g c = record {
   passes = search rules;
   finds = search rules;
   follows = (

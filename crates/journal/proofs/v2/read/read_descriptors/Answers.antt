@@ -40,11 +40,11 @@ loop-j-preserved g c =
     let some = subst (λ o. IfSome o (λ d. (d.index ≡ j) × IsDescriptorTwo s n j d.numbers.items d.firsts.items (mid.content (at + j))))
     c.in-Some.is c.in_ok-found.ensures.reads.finds in
     let is = subst (λ (bytes : List ℕ). IsDescriptorTwo s n j d.numbers.items d.firsts.items bytes) same some.1 in
-    let more : c.try_extend_from_slice.new.self.items ≡ ns ++ d.numbers.items =
-    c.in-Ok.ensures.ok ∙ ap (λ (l : List ℕ). ns ++ l) c.deref.ensures.0 in
+    let more : c.append.new.self.numbers.items ≡ ns ++ d.numbers.items =
+    c.append.ensures.numbers ∙ ap (λ (l : List ℕ). ns ++ l) c.deref.ensures.0 in
     let fs = c.loop-j.to.firsts.items in
-    let more_firsts : c.try_extend_from_slice-in-loop-j.new.self.items ≡ fs ++ d.firsts.items =
-    c.in-Ok-try_extend_from_slice.ensures.ok ∙ ap (λ (l : List (List ℕ)). fs ++ l) c.deref-in-loop-j.ensures.0 in
+    let more_firsts : c.append.new.self.firsts.items ≡ fs ++ d.firsts.items =
+    c.append.ensures.firsts ∙ ap (λ (l : List (List ℕ)). fs ++ l) c.deref-in-loop-j.ensures.0 in
     let full : length ns ≡ 30 * j = omega (arith, inv.long, below, c.descriptors-j-end.ensures) in
     record {
       quiet = quiet_joined old mid new inv.quiet c.read_descriptor.ensures.reads.passes.quiet;

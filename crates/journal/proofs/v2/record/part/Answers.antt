@@ -51,7 +51,7 @@ returns-then-p-first-2-clause-sector c =
     let b : (length es + 29) / 30 ≤ c.args.p = omega (arith, first, many) in
     let d : c.args.p < (length es + 29) / 30 + length es = omega (arith, first, many) in
     let i : c.args.p - c.descriptors-first.result ≡ c.args.p - (length es + 29) / 30 = omega (arith, first, many) in
-    c.data_sector.ensures
+    c.place.ensures
     ∙ ap (λ (k : ℕ). place_bytes c.args.stamp (slice_range c.args.bytes.now (512 * k) (512 * k + 512))) i
     ∙ ap (λ (e : Entry). place_bytes c.args.stamp e.1)
     (sym (entry_of_batch (c.args.p - (length es + 29) / 30) c.args.numbers.now c.args.bytes.now (0, [])
