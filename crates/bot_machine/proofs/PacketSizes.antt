@@ -1,17 +1,13 @@
 -- Packets that are not too long, and lives whose packets keep their size.
-use Rattle.std.proofs.Common.{ℕ, Bool, true, false, List, [], ◌∷◌, sym, subst, ap, ◌∙◌, arith}
-use Rattle.std.specs.Prelude.{slice_index_or}
+use Rattle.std.proofs.Common.{ℕ, Bool, true, false, List, [], ◌∷◌, sym, subst, ap, ◌∙◌}
 use Rattle.medium.specs.Sim.{Sim}
 use Rattle.spec.specs.declared.event.Event.{Event}
-use Rattle.spec.specs.declared.event.Event.TheVariants as event
 use Rattle.spec.specs.declared.event.Answer.{Answer}
-use Rattle.bot_machine.specs.declared.life.Life.{Life}
 use Rattle.bot_machine.specs.declared.stage.Stage.{Stage}
 use Rattle.bot_machine.specs.declared.stage.Stage.TheVariants.{Rests, Runs}
 use Rattle.bot_machine.specs.Device.{Device}
 use Rattle.spec.specs.Exchange.{Line}
 use Rattle.bot_machine.specs.Disk.{DiskValue}
-use Rattle.bot_machine.specs.Fitting.{IsWithin, AreWithin, LivesAreWithin}
 use Rattle.spec.specs.Lives.{Action, arms, fails, starts, plays, cuts}
 use Rattle.bot_machine.specs.Moving.{FuseMoves, FailureMoves, StartsIn, StartMoves, EventMovesIn, EventMoves, CutMoves, Does, MovesBy}
 use Rattle.bot_machine.specs.LivesValue.{HasPackets}

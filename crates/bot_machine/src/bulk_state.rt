@@ -7,7 +7,7 @@ ghost use Rattle.spec.specs.Exchange.{outcome_for, status_for};
 ghost use Rattle.spec.specs.Packets.{bytes_of};
 ghost use Rattle.spec.specs.Requests.{clear_halt};
 ghost use Rattle.bot_machine.specs.Refinement.{halt_of, line_of, IsInPhase};
-ghost use Rattle.bot_machine.specs.Wire.{ChangesLine, LaysOut};
+ghost use Rattle.bot_machine.specs.Wire.{ChangesLine, LaysOut, MovesOn};
 
 use crate::exchange::Exchange;
 use spec::PacketSize;
@@ -138,6 +138,26 @@ impl BulkState {
                 self.halt(endpoint);
             }
         }
+    }
+
+    /// Goes on behind the next packet of the bytes from one place to another, with a halt behind
+    /// the last. The answer is where that packet ends.
+    pub(crate) fn move_on(&mut self, from: usize, to: usize, halt: bool) -> usize
+        requires { from < to }
+        ensures { MovesOn self.old from to halt result self.new }
+    {
+        let end = from + (to - from).min(self.size.bytes() as usize);
+        if end < to {
+            self.phase = Phase::DataIn {
+                from: end,
+                to,
+                halt,
+            };
+        } else {
+            self.in_halted = halt;
+            self.phase = Phase::Status;
+        }
+        end
     }
 
     /// Tells what comes of an exchange that ends in this case: the first bytes of the staging

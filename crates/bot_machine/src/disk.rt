@@ -11,7 +11,8 @@ ghost use Rattle.scsi_unit.specs.Background.{IsSettled, HasLimits, is_dead, step
 ghost use Rattle.scsi_unit.specs.Serving.{TicksOver};
 ghost use Rattle.scsi_unit.specs.Starting.{HasLimit};
 ghost use Rattle.scsi_unit.specs.UnitValue.{unit_limit, TellsLimit};
-ghost use Rattle.spec.specs.Exchange.{in_answer, after_in};
+ghost use Rattle.spec.specs.Exchange.{in_answer, after_in, after_request};
+ghost use Rattle.spec.specs.Requests.{mass_storage_reset};
 ghost use Rattle.bot_machine.specs.Answers.{answer_to_out, answer_to_in, answer_to_setup, IsPacket};
 ghost use Rattle.spec.specs.Conversation.{SetupStep};
 ghost use Rattle.bot_machine.specs.Disk.{FitsDisk, IsStep, IsRearmed, ArmsDisk};
@@ -163,17 +164,7 @@ impl<M: Medium> Disk<M> {
         match self.wire.phase {
             Phase::Command | Phase::DataOut(_) => InAnswer::Nak,
             Phase::DataIn { from, to, halt } => {
-                let end = to.min(from + self.wire.size.bytes() as usize);
-                if end < to {
-                    self.wire.phase = Phase::DataIn {
-                        from: end,
-                        to,
-                        halt,
-                    };
-                } else {
-                    self.wire.in_halted = halt;
-                    self.wire.phase = Phase::Status;
-                }
+                let end = self.wire.move_on(from, to, halt);
                 InAnswer::Data(&self.staging[from..end])
             }
             Phase::Status => {
@@ -202,8 +193,7 @@ impl<M: Medium> Disk<M> {
         match read_request(packet) {
             None => SetupAnswer::Stall,
             Some(ControlRequest::MassStorageReset) => {
-                self.wire.locked = false;
-                self.wire.phase = Phase::Command;
+                self.reset();
                 SetupAnswer::Ack
             }
             Some(ControlRequest::GetMaxLun) => SetupAnswer::Byte(0),
@@ -215,6 +205,16 @@ impl<M: Medium> Disk<M> {
                 SetupAnswer::Two([u8::from(self.wire.is_halted(endpoint)), 0])
             }
         }
+    }
+
+    // Ends the lock and the exchange. A halt stays.
+    fn reset(&mut self)
+        ensures { self.new ≡ record self.old {
+          line = after_request mass_storage_reset self.old.line;
+        } }
+    {
+        self.wire.locked = false;
+        self.wire.phase = Phase::Command;
     }
 
     /// Makes a step in the background, of at most two calls of the medium.

@@ -1,9 +1,11 @@
 //! What the disk does with a packet to Bulk-Out.
 ghost use Rattle.std.specs.Prelude.{◌≡◌, ◌≤◌, ◌+◌, ◌-◌, ◌*◌, ◌++◌, ℕ, List, Result};
-ghost use Rattle.std.specs.Prelude.{MatchOption, length, min, take};
+ghost use Rattle.std.specs.Prelude.{MatchOption, None, length, min, take};
 ghost use Rattle.spec.specs.Cases.{size_of_way};
 ghost use Rattle.spec.specs.CommandWrapper.{SpellsNone};
 ghost use Rattle.spec.specs.Sense.{Sense};
+ghost use Rattle.spec.specs.StatusWrapper.{status_wrapper};
+ghost use Rattle.spec.specs.declared.status.Status.TheVariants.{PhaseError};
 ghost use Rattle.scsi_unit.specs.Calls.{IsBounded};
 ghost use Rattle.scsi_unit.specs.Serving.{IsSparing};
 ghost use Rattle.scsi_unit.specs.UnitValue.{unit_limit, intention_of};
@@ -14,6 +16,7 @@ ghost use Rattle.spec.specs.Packets.{bytes_of};
 ghost use Rattle.bot_machine.specs.Serving.{IsBegun, CarriesOutOn, BeginsOn, RestsOn, SparesOn};
 ghost use Rattle.bot_machine.specs.Serving.{TakesData, HandsOn, EndsData, CanCarryOut, HaveRoom};
 ghost use Rattle.bot_machine.specs.Serving.{AwaitsWrapper, HasMoreDue};
+ghost use Rattle.bot_machine.specs.Wire.{LaysOut};
 ghost use Rattle.scsi_unit.specs.Reading.{IsOneOf};
 ghost use Rattle.bot_machine.specs.Reading.{sectors_for, WrapperReadsAt};
 
@@ -181,9 +184,8 @@ fn end_data<M: Medium>(
         due,
     } = pending;
     let most = wire.size.bytes();
-    if packet.len() != due.min(most) as usize {
-        let status = write_csw(exchange.command.tag, due, Status::PhaseError);
-        wire.lay_out(0, None, status);
+    if packet.len() != size_of_next(due, most) {
+        tell_wrong_size(wire, exchange.command.tag, due);
         return;
     }
     fill(
@@ -193,6 +195,21 @@ fn end_data<M: Medium>(
         exchange.intended.size() as usize,
     );
     carry_out(unit, wire, staging, &exchange, &taken[..filled]);
+}
+
+// How many bytes the next packet has, where so many are due.
+fn size_of_next(due: u32, most: u32) -> usize
+    ensures { result ≡ min due most }
+{
+    due.min(most) as usize
+}
+
+// Tells that a packet had a wrong size, where so many bytes were due.
+fn tell_wrong_size(wire: &mut BulkState, tag: u32, due: u32)
+    ensures { LaysOut wire.old 0 None (status_wrapper tag due PhaseError) wire.new }
+{
+    let status = write_csw(tag, due, Status::PhaseError);
+    wire.lay_out(0, None, status);
 }
 
 // Appends to the first bytes of a buffer, up to so many.

@@ -13,8 +13,8 @@ use Rattle.bot_machine.proofs.EventParts.{unit_stays}
 use Rattle.bot_machine.proofs.TakenData.{one_taking}
 use Rattle.bot_machine.proofs.serve.end_data.Goals as goal
 
-pub returns-then-packet-min : goal.returns-then-packet-min
-returns-then-packet-min g c = record {
+pub returns-then-packet-size_of_next : goal.returns-then-packet-size_of_next
+returns-then-packet-size_of_next g c = record {
   serves =
       let d = c.in-DataOut.pending in
       let unit = c.args.unit.now in
@@ -28,8 +28,8 @@ returns-then-packet-min g c = record {
             (other_packet most (length c.args.packet.now) d.due _ _ other) (inr (inr (record {
               size = let s : length c.args.packet.now ≢ min most d.due = omega arith in s;
               unit = refl;
-              after = rw (c.write_csw-status.ensures, packets_of-none most (some_bytes c.args.wire.now.size))
-                  at (c.lay_out.ensures.line c.args.taken.now c.args.staging.now left (omega arith));
+              after = rw (packets_of-none most (some_bytes c.args.wire.now.size))
+                  at (c.tell_wrong_size.ensures.line c.args.taken.now c.args.staging.now left (omega arith));
             }))));
         rests = λ pending is book fits none. refl;
         spares = λ pending is book fits block taken carries.
@@ -40,8 +40,8 @@ returns-then-packet-min g c = record {
             absurd (omega (arith, more, due, last));
       };
   passes =
-      unit_stays _ _ _ c.args.unit.now c.args.wire.now c.lay_out.new.self g.met.M.Medium.follows_itself
-      (c.lay_out.ensures.phase _ _ (omega arith)) c.lay_out.ensures.size;
+      unit_stays _ _ _ c.args.unit.now c.args.wire.now c.tell_wrong_size.new.wire g.met.M.Medium.follows_itself
+      (c.tell_wrong_size.ensures.phase _ _ (omega arith)) c.tell_wrong_size.ensures.size;
 }
 
 pub returns : goal.returns
@@ -52,10 +52,11 @@ returns g c = record {
       let bytes = rw c.size.ensures at c.fill.ensures.bytes in
       let ends = c.requires.ends d (sym c.in-DataOut.ensures.value) in
       let last : d.due ≤ most = elim (cases_lt most d.due) [
-        | inl h ↦ ends (omega (arith, h, c.if-packet-min.false, c.min.ensures, c.bytes-most.ensures))
+        | inl h ↦ ends (omega (arith, h, c.if-packet-size_of_next.false, c.size_of_next.ensures, c.bytes-most.ensures))
         | inr h ↦ h
       ] in
-      let whole : length c.args.packet.now ≡ d.due = omega (arith, last, c.if-packet-min.false, c.min.ensures, c.bytes-most.ensures) in
+      let whole : length c.args.packet.now ≡ d.due =
+      omega (arith, last, c.if-packet-size_of_next.false, c.size_of_next.ensures, c.bytes-most.ensures) in
       record {
         takes = λ pending is left book fits.
             let same : d ≡ pending = one_taking d pending (c.in-DataOut.ensures.value ∙ is) in

@@ -21,15 +21,6 @@ returns-in_default g c = rw c.into_medium.ensures (record {
   leaves = c.in_ok-unit.ensures.leaves;
 })
 
-pub returns-in_default-vec : goal.returns-in_default-vec
-returns-in_default-vec g c = rw c.into_medium-in_default-vec.ensures (record {
-  cause = record {
-    cause = inr (refl, (c.in_ok-unit.unit.store.cached, c.in_ok-unit.ensures.started.store));
-    possible = λ book on. tt;
-  };
-  leaves = c.in_ok-unit.ensures.leaves;
-})
-
 pub invariant_of-result : goal.invariant_of-result
 invariant_of-result g c = record {
   taken_room = search (rules, places);
