@@ -51,9 +51,16 @@ fn fail_status(status: &mut [u8; 13]) -> bool
     ensures status { status.new ≡ taken_back status.old }
     ensures good { result ≡ is_good status.old }
 {
-    if status[STATUS_AT] != Status::Passed as u8 {
+    if !is_good(status) {
         return false;
     }
     status[STATUS_AT] = Status::Failed as u8;
     true
+}
+
+// Whether a status is good.
+fn is_good(status: &[u8; 13]) -> bool
+    ensures { result ≡ is_good status.now }
+{
+    status[STATUS_AT] == Status::Passed as u8
 }
