@@ -1,6 +1,6 @@
 //! One life after another on the same medium.
-ghost use Rattle.std.specs.Prelude.{◌≡◌, ◌<◌, ◌↔◌, ℕ, [], ◌∷◌, None, true, false, OnOk, IfOk};
-ghost use Rattle.std.specs.Prelude.{IfErr};
+ghost use Rattle.std.specs.Prelude.{◌≡◌, ◌<◌, ◌↔◌, ℕ, [], ◌∷◌, None, Some, true, false, OnOk};
+ghost use Rattle.std.specs.Prelude.{IfOk, IfErr};
 ghost use Rattle.medium.specs.Sim.{state_of, IsCut, IsFused, IsFailing, ComesAfter};
 ghost use Rattle.medium.specs.Writes.{keeps};
 ghost use Rattle.spec.specs.Book.{Book};
@@ -154,11 +154,11 @@ impl Lives {
         let stage = self.stage.take().unwrap();
         match stage::start(alloc, stage, self.identity, self.size, self.retiring) {
             Ok(stage) => {
-                self.stage = Some(stage);
+                put(&mut self.stage, stage);
                 Ok(())
             }
             Err(StartError { fault, medium }) => {
-                self.stage = Some(Stage::Rests(medium));
+                put(&mut self.stage, Stage::Rests(medium));
                 Err(fault)
             }
         }
@@ -206,6 +206,13 @@ impl Lives {
         ensures rests { self.new.stage ≡ Rests (medium_in self.new.stage) }
     {
         let stage = self.stage.take().unwrap();
-        self.stage = Some(Stage::Rests(stage::cut(stage, kept)));
+        put(&mut self.stage, Stage::Rests(stage::cut(stage, kept)));
     }
+}
+
+// Puts a stage where none is.
+fn put(place: &mut Option<Stage>, stage: Stage)
+    ensures { place.new ≡ Some stage }
+{
+    *place = Some(stage);
 }
