@@ -2,7 +2,7 @@
 use Rattle.std.proofs.Common.{◌≡◌, ◌⊎◌, ◌≤◌, ◌<◌, ℕ, ◌+◌, ◌-◌, ◌*◌, inl, inr, ⊎_elim, arith, ◌∙◌, sym, refl, ap, subst}
 use Rattle.std.proofs.Common.{Bool, true, false, List, [], ◌∷◌, length}
 use Rattle.std.specs.Prelude.{if◌then◌else◌, nat_lt, ◌==◌}
-use Rattle.std.proofs.lemmas.Bool.{false≢true, cases_eq, cases_lt, eq-eqb, eqb-true, lt-ltb, ltb-true}
+use Rattle.std.proofs.lemmas.Bool.{false≢true, and_parts, cases_eq, cases_lt, eq-eqb, eqb-true, lt-ltb, ltb-true}
 use Rattle.medium.specs.Medium.{State, IsSound}
 use Rattle.medium.specs.Moments.{LeavesOnly, SparesFrom}
 use Rattle.medium.specs.Sent.{SendsUpTo}
@@ -15,7 +15,7 @@ use Rattle.redo_log.specs.Held.{View, HoldsView, MayLeave, view_retired}
 use Rattle.redo_log.proofs.StoreFacts.{settled_holds}
 use Rattle.blocks.specs.Finding.{MayFind}
 use Rattle.blocks.specs.Going.{StaysIdle, PassesHead, BringsHome}
-use Rattle.blocks.specs.Ahead.{past}
+use Rattle.blocks.specs.Ahead.{is_covered, past}
 use Rattle.blocks.specs.Retiring.{oldest_retired}
 use Rattle.blocks.specs.StoreValue.{Cached, layout_of, steps_left}
 use Rattle.blocks.specs.Turns.{IsTurn}
@@ -43,6 +43,13 @@ counts_turn m sound s log' b is covered =
       cuts = λ book f ours. started (MayFind m.size book) m sound (exits m s book f ours);
       goes_on = here m sound s s refl refl;
     }
+
+-- a record that counts as covered is
+pub covered_is : (log : LogValue) → is_covered log ≡ true → IsCovered log
+covered_is log t =
+    let first = and_parts _ _ t in
+    let both = and_parts _ _ first.0 in
+    record { oldest = eqb-true _ _ both.0; flushes = eqb-true _ _ both.1; since = ltb-true _ _ first.1 }
 
 -- the head may go past the oldest record, or may not
 pub can_or_not : (log : LogValue) → CanPass log ⊎ (CanPass log → ⊥)

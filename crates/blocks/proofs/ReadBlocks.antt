@@ -1,5 +1,6 @@
 -- What a read gives.
-use Rattle.std.proofs.Common.{◌≡◌, ℕ, zero, suc, ◌+◌, ◌*◌, ◌≤◌, ◌<◌, List, ◌++◌, length, take, drop, Option, None, sym, ◌∙◌, ap, arith}
+use Rattle.std.proofs.Common.{◌≡◌, ℕ, zero, suc, ◌+◌, ◌*◌, ◌≤◌, ◌<◌, List, ◌++◌, length, take, drop, Option, None}
+use Rattle.std.proofs.Common.{⊎_elim, sym, ◌∙◌, ap, arith}
 use Rattle.std.proofs.Common.{append_assoc, append-nil, add-zero, add-one}
 use Rattle.std.proofs.lemmas.List.{length-drop, length-take-le}
 use Rattle.std.proofs.lemmas.Slice.{take-put_mid}
@@ -10,6 +11,7 @@ use Rattle.spec.specs.Blocks.{Array}
 use Rattle.cache.specs.Blocks.{over}
 use Rattle.cache.specs.Entries.{map_of}
 use Rattle.spec.specs.Book.{Book, array_of, blocks_at}
+use Rattle.blocks.specs.Reads.{IsInBatch}
 use Rattle.blocks.specs.StoreValue.{Cached, blocks_of, FitsBook}
 
 -- a block that no batch holds is the durable one
@@ -20,6 +22,18 @@ durable_is m s book f b below active frozen =
     sym (ap (λ (o : Option (List ℕ)). unwrap_or o (over (map_of s.frozen) f.view.array b)) active
     ∙ ap (λ (o : Option (List ℕ)). unwrap_or o durable) frozen)
     ∙ f.now b (omega (arith, below, f.blocks))
+
+-- a block that a batch holds is the newest one
+pub newest_is : (m : State) (s : Cached) (book : Book) (f : FitsBook m s book) (b : ℕ) (bytes : List ℕ) → b < blocks_of s
+    → IsInBatch s b bytes → bytes ≡ array_of book b
+newest_is m s book f b bytes below held =
+    let durable : List ℕ = f.view.array b in
+    let behind : List ℕ = over (map_of s.frozen) f.view.array b in
+    let is : over (map_of s.active) (over (map_of s.frozen) f.view.array) b ≡ bytes = ⊎_elim
+    (λ active. ap (λ (o : Option (List ℕ)). unwrap_or o behind) active)
+    (λ both. ap (λ (o : Option (List ℕ)). unwrap_or o behind) both.0 ∙ ap (λ (o : Option (List ℕ)). unwrap_or o durable) both.1)
+    held in
+    sym is ∙ f.now b (omega (arith, below, f.blocks))
 
 one_more_suc : (array : Array) (address i : ℕ) → blocks_at array address (suc i) ≡ blocks_at array address i ++ array (address + i)
 one_more_suc array address zero = append-nil (array address) ∙ ap array (sym (add-zero address))

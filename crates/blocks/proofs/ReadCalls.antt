@@ -1,10 +1,11 @@
 -- How many calls of the medium a read makes.
 use Rattle.std.proofs.Common.{◌≡◌, ◌≤◌, ℕ, zero, suc, ◌+◌, ◌∙◌, ap, refl, arith, add-one, Bool, true, false}
-use Rattle.std.proofs.Common.{List, Option, Some, None}
+use Rattle.std.proofs.Common.{List, Option, Some, None, ⊎_elim}
 use Rattle.std.specs.Prelude.{if◌then◌else◌, is_some}
 use Rattle.cache.specs.Blocks.{is_listed}
 use Rattle.cache.specs.Entries.{map_of}
 use Rattle.cache.proofs.Maps.{listed_is}
+use Rattle.blocks.specs.Reads.{IsInBatch}
 use Rattle.blocks.specs.StoreValue.{Cached}
 use Rattle.blocks.specs.Calls.{block_reads, reads_of}
 
@@ -31,18 +32,22 @@ choose_zero true n e = refl
 choose_zero false n e = e
 
 -- a block of the active batch takes no call
-pub reads_active : (s : Cached) (b : ℕ) (bytes : List ℕ) → map_of s.active b ≡ Some bytes → block_reads s b ≡ 0
+reads_active : (s : Cached) (b : ℕ) (bytes : List ℕ) → map_of s.active b ≡ Some bytes → block_reads s b ≡ 0
 reads_active s b bytes is =
     let rest : ℕ = if is_listed s.frozen.numbers b then 0 else 1 in
     ap (λ (t : Bool). if t then 0 else rest) (listed_is s.active.numbers s.active.bytes b ∙ ap (λ (o : Option (List ℕ)). is_some o) is)
 
 -- nor does one of the frozen batch
-pub reads_frozen : (s : Cached) (b : ℕ) (bytes : List ℕ) → map_of s.frozen b ≡ Some bytes → block_reads s b ≡ 0
+reads_frozen : (s : Cached) (b : ℕ) (bytes : List ℕ) → map_of s.frozen b ≡ Some bytes → block_reads s b ≡ 0
 reads_frozen s b bytes is =
     let rest : ℕ = if is_listed s.frozen.numbers b then 0 else 1 in
     choose_zero (is_listed s.active.numbers b) rest
     (ap (λ (t : Bool). if t then 0 else 1)
     (listed_is s.frozen.numbers s.frozen.bytes b ∙ ap (λ (o : Option (List ℕ)). is_some o) is))
+
+-- nor does the newest of both
+pub reads_newest : (s : Cached) (b : ℕ) (bytes : List ℕ) → IsInBatch s b bytes → block_reads s b ≡ 0
+reads_newest s b bytes held = ⊎_elim (λ active. reads_active s b bytes active) (λ both. reads_frozen s b bytes both.1) held
 
 -- each other block takes one
 pub reads_copy : (s : Cached) (b : ℕ) → map_of s.active b ≡ None → map_of s.frozen b ≡ None → block_reads s b ≡ 1

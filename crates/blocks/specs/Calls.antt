@@ -1,5 +1,5 @@
 -- How many calls of the medium a read of a store makes, and what a write does to the batches.
-use Rattle.std.specs.Prelude.{◌≡◌, ℕ, ◌+◌, ◌*◌, zero, suc, Bool, true}
+use Rattle.std.specs.Prelude.{◌≡◌, ℕ, ◌+◌, ◌*◌, zero, suc, Bool, true, false, []}
 use Rattle.std.specs.Prelude.{◌≤◌, if◌then◌else◌, Result, OnOk, is_ok}
 use Rattle.medium.specs.Medium.{State}
 use Rattle.medium.specs.Sent.{SendsUpTo}
@@ -10,11 +10,11 @@ use Rattle.blocks.specs.Flushing.{finish_flushes}
 use Rattle.blocks.specs.Steady.{IsSteady}
 use Rattle.spec.specs.Blocks.{Write}
 use Rattle.blocks.specs.declared.fault.StoreFault.{StoreFault}
-use Rattle.blocks.specs.Passing.{PassesOn, Answers}
+use Rattle.blocks.specs.Passing.{PassesOn, KeepsMedium, Answers}
 use Rattle.blocks.specs.Sent.{batch_sends}
 use Rattle.blocks.specs.Turns.{IsWriteTurn}
 use Rattle.blocks.specs.StoreValue.{Cached, StoreValue, FitsBeside, TakesRange, transfer_limit}
-use Rattle.blocks.specs.StoreValue.{active_of, batch_steps, steps_left}
+use Rattle.blocks.specs.StoreValue.{active_of, batch_steps, steps_left, is_dead}
 
 -- how many calls it takes to read a block: none where a batch has it, and else one, from its newest
 -- logged copy or from home
@@ -98,3 +98,19 @@ pub record AppendsRange (address count : ℕ) (old new : Cached) : Type 0 where
   pub frozen : new.frozen ≡ old.frozen
   pub one_more : steps_left new ≤ steps_left old + batch_steps old
   pub active : TakesRange (transfer_limit old) (active_of old) address count (active_of new)
+
+-- the frozen batch of a live store is empty, and no record is under way
+pub record CanBegin (s : Cached) : Type 0 where
+  pub live : is_dead s ≡ false
+  pub idle : s.log.steps_left ≡ 0
+  pub empty : s.frozen.numbers ≡ []
+
+-- The active batch becomes the frozen one, and a write of a range has one of its own, for which one
+-- more is to become a record at most. The log stays, and no call is made.
+pub record BeginsBatch {M : Type 0} (state : M → State) (write : Write) (address count : ℕ)
+    (old new : StoreValue M) : Type 0 where
+  pub keeps : KeepsMedium state (IsWriteTurn write true) old new
+  pub log : new.cached.log ≡ old.cached.log
+  pub frozen : new.cached.frozen ≡ old.cached.active
+  pub one_more : steps_left new.cached ≤ steps_left old.cached + batch_steps old.cached
+  pub active : TakesRange (transfer_limit old.cached) [] address count (active_of new.cached)

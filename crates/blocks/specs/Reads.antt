@@ -1,9 +1,11 @@
 -- What the calls of a store do that read blocks for a caller.
-use Rattle.std.specs.Prelude.{◌≡◌, ◌<◌, ◌+◌, ℕ, false, List, [], None}
-use Rattle.std.specs.Prelude.{Result, OnOk, OnErr, IfErr}
+use Rattle.std.specs.Prelude.{◌≡◌, ◌⊎◌, ◌<◌, ◌+◌, ℕ, false, List, [], length, Option, Some, None}
+use Rattle.std.specs.Prelude.{Result, OnOk, OnErr, IfErr, IfSome, IsNone}
+use Rattle.std.specs.Borrow.{Bor}
 use Rattle.medium.specs.Medium.{State}
 use Rattle.medium.specs.declared.fault.MediumFault.{MediumFault}
 use Rattle.medium.specs.declared.fault.MediumFault.TheVariants.{Read}
+use Rattle.journal.specs.Places.{first_home}
 use Rattle.cache.specs.Blocks.{unlisted}
 use Rattle.cache.specs.Entries.{map_of}
 use Rattle.cache.specs.Places.{HasPlace}
@@ -11,7 +13,7 @@ use Rattle.spec.specs.Book.{Book, array_of, blocks_at}
 use Rattle.blocks.specs.declared.fault.StoreFault.{StoreFault}
 use Rattle.blocks.specs.Calls.{block_reads, reads_of, CostsReads}
 use Rattle.blocks.specs.Passing.{KeepsStore}
-use Rattle.blocks.specs.StoreValue.{Cached, StoreValue, blocks_of, is_dead, FitsBook}
+use Rattle.blocks.specs.StoreValue.{Cached, StoreValue, blocks_of, layout_of, is_dead, FitsBook}
 use Rattle.blocks.specs.Turns.{IsTurn, IsReadCause}
 
 -- the store is live, and has this block
@@ -23,6 +25,18 @@ pub record IsReadable (s : Cached) (block : ℕ) : Type 0 where
 pub record HasPlaces (s : Cached) (block first second : ℕ) : Type 0 where
   pub active : HasPlace s.active.numbers block first
   pub frozen : HasPlace s.frozen.numbers block second
+
+-- the newest batch that has the block has these bytes of it: the active one, or else the frozen one
+abbrev pub IsInBatch : Cached → ℕ → List ℕ → Type 0
+IsInBatch s block bytes = (map_of s.active block ≡ Some bytes)
+    ⊎ ((map_of s.active block ≡ None) × (map_of s.frozen block ≡ Some bytes))
+
+-- a look into the batches gives the 512 bytes of a block, the newest ones, or none where no batch
+-- has it
+pub record GetsNewest (s : Cached) (block : ℕ) (result : Option (Bor (List ℕ))) : Type 0 where
+  pub some : IfSome result (λ bytes. IsInBatch s block bytes.now)
+  pub size : IfSome result (λ bytes. length bytes.now ≡ 512)
+  pub none : IsNone result → (map_of s.active block ≡ None) × (map_of s.frozen block ≡ None)
 
 -- the block is at home alone: no batch has it, and no record waits to be retired
 pub record IsAtHome (s : Cached) (block : ℕ) : Type 0 where
@@ -75,6 +89,17 @@ pub record ReadsDurable {M : Type 0} (state : M → State) (Follows : M → M �
     : Type 0 where
   pub ok : (book : Book) → (fits : FitsBook (state old.medium) old.cached book)
       → OnOk result (bytes ≡ fits.view.array block)
+  pub err : OnErr result (((state old.medium).failures < (state new.medium).failures)
+      × ((state old.medium).refused Read < (state new.medium).refused Read))
+  pub keeps : KeepsStore state Follows block 1 old new
+  pub cost : CostsReads result 1 1 (state old.medium) (state new.medium)
+
+-- the sector at home of a block is read, by one call
+pub record ReadsAtHome {M : Type 0} (state : M → State) (Follows : M → M → Type 0)
+    (result : Result (Unit {0}) MediumFault) (block : ℕ) (bytes : List ℕ) (old new : StoreValue M)
+    : Type 0 where
+  pub ok : OnOk result (bytes
+      ≡ (state old.medium).content (first_home (layout_of old.cached) + block))
   pub err : OnErr result (((state old.medium).failures < (state new.medium).failures)
       × ((state old.medium).refused Read < (state new.medium).refused Read))
   pub keeps : KeepsStore state Follows block 1 old new

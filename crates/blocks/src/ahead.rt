@@ -4,13 +4,14 @@ ghost use Rattle.journal.specs.Places.{limit_of};
 ghost use Rattle.redo_log.specs.Value.{IsAway};
 ghost use Rattle.blocks.specs.StoreValue.{layout_of, is_dead};
 ghost use Rattle.blocks.specs.Passing.{PassesPaid};
-ghost use Rattle.blocks.specs.Ahead.{gone_home, going_calls, passed, passed_calls};
+ghost use Rattle.blocks.specs.Ahead.{counted, gone_home, going_calls, passed, passed_calls};
 ghost use Rattle.blocks.specs.Ahead.{sent_home, sent_calls};
 ghost use Rattle.blocks.specs.Retiring.{HasSlots};
 ghost use Rattle.blocks.specs.Going.{SettlesFlush, GoesPast, GoesHome, GoesAhead};
 
 use crate::{Store, StoreFault};
 use medium::Medium;
+use redo_log::Log;
 
 impl<M: Medium> Store<M> {
     // Counts the flush of a record that became durable for the oldest one, which went home before
@@ -19,7 +20,7 @@ impl<M: Medium> Store<M> {
         requires idle { self.old.cached.log.steps_left ≡ 0 }
         ensures { SettlesFlush M.state self.old self.new }
     {
-        let _ = self.log.settle();
+        count_covered(&mut self.log);
     }
 
     // Writes the head past the oldest record, where that is flushed at home.
@@ -90,4 +91,11 @@ impl<M: Medium> Store<M> {
         }
         self.go_home()
     }
+}
+
+// The flush of a record that became durable counts for the oldest one, where it covers that.
+fn count_covered(log: &mut Log)
+    ensures { log.new ≡ counted log.old }
+{
+    let _ = log.settle();
 }

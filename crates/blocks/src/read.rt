@@ -1,5 +1,5 @@
 //! How blocks are read.
-ghost use Rattle.std.specs.Prelude.{◌≡◌, ◌+◌, ◌*◌, ◌/◌, ◌^◌, ◌≤◌, false, length, IsTrue, OnOk};
+ghost use Rattle.std.specs.Prelude.{◌≡◌, ◌+◌, ◌*◌, ◌/◌, ◌^◌, ◌≤◌, ◌<◌, false, length, IsTrue, OnOk};
 ghost use Rattle.spec.specs.Book.{Book, array_of, blocks_at};
 ghost use Rattle.blocks.specs.Book.{IsTransfer};
 ghost use Rattle.blocks.specs.StoreValue.{blocks_of, transfer_limit, is_dead, FitsBook};
@@ -7,7 +7,8 @@ ghost use Rattle.blocks.specs.Turns.{IsTurn};
 ghost use Rattle.blocks.specs.Passing.{KeepsStore, RefusesRead};
 ghost use Rattle.blocks.specs.Calls.{reads_of, CostsReads};
 ghost use Rattle.blocks.specs.Reads.{IsReadable, HasPlaces, IsAtHome, AreAtHome};
-ghost use Rattle.blocks.specs.Reads.{ReadsBlock, ReadsNext, ReadsBlocks, ReadsDurable};
+ghost use Rattle.blocks.specs.Reads.{ReadsBlock, ReadsNext, ReadsBlocks, ReadsDurable, ReadsAtHome};
+ghost use Rattle.blocks.specs.Reads.{GetsNewest};
 
 use crate::{Store, StoreFault};
 use cache::BLOCK;
@@ -43,6 +44,17 @@ impl<M: Medium> Store<M> {
         if self.are_at_home(address, count) {
             return self.read_home(address, to);
         }
+        self.read_each(address, count, to)
+    }
+
+    // Reads so many blocks one by one, each from where it is newest.
+    fn read_each(&mut self, address: u64, count: usize, to: &mut [u8]) -> Result<(), StoreFault>
+        requires live { is_dead self.old.cached ≡ false }
+        requires inside { address + count ≤ blocks_of self.old.cached }
+        requires small { address + count ≤ 2 ^ 31 }
+        requires size { length to.old ≡ 512 * count }
+        ensures { ReadsBlocks M.state M.follows result address count to.new self.old self.new }
+    {
         let mut active = self.active.place_of(address);
         let mut frozen = self.frozen.place_of(address);
         for i in 0..count {
@@ -67,12 +79,7 @@ impl<M: Medium> Store<M> {
         ensures { ReadsNext M.state M.follows result block to.new active.new frozen.new
             self.old self.new }
     {
-        let older = self.frozen.get_at(frozen, block);
-        if let Some(bytes) = self.active.get_at(active, block) {
-            to.copy_from_slice(bytes);
-            return Ok(());
-        }
-        if let Some(bytes) = older {
+        if let Some(bytes) = self.get_newest(block, active, frozen) {
             to.copy_from_slice(bytes);
             return Ok(());
         }
@@ -82,6 +89,21 @@ impl<M: Medium> Store<M> {
         match self.read_durable(block, to) {
             Ok(()) => Ok(()),
             Err(_) => Err(StoreFault::ReadFault),
+        }
+    }
+
+    // The bytes of a block in the newest batch that has it. Its place in each batch is known, and
+    // becomes that of the next block.
+    #[inline]
+    fn get_newest(&self, block: u64, active: &mut usize, frozen: &mut usize) -> Option<&[u8]>
+        requires { HasPlaces self.now.cached block active.old frozen.old }
+        ensures gets { GetsNewest self.now.cached block result }
+        ensures next { HasPlaces self.now.cached (block + 1) active.new frozen.new }
+    {
+        let older = self.frozen.get_at(frozen, block);
+        match self.active.get_at(active, block) {
+            Some(bytes) => Some(bytes),
+            None => older,
         }
     }
 
@@ -125,10 +147,10 @@ impl<M: Medium> Store<M> {
         let Some(to) = to.as_mut_array() else {
             unreachable!()
         };
-        let Ok(()) = self.medium.read(self.sizes.home_of(block), to) else {
-            return Err(StoreFault::ReadFault);
-        };
-        Ok(())
+        match self.read_at_home(block, to) {
+            Ok(()) => Ok(()),
+            Err(_) => Err(StoreFault::ReadFault),
+        }
     }
 
     // Reads the newest logged copy of a block, or the block at home where there is none.
@@ -138,7 +160,16 @@ impl<M: Medium> Store<M> {
     {
         match self.log.find(block) {
             Some((slot, place)) => self.log.read_copy(&mut self.medium, slot, place, to),
-            None => self.medium.read(self.sizes.home_of(block), to),
+            None => self.read_at_home(block, to),
         }
+    }
+
+    // Reads what is at home of a block.
+    #[inline]
+    fn read_at_home(&mut self, block: u64, to: &mut [u8; BLOCK]) -> Result<(), MediumFault>
+        requires { block < blocks_of self.old.cached }
+        ensures { ReadsAtHome M.state M.follows result block to.new self.old self.new }
+    {
+        self.medium.read(self.sizes.home_of(block), to)
     }
 }

@@ -9,7 +9,7 @@ ghost use Rattle.blocks.specs.Turns.{IsWriteTurn};
 ghost use Rattle.blocks.specs.Sent.{batch_sends};
 ghost use Rattle.blocks.specs.Passing.{PassesOn, KeepsMedium, Answers};
 ghost use Rattle.blocks.specs.Calls.{WritesRange, AppendsRange, CostsWrite};
-ghost use Rattle.blocks.specs.Calls.{WritesAlone, CostsAlone};
+ghost use Rattle.blocks.specs.Calls.{WritesAlone, CostsAlone, CanBegin, BeginsBatch};
 
 use crate::{Store, StoreFault};
 use cache::BLOCK;
@@ -67,9 +67,20 @@ impl<M: Medium> Store<M> {
             (M.state self.new.medium) self.old.cached self.new.cached }
     {
         self.finish()?;
+        self.begin_batch(address, bytes);
+        Ok(())
+    }
+
+    // The active batch takes the place of an empty frozen one, and a write has a batch of its own.
+    fn begin_batch(&mut self, address: u64, bytes: &[u8])
+        requires free { CanBegin self.old.cached }
+        requires range { IsTransfer (transfer_limit self.old.cached) (blocks_of self.old.cached)
+            address (length bytes.now) }
+        ensures { BeginsBatch M.state (write_of address bytes.now) address
+            (length bytes.now / 512) self.old self.new }
+    {
         self.freeze();
         self.append(address, bytes);
-        Ok(())
     }
 
     // The active batch takes a write that fits.

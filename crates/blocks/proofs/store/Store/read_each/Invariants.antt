@@ -6,7 +6,7 @@ use Rattle.spec.specs.Book.{Book, array_of, blocks_at}
 use Rattle.blocks.specs.Looks.{LooksAtBlocks}
 use Rattle.blocks.specs.StoreValue.{FitsBook}
 use Rattle.blocks.specs.Calls.{reads_of}
-use Rattle.blocks.proofs.store.Store.read.Given as goal
+use Rattle.blocks.proofs.store.Store.read_each.Given as goal
 
 abbrev pub invariant-loop-i : goal.invariant-loop-i
 invariant-loop-i g l = record {
