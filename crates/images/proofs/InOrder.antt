@@ -4,19 +4,8 @@ use Rattle.std.specs.Prelude.{if◌then◌else◌}
 use Rattle.std.proofs.Common.{length-append}
 use Rattle.std.proofs.lemmas.List.{append-nil}
 use Rattle.mirror.specs.declared.call.DeviceCall.{DeviceCall}
-use Rattle.device_file.specs.Asked.{Told, asked_for, answered}
+use Rattle.device_file.specs.Asked.{Told, answered}
 use Rattle.images.specs.NewImage.{AsksInOrder}
-
--- nothing yet
-pub went_none : (t : Told) → t ≡ asked_for [] t
-went_none t = ap (λ (l : List DeviceCall). record t { asked = l }) (sym (append-nil t.asked))
-
--- one more, which was carried out
-pub went_on : (part : List DeviceCall) (call : DeviceCall) (first old new : Told) → old ≡ asked_for part first
-    → new ≡ answered true (call ∷ []) old → new ≡ asked_for (part ++ call ∷ []) first
-went_on part call first old new went now =
-    now ∙ ap (λ (t : Told). asked_for (call ∷ []) t) went
-    ∙ ap (λ (l : List DeviceCall). record first { asked = l }) (append_assoc first.asked part (call ∷ []))
 
 asked_is : (good : Bool) (calls : List DeviceCall) (t : Told) → (answered good calls t).asked ≡ t.asked ++ calls
 asked_is true calls t = refl
@@ -27,18 +16,47 @@ refusals_are : (good : Bool) (calls : List DeviceCall) (t : Told) → (answered 
 refusals_are true calls t = refl
 refusals_are false calls t = refl
 
--- one more is the last
-pub ended : (part : List DeviceCall) (call : DeviceCall) (rest : List DeviceCall) (good : Bool) (first old new : Told)
-    → (good ≡ true → rest ≡ []) → old ≡ asked_for part first → new ≡ answered good (call ∷ []) old
-    → AsksInOrder ((part ++ call ∷ []) ++ rest) good first new
-ended part call rest good first old new all went now = record {
-  part = part ++ call ∷ [];
-  rest = rest;
+-- one call
+pub one_call : (call : DeviceCall) (good : Bool) (old new : Told) → new ≡ answered good (call ∷ []) old
+    → AsksInOrder (call ∷ []) good old new
+one_call call good old new now = record {
+  part = call ∷ [];
+  rest = [];
   parts = refl;
-  asked = ap (λ (t : Told). t.asked) now ∙ asked_is good (call ∷ []) old
-      ∙ ap (λ (t : Told). t.asked ++ call ∷ []) went ∙ append_assoc first.asked part (call ∷ []);
-  all = all;
-  some = λ bad. simp length-append (omega arith);
-  refusals = ap (λ (t : Told). t.refusals) now ∙ refusals_are good (call ∷ []) old
-      ∙ ap (λ (t : Told). if good then t.refusals else t.refusals + 1) went;
+  asked = ap (λ (t : Told). t.asked) now ∙ asked_is good (call ∷ []) old;
+  all = λ same. refl;
+  some = λ bad. omega arith;
+  refusals = ap (λ (t : Told). t.refusals) now ∙ refusals_are good (call ∷ []) old;
+}
+
+-- one of the first calls was refused
+pub stops_before : (c d : List DeviceCall) (old new : Told) → AsksInOrder c false old new → AsksInOrder (c ++ d) false old new
+stops_before c d old new f = record {
+  part = f.part;
+  rest = f.rest ++ d;
+  parts = ap (λ (l : List DeviceCall). l ++ d) f.parts ∙ append_assoc f.part f.rest d;
+  asked = f.asked;
+  all = λ same. absurd (cc);
+  some = f.some;
+  refusals = f.refusals;
+}
+
+-- where all were carried out, they are the part
+is_all : (c : List DeviceCall) (old new : Told) → (f : AsksInOrder c true old new) → f.part ≡ c
+is_all c old new f =
+    sym (append-nil f.part) ∙ ap (λ (l : List DeviceCall). f.part ++ l) (sym (f.all refl)) ∙ sym f.parts
+
+-- all were carried out, and then others were asked for
+pub goes_on : (c d : List DeviceCall) (good : Bool) (old between new : Told) → AsksInOrder c true old between
+    → AsksInOrder d good between new → AsksInOrder (c ++ d) good old new
+goes_on c d good old between new f g = record {
+  part = c ++ g.part;
+  rest = g.rest;
+  parts = ap (λ (l : List DeviceCall). c ++ l) g.parts ∙ sym (append_assoc c g.part g.rest);
+  asked = g.asked ∙ ap (λ (l : List DeviceCall). l ++ g.part) f.asked
+      ∙ ap (λ (l : List DeviceCall). (old.asked ++ l) ++ g.part) (is_all c old between f)
+      ∙ append_assoc old.asked c g.part;
+  all = g.all;
+  some = λ bad. let some = g.some bad in simp length-append (omega (arith, some));
+  refusals = g.refusals ∙ ap (λ n. if good then n else n + 1) f.refusals;
 }

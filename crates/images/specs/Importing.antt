@@ -1,5 +1,5 @@
 -- The blocks of a plain file become those of a new image.
-use Rattle.std.specs.Prelude.{◌≡◌, ◌⊎◌, ℕ, List, true, false}
+use Rattle.std.specs.Prelude.{◌≡◌, ◌⊎◌, ℕ, List, Result, IfErr, is_ok, true, false}
 use Rattle.journal.specs.Places.{Shape, first_home}
 use Rattle.device_file.specs.Asked.{Told}
 use Rattle.device_file.specs.Copied.{IsCopied, IsCopiedInPart}
@@ -30,3 +30,10 @@ abbrev pub IsNotImported : (ℕ → List ℕ → Type 0) → Shape → Told → 
 IsNotImported holds shape old new why =
     IsCopiedInPart holds 0 shape.blocks (first_home shape) old new why
     ⊎ IsImportedUnmade holds shape old new why
+
+-- A file was asked to become an image, where nothing else could refuse. It is as large as before.
+pub record MakesImage {D : Type 0} (told : D → Told) (sectors : D → ℕ) (shape : Shape)
+    (old new : D) (result : Result (Unit {0}) CopyFault) : Type 0 where
+  pub asked : IsAskedToBe shape (is_ok result) (told old) (told new)
+  pub size : sectors new ≡ sectors old
+  pub named : IfErr result (λ why. (refused : FileFault) × (why ≡ fault.To refused))

@@ -12,3 +12,4 @@ pub mod Imported
 pub mod Status
 pub mod Task
 pub mod Program
+pub mod Copying

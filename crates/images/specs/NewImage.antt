@@ -34,6 +34,14 @@ pub record AsksInOrder (calls : List DeviceCall) (good : Bool) (old new : Told) 
   pub some : good ≡ false → 0 < length part
   pub refusals : new.refusals ≡ (if good then old.refusals else old.refusals + 1)
 
+-- A file was asked for these calls so; a refusal names a write or a synchronising. It is as large
+-- as before.
+pub record GoesThrough {D : Type 0} (told : D → Told) (sectors : D → ℕ) (calls : List DeviceCall)
+    (old new : D) (result : Result (Unit {0}) FileFault) : Type 0 where
+  pub in_order : AsksInOrder calls (is_ok result) (told old) (told new)
+  pub size : sectors new ≡ sectors old
+  pub named : IfErr result (λ fault. (fault.call ≡ call.Write) ⊎ (fault.call ≡ call.Sync))
+
 -- a file was asked to become a new image with these sizes
 pub record IsAskedToBe (shape : Shape) (good : Bool) (old new : Told) : Type 0 where
   pub super : List ℕ

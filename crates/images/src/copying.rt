@@ -1,34 +1,68 @@
 //! What a copy of blocks needs.
-ghost use Rattle.std.specs.Prelude.{◌≡◌, ◌≤◌, IfOk, IfErr, length};
+ghost use Rattle.std.specs.Prelude.{◌≡◌, ◌≤◌, Some, IfOk, IfErr, length};
+ghost use Rattle.std.specs.Io.KnownBytes.{Appends};
+ghost use Rattle.console.specs.Streams.{AppendsSome};
 ghost use Rattle.images.specs.Texts.{blocks_text};
 
+use crate::ended::Stopped;
 use crate::refusal::Refusal;
 use crate::text::blocks_line;
-use device_file::Run;
-use std::alloc::Global;
+use console::write_out;
+use device_file::{Run, SystemFile};
+use std::alloc::{AllocError, Global};
+use std::fs::File;
+use std::io::Write;
 
 // How many bytes of a file are read at once: 256 sectors.
 const AT_ONCE: usize = 131_072;
 
-/// The memory of a copy of so many blocks, all of which is had before a file is made for it: a run,
-/// bytes to read into, and the line that tells at the end what was done.
-pub(crate) fn copy_room(
-    alloc: Global,
-    done: &[u8],
-    blocks: u64,
-) -> Result<(Run, Vec<u8>, Vec<u8>), Refusal>
-    ensures bytes { IfOk result (λ room. 512 ≤ length room.1.items) }
-    ensures line { IfOk result (λ room. room.2.items ≡ blocks_text done.now blocks) }
+/// The memory of a copy, all of which is had before a file is made for it.
+#[derive(Drop)]
+pub(crate) struct CopyRoom {
+    pub(crate) run: Run,
+    /// What is read of a file at once.
+    pub(crate) bytes: Vec<u8>,
+    /// What is told at the end.
+    pub(crate) line: Vec<u8>,
+    ghost some: { 512 ≤ length bytes.items },
+}
+
+/// The memory of a copy of so many blocks, with the line that tells at the end what was done.
+pub(crate) fn copy_room(alloc: Global, done: &[u8], blocks: u64) -> Result<CopyRoom, Refusal>
+    ensures line { IfOk result (λ room. room.line.items ≡ blocks_text done.now blocks) }
     ensures err { IfErr result (λ cause. cause ≡ Refusal.NoMemory) }
 {
-    let Ok(run) = Run::new(alloc) else {
-        return Err(Refusal::NoMemory);
-    };
-    let Ok(bytes) = vec![in alloc; 0u8; AT_ONCE] else {
-        return Err(Refusal::NoMemory);
-    };
-    match blocks_line(alloc, done, blocks) {
-        Ok(line) => Ok((run, bytes, line)),
+    match room_for(alloc, done, blocks) {
+        Ok(room) => Ok(room),
         Err(_) => Err(Refusal::NoMemory),
+    }
+}
+
+// The same, where there is memory.
+fn room_for(alloc: Global, done: &[u8], blocks: u64) -> Result<CopyRoom, AllocError>
+    ensures { IfOk result (λ made. made.line.items ≡ blocks_text done.now blocks) }
+{
+    Ok(CopyRoom {
+        run: Run::new(alloc)?,
+        bytes: vec![in alloc; 0u8; AT_ONCE]?,
+        line: blocks_line(alloc, done, blocks)?,
+    })
+}
+
+/// Tells what was done, and gives the file that was made for it back.
+pub(crate) fn tell_of<O: Write>(
+    file: SystemFile<File>,
+    out: &mut O,
+    room: &CopyRoom,
+) -> Result<SystemFile<File>, Stopped>
+    ensures told { IfOk result (λ back. (back ≡ file)
+        × Appends (O.contents out.old) (O.contents out.new) room.now.line.items) }
+    ensures untold { IfErr result (λ stopped.
+        (stopped ≡ record { refusal = Refusal.Streams; file = Some file })
+        × AppendsSome (O.contents out.old) (O.contents out.new) room.now.line.items) }
+{
+    match write_out(out, &room.line) {
+        Ok(()) => Ok(file),
+        Err(_) => Err(Stopped::with(Refusal::Streams, file)),
     }
 }

@@ -1,5 +1,8 @@
 //! The blocks of an image are copied to a plain file.
-ghost use Rattle.std.specs.Prelude.{◌≡◌, ◌≤◌, Some, length, OnOk, IfOk, IfErr};
+ghost use Rattle.std.specs.Prelude.{◌≡◌, ◌≤◌, [], ◌∷◌, Some, length, OnOk, IfOk, IfErr};
+ghost use Rattle.mirror.specs.declared.call.DeviceCall.TheVariants.{Flush};
+ghost use Rattle.device_file.specs.Asked.{AsksFor};
+ghost use Rattle.images.specs.Copying.{Copies};
 ghost use Rattle.images.specs.Exported.{
   IsExported,
   IsNoPlainCopy,
@@ -8,6 +11,7 @@ ghost use Rattle.images.specs.Exported.{
   export_refusal,
 };
 ghost use Rattle.images.specs.Exporting.{
+  GoesHome,
   HasBlocks,
   HasSomeBlocks,
   IsNotRecoveredIn,
@@ -16,15 +20,15 @@ ghost use Rattle.images.specs.Exporting.{
 };
 ghost use Rattle.images.specs.Program.{IsExport, IsExportRefused};
 
-use crate::copying::copy_room;
+use crate::copying::{CopyRoom, copy_room, tell_of};
 use crate::ended::{LeftFiles, Refused, Stopped};
 use crate::gauge::Gauge;
 use crate::image::new_target;
 use crate::opening::{Access, open_image, window_over};
 use crate::refusal::Refusal;
-use console::write_out;
 use device_file::{
-    CopyFault, DeviceFile, FirstSectors, Meter, Run, SystemFile, carry_moved, copy_sectors,
+    CopyFault, DeviceFile, FileCall, FileFault, FirstSectors, Meter, Run, SystemFile, carry_moved,
+    copy_sectors,
 };
 use journal::Super;
 use recovery::recover;
@@ -50,10 +54,7 @@ pub(crate) fn export<R: Files<File = File> + AllocGlobal, O: Write, E: Write + I
 {
     let (file, first) = open_image(rt, image, Access::Look)?;
     match export_from(rt, &file, first, raw, replace, out, err) {
-        Ok(plain) => Ok(LeftFiles {
-            file: Some(file),
-            raw: Some(plain),
-        }),
+        Ok(plain) => Ok(both(file, plain)),
         Err(stopped) => Err(Refused {
             refusal: stopped.refusal,
             files: LeftFiles {
@@ -61,6 +62,16 @@ pub(crate) fn export<R: Files<File = File> + AllocGlobal, O: Write, E: Write + I
                 raw: stopped.file,
             },
         }),
+    }
+}
+
+// The image of an export, and the plain file.
+fn both(image: SystemFile<File>, plain: SystemFile<File>) -> LeftFiles
+    ensures { result ≡ record { file = Some image; raw = Some plain } }
+{
+    LeftFiles {
+        file: Some(image),
+        raw: Some(plain),
     }
 }
 
@@ -81,7 +92,9 @@ fn export_from<R: Files<File = File> + AllocGlobal, S: DeviceFile, O: Write, E: 
         (O.contents out.old) (O.contents out.new) stopped.file stopped.refusal) }
 {
     match recover_in_window(rt.alloc(), first) {
-        Ok((window, sizes)) => copy_out(rt, image, &sizes, window, raw, replace, out, err),
+        Ok((mut window, sizes)) => {
+            copy_out(rt, image, &sizes, &mut window, raw, replace, out, err)
+        }
         Err(refusal) => Err(Stopped {
             refusal,
             file: None,
@@ -94,40 +107,45 @@ fn copy_out<R: Files<File = File> + AllocGlobal, S: DeviceFile, O: Write, E: Wri
     rt: &R,
     image: &S,
     sizes: &Super,
-    mut window: WindowMedium,
+    window: &mut WindowMedium,
     raw: &str,
     replace: bool,
     out: &mut O,
     err: &mut E,
 ) -> Result<SystemFile<File>, Stopped>
-    ensures ok { IfOk result (λ plain. IsPlainCopy (S.holds image.now) sizes.now window.outbox
+    ensures ok { IfOk result (λ plain. IsPlainCopy (S.holds image.now) sizes.now window.old.outbox
         (O.contents out.old) (O.contents out.new) (Some plain)) }
-    ensures err { IfErr result (λ stopped. IsNoPlainCopy (S.holds image.now) sizes.now window.outbox
-        (O.contents out.old) (O.contents out.new) stopped.file stopped.refusal) }
+    ensures err { IfErr result (λ stopped. IsNoPlainCopy (S.holds image.now) sizes.now
+        window.old.outbox (O.contents out.old) (O.contents out.new) stopped.file stopped.refusal) }
 {
-    let (mut run, mut bytes, line) = copy_room(rt.alloc(), b"exported ", sizes.blocks)?;
+    let mut room = copy_room(rt.alloc(), b"exported ", sizes.blocks)?;
     let mut plain = new_target(rt, raw, sizes.blocks, replace)?;
+    match export_watched(image, sizes, window, &mut plain, &mut room, err) {
+        Ok(()) => tell_of(plain, out, &room),
+        Err(fault) => Err(Stopped::with(refusal_of(fault), plain)),
+    }
+}
+
+// Has a plain file hold the blocks of an image, and tells on the way how far it is.
+fn export_watched<S: DeviceFile, D: DeviceFile, E: Write + IsTerminal>(
+    image: &S,
+    sizes: &Super,
+    window: &mut WindowMedium,
+    to: &mut D,
+    room: &mut CopyRoom,
+    err: &mut E,
+) -> Result<(), CopyFault>
+    ensures ok { OnOk result (HasBlocks (S.holds image.now) sizes.now window.old.outbox
+        (D.told to.old) (D.told to.new)) }
+    ensures err { IfErr result (HasSomeBlocks (S.holds image.now) sizes.now window.old.outbox
+        (D.told to.old) (D.told to.new)) }
+    ensures size { (D.size to.new ≡ D.size to.old) × (room.new.line ≡ room.old.line) }
+{
     let mut bar = Gauge::new(err);
-    let done = export_blocks(
-        image,
-        sizes,
-        &mut window,
-        &mut plain,
-        &mut run,
-        &mut bytes,
-        &mut bar,
-    );
+    let (run, bytes) = (&mut room.run, &mut room.bytes);
+    let done = export_blocks(image, sizes, window, to, run, bytes, &mut bar);
     bar.end();
-    if let Err(fault) = done {
-        return Err(Stopped::with(refusal_of(fault), plain));
-    }
-    match write_out(out, &line) {
-        Ok(()) => Ok(plain),
-        Err(_) => Err(Stopped {
-            refusal: Refusal::Streams,
-            file: Some(plain),
-        }),
-    }
+    done
 }
 
 // The file that refused a call: the image's, or the plain one.
@@ -195,16 +213,50 @@ pub fn export_blocks<S: DeviceFile, D: DeviceFile, M: Meter>(
         (D.told plain.old) (D.told plain.new)) }
     ensures size { D.size plain.new ≡ D.size plain.old }
 {
-    match copy_sectors(image, sizes.home, sizes.blocks, plain, 0, run, bytes, meter) {
+    match copy_home(image, sizes, plain, run, bytes, meter) {
         Ok(()) => {}
         Err(fault) => return Err(fault),
     }
-    match carry_moved(window, sizes.home, sizes.blocks, plain, run) {
-        Ok(()) => {}
-        Err(fault) => return Err(CopyFault::To(fault)),
-    }
-    match plain.sync() {
+    match carry_home(window, sizes, plain, run) {
         Ok(()) => Ok(()),
         Err(fault) => Err(CopyFault::To(fault)),
     }
+}
+
+// Copies the blocks of an image as they lie at home.
+fn copy_home<S: DeviceFile, D: DeviceFile, M: Meter>(
+    image: &S,
+    sizes: &Super,
+    plain: &mut D,
+    run: &mut Run,
+    bytes: &mut [u8],
+    meter: &mut M,
+) -> Result<(), CopyFault>
+    requires { 512 ≤ length bytes.old }
+    ensures { Copies D.told D.size (S.holds image.now) sizes.now.home sizes.now.blocks 0
+        plain.old plain.new result }
+{
+    copy_sectors(image, sizes.home, sizes.blocks, plain, 0, run, bytes, meter)
+}
+
+// Has the plain file carry out what waits and goes home, and makes that durable.
+fn carry_home<D: DeviceFile>(
+    window: &mut WindowMedium,
+    sizes: &Super,
+    plain: &mut D,
+    run: &mut Run,
+) -> Result<(), FileFault>
+    ensures { GoesHome D.told D.size sizes.now window.old.outbox plain.old plain.new result }
+{
+    match carry_moved(window, sizes.home, sizes.blocks, plain, run) {
+        Ok(()) => make_durable(plain),
+        Err(fault) => Err(fault),
+    }
+}
+
+// Makes durable what a plain file was asked to write.
+fn make_durable<D: DeviceFile>(plain: &mut D) -> Result<(), FileFault>
+    ensures { AsksFor D.told D.size (Flush ∷ []) FileCall.Sync plain.old plain.new result }
+{
+    plain.sync()
 }

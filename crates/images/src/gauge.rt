@@ -63,10 +63,15 @@ fn write_word<E: Write>(to: &mut E, is_shown: bool, word: Word)
     ensures { is_shown ≡ false → to.new ≡ to.old }
 {
     if is_shown {
-        let _ = match word {
-            Word::Part { done, all } => write!(to, "\r{} of {} MiB", done / MIB, all / MIB),
-            Word::End => writeln!(to),
-        };
-        let _ = to.flush();
+        show_word(to, word);
     }
+}
+
+// Writes a word, and has it seen at once.
+fn show_word<E: Write>(to: &mut E, word: Word) {
+    let _ = match word {
+        Word::Part { done, all } => write!(to, "\r{} of {} MiB", done / MIB, all / MIB),
+        Word::End => writeln!(to),
+    };
+    let _ = to.flush();
 }

@@ -37,7 +37,22 @@ pub(crate) fn new_file<R: Files<File = File>>(
     ensures err { IfErr result (λ refusal. ((fault : FileFault) × (refusal ≡ refused.File fault))
         ⊎ (refusal ≡ refused.Streams)) }
 {
-    let _streams = hold_streams(rt).ok_or(Refusal::Streams)?;
+    let Some(_streams) = hold_streams(rt) else {
+        return Err(Refusal::Streams);
+    };
+    create(rt, path, sectors, replace)
+}
+
+// The same, while all standard streams are held.
+fn create<R: Files<File = File>>(
+    rt: &R,
+    path: &str,
+    sectors: u64,
+    replace: bool,
+) -> Result<SystemFile<File>, Refusal>
+    ensures ok { IfOk result (λ made. made ≡ fresh sectors) }
+    ensures err { IfErr result (λ refusal. (fault : FileFault) × (refusal ≡ refused.File fault)) }
+{
     match SystemFile::create(rt, path, sectors, replace) {
         Ok(file) => Ok(file),
         Err(fault) => Err(Refusal::File(fault)),

@@ -1,18 +1,21 @@
 //! The blocks of a plain file become those of a new image.
 ghost use Rattle.std.specs.Prelude.{◌≡◌, ◌≤◌, Some, length, IfOk, OnOk, IfErr};
+ghost use Rattle.journal.specs.Places.{sectors_of};
 ghost use Rattle.journal.specs.Values.{shape_of};
+ghost use Rattle.device_file.specs.FileValue.{fresh};
+ghost use Rattle.images.specs.Copying.{Copies};
 ghost use Rattle.images.specs.Imported.{IsImage, IsNoImage, import_refusal};
-ghost use Rattle.images.specs.Importing.{IsImported, IsNotImported};
+ghost use Rattle.images.specs.Importing.{IsImported, IsNotImported, MakesImage};
+ghost use Rattle.images.specs.Opened.{IsTargetUnmade};
 ghost use Rattle.images.specs.Program.{IsImport, IsImportRefused};
 
-use crate::copying::copy_room;
+use crate::copying::{CopyRoom, copy_room, tell_of};
 use crate::ended::{LeftFiles, Refused, Stopped};
 use crate::gauge::Gauge;
 use crate::image::{new_target, sizes_of};
 use crate::making::ask_to_be;
 use crate::opening::open_plain;
 use crate::refusal::Refusal;
-use console::write_out;
 use device_file::{CopyFault, DeviceFile, Meter, Run, SystemFile, copy_sectors};
 use journal::{LogFormat, Super};
 use std::fs::{File, Files};
@@ -71,24 +74,45 @@ fn import_from<R: Files<File = File> + AllocGlobal, S: DeviceFile, O: Write, E: 
     let Some(sizes) = sizes_of(format, plain.sectors(), slots) else {
         return Err(Stopped::from(Refusal::Sizes));
     };
-    let (mut run, mut bytes, line) = copy_room(rt.alloc(), b"imported ", sizes.blocks)?;
-    let mut file = new_target(rt, image, sizes.sectors(), replace)?;
+    let mut room = copy_room(rt.alloc(), b"imported ", sizes.blocks)?;
+    let mut file = new_image(rt, image, &sizes, replace)?;
+    match import_watched(plain, &sizes, &mut file, &mut room, err) {
+        Ok(()) => tell_of(file, out, &room),
+        Err(fault) => Err(Stopped::with(refusal_of(fault), file)),
+    }
+}
+
+// A file of as many sectors as an image with these sizes has.
+fn new_image<R: Files<File = File>>(
+    rt: &R,
+    path: &str,
+    sizes: &Super,
+    replace: bool,
+) -> Result<SystemFile<File>, Refusal>
+    ensures ok { IfOk result (λ image. image ≡ fresh (sectors_of (shape_of sizes.now))) }
+    ensures err { IfErr result (λ refusal. IsTargetUnmade refusal) }
+{
+    new_target(rt, path, sizes.sectors(), replace)
+}
+
+// Has a file become an image with the blocks of a plain one, and tells on the way how far it is.
+fn import_watched<S: DeviceFile, D: DeviceFile, E: Write + IsTerminal>(
+    plain: &S,
+    sizes: &Super,
+    file: &mut D,
+    room: &mut CopyRoom,
+    err: &mut E,
+) -> Result<(), CopyFault>
+    ensures ok { OnOk result (IsImported (S.holds plain.now) (shape_of sizes.now)
+        (D.told file.old) (D.told file.new)) }
+    ensures err { IfErr result (IsNotImported (S.holds plain.now) (shape_of sizes.now)
+        (D.told file.old) (D.told file.new)) }
+    ensures size { (D.size file.new ≡ D.size file.old) × (room.new.line ≡ room.old.line) }
+{
     let mut bar = Gauge::new(err);
-    let done = import_blocks(plain, &sizes, &mut file, &mut run, &mut bytes, &mut bar);
+    let done = import_blocks(plain, sizes, file, &mut room.run, &mut room.bytes, &mut bar);
     bar.end();
-    if let Err(fault) = done {
-        return Err(Stopped {
-            refusal: refusal_of(fault),
-            file: Some(file),
-        });
-    }
-    match write_out(out, &line) {
-        Ok(()) => Ok(file),
-        Err(_) => Err(Stopped {
-            refusal: Refusal::Streams,
-            file: Some(file),
-        }),
-    }
+    done
 }
 
 // The file that refused a call: the plain one, or the image's.
@@ -123,10 +147,32 @@ pub fn import_blocks<S: DeviceFile, D: DeviceFile, M: Meter>(
         (D.told image.old) (D.told image.new)) }
     ensures size { D.size image.new ≡ D.size image.old }
 {
-    match copy_sectors(plain, 0, sizes.blocks, image, sizes.home, run, bytes, meter) {
-        Ok(()) => {}
-        Err(fault) => return Err(fault),
+    match copy_blocks(plain, sizes, image, run, bytes, meter) {
+        Ok(()) => become_image(image, run, sizes),
+        Err(fault) => Err(fault),
     }
+}
+
+// Copies the blocks of a plain file home.
+fn copy_blocks<S: DeviceFile, D: DeviceFile, M: Meter>(
+    plain: &S,
+    sizes: &Super,
+    image: &mut D,
+    run: &mut Run,
+    bytes: &mut [u8],
+    meter: &mut M,
+) -> Result<(), CopyFault>
+    requires { 512 ≤ length bytes.old }
+    ensures { Copies D.told D.size (S.holds plain.now) 0 sizes.now.blocks sizes.now.home
+        image.old image.new result }
+{
+    copy_sectors(plain, 0, sizes.blocks, image, sizes.home, run, bytes, meter)
+}
+
+// Makes an image of a file that has its blocks.
+fn become_image<D: DeviceFile>(image: &mut D, run: &mut Run, sizes: &Super) -> Result<(), CopyFault>
+    ensures { MakesImage D.told D.size (shape_of sizes.now) image.old image.new result }
+{
     match ask_to_be(image, run, sizes) {
         Ok(()) => Ok(()),
         Err(fault) => Err(CopyFault::To(fault)),

@@ -1,6 +1,8 @@
 //! An image in a file is brought to format 2.
 ghost use Rattle.std.specs.Prelude.{◌≡◌, IfOk, IfErr};
-ghost use Rattle.images.specs.Migrating.{IsMigratedOn, IsNotMigratedOn};
+ghost use Rattle.device_file.specs.Asked.{Told};
+ghost use Rattle.device_file.specs.Outbox.{CarriesOut};
+ghost use Rattle.images.specs.Migrating.{IsMigratedIn, IsMigratedOn, IsNotMigratedOn};
 ghost use Rattle.images.specs.Migrating.{migration_room, migration_text};
 ghost use Rattle.images.specs.Program.{IsMigration, IsMigrationRefused};
 
@@ -9,11 +11,12 @@ use crate::exporting::room_to_recover;
 use crate::opening::{Access, open_image, window_over};
 use crate::refusal::Refusal;
 use console::write_out;
-use device_file::{DeviceFile, FirstSectors, Run, carry_out};
+use device_file::{DeviceFile, FileFault, FirstSectors, Run, carry_out};
 use journal::{LogFormat, Super};
 use std::alloc::Global;
 use std::fs::{File, Files};
 use std::io::Write;
+use window::WindowMedium;
 
 /// Brings an image file to format 2, and says whether it was of format 1.
 #[inline(never)]
@@ -61,18 +64,39 @@ pub(crate) fn migrate_file<D: DeviceFile>(
     ensures err { IfErr result (IsNotMigratedOn first (D.told file.old) (D.told file.new)) }
     ensures size { D.size file.new ≡ D.size file.old }
 {
+    let (mut window, was_one) = migrate_in_window(alloc, first)?;
+    match carry_all(&mut window, file, run) {
+        Ok(()) => Ok(was_one),
+        Err(fault) => Err(Refusal::File(fault)),
+    }
+}
+
+// Migrates an image with these first sectors in a window over its file, which is asked for nothing.
+// It answers whether the image was of format 1.
+fn migrate_in_window(alloc: Global, first: FirstSectors) -> Result<(WindowMedium, bool), Refusal>
+    ensures ok { IfOk result (λ image. IsMigratedIn first image.1 image.0) }
+    ensures err { IfErr result (λ refusal. (told : Told)
+        → IsNotMigratedOn first told told refusal) }
+{
     let room = room_to_migrate(&first.sizes);
     let mut window = window_over(alloc, first, room)?;
     // The law of the outbox, from the first call on.
     let _waiting = window.waiting();
-    let was_one = match recovery::migrate(&mut window) {
-        Ok((_, was_one)) => was_one,
-        Err(fault) => return Err(Refusal::Image(fault)),
-    };
-    match carry_out(&mut window, file, run) {
-        Ok(()) => Ok(was_one),
-        Err(fault) => Err(Refusal::File(fault)),
+    match recovery::migrate(&mut window) {
+        Ok((_, was_one)) => Ok((window, was_one)),
+        Err(fault) => Err(Refusal::Image(fault)),
     }
+}
+
+// Has the file of an image carry out all that waits in a window over it.
+fn carry_all<D: DeviceFile>(
+    window: &mut WindowMedium,
+    image: &mut D,
+    run: &mut Run,
+) -> Result<(), FileFault>
+    ensures { CarriesOut D.told D.size image.old image.new window.old window.new result }
+{
+    carry_out(window, image, run)
 }
 
 // How many calls an outbox has to have room for, over an image with such a super. Behind the

@@ -1,5 +1,5 @@
 //! Files that are there: they are opened, and of an image the first sectors are read.
-ghost use Rattle.std.specs.Prelude.{◌≡◌, ◌⊎◌, IfOk, IfErr, None};
+ghost use Rattle.std.specs.Prelude.{◌≡◌, ◌⊎◌, IfOk, IfErr, Some, None};
 ghost use Rattle.device_file.specs.FileValue.{fresh};
 ghost use Rattle.images.specs.Opened.{
   HasFirst,
@@ -39,8 +39,22 @@ pub(crate) fn open_image<R: Files<File = File> + AllocGlobal>(
     ensures err { IfErr result (λ stopped. ((stopped.file ≡ None) × IsUnmade stopped.refusal)
         ⊎ IsOpenedAlone stopped.file stopped.refusal) }
 {
-    let file = open_file(rt, path, access)?;
-    match FirstSectors::read(rt.alloc(), &file) {
+    match open_file(rt, path, access) {
+        Ok(file) => with_first(rt.alloc(), file),
+        Err(refusal) => Err(Stopped::from(refusal)),
+    }
+}
+
+// An image file and its first sectors. It is asked for nothing.
+fn with_first(
+    alloc: Global,
+    file: SystemFile<File>,
+) -> Result<(SystemFile<File>, FirstSectors), Stopped>
+    ensures ok { IfOk result (λ image. (image.0 ≡ file) × HasFirst file.size image.1) }
+    ensures err { IfErr result (λ stopped. (stopped.file ≡ Some file)
+        × IsFileOrMemory stopped.refusal) }
+{
+    match FirstSectors::read(alloc, &file) {
         Ok(first) => Ok((file, first)),
         Err(fault) => Err(Stopped {
             refusal: refusal_of(fault),
@@ -73,7 +87,9 @@ fn open_file<R: Files<File = File>>(
     ensures ok { IfOk result (λ file. file ≡ fresh file.size) }
     ensures err { IfErr result IsUnmade }
 {
-    let _streams = hold_streams(rt).ok_or(Refusal::Streams)?;
+    let Some(_streams) = hold_streams(rt) else {
+        return Err(Refusal::Streams);
+    };
     let opened = match access {
         Access::Look => open_to_read(rt, path),
         Access::Change => SystemFile::open(rt, path),

@@ -1,10 +1,9 @@
-use Rattle.std.proofs.Common.{◌≡◌, ◌⊎◌, ◌∙◌, ℕ, [], ◌∷◌, inr, Result, Ok, Err, IfErr, refl, subst}
-use Rattle.mirror.specs.declared.call.DeviceCall.TheVariants.{Write, Flush}
-use Rattle.journal.specs.Sectors.{IsHead}
+use Rattle.std.proofs.Common.{◌≡◌, ◌⊎◌, ◌∙◌, [], ◌∷◌, ◌++◌, inr, Result, Ok, Err, IfErr, false}
 use Rattle.std.specs.Prelude.{is_ok}
+use Rattle.mirror.specs.declared.call.DeviceCall.TheVariants.{Write, Flush}
 use Rattle.device_file.specs.declared.fault.FileCall.TheVariants as call
 use Rattle.device_file.specs.declared.fault.FileFault.{FileFault}
-use Rattle.images.proofs.InOrder.{went_none, went_on, ended}
+use Rattle.images.proofs.InOrder.{one_call, stops_before, goes_on}
 use Rattle.images.proofs.making.ask_to_be.Goals as goal
 
 named_so : (result : Result (Unit {0}) FileFault) → IfErr result (λ fault. fault.call ≡ call.Sync)
@@ -12,29 +11,62 @@ named_so : (result : Result (Unit {0}) FileFault) → IfErr result (λ fault. fa
 named_so (Ok done) named = tt
 named_so (Err fault) named = inr named
 
-pub returns : goal.returns
-returns g c =
-    let first = g.D.DeviceFile.told c.args.file.now in
-    let head = Write (record { sector = 1; block = c.encode.result }) in
-    let super = Write (record { sector = 0; block = c.encode-2.result }) in
-    let one = went_on [] Flush first first (g.D.DeviceFile.told c.sync.new.self) (went_none first) c.in_ok-sync.ensures.asked in
-    let two = went_on (Flush ∷ []) head first (g.D.DeviceFile.told c.sync.new.self)
-    (g.D.DeviceFile.told c.write_sector.new.file) one c.in_ok-write_sector.ensures.asked in
-    let three = went_on (Flush ∷ head ∷ []) Flush first (g.D.DeviceFile.told c.write_sector.new.file)
-    (g.D.DeviceFile.told c.sync-2.new.self) two c.in_ok-sync-2.ensures.asked in
-    let four = went_on (Flush ∷ head ∷ Flush ∷ []) super first (g.D.DeviceFile.told c.sync-2.new.self)
-    (g.D.DeviceFile.told c.write_sector-2.new.file) three c.in_ok-write_sector-2.ensures.asked in
+pub returns-in-Err : goal.returns-in-Err
+returns-in-Err g c =
+    let told = g.D.DeviceFile.told in
+    let head = Flush ∷ Write (record { sector = 1; block = c.first_head.result }) ∷ [] in
+    let super = Flush ∷ Write (record { sector = 0; block = c.encode-super_sector.result }) ∷ [] in
     record {
       asked = record {
-        super = c.encode-2.result;
-        head = c.encode.result;
-        is_super = c.encode-2.ensures;
-        is_head = subst (λ (n : ℕ). IsHead n c.encode.result) c.new.ensures c.encode.ensures;
-        in_order = ended (Flush ∷ head ∷ Flush ∷ super ∷ []) Flush [] (is_ok c.sync-3.result) first
-            (g.D.DeviceFile.told c.write_sector-2.new.file) (g.D.DeviceFile.told c.sync-3.new.self) (λ good. refl) four
-            c.sync-3.ensures.asked;
+        super = c.encode-super_sector.result;
+        head = c.first_head.result;
+        is_super = c.encode-super_sector.ensures;
+        is_head = c.first_head.ensures;
+        in_order = stops_before head (super ++ Flush ∷ []) (told c.args.file.now) (told c.write_behind.new.file)
+            c.in-Err.ensures.in_order;
       };
-      size = c.sync-3.ensures.size ∙ c.in_ok-write_sector-2.ensures.size ∙ c.in_ok-sync-2.ensures.size
-          ∙ c.in_ok-write_sector.ensures.size ∙ c.in_ok-sync.ensures.size;
-      named = named_so c.sync-3.result c.sync-3.ensures.named;
+      size = c.in-Err.ensures.size;
+      named = c.in-Err.ensures.named;
+    }
+
+pub returns-in-Err-write_behind : goal.returns-in-Err-write_behind
+returns-in-Err-write_behind g c =
+    let told = g.D.DeviceFile.told in
+    let head = Flush ∷ Write (record { sector = 1; block = c.first_head.result }) ∷ [] in
+    let super = Flush ∷ Write (record { sector = 0; block = c.encode-super_sector.result }) ∷ [] in
+    record {
+      asked = record {
+        super = c.encode-super_sector.result;
+        head = c.first_head.result;
+        is_super = c.encode-super_sector.ensures;
+        is_head = c.first_head.ensures;
+        in_order = goes_on head (super ++ Flush ∷ []) false (told c.args.file.now) (told c.write_behind.new.file)
+            (told c.write_behind-2.new.file) c.in-Ok.ensures.in_order
+            (stops_before super (Flush ∷ []) (told c.write_behind.new.file) (told c.write_behind-2.new.file)
+            c.in-Err-write_behind.ensures.in_order);
+      };
+      size = c.in-Err-write_behind.ensures.size ∙ c.in-Ok.ensures.size;
+      named = c.in-Err-write_behind.ensures.named;
+    }
+
+pub returns-in-Ok-write_behind : goal.returns-in-Ok-write_behind
+returns-in-Ok-write_behind g c =
+    let told = g.D.DeviceFile.told in
+    let good = is_ok c.sync.result in
+    let head = Flush ∷ Write (record { sector = 1; block = c.first_head.result }) ∷ [] in
+    let super = Flush ∷ Write (record { sector = 0; block = c.encode-super_sector.result }) ∷ [] in
+    record {
+      asked = record {
+        super = c.encode-super_sector.result;
+        head = c.first_head.result;
+        is_super = c.encode-super_sector.ensures;
+        is_head = c.first_head.ensures;
+        in_order = goes_on head (super ++ Flush ∷ []) good (told c.args.file.now) (told c.write_behind.new.file)
+            (told c.sync.new.self) c.in-Ok.ensures.in_order
+            (goes_on super (Flush ∷ []) good (told c.write_behind.new.file) (told c.write_behind-2.new.file) (told c.sync.new.self)
+            c.in-Ok-write_behind.ensures.in_order
+            (one_call Flush good (told c.write_behind-2.new.file) (told c.sync.new.self) c.sync.ensures.asked));
+      };
+      size = c.sync.ensures.size ∙ c.in-Ok-write_behind.ensures.size ∙ c.in-Ok.ensures.size;
+      named = named_so c.sync.result c.sync.ensures.named;
     }
