@@ -61,6 +61,21 @@ HasNoWindow size refusal =
     ((why : OpenFault) × IsUnopened size why × (refusal ≡ refusal_of_open why))
     ⊎ (refusal ≡ refused.NoMemory)
 
+-- Of a disk that started: what waits was asked of the file, and nothing else changed.
+module _ {D : Type 0} (told : D → Told) (started : DiskOn D) where
+  pub record IsCarried (new : DiskOn D) : Type 0 where
+    pub carried : Carries told (medium_of started) (medium_of new)
+    pub others : IsRearmed started new
+
+  -- the file refused a call of that, and comes back
+  pub record IsCarriedInPart (back : D) (refusal : Refusal) : Type 0 where
+    pub disk : DiskOn D
+    pub carried : IsCarried disk
+    pub fault : FileFault
+    pub fault_is : (medium_of disk).fault ≡ Some fault
+    pub refused_is : refusal ≡ refused.File fault
+    pub given : back ≡ (medium_of disk).file
+
 -- What a file was asked. Packets have at most so many bytes.
 module _ {D : Type 0} (told : D → Told) (most : ℕ) (medium : FileWindow D) where
   -- A disk started on the medium, and the file was asked for nothing. Then it was asked for exactly

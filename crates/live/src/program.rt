@@ -1,18 +1,21 @@
 //! The work of the program that serves an image file line by line.
 ghost use Rattle.std.specs.Prelude.{◌≡◌, ◌≢◌, ◌⊎◌, ◌≤◌, List, ℕ, None, IfOk, IfErr, map, drop};
 ghost use Rattle.std.specs.Io.KnownBytes.{Keeps};
+ghost use Rattle.spec.specs.Packets.{bytes_of};
 ghost use Rattle.device_file.specs.FileValue.{fresh};
 ghost use Rattle.live.specs.declared.refusal.Refusal.{Refusal};
-ghost use Rattle.live.specs.Program.{HasDoneLive, IsLiveRefusedFor};
+ghost use Rattle.live.specs.Program.{HasDoneLive, IsLive, IsLiveRefusedFor, IsLiveStopped};
 ghost use Rattle.live.specs.Status.{status_of};
 ghost use Rattle.runner.specs.Live.{IsLiveLine};
 
 use crate::ended::{Ended, Stopped};
 use crate::refusal::Refusal;
 use crate::serving::serve_file;
+use bot_machine::PacketSize;
 use console::{arguments, hold_streams, words_of};
 use device_file::SystemFile;
 use runner::read_live_words;
+use std::alloc::Global;
 use std::env::Env;
 use std::fs::{File, Files};
 use std::io::{Read, Write};
@@ -103,11 +106,28 @@ fn serve_image<R: Files<File = File> + AllocGlobal, I: Read, O: Write>(
     let Some(_streams) = hold_streams(rt) else {
         return Err(stopped(Refusal::Streams));
     };
-    let file = match SystemFile::open(rt, image) {
-        Ok(file) => file,
-        Err(fault) => return Err(stopped(Refusal::File(fault))),
-    };
-    match serve_file(rt.alloc(), file, size, input, out) {
+    match SystemFile::open(rt, image) {
+        Ok(file) => serve_opened(rt.alloc(), file, size, input, out),
+        Err(fault) => Err(stopped(Refusal::File(fault))),
+    }
+}
+
+// Serves a file that was just opened, which comes back.
+fn serve_opened<I: Read, O: Write>(
+    alloc: Global,
+    file: SystemFile<File>,
+    size: PacketSize,
+    input: &mut I,
+    out: &mut O,
+) -> Result<LeftFile, Stopped<LeftFile>>
+    requires { file ≡ fresh file.size }
+    ensures done { IfOk result (λ back. IsLive (O.contents out.old) (O.contents out.new)
+        (I.remaining input.old) (I.remaining input.new) back (bytes_of size)) }
+    ensures refused { IfErr result (λ stopped. IsLiveStopped (O.contents out.old)
+        (O.contents out.new) (I.remaining input.old) (I.remaining input.new) stopped.file
+        (bytes_of size) stopped.refusal) }
+{
+    match serve_file(alloc, file, size, input, out) {
         Ok(file) => Ok(Some(file)),
         Err(stopped) => Err(Stopped {
             refusal: stopped.refusal,

@@ -1,9 +1,11 @@
 //! A disk starts on an open file.
-ghost use Rattle.std.specs.Prelude.{◌≡◌, IfOk, IfErr, length};
+ghost use Rattle.std.specs.Prelude.{◌≡◌, None, IfOk, IfErr, length};
 ghost use Rattle.spec.specs.Packets.{bytes_of};
-ghost use Rattle.live.specs.Starting.{HasNoWindow, IsNotStartedOn, IsRefusedStart, IsStarted};
+ghost use Rattle.live.specs.Missing.{medium_of};
+ghost use Rattle.live.specs.Starting.{HasNoWindow, IsCarried, IsCarriedInPart, IsNotStartedOn};
+ghost use Rattle.live.specs.Starting.{IsRefusedStart, IsStarted};
 ghost use Rattle.live.specs.Starting.{IsStartedOn, IsWindowOf, room_for};
-ghost use Rattle.live.specs.Ready.{IsReadyToStart};
+ghost use Rattle.live.specs.Ready.{IsReadyToStart, room_of};
 ghost use Rattle.live.specs.Status.{refusal_of_open};
 
 use crate::ended::Stopped;
@@ -90,6 +92,13 @@ fn room_to_serve(sizes: &Option<Super>, sectors: u64) -> usize
     if sizes.sectors() > sectors {
         return MOST_ROOM;
     }
+    room_with(sizes)
+}
+
+// The same, over a file that has all sectors of this super.
+fn room_with(sizes: &Super) -> usize
+    ensures { result ≡ room_of sizes.now.format sizes.now.slots }
+{
     let to_start = u64::from(sizes.format.limit()) * sizes.slots + 4;
     to_start.max(3 * sizes.format.record_calls()) as usize
 }
@@ -117,15 +126,24 @@ fn start_disk<D: DeviceFile>(
         stopped.file stopped.refusal) }
 {
     foresee_window(&medium);
-    let mut disk = match Disk::start_by(alloc, medium, disk_identity(), size, Retiring::Ahead) {
-        Ok(disk) => disk,
-        Err(error) => {
-            return Err(Stopped {
-                refusal: Refusal::Image(error.fault),
-                file: error.medium.into_file(),
-            });
-        }
-    };
+    match Disk::start_by(alloc, medium, disk_identity(), size, Retiring::Ahead) {
+        Ok(disk) => carry_start(disk),
+        Err(error) => Err(Stopped {
+            refusal: Refusal::Image(error.fault),
+            file: error.medium.into_file(),
+        }),
+    }
+}
+
+// Has the file carry out what the start of a disk sent.
+fn carry_start<D: DeviceFile>(
+    mut disk: Disk<FileWindow<D>>,
+) -> Result<Disk<FileWindow<D>>, Stopped<D>>
+    ensures ok { IfOk result (λ carried. IsCarried D.told disk carried
+        × ((medium_of carried).fault ≡ None)) }
+    ensures err { IfErr result (λ stopped. IsCarriedInPart D.told disk stopped.file
+        stopped.refusal) }
+{
     disk.give();
     match disk.medium().fault() {
         None => Ok(disk),

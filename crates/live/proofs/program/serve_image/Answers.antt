@@ -1,16 +1,14 @@
-use Rattle.std.proofs.Common.{refl}
+use Rattle.std.proofs.Common.{inr}
+use Rattle.images.proofs.Options.{if_ok, if_err}
 use Rattle.live.proofs.program.serve_image.Goals as goal
 
-pub returns-in-Ok-serve_file-clause-done : goal.returns-in-Ok-serve_file-clause-done
-returns-in-Ok-serve_file-clause-done g c = (
-  c.in-Some.image.now,
-  c.in-Some.size,
-  c.in-Some.ensures.words,
-  record {
-    opened = c.in-Ok.file;
-    unasked = c.in-Ok.ensures;
-    last = c.in-Ok-serve_file.file;
-    given = refl;
-    served = c.in-Ok-serve_file.ensures.served;
-  },
-)
+pub returns-in-Ok-clause-done : goal.returns-in-Ok-clause-done
+returns-in-Ok-clause-done g c =
+    if_ok c.serve_opened.result (λ back live. (c.in-Some.image.now, c.in-Some.size, c.in-Some.ensures.words, live))
+    c.serve_opened.ensures.done
+
+pub returns-in-Ok-clause-refused : goal.returns-in-Ok-clause-refused
+returns-in-Ok-clause-refused g c =
+    if_err c.serve_opened.result
+    (λ stopped why. inr (c.in-Some.image.now, c.in-Some.size, c.in-Some.ensures.words, inr why))
+    c.serve_opened.ensures.refused

@@ -1,5 +1,5 @@
-use Rattle.std.proofs.Common.{◌∙◌, inl, inr, refl, sym, ap}
-use Rattle.file_window.specs.declared.file.FileWindow.{FileWindow}
+use Rattle.std.proofs.Common.{◌∙◌, inl, inr, refl}
+use Rattle.images.proofs.Options.{if_ok, if_err}
 use Rattle.live.proofs.Ready.{ready_started}
 use Rattle.live.proofs.Rooms.{start_misses, by_image}
 use Rattle.live.proofs.starting.start_disk.Goals as goal
@@ -22,36 +22,11 @@ returns-in-Err-clause-refused g c =
       unasked = c.into_file.ensures ∙ c.in-Err.ensures.leaves.medium.follows.file_stays;
     })
 
-pub returns-in-None-clause-started : goal.returns-in-None-clause-started
-returns-in-None-clause-started g c =
+pub returns-in-Ok-clause-started : goal.returns-in-Ok-clause-started
+returns-in-Ok-clause-started g c =
     let first = c.args.medium.window in
     let started = c.in-Ok.disk.unit.store.medium.window in
-    let opens = rw c.disk_identity.ensures at c.in-Ok.ensures.opened in
-    let follows = c.in-Ok.ensures.leaves.medium.follows.follows in
-    let well = sym (ap (λ (m : FileWindow g.row.D.Denot). m.fault) c.medium.ensures.is) ∙ sym c.fault.ensures ∙ c.in-None.is in record {
-      starts = record {
-        started = c.in-Ok.disk;
-        opens = opens;
-        leaves = c.in-Ok.ensures.leaves.leaves;
-        follows = c.in-Ok.ensures.leaves.medium.follows;
-        covers = c.foresee_window.ensures.covers started follows;
-        parts = c.foresee_window.ensures.parts started follows;
-        misses = start_misses first started c.requires c.in-Ok.ensures.leaves.leaves follows c.in-Ok.ensures.leaves.medium.looks
-            (c.foresee_window.ensures.served started follows);
-        carried = c.give.ensures.given;
-        others = c.give.ensures.others;
-      };
-      well = well;
-      ready = ready_started g.D.DeviceFile.told first c.in-Ok.disk c.give.new.self _ c.requires c.in-Ok.ensures.opened follows
-          c.give.ensures.given c.give.ensures.others well;
-    }
-
-pub returns-in-Some-clause-refused : goal.returns-in-Some-clause-refused
-returns-in-Some-clause-refused g c =
-    let first = c.args.medium.window in
-    let started = c.in-Ok.disk.unit.store.medium.window in
-    let follows = c.in-Ok.ensures.leaves.medium.follows.follows in inr (record {
-      disk = c.give.new.self;
+    let follows = c.in-Ok.ensures.leaves.medium.follows.follows in if_ok c.carry_start.result (λ new both. record {
       starts = record {
         started = c.in-Ok.disk;
         opens = rw c.disk_identity.ensures at c.in-Ok.ensures.opened;
@@ -61,11 +36,34 @@ returns-in-Some-clause-refused g c =
         parts = c.foresee_window.ensures.parts started follows;
         misses = start_misses first started c.requires c.in-Ok.ensures.leaves.leaves follows c.in-Ok.ensures.leaves.medium.looks
             (c.foresee_window.ensures.served started follows);
-        carried = c.give.ensures.given;
-        others = c.give.ensures.others;
+        carried = both.0.carried;
+        others = both.0.others;
       };
-      fault = c.in-Some.fault;
-      fault_is = sym (ap (λ (m : FileWindow g.row.D.Denot). m.fault) c.medium.ensures.is) ∙ sym c.fault.ensures ∙ c.in-Some.is;
-      refused_is = refl;
-      given = c.into_file-in-Some.ensures ∙ ap (λ (m : FileWindow g.row.D.Denot). m.file) c.into_medium.ensures;
-    })
+      well = both.1;
+      ready = ready_started g.D.DeviceFile.told first c.in-Ok.disk new _ c.requires c.in-Ok.ensures.opened follows
+          both.0.carried both.0.others both.1;
+    }) c.carry_start.ensures.ok
+
+pub returns-in-Ok-clause-refused : goal.returns-in-Ok-clause-refused
+returns-in-Ok-clause-refused g c =
+    let first = c.args.medium.window in
+    let started = c.in-Ok.disk.unit.store.medium.window in
+    let follows = c.in-Ok.ensures.leaves.medium.follows.follows in if_err c.carry_start.result (λ stopped part. inr (record {
+      disk = part.disk;
+      starts = record {
+        started = c.in-Ok.disk;
+        opens = rw c.disk_identity.ensures at c.in-Ok.ensures.opened;
+        leaves = c.in-Ok.ensures.leaves.leaves;
+        follows = c.in-Ok.ensures.leaves.medium.follows;
+        covers = c.foresee_window.ensures.covers started follows;
+        parts = c.foresee_window.ensures.parts started follows;
+        misses = start_misses first started c.requires c.in-Ok.ensures.leaves.leaves follows c.in-Ok.ensures.leaves.medium.looks
+            (c.foresee_window.ensures.served started follows);
+        carried = part.carried.carried;
+        others = part.carried.others;
+      };
+      fault = part.fault;
+      fault_is = part.fault_is;
+      refused_is = part.refused_is;
+      given = part.given;
+    })) c.carry_start.ensures.err
