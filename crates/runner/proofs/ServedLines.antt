@@ -37,6 +37,12 @@ taken-none left mid after read chunk count first next none =
     subst (λ (l : List ℕ). Consumes left after l) (ap (λ n. read ++ take n chunk) none ∙ append-nil read)
     (Consumes-trans left mid after read (take count chunk) first next)
 
+-- a read took no bytes
+pub taken-nothing : (left mid after : Option (List ℕ)) (read : List ℕ) → Consumes left mid read → Consumes mid after []
+    → Consumes left after read
+taken-nothing left mid after read first next =
+    subst (λ (l : List ℕ). Consumes left after l) (append-nil read) (Consumes-trans left mid after read [] first next)
+
 next_number : (before : ℕ) → min (line_number before + 1) 18446744073709551615 ≡ line_number (before + 1)
 next_number before = omega arith
 

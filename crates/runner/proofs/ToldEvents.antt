@@ -1,13 +1,16 @@
 -- Events that are played and told, one after another.
 use Rattle.std.proofs.Common.{◌≡◌, ℕ, Option, List, [], ◌∷◌, ◌++◌, refl, sym, ap, ◌∙◌, subst, append_assoc, append-nil}
 use Rattle.std.specs.Io.KnownBytes.{Appends}
-use Rattle.std.proofs.KnownBytes.{Appends-trans}
+use Rattle.std.proofs.KnownBytes.{Appends-kept, Appends-trans}
 use Rattle.spec.specs.declared.event.Event.{Event}
 use Rattle.spec.specs.declared.event.Answer.{Answer}
 use Rattle.console.specs.Streams.{AppendsUpTo, AppendsSome}
 use Rattle.runner.specs.Text.{line_for, text_of}
 use Rattle.runner.specs.Players.{IsPlayer}
 use Rattle.runner.specs.Played.{TellsBy, BreaksOffBy, GivesUpBy}
+use Rattle.runner.specs.Served.{IsPlayedInPart, IsUnanswered}
+use Rattle.runner.specs.declared.player.ServeFault.{ServeFault}
+use Rattle.runner.specs.declared.player.ServeFault.TheVariants.{Line, Reader, Writer, Player}
 use Rattle.runner.proofs.Known.{AppendsUpTo-more, AppendsSome-more}
 use Rattle.runner.proofs.Runs.{text_of-append}
 
@@ -79,3 +82,32 @@ module _ {D : Type 0} (Goes : D → List Event → List Answer → D → Type 0)
     written = Appends-trans was mid now text gives.text written gives.written;
     stops = gives.stops;
   }
+
+  -- events were played and told, and the next one was not answered, or its answer not written whole
+  pub stops-in_part : (Stops : D → Event → D → Type 0) (count : ℕ) (was mid now : Option (List ℕ)) (old between new : D)
+      (asked events rest : List Event) (text : List ℕ) (event : Event) → asked ≡ events ++ event ∷ rest
+      → TellsBy Goes old events text between → Appends was mid text → (fault : ServeFault)
+      → IsUnanswered Goes Stops count mid now between new event fault → IsPlayedInPart Goes Stops count was now old new asked fault
+  stops-in_part Stops count was mid now old between new asked events rest text event parts done written (Line number) stopped =
+      absurd stopped
+  stops-in_part Stops count was mid now old between new asked events rest text event parts done written Reader stopped = absurd stopped
+  stops-in_part Stops count was mid now old between new asked events rest text event parts done written Writer stopped = (
+    events,
+    event,
+    rest,
+    parts,
+    breaks-here was mid now old between new events text event stopped.0 done written stopped.1 stopped.2,
+  )
+  stops-in_part Stops count was mid now old between new asked events rest text event parts done written Player stopped = (
+    events,
+    event,
+    rest,
+    parts,
+    record {
+      mid = between;
+      text = text;
+      tells = done;
+      written = Appends-kept was mid now text written stopped.1;
+      stops = stopped.0;
+    },
+  )

@@ -68,6 +68,10 @@ pub record IsJustOpened (opened : Copied) : Type 0 where
   -- it was locked, measured and read, and nothing else, and these are its bytes
   pub is_read : IsReadWhole opened.bytes opened.file
 
+-- the medium comes back, and this holds of it
+abbrev pub IsBack : {M : Type 0} → (M → Type 0) → Option M → Type 0
+IsBack {M} Holds back = (after : M) × (back ≡ Some after) × Holds after
+
 -- What was written then, and now.
 module _ (was now : Option (List ℕ)) where
   module _ {M : Type 0} (state : M → State) (medium : M) where

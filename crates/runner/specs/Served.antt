@@ -6,6 +6,7 @@ use Rattle.medium.specs.Medium.{State}
 use Rattle.bot_machine.specs.Disk.{DiskValue}
 use Rattle.spec.specs.declared.event.Event.{Event}
 use Rattle.spec.specs.declared.event.Answer.{Answer}
+use Rattle.console.specs.Streams.{AppendsSome}
 use Rattle.runner.specs.declared.line.ScriptKind.TheVariants.{OneLife}
 use Rattle.runner.specs.declared.serve.LineFault.{LineFault}
 use Rattle.runner.specs.declared.serve.LineFault.TheVariants as fault
@@ -16,6 +17,7 @@ use Rattle.runner.specs.Lines.{lines_of}
 use Rattle.runner.specs.Script.{LinePlays, Plays}
 use Rattle.runner.specs.Played.{TellsBy, BreaksOffBy, GivesUpBy, StepsOn, HasNoAnswer}
 use Rattle.runner.specs.Streams.{IsAll}
+use Rattle.runner.specs.Text.{line_for}
 
 -- lines are counted from 1, up to 2^64 - 1
 abbrev pub line_number : ℕ → ℕ
@@ -54,6 +56,14 @@ module _ {D : Type 0} (Goes : D → List Event → List Answer → D → Type 0)
     pub text : List ℕ
     pub tells : TellsBy Goes old events text new
     pub written : Appends was now text
+
+  -- an event had no answer, and nothing was written; or it had one, which was not written whole
+  abbrev pub IsUnanswered : Event → ServeFault → Type 0
+  IsUnanswered event (Line number) = ⊥
+  IsUnanswered event Reader = ⊥
+  IsUnanswered event Writer = (answer : Answer) × Goes old (event ∷ []) (answer ∷ []) new
+      × AppendsSome was now (line_for event answer)
+  IsUnanswered event Player = Stops old event new × Keeps was now
 
   -- of these events a first part was played, and why no more
   abbrev pub IsPlayedInPart : List Event → ServeFault → Type 0

@@ -1,5 +1,5 @@
 //! How a command ended, and what it has left of its image file.
-ghost use Rattle.std.specs.Prelude.{◌≡◌, None};
+ghost use Rattle.std.specs.Prelude.{◌≡◌, Some, None};
 
 use crate::refusal::Refusal;
 use medium::FileMedium;
@@ -19,6 +19,16 @@ pub struct Ended {
 pub(crate) struct Stopped<M> {
     pub(crate) refusal: Refusal,
     pub(crate) medium: M,
+}
+
+/// What was asked for was not done, and this is the medium.
+pub(crate) fn stopped_with<M>(refusal: Refusal, medium: M) -> Stopped<Option<M>>
+    ensures { result ≡ record { refusal = refusal; medium = Some medium } }
+{
+    Stopped {
+        refusal,
+        medium: Some(medium),
+    }
 }
 
 impl<M> From<Refusal> for Stopped<Option<M>> {

@@ -3,13 +3,14 @@ ghost use Rattle.std.specs.Prelude.{◌≡◌, ◌⊎◌, ◌↔◌, ℕ, List, 
 ghost use Rattle.std.specs.Prelude.{MatchResult};
 ghost use Rattle.journal.specs.Places.{new_shape, sectors_of};
 ghost use Rattle.medium.specs.ImageFile.{IsImage};
+ghost use Rattle.recovery.specs.Formatted.{AreSizes, IsFormatted};
 ghost use Rattle.runner.specs.Program.{AreImageSizes, IsJustOpened, IsMade, simulated};
 
 use crate::read::{ReadFault, read_to_limit};
 use crate::refusal::Refusal;
-use console::hold_streams;
+use console::{HeldStreams, hold_streams};
 use journal::LogFormat;
-use medium::{FileMedium, SimError, SimMedium};
+use medium::{FileMedium, Medium, SimError, SimMedium};
 use recovery::FormatFault;
 use std::fs;
 use std::fs::{File, Files};
@@ -35,10 +36,33 @@ pub(crate) fn make_image<R: Files<File = File> + AllocGlobal>(
         ⊎ ((refusal ≡ Refusal.File) ⊎ (refusal ≡ Refusal.NoMemory))) }
 {
     let sectors = image_sectors(format, blocks, slots).ok_or(Refusal::ImageSize)?;
-    let _streams = hold_streams(rt).ok_or(Refusal::File)?;
+    let _streams = hold(rt)?;
     let mut medium = FileMedium::create(rt, path, sectors)?;
-    match recovery::make(&mut medium, format, blocks, slots) {
-        Ok(()) => Ok(medium),
+    format_medium(&mut medium, format, blocks, slots)?;
+    Ok(medium)
+}
+
+/// Holds the standard streams that were closed at the start.
+pub(crate) fn hold<R: Files>(rt: &R) -> Result<HeldStreams<R::File>, Refusal>
+    ensures { IfErr result (λ refusal. refusal ≡ Refusal.File) }
+{
+    hold_streams(rt).ok_or(Refusal::File)
+}
+
+// Formats a medium of zeros, which has room for these sizes.
+fn format_medium<M: Medium>(
+    medium: &mut M,
+    format: LogFormat,
+    blocks: u64,
+    slots: u64,
+) -> Result<(), Refusal>
+    requires { AreSizes (M.state medium.old).size (new_shape format blocks slots) }
+    ensures { MatchResult result (λ _. IsFormatted (new_shape format blocks slots)
+        (M.state medium.new) × M.follows medium.old medium.new)
+        (λ refusal. refusal ≡ Refusal.File) }
+{
+    match recovery::make(medium, format, blocks, slots) {
+        Ok(()) => Ok(()),
         Err(FormatFault::BadSize) => Err(Refusal::ImageSize),
         Err(FormatFault::Medium) => Err(Refusal::File),
     }

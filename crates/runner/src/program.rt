@@ -1,28 +1,37 @@
 //! From the words of a command to its exit status.
-ghost use Rattle.std.specs.Prelude.{◌≡◌, ◌≢◌, ◌⊎◌, ◌≤◌, List, ℕ, None, IfOk, IfErr, map, drop};
+ghost use Rattle.std.specs.Prelude.{◌≡◌, ◌≢◌, ◌⊎◌, ◌≤◌, List, ℕ, Some, None, Ok, Err, IfOk, IfErr};
+ghost use Rattle.std.specs.Prelude.{MatchResult, OnOk, map, drop};
+ghost use Rattle.std.specs.Io.KnownBytes.{Appends};
+ghost use Rattle.console.specs.Streams.{AppendsSome};
+ghost use Rattle.medium.specs.Sim.{Sim};
+ghost use Rattle.bot_machine.specs.LivesValue.{IsAtRest};
 ghost use Rattle.spec.specs.Packets.{bytes_of};
+ghost use Rattle.runner.specs.declared.fault.ScriptFault.{ScriptFault};
 ghost use Rattle.runner.specs.declared.refusal.Refusal.{Refusal};
-ghost use Rattle.runner.specs.Status.{status_of};
+ghost use Rattle.runner.specs.OutcomeOfLives.{ArePlayed, AreRefused};
+ghost use Rattle.runner.specs.Status.{refusal_of_fault, status_of};
 ghost use Rattle.runner.specs.Task.{IsCommandLine};
-ghost use Rattle.runner.specs.Program.{HasDone, IsFormat, IsFormatRefused, IsMigrated, IsMigration};
-ghost use Rattle.runner.specs.Program.{IsMigrationRefused, IsNotMigrated, IsRefusedFor, IsRun};
+ghost use Rattle.runner.specs.Program.{HasDone, IsBack, IsFormat, IsFormatRefused, IsMigrated};
+ghost use Rattle.runner.specs.Program.{IsMigration, IsMigrationRefused, IsNotMigrated};
+ghost use Rattle.runner.specs.Program.{IsRefusedFor, IsRun};
 ghost use Rattle.runner.specs.Program.{IsRunRefused, IsSim, IsSimRefused, migration_text};
 
-use crate::ended::{Ended, Stopped};
+use crate::ended::{Ended, Stopped, stopped_with};
 use crate::fault::ScriptError;
-use crate::image::{make_image, open_image, sim_medium};
+use crate::image::{hold, make_image, open_image, sim_medium};
 use crate::refusal::Refusal;
 use crate::script::run_script;
 use crate::sim::sim_script;
 use crate::task::{Task, read_words};
 use bot_machine::PacketSize;
-use console::{arguments, hold_streams, words_of, write_out};
+use console::{arguments, words_of, write_out};
 use journal::LogFormat;
-use medium::{FileMedium, Medium};
+use medium::{FileMedium, Medium, SimMedium};
+use std::alloc::Global;
 use std::env::Env;
 use std::fs;
 use std::fs::{File, Files};
-use std::io::Write;
+use std::io::{Read, Write};
 
 /// The medium of an image file, where one was opened or made.
 type LeftImage = Option<FileMedium<File>>;
@@ -134,7 +143,10 @@ fn dispatch<R: Files<File = File> + AllocGlobal, O: Write>(
             image,
             script,
             size,
-        } => sim(rt, image, script, size, out),
+        } => match sim(rt, image, script, size, out) {
+            Ok(()) => Ok(None),
+            Err(refusal) => Err(Stopped::from(refusal)),
+        },
     }
 }
 
@@ -154,12 +166,24 @@ fn make<R: Files<File = File> + AllocGlobal, O: Write>(
         (O.contents out.new) stopped.medium format blocks slots stopped.refusal) }
 {
     let medium = make_image(rt, image, format, blocks, slots)?;
-    match write_out(out, b"formatted\n") {
+    tell_of(medium, b"formatted\n", out)
+}
+
+// Says what a medium is now, and gives it back.
+fn tell_of<M: Medium, O: Write>(
+    medium: M,
+    text: &[u8],
+    out: &mut O,
+) -> Result<Option<M>, Stopped<Option<M>>>
+    ensures done { IfOk result (λ back. (back ≡ Some medium)
+        × Appends (O.contents out.old) (O.contents out.new) text.now) }
+    ensures refused { IfErr result (λ stopped. (stopped.medium ≡ Some medium)
+        × (stopped.refusal ≡ Refusal.File)
+        × AppendsSome (O.contents out.old) (O.contents out.new) text.now) }
+{
+    match write_out(out, text) {
         Ok(()) => Ok(Some(medium)),
-        Err(_) => Err(Stopped {
-            refusal: Refusal::File,
-            medium: Some(medium),
-        }),
+        Err(_) => Err(stopped_with(Refusal::File, medium)),
     }
 }
 
@@ -174,39 +198,23 @@ fn migrate<R: Files<File = File> + AllocGlobal, O: Write>(
     ensures refused { IfErr result (λ stopped. IsMigrationRefused (O.contents out.old)
         (O.contents out.new) stopped.medium stopped.refusal) }
 {
-    let _streams = hold_streams(rt).ok_or(Refusal::File)?;
-    let medium = open_image(rt, image)?;
-    match migrate_medium(medium, out) {
-        Ok(medium) => Ok(Some(medium)),
-        Err(stopped) => Err(Stopped {
-            refusal: stopped.refusal,
-            medium: Some(stopped.medium),
-        }),
-    }
+    let _streams = hold(rt)?;
+    migrate_medium(open_image(rt, image)?, out)
 }
 
 // Brings a medium to format 2, says whether it was of format 1, and gives the medium back.
-fn migrate_medium<M: Medium + Drop, O: Write>(mut medium: M, out: &mut O) -> Result<M, Stopped<M>>
-    ensures done { IfOk result (IsMigrated (O.contents out.old) (O.contents out.new) M.state
-        medium) }
-    ensures refused { IfErr result (λ stopped. IsNotMigrated (O.contents out.old)
-        (O.contents out.new) M.state medium stopped.medium stopped.refusal) }
+fn migrate_medium<M: Medium, O: Write>(
+    mut medium: M,
+    out: &mut O,
+) -> Result<Option<M>, Stopped<Option<M>>>
+    ensures done { IfOk result (IsBack (IsMigrated (O.contents out.old) (O.contents out.new)
+        M.state medium)) }
+    ensures refused { IfErr result (λ stopped. IsBack (λ back. IsNotMigrated (O.contents out.old)
+        (O.contents out.new) M.state medium back stopped.refusal) stopped.medium) }
 {
-    let was_one = match recovery::migrate(&mut medium) {
-        Ok((_, was_one)) => was_one,
-        Err(fault) => {
-            return Err(Stopped {
-                refusal: Refusal::from(fault),
-                medium,
-            });
-        }
-    };
-    match write_out(out, migration_line(was_one)) {
-        Ok(()) => Ok(medium),
-        Err(_) => Err(Stopped {
-            refusal: Refusal::File,
-            medium,
-        }),
+    match recovery::migrate(&mut medium) {
+        Ok((_, was_one)) => tell_of(medium, migration_line(was_one), out),
+        Err(fault) => Err(stopped_with(Refusal::from(fault), medium)),
     }
 }
 
@@ -235,20 +243,22 @@ fn run<R: Files<File = File> + AllocGlobal, O: Write>(
     ensures refused { IfErr result (λ stopped. IsRunRefused (O.contents out.old)
         (O.contents out.new) stopped.medium (bytes_of size) stopped.refusal) }
 {
-    let _streams = hold_streams(rt).ok_or(Refusal::File)?;
+    let _streams = hold(rt)?;
     let medium = open_image(rt, image)?;
     let Ok(mut script) = fs::open(rt, script) else {
-        return Err(Stopped {
-            refusal: Refusal::File,
-            medium: Some(medium),
-        });
+        return Err(stopped_with(Refusal::File, medium));
     };
-    match run_script(rt.alloc(), medium, &mut script, out, size) {
+    left_by(run_script(rt.alloc(), medium, &mut script, out, size))
+}
+
+// What playing a script has left, as a command tells it.
+fn left_by<M: Medium>(played: Result<M, ScriptError<M>>) -> Result<Option<M>, Stopped<Option<M>>>
+    ensures { MatchResult played (λ medium. result ≡ Ok (Some medium)) (λ error. result ≡ Err
+        (record { refusal = refusal_of_fault error.fault; medium = Some error.medium })) }
+{
+    match played {
         Ok(medium) => Ok(Some(medium)),
-        Err(ScriptError { fault, medium }) => Err(Stopped {
-            refusal: Refusal::from(fault),
-            medium: Some(medium),
-        }),
+        Err(ScriptError { fault, medium }) => Err(stopped_with(Refusal::from(fault), medium)),
     }
 }
 
@@ -260,19 +270,38 @@ fn sim<R: Files<File = File> + AllocGlobal, O: Write>(
     script: &str,
     size: PacketSize,
     out: &mut O,
-) -> Result<LeftImage, Stopped<LeftImage>>
-    ensures done { IfOk result (λ back.
-        IsSim (O.contents out.old) (O.contents out.new) back (bytes_of size)) }
-    ensures refused { IfErr result (λ stopped. IsSimRefused (O.contents out.old)
-        (O.contents out.new) stopped.medium (bytes_of size) stopped.refusal) }
+) -> Result<(), Refusal>
+    ensures done { OnOk result
+        (IsSim (O.contents out.old) (O.contents out.new) None (bytes_of size)) }
+    ensures refused { IfErr result
+        (IsSimRefused (O.contents out.old) (O.contents out.new) None (bytes_of size)) }
 {
-    let _streams = hold_streams(rt).ok_or(Refusal::File)?;
+    let _streams = hold(rt)?;
     let medium = sim_medium(rt, image)?;
     let Ok(mut script) = fs::open(rt, script) else {
-        return Err(Stopped::from(Refusal::File));
+        return Err(Refusal::File);
     };
-    match sim_script(rt.alloc(), medium, &mut script, out, size) {
-        Ok(_) => Ok(None),
-        Err(ScriptError { fault, medium: _ }) => Err(Stopped::from(Refusal::from(fault))),
+    play_in_memory(rt.alloc(), medium, &mut script, out, size)
+}
+
+// Plays a script on a disk over a medium in memory, which nobody wants back.
+fn play_in_memory<R: Read, O: Write>(
+    alloc: Global,
+    medium: SimMedium,
+    script: &mut R,
+    out: &mut O,
+    size: PacketSize,
+) -> Result<(), Refusal>
+    requires rests { IsAtRest medium }
+    requires unfused { medium.power.fuse ≡ None }
+    ensures done { OnOk result ((after : Sim) × ArePlayed (bytes_of size)
+        (R.remaining script.old) (O.contents out.old) (O.contents out.new) medium after) }
+    ensures refused { IfErr result (λ refusal. (fault : ScriptFault) × (after : Sim)
+        × AreRefused (bytes_of size) (R.remaining script.old) (O.contents out.old)
+        (O.contents out.new) medium fault after × (refusal ≡ refusal_of_fault fault)) }
+{
+    match sim_script(alloc, medium, script, out, size) {
+        Ok(_) => Ok(()),
+        Err(ScriptError { fault, medium: _ }) => Err(Refusal::from(fault)),
     }
 }

@@ -1,6 +1,7 @@
 //! A reader is read to its end, up to a limit.
-ghost use Rattle.std.specs.Prelude.{◌≡◌, ◌<◌, ◌≤◌, IfOk, IfSome, Err, length, MatchResult};
-ghost use Rattle.std.specs.Io.KnownBytes.{IsAtEnd};
+ghost use Rattle.std.specs.Prelude.{◌≡◌, ◌<◌, ◌≤◌, [], IfOk, IfErr, IfSome, Err, length};
+ghost use Rattle.std.specs.Prelude.{MatchResult};
+ghost use Rattle.std.specs.Io.KnownBytes.{Consumes, IsAtEnd};
 ghost use Rattle.runner.specs.Refused.{IsReadSoFar};
 ghost use Rattle.runner.specs.Streams.{IsAll};
 
@@ -8,7 +9,7 @@ use std::alloc::Global;
 use std::io::{ErrorKind, Read};
 
 /// Why a reader was not read to its end.
-#[derive(Clone, Copy, Debug, PartialEq, Eq)]
+#[derive(Clone, Copy)]
 pub enum ReadFault {
     /// It gave more bytes than the limit.
     TooLong,
@@ -36,7 +37,22 @@ pub fn read_to_limit<R: Read>(
     ensures taken { MatchResult result (λ _. IsAtEnd (R.remaining reader.new))
         (λ fault. IsReadSoFar fault limit (R.remaining reader.old) (R.remaining reader.new)) }
 {
-    let mut bytes = Vec::new(alloc);
+    let bytes = Vec::new(alloc);
+    read_into(bytes, reader, limit)
+}
+
+// Reads to the end, if that comes in time, behind nothing.
+fn read_into<R: Read>(
+    mut bytes: Vec<u8>,
+    reader: &mut R,
+    limit: usize,
+) -> Result<Vec<u8>, ReadFault>
+    requires { bytes.items ≡ [] }
+    ensures read { IfOk result (λ all. Consumes (R.remaining reader.old) (R.remaining reader.new)
+        all.items × (length all.items ≤ limit) × IsAtEnd (R.remaining reader.new)) }
+    ensures stopped { IfErr result (λ fault.
+        IsReadSoFar fault limit (R.remaining reader.old) (R.remaining reader.new)) }
+{
     let mut chunk = [0; 4096];
     'reads: for _ in 0..u64::MAX {
         match reader.read(&mut chunk) {

@@ -1,8 +1,8 @@
 //! A disk served line by line: each line is answered as soon as it is there.
 ghost use Rattle.std.specs.Prelude.{◌≡◌, ◌⊎◌, ◌++◌, ◌<◌, ℕ, List, Option, OnOk, OnErr, IfOk, IfErr};
-ghost use Rattle.std.specs.Prelude.{MatchOption, ⊤};
+ghost use Rattle.std.specs.Prelude.{MatchOption, MatchResult, [], length, take, ⊤};
 ghost use Rattle.std.specs.Io.{ReadsAtMost};
-ghost use Rattle.std.specs.Io.KnownBytes.{ReadConsumes};
+ghost use Rattle.std.specs.Io.KnownBytes.{Consumes, IsAtEnd, ReadConsumes};
 ghost use Rattle.spec.specs.Packets.{bytes_of};
 ghost use Rattle.runner.specs.Served.{HasServed, IsAnswered, IsLineStopped, IsServed, IsServedBy};
 ghost use Rattle.runner.specs.Served.{IsLineEnd, IsUnended, IsStopped, IsStoppedBy, MayAsk};
@@ -16,22 +16,32 @@ use crate::play::play_asked;
 use crate::player::{Player, ServeFault};
 use bot_machine::{Disk, PacketSize};
 use medium::Medium;
-use std::io;
+use std::error::Error;
 use std::io::{ErrorKind, Read, Write};
-use thiserror::Error;
+use std::{fmt, io};
 
 /// Why lines were not served to their end.
-#[derive(Clone, Copy, Debug, PartialEq, Eq, Error)]
+#[derive(Clone, Copy, Debug, PartialEq, Eq)]
 pub enum LineFault {
     /// The first line that is none of a script, counted from 1. The lines before it were answered.
-    #[error("line {0}: not a script line")]
     Line(u64),
     /// The reader failed. All whole lines that it gave were answered.
-    #[error("the lines were not read")]
     Reader,
     /// The writer failed. Nothing was played behind the event whose answer was not written.
-    #[error("an answer was not written")]
     Writer,
+}
+
+impl Error for LineFault {}
+
+impl fmt::Display for LineFault {
+    fn fmt<W: fmt::Write>(&self, f: &mut fmt::Formatter<W>) -> fmt::Result {
+        let words = match *self {
+            LineFault::Line(number) => return write!(f, "line {number}: not a script line"),
+            LineFault::Reader => "the lines were not read",
+            LineFault::Writer => "an answer was not written",
+        };
+        write!(f, "{words}")
+    }
 }
 
 /// Where lines come from. Who asks it for more shows it what was answered by then.
@@ -133,9 +143,33 @@ pub fn serve_player<P: Player, S: LineSource<W>, W: Write>(
     let mut line = LineBuffer::new();
     let mut chunk = [0; 4096];
     'reads: for _ in 0..u64::MAX {
-        match source.read_behind(out, &mut chunk) {
-            Ok(0) => return answer_line(player, size, &line, out),
-            Ok(count) => serve_bytes(player, size, &chunk[..count], &mut line, out)?,
+        let count = read_more(source, out, &mut chunk)?;
+        if count == 0 {
+            return answer_line(player, size, &line, out);
+        }
+        serve_bytes(player, size, &chunk[..count], &mut line, out)?;
+    }
+    Err(ServeFault::Reader)
+}
+
+// Reads some bytes, or none at the end. An interrupted read is tried again.
+fn read_more<S: LineSource<W>, W: Write>(
+    source: &mut S,
+    answered: &W,
+    chunk: &mut [u8],
+) -> Result<usize, ServeFault>
+    requires { (later : S.row.Denot) → Consumes (S.left source.old) (S.left later) []
+        → S.may_ask later (W.contents answered.now) }
+    ensures bound { ReadsAtMost result chunk.new }
+    ensures bytes { MatchResult result
+        (λ count. Consumes (S.left source.old) (S.left source.new) (take count chunk.new)
+        × (count ≡ 0 → 0 < length chunk.new → IsAtEnd (S.left source.new)))
+        (λ fault. (fault ≡ ServeFault.Reader)
+        × Consumes (S.left source.old) (S.left source.new) []) }
+{
+    'reads: for _ in 0..u64::MAX {
+        match source.read_behind(answered, chunk) {
+            Ok(count) => return Ok(count),
             Err(error) if error.kind() == ErrorKind::Interrupted => {}
             Err(_) => return Err(ServeFault::Reader),
         }

@@ -1,7 +1,6 @@
 use Rattle.std.proofs.Common.{◌≡◌, ◌∷◌, [], ◌++◌, ◌∙◌, ap, sym, subst, append_assoc, append-nil, List, Option, ℕ}
 use Rattle.std.specs.Prelude.{flat_map}
 use Rattle.std.proofs.lemmas.List.Concat.{flat_map-cons}
-use Rattle.std.proofs.lemmas.Result.{err_from_is_err_and}
 use Rattle.bot_machine.specs.Device.{Device}
 use Rattle.bot_machine.specs.Fitting.{IsWithin, AreWithin}
 use Rattle.bot_machine.specs.LivesValue.{LivesValue}
@@ -11,10 +10,8 @@ use Rattle.runner.specs.Events.{events_of}
 use Rattle.runner.specs.Lifetimes.{comes}
 use Rattle.runner.specs.PlayedLives.{BreaksOff, TellsLives}
 use Rattle.runner.specs.declared.fault.ScriptFault.{ScriptFault}
-use Rattle.runner.specs.declared.fault.ScriptFault.TheVariants.{Start, Writer}
-use Rattle.runner.proofs.LifeActions.{acted-event, tells-none, tells-more, tells-event, breaks-more, breaks-before, breaks-start}
-use Rattle.runner.proofs.LifeActions.{breaks-writer}
-use Rattle.runner.proofs.Options.{on_ok, on_err}
+use Rattle.runner.proofs.LifeActions.{tells-none, tells-more, breaks-more, breaks-before}
+use Rattle.runner.proofs.Taken.{if-err}
 use Rattle.runner.proofs.Within.{first_within, rest_within}
 use Rattle.runner.proofs.lifetimes.play_events.Goals as goal
 
@@ -44,8 +41,8 @@ loop-event-init g c = record {
       (sym c.into_iter-event-iterator.ensures.into_iter_gives) c.requires;
 }
 
-pub event-requires : goal.event-requires
-event-requires g c =
+pub play_event-requires : goal.play_event-requires
+play_event-requires g c =
     let stays = ap (λ (d : Device). d.packet_size) c.loop-event.invariant.so_far.2.acted.goes_on.device_stays in
     subst (λ (most : ℕ). IsWithin most c.in-Some.event) (sym stays)
     (first_within c.args.lives.now.device.packet_size c.in-Some.event (events_of c.next.new.self)
@@ -56,59 +53,36 @@ loop-event-preserved g c =
     let contents = g.W.Write.contents in
     let so = c.loop-event.invariant.so_far in
     let event = c.in-Some.event in
-    let answer = c.in_ok-answer.answer in
     let left = events_of c.next.new.self in
-    let written = on_ok c.write_out.result c.if-is_err.ensures.value c.write_out.ensures.ok in
-    let acted = acted-event c.loop-event.lives c.event.new.self event answer c.in_ok-answer.ensures.ok c.in_ok-answer.ensures.off
-    c.event.ensures.follows in
     record {
       so_far = (
         so.0 ++ comes event,
         parted (flat_map comes (events_of c.args.asked)) so.0 (events_of c.loop-event.event-iterator) left event so.1
             c.in-Some.ensures.steps
             ∙ sym (append_assoc so.0 (comes event) (flat_map comes left)),
-        tells-more (contents c.args.out.now) (contents c.loop-event.out) (contents c.write_out.new.out) c.args.lives.now c.loop-event.lives
-            c.event.new.self so.0 so.2 (comes event)
-            (tells-event (contents c.loop-event.out) (contents c.write_out.new.out) c.loop-event.lives c.event.new.self event answer acted
-            (rw (c.as_slice.ensures.value ∙ c.event_line.ensures) at written)),
+        tells-more (contents c.args.out.now) (contents c.loop-event.out) (contents c.play_event.new.out) c.args.lives.now
+            c.loop-event.lives c.play_event.new.lives so.0 so.2 (comes event) c.in_ok-play_event.ensures.played,
       );
       within = rest_within c.args.lives.now.device.packet_size event left (events_of c.loop-event.event-iterator) c.in-Some.ensures.steps
           c.loop-event.invariant.within;
     }
 
-pub returns-in_err-answer-clause-broken : goal.returns-in_err-answer-clause-broken
-returns-in_err-answer-clause-broken g c =
+pub returns-in_err-play_event-clause-broken : goal.returns-in_err-play_event-clause-broken
+returns-in_err-play_event-clause-broken g c =
     let contents = g.W.Write.contents in
     let so = c.loop-event.invariant.so_far in
     let event = c.in-Some.event in
     let left = events_of c.next.new.self in
-    let p = err_from_is_err_and c.from_residual.result c.from_residual.ensures.1 in
-    rw (p.1, p.2)
-    (broken (contents c.args.out.now) (contents c.loop-event.out) (contents c.loop-event.out) c.args.lives.now c.loop-event.lives
-    c.event.new.self (flat_map comes (events_of c.args.asked)) so.0 left event (Start c.in_err-answer.field-0.0)
-    (parted (flat_map comes (events_of c.args.asked)) so.0 (events_of c.loop-event.event-iterator) left event so.1
-    c.in-Some.ensures.steps)
-    so.2
-    (breaks-start (contents c.loop-event.out) c.loop-event.lives c.event.new.self event c.in_err-answer.field-0.0
-    c.in_err-answer.ensures.err))
-
-pub returns-then-is_err-clause-broken : goal.returns-then-is_err-clause-broken
-returns-then-is_err-clause-broken g c =
-    let contents = g.W.Write.contents in
-    let so = c.loop-event.invariant.so_far in
-    let event = c.in-Some.event in
-    let answer = c.in_ok-answer.answer in
-    let left = events_of c.next.new.self in
-    let written = on_err c.write_out.result c.if-is_err.ensures.value c.write_out.ensures.err in
-    let acted = acted-event c.loop-event.lives c.event.new.self event answer c.in_ok-answer.ensures.ok c.in_ok-answer.ensures.off
-    c.event.ensures.follows in
-    broken (contents c.args.out.now) (contents c.loop-event.out) (contents c.write_out.new.out) c.args.lives.now c.loop-event.lives
-    c.event.new.self (flat_map comes (events_of c.args.asked)) so.0 left event Writer
-    (parted (flat_map comes (events_of c.args.asked)) so.0 (events_of c.loop-event.event-iterator) left event so.1
-    c.in-Some.ensures.steps)
-    so.2
-    (breaks-writer (contents c.loop-event.out) (contents c.write_out.new.out) c.loop-event.lives c.event.new.self event answer acted
-    (rw (c.as_slice.ensures.value ∙ c.event_line.ensures) at written))
+    let all = flat_map comes (events_of c.args.asked) in
+    let fault = c.in_err-play_event.field-0.0 in
+    if-err c.from_residual.result (λ told. told ≡ fault)
+    (BreaksOff (contents c.args.out.now) (contents c.play_event.new.out) c.args.lives.now all c.play_event.new.lives)
+    c.from_residual.ensures.1
+    (λ told is. rw is
+    (broken (contents c.args.out.now) (contents c.loop-event.out) (contents c.play_event.new.out) c.args.lives.now c.loop-event.lives
+    c.play_event.new.lives all so.0 left event fault
+    (parted all so.0 (events_of c.loop-event.event-iterator) left event so.1 c.in-Some.ensures.steps) so.2
+    c.in_err-play_event.ensures.broken))
 
 pub returns-clause-played : goal.returns-clause-played
 returns-clause-played g c =

@@ -1,10 +1,11 @@
-use Rattle.std.proofs.Common.{◌∷◌, [], ◌++◌, ◌∙◌, ℕ, ap, sym, subst, append_assoc}
+use Rattle.std.proofs.Common.{◌≡◌, ◌∷◌, [], ◌++◌, ◌∙◌, ℕ, ap, sym, subst, append_assoc}
 use Rattle.std.proofs.KnownBytes.{Appends-nil, Appends-trans}
 use Rattle.bot_machine.specs.Fitting.{IsWithin}
 use Rattle.runner.specs.Events.{events_of}
+use Rattle.runner.specs.Served.{IsPlayedInPart, IsUnanswered}
 use Rattle.runner.specs.Text.{line_for}
-use Rattle.runner.proofs.Options.{on_err, on_ok}
-use Rattle.runner.proofs.ToldEvents.{tells-none, tells-one, tells-more, breaks-here, most_stays}
+use Rattle.runner.proofs.Taken.{if-err}
+use Rattle.runner.proofs.ToldEvents.{tells-none, tells-one, tells-more, stops-in_part, most_stays}
 use Rattle.runner.proofs.Within.{next_within}
 use Rattle.runner.proofs.play.play_asked.Goals as goal
 
@@ -19,8 +20,8 @@ loop-event-init g c = record {
   );
 }
 
-pub play-requires : goal.play-requires
-play-requires g c =
+pub play_event-requires : goal.play_event-requires
+play_event-requires g c =
     let so = c.loop-event.invariant.so_far in
     let stays = most_stays g.P.Player.goes g.P.Player.most g.met.P.Player.laws c.args.player.now c.loop-event.player so.0 so.1 so.3 in
     subst (λ (most : ℕ). IsWithin most c.in-Some.event) (sym stays)
@@ -35,32 +36,37 @@ loop-event-preserved g c =
     let contents = g.W.Write.contents in
     let so = c.loop-event.invariant.so_far in
     let event = c.in-Some.event in
-    let answer = c.in-Some-play.answer in
-    let good = on_ok c.write_out.result c.if-is_err.ensures.value c.write_out.ensures.ok in
+    let here = c.in_ok-play_event.ensures.played in
+    let answer = here.0 in
     record {
       so_far = (
         so.0 ++ event ∷ [],
         so.1 ++ line_for event answer,
         so.2 ∙ ap (λ l. so.0 ++ l) c.in-Some.ensures.steps ∙ sym (append_assoc so.0 (event ∷ []) (events_of c.next.new.self)),
-        tells-more goes most laws c.args.player.now c.loop-event.player c.play.new.self so.0 (event ∷ []) so.1 (line_for event answer)
-            so.3 (tells-one goes most laws c.loop-event.player c.play.new.self event answer c.in-Some-play.ensures.played),
-        Appends-trans (contents c.args.out.now) (contents c.loop-event.out) (contents c.write_out.new.out) so.1 (line_for event answer) so.4
-            (rw (c.as_slice.ensures.value ∙ c.event_line.ensures) at good),
+        tells-more goes most laws c.args.player.now c.loop-event.player c.play_event.new.player so.0 (event ∷ []) so.1
+            (line_for event answer) so.3 (tells-one goes most laws c.loop-event.player c.play_event.new.player event answer here.1),
+        Appends-trans (contents c.args.out.now) (contents c.loop-event.out) (contents c.play_event.new.out) so.1 (line_for event answer)
+            so.4 here.2,
       );
     }
 
-pub returns-then-is_err-clause-cut_short : goal.returns-then-is_err-clause-cut_short
-returns-then-is_err-clause-cut_short g c =
+pub returns-in_err-play_event-clause-cut_short : goal.returns-in_err-play_event-clause-cut_short
+returns-in_err-play_event-clause-cut_short g c =
+    let goes = g.P.Player.goes in
+    let stops = g.P.Player.stops in
+    let most = g.P.Player.most in
+    let count = most c.args.player.now in
     let contents = g.W.Write.contents in
     let so = c.loop-event.invariant.so_far in
     let event = c.in-Some.event in
-    let answer = c.in-Some-play.answer in
-    let some = on_err c.write_out.result c.if-is_err.ensures.value c.write_out.ensures.err in (
-      so.0,
-      event,
-      events_of c.next.new.self,
-      so.2 ∙ ap (λ l. so.0 ++ l) c.in-Some.ensures.steps,
-      breaks-here g.P.Player.goes g.P.Player.most g.met.P.Player.laws (contents c.args.out.now) (contents c.loop-event.out)
-          (contents c.write_out.new.out) c.args.player.now c.loop-event.player c.play.new.self so.0 so.1 event answer so.3 so.4
-          c.in-Some-play.ensures.played (rw (c.as_slice.ensures.value ∙ c.event_line.ensures) at some),
-    )
+    let fault = c.in_err-play_event.field-0.0 in
+    let stays = most_stays goes most g.met.P.Player.laws c.args.player.now c.loop-event.player so.0 so.1 so.3 in
+    if-err c.from_residual.result (λ told. told ≡ fault)
+    (IsPlayedInPart goes stops count (contents c.args.out.now) (contents c.play_event.new.out) c.args.player.now c.play_event.new.player
+    (events_of c.args.asked)) c.from_residual.ensures.1
+    (λ told is. rw is
+    (stops-in_part goes most g.met.P.Player.laws stops count (contents c.args.out.now) (contents c.loop-event.out)
+    (contents c.play_event.new.out) c.args.player.now c.loop-event.player c.play_event.new.player (events_of c.args.asked) so.0
+    (events_of c.next.new.self) so.1 event (so.2 ∙ ap (λ l. so.0 ++ l) c.in-Some.ensures.steps) so.3 so.4 fault
+    (subst (λ (m : ℕ). IsUnanswered goes stops m (contents c.loop-event.out) (contents c.play_event.new.out) c.loop-event.player
+    c.play_event.new.player event fault) stays c.in_err-play_event.ensures.cut_short)))

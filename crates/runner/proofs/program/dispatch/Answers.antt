@@ -23,8 +23,7 @@ returns-in-Run-clause-done g c =
     if_ok c.run.result (λ back done. inr (inr (inl (c.in-Run.size, (c.in-Run.image.now, c.in-Run.script.now, spelled), done))))
     c.run.ensures.done
 
-pub returns-in-Sim-clause-done : goal.returns-in-Sim-clause-done
-returns-in-Sim-clause-done g c =
+pub returns-in-Ok-clause-done : goal.returns-in-Ok-clause-done
+returns-in-Ok-clause-done g c =
     let spelled = rw c.in-Sim.is at c.in_ok-image.ensures.spelled in
-    if_ok c.sim.result (λ back done. inr (inr (inr (c.in-Sim.size, (c.in-Sim.image.now, c.in-Sim.script.now, spelled), done))))
-    c.sim.ensures.done
+    inr (inr (inr (c.in-Sim.size, (c.in-Sim.image.now, c.in-Sim.script.now, spelled), c.in-Ok.ensures.done)))

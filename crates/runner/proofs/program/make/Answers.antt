@@ -1,9 +1,10 @@
-use Rattle.std.proofs.Common.{◌≡◌, ◌⊎◌, ◌↔◌, ℕ, List, Option, None, Result, Err, refl, ap, inl, inr, subst, sym}
+use Rattle.std.proofs.Common.{◌≡◌, ◌⊎◌, ◌↔◌, ℕ, List, Option, None, Result, Err, refl, ap, inl, inr}
 use Rattle.std.proofs.KnownBytes.{Keeps-refl}
 use Rattle.runner.specs.declared.refusal.Refusal.{Refusal}
 use Rattle.runner.specs.declared.refusal.Refusal.TheVariants.{ImageSize, File, NoMemory}
 use Rattle.journal.specs.declared.log_format.LogFormat.{LogFormat}
 use Rattle.runner.specs.Program.{AreImageSizes, IsFormatRefused}
+use Rattle.runner.proofs.Options.{if_ok, if_err}
 use Rattle.runner.proofs.Taken.{if-err}
 use Rattle.runner.proofs.program.make.Goals as goal
 
@@ -25,3 +26,31 @@ returns-in_err-medium-clause-refused g c =
     (λ stopped. IsFormatRefused out out stopped.medium c.args.format c.args.blocks c.args.slots stopped.refusal)
     c.from_residual.ensures.1
     (λ stopped same. rw same (not_made out c.args.format c.args.blocks c.args.slots c.in_err-medium.field-0.0 made.size made.refused))
+
+pub returns-clause-done : goal.returns-clause-done
+returns-clause-done g c =
+    if_ok c.tell_of.result
+    (λ back told. record {
+      made = c.in_ok-medium.medium;
+      given = told.0;
+      is_made = c.in_ok-medium.ensures.made;
+      written = told.1;
+    })
+    c.tell_of.ensures.done
+
+pub returns-clause-refused : goal.returns-clause-refused
+returns-clause-refused g c =
+    if_err c.tell_of.result
+    (λ stopped told. inr (
+      (λ never. never c.in_ok-medium.ensures.made.sizes),
+      inr (
+        told.1,
+        inr (record {
+          made = c.in_ok-medium.medium;
+          given = told.0;
+          is_made = c.in_ok-medium.ensures.made;
+          written = told.2;
+        }),
+      ),
+    ))
+    c.tell_of.ensures.refused

@@ -10,7 +10,7 @@ use Rattle.runner.specs.Lines.{lines_of}
 use Rattle.runner.specs.Script.{LinePlays}
 use Rattle.runner.specs.Played.{Tells}
 use Rattle.runner.proofs.InTurn.{IsGivenTo}
-use Rattle.runner.proofs.play.play.Given as goal
+use Rattle.runner.proofs.play.play_lines.Given as goal
 
 abbrev pub invariant-loop-line : goal.invariant-loop-line
 invariant-loop-line g l =

@@ -1,9 +1,9 @@
 use Rattle.std.proofs.Common.{ℕ, List, ◌++◌, take, arith, length-append}
 use Rattle.std.proofs.KnownBytes.{Consumes-trans}
-use Rattle.runner.proofs.read.read_to_limit.Goals as goal
+use Rattle.runner.proofs.read.read_into.Goals as goal
 
-pub returns-then-count-limit-clause-taken : goal.returns-then-count-limit-clause-taken
-returns-then-count-limit-clause-taken g c =
+pub returns-then-count-limit-clause-stopped : goal.returns-then-count-limit-clause-stopped
+returns-then-count-limit-clause-stopped g c =
     let remaining = g.R.Read.remaining in
     let more : List ℕ = take c.in-Ok.count c.read.new.buf in
     let sized = c.in-Ok.ensures.bound.1 in
@@ -15,8 +15,8 @@ returns-then-count-limit-clause-taken g c =
       omega (arith, length-append c.reads.bytes.items more, sized, over, counted),
     )
 
-pub returns-in_default-clause-taken : goal.returns-in_default-clause-taken
-returns-in_default-clause-taken g c =
+pub returns-in_default-clause-stopped : goal.returns-in_default-clause-stopped
+returns-in_default-clause-stopped g c =
     let remaining = g.R.Read.remaining in
     let more : List ℕ = take c.in-Ok.count c.read.new.buf in
     let sized = c.in-Ok.ensures.bound.1 in

@@ -1,0 +1,31 @@
+use Rattle.std.proofs.Common.{◌∙◌}
+use Rattle.std.proofs.lemmas.Result.{err_from_is_err_and}
+use Rattle.runner.proofs.LifeActions.{acted-event, tells-event, breaks-start, breaks-writer}
+use Rattle.runner.proofs.lifetimes.play_event.Goals as goal
+
+pub returns-in-Ok-clause-played : goal.returns-in-Ok-clause-played
+returns-in-Ok-clause-played g c =
+    let contents = g.W.Write.contents in
+    let lives = c.event.new.self in
+    let answer = c.in_ok-answer.answer in
+    tells-event (contents c.args.out.now) (contents c.write_out.new.out) c.args.lives.now lives c.args.event.now answer
+    (acted-event c.args.lives.now lives c.args.event.now answer c.in_ok-answer.ensures.ok c.in_ok-answer.ensures.off
+    c.event.ensures.follows)
+    (rw (c.as_slice.ensures.value ∙ c.event_line.ensures) at c.in-Ok.ensures.ok)
+
+pub returns-in-Err-clause-broken : goal.returns-in-Err-clause-broken
+returns-in-Err-clause-broken g c =
+    let contents = g.W.Write.contents in
+    let lives = c.event.new.self in
+    let answer = c.in_ok-answer.answer in
+    breaks-writer (contents c.args.out.now) (contents c.write_out.new.out) c.args.lives.now lives c.args.event.now answer
+    (acted-event c.args.lives.now lives c.args.event.now answer c.in_ok-answer.ensures.ok c.in_ok-answer.ensures.off
+    c.event.ensures.follows)
+    (rw (c.as_slice.ensures.value ∙ c.event_line.ensures) at c.in-Err.ensures.err)
+
+pub returns-in_err-answer-clause-broken : goal.returns-in_err-answer-clause-broken
+returns-in_err-answer-clause-broken g c =
+    let p = err_from_is_err_and c.from_residual.result c.from_residual.ensures.1 in
+    rw (p.1, p.2)
+    (breaks-start (g.W.Write.contents c.args.out.now) c.args.lives.now c.event.new.self c.args.event.now c.in_err-answer.field-0.0
+    c.in_err-answer.ensures.err)

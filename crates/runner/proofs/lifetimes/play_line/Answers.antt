@@ -1,0 +1,83 @@
+use Rattle.std.proofs.Common.{◌∷◌, [], ℕ, sym, subst, refl}
+use Rattle.std.specs.Prelude.{flat_map}
+use Rattle.spec.specs.Lives.{arms, fails, cuts}
+use Rattle.bot_machine.specs.Fitting.{AreWithin}
+use Rattle.spec.specs.Packets.{bytes_of}
+use Rattle.runner.specs.declared.line.ScriptLine.TheVariants.{Fuse, Fail, Cut}
+use Rattle.runner.specs.Events.{events_of}
+use Rattle.runner.specs.Lifetimes.{comes, is_kept}
+use Rattle.runner.proofs.LifeActions.{acted-fuse, acted-fail, tells-silently}
+use Rattle.runner.proofs.ActingLines.{line_acts, event_line_acts}
+use Rattle.runner.proofs.Options.{is_some_where}
+use Rattle.runner.proofs.Within.{events_within}
+use Rattle.runner.proofs.lifetimes.play_line.Goals as goal
+
+pub unwrap-requires : goal.unwrap-requires
+unwrap-requires g c =
+    let good = c.requires.good in
+    is_some_where c.read_line.result c.read_line.ensures.refused (λ refused. refused good.0 good.1 good.2)
+
+pub play_events-requires : goal.play_events-requires
+play_events-requires g c =
+    let spelled = rw c.unwrap.ensures at c.read_line.ensures.spelled in
+    subst (λ (most : ℕ). AreWithin most (events_of c.unwrap.result)) (sym c.requires.packets)
+    (events_within (bytes_of c.args.size) c.args.line.now c.unwrap.result spelled.0)
+
+pub fail-requires : goal.fail-requires
+fail-requires g c =
+    let spelled = rw c.in-Fail.ensures at c.read_line.ensures.spelled in
+    spelled.0.counted.not_less
+
+pub returns-in-Cut-clause-played : goal.returns-in-Cut-clause-played
+returns-in-Cut-clause-played g c =
+    let kept = c.in-Cut.kept in
+    let spelled = rw c.in-Cut.ensures at c.read_line.ensures.spelled in (
+      rw (sym c.cut.ensures.room) at c.requires.room,
+      cuts (is_kept kept) ∷ [],
+      line_acts (bytes_of c.args.size) c.args.line.now (Cut kept) spelled.0,
+      tells-silently (g.W.Write.contents c.args.out.now) c.args.lives.now c.cut.new.lives (cuts (is_kept kept) ∷ []) c.cut.ensures.acted
+          refl,
+    )
+
+pub returns-in-Fuse-clause-played : goal.returns-in-Fuse-clause-played
+returns-in-Fuse-clause-played g c =
+    let writes = c.in-Fuse.writes in
+    let spelled = rw c.in-Fuse.ensures at c.read_line.ensures.spelled in (
+      c.requires.room,
+      arms writes ∷ [],
+      line_acts (bytes_of c.args.size) c.args.line.now (Fuse writes) spelled.0,
+      tells-silently (g.W.Write.contents c.args.out.now) c.args.lives.now c.fuse.new.self (arms writes ∷ [])
+          (acted-fuse c.args.lives.now c.fuse.new.self writes c.fuse.ensures.goes_on) refl,
+    )
+
+pub returns-in-Fail-clause-played : goal.returns-in-Fail-clause-played
+returns-in-Fail-clause-played g c =
+    let call = c.in-Fail.call in
+    let spelled = rw c.in-Fail.ensures at c.read_line.ensures.spelled in (
+      c.requires.room,
+      fails call ∷ [],
+      line_acts (bytes_of c.args.size) c.args.line.now (Fail call) spelled.0,
+      tells-silently (g.W.Write.contents c.args.out.now) c.args.lives.now c.fail.new.self (fails call ∷ [])
+          (acted-fail c.args.lives.now c.fail.new.self call c.fail.ensures.goes_on c.fail.ensures.failing) refl,
+    )
+
+pub returns-in-Ok-clause-played : goal.returns-in-Ok-clause-played
+returns-in-Ok-clause-played g c =
+    let asked = c.unwrap.result in
+    let spelled = rw c.unwrap.ensures at c.read_line.ensures.spelled in (
+      c.requires.room,
+      flat_map comes (events_of asked),
+      event_line_acts (bytes_of c.args.size) c.args.line.now asked c.in_default.not-Fuse c.in_default.not-Fail c.in_default.not-Cut
+          spelled.0,
+      c.in-Ok.ensures.played,
+    )
+
+pub returns-in-Err-clause-broken : goal.returns-in-Err-clause-broken
+returns-in-Err-clause-broken g c =
+    let asked = c.unwrap.result in
+    let spelled = rw c.unwrap.ensures at c.read_line.ensures.spelled in (
+      flat_map comes (events_of asked),
+      event_line_acts (bytes_of c.args.size) c.args.line.now asked c.in_default.not-Fuse c.in_default.not-Fail c.in_default.not-Cut
+          spelled.0,
+      c.in-Err.ensures.broken,
+    )
