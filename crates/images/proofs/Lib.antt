@@ -5,3 +5,4 @@ pub mod InOrder
 pub mod Lines
 pub mod Options
 pub mod Exports
+pub mod Imports
