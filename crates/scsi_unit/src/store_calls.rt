@@ -18,10 +18,12 @@ pub(crate) fn make_durable<M: Medium>(store: &mut Store<M>, wanted: bool) -> Res
         (M.state store.new.medium) store.old.cached store.new.cached result }
     ensures passes { PassesDurable M.follows wanted store.old store.new result }
 {
-    if wanted {
-        store.sync().map_err(|_| Sense::WRITE_ERROR)
-    } else {
-        Ok(())
+    if !wanted {
+        return Ok(());
+    }
+    match store.sync() {
+        Ok(()) => Ok(()),
+        Err(_) => Err(Sense::WRITE_ERROR),
     }
 }
 

@@ -1,5 +1,5 @@
 //! The commands that use the store.
-ghost use Rattle.std.specs.Prelude.{◌≡◌, ℕ, false, List, None, Ok};
+ghost use Rattle.std.specs.Prelude.{◌≡◌, ◌&&◌, ◌||◌, ℕ, false, not, List, None, Ok};
 ghost use Rattle.blocks.specs.StoreValue.{is_dead};
 ghost use Rattle.spec.specs.declared.command.BlockRange.{BlockRange};
 ghost use Rattle.spec.specs.declared.command.Command.TheVariants as command;
@@ -61,7 +61,7 @@ impl<M: Medium> Unit<M> {
             return Ok(());
         }
         write_blocks(&mut self.store, transfer, taken)?;
-        let through = transfer.fua || !self.write_cache;
+        let through = goes_through(transfer.fua, self.write_cache);
         make_durable(&mut self.store, through)
     }
 
@@ -97,9 +97,23 @@ impl<M: Medium> Unit<M> {
         ensures follows { M.follows self.old.store.medium self.new.store.medium }
     {
         let enabled = mode_select(&taken[..usize::from(list_len)], self.write_cache)?;
-        let clears = self.write_cache && !enabled;
+        let clears = is_disabled(self.write_cache, enabled);
         make_durable(&mut self.store, clears)?;
         self.write_cache = enabled;
         Ok(())
     }
+}
+
+// Whether a WRITE is to be durable before it is good.
+fn goes_through(fua: bool, write_cache: bool) -> bool
+    ensures { result ≡ (fua || not write_cache) }
+{
+    fua || !write_cache
+}
+
+// Whether a write cache is to be disabled that was enabled.
+fn is_disabled(was: bool, enabled: bool) -> bool
+    ensures { result ≡ (was && not enabled) }
+{
+    was && !enabled
 }

@@ -24,9 +24,9 @@ not_wanted ahead m s turn live = record {
   looks = none m m s refl;
 }
 
-pub returns-else-wanted-clause-makes : goal.returns-else-wanted-clause-makes
-returns-else-wanted-clause-makes g c =
+pub returns-then-not-wanted-clause-makes : goal.returns-then-not-wanted-clause-makes
+returns-then-not-wanted-clause-makes g c =
     let store = c.args.store.now in
     let m = g.M.Medium.state store.medium in
-    subst (λ (wanted : Bool). MakesDurable store.goes_ahead wanted m m store.cached store.cached (Ok tt)) (sym c.if-wanted.false)
+    subst (λ (wanted : Bool). MakesDurable store.goes_ahead wanted m m store.cached store.cached (Ok tt)) (sym c.if-not-wanted.true)
     (not_wanted store.goes_ahead m store.cached (stays m store.cached (g.met.M.Medium.sound store.medium)) c.requires.live)

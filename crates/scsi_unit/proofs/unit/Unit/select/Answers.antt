@@ -1,5 +1,5 @@
 use Rattle.std.proofs.Common.{◌≡◌, Bool, ℕ, false, [], None, Ok, Err, refl, subst, sym, ◌∙◌, ap, arith}
-use Rattle.std.specs.Prelude.{◌&&◌, not, if◌then◌else◌, OnOk}
+use Rattle.std.specs.Prelude.{if◌then◌else◌, OnOk}
 use Rattle.std.proofs.lemmas.Result.{err_from_is_err_and}
 use Rattle.spec.specs.declared.command.Command.TheVariants as command
 use Rattle.spec.specs.Book.{Book, promised}
@@ -13,7 +13,6 @@ use Rattle.scsi_unit.proofs.CommandCalls.{select_calls}
 use Rattle.scsi_unit.proofs.PerformedCommands.{durable_error}
 use Rattle.scsi_unit.proofs.WriteLines.{selects_nothing, selects_bit, clears_as}
 use Rattle.scsi_unit.proofs.unit.Unit.select.Goals as goal
-use Rattle.scsi_unit.proofs.unit.Unit.select.Goals.{then-self, else-self}
 
 pub returns-in_err-enabled-clause-performs : goal.returns-in_err-enabled-clause-performs
 returns-in_err-enabled-clause-performs g c =
@@ -40,18 +39,14 @@ returns-in_err-make_durable-clause-performs g c =
     ap (λ (n : ℕ). selected_by n c.args.taken.now i.write_cache) (sym c.from.ensures)
     ∙ sym c.mode_select.ensures.answer
     ∙ c.in_ok-enabled.was in
-    let wanted : c.if-self.clears ≡ (i.write_cache && not c.in_ok-enabled.enabled) = elim c.if-self.branch [
-      | then-self w ↦ rw w.if-self.true w.clears-is
-      | else-self w ↦ rw w.if-self.false (w.clears-is ∙ w.if-self.false)
-    ] in
     let P = λ (u : UnitValue g.row.M.Denot). Performs (state u.store.medium) (state last.medium) (Ok (command.ModeSelect c.args.list_len))
     c.args.taken.now u (silent c.from_residual-in_err-make_durable.result) (record seen { store = last }) in
     subst P c.self.view_is
     (rw (p.1, p.2)
-    (durable_error (state i.store.medium) (state last.medium) seen last c.make_durable.ensures.makes.turn c.if-self.clears
+    (durable_error (state i.store.medium) (state last.medium) seen last c.make_durable.ensures.makes.turn c.is_disabled-clears.result
     c.make_durable.result c.in_err-make_durable.field-0.0 c.in_err-make_durable.was c.make_durable.ensures.passes.unwanted
     c.make_durable.ensures.makes.answer live (command.ModeSelect c.args.list_len) c.args.taken.now refl
-    (clears_as c.args.list_len c.args.taken.now i.write_cache c.in_ok-enabled.enabled chosen ∙ sym wanted)))
+    (clears_as c.args.list_len c.args.taken.now i.write_cache c.in_ok-enabled.enabled chosen ∙ sym c.is_disabled-clears.ensures)))
 
 pub returns-clause-performs : goal.returns-clause-performs
 returns-clause-performs g c =
@@ -65,14 +60,10 @@ returns-clause-performs g c =
     ap (λ (n : ℕ). selected_by n c.args.taken.now i.write_cache) (sym c.from.ensures)
     ∙ sym c.mode_select.ensures.answer
     ∙ c.in_ok-enabled.was in
-    let wanted : c.if-self.clears ≡ (i.write_cache && not enabled) = elim c.if-self.branch [
-      | then-self w ↦ rw w.if-self.true w.clears-is
-      | else-self w ↦ rw w.if-self.false (w.clears-is ∙ w.if-self.false)
-    ] in
     let promises = subst
     (λ (b : Bool). (book : Book) → FitsBook (state i.store.medium) i.store.cached book
     → OnOk c.make_durable.result (FitsBook (state last.medium) last.cached (if b then promised book else book)))
-    wanted c.make_durable.ensures.makes.ok in
+    c.is_disabled-clears.ensures c.make_durable.ensures.makes.ok in
     let P = λ (u : UnitValue g.row.M.Denot). Performs (state u.store.medium) (state last.medium) (Ok (command.ModeSelect c.args.list_len))
     c.args.taken.now u (Ok []) (record seen { store = last; write_cache = enabled }) in
     subst P c.self.view_is
@@ -90,18 +81,14 @@ returns-in_err-make_durable-clause-bounded g c =
     ap (λ (n : ℕ). selected_by n c.args.taken.now i.write_cache) (sym c.from.ensures)
     ∙ sym c.mode_select.ensures.answer
     ∙ c.in_ok-enabled.was in
-    let wanted : c.if-self.clears ≡ (i.write_cache && not c.in_ok-enabled.enabled) = elim c.if-self.branch [
-      | then-self w ↦ rw w.if-self.true w.clears-is
-      | else-self w ↦ rw w.if-self.false (w.clears-is ∙ w.if-self.false)
-    ] in
     let P = λ (u : UnitValue g.row.M.Denot).
     MakesAtMost (calls_of (command.ModeSelect c.args.list_len) c.args.taken.now u.write_cache u.store.cached) None (state u.store.medium)
     (state last.medium) u in
     subst P c.self.view_is
     (record {
       calls = select_calls c.args.list_len c.args.taken.now i.write_cache i.store.cached (state i.store.medium).calls
-          (state last.medium).calls c.if-self.clears
-          (clears_as c.args.list_len c.args.taken.now i.write_cache c.in_ok-enabled.enabled chosen ∙ sym wanted)
+          (state last.medium).calls c.is_disabled-clears.result
+          (clears_as c.args.list_len c.args.taken.now i.write_cache c.in_ok-enabled.enabled chosen ∙ sym c.is_disabled-clears.ensures)
           c.make_durable.ensures.makes.calls;
       sent = omega (arith, c.make_durable.ensures.makes.sent);
       looks = log_looked (state i.store.medium) (state last.medium) seen None c.make_durable.ensures.makes.looks;
@@ -117,18 +104,14 @@ returns-clause-bounded g c =
     ap (λ (n : ℕ). selected_by n c.args.taken.now i.write_cache) (sym c.from.ensures)
     ∙ sym c.mode_select.ensures.answer
     ∙ c.in_ok-enabled.was in
-    let wanted : c.if-self.clears ≡ (i.write_cache && not c.in_ok-enabled.enabled) = elim c.if-self.branch [
-      | then-self w ↦ rw w.if-self.true w.clears-is
-      | else-self w ↦ rw w.if-self.false (w.clears-is ∙ w.if-self.false)
-    ] in
     let P = λ (u : UnitValue g.row.M.Denot).
     MakesAtMost (calls_of (command.ModeSelect c.args.list_len) c.args.taken.now u.write_cache u.store.cached) None (state u.store.medium)
     (state last.medium) u in
     subst P c.self.view_is
     (record {
       calls = select_calls c.args.list_len c.args.taken.now i.write_cache i.store.cached (state i.store.medium).calls
-          (state last.medium).calls c.if-self.clears
-          (clears_as c.args.list_len c.args.taken.now i.write_cache c.in_ok-enabled.enabled chosen ∙ sym wanted)
+          (state last.medium).calls c.is_disabled-clears.result
+          (clears_as c.args.list_len c.args.taken.now i.write_cache c.in_ok-enabled.enabled chosen ∙ sym c.is_disabled-clears.ensures)
           c.make_durable.ensures.makes.calls;
       sent = omega (arith, c.make_durable.ensures.makes.sent);
       looks = log_looked (state i.store.medium) (state last.medium) seen None c.make_durable.ensures.makes.looks;

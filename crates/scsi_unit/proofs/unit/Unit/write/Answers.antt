@@ -18,7 +18,6 @@ use Rattle.scsi_unit.proofs.SparedCalls.{write_costs}
 use Rattle.scsi_unit.specs.Costs.{CostsFinishing, CostsAfter}
 use Rattle.scsi_unit.specs.Serving.{IsFinished, LogAfter}
 use Rattle.scsi_unit.proofs.unit.Unit.write.Goals as goal
-use Rattle.scsi_unit.proofs.unit.Unit.write.Goals.{then-transfer, else-transfer}
 
 pub returns-then-transfer-eq0-clause-performs : goal.returns-then-transfer-eq0-clause-performs
 returns-then-transfer-eq0-clause-performs g c =
@@ -50,14 +49,10 @@ returns-clause-performs g c =
     let half = c.write_blocks.new.store in
     let last = c.make_durable.new.store in
     let live = subst (λ (u : UnitValue g.row.M.Denot). is_dead u.store.cached ≡ false) (sym c.self.view_is) c.requires.live in
-    let wanted : c.if-transfer.through ≡ (c.args.transfer.fua || not i.write_cache) = elim c.if-transfer.branch [
-      | then-transfer w ↦ rw w.if-transfer.true (w.through-is ∙ w.if-transfer.true)
-      | else-transfer w ↦ rw w.if-transfer.false w.through-is
-    ] in
     let promises = subst
     (λ (b : Bool). (book : Book) → FitsBook (state half.medium) half.cached book
     → OnOk c.make_durable.result (FitsBook (state last.medium) last.cached (if b then promised book else book)))
-    wanted c.make_durable.ensures.makes.ok in
+    c.goes_through-through.ensures c.make_durable.ensures.makes.ok in
     let P = λ (u : UnitValue g.row.M.Denot). Performs (state u.store.medium) (state last.medium) (Ok (command.Write10 c.args.transfer))
     c.args.taken.now u (silent c.make_durable.result) (record seen { store = last }) in
     subst P c.self.view_is
@@ -89,13 +84,9 @@ returns-clause-bounded g c =
     let seen : UnitValue g.row.M.Denot = record { store = i.store; identity = i.identity; kept = i.kept; write_cache = i.write_cache } in
     let half = c.write_blocks.new.store in
     let last = c.make_durable.new.store in
-    let wanted : c.if-transfer.through ≡ (c.args.transfer.fua || not i.write_cache) = elim c.if-transfer.branch [
-      | then-transfer w ↦ rw w.if-transfer.true (w.through-is ∙ w.if-transfer.true)
-      | else-transfer w ↦ rw w.if-transfer.false w.through-is
-    ] in
     let paid = OnOk-at c.write_blocks.result c.in_ok-write_blocks.field-0 c.in_ok-write_blocks.was c.write_blocks.ensures.writes.paid in
     let more = subst (λ (b : Bool). (state last.medium).calls ≤ (state half.medium).calls + (if b then calls_of_sync half.cached else 0))
-    wanted c.make_durable.ensures.makes.calls in
+    c.goes_through-through.ensures c.make_durable.ensures.makes.calls in
     let P = λ (u : UnitValue g.row.M.Denot).
     MakesAtMost (calls_of_write c.args.transfer u.write_cache u.store.cached) None (state u.store.medium) (state last.medium) u in
     subst P c.self.view_is
@@ -121,12 +112,8 @@ returns-clause-spares g c = record {
       let last = c.make_durable.new.store in
       let done = c.make_durable.result in
       let durable = c.args.transfer.fua || not i.write_cache in
-      let wanted : c.if-transfer.through ≡ durable = elim c.if-transfer.branch [
-        | then-transfer w ↦ rw w.if-transfer.true (w.through-is ∙ w.if-transfer.true)
-        | else-transfer w ↦ rw w.if-transfer.false w.through-is
-      ] in
       let wrote = c.write_blocks.ensures.writes in
-      let made = subst (λ (b : Bool). OnOk done (IsFinished half.goes_ahead b half.cached last.cached)) wanted
+      let made = subst (λ (b : Bool). OnOk done (IsFinished half.goes_ahead b half.cached last.cached)) c.goes_through-through.ensures
       c.make_durable.ensures.makes.log in
       let finished = subst (λ (b : Bool). OnOk done (IsFinished b durable half.cached last.cached))
       c.write_blocks.ensures.passes.follows.policy made in
@@ -145,13 +132,9 @@ returns-clause-spares g c = record {
       let last = c.make_durable.new.store in
       let done = c.make_durable.result in
       let durable = c.args.transfer.fua || not i.write_cache in
-      let wanted : c.if-transfer.through ≡ durable = elim c.if-transfer.branch [
-        | then-transfer w ↦ rw w.if-transfer.true (w.through-is ∙ w.if-transfer.true)
-        | else-transfer w ↦ rw w.if-transfer.false w.through-is
-      ] in
       let wrote = c.write_blocks.ensures.writes in
       let made = subst (λ (b : Bool). OnOk done (CostsFinishing half.goes_ahead b (state half.medium) (state last.medium) half.cached))
-      wanted c.make_durable.ensures.makes.cost in
+      c.goes_through-through.ensures c.make_durable.ensures.makes.cost in
       let costs = subst (λ (b : Bool). OnOk done (CostsFinishing b durable (state half.medium) (state last.medium) half.cached))
       c.write_blocks.ensures.passes.follows.policy made in
       let P = λ (u : UnitValue g.row.M.Denot). is_ok (silent done) ≡ true
