@@ -3,14 +3,15 @@ use crate::answer::Answer;
 use crate::call::Call;
 use crate::medium_calls;
 use crate::play::Player;
-use mirror::{DeviceCall, MirrorMedium};
+use mirror::DeviceCall;
 use std::alloc::Global;
+use window::{DeviceHolds, WindowMedium};
 
-/// A medium, or none yet.
+/// A medium that has all sectors of its device in memory, or none yet.
 #[derive(Drop)]
 pub(crate) struct Mirrors {
     alloc: Global,
-    mirror: Option<MirrorMedium>,
+    mirror: Option<WindowMedium>,
 }
 
 /// What a call asks for.
@@ -19,24 +20,19 @@ enum Verb {
     Make,
     Waiting,
     Take,
-    Bytes,
-    GiveBack,
     OfMedium,
 }
 
-const VERBS: [(&str, Verb); 5] = [
+const VERBS: [(&str, Verb); 3] = [
     ("mirror", Verb::Make),
     ("waiting", Verb::Waiting),
     ("take", Verb::Take),
-    ("bytes", Verb::Bytes),
-    ("content", Verb::GiveBack),
 ];
 
 impl Player for Mirrors {
     fn play(&mut self, call: &Call, answer: &mut Answer) {
         match call.verb(0, &VERBS, Verb::OfMedium) {
             Verb::Make => self.make(call, answer),
-            Verb::GiveBack => self.give_back(answer),
             verb => self.play_on_medium(verb, call, answer),
         }
     }
@@ -53,20 +49,14 @@ impl Mirrors {
 
     // `mirror SIZE ROOM`: so many bytes of zeros, with room for so many calls.
     fn make(&mut self, call: &Call, answer: &mut Answer) {
-        let Ok(image) = vec![in self.alloc; 0; call.size(1)] else {
+        let Ok(near) = vec![in self.alloc; 0; call.size(1)] else {
             return answer.no_memory();
         };
-        match MirrorMedium::new(self.alloc, image, call.size(2)) {
+        let sectors = call.number(1) / 512;
+        let device = DeviceHolds::any();
+        match WindowMedium::new(self.alloc, near, sectors, &device, 0, call.size(2)) {
             Ok(made) => self.mirror = Some(made),
             Err(error) => answer.tell(error),
-        }
-    }
-
-    // The sectors that come back at the end.
-    fn give_back(&mut self, answer: &mut Answer) {
-        match self.mirror.take() {
-            Some(mirror) => tell_sectors(mirror.into_bytes().as_slice(), answer),
-            None => answer.missing(),
         }
     }
 
@@ -78,25 +68,16 @@ impl Mirrors {
     }
 }
 
-fn play_on(m: &mut MirrorMedium, verb: Verb, call: &Call, answer: &mut Answer) {
+fn play_on(m: &mut WindowMedium, verb: Verb, call: &Call, answer: &mut Answer) {
     match verb {
         Verb::Waiting => answer.tell(m.waiting()),
         Verb::Take => take(m, answer),
-        Verb::Bytes => tell_sectors(m.bytes(), answer),
         _ => medium_calls::play(m, call, answer),
     }
 }
 
-// The number of bytes, and each sector.
-fn tell_sectors(bytes: &[u8], answer: &mut Answer) {
-    answer.tell(bytes.len());
-    for sector in bytes.chunks(512) {
-        answer.tell_run(sector);
-    }
-}
-
 // The next call out of the outbox.
-fn take(m: &mut MirrorMedium, answer: &mut Answer) {
+fn take(m: &mut WindowMedium, answer: &mut Answer) {
     match m.take() {
         Some(DeviceCall::Write(write)) => {
             answer.tell(write.sector);
