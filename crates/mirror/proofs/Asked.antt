@@ -1,5 +1,5 @@
--- One call more of a medium in memory: what it gives to the device, and what the device is then.
-use Rattle.std.proofs.Common.{◌≤◌, ◌≡◌, ◌≢◌, ◌⊎◌, inl, inr, ℕ, ◌+◌, ◌/◌, true, List, [], ◌∷◌, ◌++◌, length, take, Option, Some, None, Ok}
+-- One call more of a medium with an outbox: what it gives to the device, and what the device is then.
+use Rattle.std.proofs.Common.{◌≡◌, ◌≢◌, ◌⊎◌, inl, inr, ℕ, ◌+◌, ◌/◌, true, List, [], ◌∷◌, ◌++◌, length, take, Option, Some, None, Ok}
 use Rattle.std.proofs.Common.{Err, refl, sym, ◌∙◌, ap, subst, arith, length-append, if◌then◌else◌, ◌==◌}
 use Rattle.std.proofs.lemmas.Bool.{cases_lt}
 use Rattle.std.proofs.lemmas.Bool.Decides.{nat_tests}
@@ -10,8 +10,8 @@ use Rattle.medium.specs.Tally.{Tally, of_kind, of_all, one_more}
 use Rattle.medium.specs.declared.fault.MediumFault.{MediumFault}
 use Rattle.medium.specs.declared.fault.MediumFault.TheVariants as fault
 use Rattle.mirror.specs.Device.{Device, durable, carried_out, after}
-use Rattle.mirror.specs.Story.{Told, kind_of, given, gave, is_whole, are_whole}
-use Rattle.mirror.specs.Mirror.{Mirror, device_of, LeftSince, size_of, state_of, reads, gives, refuses, ComesAfter}
+use Rattle.mirror.specs.Story.{Told, kind_of, given, is_whole, are_whole}
+use Rattle.mirror.specs.Mirror.{Mirror, device_of, LeftSince, size_of, state_of, reads, gives, refuses}
 use Rattle.mirror.specs.MirrorLaws.{at_last, given-append}
 use Rattle.mirror.specs.declared.call.DeviceCall.{DeviceCall}
 use Rattle.mirror.specs.declared.call.DeviceCall.TheVariants.{Write}
@@ -156,17 +156,6 @@ module _ (m : Mirror) where
         given_content (Write (record { sector = s; block = block })) t ∙ at_other t s block ((device_of m.story).content t) other;
   }
 
--- the value of a medium whose story went on
-pub told_on : (step : Told → Told) (was now : Mirror) (told : Told) → told ≡ step was.story → was ≡ now
-    → record { story = told; outbox = was.outbox; room = was.room } ≡ record now { story = step now.story }
-told_on step was now told is same =
-    (λ i. record { story = is i; outbox = was.outbox; room = was.room }) ∙ ap (λ (m : Mirror). record m { story = step m.story }) same
-
-pub given_on : (call : DeviceCall) (was now : Mirror) (told : Told) (outbox : List DeviceCall) → told ≡ gave was.story call
-    → outbox ≡ was.outbox ++ call ∷ [] → was ≡ now → record { story = told; outbox = outbox; room = was.room } ≡ gives now call
-given_on call was now told outbox is more same =
-    (λ i. record { story = is i; outbox = more i; room = was.room }) ∙ ap (λ (m : Mirror). gives m call) same
-
 module _ (now new : Mirror) where
   pub passes_read : new ≡ reads now → Passes fault.Read (Ok tt) (state_of now) (state_of new)
   passes_read e = subst (λ (n : Mirror). Passes fault.Read (Ok tt) (state_of now) (state_of n)) (sym e) (read_passes now)
@@ -176,18 +165,6 @@ module _ (now new : Mirror) where
 
   pub sets_read : new ≡ reads now → Within (state_of new).may_leave (state_of now).may_leave
   sets_read e = subst (λ (n : Mirror). Within (state_of n).may_leave (state_of now).may_leave) (sym e) (quiet_sets now)
-
-  pub follows_read : new ≡ reads now → ComesAfter now new
-  follows_read e = subst (λ (n : Mirror). ComesAfter now n) (sym e) (record {
-    since = None ∷ [];
-    asked = refl;
-    outbox = sym (append-nil now.outbox);
-    opening_stays = refl;
-    taken_stays = refl;
-    room_stays = refl;
-    refuses = λ more. absurd (omega (arith, more));
-    failures_stay = omega arith;
-  })
 
   module _ (call : DeviceCall) where
     pub passes_refused : new ≡ refuses now call → Passes (kind_of call) (Err (kind_of call)) (state_of now) (state_of new)
@@ -199,18 +176,6 @@ module _ (now new : Mirror) where
 
     pub sets_refused : new ≡ refuses now call → Within (state_of new).may_leave (state_of now).may_leave
     sets_refused e = subst (λ (n : Mirror). Within (state_of n).may_leave (state_of now).may_leave) (sym e) (quiet_sets now)
-
-    pub follows_refused : new ≡ refuses now call → now.room ≤ length now.outbox → ComesAfter now new
-    follows_refused e full = subst (λ (n : Mirror). ComesAfter now n) (sym e) (record {
-      since = None ∷ [];
-      asked = refl;
-      outbox = sym (append-nil now.outbox);
-      opening_stays = refl;
-      taken_stays = refl;
-      room_stays = refl;
-      refuses = λ more. omega (arith, full);
-      failures_stay = omega (arith, counted_all now (kind_of call) now.story.refused);
-    })
 
     pub passes_given : new ≡ gives now call → are_whole (given now.story.asked) ≡ true → is_whole call ≡ true
         → Passes (kind_of call) (Ok tt) (state_of now) (state_of new)
@@ -226,18 +191,6 @@ module _ (now new : Mirror) where
     sets_given e =
         subst (λ (n : Mirror). Within (state_of n).may_leave (carried_out (device_of now.story) call).may_leave) (sym e)
         (given_sets now call)
-
-    pub follows_given : new ≡ gives now call → ComesAfter now new
-    follows_given e = subst (λ (n : Mirror). ComesAfter now n) (sym e) (record {
-      since = Some call ∷ [];
-      asked = refl;
-      outbox = refl;
-      opening_stays = refl;
-      taken_stays = refl;
-      room_stays = refl;
-      refuses = λ more. absurd (omega (arith, more));
-      failures_stay = omega arith;
-    })
 
   pub holds_given : (s : ℕ) (block : List ℕ) → new ≡ gives now (Write (record { sector = s; block = block }))
       → Holds s block (state_of now).content (state_of new).content

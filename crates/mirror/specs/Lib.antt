@@ -1,6 +1,5 @@
 pub mod Device
 pub mod Mirror
 pub mod MirrorLaws
-pub mod MirrorView
 pub mod Parts
 pub mod Story

@@ -1,12 +1,10 @@
--- A medium in memory with an outbox, and the device that carries out what comes out of it.
-use Rattle.std.specs.Prelude.{◌+◌, ◌≡◌, ℕ, ◌/◌, ◌%◌, ◌<◌, ◌≤◌, Bool, true, List, [], ◌∷◌, ◌++◌}
+-- A medium with an outbox, and the device that carries out what comes out of it.
+use Rattle.std.specs.Prelude.{◌+◌, ◌≡◌, ℕ, ◌/◌, ◌%◌, ◌<◌, ◌≤◌, true, List, [], ◌∷◌, ◌++◌}
 use Rattle.std.specs.Prelude.{length}
 use Rattle.std.specs.Prelude.{take}
-use Rattle.std.specs.Prelude.{Option, Some, None, if◌then◌else◌, nat_lt, Result, is_ok, OnOk, OnErr}
+use Rattle.std.specs.Prelude.{Option, Some, None, if◌then◌else◌}
 use Rattle.medium.specs.Medium.{State, Image, CutLeaves}
-use Rattle.medium.specs.Moments.{IsFlushed}
 use Rattle.medium.specs.Tally.{of_kind, of_all}
-use Rattle.medium.specs.declared.fault.MediumFault.{MediumFault}
 use Rattle.mirror.specs.Device.{Device, durable, after}
 use Rattle.mirror.specs.Story as story
 use Rattle.mirror.specs.Story.{Told, given, are_whole}
@@ -41,7 +39,7 @@ abbrev pub size_of : Told → ℕ
 size_of t = if are_whole (given t.asked) then length t.opening / 512 else 0
 
 -- Its content and sets are those of the device that has carried out all, and its moments those of
--- the device on its way there. It keeps no account of what reads name, since none is refused.
+-- the device on its way there. It keeps no account of what reads name.
 abbrev pub state_of : Mirror → State
 state_of m = record {
   size = size_of m.story;
@@ -54,14 +52,6 @@ state_of m = record {
   refused = of_kind m.story.refused;
   looked = [];
 }
-
--- a medium of these bytes, which was asked nothing yet
-abbrev pub fresh : List ℕ → ℕ → Mirror
-fresh bytes room = record { story = story.begun bytes; outbox = []; room = room }
-
--- there is room for one more call
-abbrev pub fits : Mirror → Bool
-fits m = nat_lt (length m.outbox) m.room
 
 -- a read: nothing is appended
 abbrev pub reads : Mirror → Mirror
@@ -82,14 +72,6 @@ sent m = m.story.taken ++ m.outbox
 abbrev pub first_of : List DeviceCall → Option DeviceCall
 first_of [] = None
 first_of (call ∷ calls) = Some call
-
--- the first call is taken out of what waits, if there is one
-abbrev pub take_first : List DeviceCall → Mirror → Mirror
-take_first [] m = m
-take_first (call ∷ calls) m = record m { story = story.took m.story call; outbox = calls }
-
-abbrev pub without_first : Mirror → Mirror
-without_first m = take_first m.outbox m
 
 -- The second comes after the first, by calls of a medium alone: all that they gave to the device is
 -- appended to the outbox, in order.
@@ -117,41 +99,10 @@ CoversDevice old new =
     (count : ℕ) (image : Image) → length (sent old) ≤ count → DeviceLeaves new count image
     → (state_of new).left_since (state_of old).calls image
 
--- Where what waits at the first moment and all calls since then have room together, none of these
--- is refused.
-abbrev pub HasRoomFor : Mirror → Mirror → Type 0
-HasRoomFor old new =
-    length old.outbox + (state_of new).calls ≤ (state_of old).calls + old.room
-    → (state_of new).failures ≡ (state_of old).failures
-
--- what holds of every medium in memory
+-- what holds of every such medium
 pub record IsWellFormed (m : Mirror) : Type 0 where
   pub some : 0 < length m.story.opening
   pub whole : length m.story.opening % 512 ≡ 0
   pub whole_writes : are_whole (given m.story.asked) ≡ true
   pub all_sent : given m.story.asked ≡ sent m
   pub held : length m.outbox ≤ m.room
-
--- a medium of these bytes was asked nothing yet, and a cut of it leaves them
-pub record IsFresh (bytes : List ℕ) (room : ℕ) (m : Mirror) : Type 0 where
-  pub value : m ≡ fresh bytes room
-  pub flushed : IsFlushed (state_of m)
-
--- the first call is taken out of what waits, and answered
-pub record TakesFirst (result : Option DeviceCall) (old new : Mirror) : Type 0 where
-  pub first : result ≡ first_of old.outbox
-  pub rest : new ≡ without_first old
-
--- so many calls wait, and what that says of all calls of a medium that follow
-pub record AreWaiting (count : ℕ) (old : Mirror) : Type 0 where
-  pub is : count ≡ length old.outbox
-  pub most : count ≤ old.room
-  pub device : (new : Mirror) → ComesAfter old new → CoversDevice old new
-  pub room : (new : Mirror) → ComesAfter old new → HasRoomFor old new
-
--- the device is to carry this call out, where there is room for it, and else it is refused
-pub record Sends (call : DeviceCall) (result : Result (Unit {0}) MediumFault) (old new : Mirror)
-    : Type 0 where
-  pub exact : OnOk result (new ≡ gives old call)
-  pub refused : OnErr result (new ≡ refuses old call)
-  pub happens : is_ok result ≡ fits old

@@ -1,18 +1,15 @@
--- What holds of a medium in memory with an outbox at each moment.
-use Rattle.std.specs.Prelude.{◌+◌, ◌≡◌, ◌⊎◌, ℕ, ◌/◌, ◌<◌, ◌≤◌, true, false, List, [], ◌∷◌, ◌++◌}
+-- What holds of a medium with an outbox at each moment.
+use Rattle.std.specs.Prelude.{◌≡◌, ◌⊎◌, ℕ, ◌/◌, ◌<◌, ◌≤◌, true, false, List, [], ◌∷◌, ◌++◌}
 use Rattle.std.specs.Prelude.{length, Option, Some, None, ◌==◌}
-use Rattle.std.proofs.Common.{inl, inr, ⊎_elim, refl, sym, ◌∙◌, ap, subst, arith, append_assoc}
-use Rattle.std.proofs.Common.{length-append}
-use Rattle.std.proofs.lemmas.List.{take_all, append-nil}
-use Rattle.std.proofs.lemmas.Bool.{cases_Bool, and_parts, cases_lt}
+use Rattle.std.proofs.Common.{inl, inr, ⊎_elim, refl, sym, ◌∙◌, ap, subst, arith}
+use Rattle.std.proofs.lemmas.List.{take_all}
+use Rattle.std.proofs.lemmas.Bool.{cases_Bool, and_parts}
 use Rattle.std.proofs.lemmas.Bool.Decides.{eqb_tells, nat_tests}
 use Rattle.medium.specs.Medium.{Image, IsSound}
 use Rattle.medium.specs.SimLaws.{whole_sector}
-use Rattle.medium.specs.Tally.{of_all}
 use Rattle.mirror.specs.Device.{Device, put, durable, carried_out, after}
 use Rattle.mirror.specs.Story.{Told, given, is_whole, are_whole}
 use Rattle.mirror.specs.Mirror.{Mirror, device_of, device_at, LeftSince, size_of, state_of}
-use Rattle.mirror.specs.Mirror.{ComesAfter}
 use Rattle.mirror.specs.declared.call.DeviceCall.{DeviceCall}
 use Rattle.mirror.specs.declared.call.DeviceCall.TheVariants.{Write, Flush}
 
@@ -112,51 +109,3 @@ given-append [] last = refl
 given-append (None ∷ calls) last = given-append calls last
 given-append (Some call ∷ calls) last = ap (λ (l : List DeviceCall). call ∷ l)
     (given-append calls last)
-
--- what was given is not more than what was asked
-pub given_fewer : (asked : List (Option DeviceCall)) → length (given asked) ≤ length asked
-given_fewer [] = omega arith
-given_fewer (None ∷ calls) = omega (arith, given_fewer calls)
-given_fewer (Some call ∷ calls) = omega (arith, given_fewer calls)
-
-refuses_through : (a b c : Mirror) → (f : ComesAfter a b) (g : ComesAfter b c)
-    → of_all a.story.refused < of_all c.story.refused
-    → c.room < length a.outbox + length (f.since ++ g.since)
-refuses_through a b c f g more = elim (cases_lt (of_all a.story.refused) (of_all b.story.refused)) [
-  | inl before ↦ simp length-append
-      (omega (arith, f.refuses before, g.room_stays))
-  | inr after ↦ simp length-append (omega (
-    arith,
-    g.refuses (omega (arith, more, after)),
-    given_fewer f.since,
-    length-append a.outbox (given f.since),
-    ap (λ (l : List DeviceCall). length l) f.outbox,
-  ))
-]
-
-pub comes_after_itself : (m : Mirror) → ComesAfter m m
-comes_after_itself m = record {
-  since = [];
-  asked = sym (append-nil m.story.asked);
-  outbox = sym (append-nil m.outbox);
-  opening_stays = refl;
-  taken_stays = refl;
-  room_stays = refl;
-  refuses = λ more. absurd (omega (arith, more));
-  failures_stay = omega arith;
-}
-
-pub comes_after_through : (a b c : Mirror) → ComesAfter a b → ComesAfter b c → ComesAfter a c
-comes_after_through a b c f g = record {
-  since = f.since ++ g.since;
-  asked = g.asked ∙ ap (λ (l : List (Option DeviceCall)). l ++ g.since) f.asked
-      ∙ append_assoc a.story.asked f.since g.since;
-  outbox = g.outbox ∙ ap (λ (l : List DeviceCall). l ++ given g.since) f.outbox
-      ∙ append_assoc a.outbox (given f.since) (given g.since)
-      ∙ ap (λ (l : List DeviceCall). a.outbox ++ l) (sym (given-append f.since g.since));
-  opening_stays = g.opening_stays ∙ f.opening_stays;
-  taken_stays = g.taken_stays ∙ f.taken_stays;
-  room_stays = g.room_stays ∙ f.room_stays;
-  refuses = refuses_through a b c f g;
-  failures_stay = omega (arith, f.failures_stay, g.failures_stay);
-}

@@ -1,4 +1,4 @@
--- What a medium in memory was asked since the beginning.
+-- What a medium with an outbox was asked since the beginning.
 use Rattle.std.specs.Prelude.{ℕ, Bool, true, List, [], ◌∷◌, ◌++◌, length, Option, Some, None, ◌==◌}
 use Rattle.std.specs.List.{list_all}
 use Rattle.medium.specs.Tally as tally
