@@ -160,9 +160,9 @@ impl BulkState {
         end
     }
 
-    /// Tells what comes of an exchange that ends in this case: the first bytes of the staging
-    /// buffer, the halt of the case, and the status.
-    pub(crate) fn tell(&mut self, exchange: &Exchange, case: Case, size: usize, status: Status)
+    /// Concludes an exchange that ends in this case: lays out the first bytes of the staging buffer,
+    /// the halt of the case, and the status.
+    pub(crate) fn conclude(&mut self, exchange: &Exchange, case: Case, size: usize, status: Status)
         requires possible { IsPossible case exchange.now.command.host exchange.now.intended }
         requires halts_in { 0 < size
             → (outcome_for case exchange.now.command exchange.now.intended).halt

@@ -53,9 +53,9 @@ fn carry_out<M: Medium>(
     match unit.carry_out(exchange.command.block.as_slice(), bytes, staging) {
         Ok(size) => {
             let size = size_sent(exchange.case, size);
-            wire.tell(exchange, exchange.case, size, Status::Passed);
+            wire.conclude(exchange, exchange.case, size, Status::Passed);
         }
-        Err(_) => wire.tell(exchange, after_failure(exchange.case), 0, Status::Failed),
+        Err(_) => wire.conclude(exchange, after_failure(exchange.case), 0, Status::Failed),
     }
 }
 
@@ -108,7 +108,7 @@ pub(crate) fn open<M: Medium>(
                 due,
             });
         }
-        When::Never => wire.tell(&exchange, exchange.case, 0, Status::PhaseError),
+        When::Never => wire.conclude(&exchange, exchange.case, 0, Status::PhaseError),
     }
 }
 

@@ -72,7 +72,7 @@ pub fn command<R: Files<File = File> + AllocGlobal, O: Write, E: Write + IsTermi
             raw: left.raw,
         },
         Err(refused) => Ended {
-            status: tell(refused.refusal, words, err),
+            status: report(refused.refusal, words, err),
             file: refused.files.file,
             raw: refused.files.raw,
         },
@@ -217,7 +217,7 @@ fn make<R: Files<File = File> + AllocGlobal, O: Write>(
 }
 
 // Writes why a command was refused, and gives the exit status, also where that cannot be written.
-fn tell<E: Write>(refusal: Refusal, words: &[&str], err: &mut E) -> u8
+fn report<E: Write>(refusal: Refusal, words: &[&str], err: &mut E) -> u8
     ensures { result ≡ status_of refusal }
 {
     let text = refusal.text();
@@ -263,7 +263,7 @@ fn refuse<E: Write>(refusal: Refusal, err: &mut E) -> Ended
     ensures raw { result.raw ≡ None }
 {
     Ended {
-        status: tell(refusal, &[], err),
+        status: report(refusal, &[], err),
         file: None,
         raw: None,
     }

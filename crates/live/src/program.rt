@@ -50,7 +50,7 @@ pub fn live_command<R: Files<File = File> + AllocGlobal, I: Read, O: Write, E: W
     match serve_image(rt, words, input, out) {
         Ok(file) => Ended { status: 0, file },
         Err(stopped) => {
-            tell(stopped.refusal, words, err);
+            report(stopped.refusal, words, err);
             Ended {
                 status: stopped.refusal.status(),
                 file: stopped.file,
@@ -150,7 +150,7 @@ fn stopped(refusal: Refusal) -> Stopped<LeftFile>
 fn refuse<E: Write>(refusal: Refusal, err: &mut E) -> Ended
     ensures { result ≡ record { status = status_of refusal; file = None } }
 {
-    tell(refusal, &[], err);
+    report(refusal, &[], err);
     Ended {
         status: refusal.status(),
         file: None,
@@ -158,7 +158,7 @@ fn refuse<E: Write>(refusal: Refusal, err: &mut E) -> Ended
 }
 
 // Writes why the words or the image were refused, where that can be written.
-fn tell<E: Write>(refusal: Refusal, words: &[&str], err: &mut E) {
+fn report<E: Write>(refusal: Refusal, words: &[&str], err: &mut E) {
     let text = refusal.text();
     let _ = match (refusal, words) {
         (Refusal::Line(number), _) => writeln!(err, "line {number}: {text}"),

@@ -64,7 +64,7 @@ pub fn command<R: Files<File = File> + AllocGlobal, O: Write, E: Write>(
     match dispatch(rt, words, out) {
         Ok(medium) => Ended { status: 0, medium },
         Err(stopped) => Ended {
-            status: tell(stopped.refusal, err),
+            status: report(stopped.refusal, err),
             medium: stopped.medium,
         },
     }
@@ -101,13 +101,13 @@ fn refuse<E: Write>(refusal: Refusal, err: &mut E) -> Ended
     ensures medium { result.medium ≡ None }
 {
     Ended {
-        status: tell(refusal, err),
+        status: report(refusal, err),
         medium: None,
     }
 }
 
 // Writes why a command was refused, and gives the exit status, also where that cannot be written.
-fn tell<E: Write>(refusal: Refusal, err: &mut E) -> u8
+fn report<E: Write>(refusal: Refusal, err: &mut E) -> u8
     ensures { result ≡ status_of refusal }
 {
     let _ = writeln!(err, "{refusal}");

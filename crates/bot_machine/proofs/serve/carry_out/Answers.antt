@@ -23,7 +23,7 @@ returns-in-Ok-clause-carried_out g c = λ taken left book fits.
           let size = rw c.as_slice.ensures.value at c.in-Ok.ensures.passes.sends.sent in
           omega (arith, size n (c.requires.can.sends n intended), c.in-Ok.ensures.passes.sends.most, length-take c.in-Ok.size out);
       after = rw (c.size_sent-size.ensures.is, ← sent_in-size _ (some_bytes c.args.wire.now.size) c.args.exchange.now.case c.in-Ok.size out)
-          at (c.tell.ensures.line taken out left (omega (arith, c.in-Ok.ensures.passes.sends.most)));
+          at (c.conclude.ensures.line taken out left (omega (arith, c.in-Ok.ensures.passes.sends.most)));
     })
     line.2 (ours_stay _ _ _ _ _ _ line.1)
     (rw c.as_slice.ensures.value at (c.in-Ok.ensures.serves.cuts book fits))
@@ -35,7 +35,7 @@ returns-in-Ok-clause-spares g c =
       rw c.as_slice.ensures.value at c.in-Ok.ensures.sparing,
       rw c.as_slice.ensures.value at c.in-Ok.ensures.passes.calls.bounded,
       (λ taken. tells (Ok (take c.in-Ok.size out)) _ _ _ _ _ (line_with c.args.wire.now finished)
-          (c.tell.ensures.line taken out finished (omega (arith, c.in-Ok.ensures.passes.sends.most)))),
+          (c.conclude.ensures.line taken out finished (omega (arith, c.in-Ok.ensures.passes.sends.most)))),
     )
 
 pub returns-in-Ok-clause-passes : goal.returns-in-Ok-clause-passes
@@ -43,9 +43,9 @@ returns-in-Ok-clause-passes g c =
     let serves = c.in-Ok.ensures.serves in
     let stays = serves.limit_stays in
     record {
-      phase = c.tell.ensures.phase _ _ (omega (arith, stays, c.in-Ok.ensures.passes.sends.most));
+      phase = c.conclude.ensures.phase _ _ (omega (arith, stays, c.in-Ok.ensures.passes.sends.most));
       limit = stays;
-      size = c.tell.ensures.size;
+      size = c.conclude.ensures.size;
       few = record {
         calls = c.in-Ok.ensures.passes.calls.few;
         sent = c.in-Ok.ensures.passes.calls.sent;
@@ -68,7 +68,7 @@ returns-in-Err-clause-carried_out g c = λ taken left book fits.
       effect = line.1;
       moved = λ n intended. tt;
       after = rw (c.after_failure.ensures, packets_of-none _ (some_bytes c.args.wire.now.size)) at
-          (c.tell-in-Err.ensures.line taken out left (omega arith));
+          (c.conclude-in-Err.ensures.line taken out left (omega arith));
     })
     line.2 (ours_stay _ _ _ _ _ _ line.1) (rw c.as_slice.ensures.value at (c.in-Err.ensures.serves.cuts book fits))
 
@@ -79,16 +79,16 @@ returns-in-Err-clause-spares g c =
       rw c.as_slice.ensures.value at c.in-Err.ensures.sparing,
       rw c.as_slice.ensures.value at c.in-Err.ensures.passes.calls.bounded,
       (λ taken. tells (Err c.in-Err.field-0) _ _ _ _ _ (line_with c.args.wire.now finished)
-          (c.tell-in-Err.ensures.line taken out finished (omega arith))),
+          (c.conclude-in-Err.ensures.line taken out finished (omega arith))),
     )
 
 pub returns-in-Err-clause-passes : goal.returns-in-Err-clause-passes
 returns-in-Err-clause-passes g c =
     let serves = c.in-Err.ensures.serves in
     record {
-      phase = c.tell-in-Err.ensures.phase _ _ (omega arith);
+      phase = c.conclude-in-Err.ensures.phase _ _ (omega arith);
       limit = serves.limit_stays;
-      size = c.tell-in-Err.ensures.size;
+      size = c.conclude-in-Err.ensures.size;
       few = record {
         calls = c.in-Err.ensures.passes.calls.few;
         sent = c.in-Err.ensures.passes.calls.sent;

@@ -64,7 +64,7 @@ returns-in-Never-clause-opens g c = λ taken book fits.
     staying _ unit _ book (g.met.M.Medium.sound unit.store.medium) fits
     (inl (opens _ _ book fits _ c.in-Some.exchange c.in-Some.ensures _ _ _ (rw (← c.in-Never.ensures) (
       refl,
-      rw (packets_of-none _ (some_bytes wire.size)) at (c.tell.ensures.line taken c.args.staging.now
+      rw (packets_of-none _ (some_bytes wire.size)) at (c.conclude.ensures.line taken c.args.staging.now
           (left_of (bytes_of wire.size) wire.phase taken c.args.staging.now wire.status) (omega arith)),
     ))))
 
@@ -75,8 +75,8 @@ returns-in-Never-clause-spares g c = λ came book fits block taken carries.
 
 pub returns-in-Never-clause-passes : goal.returns-in-Never-clause-passes
 returns-in-Never-clause-passes g c =
-    unit_stays _ _ _ c.args.unit.now c.args.wire.now c.tell.new.self g.met.M.Medium.follows_itself
-    (c.tell.ensures.phase _ _ (omega arith)) c.tell.ensures.size
+    unit_stays _ _ _ c.args.unit.now c.args.wire.now c.conclude.new.self g.met.M.Medium.follows_itself
+    (c.conclude.ensures.phase _ _ (omega arith)) c.conclude.ensures.size
 
 pub returns-in-AtOnce-clause-passes : goal.returns-in-AtOnce-clause-passes
 returns-in-AtOnce-clause-passes g c =

@@ -19,7 +19,7 @@ returns-in-Ok-clause-other_words g c not =
     absurd (not (asked_for (contents c.args.out.now) (contents c.dispatch.new.out) c.in-Ok.medium words c.in-Ok.ensures.done))
 
 pub returns-in-Err-clause-done : goal.returns-in-Err-clause-done
-returns-in-Err-clause-done g c zero = absurd (some_status c.in-Err.stopped.refusal (sym c.tell.ensures ∙ zero))
+returns-in-Err-clause-done g c zero = absurd (some_status c.in-Err.stopped.refusal (sym c.report.ensures ∙ zero))
 
 pub returns-in-Err-clause-words : goal.returns-in-Err-clause-words
 returns-in-Err-clause-words g c two =
@@ -27,12 +27,12 @@ returns-in-Err-clause-words g c two =
     let words = map (λ word. word.now) c.args.words.now in
     let stopped = c.in-Err.stopped in
     no_line_at_two (contents c.args.out.now) (contents c.dispatch.new.out) stopped.medium words stopped.refusal c.in-Err.ensures.refused
-    (sym c.tell.ensures ∙ two)
+    (sym c.report.ensures ∙ two)
 
 pub returns-in-Err-clause-other_words : goal.returns-in-Err-clause-other_words
 returns-in-Err-clause-other_words g c never =
     let contents = g.O.Write.contents in
     let words = map (λ word. word.now) c.args.words.now in
-    rw c.tell.ensures
+    rw c.report.ensures
     (two_or_five (contents c.args.out.now) (contents c.dispatch.new.out) c.in-Err.stopped.medium words c.in-Err.stopped.refusal
     c.in-Err.ensures.refused never)
