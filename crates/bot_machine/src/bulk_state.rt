@@ -160,8 +160,8 @@ impl BulkState {
         end
     }
 
-    /// Concludes an exchange that ends in this case: lays out the first bytes of the staging buffer,
-    /// the halt of the case, and the status.
+    /// Concludes an exchange that ends in this case: lays out the first bytes of the staging
+    /// buffer, the halt of the case, and the status.
     pub(crate) fn conclude(&mut self, exchange: &Exchange, case: Case, size: usize, status: Status)
         requires possible { IsPossible case exchange.now.command.host exchange.now.intended }
         requires halts_in { 0 < size
