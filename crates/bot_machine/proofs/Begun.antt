@@ -14,8 +14,8 @@ use Rattle.scsi_unit.specs.Books.{MayFind}
 use Rattle.scsi_unit.specs.Starting.{Stands, IsCauseFor, blocks_of}
 use Rattle.spec.specs.Rules.{UnitState}
 use Rattle.scsi_unit.specs.UnitValue.{unit_limit, state_of as unit_state}
-use Rattle.bot_machine.specs.declared.stage.Stage.{Stage}
-use Rattle.bot_machine.specs.declared.stage.Stage.TheVariants.{Rests, Runs}
+use Rattle.bot_machine.specs.declared.disk_state.DiskState.{DiskState}
+use Rattle.bot_machine.specs.declared.disk_state.DiskState.TheVariants.{Stopped, Running}
 use Rattle.spec.specs.Exchange.{Line, at_rest}
 use Rattle.bot_machine.specs.Disk.{DiskValue, over}
 use Rattle.spec.specs.UnitConversation.{on_line}
@@ -40,7 +40,7 @@ may_find before after leaves none place w ours = leaves.finds w.book (w.on ours)
 
 -- where each image had one limit, each still has it
 limited_start : (before after : Sim) (leaves : StartLeaves (state_of before) (state_of after)) (place : Place) (limit : ℕ)
-    (w : WouldOpen (state_of before) place) → w.book.ours ≡ true → LeavesLimit limit (Rests before) → LeavesLimit limit (Rests after)
+    (w : WouldOpen (state_of before) place) → w.book.ours ≡ true → LeavesLimit limit (Stopped before) → LeavesLimit limit (Stopped after)
 limited_start before after leaves place limit w ours has =
     subst (λ (n : ℕ). EachCut (HasLimit n limit) (state_of after)) (sym leaves.bounded.moments.size_stays)
     (at_exit (HasLimit (state_of before).size limit) (state_of before) (state_of after) (is_sound after)
@@ -66,7 +66,7 @@ counted before after book LogTooSmall h = h
 -- ---- where lives stand after a start
 
 -- a life has begun
-record LifeBegun (device : Device) (refused : Bool) (here : Standing) (new : Stage) : Type 0 where
+record LifeBegun (device : Device) (refused : Bool) (here : Standing) (new : DiskState) : Type 0 where
   there : Standing
   life : LifeBegins (presented device) refused here there
   fits : FitsLives (lives_at device new) there
@@ -75,15 +75,15 @@ record LifeBegun (device : Device) (refused : Bool) (here : Standing) (new : Sta
 
 module _ (device : Device) (m : Sim) (on : m.power.off ≡ false) where
   -- where a life has begun, lives go there
-  goes_there : (new : Stage) (refused : Bool)
+  goes_there : (new : DiskState) (refused : Bool)
       → ((book : Book) (armed : Bool) (limit : ℕ)
-      → FitsLives (lives_at device (Rests m)) (record { place = before_first book; armed = armed; limit = limit })
+      → FitsLives (lives_at device (Stopped m)) (record { place = before_first book; armed = armed; limit = limit })
       → LifeBegun device refused (record { place = before_first book; armed = armed; limit = limit }) new)
       → ((remains : Remains) (armed : Bool) (limit : ℕ)
-      → FitsLives (lives_at device (Rests m)) (record { place = between remains; armed = armed; limit = limit })
+      → FitsLives (lives_at device (Stopped m)) (record { place = between remains; armed = armed; limit = limit })
       → LifeBegun device refused (record { place = between remains; armed = armed; limit = limit }) new)
       → (place : Place) (armed : Bool) (limit : ℕ)
-      → FitsLives (lives_at device (Rests m)) (record { place = place; armed = armed; limit = limit })
+      → FitsLives (lives_at device (Stopped m)) (record { place = place; armed = armed; limit = limit })
       → LivesGoTo (lives_at device new) (record { place = place; armed = armed; limit = limit }) (starts ∷ []) [] (refused ∷ [])
   goes_there new refused first next (before_first book) armed limit fits =
       let b = first book armed limit fits in
@@ -117,7 +117,7 @@ module _ (device : Device) (m : Sim) (on : m.power.off ≡ false) where
     grew = has_refused (state_of m) (state_of new)
 
     module _ (place : Place) (armed : Bool) (limit : ℕ)
-        (fits : FitsLives (lives_at device (Rests m)) (record { place = place; armed = armed; limit = limit }))
+        (fits : FitsLives (lives_at device (Stopped m)) (record { place = place; armed = armed; limit = limit }))
         (h : HasOpened (state_of new) disk place) (keeps : KeepsLimit place limit (unit_limit disk.unit))
         (same : (book_at place).ours ≡ true → unit_limit disk.unit ≡ limit) where
       abbrev here : Standing
@@ -127,7 +127,7 @@ module _ (device : Device) (m : Sim) (on : m.power.off ≡ false) where
       says = sym (ap (λ (l : Line). on_line l (unit_state disk.unit h.book)) is_opened.line
           ∙ ap (λ (u : UnitState). on_line (at_rest device.packet_size) u) (is_opened.unit h.book))
 
-      begun_on : new.power.off ≡ false → LifeBegun device grew here (Runs disk)
+      begun_on : new.power.off ≡ false → LifeBegun device grew here (Running disk)
       begun_on still = record {
         there = record {
           place = runs (started (unit_limit disk.unit) (presented device) h.book);
@@ -146,7 +146,7 @@ module _ (device : Device) (m : Sim) (on : m.power.off ≡ false) where
         limit_stays = same;
       }
 
-      begun_off : new.power.off ≡ true → LifeBegun device grew here (Runs disk)
+      begun_off : new.power.off ≡ true → LifeBegun device grew here (Running disk)
       begun_off is_off = record {
         there = record { place = off (record { book = h.book; in_progress = None }); armed = armed; limit = limit };
         life = record {
@@ -172,18 +172,21 @@ module _ (device : Device) (m : Sim) (on : m.power.off ≡ false) where
         limit_stays = λ ours. refl;
       }
 
-      begun : LifeBegun device grew here (Runs disk)
+      begun : LifeBegun device grew here (Running disk)
       begun = ⊎_elim begun_off begun_on (cases_Bool new.power.off)
 
-    pub start_has_disk : LivesGoOn (lives_at device (Rests m)) (starts ∷ []) [] (lives_at device (Runs disk))
+    pub start_has_disk : LivesGoOn (lives_at device (Stopped m)) (starts ∷ []) [] (lives_at device (Running disk))
     start_has_disk = record {
       refusals = grew ∷ [];
-      moves = one_move device grew (Rests m) (Runs disk) starts []
-          (refl, subst (λ (b : Bool). StartsIn b device m (Runs disk)) (sym on) (is_opened, record { leaves = leaves; follows = follows }))
+      moves = one_move device grew (Stopped m) (Running disk) starts [] (
+        refl,
+        subst (λ (b : Bool). StartsIn b device m (Running disk)) (sym on)
+            (is_opened, record { leaves = leaves; follows = follows }),
+      )
           refl;
       refused = one_counted grew (state_of m).failures (state_of new).failures (ltb-true (state_of m).failures (state_of new).failures)
           follows.failures_stay;
-      goes = λ here fits. goes_there (Runs disk) grew
+      goes = λ here fits. goes_there (Running disk) grew
           (λ book armed limit f.
           let one = knows_images.one_limit (state_of m).size (unit_limit disk.unit) limit (state_of m).content is_opened.limit f.limit_at in
           begun (before_first book) armed limit f (first_opened m (state_of new) device disk is_opened book f.is_at.1) one (λ ours. one))
@@ -205,9 +208,9 @@ module _ (device : Device) (m : Sim) (on : m.power.off ≡ false) where
       refuses = has_refused (state_of m) (state_of after)
 
       begun_cut : (place : Place) (armed : Bool) (limit : ℕ)
-          → FitsLives (lives_at device (Rests m)) (record { place = place; armed = armed; limit = limit }) → KeepsLimit place limit limit
+          → FitsLives (lives_at device (Stopped m)) (record { place = place; armed = armed; limit = limit }) → KeepsLimit place limit limit
           → m.unflushed ≡ [] → (w : WouldOpen (state_of m) place)
-          → LifeBegun device refuses (record { place = place; armed = armed; limit = limit }) (Rests after)
+          → LifeBegun device refuses (record { place = place; armed = armed; limit = limit }) (Stopped after)
       begun_cut place armed limit fits keeps none w = record {
         there = record { place = off (record { book = w.book; in_progress = None }); armed = armed; limit = limit };
         life = record {
@@ -232,15 +235,18 @@ module _ (device : Device) (m : Sim) (on : m.power.off ≡ false) where
         limit_stays = λ ours. refl;
       }
 
-      pub start_is_cut : LivesGoOn (lives_at device (Rests m)) (starts ∷ []) [] (lives_at device (Rests after))
+      pub start_is_cut : LivesGoOn (lives_at device (Stopped m)) (starts ∷ []) [] (lives_at device (Stopped after))
       start_is_cut = record {
         refusals = refuses ∷ [];
-        moves = one_move device refuses (Rests m) (Rests after) starts []
-            (refl, subst (λ (b : Bool). StartsIn b device m (Rests after)) (sym on) (record { leaves = leaves; follows = follows }, is_off))
+        moves = one_move device refuses (Stopped m) (Stopped after) starts [] (
+          refl,
+          subst (λ (b : Bool). StartsIn b device m (Stopped after)) (sym on)
+              (record { leaves = leaves; follows = follows }, is_off),
+        )
             refl;
         refused = one_counted refuses (state_of m).failures (state_of after).failures
             (ltb-true (state_of m).failures (state_of after).failures) follows.failures_stay;
-        goes = λ here fits. goes_there (Rests after) refuses
+        goes = λ here fits. goes_there (Stopped after) refuses
             (λ book armed limit f.
             begun_cut (before_first book) armed limit f refl f.is_at.0.flushed (first_opens (state_of m) book f.is_at.1))
             (λ remains armed limit f.
@@ -252,9 +258,10 @@ module _ (device : Device) (m : Sim) (on : m.power.off ≡ false) where
 
     -- it was refused, and the power is on
     module _ (still : after.power.off ≡ false) (fault : StartFault) (h : IsNotOpened (state_of m) (state_of after) fault) where
-      stops_by : (place : Place) (armed : Bool) (limit : ℕ) → ((book_at place).ours ≡ true → LeavesLimit limit (Rests m)) → m.unflushed ≡ []
+      stops_by : (place : Place) (armed : Bool) (limit : ℕ)
+          → ((book_at place).ours ≡ true → LeavesLimit limit (Stopped m)) → m.unflushed ≡ []
           → (w : WouldOpen (state_of m) place)
-          → LivesStopAt (lives_at device (Rests after)) (record { place = place; armed = armed; limit = limit }) [] [] []
+          → LivesStopAt (lives_at device (Stopped after)) (record { place = place; armed = armed; limit = limit }) [] [] []
           (0 + (state_of m).failures) fault
       stops_by place armed limit limited none w = record {
         there = record { place = place; armed = armed; limit = limit };
@@ -268,8 +275,8 @@ module _ (device : Device) (m : Sim) (on : m.power.off ≡ false) where
       }
 
       stops_at : (place : Place) (armed : Bool) (limit : ℕ)
-          → FitsLives (lives_at device (Rests m)) (record { place = place; armed = armed; limit = limit })
-          → LivesStopAt (lives_at device (Rests after)) (record { place = place; armed = armed; limit = limit }) [] [] []
+          → FitsLives (lives_at device (Stopped m)) (record { place = place; armed = armed; limit = limit })
+          → LivesStopAt (lives_at device (Stopped after)) (record { place = place; armed = armed; limit = limit }) [] [] []
           (0 + (state_of m).failures) fault
       stops_at (before_first book) armed limit f =
           stops_by (before_first book) armed limit f.limited f.is_at.0.flushed (first_opens (state_of m) book f.is_at.1)
@@ -278,7 +285,7 @@ module _ (device : Device) (m : Sim) (on : m.power.off ≡ false) where
       stops_at (runs conversation) armed limit f = absurd f.is_at
       stops_at (off remains) armed limit f = on_or_off m.power.off on f.is_at
 
-      pub start_is_refused : LivesStop (lives_at device (Rests m)) [] [] fault (lives_at device (Rests after))
+      pub start_is_refused : LivesStop (lives_at device (Stopped m)) [] [] fault (lives_at device (Stopped after))
       start_is_refused = record {
         refusals = [];
         at = m;
@@ -296,7 +303,7 @@ module _ (device : Device) (m : Sim) (on : m.power.off ≡ false) where
 
 module _ (device : Device) where
   running : (disk : DiskValue Sim) (place : Place) (armed : Bool) (limit : ℕ)
-      → FitsLives (lives_at device (Runs disk)) (record { place = place; armed = armed; limit = limit })
+      → FitsLives (lives_at device (Running disk)) (record { place = place; armed = armed; limit = limit })
       → LivesStep (presented device) false (record { place = place; armed = armed; limit = limit }) starts []
       (record { place = place; armed = armed; limit = limit })
   running disk (before_first book) armed limit f = absurd f.is_at
@@ -305,11 +312,11 @@ module _ (device : Device) where
   running disk (off remains) armed limit f = (refl, refl)
 
   -- a disk runs already
-  pub start_of_disk : (disk : DiskValue Sim) → LivesGoOn (lives_at device (Runs disk)) (starts ∷ []) [] (lives_at device (Runs disk))
-  start_of_disk disk = stays device (Runs disk) starts [] (refl, refl) (λ here fits. running disk here.place here.armed here.limit fits)
+  pub start_of_disk : (disk : DiskValue Sim) → LivesGoOn (lives_at device (Running disk)) (starts ∷ []) [] (lives_at device (Running disk))
+  start_of_disk disk = stays device (Running disk) starts [] (refl, refl) (λ here fits. running disk here.place here.armed here.limit fits)
 
   without_power : (m : Sim) → m.power.off ≡ true → (place : Place) (armed : Bool) (limit : ℕ)
-      → FitsLives (lives_at device (Rests m)) (record { place = place; armed = armed; limit = limit })
+      → FitsLives (lives_at device (Stopped m)) (record { place = place; armed = armed; limit = limit })
       → LivesStep (presented device) false (record { place = place; armed = armed; limit = limit }) starts []
       (record { place = place; armed = armed; limit = limit })
   without_power m is_off (before_first book) armed limit f = on_or_off m.power.off f.is_at.0.on is_off
@@ -319,24 +326,24 @@ module _ (device : Device) where
 
   -- power is off already
   pub start_without_power : (m : Sim) → m.power.off ≡ true
-      → LivesGoOn (lives_at device (Rests m)) (starts ∷ []) [] (lives_at device (Rests m))
+      → LivesGoOn (lives_at device (Stopped m)) (starts ∷ []) [] (lives_at device (Stopped m))
   start_without_power m is_off =
-      stays device (Rests m) starts [] (refl, subst (λ (b : Bool). StartsIn b device m (Rests m)) (sym is_off) refl)
+      stays device (Stopped m) starts [] (refl, subst (λ (b : Bool). StartsIn b device m (Stopped m)) (sym is_off) refl)
       (λ here fits. without_power m is_off here.place here.armed here.limit fits)
 
 -- ---- whatever the medium holds
 
 -- a disk runs already
-pub begun_running : (disk : DiskValue Sim) → HasBegun (Runs disk) (Runs disk)
+pub begun_running : (disk : DiskValue Sim) → HasBegun (Running disk) (Running disk)
 begun_running disk = record { started = tt; stood = λ m e on. absurd (cc e) }
 
 -- there is no power
-pub begun_without_power : (m after : Sim) → after.power.off ≡ true → HasBegun (Rests m) (Rests after)
+pub begun_without_power : (m after : Sim) → after.power.off ≡ true → HasBegun (Stopped m) (Stopped after)
 begun_without_power m after is_off = record { started = is_off; stood = λ other e on. on_or_off after.power.off on is_off }
 
 -- a disk was started, on contents that stood for something
 pub begun_with : (m : Sim) (disk : DiskValue Sim) (device : Device) → IsOpened (state_of m) (state_of disk.unit.store.medium) device disk
-    → HasBegun (Rests m) (Runs disk)
+    → HasBegun (Stopped m) (Running disk)
 begun_with m disk device h = record {
   started = tt;
   stood = λ other e on.

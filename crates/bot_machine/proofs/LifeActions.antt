@@ -19,8 +19,8 @@ use Rattle.scsi_unit.specs.Books.{MayFind, FoundWith, StandsAs}
 use Rattle.spec.specs.declared.event.Event.{Event}
 use Rattle.spec.specs.declared.event.Answer.{Answer}
 use Rattle.spec.specs.declared.event.Answer.TheVariants.{Off}
-use Rattle.bot_machine.specs.declared.stage.Stage.{Stage}
-use Rattle.bot_machine.specs.declared.stage.Stage.TheVariants.{Rests, Runs}
+use Rattle.bot_machine.specs.declared.disk_state.DiskState.{DiskState}
+use Rattle.bot_machine.specs.declared.disk_state.DiskState.TheVariants.{Stopped, Running}
 use Rattle.spec.specs.Conversation.{Conversation, refused_events}
 use Rattle.spec.specs.UnitConversation.{write_of_event, UnitStep}
 use Rattle.bot_machine.specs.Disk.{DiskValue, over, FitsDisk, IsStep}
@@ -69,16 +69,16 @@ armed_then here before after follows unfused on is_off =
 
 module _ (device : Device) where
   -- lives of this disk
-  abbrev pub lives_at : Stage → LivesValue
-  lives_at stage = record { device = device; stage = stage }
+  abbrev pub lives_at : DiskState → LivesValue
+  lives_at state = record { device = device; state = state }
 
   -- nothing happens to a disk, or to a medium without one
-  pub stays : (stage : Stage) (action : Action) (answers : List Answer) → Does device stage action answers stage
-      → ((here : Standing) → FitsLives (lives_at stage) here → LivesStep (presented device) false here action answers here)
-      → LivesGoOn (lives_at stage) (action ∷ []) answers (lives_at stage)
-  stays stage action answers does step = record {
+  pub stays : (state : DiskState) (action : Action) (answers : List Answer) → Does device state action answers state
+      → ((here : Standing) → FitsLives (lives_at state) here → LivesStep (presented device) false here action answers here)
+      → LivesGoOn (lives_at state) (action ∷ []) answers (lives_at state)
+  stays state action answers does step = record {
     refusals = false ∷ [];
-    moves = one_move device false stage stage action answers does (none_refused (state_in stage) (state_in stage) refl);
+    moves = one_move device false state state action answers does (none_refused (state_in state) (state_in state) refl);
     refused = omega arith;
     goes = λ here fits. record {
       there = here;
@@ -120,15 +120,15 @@ module _ (device : Device) where
           (left_before (IsAllowed (state_of old).size) (h.ours ours));
     }
 
-    cut_place : (stage : Stage) (place : Place) → medium_in stage ≡ old → IsAt place stage → IsAt (after_cut place) (Rests new)
-    cut_place (Rests m) (before_first book) e h = (
+    cut_place : (state : DiskState) (place : Place) → medium_in state ≡ old → IsAt place state → IsAt (after_cut place) (Stopped new)
+    cut_place (Stopped m) (before_first book) e h = (
       at_rest,
       opens_still book (subst (λ (x : Sim). x.unflushed ≡ []) e h.0.flushed) (subst (λ (x : Sim). OpensOn (state_of x) book) e h.1),
     )
-    cut_place (Runs disk) (before_first book) e h = absurd h
-    cut_place stage (between remains) e h = at_rest
-    cut_place stage (runs conversation) e h = at_rest
-    cut_place stage (off remains) e h = at_rest
+    cut_place (Running disk) (before_first book) e h = absurd h
+    cut_place state (between remains) e h = at_rest
+    cut_place state (runs conversation) e h = at_rest
+    cut_place state (off remains) e h = at_rest
 
     cut_found : (place : Place) (n : ℕ) → n ≡ (state_of old).size
         → ((book_at place).ours ≡ true → EachCut (FoundAt (state_of old).size place) (state_of old))
@@ -146,19 +146,19 @@ module _ (device : Device) where
         subst (λ (k : ℕ). EachCut (FoundAt k (off remains)) (state_of new)) (sym e)
         (left_before (FoundAt (state_of old).size (off remains)) (h ours))
 
-    cut_limit_at : (stage : Stage) (place : Place) (limit : ℕ) → medium_in stage ≡ old → IsAt place stage → LimitAt place limit stage
-        → LimitAt (after_cut place) limit (Rests new)
-    cut_limit_at (Rests m) (before_first book) limit e at h =
+    cut_limit_at : (state : DiskState) (place : Place) (limit : ℕ) → medium_in state ≡ old → IsAt place state → LimitAt place limit state
+        → LimitAt (after_cut place) limit (Stopped new)
+    cut_limit_at (Stopped m) (before_first book) limit e at h =
         subst (λ (n : ℕ). HasLimit n limit (state_of new).content) (sym size)
         (subst (HasLimit (state_of old).size limit) (sym (content_stays (subst (λ (x : Sim). x.unflushed ≡ []) e at.0.flushed)))
         (subst (λ (x : Sim). HasLimit (state_of x).size limit (state_of x).content) e h))
-    cut_limit_at (Runs disk) (before_first book) limit e at h = absurd at
-    cut_limit_at stage (between remains) limit e at h = tt
-    cut_limit_at stage (runs conversation) limit e at h = tt
-    cut_limit_at stage (off remains) limit e at h = tt
+    cut_limit_at (Running disk) (before_first book) limit e at h = absurd at
+    cut_limit_at state (between remains) limit e at h = tt
+    cut_limit_at state (runs conversation) limit e at h = tt
+    cut_limit_at state (off remains) limit e at h = tt
 
-    cut_limited : (stage : Stage) (limit : ℕ) → medium_in stage ≡ old → LeavesLimit limit stage → LeavesLimit limit (Rests new)
-    cut_limited stage limit e h =
+    cut_limited : (state : DiskState) (limit : ℕ) → medium_in state ≡ old → LeavesLimit limit state → LeavesLimit limit (Stopped new)
+    cut_limited state limit e h =
         subst (λ (n : ℕ). EachCut (HasLimit n limit) (state_of new)) (sym size)
         (left_before (HasLimit (state_of old).size limit)
         (subst (λ (x : Sim). EachCut (HasLimit (state_of x).size limit) (state_of x)) e h))
@@ -169,19 +169,19 @@ module _ (device : Device) where
     book_after_cut (runs conversation) = refl
     book_after_cut (off remains) = refl
 
-    pub is_cut : (stage : Stage) → medium_in stage ≡ old → LivesGoOn (lives_at stage) (cuts keep ∷ []) [] (lives_at (Rests new))
-    is_cut stage e = record {
+    pub is_cut : (state : DiskState) → medium_in state ≡ old → LivesGoOn (lives_at state) (cuts keep ∷ []) [] (lives_at (Stopped new))
+    is_cut state e = record {
       refusals = false ∷ [];
-      moves = one_move device false stage (Rests new) (cuts keep) [] (refl, subst (λ (x : Sim). IsCut keep x new) (sym e) cut)
-          (none_refused (state_in stage) (state_of new) (ap of_all cut.refused_stay ∙ sym (ap (λ (x : Sim). of_all x.refused) e)));
+      moves = one_move device false state (Stopped new) (cuts keep) [] (refl, subst (λ (x : Sim). IsCut keep x new) (sym e) cut)
+          (none_refused (state_in state) (state_of new) (ap of_all cut.refused_stay ∙ sym (ap (λ (x : Sim). of_all x.refused) e)));
       refused = let f = ap (λ (x : Sim). of_all x.refused) e in let g = ap of_all cut.refused_stay in omega (arith, f, g);
       goes = λ here fits. record {
         there = record here { place = after_cut here.place; armed = false };
         run = one_run device false here (record here { place = after_cut here.place; armed = false }) (cuts keep) [] (refl, refl);
         fits = record {
-          is_at = cut_place stage here.place e fits.is_at;
-          limit_at = cut_limit_at stage here.place here.limit e fits.is_at fits.limit_at;
-          limited = λ ours. cut_limited stage here.limit e (fits.limited (sym (book_after_cut here.place) ∙ ours));
+          is_at = cut_place state here.place e fits.is_at;
+          limit_at = cut_limit_at state here.place here.limit e fits.is_at fits.limit_at;
+          limited = λ ours. cut_limited state here.limit e (fits.limited (sym (book_after_cut here.place) ∙ ours));
           found = cut_found here.place (state_of new).size size
               (subst (λ (x : Sim). (book_at here.place).ours ≡ true → EachCut (FoundAt (state_of x).size here.place) (state_of x)) e
               fits.found);
@@ -211,8 +211,8 @@ module _ (device : Device) where
 
     -- the event itself, which gives its answer where the power is still on
     played : (given : Answer) → given ≡ (if new.unit.store.medium.power.off then Off else answer)
-        → EventMoves (Runs old) event given (Runs new)
-    played given answered = subst (λ (b : Bool). EventMovesIn b old event given (Runs new)) (sym on)
+        → EventMoves (Running old) event given (Running new)
+    played given answered = subst (λ (b : Bool). EventMovesIn b old event given (Running new)) (sym on)
         (new, refl, record { told = answer; step = step; follows = follows; answered = answered })
 
     -- the limit of the unit is what it was, and what a cut leaves has it
@@ -227,8 +227,8 @@ module _ (device : Device) where
 
     module _ (still : new.unit.store.medium.power.off ≡ false) where
       ends_at : (place : Place) (armed : Bool) (limit : ℕ)
-          → FitsLives (lives_at (Runs old)) (record { place = place; armed = armed; limit = limit })
-          → LivesGoTo (lives_at (Runs new)) (record { place = place; armed = armed; limit = limit }) (plays event ∷ []) (answer ∷ [])
+          → FitsLives (lives_at (Running old)) (record { place = place; armed = armed; limit = limit })
+          → LivesGoTo (lives_at (Running new)) (record { place = place; armed = armed; limit = limit }) (plays event ∷ []) (answer ∷ [])
           (grew ∷ [])
       ends_at (before_first book) armed limit fits = absurd fits.is_at
       ends_at (between remains) armed limit fits = absurd fits.is_at
@@ -255,10 +255,10 @@ module _ (device : Device) where
       ends_at (off remains) armed limit fits = on_or_off old.unit.store.medium.power.off on fits.is_at
 
       -- the power is on afterwards
-      pub event_ends : LivesGoOn (lives_at (Runs old)) (plays event ∷ []) (answer ∷ []) (lives_at (Runs new))
+      pub event_ends : LivesGoOn (lives_at (Running old)) (plays event ∷ []) (answer ∷ []) (lives_at (Running new))
       event_ends = record {
         refusals = grew ∷ [];
-        moves = one_move device grew (Runs old) (Runs new) (plays event) (answer ∷ [])
+        moves = one_move device grew (Running old) (Running new) (plays event) (answer ∷ [])
             (answer, refl, played answer (ap (λ (b : Bool). if b then Off else answer) (sym still))) refl;
         refused = one_counted grew before.failures after.failures (ltb-true before.failures after.failures) step.elapses.failures_stay;
         goes = λ here fits. ends_at here.place here.armed here.limit fits;
@@ -268,8 +268,8 @@ module _ (device : Device) where
 
     module _ (is_off : new.unit.store.medium.power.off ≡ true) where
       cut_at : (place : Place) (armed : Bool) (limit : ℕ)
-          → FitsLives (lives_at (Runs old)) (record { place = place; armed = armed; limit = limit })
-          → LivesGoTo (lives_at (Runs new)) (record { place = place; armed = armed; limit = limit }) (plays event ∷ []) (Off ∷ [])
+          → FitsLives (lives_at (Running old)) (record { place = place; armed = armed; limit = limit })
+          → LivesGoTo (lives_at (Running new)) (record { place = place; armed = armed; limit = limit }) (plays event ∷ []) (Off ∷ [])
           (grew ∷ [])
       cut_at (before_first book) armed limit fits = absurd fits.is_at
       cut_at (between remains) armed limit fits = absurd fits.is_at
@@ -311,10 +311,10 @@ module _ (device : Device) where
       cut_at (off remains) armed limit fits = on_or_off old.unit.store.medium.power.off on fits.is_at
 
       -- power went in it
-      pub event_is_cut : LivesGoOn (lives_at (Runs old)) (plays event ∷ []) (Off ∷ []) (lives_at (Runs new))
+      pub event_is_cut : LivesGoOn (lives_at (Running old)) (plays event ∷ []) (Off ∷ []) (lives_at (Running new))
       event_is_cut = record {
         refusals = grew ∷ [];
-        moves = one_move device grew (Runs old) (Runs new) (plays event) (Off ∷ [])
+        moves = one_move device grew (Running old) (Running new) (plays event) (Off ∷ [])
             (Off, refl, played Off (ap (λ (b : Bool). if b then Off else answer) (sym is_off))) refl;
         refused = one_counted grew before.failures after.failures (ltb-true before.failures after.failures) step.elapses.failures_stay;
         goes = λ here fits. cut_at here.place here.armed here.limit fits;
@@ -324,7 +324,7 @@ module _ (device : Device) where
 
   -- power is off already
   off_at_rest : (m : Sim) (event : Event) → m.power.off ≡ true → (place : Place) (armed : Bool) (limit : ℕ)
-      → FitsLives (lives_at (Rests m)) (record { place = place; armed = armed; limit = limit })
+      → FitsLives (lives_at (Stopped m)) (record { place = place; armed = armed; limit = limit })
       → LivesStep (presented device) false (record { place = place; armed = armed; limit = limit }) (plays event) (Off ∷ [])
       (record { place = place; armed = armed; limit = limit })
   off_at_rest m event is_off (before_first book) armed limit fits = on_or_off m.power.off fits.is_at.0.on is_off
@@ -334,7 +334,7 @@ module _ (device : Device) where
 
   off_running : (disk : DiskValue Sim) (event : Event) → disk.unit.store.medium.power.off ≡ true
       → (place : Place) (armed : Bool) (limit : ℕ)
-      → FitsLives (lives_at (Runs disk)) (record { place = place; armed = armed; limit = limit })
+      → FitsLives (lives_at (Running disk)) (record { place = place; armed = armed; limit = limit })
       → LivesStep (presented device) false (record { place = place; armed = armed; limit = limit }) (plays event) (Off ∷ [])
       (record { place = place; armed = armed; limit = limit })
   off_running disk event is_off (before_first book) armed limit fits = absurd fits.is_at
@@ -344,15 +344,15 @@ module _ (device : Device) where
 
   -- an event that comes to a medium without power
   pub event_at_rest : (m : Sim) (event : Event) → m.power.off ≡ true
-      → LivesGoOn (lives_at (Rests m)) (plays event ∷ []) (Off ∷ []) (lives_at (Rests m))
+      → LivesGoOn (lives_at (Stopped m)) (plays event ∷ []) (Off ∷ []) (lives_at (Stopped m))
   event_at_rest m event is_off =
-      stays (Rests m) (plays event) (Off ∷ []) (Off, refl, (refl, refl))
+      stays (Stopped m) (plays event) (Off ∷ []) (Off, refl, (refl, refl))
       (λ here fits. off_at_rest m event is_off here.place here.armed here.limit fits)
 
   -- an event that comes to a disk without power
   pub event_off : (disk : DiskValue Sim) (event : Event) → disk.unit.store.medium.power.off ≡ true
-      → LivesGoOn (lives_at (Runs disk)) (plays event ∷ []) (Off ∷ []) (lives_at (Runs disk))
+      → LivesGoOn (lives_at (Running disk)) (plays event ∷ []) (Off ∷ []) (lives_at (Running disk))
   event_off disk event is_off =
-      stays (Runs disk) (plays event) (Off ∷ [])
-      (Off, refl, subst (λ (b : Bool). EventMovesIn b disk event Off (Runs disk)) (sym is_off) (refl, refl))
+      stays (Running disk) (plays event) (Off ∷ [])
+      (Off, refl, subst (λ (b : Bool). EventMovesIn b disk event Off (Running disk)) (sym is_off) (refl, refl))
       (λ here fits. off_running disk event is_off here.place here.armed here.limit fits)

@@ -10,8 +10,8 @@ use Rattle.spec.specs.declared.event.Answer.{Answer}
 use Rattle.bot_machine.specs.Answers.{Room}
 use Rattle.spec.specs.Conversation.{refused_events}
 use Rattle.spec.specs.Lives.{Action, starts, Standing, LivesRun}
-use Rattle.bot_machine.specs.declared.stage.Stage.{Stage}
-use Rattle.bot_machine.specs.declared.stage.Stage.TheVariants.{Rests}
+use Rattle.bot_machine.specs.declared.disk_state.DiskState.{DiskState}
+use Rattle.bot_machine.specs.declared.disk_state.DiskState.TheVariants.{Stopped}
 use Rattle.bot_machine.specs.Moving.{MovesBy}
 use Rattle.bot_machine.specs.Lifetimes.{AppendsFor}
 use Rattle.bot_machine.specs.LivesValue.{LivesValue, state_in, LeavesLimit, FitsLives, LivesGoTo, LivesGoOn, MayRefuse, LivesStopAt}
@@ -68,17 +68,17 @@ module _ (a b c : LivesValue) (xs ys : List Action) (told more : List Answer) (f
       (first.goes here fits).run
 
   -- the second part, by the device at the beginning
-  next_moves : (others : List Bool) (stage : Stage) → MovesBy b.device b.stage ys more others stage
-      → MovesBy a.device b.stage ys more others stage
-  next_moves others stage moves = subst (λ (i : Device). MovesBy i b.stage ys more others stage) first.device_stays moves
+  next_moves : (others : List Bool) (state : DiskState) → MovesBy b.device b.state ys more others state
+      → MovesBy a.device b.state ys more others state
+  next_moves others state moves = subst (λ (i : Device). MovesBy i b.state ys more others state) first.device_stays moves
 
   -- lives go on, and go on
   pub lives_go_on : LivesGoOn b ys more c → LivesGoOn a (xs ++ ys) (told ++ more) c
   lives_go_on next = record {
     refusals = first.refusals ++ next.refusals;
-    moves = MovesBy-append a.device xs ys told more first.refusals next.refusals a.stage b.stage c.stage first.moves
-        (next_moves next.refusals c.stage next.moves);
-    refused = counted first.refusals next.refusals (state_in a.stage).failures (state_in b.stage).failures (state_in c.stage).failures
+    moves = MovesBy-append a.device xs ys told more first.refusals next.refusals a.state b.state c.state first.moves
+        (next_moves next.refusals c.state next.moves);
+    refused = counted first.refusals next.refusals (state_in a.state).failures (state_in b.state).failures (state_in c.state).failures
         first.refused next.refused;
     goes = goes;
     size_stays = next.size_stays ∙ first.size_stays;
@@ -103,10 +103,10 @@ module _ (a b c : LivesValue) (xs ys : List Action) (told more : List Answer) (f
   lives_stop fault next = record {
     refusals = first.refusals ++ next.refusals;
     at = next.at;
-    moves = MovesBy-append a.device xs ys told more first.refusals next.refusals a.stage b.stage (Rests next.at) first.moves
-        (next_moves next.refusals (Rests next.at) next.moves);
+    moves = MovesBy-append a.device xs ys told more first.refusals next.refusals a.state b.state (Stopped next.at) first.moves
+        (next_moves next.refusals (Stopped next.at) next.moves);
     start = next.start;
-    refused = counted first.refusals next.refusals (state_in a.stage).failures (state_in b.stage).failures (state_in c.stage).failures
+    refused = counted first.refusals next.refusals (state_in a.state).failures (state_in b.state).failures (state_in c.state).failures
         first.refused next.refused;
     goes = goes;
     rests = next.rests;
@@ -115,13 +115,13 @@ module _ (a b c : LivesValue) (xs ys : List Action) (told more : List Answer) (f
     device_stays = next.device_stays ∙ first.device_stays;
   }
     where
-      less : refused_events (first.refusals ++ next.refusals) + (state_in a.stage).failures
-          ≤ refused_events next.refusals + (state_in b.stage).failures
+      less : refused_events (first.refusals ++ next.refusals) + (state_in a.state).failures
+          ≤ refused_events next.refusals + (state_in b.state).failures
       less = let h = first.refused in omega (arith, refused_events-append first.refusals next.refusals, h)
 
       causes : (book : Book) (fault : StartFault) (failures : ℕ)
-          → MayRefuse book (refused_events next.refusals + (state_in b.stage).failures) failures fault
-          → MayRefuse book (refused_events (first.refusals ++ next.refusals) + (state_in a.stage).failures) failures fault
+          → MayRefuse book (refused_events next.refusals + (state_in b.state).failures) failures fault
+          → MayRefuse book (refused_events (first.refusals ++ next.refusals) + (state_in a.state).failures) failures fault
       causes book NoMemory failures h = h
       causes book Read failures h = omega (arith, less, h)
       causes book Write failures h = omega (arith, less, h)
@@ -134,7 +134,7 @@ module _ (a b c : LivesValue) (xs ys : List Action) (told more : List Answer) (f
       causes book LogTooSmall failures h = h
 
       goes : (here : Standing) → FitsLives a here → LivesStopAt c here (xs ++ ys) (told ++ more) (first.refusals ++ next.refusals)
-          (refused_events (first.refusals ++ next.refusals) + (state_in a.stage).failures) fault
+          (refused_events (first.refusals ++ next.refusals) + (state_in a.state).failures) fault
       goes here fits =
           let mid = first.goes here fits in
           let last = next.goes mid.there mid.fits in
@@ -145,9 +145,9 @@ module _ (a b c : LivesValue) (xs ys : List Action) (told more : List Answer) (f
             book = last.book;
             opens = last.opens;
             ours = last.ours ∙ mid.ours;
-            cause = λ ours. causes last.book fault (state_in c.stage).failures (last.cause ours);
+            cause = λ ours. causes last.book fault (state_in c.state).failures (last.cause ours);
             limited = λ ours.
-                subst (λ (n : ℕ). LeavesLimit n c.stage) (mid.limit_stays (sym (last.ours ∙ mid.ours) ∙ ours)) (last.limited ours);
+                subst (λ (n : ℕ). LeavesLimit n c.state) (mid.limit_stays (sym (last.ours ∙ mid.ours) ∙ ours)) (last.limited ours);
             found = last.found;
           }
 

@@ -16,7 +16,7 @@ use Rattle.bot_machine.specs.Disk.{DiskValue, FitsDisk}
 use Rattle.bot_machine.specs.Opening.{IsOpened}
 use Rattle.spec.specs.Lives.{Remains, Place, before_first, between, IsLeft, Opens}
 use Rattle.bot_machine.specs.LivesValue.{HasLimit, book_at, LeavesLimit, FoundAt}
-use Rattle.bot_machine.specs.declared.stage.Stage.TheVariants.{Rests}
+use Rattle.bot_machine.specs.declared.disk_state.DiskState.TheVariants.{Stopped}
 use Rattle.bot_machine.proofs.UnitLaws.{knows_images}
 
 -- ---- what a life has left
@@ -97,7 +97,7 @@ first_found m book none h ours image cut =
 
 -- nothing is unflushed: what the contents have every image has
 pub first_limited : (m : Sim) (limit : ℕ) → m.unflushed ≡ [] → HasLimit (state_of m).size limit (state_of m).content
-    → LeavesLimit limit (Rests m)
+    → LeavesLimit limit (Stopped m)
 first_limited m limit none has image cut =
     let same : image ≡ (state_of m).content = only_image (state_of m).content (state_of m).may_leave (none_flushed m none) image cut in
     subst (HasLimit (state_of m).size limit) (sym same) has
@@ -107,7 +107,7 @@ pub remains_ours : (m : State) (remains : Remains) → EachCut (FoundAt m.size (
 remains_ours m remains found image cut = knows_images.found_ours m.size remains.book remains.in_progress image (found image cut)
 
 -- the image that a life has left has the limit of the disk that starts on it
-pub next_limit : (m : Sim) (limit other : ℕ) → LeavesLimit limit (Rests m) → HasLimit (state_of m).size other (state_of m).content
+pub next_limit : (m : Sim) (limit other : ℕ) → LeavesLimit limit (Stopped m) → HasLimit (state_of m).size other (state_of m).content
     → other ≡ limit
 next_limit m limit other leaves has =
     knows_images.one_limit (state_of m).size other limit (state_of m).content has

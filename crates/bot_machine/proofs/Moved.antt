@@ -6,7 +6,7 @@ use Rattle.bot_machine.specs.Device.{Device}
 use Rattle.scsi_unit.specs.Serving.{has_refused}
 use Rattle.medium.specs.Medium.{State}
 use Rattle.spec.specs.declared.event.Answer.{Answer}
-use Rattle.bot_machine.specs.declared.stage.Stage.{Stage}
+use Rattle.bot_machine.specs.declared.disk_state.DiskState.{DiskState}
 use Rattle.spec.specs.Lives.{Action}
 use Rattle.bot_machine.specs.Moving.{state_in, Does, MovesBy}
 
@@ -19,7 +19,7 @@ pub some_refused : (before after : State) → before.failures < after.failures �
 some_refused before after grew = lt-ltb before.failures after.failures grew
 
 -- one action
-pub one_move : (device : Device) (refused : Bool) (old new : Stage) (action : Action) (answers : List Answer)
+pub one_move : (device : Device) (refused : Bool) (old new : DiskState) (action : Action) (answers : List Answer)
     → Does device old action answers new → refused ≡ has_refused (state_in old) (state_in new)
     → MovesBy device old (action ∷ []) answers (refused ∷ []) new
 one_move device refused old new action answers does counted =
@@ -27,10 +27,10 @@ one_move device refused old new action answers does counted =
 
 -- some actions, and then others
 pub MovesBy-append : (device : Device) (xs ys : List Action) (told more : List Answer) (refusals others : List Bool)
-    (a b c : Stage) → MovesBy device a xs told refusals b → MovesBy device b ys more others c
+    (a b c : DiskState) → MovesBy device a xs told refusals b → MovesBy device b ys more others c
     → MovesBy device a (xs ++ ys) (told ++ more) (refusals ++ others) c
 MovesBy-append device [] ys told more [] others a b c r s =
-    let moved : MovesBy device a ys more others c = subst (λ (x : Stage). MovesBy device x ys more others c) r.1 s in
+    let moved : MovesBy device a ys more others c = subst (λ (x : DiskState). MovesBy device x ys more others c) r.1 s in
     subst (λ (l : List Answer). MovesBy device a ys (l ++ more) others c) (sym r.0) moved
 MovesBy-append device (x ∷ xs) ys told more (refused ∷ refusals) others a b c r s = (
   r.0,

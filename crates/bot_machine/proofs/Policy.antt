@@ -5,63 +5,65 @@ use Rattle.scsi_unit.specs.Retiring.{RetiresBy, goes_ahead_by}
 use Rattle.scsi_unit.specs.Starting.{Shape}
 use Rattle.spec.specs.declared.event.Event.{Event}
 use Rattle.spec.specs.declared.event.Answer.{Answer}
-use Rattle.bot_machine.specs.declared.stage.Stage.{Stage}
-use Rattle.bot_machine.specs.declared.stage.Stage.TheVariants.{Rests, Runs}
+use Rattle.bot_machine.specs.declared.disk_state.DiskState.{DiskState}
+use Rattle.bot_machine.specs.declared.disk_state.DiskState.TheVariants.{Stopped, Running}
 use Rattle.bot_machine.specs.Device.{Device, Retiring}
 use Rattle.bot_machine.specs.Disk.{DiskValue}
 use Rattle.spec.specs.Lives.{Action, arms, fails, starts, plays, cuts}
 use Rattle.bot_machine.specs.Moving.{FuseMoves, FailureMoves, StartsIn, StartMoves, EventMovesIn, EventMoves, CutMoves, Does}
-use Rattle.bot_machine.specs.Policy.{StageRetires, KeepsPolicy, PolicyIsUnseen}
+use Rattle.bot_machine.specs.Policy.{DiskRetires, KeepsPolicy, PolicyIsUnseen}
 
 -- ---- a disk keeps to it
 
-fuse_keeps : (retiring : Retiring) (writes : ℕ) (old new : Stage) → FuseMoves writes old new → StageRetires retiring old
-    → StageRetires retiring new
-fuse_keeps retiring writes (Rests old) (Rests new) moves has = tt
-fuse_keeps retiring writes (Runs old) (Runs new) moves has =
+fuse_keeps : (retiring : Retiring) (writes : ℕ) (old new : DiskState) → FuseMoves writes old new → DiskRetires retiring old
+    → DiskRetires retiring new
+fuse_keeps retiring writes (Stopped old) (Stopped new) moves has = tt
+fuse_keeps retiring writes (Running old) (Running new) moves has =
     subst (λ (d : DiskValue Sim). RetiresBy retiring d.unit) (sym moves.1) has
-fuse_keeps retiring writes (Rests old) (Runs new) moves has = absurd moves
-fuse_keeps retiring writes (Runs old) (Rests new) moves has = absurd moves
+fuse_keeps retiring writes (Stopped old) (Running new) moves has = absurd moves
+fuse_keeps retiring writes (Running old) (Stopped new) moves has = absurd moves
 
-failure_keeps : (retiring : Retiring) (call : ℕ) (old new : Stage) → FailureMoves call old new → StageRetires retiring old
-    → StageRetires retiring new
-failure_keeps retiring call (Rests old) (Rests new) moves has = tt
-failure_keeps retiring call (Runs old) (Runs new) moves has =
+failure_keeps : (retiring : Retiring) (call : ℕ) (old new : DiskState) → FailureMoves call old new → DiskRetires retiring old
+    → DiskRetires retiring new
+failure_keeps retiring call (Stopped old) (Stopped new) moves has = tt
+failure_keeps retiring call (Running old) (Running new) moves has =
     subst (λ (d : DiskValue Sim). RetiresBy retiring d.unit) (sym moves.1) has
-failure_keeps retiring call (Rests old) (Runs new) moves has = absurd moves
-failure_keeps retiring call (Runs old) (Rests new) moves has = absurd moves
+failure_keeps retiring call (Stopped old) (Running new) moves has = absurd moves
+failure_keeps retiring call (Running old) (Stopped new) moves has = absurd moves
 
-start_in : (device : Device) (gone : Bool) (old : Sim) (new : Stage) → StartsIn gone device old new
-    → StageRetires device.retiring new
-start_in device true old new moves = subst (StageRetires device.retiring) (sym moves) tt
-start_in device false old (Runs disk) moves = moves.0.retires
-start_in device false old (Rests new) moves = tt
+start_in : (device : Device) (gone : Bool) (old : Sim) (new : DiskState) → StartsIn gone device old new
+    → DiskRetires device.retiring new
+start_in device true old new moves = subst (DiskRetires device.retiring) (sym moves) tt
+start_in device false old (Running disk) moves = moves.0.retires
+start_in device false old (Stopped new) moves = tt
 
-start_keeps : (device : Device) (old new : Stage) → StartMoves device old new → StageRetires device.retiring old
-    → StageRetires device.retiring new
-start_keeps device (Rests old) new moves has = start_in device old.power.off old new moves
-start_keeps device (Runs old) new moves has = subst (StageRetires device.retiring) (sym moves) has
+start_keeps : (device : Device) (old new : DiskState) → StartMoves device old new → DiskRetires device.retiring old
+    → DiskRetires device.retiring new
+start_keeps device (Stopped old) new moves has = start_in device old.power.off old new moves
+start_keeps device (Running old) new moves has = subst (DiskRetires device.retiring) (sym moves) has
 
-event_in : (retiring : Retiring) (gone : Bool) (old : DiskValue Sim) (happens : Event) (answer : Answer) (new : Stage)
-    → EventMovesIn gone old happens answer new → StageRetires retiring (Runs old) → StageRetires retiring new
-event_in retiring true old happens answer new moves has = subst (StageRetires retiring) (sym moves.1) has
+event_in : (retiring : Retiring) (gone : Bool) (old : DiskValue Sim) (happens : Event) (answer : Answer) (new : DiskState)
+    → EventMovesIn gone old happens answer new → DiskRetires retiring (Running old) → DiskRetires retiring new
+event_in retiring true old happens answer new moves has = subst (DiskRetires retiring) (sym moves.1) has
 event_in retiring false old happens answer new moves has =
     let few = moves.2.step.few in
-    subst (StageRetires retiring) (sym moves.1)
+    subst (DiskRetires retiring) (sym moves.1)
     (few.policy_stays ∙ has ∙ ap (λ (shape : Shape). goes_ahead_by retiring shape) (sym few.layout_stays))
 
-event_keeps : (retiring : Retiring) (old : Stage) (happens : Event) (answer : Answer) (new : Stage) → EventMoves old happens answer new
-    → StageRetires retiring old → StageRetires retiring new
-event_keeps retiring (Rests old) happens answer new moves has = subst (StageRetires retiring) (sym moves.1) tt
-event_keeps retiring (Runs old) happens answer new moves has =
+event_keeps : (retiring : Retiring) (old : DiskState) (happens : Event) (answer : Answer) (new : DiskState)
+    → EventMoves old happens answer new
+    → DiskRetires retiring old → DiskRetires retiring new
+event_keeps retiring (Stopped old) happens answer new moves has = subst (DiskRetires retiring) (sym moves.1) tt
+event_keeps retiring (Running old) happens answer new moves has =
     event_in retiring old.unit.store.medium.power.off old happens answer new moves has
 
-cut_keeps : (retiring : Retiring) (keeps : ℕ → Bool) (old new : Stage) → CutMoves keeps old new → StageRetires retiring new
-cut_keeps retiring keeps old (Rests new) moves = tt
-cut_keeps retiring keeps old (Runs new) moves = absurd moves
+cut_keeps : (retiring : Retiring) (keeps : ℕ → Bool) (old new : DiskState) → CutMoves keeps old new → DiskRetires retiring new
+cut_keeps retiring keeps old (Stopped new) moves = tt
+cut_keeps retiring keeps old (Running new) moves = absurd moves
 
-does_keep : (device : Device) (old : Stage) (action : Action) (answers : List Answer) (new : Stage) → Does device old action answers new
-    → StageRetires device.retiring old → StageRetires device.retiring new
+does_keep : (device : Device) (old : DiskState) (action : Action) (answers : List Answer) (new : DiskState)
+    → Does device old action answers new
+    → DiskRetires device.retiring old → DiskRetires device.retiring new
 does_keep device old (arms writes) answers new does has = fuse_keeps device.retiring writes old new does.1 has
 does_keep device old (fails call) answers new does has = failure_keeps device.retiring call old new does.1 has
 does_keep device old starts answers new does has = start_keeps device old new does.1 has
@@ -69,7 +71,7 @@ does_keep device old (plays happens) answers new does has = event_keeps device.r
 does_keep device old (cuts keeps) answers new does has = cut_keeps device.retiring keeps old new does.1
 
 pub keeps_policy : KeepsPolicy
-keeps_policy device old new [] answers [] moves has = subst (StageRetires device.retiring) (sym moves.1) has
+keeps_policy device old new [] answers [] moves has = subst (DiskRetires device.retiring) (sym moves.1) has
 keeps_policy device old new (action ∷ actions) answers (refused ∷ refusals) moves has =
     keeps_policy device moves.0 new actions moves.2 refusals moves.5 (does_keep device old action moves.1 moves.0 moves.4.does has)
 keeps_policy device old new [] answers (refused ∷ refusals) moves has = absurd moves

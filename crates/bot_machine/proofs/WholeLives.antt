@@ -11,8 +11,8 @@ use Rattle.bot_machine.specs.Device.{presented, Device}
 use Rattle.spec.specs.Book.{Book}
 use Rattle.spec.specs.declared.event.Answer.{Answer}
 use Rattle.bot_machine.specs.declared.life.Life.{Life}
-use Rattle.bot_machine.specs.declared.stage.Stage.{Stage}
-use Rattle.bot_machine.specs.declared.stage.Stage.TheVariants.{Rests}
+use Rattle.bot_machine.specs.declared.disk_state.DiskState.{DiskState}
+use Rattle.bot_machine.specs.declared.disk_state.DiskState.TheVariants.{Stopped}
 use Rattle.bot_machine.specs.Moving.{MovesBy}
 use Rattle.bot_machine.specs.Answers.{Room}
 use Rattle.spec.specs.Conversation.{refused_events}
@@ -69,15 +69,15 @@ module _ (lives : List Life) (i : ℕ) (life : Life) (below : i < length lives) 
 
 -- a start is refused for another reason than a fuse that was armed before it
 pub not_for_a_fuse : (fuse : Option ℕ) (old armed : LivesValue) (after : State) (fault : StartFault)
-    → MatchOption fuse (armed ≡ old) (λ writes. IsFused writes (medium_in old.stage) (medium_in armed.stage))
-    → IsNotOpened (state_in armed.stage) after fault → IsNotOpened (state_in old.stage) after fault
-not_for_a_fuse None old armed after fault same h = subst (λ (x : LivesValue). IsNotOpened (state_in x.stage) after fault) same h
+    → MatchOption fuse (armed ≡ old) (λ writes. IsFused writes (medium_in old.state) (medium_in armed.state))
+    → IsNotOpened (state_in armed.state) after fault → IsNotOpened (state_in old.state) after fault
+not_for_a_fuse None old armed after fault same h = subst (λ (x : LivesValue). IsNotOpened (state_in x.state) after fault) same h
 not_for_a_fuse (Some writes) old armed after fault fused h = subst (λ (m : Sim). IsNotOpened (state_of m) after fault) fused h
 
 -- the first lives, over a medium that opens with this book
 first_fits : (m : Sim) (device : Device) → IsAtRest m → m.power.fuse ≡ None → (limit : ℕ) (book : Book) → OpensOn (state_of m) book
     → HasLimit (state_of m).size limit (state_of m).content
-    → FitsLives (record { device = device; stage = Rests m }) (first_standing limit book)
+    → FitsLives (record { device = device; state = Stopped m }) (first_standing limit book)
 first_fits m device rest unfused limit book opens has = record {
   is_at = (rest, opens);
   limit_at = has;
@@ -88,15 +88,15 @@ first_fits m device rest unfused limit book opens has = record {
 
 module _ (m : Sim) (device : Device) (rest : IsAtRest m) (unfused : m.power.fuse ≡ None) (after : LivesValue) (told : List Answer) where
   abbrev first : LivesValue
-  first = record { device = device; stage = Rests m }
+  first = record { device = device; state = Stopped m }
 
   pub all_lived : (lives : List Life) → LivesGoOn first (actions_of_all lives) told after → length told ≡ events_in lives
-      → IsAtRest (medium_in after.stage) → (medium_in after.stage).power.fuse ≡ None → after.stage ≡ Rests (medium_in after.stage)
-      → AreLived m device lives told (medium_in after.stage)
+      → IsAtRest (medium_in after.state) → (medium_in after.state).power.fuse ≡ None → after.state ≡ Stopped (medium_in after.state)
+      → AreLived m device lives told (medium_in after.state)
   all_lived lives on one_each rest_after unfused_after alone = record {
     one_each = one_each;
     kept = record { refusals = on.refusals; few = on.refused; lives = kept };
-    moves = subst (λ (x : Stage). MovesBy device (Rests m) (actions_of_all lives) told on.refusals x) alone on.moves;
+    moves = subst (λ (x : DiskState). MovesBy device (Stopped m) (actions_of_all lives) told on.refusals x) alone on.moves;
     rests = rest_after;
     unfused = unfused_after;
     size_stays = on.size_stays;
@@ -106,7 +106,7 @@ module _ (m : Sim) (device : Device) (rest : IsAtRest m) (unfused : m.power.fuse
       size = (state_of m).size
 
       Leaves : Image → Type 0
-      Leaves = CutLeaves (state_of (medium_in after.stage)).may_leave
+      Leaves = CutLeaves (state_of (medium_in after.state)).may_leave
 
       kept : (limit : ℕ) (book : Book) → OpensOn (state_of m) book → HasLimit size limit (state_of m).content
           → AreKept (StandsForSome size) (StandsAs size) (HasLimit size) (presented device) limit book (actions_of_all lives) told
@@ -118,14 +118,14 @@ module _ (m : Sim) (device : Device) (rest : IsAtRest m) (unfused : m.power.fuse
             last = g.there;
             run = subst (λ (x : Device). LivesRun (presented x) here (actions_of_all lives) told on.refusals g.there) on.device_stays g.run;
             limited = λ ours image cut. subst (λ (n : ℕ). HasLimit n limit image) on.size_stays
-                (subst (λ (n : ℕ). LeavesLimit n after.stage) (g.limit_stays ours) (g.fits.limited (g.ours ∙ ours)) image cut);
+                (subst (λ (n : ℕ). LeavesLimit n after.state) (g.limit_stays ours) (g.fits.limited (g.ours ∙ ours)) image cut);
             found = λ ours image cut. subst (λ (n : ℕ). FoundAt n g.there.place image) on.size_stays
                 (g.fits.found (g.ours ∙ ours) image cut);
           }
 
   all_lived-refusals : (lives : List Life) (on : LivesGoOn first (actions_of_all lives) told after)
-      (one_each : length told ≡ events_in lives) (rest_after : IsAtRest (medium_in after.stage))
-      (unfused_after : (medium_in after.stage).power.fuse ≡ None) (alone : after.stage ≡ Rests (medium_in after.stage))
+      (one_each : length told ≡ events_in lives) (rest_after : IsAtRest (medium_in after.state))
+      (unfused_after : (medium_in after.state).power.fuse ≡ None) (alone : after.state ≡ Stopped (medium_in after.state))
       → (all_lived lives on one_each rest_after unfused_after alone).kept.refusals ≡ on.refusals
   unfolding all_lived
   all_lived-refusals lives on one_each rest_after unfused_after alone = refl
@@ -136,12 +136,12 @@ told_same : (before after : LivesValue) (actions : List Action) (told other : Li
 told_same before after actions told other fault e s = record {
   refusals = s.refusals;
   at = s.at;
-  moves = subst (λ (l : List Answer). MovesBy before.device before.stage actions l s.refusals (Rests s.at)) e s.moves;
+  moves = subst (λ (l : List Answer). MovesBy before.device before.state actions l s.refusals (Stopped s.at)) e s.moves;
   start = s.start;
   refused = s.refused;
   goes = λ here fits. subst
       (λ (l : List Answer).
-      LivesStopAt after here actions l s.refusals (refused_events s.refusals + (state_in before.stage).failures) fault)
+      LivesStopAt after here actions l s.refusals (refused_events s.refusals + (state_in before.state).failures) fault)
       e (s.goes here fits);
   rests = s.rests;
   on = s.on;
@@ -156,14 +156,14 @@ told_same-refusals before after actions told other fault e s = refl
 
 module _ (m : Sim) (device : Device) (rest : IsAtRest m) (unfused : m.power.fuse ≡ None) (mid after : LivesValue) (told : List Answer)
     (lives lived others : List Life) (life : Life) (fault : StartFault) (lives_are : lives ≡ lived ++ life ∷ others)
-    (on : LivesGoOn (record { device = device; stage = Rests m }) (actions_of_all lived) told mid)
-    (one_each : length told ≡ events_in lived) (rest_mid : IsAtRest (medium_in mid.stage))
-    (unfused_mid : (medium_in mid.stage).power.fuse ≡ None) (alone : mid.stage ≡ Rests (medium_in mid.stage))
-    (cause : IsNotOpened (state_in mid.stage) (state_in after.stage) fault) (last : LivesStop mid (armed_by life.fuse) [] fault after) where
+    (on : LivesGoOn (record { device = device; state = Stopped m }) (actions_of_all lived) told mid)
+    (one_each : length told ≡ events_in lived) (rest_mid : IsAtRest (medium_in mid.state))
+    (unfused_mid : (medium_in mid.state).power.fuse ≡ None) (alone : mid.state ≡ Stopped (medium_in mid.state))
+    (cause : IsNotOpened (state_in mid.state) (state_in after.state) fault) (last : LivesStop mid (armed_by life.fuse) [] fault after) where
   abbrev begun : LivesValue
-  begun = record { device = device; stage = Rests m }
+  begun = record { device = device; state = Stopped m }
 
-  were_lived : AreLived m device lived told (medium_in mid.stage)
+  were_lived : AreLived m device lived told (medium_in mid.state)
   were_lived = all_lived m device rest unfused mid told lived on one_each rest_mid unfused_mid alone
 
   stop : LivesStop begun (actions_of_all lived ++ armed_by life.fuse) told fault after
@@ -179,10 +179,11 @@ module _ (m : Sim) (device : Device) (rest : IsAtRest m) (unfused : m.power.fuse
       ∙ ap (λ (l : List Bool). l ++ last.refusals)
       (sym (all_lived-refusals m device rest unfused mid told lived on one_each rest_mid unfused_mid alone))
 
-  arms : MovesBy device (Rests (medium_in mid.stage)) (armed_by life.fuse) [] last.refusals (Rests last.at)
+  arms : MovesBy device (Stopped (medium_in mid.state)) (armed_by life.fuse) [] last.refusals (Stopped last.at)
   arms =
-      subst (λ (i : Device). MovesBy i (Rests (medium_in mid.stage)) (armed_by life.fuse) [] last.refusals (Rests last.at)) on.device_stays
-      (subst (λ (x : Stage). MovesBy mid.device x (armed_by life.fuse) [] last.refusals (Rests last.at)) alone last.moves)
+      subst (λ (i : Device). MovesBy i (Stopped (medium_in mid.state)) (armed_by life.fuse) [] last.refusals (Stopped last.at))
+      on.device_stays
+      (subst (λ (x : DiskState). MovesBy mid.device x (armed_by life.fuse) [] last.refusals (Stopped last.at)) alone last.moves)
 
   abbrev actions : List Action
   actions = actions_of_all lived ++ armed_by life.fuse
@@ -194,7 +195,7 @@ module _ (m : Sim) (device : Device) (rest : IsAtRest m) (unfused : m.power.fuse
 
   kept_up_to : (limit : ℕ) (book : Book) → OpensOn (state_of m) book → HasLimit (state_of m).size limit (state_of m).content
       → AreKeptUpTo (StandsForSome (state_of m).size) (StandsAs (state_of m).size) (HasLimit (state_of m).size) (presented device) limit
-      book actions told stop.refusals (CutLeaves (state_of (medium_in after.stage)).may_leave)
+      book actions told stop.refusals (CutLeaves (state_of (medium_in after.state)).may_leave)
   kept_up_to limit book opens has =
       let g = at_stop limit book opens has in
       record {
@@ -207,18 +208,18 @@ module _ (m : Sim) (device : Device) (rest : IsAtRest m) (unfused : m.power.fuse
         found = λ ours image cut. subst (λ (n : ℕ). MayFind n g.book image) stop.size_stays (g.found (g.ours ∙ ours) image cut);
       }
 
-  keeps : KeepsPromiseUpTo m device actions told (medium_in after.stage)
+  keeps : KeepsPromiseUpTo m device actions told (medium_in after.state)
   keeps = record { refusals = stop.refusals; few = stop.refused; lives = kept_up_to }
 
-  refused_for : IsRefusedFor m device actions told fault (medium_in after.stage) keeps
+  refused_for : IsRefusedFor m device actions told fault (medium_in after.state) keeps
   unfolding keeps kept_up_to
   refused_for limit book opens has ours = let g = at_stop limit book opens has in g.cause (g.ours ∙ ours)
 
-  pub lived_up_to : AreLivedUpTo m device lives told fault (medium_in after.stage)
+  pub lived_up_to : AreLivedUpTo m device lives told fault (medium_in after.state)
   unfolding keeps
   lived_up_to = record {
     up_to = record { lived = lived; life = life; rest = others; lives_are = lives_are; kept = keeps };
-    at = medium_in mid.stage;
+    at = medium_in mid.state;
     were_lived = were_lived;
     cause = cause;
     armed = last.at;

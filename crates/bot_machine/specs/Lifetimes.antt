@@ -13,7 +13,7 @@ use Rattle.bot_machine.specs.Device.{presented, Device}
 use Rattle.spec.specs.Conversation.{refused_events}
 use Rattle.bot_machine.specs.Opening.{IsNotOpened}
 use Rattle.spec.specs.Lives.{Action, arms, starts, plays, cuts}
-use Rattle.bot_machine.specs.declared.stage.Stage.TheVariants.{Rests}
+use Rattle.bot_machine.specs.declared.disk_state.DiskState.TheVariants.{Stopped}
 use Rattle.bot_machine.specs.Moving.{MovesBy, IsRefusedStart}
 use Rattle.bot_machine.specs.LivesValue.{LivesValue, LivesGoOn, LivesStop, IsAtRest, OpensOn}
 use Rattle.bot_machine.specs.LivesValue.{HasLimit, FitsLives, MayRefuse, state_in}
@@ -54,7 +54,7 @@ StandsFirst medium lives = (limit : ℕ) (book : Book) → IsAtRest medium → m
 
 -- lives of this device over a medium, none of which has been yet
 pub record AreNew (device : Device) (medium : Sim) (lives : LivesValue) : Type 0 where
-  pub value : lives ≡ record { device = device; stage = Rests medium }
+  pub value : lives ≡ record { device = device; state = Stopped medium }
   pub first : StandsFirst medium lives
 
 -- Actions of a disk over a medium in memory, and their answers, keep the promise, by what its
@@ -87,7 +87,7 @@ pub record AppendsFor (before after : LivesValue) (old new : Room) (actions : Li
 pub record IsNotLived (before after : LivesValue) (old new : Room) (life : Life)
     (fault : StartFault) : Type 0 where
   pub stops : LivesStop before (armed_by life.fuse) [] fault after
-  pub cause : IsNotOpened (state_in before.stage) (state_in after.stage) fault
+  pub cause : IsNotOpened (state_in before.state) (state_in after.state) fault
   pub unanswered : new ≡ old
 
 -- The promise of lives over a medium in memory.
@@ -104,7 +104,8 @@ pub record AreLived (before : Sim) (device : Device) (lives : List Life)
     (told : List Answer) (after : Sim) : Type 0 where
   pub one_each : length told ≡ events_in lives
   pub kept : KeepPromise before device lives told after
-  pub moves : MovesBy device (Rests before) (actions_of_all lives) told kept.refusals (Rests after)
+  pub moves : MovesBy device (Stopped before) (actions_of_all lives) told kept.refusals
+      (Stopped after)
   pub rests : IsAtRest after
   pub unfused : after.power.fuse ≡ None
   pub size_stays : (state_of after).size ≡ (state_of before).size
@@ -141,7 +142,7 @@ pub record AreLivedUpTo (before : Sim) (device : Device) (lives : List Life)
   -- the medium with the fuse of that life, if it has one, on which the start was made
   pub armed : Sim
   pub arming : List Bool
-  pub arms : MovesBy device (Rests at) (armed_by up_to.life.fuse) [] arming (Rests armed)
+  pub arms : MovesBy device (Stopped at) (armed_by up_to.life.fuse) [] arming (Stopped armed)
   pub start : IsRefusedStart armed fault after
   pub refusals_are : up_to.kept.refusals ≡ were_lived.kept.refusals ++ arming
   pub refused : IsRefusedFor before device (actions_of_all up_to.lived ++ armed_by up_to.life.fuse)

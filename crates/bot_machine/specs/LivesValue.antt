@@ -19,8 +19,8 @@ use Rattle.spec.specs.Rules.{UnitState}
 use Rattle.spec.specs.declared.event.Event.{Event}
 use Rattle.spec.specs.declared.event.Answer.{Answer}
 use Rattle.spec.specs.declared.event.Answer.TheVariants.{Off}
-use Rattle.bot_machine.specs.declared.stage.Stage.{Stage}
-use Rattle.bot_machine.specs.declared.stage.Stage.TheVariants.{Rests, Runs}
+use Rattle.bot_machine.specs.declared.disk_state.DiskState.{DiskState}
+use Rattle.bot_machine.specs.declared.disk_state.DiskState.TheVariants.{Stopped, Running}
 use Rattle.spec.specs.Conversation.{Conversation, refused_events}
 use Rattle.bot_machine.specs.Device.{presented, Device}
 use Rattle.bot_machine.specs.Fitting.{IsWithin}
@@ -34,28 +34,28 @@ use Rattle.spec.specs.Promise as promise
 -- what is seen of lives: what disk it is, and its medium, with the disk where one runs
 pub record LivesValue : Type 0 where
   pub device : Device
-  pub stage : Stage
+  pub state : DiskState
 
 -- a disk was started, or power went in its start
-abbrev pub HasStarted : Stage → Type 0
-HasStarted (Rests medium) = medium.power.off ≡ true
-HasStarted (Runs disk) = ⊤
+abbrev pub HasStarted : DiskState → Type 0
+HasStarted (Stopped medium) = medium.power.off ≡ true
+HasStarted (Running disk) = ⊤
 
 -- a disk that runs has packets of this size
-abbrev pub HasPackets : ℕ → Stage → Type 0
-HasPackets size (Rests medium) = ⊤
-HasPackets size (Runs disk) = disk.line.packet_size ≡ size
+abbrev pub HasPackets : ℕ → DiskState → Type 0
+HasPackets size (Stopped medium) = ⊤
+HasPackets size (Running disk) = disk.line.packet_size ≡ size
 
 -- where a disk runs, the event's packet is no longer than those of the disk
-abbrev pub TakesEvent : Stage → Event → Type 0
-TakesEvent (Rests medium) event = ⊤
-TakesEvent (Runs disk) event = IsWithin disk.line.packet_size event
+abbrev pub TakesEvent : DiskState → Event → Type 0
+TakesEvent (Stopped medium) event = ⊤
+TakesEvent (Running disk) event = IsWithin disk.line.packet_size event
 
 -- A life has begun: a disk was started, or power went in its start. Where none ran before, and the
 -- power is on, the contents of the medium stood for something.
-pub record HasBegun (old new : Stage) : Type 0 where
+pub record HasBegun (old new : DiskState) : Type 0 where
   pub started : HasStarted new
-  pub stood : (medium : Sim) → old ≡ Rests medium → (medium_in new).power.off ≡ false
+  pub stood : (medium : Sim) → old ≡ Stopped medium → (medium_in new).power.off ≡ false
       → Stands (state_of medium).size (state_of medium).content
 
 -- the power is on, and nothing is unflushed
@@ -65,9 +65,9 @@ pub record IsAtRest (medium : Sim) : Type 0 where
 
 -- a life that ended rests alone, with no fuse
 pub record RestsAlone (lives : LivesValue) : Type 0 where
-  pub rests : IsAtRest (medium_in lives.stage)
-  pub unfused : (medium_in lives.stage).power.fuse ≡ None
-  pub alone : lives.stage ≡ Rests (medium_in lives.stage)
+  pub rests : IsAtRest (medium_in lives.state)
+  pub unfused : (medium_in lives.state).power.fuse ≡ None
+  pub alone : lives.state ≡ Stopped (medium_in lives.state)
 
 -- a disk is in this conversation, and fits its book
 pub record Converses (disk : DiskValue Sim) (conversation : Conversation UnitState) : Type 0 where
@@ -76,14 +76,14 @@ pub record Converses (disk : DiskValue Sim) (conversation : Conversation UnitSta
   pub fits : FitsDisk (state_of disk.unit.store.medium) disk conversation.unit.book
 
 -- a disk, or a medium without one, at a place of lives
-abbrev pub IsAt : Place → Stage → Type 0
-IsAt (before_first book) (Rests medium) = IsAtRest medium × OpensOn (state_of medium) book
-IsAt (before_first book) (Runs disk) = ⊥
-IsAt (between remains) (Rests medium) = IsAtRest medium
-IsAt (between remains) (Runs disk) = ⊥
-IsAt (runs conversation) (Rests medium) = ⊥
-IsAt (runs conversation) (Runs disk) = Converses disk conversation
-IsAt (off remains) stage = (medium_in stage).power.off ≡ true
+abbrev pub IsAt : Place → DiskState → Type 0
+IsAt (before_first book) (Stopped medium) = IsAtRest medium × OpensOn (state_of medium) book
+IsAt (before_first book) (Running disk) = ⊥
+IsAt (between remains) (Stopped medium) = IsAtRest medium
+IsAt (between remains) (Running disk) = ⊥
+IsAt (runs conversation) (Stopped medium) = ⊥
+IsAt (runs conversation) (Running disk) = Converses disk conversation
+IsAt (off remains) state = (medium_in state).power.off ≡ true
 
 -- the book of a place
 abbrev pub book_at : Place → Book
@@ -98,25 +98,25 @@ FoundAt size place image = promise.FoundAt (StandsAs size) place image
 
 -- the limit of lives that stand here: the contents have it when the first begins, and a disk that
 -- runs
-abbrev pub LimitAt : Place → ℕ → Stage → Type 0
-LimitAt (before_first book) limit stage =
-    HasLimit (state_in stage).size limit (state_in stage).content
-LimitAt (between remains) limit stage = ⊤
-LimitAt (runs conversation) limit stage = limit ≡ conversation.unit.limit
-LimitAt (off remains) limit stage = ⊤
+abbrev pub LimitAt : Place → ℕ → DiskState → Type 0
+LimitAt (before_first book) limit state =
+    HasLimit (state_in state).size limit (state_in state).content
+LimitAt (between remains) limit state = ⊤
+LimitAt (runs conversation) limit state = limit ≡ conversation.unit.limit
+LimitAt (off remains) limit state = ⊤
 
--- every image that a cut may leave of this stage has this limit
-abbrev pub LeavesLimit : ℕ → Stage → Type 0
-LeavesLimit limit stage = EachCut (HasLimit (state_in stage).size limit) (state_in stage)
+-- every image that a cut may leave of this state has this limit
+abbrev pub LeavesLimit : ℕ → DiskState → Type 0
+LeavesLimit limit state = EachCut (HasLimit (state_in state).size limit) (state_in state)
 
 -- lives stand here
 pub record FitsLives (lives : LivesValue) (here : Standing) : Type 0 where
-  pub is_at : IsAt here.place lives.stage
-  pub limit_at : LimitAt here.place here.limit lives.stage
-  pub limited : (book_at here.place).ours ≡ true → LeavesLimit here.limit lives.stage
+  pub is_at : IsAt here.place lives.state
+  pub limit_at : LimitAt here.place here.limit lives.state
+  pub limited : (book_at here.place).ours ≡ true → LeavesLimit here.limit lives.state
   pub found : (book_at here.place).ours ≡ true
-      → EachCut (FoundAt (state_in lives.stage).size here.place) (state_in lives.stage)
-  pub unfused : here.armed ≡ false → (medium_in lives.stage).power.fuse ≡ None
+      → EachCut (FoundAt (state_in lives.state).size here.place) (state_in lives.state)
+  pub unfused : here.armed ≡ false → (medium_in lives.state).power.fuse ≡ None
 
 -- from one standing, by actions and their answers, to one where these lives stand
 pub record LivesGoTo (after : LivesValue) (here : Standing) (actions : List Action)
@@ -134,12 +134,12 @@ pub record LivesGoTo (after : LivesValue) (here : Standing) (actions : List Acti
 pub record LivesGoOn (before : LivesValue) (actions : List Action) (answers : List Answer)
     (after : LivesValue) : Type 0 where
   pub refusals : List Bool
-  pub moves : MovesBy before.device before.stage actions answers refusals after.stage
-  pub refused : refused_events refusals + (state_in before.stage).failures
-      ≤ (state_in after.stage).failures
+  pub moves : MovesBy before.device before.state actions answers refusals after.state
+  pub refused : refused_events refusals + (state_in before.state).failures
+      ≤ (state_in after.state).failures
   pub goes : (here : Standing) → FitsLives before here
       → LivesGoTo after here actions answers refusals
-  pub size_stays : (state_in after.stage).size ≡ (state_in before.stage).size
+  pub size_stays : (state_in after.state).size ≡ (state_in before.state).size
   pub device_stays : after.device ≡ before.device
 
 -- Why a life that would open with this book is refused: for want of memory, by the medium, whose
@@ -166,10 +166,10 @@ pub record LivesStopAt (after : LivesValue) (here : Standing) (actions : List Ac
   pub book : Book
   pub opens : Opens there.place book
   pub ours : book.ours ≡ (book_at here.place).ours
-  pub cause : book.ours ≡ true → MayRefuse book counted (state_in after.stage).failures fault
-  pub limited : book.ours ≡ true → LeavesLimit here.limit after.stage
+  pub cause : book.ours ≡ true → MayRefuse book counted (state_in after.state).failures fault
+  pub limited : book.ours ≡ true → LeavesLimit here.limit after.state
   pub found : book.ours ≡ true
-      → EachCut (MayFind (state_in after.stage).size book) (state_in after.stage)
+      → EachCut (MayFind (state_in after.state).size book) (state_in after.state)
 
 -- Lives went on by these actions, with these answers, and then a start was refused with this fault,
 -- though power did not go in it. No disk runs.
@@ -178,15 +178,15 @@ pub record LivesStop (before : LivesValue) (actions : List Action) (answers : Li
   pub refusals : List Bool
   -- the medium on which the start was made that is refused
   pub at : Sim
-  pub moves : MovesBy before.device before.stage actions answers refusals (Rests at)
-  pub start : IsRefusedStart at fault (medium_in after.stage)
-  pub refused : refused_events refusals + (state_in before.stage).failures
-      ≤ (state_in after.stage).failures
+  pub moves : MovesBy before.device before.state actions answers refusals (Stopped at)
+  pub start : IsRefusedStart at fault (medium_in after.state)
+  pub refused : refused_events refusals + (state_in before.state).failures
+      ≤ (state_in after.state).failures
   pub goes : (here : Standing) → FitsLives before here → LivesStopAt after here actions answers
-      refusals (refused_events refusals + (state_in before.stage).failures) fault
-  pub rests : after.stage ≡ Rests (medium_in after.stage)
-  pub on : (medium_in after.stage).power.off ≡ false
-  pub size_stays : (state_in after.stage).size ≡ (state_in before.stage).size
+      refusals (refused_events refusals + (state_in before.state).failures) fault
+  pub rests : after.state ≡ Stopped (medium_in after.state)
+  pub on : (medium_in after.state).power.off ≡ false
+  pub size_stays : (state_in after.state).size ≡ (state_in before.state).size
   pub device_stays : after.device ≡ before.device
 
 -- a start is refused with this fault, though power did not go in it: why, and where lives stand
@@ -194,19 +194,19 @@ pub record LivesStop (before : LivesValue) (actions : List Action) (answers : Li
 pub record LivesRefuseStart (before : LivesValue) (fault : StartFault) (after : LivesValue)
     : Type 0 where
   pub stops : LivesStop before [] [] fault after
-  pub cause : IsNotOpened (state_in before.stage) (state_in after.stage) fault
+  pub cause : IsNotOpened (state_in before.state) (state_in after.state) fault
 
 -- A disk is started where none ran and the power is on: lives go on by it, or the start is refused.
 pub record LifeBegins (before : LivesValue) (result : Result (Unit {0}) StartFault)
     (after : LivesValue) : Type 0 where
   pub ok : OnOk result (LivesGoOn before (starts ∷ []) [] after)
-  pub begun : OnOk result (HasBegun before.stage after.stage)
+  pub begun : OnOk result (HasBegun before.state after.state)
   pub err : IfErr result (λ fault. LivesRefuseStart before fault after)
-  pub follows : ComesAfter (medium_in before.stage) (medium_in after.stage)
+  pub follows : ComesAfter (medium_in before.state) (medium_in after.state)
 
 -- what an event leaves that was answered so: the answer is that of a disk without power just where
 -- the power is off
-pub record StageAnswers (before : Stage) (answer : Answer) (after : Stage) : Type 0 where
+pub record DiskAnswers (before : DiskState) (answer : Answer) (after : DiskState) : Type 0 where
   pub started : HasStarted after
   pub off : (answer ≡ Off) ↔ ((medium_in after).power.off ≡ true)
   pub follows : ComesAfter (medium_in before) (medium_in after)

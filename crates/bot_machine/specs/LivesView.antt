@@ -2,12 +2,12 @@
 use Rattle.std.specs.Prelude.{[], None, Some, Option}
 use Rattle.medium.specs.Power.{powered}
 use Rattle.medium.specs.Tally.{none}
-use Rattle.bot_machine.specs.declared.stage.Stage.{Stage}
-use Rattle.bot_machine.specs.declared.stage.Stage.TheVariants.{Rests}
+use Rattle.bot_machine.specs.declared.disk_state.DiskState.{DiskState}
+use Rattle.bot_machine.specs.declared.disk_state.DiskState.TheVariants.{Stopped}
 
 -- a medium that holds nothing, where none is kept; that is so within a call alone
-abbrev pub stage_in : Option Stage → Stage
-stage_in None = Rests (record {
+abbrev pub disk_state_in : Option DiskState → DiskState
+disk_state_in None = Stopped (record {
   flushed = [];
   unflushed = [];
   room = 0;
@@ -17,4 +17,4 @@ stage_in None = Rests (record {
   made = none;
   refused = none;
 })
-stage_in (Some stage) = stage
+disk_state_in (Some state) = state

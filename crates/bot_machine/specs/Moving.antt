@@ -7,20 +7,20 @@ use Rattle.scsi_unit.specs.Serving.{has_refused}
 use Rattle.spec.specs.declared.event.Event.{Event}
 use Rattle.spec.specs.declared.event.Answer.{Answer}
 use Rattle.spec.specs.declared.event.Answer.TheVariants.{Off}
-use Rattle.bot_machine.specs.declared.stage.Stage.{Stage}
-use Rattle.bot_machine.specs.declared.stage.Stage.TheVariants.{Rests, Runs}
+use Rattle.bot_machine.specs.declared.disk_state.DiskState.{DiskState}
+use Rattle.bot_machine.specs.declared.disk_state.DiskState.TheVariants.{Stopped, Running}
 use Rattle.bot_machine.specs.Device.{Device}
 use Rattle.bot_machine.specs.Disk.{DiskValue, IsStep, IsRearmed}
 use Rattle.spec.specs.Lives.{Action, arms, fails, starts, plays, cuts}
 use Rattle.bot_machine.specs.Opening.{IsOpened, IsNotOpened, StartLeaves}
 
 -- the medium of a disk, or the medium alone
-abbrev pub medium_in : Stage → Sim
-medium_in (Rests medium) = medium
-medium_in (Runs disk) = disk.unit.store.medium
+abbrev pub medium_in : DiskState → Sim
+medium_in (Stopped medium) = medium
+medium_in (Running disk) = disk.unit.store.medium
 
-abbrev pub state_in : Stage → State
-state_in stage = state_of (medium_in stage)
+abbrev pub state_in : DiskState → State
+state_in state = state_of (medium_in state)
 
 -- A start called a medium: what it left at each moment, and what became of power and fuse.
 pub record HasCalled (old new : Sim) : Type 0 where
@@ -34,20 +34,20 @@ pub record IsRefusedStart (old : Sim) (fault : StartFault) (new : Sim) : Type 0 
   pub on : new.power.off ≡ false
 
 -- a disk starts on a medium whose contents stood for something, or power goes in the start
-abbrev pub StartsOn : Device → Sim → Stage → Type 0
-StartsOn device old (Runs disk) =
+abbrev pub StartsOn : Device → Sim → DiskState → Type 0
+StartsOn device old (Running disk) =
     IsOpened (state_of old) (state_of disk.unit.store.medium) device disk
     × HasCalled old disk.unit.store.medium
-StartsOn device old (Rests new) = HasCalled old new × (new.power.off ≡ true)
+StartsOn device old (Stopped new) = HasCalled old new × (new.power.off ≡ true)
 
 -- a start does nothing while the power is off, or where a disk runs
-abbrev pub StartsIn : Bool → Device → Sim → Stage → Type 0
-StartsIn true device old new = new ≡ Rests old
+abbrev pub StartsIn : Bool → Device → Sim → DiskState → Type 0
+StartsIn true device old new = new ≡ Stopped old
 StartsIn false device old new = StartsOn device old new
 
-abbrev pub StartMoves : Device → Stage → Stage → Type 0
-StartMoves device (Rests medium) new = StartsIn medium.power.off device medium new
-StartMoves device (Runs disk) new = new ≡ Runs disk
+abbrev pub StartMoves : Device → DiskState → DiskState → Type 0
+StartMoves device (Stopped medium) new = StartsIn medium.power.off device medium new
+StartMoves device (Running disk) new = new ≡ Running disk
 
 -- An event came to a disk whose power was on: one step of the disk. Its own answer is given where
 -- the power is still on.
@@ -60,36 +60,36 @@ pub record IsPlayed (old : DiskValue Sim) (event : Event) (answer : Answer) (new
   pub answered : answer ≡ (if new.unit.store.medium.power.off then Off else told)
 
 -- an event does nothing while the power is off
-abbrev pub EventMovesIn : Bool → DiskValue Sim → Event → Answer → Stage → Type 0
-EventMovesIn true old event answer new = (answer ≡ Off) × (new ≡ Runs old)
+abbrev pub EventMovesIn : Bool → DiskValue Sim → Event → Answer → DiskState → Type 0
+EventMovesIn true old event answer new = (answer ≡ Off) × (new ≡ Running old)
 EventMovesIn false old event answer new =
-    (disk : DiskValue Sim) × (new ≡ Runs disk) × IsPlayed old event answer disk
+    (disk : DiskValue Sim) × (new ≡ Running disk) × IsPlayed old event answer disk
 
-abbrev pub EventMoves : Stage → Event → Answer → Stage → Type 0
-EventMoves (Rests medium) event answer new = (answer ≡ Off) × (new ≡ Rests medium)
-EventMoves (Runs disk) event answer new =
+abbrev pub EventMoves : DiskState → Event → Answer → DiskState → Type 0
+EventMoves (Stopped medium) event answer new = (answer ≡ Off) × (new ≡ Stopped medium)
+EventMoves (Running disk) event answer new =
     EventMovesIn disk.unit.store.medium.power.off disk event answer new
 
 -- a fuse is armed, and nothing else changes
-abbrev pub FuseMoves : ℕ → Stage → Stage → Type 0
-FuseMoves writes (Rests old) (Rests new) = IsFused writes old new
-FuseMoves writes (Runs old) (Runs new) =
+abbrev pub FuseMoves : ℕ → DiskState → DiskState → Type 0
+FuseMoves writes (Stopped old) (Stopped new) = IsFused writes old new
+FuseMoves writes (Running old) (Running new) =
     IsFused writes old.unit.store.medium new.unit.store.medium × IsRearmed old new
 FuseMoves writes old new = ⊥
 
 -- a failure is armed, and nothing else changes
-abbrev pub FailureMoves : ℕ → Stage → Stage → Type 0
-FailureMoves call (Rests old) (Rests new) = IsFailing call old new
-FailureMoves call (Runs old) (Runs new) =
+abbrev pub FailureMoves : ℕ → DiskState → DiskState → Type 0
+FailureMoves call (Stopped old) (Stopped new) = IsFailing call old new
+FailureMoves call (Running old) (Running new) =
     IsFailing call old.unit.store.medium new.unit.store.medium × IsRearmed old new
 FailureMoves call old new = ⊥
 
 -- a cut keeps these of the unflushed writes, and no disk runs
-abbrev pub CutMoves : (ℕ → Bool) → Stage → Stage → Type 0
-CutMoves keeps old (Rests new) = IsCut keeps (medium_in old) new
-CutMoves keeps old (Runs new) = ⊥
+abbrev pub CutMoves : (ℕ → Bool) → DiskState → DiskState → Type 0
+CutMoves keeps old (Stopped new) = IsCut keeps (medium_in old) new
+CutMoves keeps old (Running new) = ⊥
 
-abbrev pub Does : Device → Stage → Action → List Answer → Stage → Type 0
+abbrev pub Does : Device → DiskState → Action → List Answer → DiskState → Type 0
 Does device old (arms writes) answers new = (answers ≡ []) × FuseMoves writes old new
 Does device old (fails call) answers new = (answers ≡ []) × FailureMoves call old new
 Does device old starts answers new = (answers ≡ []) × StartMoves device old new
@@ -98,17 +98,17 @@ Does device old (plays event) answers new =
 Does device old (cuts keeps) answers new = (answers ≡ []) × CutMoves keeps old new
 
 -- one action, its answers, and whether the medium refused a call in it
-pub record Moves (device : Device) (refused : Bool) (old : Stage) (action : Action)
-    (answers : List Answer) (new : Stage) : Type 0 where
+pub record Moves (device : Device) (refused : Bool) (old : DiskState) (action : Action)
+    (answers : List Answer) (new : DiskState) : Type 0 where
   pub does : Does device old action answers new
   pub counted : refused ≡ has_refused (state_in old) (state_in new)
 
 -- actions and their answers, one after another
-abbrev pub MovesBy : Device → Stage → List Action → List Answer → List Bool → Stage
+abbrev pub MovesBy : Device → DiskState → List Action → List Answer → List Bool → DiskState
     → Type 0
 MovesBy device old [] answers [] new = (answers ≡ []) × (new ≡ old)
 MovesBy device old (action ∷ actions) answers (refused ∷ refusals) new =
-    (mid : Stage) × (here : List Answer) × (later : List Answer) × (answers ≡ here ++ later)
+    (mid : DiskState) × (here : List Answer) × (later : List Answer) × (answers ≡ here ++ later)
     × Moves device refused old action here mid
     × MovesBy device mid actions later refusals new
 MovesBy device old actions answers refusals new = ⊥

@@ -2,22 +2,23 @@
 use Rattle.std.specs.Prelude.{⊤, Bool, List}
 use Rattle.scsi_unit.specs.Retiring.{RetiresBy}
 use Rattle.spec.specs.declared.event.Answer.{Answer}
-use Rattle.bot_machine.specs.declared.stage.Stage.{Stage}
-use Rattle.bot_machine.specs.declared.stage.Stage.TheVariants.{Rests, Runs}
+use Rattle.bot_machine.specs.declared.disk_state.DiskState.{DiskState}
+use Rattle.bot_machine.specs.declared.disk_state.DiskState.TheVariants.{Stopped, Running}
 use Rattle.bot_machine.specs.Device.{presented, Device, Retiring}
 use Rattle.spec.specs.Lives.{Action, Standing, LivesRun}
 use Rattle.bot_machine.specs.Moving.{MovesBy}
 
 -- a disk that runs retires so
-abbrev pub StageRetires : Retiring → Stage → Type 0
-StageRetires retiring (Rests medium) = ⊤
-StageRetires retiring (Runs disk) = RetiresBy retiring disk.unit
+abbrev pub DiskRetires : Retiring → DiskState → Type 0
+DiskRetires retiring (Stopped medium) = ⊤
+DiskRetires retiring (Running disk) = RetiresBy retiring disk.unit
 
 -- Whatever is done, a disk that runs retires as is known of it: in each life, throughout.
 abbrev pub KeepsPolicy : Type 0
-KeepsPolicy = (device : Device) (old new : Stage) (actions : List Action) (answers : List Answer)
+KeepsPolicy = (device : Device) (old new : DiskState) (actions : List Action)
+    (answers : List Answer)
     (refusals : List Bool) → MovesBy device old actions answers refusals new
-    → StageRetires device.retiring old → StageRetires device.retiring new
+    → DiskRetires device.retiring old → DiskRetires device.retiring new
 
 -- Lives by the rules are the same whenever records go home: the answers, and what a cut may leave.
 abbrev pub PolicyIsUnseen : Type 0

@@ -5,6 +5,7 @@
 mod answers;
 mod bulk_state;
 mod disk;
+mod disk_state;
 mod event;
 mod exchange;
 mod fault;
@@ -16,7 +17,6 @@ mod reading;
 mod request;
 mod run;
 mod serve;
-mod stage;
 mod start;
 
 pub use answers::Answers;

@@ -172,7 +172,7 @@ fn live(
 fn arm(run: &mut Lives, fuse: Option<u64>)
     ensures goes_on { LivesGoOn run.old (armed_by fuse) [] run.new }
     ensures fused { MatchOption fuse (run.new ≡ run.old) (λ writes. IsFused writes
-        (medium_in run.old.stage) (medium_in run.new.stage)) }
+        (medium_in run.old.state) (medium_in run.new.state)) }
 {
     if let Some(writes) = fuse {
         run.fuse(writes);
@@ -181,7 +181,7 @@ fn arm(run: &mut Lives, fuse: Option<u64>)
 
 // The events of a life that was started.
 fn play_all(run: &mut Lives, events: &[Event], answers: &mut Answers)
-    requires started { HasStarted run.old.stage }
+    requires started { HasStarted run.old.state }
     requires within { AreWithin run.old.device.packet_size events.now }
     requires room { length answers.old.list + length events.now ≤ answers.old.room }
     ensures { AppendsFor run.old run.new answers.old answers.new

@@ -11,7 +11,7 @@ ghost use Rattle.bot_machine.specs.Device.{device_by, device_of};
 ghost use Rattle.bot_machine.specs.Fitting.{IsWithin};
 ghost use Rattle.spec.specs.declared.packet_size.PacketSize.TheVariants.{High512};
 
-use crate::stage::{self, Stage};
+use crate::disk_state::{self, DiskState};
 use crate::{Identity, Retiring, StartError, StartFault};
 use medium::{Kept, SimMedium};
 use spec::{Answer, Event, PacketSize};
@@ -27,7 +27,7 @@ pub struct Lives {
     size: PacketSize,
     retiring: Retiring,
     // There is one, but within a call.
-    stage: Option<Stage>,
+    state: Option<DiskState>,
 }
 
 impl Model for Lives {
@@ -37,25 +37,25 @@ impl Model for Lives {
     ghost Value = { LivesValue };
 
     ghost use Rattle.bot_machine.specs.Device.{device_by};
-    ghost use Rattle.bot_machine.specs.LivesView.{stage_in};
+    ghost use Rattle.bot_machine.specs.LivesView.{disk_state_in};
 
     ghost view = { λ l. record {
       device = device_by l.identity l.size l.retiring;
-      stage = stage_in l.stage;
+      state = disk_state_in l.state;
     } };
 
     ghost use Rattle.spec.specs.Packets.{bytes_of};
     ghost use Rattle.bot_machine.specs.LivesValue.{HasPackets};
 
     ghost invariant = { λ l.
-        (l.stage ≢ None) × HasPackets (bytes_of l.size) (stage_in l.stage) };
+        (l.state ≢ None) × HasPackets (bytes_of l.size) (disk_state_in l.state) };
 }
 
 impl Lives {
     ghost use Rattle.bot_machine.specs.LivesValue.{medium_in, HasStarted, HasBegun, IsAtRest};
     ghost use Rattle.bot_machine.specs.LivesValue.{OpensOn, HasLimit, FitsLives, LivesGoOn};
-    ghost use Rattle.bot_machine.specs.LivesValue.{LivesRefuseStart, LifeBegins, StageAnswers};
-    ghost use Rattle.bot_machine.specs.declared.stage.Stage.TheVariants.{Rests};
+    ghost use Rattle.bot_machine.specs.LivesValue.{LivesRefuseStart, LifeBegins, DiskAnswers};
+    ghost use Rattle.bot_machine.specs.declared.disk_state.DiskState.TheVariants.{Stopped};
 
     /// No life has been yet, and packets have at most 512 bytes (high speed): see `new_with`.
     pub fn new(medium: SimMedium, identity: Identity) -> Lives
@@ -68,7 +68,7 @@ impl Lives {
     pub fn new_with(medium: SimMedium, identity: Identity, size: PacketSize) -> Lives
         ensures value { result ≡ record {
           device = device_of identity size;
-          stage = Rests medium;
+          state = Stopped medium;
         } }
         ensures first { (limit : ℕ) (book : Book) → IsAtRest medium → medium.power.fuse ≡ None
             → OpensOn (state_of medium) book
@@ -90,7 +90,7 @@ impl Lives {
     ) -> Lives
         ensures value { result ≡ record {
           device = device_by identity size retiring;
-          stage = Rests medium;
+          state = Stopped medium;
         } }
         ensures first { StandsFirst medium result }
     {
@@ -98,36 +98,36 @@ impl Lives {
             identity,
             size,
             retiring,
-            stage: Some(Stage::Rests(medium)),
+            state: Some(DiskState::Stopped(medium)),
         }
     }
 
     /// The medium.
     pub fn medium(&self) -> &SimMedium
-        ensures { result.now ≡ medium_in self.now.stage }
+        ensures { result.now ≡ medium_in self.now.state }
     {
-        match &self.stage {
-            Some(stage) => stage::medium_of(stage),
+        match &self.state {
+            Some(state) => disk_state::medium_of(state),
             None => unreachable!(),
         }
     }
 
     /// Gives the medium back.
     pub fn into_medium(self) -> SimMedium
-        ensures { result ≡ medium_in self.stage }
+        ensures { result ≡ medium_in self.state }
     {
-        let Lives { stage, .. } = self;
-        stage::into_medium(stage.unwrap())
+        let Lives { state, .. } = self;
+        disk_state::into_medium(state.unwrap())
     }
 
     /// Arms a fuse for the rest of this life: so many writes and flushes happen, and at the next
     /// the power goes. No disk is started.
     pub fn fuse(&mut self, writes: u64)
         ensures goes_on { LivesGoOn self.old (arms writes ∷ []) [] self.new }
-        ensures fused { IsFused writes (medium_in self.old.stage) (medium_in self.new.stage) }
+        ensures fused { IsFused writes (medium_in self.old.state) (medium_in self.new.state) }
     {
-        if let Some(stage) = &mut self.stage {
-            stage::fuse(stage, writes);
+        if let Some(state) = &mut self.state {
+            disk_state::fuse(state, writes);
         }
     }
 
@@ -136,10 +136,10 @@ impl Lives {
     pub fn fail(&mut self, call: u64)
         requires { 0 < call }
         ensures goes_on { LivesGoOn self.old (fails call ∷ []) [] self.new }
-        ensures failing { IsFailing call (medium_in self.old.stage) (medium_in self.new.stage) }
+        ensures failing { IsFailing call (medium_in self.old.state) (medium_in self.new.state) }
     {
-        if let Some(stage) = &mut self.stage {
-            stage::fail(stage, call);
+        if let Some(state) = &mut self.state {
+            disk_state::fail(state, call);
         }
     }
 
@@ -151,14 +151,14 @@ impl Lives {
     pub fn start(&mut self, alloc: Global) -> Result<(), StartFault>
         ensures { LifeBegins self.old result self.new }
     {
-        let stage = self.stage.take().unwrap();
-        match stage::start(alloc, stage, self.identity, self.size, self.retiring) {
-            Ok(stage) => {
-                put(&mut self.stage, stage);
+        let state = self.state.take().unwrap();
+        match disk_state::start(alloc, state, self.identity, self.size, self.retiring) {
+            Ok(state) => {
+                put(&mut self.state, state);
                 Ok(())
             }
             Err(StartError { fault, medium }) => {
-                put(&mut self.stage, Stage::Rests(medium));
+                put(&mut self.state, DiskState::Stopped(medium));
                 Err(fault)
             }
         }
@@ -174,11 +174,11 @@ impl Lives {
         requires { IsWithin self.old.device.packet_size event.now }
         ensures ok { IfOk result (λ answer. LivesGoOn self.old (starts ∷ plays event.now ∷ [])
             (answer ∷ []) self.new) }
-        ensures begun { OnOk result (HasBegun self.old.stage self.new.stage) }
+        ensures begun { OnOk result (HasBegun self.old.state self.new.state) }
         ensures off { IfOk result (λ answer. (answer ≡ Answer.Off)
-            ↔ ((medium_in self.new.stage).power.off ≡ true)) }
+            ↔ ((medium_in self.new.state).power.off ≡ true)) }
         ensures err { IfErr result (λ fault. LivesRefuseStart self.old fault self.new) }
-        ensures follows { ComesAfter (medium_in self.old.stage) (medium_in self.new.stage) }
+        ensures follows { ComesAfter (medium_in self.old.state) (medium_in self.new.state) }
     {
         self.start(alloc)?;
         Ok(self.play(event))
@@ -186,13 +186,13 @@ impl Lives {
 
     /// Plays an event on a disk that was started.
     pub(crate) fn play(&mut self, event: &Event) -> Answer
-        requires started { HasStarted self.old.stage }
+        requires started { HasStarted self.old.state }
         requires within { IsWithin self.old.device.packet_size event.now }
         ensures goes_on { LivesGoOn self.old (plays event.now ∷ []) (result ∷ []) self.new }
-        ensures plays { StageAnswers self.old.stage result self.new.stage }
+        ensures plays { DiskAnswers self.old.state result self.new.state }
     {
-        match &mut self.stage {
-            Some(stage) => stage::play(stage, event),
+        match &mut self.state {
+            Some(state) => disk_state::play(state, event),
             None => unreachable!(),
         }
     }
@@ -201,18 +201,19 @@ impl Lives {
     /// are applied, and fuse and failure are disarmed. No disk runs then.
     pub fn cut(&mut self, kept: &Kept)
         ensures goes_on { LivesGoOn self.old (cuts (keeps kept.now) ∷ []) [] self.new }
-        ensures exact { IsCut (keeps kept.now) (medium_in self.old.stage)
-            (medium_in self.new.stage) }
-        ensures rests { self.new.stage ≡ Rests (medium_in self.new.stage) }
+        ensures exact { IsCut (keeps kept.now) (medium_in self.old.state)
+            (medium_in self.new.state) }
+        ensures rests { self.new.state ≡ Stopped (medium_in self.new.state) }
     {
-        let stage = self.stage.take().unwrap();
-        put(&mut self.stage, Stage::Rests(stage::cut(stage, kept)));
+        let state = self.state.take().unwrap();
+        let medium = disk_state::cut(state, kept);
+        put(&mut self.state, DiskState::Stopped(medium));
     }
 }
 
-// Puts a stage where none is.
-fn put(place: &mut Option<Stage>, stage: Stage)
-    ensures { place.new ≡ Some stage }
+// Puts a state where none is.
+fn put(place: &mut Option<DiskState>, state: DiskState)
+    ensures { place.new ≡ Some state }
 {
-    *place = Some(stage);
+    *place = Some(state);
 }

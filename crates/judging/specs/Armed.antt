@@ -7,9 +7,9 @@ use Rattle.bot_machine.specs.LivesValue.{LivesValue, LivesGoOn, medium_in}
 -- a fuse is armed: so many writes and flushes happen, and at the next the power goes
 pub record ArmsFuse (writes : ℕ) (before after : LivesValue) : Type 0 where
   pub goes_on : LivesGoOn before (arms writes ∷ []) [] after
-  pub fused : IsFused writes (medium_in before.stage) (medium_in after.stage)
+  pub fused : IsFused writes (medium_in before.state) (medium_in after.state)
 
 -- a failure is armed: the call with this number from now on, counted from 1, is refused once
 pub record ArmsFailure (call : ℕ) (before after : LivesValue) : Type 0 where
   pub goes_on : LivesGoOn before (fails call ∷ []) [] after
-  pub failing : IsFailing call (medium_in before.stage) (medium_in after.stage)
+  pub failing : IsFailing call (medium_in before.state) (medium_in after.state)

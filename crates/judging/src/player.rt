@@ -2,7 +2,7 @@
 ghost use Rattle.std.specs.Prelude.{◌≡◌, ◌<◌, [], ◌∷◌, length, IfOk, MatchResult};
 ghost use Rattle.spec.specs.Lives.{starts};
 ghost use Rattle.bot_machine.specs.LivesValue.{medium_in, LivesGoOn, LivesRefuseStart};
-ghost use Rattle.bot_machine.specs.declared.stage.Stage.TheVariants.{Rests};
+ghost use Rattle.bot_machine.specs.declared.disk_state.DiskState.TheVariants.{Stopped};
 ghost use Rattle.spec.specs.declared.packet_size.PacketSize.TheVariants.{High512};
 ghost use Rattle.bot_machine.specs.Device.{device_by};
 ghost use Rattle.judging.specs.Armed.{ArmsFuse, ArmsFailure};
@@ -42,7 +42,7 @@ impl Player {
     pub fn new(medium: SimMedium, retiring: Retiring) -> Result<Player, Finding>
         ensures { IfOk result (λ player. player ≡ record {
           device = device_by judged_identity High512 retiring;
-          stage = Rests medium;
+          state = Stopped medium;
         }) }
     {
         Ok(Player {
@@ -52,7 +52,7 @@ impl Player {
 
     /// The medium.
     pub fn medium(&self) -> &SimMedium
-        ensures { result.now ≡ medium_in self.now.stage }
+        ensures { result.now ≡ medium_in self.now.state }
     {
         self.lives.medium()
     }

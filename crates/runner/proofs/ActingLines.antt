@@ -51,7 +51,7 @@ lines-none most was lives all left same =
     record { actions = []; given = given-start (LineActs most) all left same; tells = tells-none was lives }
 
 pub lines-all : (most : ℕ) (was now : Option (List ℕ)) (old lives : LivesValue) (all left : List (List ℕ)) (after : Sim)
-    → ArePlayedTo most was now old all left lives → left ≡ [] → medium_in lives.stage ≡ after → PlaysAll was now old most all after
+    → ArePlayedTo most was now old all left lives → left ≡ [] → medium_in lives.state ≡ after → PlaysAll was now old most all after
 lines-all most was now old lives all left after so none is = record {
   actions = so.actions;
   acts = given-all (LineActs most) all left so.actions none so.given;
@@ -72,7 +72,7 @@ module _ (most : ℕ) (was mid now : Option (List ℕ)) (old between new : Lives
 
   -- a line broke off, and others were left
   pub lines-break : (fault : ScriptFault) (back : Sim) → BreaksOff mid now between actions new fault → All (IsScriptLine Lives most) left
-      → medium_in new.stage ≡ back → PlaysUpTo was now old most all fault back
+      → medium_in new.state ≡ back → PlaysUpTo was now old most all fault back
   lines-break fault back breaks are is =
       record {
         first = so.actions;

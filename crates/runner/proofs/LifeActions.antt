@@ -75,7 +75,7 @@ acted-fuse old new writes on = record {
 
 -- a failure of a call is armed: fuse and power are as they were
 pub acted-fail : (old new : LivesValue) (call : ℕ) → LivesGoOn old (fails call ∷ []) [] new
-    → IsFailing call (medium_in old.stage) (medium_in new.stage) → Acted old (fails call ∷ []) [] new
+    → IsFailing call (medium_in old.state) (medium_in new.state) → Acted old (fails call ∷ []) [] new
 acted-fail old new call on failing = record {
   goes_on = on;
   fits = λ fused is. refl;
@@ -92,20 +92,20 @@ stays_on old new after unfused on = elim (cases_Bool new.power.off) [
 
 -- an event comes, and is answered
 pub acted-event : (old new : LivesValue) (event : Event) (answer : Answer) → LivesGoOn old (comes event) (answer ∷ []) new
-    → (answer ≡ Off) ↔ ((medium_in new.stage).power.off ≡ true) → ComesAfter (medium_in old.stage) (medium_in new.stage)
+    → (answer ≡ Off) ↔ ((medium_in new.state).power.off ≡ true) → ComesAfter (medium_in old.state) (medium_in new.state)
     → Acted old (comes event) (answer ∷ []) new
 acted-event old new event answer on off after = record {
   goes_on = on;
   fits = fits;
   fuse = λ fused is unfused. let so = is unfused in
-      (after.no_fuse_stays so.0, stays_on (medium_in old.stage) (medium_in new.stage) after so.0 so.1);
+      (after.no_fuse_stays so.0, stays_on (medium_in old.state) (medium_in new.state) after so.0 so.1);
 }
   where
     fits : (fused : Bool) → FuseIs fused old → AnswersFit fused (comes event) (answer ∷ [])
     fits true is = (λ is_off. refl, refl)
     fits false is =
         let so = is refl in
-        (λ is_off. absurd (true≢false (sym (off.0 is_off) ∙ stays_on (medium_in old.stage) (medium_in new.stage) after so.0 so.1)), refl)
+        (λ is_off. absurd (true≢false (sym (off.0 is_off) ∙ stays_on (medium_in old.state) (medium_in new.state) after so.0 so.1)), refl)
 
 -- each event has one answer
 fits_any : (old new : LivesValue) (actions : List Action) (answers : List Answer) → Acted old actions answers new

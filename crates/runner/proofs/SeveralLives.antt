@@ -10,8 +10,8 @@ use Rattle.bot_machine.specs.Books.{StandsAs, MayFind}
 use Rattle.bot_machine.specs.Starting.{StandsForSome}
 use Rattle.spec.specs.Book.{Book}
 use Rattle.spec.specs.declared.event.Answer.{Answer}
-use Rattle.bot_machine.specs.declared.stage.Stage.{Stage}
-use Rattle.bot_machine.specs.declared.stage.Stage.TheVariants.{Rests}
+use Rattle.bot_machine.specs.declared.disk_state.DiskState.{DiskState}
+use Rattle.bot_machine.specs.declared.disk_state.DiskState.TheVariants.{Stopped}
 use Rattle.spec.specs.Conversation.{refused_events}
 use Rattle.spec.specs.Promise.{first_standing, AreKept, AreKeptUpTo}
 use Rattle.bot_machine.specs.Lifetimes.{KeepsPromise, KeepsPromiseUpTo, IsRefusedFor}
@@ -32,10 +32,10 @@ use Rattle.runner.specs.Script.{StopsAt, identification, device}
 
 -- no life has been yet
 abbrev first_over : ℕ → Sim → LivesValue
-first_over most medium = record { device = device most; stage = Rests medium }
+first_over most medium = record { device = device most; state = Stopped medium }
 
 -- where nothing is done, nothing moves, and lives stand where they stood
-not_moved : (disk : Device) (refusals : List Bool) (old new : Stage) → MovesBy disk old [] [] refusals new → new ≡ old
+not_moved : (disk : Device) (refusals : List Bool) (old new : DiskState) → MovesBy disk old [] [] refusals new → new ≡ old
 not_moved disk [] old new moves = moves.1
 not_moved disk (refused ∷ refusals) old new moves = absurd moves
 
@@ -65,7 +65,7 @@ module _ (most : ℕ) (medium : Sim) (rest : IsAtRest medium) (unfused : medium.
     kept_from : (limit : ℕ) (book : Book) → OpensOn (state_of medium) book → HasLimit (state_of medium).size limit (state_of medium).content
         → AreKept (StandsForSome (state_of medium).size) (StandsAs (state_of medium).size) (HasLimit (state_of medium).size)
         (presented (device most)) limit book actions answers acted.goes_on.refusals
-        (CutLeaves (state_of (medium_in new.stage)).may_leave)
+        (CutLeaves (state_of (medium_in new.state)).may_leave)
     kept_from limit book opens has =
         let g = acted.goes_on.goes (first_standing limit book) (fits limit book opens has) in
         record {
@@ -73,19 +73,19 @@ module _ (most : ℕ) (medium : Sim) (rest : IsAtRest medium) (unfused : medium.
           run = subst (λ (i : Device). LivesRun (presented i) (first_standing limit book) actions answers acted.goes_on.refusals g.there)
               acted.goes_on.device_stays g.run;
           limited = λ ours image cut. subst (λ (n : ℕ). HasLimit n limit image) acted.goes_on.size_stays
-              (subst (λ (n : ℕ). LeavesLimit n new.stage) (g.limit_stays ours) (g.fits.limited (g.ours ∙ ours)) image cut);
+              (subst (λ (n : ℕ). LeavesLimit n new.state) (g.limit_stays ours) (g.fits.limited (g.ours ∙ ours)) image cut);
           found = λ ours image cut. subst (λ (n : ℕ). FoundAt n g.there.place image) acted.goes_on.size_stays
               (g.fits.found (g.ours ∙ ours) image cut);
         }
 
-    keep : KeepsPromise medium (device most) actions answers (medium_in new.stage)
+    keep : KeepsPromise medium (device most) actions answers (medium_in new.state)
     keep = record { refusals = acted.goes_on.refusals; few = acted.goes_on.refused; lives = kept_from }
 
-    moved : AreMoved most medium (medium_in new.stage) actions answers keep.refusals
+    moved : AreMoved most medium (medium_in new.state) actions answers keep.refusals
     unfolding keep
     moved = record {
       fits = acted.fits false (λ _. (unfused, rest.on));
-      stage = new.stage;
+      state = new.state;
       moves = acted.goes_on.moves;
       left = refl;
       size_stays = acted.goes_on.size_stays;
@@ -96,12 +96,12 @@ module _ (most : ℕ) (medium : Sim) (rest : IsAtRest medium) (unfused : medium.
     abbrev size : ℕ
     size = (state_of medium).size
 
-    size_stays : (state_of (medium_in new.stage)).size ≡ size
+    size_stays : (state_of (medium_in new.state)).size ≡ size
     size_stays = refused.stops.size_stays ∙ acted.goes_on.size_stays
 
     stopped_at : (limit : ℕ) (book : Book) → OpensOn (state_of medium) book → HasLimit size limit (state_of medium).content
         → AreKeptUpTo (StandsForSome size) (StandsAs size) (HasLimit size) (presented (device most)) limit book actions answers
-        acted.goes_on.refusals (CutLeaves (state_of (medium_in new.stage)).may_leave)
+        acted.goes_on.refusals (CutLeaves (state_of (medium_in new.state)).may_leave)
     stopped_at limit book opens has =
         let on = acted.goes_on in
         let g = on.goes (first_standing limit book) (fits limit book opens has) in
@@ -113,17 +113,17 @@ module _ (most : ℕ) (medium : Sim) (rest : IsAtRest medium) (unfused : medium.
           next = l.book;
           opens = subst (λ (s : Standing). Opens s.place l.book) (stays new.device refused.stops.refusals g.there l.there l.run) l.opens;
           limited = λ ours image cut. subst (λ (n : ℕ). HasLimit n limit image) size_stays
-              (subst (λ (n : ℕ). LeavesLimit n new.stage) (g.limit_stays ours) (l.limited (l.ours ∙ g.ours ∙ ours)) image cut);
+              (subst (λ (n : ℕ). LeavesLimit n new.state) (g.limit_stays ours) (l.limited (l.ours ∙ g.ours ∙ ours)) image cut);
           found = λ ours image cut. subst (λ (n : ℕ). MayFind n l.book image) size_stays (l.found (l.ours ∙ g.ours ∙ ours) image cut);
         }
 
-    keeps : KeepsPromiseUpTo medium (device most) actions answers (medium_in new.stage)
+    keeps : KeepsPromiseUpTo medium (device most) actions answers (medium_in new.state)
     keeps =
         let first = acted.goes_on.refused in
         let then = refused.stops.refused in
         record { refusals = acted.goes_on.refusals; few = omega (arith, first, then); lives = stopped_at }
 
-    refused_for : IsRefusedFor medium (device most) actions answers fault (medium_in new.stage) keeps
+    refused_for : IsRefusedFor medium (device most) actions answers fault (medium_in new.state) keeps
     unfolding keeps stopped_at
     refused_for limit book opens has ours =
         let on = acted.goes_on in
@@ -131,21 +131,21 @@ module _ (most : ℕ) (medium : Sim) (rest : IsAtRest medium) (unfused : medium.
         let l = refused.stops.goes g.there g.fits in
         let fewer = on.refused in
         may_refuse l.book (refused_events on.refusals + (state_of medium).failures)
-        (refused_events refused.stops.refusals + (state_of (medium_in mid.stage)).failures) (state_of (medium_in new.stage)).failures
+        (refused_events refused.stops.refusals + (state_of (medium_in mid.state)).failures) (state_of (medium_in new.state)).failures
         fault (omega (arith, fewer)) (l.cause (l.ours ∙ g.ours ∙ ours))
 
-    are_stopped : AreStopped most medium (medium_in new.stage) actions answers fault keeps
+    are_stopped : AreStopped most medium (medium_in new.state) actions answers fault keeps
     unfolding keep moved keeps
     are_stopped =
         let stop = refused.stops in
-        let same = not_moved mid.device stop.refusals mid.stage (Rests stop.at) stop.moves in
+        let same = not_moved mid.device stop.refusals mid.state (Stopped stop.at) stop.moves in
         record {
-          mid = medium_in mid.stage;
+          mid = medium_in mid.state;
           were_kept = keep actions answers mid acted;
           same = refl;
           moved = moved actions answers mid acted;
-          rests = subst (λ (s : Stage). s ≡ Rests (medium_in s)) same refl;
-          start = subst (λ (s : Stage). IsRefusedStart (medium_in s) fault (medium_in new.stage)) same stop.start;
+          rests = subst (λ (s : DiskState). s ≡ Stopped (medium_in s)) same refl;
+          start = subst (λ (s : DiskState). IsRefusedStart (medium_in s) fault (medium_in new.state)) same stop.start;
           refused = refused_for;
           size_stays = size_stays;
         }
@@ -169,7 +169,7 @@ module _ (most : ℕ) (medium : Sim) (rest : IsAtRest medium) (unfused : medium.
     ended : (first part : List Action) (last : Action) (answers : List Answer) (new : LivesValue) (fault : ScriptFault)
         → StopsAt (LineActs most) (lines_of script) first part last
         → EndsBy was now (first_over most medium) (first ++ part) answers last new fault
-        → AreRefused most left was now medium fault (medium_in new.stage)
+        → AreRefused most left was now medium fault (medium_in new.state)
     ended first part last answers new (Start fault) stops ends = record {
       promise = record {
         script = script;
@@ -211,7 +211,7 @@ module _ (most : ℕ) (medium : Sim) (rest : IsAtRest medium) (unfused : medium.
 
 module _ (most : ℕ) (medium : Sim) (rest : IsAtRest medium) (unfused : medium.power.fuse ≡ None) (identity : Identification)
     (is : identity ≡ identification) (lives : LivesValue)
-    (value : lives ≡ record { device = record { identity = identity; packet_size = most; retiring = Late }; stage = Rests medium })
+    (value : lives ≡ record { device = record { identity = identity; packet_size = most; retiring = Late }; state = Stopped medium })
     (opens : (limit : ℕ) (book : Book) → IsAtRest medium → medium.power.fuse ≡ None → OpensOn (state_of medium) book
     → HasLimit (state_of medium).size limit (state_of medium).content → FitsLives lives (first_standing limit book))
     (left was now : Option (List ℕ)) (script : List ℕ) (read : IsRead left script) where

@@ -10,8 +10,8 @@ use Rattle.spec.specs.declared.event.Answer.TheVariants.{Off}
 use Rattle.bot_machine.specs.Lifetimes.{KeepsPromise, KeepsPromiseUpTo, IsRefusedFor}
 use Rattle.spec.specs.Lives.{Action, arms, fails, starts, plays, cuts}
 use Rattle.bot_machine.specs.Moving.{medium_in, MovesBy, IsRefusedStart}
-use Rattle.bot_machine.specs.declared.stage.Stage.{Stage}
-use Rattle.bot_machine.specs.declared.stage.Stage.TheVariants.{Rests}
+use Rattle.bot_machine.specs.declared.disk_state.DiskState.{DiskState}
+use Rattle.bot_machine.specs.declared.disk_state.DiskState.TheVariants.{Stopped}
 use Rattle.runner.specs.declared.kept.KeptWrites.{KeptWrites}
 use Rattle.runner.specs.declared.kept.KeptWrites.TheVariants as kept
 use Rattle.runner.specs.declared.line.ScriptLine.{ScriptLine}
@@ -93,9 +93,9 @@ fused_after fused (plays event ∷ actions) = fused_after fused actions
 pub record AreMoved (most : ℕ) (before after : Sim) (actions : List Action)
     (answers : List Answer) (refusals : List Bool) : Type 0 where
   pub fits : AnswersFit false actions answers
-  pub stage : Stage
-  pub moves : MovesBy (device most) (Rests before) actions answers refusals stage
-  pub left : medium_in stage ≡ after
+  pub state : DiskState
+  pub moves : MovesBy (device most) (Stopped before) actions answers refusals state
+  pub left : medium_in state ≡ after
   pub size_stays : (state_of after).size ≡ (state_of before).size
 
 -- Lives that keep the promise up to a start: no disk ran, and the start was refused with this fault
@@ -107,7 +107,7 @@ pub record AreStopped (most : ℕ) (before after : Sim) (actions : List Action)
   pub were_kept : KeepsPromise before (device most) actions answers mid
   pub same : kept.refusals ≡ were_kept.refusals
   pub moved : AreMoved most before mid actions answers kept.refusals
-  pub rests : moved.stage ≡ Rests mid
+  pub rests : moved.state ≡ Stopped mid
   pub start : IsRefusedStart mid fault after
   pub refused : IsRefusedFor before (device most) actions answers fault after kept
   pub size_stays : (state_of after).size ≡ (state_of before).size

@@ -17,8 +17,8 @@ use Rattle.runner.specs.Text.{line_for}
 
 -- where this says that no fuse is armed, none is, and the power is on
 abbrev pub FuseIs : Bool → LivesValue → Type 0
-FuseIs fused lives = fused ≡ false → ((medium_in lives.stage).power.fuse ≡ None)
-    × ((medium_in lives.stage).power.off ≡ false)
+FuseIs fused lives = fused ≡ false → ((medium_in lives.state).power.fuse ≡ None)
+    × ((medium_in lives.state).power.off ≡ false)
 
 -- lives went on by these actions, with these answers, one an event
 pub record Acted (old : LivesValue) (actions : List Action) (answers : List Answer)
@@ -78,7 +78,7 @@ module _ (was now : Option (List ℕ)) (old : LivesValue) where
     pub acts : Acts most lines actions
     pub new : LivesValue
     pub tells : TellsLives actions new
-    pub left : medium_in new.stage ≡ after
+    pub left : medium_in new.state ≡ after
 
   -- they were played until a fault, at one of them, which left this medium
   pub record PlaysUpTo (most : ℕ) (lines : List (List ℕ)) (fault : ScriptFault) (back : Sim)
@@ -90,4 +90,4 @@ module _ (was now : Option (List ℕ)) (old : LivesValue) where
     pub new : LivesValue
     pub answers : List Answer
     pub ends : EndsBy (first ++ part) answers last new fault
-    pub left : medium_in new.stage ≡ back
+    pub left : medium_in new.state ≡ back

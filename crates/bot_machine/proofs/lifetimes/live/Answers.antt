@@ -14,7 +14,7 @@ returns-in_err-start-clause-err c =
     rw (p.1, p.2) (record {
       stops = no_life c.args.run.now c.arm.new.run c.start.new.self (armed_by c.args.life.now.fuse) c.in_err-start.field-0.0
           c.arm.ensures.goes_on c.in_err-start.ensures.err.stops;
-      cause = not_for_a_fuse c.args.life.now.fuse c.args.run.now c.arm.new.run (state_in c.start.new.self.stage)
+      cause = not_for_a_fuse c.args.life.now.fuse c.args.run.now c.arm.new.run (state_in c.start.new.self.state)
           c.in_err-start.field-0.0 c.arm.ensures.fused c.in_err-start.ensures.err.cause;
       unanswered = refl;
     })

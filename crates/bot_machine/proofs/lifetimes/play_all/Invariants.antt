@@ -7,5 +7,5 @@ use Rattle.bot_machine.proofs.lifetimes.play_all.Given as goal
 abbrev pub invariant-loop-event : goal.invariant-loop-event
 invariant-loop-event l = record {
   run : AppendsFor l.fn.run l.run l.fn.answers l.answers (map plays (take l.event-index l.events)) l.event-index;
-  started : HasStarted l.run.stage;
+  started : HasStarted l.run.state;
 }

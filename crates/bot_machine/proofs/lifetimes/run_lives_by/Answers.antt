@@ -1,6 +1,6 @@
 use Rattle.std.proofs.Common.{◌≡◌, ◌+◌, ℕ, List, [], take, drop, suc, length, length-append, refl, sym, subst, ◌∙◌, ap, arith}
 use Rattle.std.proofs.lemmas.List.{take_all}
-use Rattle.bot_machine.specs.declared.stage.Stage.TheVariants.{Rests}
+use Rattle.bot_machine.specs.declared.disk_state.DiskState.TheVariants.{Stopped}
 use Rattle.bot_machine.specs.Answers.{Room}
 use Rattle.spec.specs.Lives.{Action}
 use Rattle.bot_machine.specs.Device.{Device, device_by}
@@ -15,7 +15,7 @@ use Rattle.bot_machine.proofs.lifetimes.run_lives_by.Goals as goal
 
 pub loop-life-init : goal.loop-life-init
 loop-life-init c =
-    let first : LivesValue = record { device = device_by c.args.identity c.args.size c.args.retiring; stage = Rests c.args.medium } in
+    let first : LivesValue = record { device = device_by c.args.identity c.args.size c.args.retiring; state = Stopped c.args.medium } in
     let answers = c.args.answers.now in
     record {
       run = subst (λ (x : LivesValue). AppendsFor first x answers answers [] 0) (sym c.new_by-run.ensures.value) (none_yet first answers);
@@ -43,7 +43,7 @@ live-requires-clause-room c =
 
 pub returns-in-Err-clause-moves_until : goal.returns-in-Err-clause-moves_until
 returns-in-Err-clause-moves_until c =
-    let first : LivesValue = record { device = device_by c.args.identity c.args.size c.args.retiring; stage = Rests c.args.medium } in
+    let first : LivesValue = record { device = device_by c.args.identity c.args.size c.args.retiring; state = Stopped c.args.medium } in
     let lives = c.args.lives.now in
     let i = c.loop-life.life-index in
     let life = c.life-item.result in
@@ -60,7 +60,7 @@ returns-in-Err-clause-moves_until c =
 
 pub loop-life-preserved : goal.loop-life-preserved
 loop-life-preserved c =
-    let first : LivesValue = record { device = device_by c.args.identity c.args.size c.args.retiring; stage = Rests c.args.medium } in
+    let first : LivesValue = record { device = device_by c.args.identity c.args.size c.args.retiring; state = Stopped c.args.medium } in
     let lives = c.args.lives.now in
     let i = c.loop-life.life-index in
     let life = c.life-item.result in
@@ -80,7 +80,7 @@ loop-life-preserved c =
 
 pub returns-clause-moves : goal.returns-clause-moves
 returns-clause-moves c =
-    let first : LivesValue = record { device = device_by c.args.identity c.args.size c.args.retiring; stage = Rests c.args.medium } in
+    let first : LivesValue = record { device = device_by c.args.identity c.args.size c.args.retiring; state = Stopped c.args.medium } in
     let lives = c.args.lives.now in
     let i = c.loop-life.life-index in
     let all : take i lives ≡ lives = take_all i lives c.loop-life-test.false in

@@ -15,10 +15,10 @@ pub returns-clause-begun : goal.returns-clause-begun
 returns-clause-begun c = record {
   started = c.play.ensures.plays.started;
   stood = λ m was on. c.in_ok-start.ensures.begun.stood m was
-      (on_before (medium_in c.start.new.self.stage) (medium_in c.play.new.self.stage) c.play.ensures.plays.follows on);
+      (on_before (medium_in c.start.new.self.state) (medium_in c.play.new.self.state) c.play.ensures.plays.follows on);
 }
 
 pub returns-clause-follows : goal.returns-clause-follows
 returns-clause-follows c =
-    comes_after_through (medium_in c.args.self.now.stage) (medium_in c.start.new.self.stage) (medium_in c.play.new.self.stage)
+    comes_after_through (medium_in c.args.self.now.state) (medium_in c.start.new.self.state) (medium_in c.play.new.self.state)
     c.in_ok-start.ensures.follows c.play.ensures.plays.follows

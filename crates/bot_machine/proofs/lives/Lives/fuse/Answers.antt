@@ -13,9 +13,9 @@ invariant_of-self c =
     let device : Device = device_by d.identity d.size d.retiring in
     elim c.match-self.branch [
       | in-Some w ↦
-          let has : HasPackets (bytes_of d.size) w.in-Some.stage = rw w.in-Some.is at c.self.invariant.1 in
+          let has : HasPackets (bytes_of d.size) w.in-Some.state = rw w.in-Some.is at c.self.invariant.1 in
           let goes = w.fuse.ensures.goes_on device in
           rw w.self-inside-is
-          (λ e. cc, packets_stay device w.in-Some.stage w.fuse.new.stage (arms c.args.writes ∷ []) [] goes.refusals goes.moves has)
+          (λ e. cc, packets_stay device w.in-Some.state w.fuse.new.state (arms c.args.writes ∷ []) [] goes.refusals goes.moves has)
       | in_default w ↦ rw w.self-inside-is c.self.invariant
     ]

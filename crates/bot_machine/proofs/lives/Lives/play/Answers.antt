@@ -10,9 +10,9 @@ pub invariant_of-self : goal.invariant_of-self
 invariant_of-self c =
     let d = c.self.inside in
     let device : Device = device_by d.identity d.size d.retiring in
-    let has : HasPackets (bytes_of d.size) c.in-Some.stage = rw c.in-Some.is at c.self.invariant.1 in
+    let has : HasPackets (bytes_of d.size) c.in-Some.state = rw c.in-Some.is at c.self.invariant.1 in
     let goes = c.play.ensures.goes_on device in (
       λ e. cc,
-      packets_stay device c.in-Some.stage c.play.new.stage (plays c.args.event.now ∷ []) (c.play.result ∷ []) goes.refusals goes.moves
+      packets_stay device c.in-Some.state c.play.new.state (plays c.args.event.now ∷ []) (c.play.result ∷ []) goes.refusals goes.moves
           has,
     )

@@ -2,51 +2,52 @@ use Rattle.std.proofs.Common.{sym, ◌∙◌}
 use Rattle.bot_machine.proofs.Begun.{start_has_disk, start_is_cut, start_is_refused, start_of_disk, start_without_power, begun_running}
 use Rattle.bot_machine.proofs.Begun.{begun_with, begun_without_power}
 use Rattle.bot_machine.specs.Device.{device_by}
-use Rattle.bot_machine.proofs.stage.start.Goals as goal
+use Rattle.bot_machine.proofs.disk_state.start.Goals as goal
 
-pub returns-in-Runs-clause-ok : goal.returns-in-Runs-clause-ok
-returns-in-Runs-clause-ok c = rw c.in-Runs.is (start_of_disk (device_by c.args.identity c.args.size c.args.retiring) c.in-Runs.disk)
+pub returns-in-Running-clause-ok : goal.returns-in-Running-clause-ok
+returns-in-Running-clause-ok c =
+    rw c.in-Running.is (start_of_disk (device_by c.args.identity c.args.size c.args.retiring) c.in-Running.disk)
 
-pub returns-in-Runs-clause-begun : goal.returns-in-Runs-clause-begun
-returns-in-Runs-clause-begun c = rw c.in-Runs.is (begun_running c.in-Runs.disk)
+pub returns-in-Running-clause-begun : goal.returns-in-Running-clause-begun
+returns-in-Running-clause-begun c = rw c.in-Running.is (begun_running c.in-Running.disk)
 
 pub returns-then-is_off-clause-ok : goal.returns-then-is_off-clause-ok
 returns-then-is_off-clause-ok c =
-    rw c.in-Rests.is
-    (start_without_power (device_by c.args.identity c.args.size c.args.retiring) c.in-Rests.medium
+    rw c.in-Stopped.is
+    (start_without_power (device_by c.args.identity c.args.size c.args.retiring) c.in-Stopped.medium
     (sym c.is_off.ensures ∙ c.if-is_off.true))
 
 pub returns-then-is_off-clause-begun : goal.returns-then-is_off-clause-begun
 returns-then-is_off-clause-begun c =
-    rw c.in-Rests.is (begun_without_power c.in-Rests.medium c.in-Rests.medium (sym c.is_off.ensures ∙ c.if-is_off.true))
+    rw c.in-Stopped.is (begun_without_power c.in-Stopped.medium c.in-Stopped.medium (sym c.is_off.ensures ∙ c.if-is_off.true))
 
 pub returns-in-Ok-clause-ok : goal.returns-in-Ok-clause-ok
 returns-in-Ok-clause-ok c =
-    rw c.in-Rests.is
-    (start_has_disk (device_by c.args.identity c.args.size c.args.retiring) c.in-Rests.medium
+    rw c.in-Stopped.is
+    (start_has_disk (device_by c.args.identity c.args.size c.args.retiring) c.in-Stopped.medium
     (sym c.is_off.ensures ∙ c.if-is_off.false) c.in-Ok.disk c.in-Ok.ensures.opened c.in-Ok.ensures.leaves.leaves
     c.in-Ok.ensures.leaves.medium.follows)
 
 pub returns-in-Ok-clause-begun : goal.returns-in-Ok-clause-begun
 returns-in-Ok-clause-begun c =
-    rw c.in-Rests.is
-    (begun_with c.in-Rests.medium c.in-Ok.disk (device_by c.args.identity c.args.size c.args.retiring) c.in-Ok.ensures.opened)
+    rw c.in-Stopped.is
+    (begun_with c.in-Stopped.medium c.in-Ok.disk (device_by c.args.identity c.args.size c.args.retiring) c.in-Ok.ensures.opened)
 
 pub returns-then-is_off-2-clause-ok : goal.returns-then-is_off-2-clause-ok
 returns-then-is_off-2-clause-ok c =
-    rw c.in-Rests.is
-    (start_is_cut (device_by c.args.identity c.args.size c.args.retiring) c.in-Rests.medium (sym c.is_off.ensures ∙ c.if-is_off.false)
+    rw c.in-Stopped.is
+    (start_is_cut (device_by c.args.identity c.args.size c.args.retiring) c.in-Stopped.medium (sym c.is_off.ensures ∙ c.if-is_off.false)
     c.in-Err.error.medium c.in-Err.ensures.leaves.leaves c.in-Err.ensures.leaves.medium.follows
     (sym c.is_off-in-Err.ensures ∙ c.if-is_off-2.true))
 
 pub returns-then-is_off-2-clause-begun : goal.returns-then-is_off-2-clause-begun
 returns-then-is_off-2-clause-begun c =
-    rw c.in-Rests.is (begun_without_power c.in-Rests.medium c.in-Err.error.medium (sym c.is_off-in-Err.ensures ∙ c.if-is_off-2.true))
+    rw c.in-Stopped.is (begun_without_power c.in-Stopped.medium c.in-Err.error.medium (sym c.is_off-in-Err.ensures ∙ c.if-is_off-2.true))
 
 pub returns-else-is_off-2-clause-err : goal.returns-else-is_off-2-clause-err
 returns-else-is_off-2-clause-err c =
-    rw c.in-Rests.is (record {
-      stops = start_is_refused (device_by c.args.identity c.args.size c.args.retiring) c.in-Rests.medium
+    rw c.in-Stopped.is (record {
+      stops = start_is_refused (device_by c.args.identity c.args.size c.args.retiring) c.in-Stopped.medium
           (sym c.is_off.ensures ∙ c.if-is_off.false) c.in-Err.error.medium c.in-Err.ensures.leaves.leaves
           c.in-Err.ensures.leaves.medium.follows (sym c.is_off-in-Err.ensures ∙ c.if-is_off-2.false) c.in-Err.error.fault
           c.in-Err.ensures.cause;
