@@ -5,8 +5,8 @@ use Rattle.medium.specs.Medium.{State}
 use Rattle.medium.specs.Moments.{EachCut}
 use Rattle.medium.specs.Sim.{Sim}
 use Rattle.bot_machine.specs.Device.{Device}
-use Rattle.bot_machine.specs.declared.disk_state.DiskState.{DiskState}
-use Rattle.bot_machine.specs.declared.disk_state.DiskState.TheVariants.{Stopped, Running}
+use Rattle.bot_machine.specs.declared.lives.disk_state.DiskState.{DiskState}
+use Rattle.bot_machine.specs.declared.lives.disk_state.DiskState.TheVariants.{Stopped, Running}
 use Rattle.bot_machine.specs.Disk.{DiskValue}
 use Rattle.spec.specs.Lives.{arms, fails, Place, before_first, between, runs, off}
 use Rattle.bot_machine.specs.Moving.{FuseMoves, FailureMoves}

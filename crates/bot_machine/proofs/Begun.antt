@@ -14,8 +14,8 @@ use Rattle.scsi_unit.specs.Books.{MayFind}
 use Rattle.scsi_unit.specs.Starting.{Stands, IsCauseFor, blocks_of}
 use Rattle.spec.specs.Rules.{UnitState}
 use Rattle.scsi_unit.specs.UnitValue.{unit_limit, state_of as unit_state}
-use Rattle.bot_machine.specs.declared.disk_state.DiskState.{DiskState}
-use Rattle.bot_machine.specs.declared.disk_state.DiskState.TheVariants.{Stopped, Running}
+use Rattle.bot_machine.specs.declared.lives.disk_state.DiskState.{DiskState}
+use Rattle.bot_machine.specs.declared.lives.disk_state.DiskState.TheVariants.{Stopped, Running}
 use Rattle.spec.specs.Exchange.{Line, at_rest}
 use Rattle.bot_machine.specs.Disk.{DiskValue, over}
 use Rattle.spec.specs.UnitConversation.{on_line}

@@ -16,7 +16,7 @@ use Rattle.bot_machine.specs.Disk.{DiskValue, FitsDisk}
 use Rattle.bot_machine.specs.Opening.{IsOpened}
 use Rattle.spec.specs.Lives.{Remains, Place, before_first, between, IsLeft, Opens}
 use Rattle.bot_machine.specs.LivesValue.{HasLimit, book_at, LeavesLimit, FoundAt}
-use Rattle.bot_machine.specs.declared.disk_state.DiskState.TheVariants.{Stopped}
+use Rattle.bot_machine.specs.declared.lives.disk_state.DiskState.TheVariants.{Stopped}
 use Rattle.bot_machine.proofs.UnitLaws.{knows_images}
 
 -- ---- what a life has left

@@ -6,7 +6,7 @@ use Rattle.bot_machine.specs.Device.{Device}
 use Rattle.scsi_unit.specs.Serving.{has_refused}
 use Rattle.medium.specs.Medium.{State}
 use Rattle.spec.specs.declared.event.Answer.{Answer}
-use Rattle.bot_machine.specs.declared.disk_state.DiskState.{DiskState}
+use Rattle.bot_machine.specs.declared.lives.disk_state.DiskState.{DiskState}
 use Rattle.spec.specs.Lives.{Action}
 use Rattle.bot_machine.specs.Moving.{state_in, Does, MovesBy}
 

@@ -3,8 +3,8 @@ use Rattle.std.proofs.Common.{ℕ, Bool, true, false, List, [], ◌∷◌, sym, 
 use Rattle.medium.specs.Sim.{Sim}
 use Rattle.spec.specs.declared.event.Event.{Event}
 use Rattle.spec.specs.declared.event.Answer.{Answer}
-use Rattle.bot_machine.specs.declared.disk_state.DiskState.{DiskState}
-use Rattle.bot_machine.specs.declared.disk_state.DiskState.TheVariants.{Stopped, Running}
+use Rattle.bot_machine.specs.declared.lives.disk_state.DiskState.{DiskState}
+use Rattle.bot_machine.specs.declared.lives.disk_state.DiskState.TheVariants.{Stopped, Running}
 use Rattle.bot_machine.specs.Device.{Device}
 use Rattle.spec.specs.Exchange.{Line}
 use Rattle.bot_machine.specs.Disk.{DiskValue}

@@ -5,8 +5,8 @@ use Rattle.scsi_unit.specs.Retiring.{RetiresBy, goes_ahead_by}
 use Rattle.scsi_unit.specs.Starting.{Shape}
 use Rattle.spec.specs.declared.event.Event.{Event}
 use Rattle.spec.specs.declared.event.Answer.{Answer}
-use Rattle.bot_machine.specs.declared.disk_state.DiskState.{DiskState}
-use Rattle.bot_machine.specs.declared.disk_state.DiskState.TheVariants.{Stopped, Running}
+use Rattle.bot_machine.specs.declared.lives.disk_state.DiskState.{DiskState}
+use Rattle.bot_machine.specs.declared.lives.disk_state.DiskState.TheVariants.{Stopped, Running}
 use Rattle.bot_machine.specs.Device.{Device, Retiring}
 use Rattle.bot_machine.specs.Disk.{DiskValue}
 use Rattle.spec.specs.Lives.{Action, arms, fails, starts, plays, cuts}

@@ -10,9 +10,9 @@ use Rattle.scsi_unit.specs.StartFaults.{StartFault}
 use Rattle.bot_machine.specs.Device.{presented, Device}
 use Rattle.spec.specs.Book.{Book}
 use Rattle.spec.specs.declared.event.Answer.{Answer}
-use Rattle.bot_machine.specs.declared.life.Life.{Life}
-use Rattle.bot_machine.specs.declared.disk_state.DiskState.{DiskState}
-use Rattle.bot_machine.specs.declared.disk_state.DiskState.TheVariants.{Stopped}
+use Rattle.bot_machine.specs.declared.lives.life.Life.{Life}
+use Rattle.bot_machine.specs.declared.lives.disk_state.DiskState.{DiskState}
+use Rattle.bot_machine.specs.declared.lives.disk_state.DiskState.TheVariants.{Stopped}
 use Rattle.bot_machine.specs.Moving.{MovesBy}
 use Rattle.bot_machine.specs.Answers.{Room}
 use Rattle.spec.specs.Conversation.{refused_events}

@@ -2,7 +2,7 @@
 use Rattle.std.specs.Prelude.{⊤, ℕ, ◌≤◌, ◌<◌, List, length, All}
 use Rattle.spec.specs.declared.event.Event.{Event}
 use Rattle.spec.specs.declared.event.Event.TheVariants as happens
-use Rattle.bot_machine.specs.declared.life.Life.{Life}
+use Rattle.bot_machine.specs.declared.lives.life.Life.{Life}
 
 -- A packet to Bulk-Out has at most this many bytes. By its type it has at most 512 of them, so that
 -- a smaller size alone asks for something.

@@ -7,13 +7,13 @@ use Rattle.scsi_unit.specs.StartFaults.{StartFault}
 use Rattle.spec.specs.Book.{Book}
 use Rattle.scsi_unit.specs.Books.{StandsAs}
 use Rattle.spec.specs.declared.event.Answer.{Answer}
-use Rattle.bot_machine.specs.declared.life.Life.{Life}
+use Rattle.bot_machine.specs.declared.lives.life.Life.{Life}
 use Rattle.bot_machine.specs.Answers.{Room}
 use Rattle.bot_machine.specs.Device.{presented, Device}
 use Rattle.spec.specs.Conversation.{refused_events}
 use Rattle.bot_machine.specs.Opening.{IsNotOpened}
 use Rattle.spec.specs.Lives.{Action, arms, starts, plays, cuts}
-use Rattle.bot_machine.specs.declared.disk_state.DiskState.TheVariants.{Stopped}
+use Rattle.bot_machine.specs.declared.lives.disk_state.DiskState.TheVariants.{Stopped}
 use Rattle.bot_machine.specs.Moving.{MovesBy, IsRefusedStart}
 use Rattle.bot_machine.specs.LivesValue.{LivesValue, LivesGoOn, LivesStop, IsAtRest, OpensOn}
 use Rattle.bot_machine.specs.LivesValue.{HasLimit, FitsLives, MayRefuse, state_in}

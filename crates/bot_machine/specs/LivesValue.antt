@@ -19,8 +19,8 @@ use Rattle.spec.specs.Rules.{UnitState}
 use Rattle.spec.specs.declared.event.Event.{Event}
 use Rattle.spec.specs.declared.event.Answer.{Answer}
 use Rattle.spec.specs.declared.event.Answer.TheVariants.{Off}
-use Rattle.bot_machine.specs.declared.disk_state.DiskState.{DiskState}
-use Rattle.bot_machine.specs.declared.disk_state.DiskState.TheVariants.{Stopped, Running}
+use Rattle.bot_machine.specs.declared.lives.disk_state.DiskState.{DiskState}
+use Rattle.bot_machine.specs.declared.lives.disk_state.DiskState.TheVariants.{Stopped, Running}
 use Rattle.spec.specs.Conversation.{Conversation, refused_events}
 use Rattle.bot_machine.specs.Device.{presented, Device}
 use Rattle.bot_machine.specs.Fitting.{IsWithin}

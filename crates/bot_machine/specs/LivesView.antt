@@ -2,8 +2,8 @@
 use Rattle.std.specs.Prelude.{[], None, Some, Option}
 use Rattle.medium.specs.Power.{powered}
 use Rattle.medium.specs.Tally.{none}
-use Rattle.bot_machine.specs.declared.disk_state.DiskState.{DiskState}
-use Rattle.bot_machine.specs.declared.disk_state.DiskState.TheVariants.{Stopped}
+use Rattle.bot_machine.specs.declared.lives.disk_state.DiskState.{DiskState}
+use Rattle.bot_machine.specs.declared.lives.disk_state.DiskState.TheVariants.{Stopped}
 
 -- a medium that holds nothing, where none is kept; that is so within a call alone
 abbrev pub disk_state_in : Option DiskState → DiskState

@@ -7,8 +7,8 @@ use Rattle.scsi_unit.specs.Serving.{has_refused}
 use Rattle.spec.specs.declared.event.Event.{Event}
 use Rattle.spec.specs.declared.event.Answer.{Answer}
 use Rattle.spec.specs.declared.event.Answer.TheVariants.{Off}
-use Rattle.bot_machine.specs.declared.disk_state.DiskState.{DiskState}
-use Rattle.bot_machine.specs.declared.disk_state.DiskState.TheVariants.{Stopped, Running}
+use Rattle.bot_machine.specs.declared.lives.disk_state.DiskState.{DiskState}
+use Rattle.bot_machine.specs.declared.lives.disk_state.DiskState.TheVariants.{Stopped, Running}
 use Rattle.bot_machine.specs.Device.{Device}
 use Rattle.bot_machine.specs.Disk.{DiskValue, IsStep, IsRearmed}
 use Rattle.spec.specs.Lives.{Action, arms, fails, starts, plays, cuts}

@@ -2,8 +2,8 @@
 use Rattle.std.specs.Prelude.{⊤, Bool, List}
 use Rattle.scsi_unit.specs.Retiring.{RetiresBy}
 use Rattle.spec.specs.declared.event.Answer.{Answer}
-use Rattle.bot_machine.specs.declared.disk_state.DiskState.{DiskState}
-use Rattle.bot_machine.specs.declared.disk_state.DiskState.TheVariants.{Stopped, Running}
+use Rattle.bot_machine.specs.declared.lives.disk_state.DiskState.{DiskState}
+use Rattle.bot_machine.specs.declared.lives.disk_state.DiskState.TheVariants.{Stopped, Running}
 use Rattle.bot_machine.specs.Device.{presented, Device, Retiring}
 use Rattle.spec.specs.Lives.{Action, Standing, LivesRun}
 use Rattle.bot_machine.specs.Moving.{MovesBy}

@@ -1,4 +1,5 @@
-//! One life after another on the same medium.
+//! One life after another on the same medium. This module is about a disk that can lose power, over
+//! the simulated medium, which alone can be cut. A controller needs none of it.
 ghost use Rattle.std.specs.Prelude.{◌≡◌, ◌<◌, ◌↔◌, ℕ, [], ◌∷◌, None, Some, true, false, OnOk};
 ghost use Rattle.std.specs.Prelude.{IfOk, IfErr};
 ghost use Rattle.medium.specs.Sim.{state_of, IsCut, IsFused, IsFailing, ComesAfter};
@@ -11,8 +12,14 @@ ghost use Rattle.bot_machine.specs.Device.{device_by, device_of};
 ghost use Rattle.bot_machine.specs.Fitting.{IsWithin};
 ghost use Rattle.spec.specs.declared.packet_size.PacketSize.TheVariants.{High512};
 
-use crate::disk_state::{self, DiskState};
+mod disk_state;
+mod life;
+mod lifetimes;
+
+use crate::lives::disk_state::DiskState;
 use crate::{Identity, Retiring, StartError, StartFault};
+pub use life::Life;
+pub use lifetimes::{run_lives, run_lives_by, run_lives_with};
 use medium::{Kept, SimMedium};
 use spec::{Answer, Event, PacketSize};
 use std::alloc::Global;
@@ -55,7 +62,7 @@ impl Lives {
     ghost use Rattle.bot_machine.specs.LivesValue.{medium_in, HasStarted, HasBegun, IsAtRest};
     ghost use Rattle.bot_machine.specs.LivesValue.{OpensOn, HasLimit, FitsLives, LivesGoOn};
     ghost use Rattle.bot_machine.specs.LivesValue.{LivesRefuseStart, LifeBegins, DiskAnswers};
-    ghost use Rattle.bot_machine.specs.declared.disk_state.DiskState.TheVariants.{Stopped};
+    ghost use Rattle.bot_machine.specs.declared.lives.disk_state.DiskState.TheVariants.{Stopped};
 
     /// No life has been yet, and packets have at most 512 bytes (high speed): see `new_with`.
     pub fn new(medium: SimMedium, identity: Identity) -> Lives

@@ -2,7 +2,7 @@
 ghost use Rattle.std.specs.Prelude.{◌≡◌, ◌<◌, [], ◌∷◌, length, IfOk, MatchResult};
 ghost use Rattle.spec.specs.Lives.{starts};
 ghost use Rattle.bot_machine.specs.LivesValue.{medium_in, LivesGoOn, LivesRefuseStart};
-ghost use Rattle.bot_machine.specs.declared.disk_state.DiskState.TheVariants.{Stopped};
+ghost use Rattle.bot_machine.specs.declared.lives.disk_state.DiskState.TheVariants.{Stopped};
 ghost use Rattle.spec.specs.declared.packet_size.PacketSize.TheVariants.{High512};
 ghost use Rattle.bot_machine.specs.Device.{device_by};
 ghost use Rattle.judging.specs.Armed.{ArmsFuse, ArmsFailure};

@@ -20,7 +20,7 @@ use Rattle.spec.specs.Sense.{Sense}
 use Rattle.spec.specs.declared.event.Event.{Event}
 use Rattle.spec.specs.declared.event.Event.TheVariants as event
 use Rattle.spec.specs.declared.event.Answer.{Answer}
-use Rattle.bot_machine.specs.declared.life.Life.{Life}
+use Rattle.bot_machine.specs.declared.lives.life.Life.{Life}
 use Rattle.spec.specs.Conversation.{Conversation, Begins, OpensExchange, OutStep}
 use Rattle.spec.specs.UnitConversation.{UnitStep, Intends}
 use Rattle.spec.specs.Exchange.{Script, finished, taking, sending, Moment, at_once, after_data, never, moment_of}

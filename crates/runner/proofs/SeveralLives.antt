@@ -10,8 +10,8 @@ use Rattle.bot_machine.specs.Books.{StandsAs, MayFind}
 use Rattle.bot_machine.specs.Starting.{StandsForSome}
 use Rattle.spec.specs.Book.{Book}
 use Rattle.spec.specs.declared.event.Answer.{Answer}
-use Rattle.bot_machine.specs.declared.disk_state.DiskState.{DiskState}
-use Rattle.bot_machine.specs.declared.disk_state.DiskState.TheVariants.{Stopped}
+use Rattle.bot_machine.specs.declared.lives.disk_state.DiskState.{DiskState}
+use Rattle.bot_machine.specs.declared.lives.disk_state.DiskState.TheVariants.{Stopped}
 use Rattle.spec.specs.Conversation.{refused_events}
 use Rattle.spec.specs.Promise.{first_standing, AreKept, AreKeptUpTo}
 use Rattle.bot_machine.specs.Lifetimes.{KeepsPromise, KeepsPromiseUpTo, IsRefusedFor}

@@ -10,7 +10,7 @@ use Rattle.recovery.specs.declared.recovered.Recovered.{Recovered}
 use Rattle.spec.specs.Book.{Book, opened}
 use Rattle.bot_machine.specs.Device.{Device}
 use Rattle.spec.specs.declared.event.Answer.{Answer}
-use Rattle.bot_machine.specs.declared.life.Life.{Life}
+use Rattle.bot_machine.specs.declared.lives.life.Life.{Life}
 use Rattle.spec.specs.Lives.{Opens}
 use Rattle.bot_machine.specs.LivesValue.{OpensOn, HasLimit, IsAtRest}
 use Rattle.bot_machine.specs.Lifetimes.{AreLived}

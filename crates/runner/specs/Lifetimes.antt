@@ -10,8 +10,8 @@ use Rattle.spec.specs.declared.event.Answer.TheVariants.{Off}
 use Rattle.bot_machine.specs.Lifetimes.{KeepsPromise, KeepsPromiseUpTo, IsRefusedFor}
 use Rattle.spec.specs.Lives.{Action, arms, fails, starts, plays, cuts}
 use Rattle.bot_machine.specs.Moving.{medium_in, MovesBy, IsRefusedStart}
-use Rattle.bot_machine.specs.declared.disk_state.DiskState.{DiskState}
-use Rattle.bot_machine.specs.declared.disk_state.DiskState.TheVariants.{Stopped}
+use Rattle.bot_machine.specs.declared.lives.disk_state.DiskState.{DiskState}
+use Rattle.bot_machine.specs.declared.lives.disk_state.DiskState.TheVariants.{Stopped}
 use Rattle.runner.specs.declared.kept.KeptWrites.{KeptWrites}
 use Rattle.runner.specs.declared.kept.KeptWrites.TheVariants as kept
 use Rattle.runner.specs.declared.line.ScriptLine.{ScriptLine}

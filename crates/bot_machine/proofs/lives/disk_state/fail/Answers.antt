@@ -1,5 +1,5 @@
 use Rattle.bot_machine.proofs.ArmedFaults.{fails_medium, fails_disk}
-use Rattle.bot_machine.proofs.disk_state.fail.Goals as goal
+use Rattle.bot_machine.proofs.lives.disk_state.fail.Goals as goal
 
 pub returns-in-Stopped-clause-goes_on : goal.returns-in-Stopped-clause-goes_on
 returns-in-Stopped-clause-goes_on c = λ device.

@@ -1,7 +1,7 @@
 use Rattle.std.proofs.Common.{sym, ◌∙◌, ap}
 use Rattle.medium.specs.Sim.{Sim}
 use Rattle.bot_machine.proofs.LifeActions.{event_ends, event_is_cut, event_off}
-use Rattle.bot_machine.proofs.disk_state.play_on.Goals as goal
+use Rattle.bot_machine.proofs.lives.disk_state.play_on.Goals as goal
 
 pub returns-then-is_off-clause-goes_on : goal.returns-then-is_off-clause-goes_on
 returns-then-is_off-clause-goes_on c = λ device.

@@ -15,8 +15,8 @@ ghost use Rattle.bot_machine.specs.Lifetimes.{KeepPromise, KeepPromiseUpTo, AreL
 ghost use Rattle.bot_machine.specs.Lifetimes.{IsNotLived};
 
 use crate::answers::Answers;
-use crate::life::Life;
 use crate::lives::Lives;
+use crate::lives::life::Life;
 use crate::{Identity, Retiring, StartError, StartFault};
 use medium::SimMedium;
 use spec::{Event, PacketSize};

@@ -7,7 +7,8 @@ ghost use Rattle.bot_machine.specs.Fitting.{IsWithin};
 ghost use Rattle.spec.specs.Lives.{starts, plays, cuts, arms, fails};
 ghost use Rattle.bot_machine.specs.LivesValue.{medium_in, HasStarted, TakesEvent, HasBegun};
 ghost use Rattle.bot_machine.specs.LivesValue.{LivesGoOn, LivesRefuseStart, DiskAnswers};
-ghost use Rattle.bot_machine.specs.declared.disk_state.DiskState.TheVariants.{Stopped, Running};
+ghost use Rattle.bot_machine.specs.declared.lives.disk_state.DiskState.TheVariants.{Stopped};
+ghost use Rattle.bot_machine.specs.declared.lives.disk_state.DiskState.TheVariants.{Running};
 
 use crate::disk::Disk;
 use crate::run::answer_to;

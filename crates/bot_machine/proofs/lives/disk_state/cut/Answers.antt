@@ -1,7 +1,7 @@
 use Rattle.std.proofs.Common.{sym}
 use Rattle.medium.specs.Writes.{keeps}
 use Rattle.bot_machine.proofs.LifeActions.{is_cut}
-use Rattle.bot_machine.proofs.disk_state.cut.Goals as goal
+use Rattle.bot_machine.proofs.lives.disk_state.cut.Goals as goal
 
 pub returns-clause-goes_on : goal.returns-clause-goes_on
 returns-clause-goes_on c = λ device.
