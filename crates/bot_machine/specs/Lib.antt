@@ -18,7 +18,7 @@ pub mod Disk
 pub mod Faulting
 pub mod Opening
 pub mod Refinement
-pub mod Wire
+pub mod LineChanges
 pub mod Serving
 pub mod Striking
 pub mod Transfers

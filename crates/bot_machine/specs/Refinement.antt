@@ -45,17 +45,17 @@ left_of size Status taken staging status = sending [] None status
 
 -- the line, but for what is left of the exchange
 abbrev pub line_with : BulkState → Script → Line
-line_with wire left = record {
-  packet_size = bytes_of wire.size;
-  in_halted = wire.in_halted;
-  out_halted = wire.out_halted;
-  locked = wire.locked;
+line_with bulk left = record {
+  packet_size = bytes_of bulk.size;
+  in_halted = bulk.in_halted;
+  out_halted = bulk.out_halted;
+  locked = bulk.locked;
   left = left;
 }
 
 abbrev pub line_of : BulkState → List ℕ → List ℕ → Line
-line_of wire taken staging =
-    line_with wire (left_of (bytes_of wire.size) wire.phase taken staging wire.status)
+line_of bulk taken staging =
+    line_with bulk (left_of (bytes_of bulk.size) bulk.phase taken staging bulk.status)
 
 -- Data is taken: the case takes data, and the bytes taken are the intended ones of those that came,
 -- of as many blocks as a transfer has at most. What the unit intends to take now, if it still does,

@@ -129,8 +129,8 @@ pub record CanCarryOut {M : Type 0} (unit : UnitValue M) (exchange : Exchange) (
       → length bytes ≡ n
 
 -- a command wrapper is expected, and there is room for the data of a transfer
-pub record AwaitsWrapper (limit : ℕ) (wire : BulkState) (staging : List ℕ) : Type 0 where
-  pub expected : wire.phase ≡ Command
+pub record AwaitsWrapper (limit : ℕ) (bulk : BulkState) (staging : List ℕ) : Type 0 where
+  pub expected : bulk.phase ≡ Command
   pub room : length staging ≡ 512 * limit
 
 -- a packet of the greatest size comes, behind which more data is due

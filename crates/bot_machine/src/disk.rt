@@ -21,10 +21,10 @@ ghost use Rattle.spec.specs.declared.event.Event.TheVariants as event;
 ghost use Rattle.spec.specs.declared.event.Answer.TheVariants as answer;
 ghost use Rattle.bot_machine.specs.contracts.disk.Disk.{the_row};
 
+use crate::bulk_out::{open, take_data};
 use crate::bulk_state::{BulkState, Phase};
 use crate::event::{InAnswer, OutAnswer, SetupAnswer};
 use crate::request::{ControlRequest, read_request};
-use crate::serve::{open, take_data};
 use inlet::Inlet;
 use medium::{Medium, Outlet, Switch};
 use scsi_unit::Unit;
@@ -34,7 +34,7 @@ use std::marker::Model;
 #[derive(Drop)]
 pub struct Disk<M: Medium> {
     pub(crate) unit: Unit<M>,
-    pub(crate) wire: BulkState,
+    pub(crate) bulk: BulkState,
     // The intended bytes that came of the data being taken.
     pub(crate) taken: Vec<u8>,
     // The bytes that are sent.
@@ -50,12 +50,12 @@ impl<M: Medium> Model for Disk<M> {
     ghost use Rattle.bot_machine.specs.Refinement.{line_of, Invariant};
 
     ghost view = { λ d. record {
-      line = line_of d.wire d.taken.items d.staging.items;
+      line = line_of d.bulk d.taken.items d.staging.items;
       unit = d.unit;
     } };
 
     ghost invariant = { λ d.
-        Invariant (unit_limit d.unit) (intention_of d.unit) d.wire.phase
+        Invariant (unit_limit d.unit) (intention_of d.unit) d.bulk.phase
         d.taken.items d.staging.items };
 }
 
@@ -72,7 +72,7 @@ impl<M: Medium> Disk<M> {
         ensures is { result ≡ self.now.line.packet_size }
         ensures sizes { (result ≡ 64) ⊎ (result ≡ 512) }
     {
-        self.wire.size.bytes()
+        self.bulk.size.bytes()
     }
 
     /// Whether no step in the background is left: each accepted write is durable and at home then,
@@ -126,18 +126,18 @@ impl<M: Medium> Disk<M> {
             (event.Out (record { items = packet.now })) (answer_to_out result) self.new }
         ensures follows { M.follows self.old.unit.store.medium self.new.unit.store.medium }
     {
-        if self.wire.out_halted {
+        if self.bulk.out_halted {
             return OutAnswer::Stall;
         }
-        match self.wire.phase {
+        match self.bulk.phase {
             Phase::Command => {
-                open(&mut self.unit, &mut self.wire, &mut self.staging, packet);
+                open(&mut self.unit, &mut self.bulk, &mut self.staging, packet);
                 OutAnswer::Ack
             }
             Phase::DataOut(_) => {
                 take_data(
                     &mut self.unit,
-                    &mut self.wire,
+                    &mut self.bulk,
                     &mut self.taken,
                     &mut self.staging,
                     packet,
@@ -158,18 +158,18 @@ impl<M: Medium> Disk<M> {
         ensures fits { IsPacket self.old.line.packet_size result }
         ensures most { self.old.line.packet_size ≤ 512 }
     {
-        if self.wire.in_halted {
+        if self.bulk.in_halted {
             return InAnswer::Stall;
         }
-        match self.wire.phase {
+        match self.bulk.phase {
             Phase::Command | Phase::DataOut(_) => InAnswer::Nak,
             Phase::DataIn { from, to, halt } => {
-                let end = self.wire.move_on(from, to, halt);
+                let end = self.bulk.move_on(from, to, halt);
                 InAnswer::Data(&self.staging[from..end])
             }
             Phase::Status => {
-                self.wire.phase = Phase::Command;
-                InAnswer::Data(&self.wire.status)
+                self.bulk.phase = Phase::Command;
+                InAnswer::Data(&self.bulk.status)
             }
         }
     }
@@ -198,11 +198,11 @@ impl<M: Medium> Disk<M> {
             }
             Some(ControlRequest::GetMaxLun) => SetupAnswer::Byte(0),
             Some(ControlRequest::ClearHalt(endpoint)) => {
-                self.wire.clear_halt(endpoint);
+                self.bulk.clear_halt(endpoint);
                 SetupAnswer::Ack
             }
             Some(ControlRequest::GetStatus(endpoint)) => {
-                SetupAnswer::Two([u8::from(self.wire.is_halted(endpoint)), 0])
+                SetupAnswer::Two([u8::from(self.bulk.is_halted(endpoint)), 0])
             }
         }
     }
@@ -213,8 +213,8 @@ impl<M: Medium> Disk<M> {
           line = after_request mass_storage_reset self.old.line;
         } }
     {
-        self.wire.locked = false;
-        self.wire.phase = Phase::Command;
+        self.bulk.locked = false;
+        self.bulk.phase = Phase::Command;
     }
 
     /// Makes a step in the background, of at most two calls of the medium.

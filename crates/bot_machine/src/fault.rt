@@ -5,7 +5,7 @@ ghost use Rattle.bot_machine.specs.Disk.{FitsDisk, over};
 ghost use Rattle.bot_machine.specs.Faulting.{is_good, taken_back, owes_good, faulted_line};
 ghost use Rattle.bot_machine.specs.Faulting.{faulted_over, faulted_disk, TurnsGoodAlone};
 ghost use Rattle.bot_machine.specs.Refinement.{line_of};
-ghost use Rattle.bot_machine.specs.Wire.{ChangesLine};
+ghost use Rattle.bot_machine.specs.LineChanges.{ChangesLine};
 
 use crate::bulk_state::{BulkState, Phase};
 use crate::disk::Disk;
@@ -27,7 +27,7 @@ impl<M: Medium> Disk<M> {
             → FitsDisk (M.state self.new.unit.store.medium) self.new book }
         ensures wrappers { (tag residue : ℕ) → TurnsGoodAlone tag residue }
     {
-        let was_good = self.wire.take_back();
+        let was_good = self.bulk.take_back();
         self.unit.fault(was_good);
     }
 }

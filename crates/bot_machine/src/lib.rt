@@ -3,6 +3,7 @@
 #![tactic(auto)]
 
 mod answers;
+mod bulk_out;
 mod bulk_state;
 mod disk;
 mod event;
@@ -13,7 +14,6 @@ mod lives;
 mod reading;
 mod request;
 mod run;
-mod serve;
 mod start;
 
 pub use answers::Answers;

@@ -5,10 +5,10 @@ ghost use Rattle.scsi_unit.specs.UnitValue.{unit_limit};
 ghost use Rattle.bot_machine.specs.Reading.{sectors_in, ReadsHome, ReadsNoHome};
 ghost use Rattle.bot_machine.specs.Reading.{ExchangeReads, WrapperReads, WrapperReadsNone};
 
+use crate::bulk_out::read_exchange;
 use crate::bulk_state::Phase;
 use crate::disk::Disk;
 use crate::exchange::Exchange;
-use crate::serve::read_exchange;
 use medium::Medium;
 use scsi_unit::{HomeSectors, Unit};
 use wrappers::Case;
@@ -59,10 +59,10 @@ impl<M: Medium> Disk<M> {
         ensures bounds { IfSome result (λ wanted. AreHome (unit_limit self.now.unit)
             (M.state self.now.unit.store.medium).size wanted.first wanted.count) }
     {
-        if self.wire.out_halted {
+        if self.bulk.out_halted {
             return None;
         }
-        match self.wire.phase {
+        match self.bulk.phase {
             Phase::Command => wrapper_reads(&self.unit, packet),
             _ => None,
         }

@@ -94,7 +94,7 @@ impl<M: Medium> Disk<M> {
         let Buffers { taken, staging } = buffers;
         Ok(Disk {
             unit,
-            wire: BulkState::at_rest(size),
+            bulk: BulkState::at_rest(size),
             taken,
             staging,
         })

@@ -24,15 +24,15 @@ returns-in-DataIn g c =
               refl,
               (λ _. tt),
               ap put
-                  (sym (sent_more (bytes_of d.wire.size) (some_bytes d.wire.size) d.wire.locked d.wire.out_halted d.wire.status
+                  (sym (sent_more (bytes_of d.bulk.size) (some_bytes d.bulk.size) d.bulk.locked d.bulk.out_halted d.bulk.status
                   d.staging.items i.from i.to e i.halt some there moves.ends more)),
             ),
             record {
               after = tt;
-              answer = answer_sent (bytes_of d.wire.size) (some_bytes d.wire.size) d.wire.locked d.wire.out_halted d.wire.status
+              answer = answer_sent (bytes_of d.bulk.size) (some_bytes d.bulk.size) d.bulk.locked d.bulk.out_halted d.bulk.status
                   d.staging.items i.from i.to e i.halt some there moves.ends;
               fits = omega (arith, moves.ends, length-take (e - i.from) (drop i.from d.staging.items));
-              most = (few_bytes d.wire.size).1;
+              most = (few_bytes d.bulk.size).1;
             },
           )
       | inr last ↦
@@ -41,15 +41,15 @@ returns-in-DataIn g c =
               refl,
               (λ _. tt),
               ap put
-                  (sym (sent_last (bytes_of d.wire.size) (some_bytes d.wire.size) d.wire.locked d.wire.out_halted d.wire.status
+                  (sym (sent_last (bytes_of d.bulk.size) (some_bytes d.bulk.size) d.bulk.locked d.bulk.out_halted d.bulk.status
                   d.staging.items i.from i.to e i.halt some there moves.ends last)),
             ),
             record {
               after = tt;
-              answer = answer_sent (bytes_of d.wire.size) (some_bytes d.wire.size) d.wire.locked d.wire.out_halted d.wire.status
+              answer = answer_sent (bytes_of d.bulk.size) (some_bytes d.bulk.size) d.bulk.locked d.bulk.out_halted d.bulk.status
                   d.staging.items i.from i.to e i.halt some there moves.ends;
               fits = omega (arith, moves.ends, length-take (e - i.from) (drop i.from d.staging.items));
-              most = (few_bytes d.wire.size).1;
+              most = (few_bytes d.bulk.size).1;
             },
           )
     ]

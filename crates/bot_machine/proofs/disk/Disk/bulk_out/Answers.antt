@@ -12,7 +12,7 @@ returns-then-self-clause-step g c =
 pub returns-in-Command-clause-step : goal.returns-in-Command-clause-step
 returns-in-Command-clause-step g c =
     let d = c.self.inside in
-    let left = ap (λ p. left_of (bytes_of d.wire.size) p d.taken.items d.staging.items d.wire.status) (sym c.in-Command.is) in
+    let left = ap (λ p. left_of (bytes_of d.bulk.size) p d.taken.items d.staging.items d.bulk.status) (sym c.in-Command.is) in
     let opens = rw c.deref_mut.ensures.value at (c.open.ensures.opens d.taken.items) in
     let passes = c.open.ensures.passes in
     rw (← c.self.view_is, with_items_is d.staging c.open.new.staging (search (rules, places)))
@@ -23,7 +23,7 @@ pub returns-in-DataOut-clause-step : goal.returns-in-DataOut-clause-step
 returns-in-DataOut-clause-step g c =
     let d = c.self.inside in
     let t = c.in-DataOut.field-0 in
-    let left = ap (λ p. left_of (bytes_of d.wire.size) p d.taken.items d.staging.items d.wire.status) (sym c.in-DataOut.is) in
+    let left = ap (λ p. left_of (bytes_of d.bulk.size) p d.taken.items d.staging.items d.bulk.status) (sym c.in-DataOut.is) in
     let taken = c.deref_mut-in-DataOut.ensures.value in
     let serves = c.take_data.ensures.serves in
     let passes = c.take_data.ensures.passes in
@@ -34,14 +34,14 @@ returns-in-DataOut-clause-step g c =
     )
     (goes_on _ _ _ _ c.args.packet.now t c.deref_mut-in-DataOut.result.now (sym c.if-self.false)
     (ap (λ came. taking_of t came) taken ∙ left)
-    (serves.takes t c.in-DataOut.is (left_of (bytes_of d.wire.size) d.wire.phase d.taken.items d.staging.items d.wire.status))
+    (serves.takes t c.in-DataOut.is (left_of (bytes_of d.bulk.size) d.bulk.phase d.taken.items d.staging.items d.bulk.status))
     (serves.rests t c.in-DataOut.is) (serves.spares t c.in-DataOut.is) passes.few passes.looks passes.elapses passes.limit
     (ap bytes_of passes.size))
 
 pub returns-in_default-clause-step : goal.returns-in_default-clause-step
 returns-in_default-clause-step g c =
     let d = c.self.inside in
-    let sent = sends d.wire.phase (λ e. c.in_default.not-Command e) (λ t e. c.in_default.not-DataOut t e)
-    (bytes_of d.wire.size) d.taken.items d.staging.items d.wire.status in
+    let sent = sends d.bulk.phase (λ e. c.in_default.not-Command e) (λ t e. c.in_default.not-DataOut t e)
+    (bytes_of d.bulk.size) d.taken.items d.staging.items d.bulk.status in
     rw (← c.self.view_is)
-    (not_ready _ _ c.args.packet.now sent.0 sent.1 d.wire.status (g.met.M.Medium.sound d.unit.store.medium) (sym c.if-self.false) sent.2)
+    (not_ready _ _ c.args.packet.now sent.0 sent.1 d.bulk.status (g.met.M.Medium.sound d.unit.store.medium) (sym c.if-self.false) sent.2)

@@ -16,7 +16,7 @@ ghost use Rattle.spec.specs.Packets.{bytes_of};
 ghost use Rattle.bot_machine.specs.Serving.{IsBegun, CarriesOutOn, BeginsOn, RestsOn, SparesOn};
 ghost use Rattle.bot_machine.specs.Serving.{TakesData, HandsOn, EndsData, CanCarryOut, HaveRoom};
 ghost use Rattle.bot_machine.specs.Serving.{AwaitsWrapper, HasMoreDue};
-ghost use Rattle.bot_machine.specs.Wire.{LaysOut};
+ghost use Rattle.bot_machine.specs.LineChanges.{LaysOut};
 ghost use Rattle.scsi_unit.specs.Reading.{IsOneOf};
 ghost use Rattle.bot_machine.specs.Reading.{sectors_for, WrapperReadsAt};
 
@@ -30,7 +30,7 @@ use wrappers::{Status, case_of, read_cbw, write_csw};
 // Carries out the command of an exchange over the bytes taken, and lays out what is sent.
 fn carry_out<M: Medium>(
     unit: &mut Unit<M>,
-    wire: &mut BulkState,
+    bulk: &mut BulkState,
     staging: &mut [u8],
     exchange: &Exchange,
     bytes: &[u8],
@@ -39,23 +39,23 @@ fn carry_out<M: Medium>(
     requires room { length staging.old ≡ 512 * unit_limit unit.old }
     ensures carried_out { (taken : List ℕ) (left : Script) → CarriesOutOn
         (M.state unit.old.store.medium) (M.state unit.new.store.medium) unit.old unit.new
-        (line_with wire.old left) (line_of wire.new taken staging.new) exchange.now bytes.now }
+        (line_with bulk.old left) (line_of bulk.new taken staging.new) exchange.now bytes.now }
     ensures spares { (answer : Result (List ℕ) Sense)
         × IsSparing (M.state unit.old.store.medium) (M.state unit.new.store.medium)
         exchange.now.command.block.items bytes.now unit.old answer unit.new
         × IsBounded (M.state unit.old.store.medium) (M.state unit.new.store.medium)
         exchange.now.command.block.items bytes.now unit.old
-        × ((taken : List ℕ) → Tells answer (line_of wire.new taken staging.new)) }
+        × ((taken : List ℕ) → Tells answer (line_of bulk.new taken staging.new)) }
     ensures passes { HandsOn M.state M.follows
         (IsOneOf (sectors_for unit.old exchange.now.command.block.items))
-        unit.old unit.new wire.old wire.new }
+        unit.old unit.new bulk.old bulk.new }
 {
     match unit.carry_out(exchange.command.block.as_slice(), bytes, staging) {
         Ok(size) => {
             let size = size_sent(exchange.case, size);
-            wire.conclude(exchange, exchange.case, size, Status::Passed);
+            bulk.conclude(exchange, exchange.case, size, Status::Passed);
         }
-        Err(_) => wire.conclude(exchange, after_failure(exchange.case), 0, Status::Failed),
+        Err(_) => bulk.conclude(exchange, after_failure(exchange.case), 0, Status::Failed),
     }
 }
 
@@ -78,37 +78,37 @@ pub(crate) fn read_exchange<M: Medium>(unit: &Unit<M>, packet: &[u8]) -> Option<
 #[tactic(auto, using(crate::proofs::EventParts::nothing_read))]
 pub(crate) fn open<M: Medium>(
     unit: &mut Unit<M>,
-    wire: &mut BulkState,
+    bulk: &mut BulkState,
     staging: &mut [u8],
     packet: &[u8],
 )
-    requires { AwaitsWrapper (unit_limit unit.old) wire.old staging.old }
+    requires { AwaitsWrapper (unit_limit unit.old) bulk.old staging.old }
     ensures opens { (taken : List ℕ) → BeginsOn
         (M.state unit.old.store.medium) (M.state unit.new.store.medium) unit.old unit.new
-        (line_of wire.old taken staging.old) (line_of wire.new taken staging.new) packet.now }
-    ensures rests { RestsOn (bytes_of wire.old.size) (M.state unit.old.store.medium)
+        (line_of bulk.old taken staging.old) (line_of bulk.new taken staging.new) packet.now }
+    ensures rests { RestsOn (bytes_of bulk.old.size) (M.state unit.old.store.medium)
         unit.old unit.new finished packet.now }
-    ensures spares { (taken : List ℕ) → SparesOn (bytes_of wire.old.size)
+    ensures spares { (taken : List ℕ) → SparesOn (bytes_of bulk.old.size)
         (M.state unit.old.store.medium) (M.state unit.new.store.medium) unit.old unit.new
-        (line_of wire.new taken staging.new) finished packet.now }
+        (line_of bulk.new taken staging.new) finished packet.now }
     ensures passes { HandsOn M.state M.follows (WrapperReadsAt unit.old packet.now)
-        unit.old unit.new wire.old wire.new }
+        unit.old unit.new bulk.old bulk.new }
 {
     let Some(exchange) = read_exchange(unit, packet) else {
-        wire.lock();
+        bulk.lock();
         return;
     };
     match when_carried_out(exchange.case) {
-        When::AtOnce => carry_out(unit, wire, staging, &exchange, &[]),
+        When::AtOnce => carry_out(unit, bulk, staging, &exchange, &[]),
         When::AfterData => {
             let due = exchange.command.host.size();
-            wire.phase = Phase::DataOut(Taking {
+            bulk.phase = Phase::DataOut(Taking {
                 exchange,
                 filled: 0,
                 due,
             });
         }
-        When::Never => wire.conclude(&exchange, exchange.case, 0, Status::PhaseError),
+        When::Never => bulk.conclude(&exchange, exchange.case, 0, Status::PhaseError),
     }
 }
 
@@ -118,27 +118,27 @@ pub(crate) fn open<M: Medium>(
 #[tactic(auto, using(crate::proofs::EventParts::none_besides))]
 pub(crate) fn take_data<M: Medium>(
     unit: &mut Unit<M>,
-    wire: &mut BulkState,
+    bulk: &mut BulkState,
     taken: &mut [u8],
     staging: &mut [u8],
     packet: &[u8],
 )
     requires room { HaveRoom (unit_limit unit.old) taken.old staging.old }
-    requires taking { (pending : Taking) × (wire.old.phase ≡ Phase.DataOut pending)
+    requires taking { (pending : Taking) × (bulk.old.phase ≡ Phase.DataOut pending)
         × IsTaking (unit_limit unit.old) (intention_of unit.old) pending }
     ensures serves { TakesData (M.state unit.old.store.medium) (M.state unit.new.store.medium)
-        unit.old unit.new wire.old (line_of wire.new taken.new staging.new) taken.old packet.now }
-    ensures passes { HandsOn M.state M.follows (λ _. ⊥) unit.old unit.new wire.old wire.new }
+        unit.old unit.new bulk.old (line_of bulk.new taken.new staging.new) taken.old packet.now }
+    ensures passes { HandsOn M.state M.follows (λ _. ⊥) unit.old unit.new bulk.old bulk.new }
 {
-    let Phase::DataOut(pending) = &mut wire.phase else {
+    let Phase::DataOut(pending) = &mut bulk.phase else {
         unreachable!()
     };
-    let most = wire.size.bytes();
+    let most = bulk.size.bytes();
     if pending.due > most && packet.len() == most as usize {
         take_more(pending, taken, packet, most);
         return;
     }
-    end_data(unit, wire, taken, staging, packet);
+    end_data(unit, bulk, taken, staging, packet);
 }
 
 // Takes a packet of the greatest size, behind which more data is due.
@@ -162,20 +162,20 @@ fn take_more(pending: &mut Taking, taken: &mut [u8], packet: &[u8], most: u32)
 #[inline(never)]
 fn end_data<M: Medium>(
     unit: &mut Unit<M>,
-    wire: &mut BulkState,
+    bulk: &mut BulkState,
     taken: &mut [u8],
     staging: &mut [u8],
     packet: &[u8],
 )
     requires room { HaveRoom (unit_limit unit.old) taken.old staging.old }
-    requires taking { (pending : Taking) × (wire.old.phase ≡ Phase.DataOut pending)
+    requires taking { (pending : Taking) × (bulk.old.phase ≡ Phase.DataOut pending)
         × IsTaking (unit_limit unit.old) (intention_of unit.old) pending }
-    requires ends { (pending : Taking) → wire.old.phase ≡ Phase.DataOut pending
-        → length packet.now ≡ bytes_of wire.old.size → pending.due ≤ bytes_of wire.old.size }
-    ensures { EndsData M.state M.follows unit.old unit.new wire.old wire.new
-        (line_of wire.new taken.new staging.new) taken.old packet.now }
+    requires ends { (pending : Taking) → bulk.old.phase ≡ Phase.DataOut pending
+        → length packet.now ≡ bytes_of bulk.old.size → pending.due ≤ bytes_of bulk.old.size }
+    ensures { EndsData M.state M.follows unit.old unit.new bulk.old bulk.new
+        (line_of bulk.new taken.new staging.new) taken.old packet.now }
 {
-    let Phase::DataOut(pending) = mem::replace(&mut wire.phase, Phase::Command) else {
+    let Phase::DataOut(pending) = mem::replace(&mut bulk.phase, Phase::Command) else {
         unreachable!()
     };
     let Taking {
@@ -183,9 +183,9 @@ fn end_data<M: Medium>(
         mut filled,
         due,
     } = pending;
-    let most = wire.size.bytes();
+    let most = bulk.size.bytes();
     if packet.len() != size_of_next(due, most) {
-        tell_wrong_size(wire, exchange.command.tag, due);
+        conclude_wrong_size(bulk, exchange.command.tag, due);
         return;
     }
     fill(
@@ -194,7 +194,7 @@ fn end_data<M: Medium>(
         packet,
         exchange.intended.size() as usize,
     );
-    carry_out(unit, wire, staging, &exchange, &taken[..filled]);
+    carry_out(unit, bulk, staging, &exchange, &taken[..filled]);
 }
 
 // How many bytes the next packet has, where so many are due.
@@ -205,11 +205,11 @@ fn size_of_next(due: u32, most: u32) -> usize
 }
 
 // Tells that a packet had a wrong size, where so many bytes were due.
-fn tell_wrong_size(wire: &mut BulkState, tag: u32, due: u32)
-    ensures { LaysOut wire.old 0 None (status_wrapper tag due PhaseError) wire.new }
+fn conclude_wrong_size(bulk: &mut BulkState, tag: u32, due: u32)
+    ensures { LaysOut bulk.old 0 None (status_wrapper tag due PhaseError) bulk.new }
 {
     let status = write_csw(tag, due, Status::PhaseError);
-    wire.lay_out(0, None, status);
+    bulk.lay_out(0, None, status);
 }
 
 // Appends to the first bytes of a buffer, up to so many.

@@ -9,7 +9,7 @@ use Rattle.bot_machine.proofs.FaultedDisk.{faulted_rests}
 use Rattle.bot_machine.proofs.Packets.{packets_of-none}
 use Rattle.bot_machine.proofs.Sizes.{some_bytes}
 use Rattle.bot_machine.proofs.UnitMoments.{proceeding}
-use Rattle.bot_machine.proofs.serve.carry_out.Goals as goal
+use Rattle.bot_machine.proofs.bulk_out.carry_out.Goals as goal
 
 pub returns-in-Ok-clause-carried_out : goal.returns-in-Ok-clause-carried_out
 returns-in-Ok-clause-carried_out g c = λ taken left book fits.
@@ -22,7 +22,7 @@ returns-in-Ok-clause-carried_out g c = λ taken left book fits.
       moved = λ n intended.
           let size = rw c.as_slice.ensures.value at c.in-Ok.ensures.passes.sends.sent in
           omega (arith, size n (c.requires.can.sends n intended), c.in-Ok.ensures.passes.sends.most, length-take c.in-Ok.size out);
-      after = rw (c.size_sent-size.ensures.is, ← sent_in-size _ (some_bytes c.args.wire.now.size) c.args.exchange.now.case c.in-Ok.size out)
+      after = rw (c.size_sent-size.ensures.is, ← sent_in-size _ (some_bytes c.args.bulk.now.size) c.args.exchange.now.case c.in-Ok.size out)
           at (c.conclude.ensures.line taken out left (omega (arith, c.in-Ok.ensures.passes.sends.most)));
     })
     line.2 (ours_stay _ _ _ _ _ _ line.1)
@@ -34,7 +34,7 @@ returns-in-Ok-clause-spares g c =
       Ok (take c.in-Ok.size out),
       rw c.as_slice.ensures.value at c.in-Ok.ensures.sparing,
       rw c.as_slice.ensures.value at c.in-Ok.ensures.passes.calls.bounded,
-      (λ taken. tells (Ok (take c.in-Ok.size out)) _ _ _ _ _ (line_with c.args.wire.now finished)
+      (λ taken. tells (Ok (take c.in-Ok.size out)) _ _ _ _ _ (line_with c.args.bulk.now finished)
           (c.conclude.ensures.line taken out finished (omega (arith, c.in-Ok.ensures.passes.sends.most)))),
     )
 
@@ -67,7 +67,7 @@ returns-in-Err-clause-carried_out g c = λ taken left book fits.
       answer = Err c.in-Err.field-0;
       effect = line.1;
       moved = λ n intended. tt;
-      after = rw (c.after_failure.ensures, packets_of-none _ (some_bytes c.args.wire.now.size)) at
+      after = rw (c.after_failure.ensures, packets_of-none _ (some_bytes c.args.bulk.now.size)) at
           (c.conclude-in-Err.ensures.line taken out left (omega arith));
     })
     line.2 (ours_stay _ _ _ _ _ _ line.1) (rw c.as_slice.ensures.value at (c.in-Err.ensures.serves.cuts book fits))
@@ -78,7 +78,7 @@ returns-in-Err-clause-spares g c =
       Err c.in-Err.field-0,
       rw c.as_slice.ensures.value at c.in-Err.ensures.sparing,
       rw c.as_slice.ensures.value at c.in-Err.ensures.passes.calls.bounded,
-      (λ taken. tells (Err c.in-Err.field-0) _ _ _ _ _ (line_with c.args.wire.now finished)
+      (λ taken. tells (Err c.in-Err.field-0) _ _ _ _ _ (line_with c.args.bulk.now finished)
           (c.conclude-in-Err.ensures.line taken out finished (omega arith))),
     )
 

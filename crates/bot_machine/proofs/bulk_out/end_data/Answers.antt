@@ -11,14 +11,14 @@ use Rattle.bot_machine.proofs.Sizes.{some_bytes}
 use Rattle.bot_machine.proofs.UnitMoments.{staying_so, proceeding_so}
 use Rattle.bot_machine.proofs.EventParts.{unit_stays}
 use Rattle.bot_machine.proofs.TakenData.{one_taking}
-use Rattle.bot_machine.proofs.serve.end_data.Goals as goal
+use Rattle.bot_machine.proofs.bulk_out.end_data.Goals as goal
 
 pub returns-then-packet-size_of_next : goal.returns-then-packet-size_of_next
 returns-then-packet-size_of_next g c = record {
   serves =
       let d = c.in-DataOut.pending in
       let unit = c.args.unit.now in
-      let most : ℕ = bytes_of c.args.wire.now.size in
+      let most : ℕ = bytes_of c.args.bulk.now.size in
       let other : length c.args.packet.now ≡ d.due → most < d.due = λ whole. omega arith in
       record {
         takes = λ pending is left book fits.
@@ -28,8 +28,8 @@ returns-then-packet-size_of_next g c = record {
             (other_packet most (length c.args.packet.now) d.due _ _ other) (inr (inr (record {
               size = let s : length c.args.packet.now ≢ min most d.due = omega arith in s;
               unit = refl;
-              after = rw (packets_of-none most (some_bytes c.args.wire.now.size))
-                  at (c.tell_wrong_size.ensures.line c.args.taken.now c.args.staging.now left (omega arith));
+              after = rw (packets_of-none most (some_bytes c.args.bulk.now.size))
+                  at (c.conclude_wrong_size.ensures.line c.args.taken.now c.args.staging.now left (omega arith));
             }))));
         rests = λ pending is book fits none. refl;
         spares = λ pending is book fits block taken carries.
@@ -40,15 +40,15 @@ returns-then-packet-size_of_next g c = record {
             absurd (omega (arith, more, due, last));
       };
   passes =
-      unit_stays _ _ _ c.args.unit.now c.args.wire.now c.tell_wrong_size.new.wire g.met.M.Medium.follows_itself
-      (c.tell_wrong_size.ensures.phase _ _ (omega arith)) c.tell_wrong_size.ensures.size;
+      unit_stays _ _ _ c.args.unit.now c.args.bulk.now c.conclude_wrong_size.new.bulk g.met.M.Medium.follows_itself
+      (c.conclude_wrong_size.ensures.phase _ _ (omega arith)) c.conclude_wrong_size.ensures.size;
 }
 
 pub returns : goal.returns
 returns g c = record {
   serves =
       let d = c.in-DataOut.pending in
-      let most : ℕ = bytes_of c.args.wire.now.size in
+      let most : ℕ = bytes_of c.args.bulk.now.size in
       let bytes = rw c.size.ensures at c.fill.ensures.bytes in
       let ends = c.requires.ends d (sym c.in-DataOut.ensures.value) in
       let last : d.due ≤ most = elim (cases_lt most d.due) [

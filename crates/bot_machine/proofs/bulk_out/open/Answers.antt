@@ -10,7 +10,7 @@ use Rattle.bot_machine.proofs.EventParts.{unit_stays}
 use Rattle.bot_machine.proofs.ExchangeStarts.{opens, no_write, carries_out, carried_at_once}
 use Rattle.spec.specs.Exchange.{finished, at_once, after_data, never}
 use Rattle.bot_machine.specs.Refinement.{left_of}
-use Rattle.bot_machine.proofs.serve.open.Goals as goal
+use Rattle.bot_machine.proofs.bulk_out.open.Goals as goal
 
 pub returns-in_default-clause-opens : goal.returns-in_default-clause-opens
 returns-in_default-clause-opens g c = λ taken book fits.
@@ -24,7 +24,7 @@ returns-in_default-clause-spares g c = λ came book fits block taken carries.
 
 pub returns-in_default-clause-passes : goal.returns-in_default-clause-passes
 returns-in_default-clause-passes g c =
-    unit_stays _ _ _ c.args.unit.now c.args.wire.now c.lock.new.self g.met.M.Medium.follows_itself
+    unit_stays _ _ _ c.args.unit.now c.args.bulk.now c.lock.new.self g.met.M.Medium.follows_itself
     (rw (c.lock.ensures, c.requires.expected) tt) (rw c.lock.ensures refl)
 
 pub returns-in-AtOnce-clause-opens : goal.returns-in-AtOnce-clause-opens
@@ -60,12 +60,12 @@ returns-in-AfterData-clause-spares g c = λ came book fits block taken carries.
 pub returns-in-Never-clause-opens : goal.returns-in-Never-clause-opens
 returns-in-Never-clause-opens g c = λ taken book fits.
     let unit = c.args.unit.now in
-    let wire = c.args.wire.now in
+    let bulk = c.args.bulk.now in
     staying _ unit _ book (g.met.M.Medium.sound unit.store.medium) fits
     (inl (opens _ _ book fits _ c.in-Some.exchange c.in-Some.ensures _ _ _ (rw (← c.in-Never.ensures) (
       refl,
-      rw (packets_of-none _ (some_bytes wire.size)) at (c.conclude.ensures.line taken c.args.staging.now
-          (left_of (bytes_of wire.size) wire.phase taken c.args.staging.now wire.status) (omega arith)),
+      rw (packets_of-none _ (some_bytes bulk.size)) at (c.conclude.ensures.line taken c.args.staging.now
+          (left_of (bytes_of bulk.size) bulk.phase taken c.args.staging.now bulk.status) (omega arith)),
     ))))
 
 pub returns-in-Never-clause-spares : goal.returns-in-Never-clause-spares
@@ -75,7 +75,7 @@ returns-in-Never-clause-spares g c = λ came book fits block taken carries.
 
 pub returns-in-Never-clause-passes : goal.returns-in-Never-clause-passes
 returns-in-Never-clause-passes g c =
-    unit_stays _ _ _ c.args.unit.now c.args.wire.now c.conclude.new.self g.met.M.Medium.follows_itself
+    unit_stays _ _ _ c.args.unit.now c.args.bulk.now c.conclude.new.self g.met.M.Medium.follows_itself
     (c.conclude.ensures.phase _ _ (omega arith)) c.conclude.ensures.size
 
 pub returns-in-AtOnce-clause-passes : goal.returns-in-AtOnce-clause-passes

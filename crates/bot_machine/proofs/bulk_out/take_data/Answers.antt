@@ -9,18 +9,18 @@ use Rattle.spec.specs.Packets.{bytes_of}
 use Rattle.bot_machine.proofs.FrontBytes.{other_packet}
 use Rattle.bot_machine.proofs.UnitMoments.{staying_so}
 use Rattle.bot_machine.proofs.TakenData.{one_taking}
-use Rattle.bot_machine.proofs.serve.take_data.Goals as goal
-use Rattle.bot_machine.proofs.serve.take_data.Goals.{else-pending-most-via-then-pending-most+else-packet-most}
-use Rattle.bot_machine.proofs.serve.take_data.Goals.{else-pending-most-via-else-pending-most}
+use Rattle.bot_machine.proofs.bulk_out.take_data.Goals as goal
+use Rattle.bot_machine.proofs.bulk_out.take_data.Goals.{else-pending-most-via-then-pending-most+else-packet-most}
+use Rattle.bot_machine.proofs.bulk_out.take_data.Goals.{else-pending-most-via-else-pending-most}
 
 pub returns-then-packet-most-clause-serves : goal.returns-then-packet-most-clause-serves
 returns-then-packet-most-clause-serves g c =
     let d = c.in-DataOut.pending in
     let unit = c.args.unit.now in
-    let wire = c.args.wire.now in
+    let bulk = c.args.bulk.now in
     let now = c.take_more.new.pending in
     let e = d.exchange in
-    let most : ℕ = bytes_of wire.size in
+    let most : ℕ = bytes_of bulk.size in
     let more : most < d.due = omega (arith, c.if-pending-most.true, c.bytes-most.ensures) in
     let came = take now.filled c.take_more.new.taken in
     let left_due : now.due ≡ d.due - most = c.take_more.ensures.due ∙ ap (λ n. d.due - n) c.bytes-most.ensures in
@@ -33,10 +33,10 @@ returns-then-packet-most-clause-serves g c =
             size = let s : length c.args.packet.now ≡ most = omega (arith, c.if-packet-most.true, c.bytes-most.ensures) in s;
             more = more;
             unit = refl;
-            after = ap (λ x. line_with wire (taking x.case x.command x.intended came now.due)) c.take_more.ensures.exchange
-                ∙ ap (λ x. line_with wire (taking e.case e.command e.intended x now.due)) c.take_more.ensures.bytes
+            after = ap (λ x. line_with bulk (taking x.case x.command x.intended came now.due)) c.take_more.ensures.exchange
+                ∙ ap (λ x. line_with bulk (taking e.case e.command e.intended x now.due)) c.take_more.ensures.bytes
                 ∙ ap
-                (λ n. line_with wire
+                (λ n. line_with bulk
                 (taking e.case e.command e.intended
                 (take (size_of_way e.intended) (take d.filled c.args.taken.now ++ c.args.packet.now)) n)) left_due;
           })));
@@ -49,11 +49,11 @@ returns-then-packet-most-clause-serves g c =
 
 pub returns-clause-serves : goal.returns-clause-serves
 returns-clause-serves g c =
-    let wire = c.args.wire.now in
-    let with : c.else-pending-most.wire ≡ record wire { phase = DataOut c.in-DataOut.pending } =
+    let bulk = c.args.bulk.now in
+    let with : c.else-pending-most.bulk ≡ record bulk { phase = DataOut c.in-DataOut.pending } =
     elim c.else-pending-most.branch [
-      | else-pending-most-via-then-pending-most+else-packet-most w ↦ w.wire-is
-      | else-pending-most-via-else-pending-most w ↦ w.wire-is
+      | else-pending-most-via-then-pending-most+else-packet-most w ↦ w.bulk-is
+      | else-pending-most-via-else-pending-most w ↦ w.bulk-is
     ] in
-    let same : c.else-pending-most.wire ≡ wire = with ∙ ap (λ (p : Phase). record wire { phase = p }) (sym c.in-DataOut.is) in
+    let same : c.else-pending-most.bulk ≡ bulk = with ∙ ap (λ (p : Phase). record bulk { phase = p }) (sym c.in-DataOut.is) in
     rw same at c.end_data.ensures.serves
