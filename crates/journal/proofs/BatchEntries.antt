@@ -2,11 +2,12 @@
 use Rattle.std.proofs.Common.{◌≡◌, ℕ, zero, suc, ◌+◌, ◌*◌, ◌-◌, ◌<◌, ◌≤◌, List, [], ◌∷◌, length, get_or, take, drop, refl, sym, ◌∙◌, ap}
 use Rattle.std.proofs.Common.{arith}
 use Rattle.std.specs.Prelude.{slice_range, All}
-use Rattle.std.proofs.lemmas.List.{length-take, length-drop, length-map, take-append-drop, take-append-le, get_or-take, get_or-drop}
+use Rattle.std.proofs.lemmas.List.{length-take, length-drop, length-map, take-take, get_or-take, get_or-drop}
 use Rattle.std.proofs.lemmas.List.{ext_get_or}
 use Rattle.std.proofs.Math.ListN.{get_or-map}
 use Rattle.journal.specs.SectorsTwo.{firsts_of, chunk_of}
 use Rattle.journal.proofs.EntriesTwo.{length_range}
+use Rattle.journal.proofs.RecordTwo.{firsts_of_chunk}
 use Rattle.journal.specs.Record.{Entry, numbers_of, entries_from, entries_of}
 
 numbers_from : (k : ℕ) (numbers bytes : List ℕ) → numbers_of (entries_from k numbers bytes) ≡ numbers
@@ -49,16 +50,27 @@ sized_batch numbers bytes size i d below =
     ∙ (length_range bytes (512 * i) (512 * i + 512) (omega arith) (omega arith) ∙ (omega arith))
 
 -- the first 8 bytes of a block
-pub first_eight : (bytes : List ℕ) (i : ℕ) → 512 * i + 512 ≤ length bytes
-    → take 8 (slice_range bytes (512 * i) (512 * i + 512)) ≡ slice_range bytes (512 * i) (512 * i + 8)
-first_eight bytes i inside =
+first_eight : (numbers bytes : List ℕ) (i : ℕ) → length bytes ≡ 512 * length numbers → i < length numbers
+    → get_or (firsts_of (entries_of numbers bytes)) i [] ≡ slice_range bytes (512 * i) (512 * i + 8)
+first_eight numbers bytes i size inside =
+    let rest : List ℕ = drop (512 * i) bytes in
     let a : 512 * i + 512 - 512 * i ≡ 512 = omega arith in
-    let b : 8 ≡ 512 * i + 8 - 512 * i = omega arith in
-    ap (λ (k : ℕ). take 8 (take k (drop (512 * i) bytes))) a
-    ∙ sym (take-append-le 8 (take 512 (drop (512 * i) bytes)) (drop 512 (drop (512 * i) bytes))
-    (omega (arith, length-take 512 (drop (512 * i) bytes), length-drop (512 * i) bytes)))
-    ∙ ap (λ (l : List ℕ). take 8 l) (take-append-drop 512 (drop (512 * i) bytes))
-    ∙ ap (λ (k : ℕ). take k (drop (512 * i) bytes)) b
+    let b : 512 * i + 8 - 512 * i ≡ 8 = omega arith in
+    rw (get_or-map (λ (e : Entry). take 8 e.1) (entries_of numbers bytes) i (0, []), entry_of_batch i numbers bytes (0, []) inside, a, b)
+    (take-take 8 512 rest (omega arith))
+
+-- the first bytes of all of them
+pub all_firsts_of : (numbers bytes : List ℕ) (firsts : List (List ℕ)) (count : ℕ) → length bytes ≡ 512 * length numbers
+    → count ≡ length numbers → length firsts ≡ count
+    → ((i : ℕ) → i < count → get_or firsts i [] ≡ slice_range bytes (512 * (0 + i)) (512 * (0 + i) + 8))
+    → firsts ≡ firsts_of (entries_of numbers bytes)
+all_firsts_of numbers bytes firsts count size all many each =
+    let first : Entry → List ℕ = λ e. take 8 e.1 in
+    ext_get_or [] firsts (firsts_of (entries_of numbers bytes))
+    (omega (arith, many, all, length_of_batch numbers bytes, length-map (entries_of numbers bytes) first))
+    (λ i below.
+    let none : 0 + i ≡ i = omega arith in
+    cc (none, each i (omega (arith, below, many)), first_eight numbers bytes i size (omega (arith, below, many, all))))
 
 -- the first bytes of the entries of a descriptor
 pub firsts_of_batch : (numbers bytes : List ℕ) (firsts : List (List ℕ)) (j : ℕ) → length bytes ≡ 512 * length numbers
@@ -67,47 +79,14 @@ pub firsts_of_batch : (numbers bytes : List ℕ) (firsts : List (List ℕ)) (j :
     → get_or firsts i [] ≡ slice_range bytes (512 * (30 * j + i)) (512 * (30 * j + i) + 8))
     → firsts ≡ firsts_of (chunk_of (entries_of numbers bytes) j)
 firsts_of_batch numbers bytes firsts j size count each =
-    let es : List Entry = entries_of numbers bytes in
-    let first : Entry → List ℕ = λ e. take 8 e.1 in
-    let many : length es ≡ length numbers = length_of_batch numbers bytes in
-    let here : length (take 30 (drop (30 * j) numbers)) ≡ length (chunk_of es j) =
-    omega (
-      arith,
-      many,
-      length-take 30 (drop (30 * j) numbers),
-      length-drop (30 * j) numbers,
-      length-take 30 (drop (30 * j) es),
-      length-drop (30 * j) es,
-    ) in
-    ext_get_or [] firsts (firsts_of (chunk_of es j)) (omega (arith, count, here, length-map (chunk_of es j) first))
+    let all : List (List ℕ) = firsts_of (entries_of numbers bytes) in
+    let many = length-map (entries_of numbers bytes) (λ (e : Entry). take 8 e.1) in
+    let long = length-take 30 (drop (30 * j) numbers) in
+    let left = length-drop (30 * j) numbers in
+    ext_get_or [] firsts (take 30 (drop (30 * j) all))
+    (omega (arith, count, many, length_of_batch numbers bytes, long, left, length-take 30 (drop (30 * j) all), length-drop (30 * j) all))
     (λ i below.
-    let small : i < 30 = omega (arith, count, length-take 30 (drop (30 * j) numbers)) in
-    let inside : 30 * j + i < length numbers =
-    omega (arith, count, length-take 30 (drop (30 * j) numbers), length-drop (30 * j) numbers) in
-    let entry : get_or (chunk_of es j) i (0, [])
-    ≡ (get_or numbers (30 * j + i) 0, slice_range bytes (512 * (30 * j + i)) (512 * (30 * j + i) + 512)) =
-    get_or-take 30 (drop (30 * j) es) i (0, []) small
-    ∙ get_or-drop (30 * j) es i (0, [])
-    ∙ entry_of_batch (30 * j + i) numbers bytes (0, []) inside in
     each i (omega (arith, count))
-    ∙ sym (first_eight bytes (30 * j + i) (omega arith))
-    ∙ ap (λ (e : Entry). take 8 e.1) (sym entry)
-    ∙ sym (get_or-map first (chunk_of es j) i (0, [])))
-
--- the first bytes of all of them
-pub all_firsts_of : (numbers bytes : List ℕ) (firsts : List (List ℕ)) (count : ℕ) → length bytes ≡ 512 * length numbers
-    → count ≡ length numbers → length firsts ≡ count
-    → ((i : ℕ) → i < count → get_or firsts i [] ≡ slice_range bytes (512 * (0 + i)) (512 * (0 + i) + 8))
-    → firsts ≡ firsts_of (entries_of numbers bytes)
-all_firsts_of numbers bytes firsts count size all many each =
-    let es : List Entry = entries_of numbers bytes in
-    let first : Entry → List ℕ = λ e. take 8 e.1 in
-    ext_get_or [] firsts (firsts_of es) (omega (arith, many, all, length_of_batch numbers bytes, length-map es first))
-    (λ i below.
-    let inside : i < length numbers = omega (arith, below, many, all) in
-    let none : 0 + i ≡ i = omega arith in
-    each i (omega (arith, below, many))
-    ∙ ap (λ (j : ℕ). slice_range bytes (512 * j) (512 * j + 8)) none
-    ∙ sym (first_eight bytes i (omega (arith, size, inside)))
-    ∙ ap (λ (e : Entry). take 8 e.1) (sym (entry_of_batch i numbers bytes (0, []) inside))
-    ∙ sym (get_or-map first es i (0, [])))
+    ∙ sym (first_eight numbers bytes (30 * j + i) size (omega (arith, count, long, left)))
+    ∙ sym (get_or-take 30 (drop (30 * j) all) i [] (omega (arith, count, long)) ∙ get_or-drop (30 * j) all i []))
+    ∙ sym (firsts_of_chunk (entries_of numbers bytes) j)

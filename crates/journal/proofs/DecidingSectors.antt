@@ -1,16 +1,17 @@
 -- Whether bytes spell a value: each is so or not.
-use Rattle.std.proofs.Common.{◌≡◌, ◌⊎◌, inl, inr, ⊎_elim, ℕ, zero, suc, ◌+◌, ◌*◌, ◌^◌, ◌<◌, ◌≤◌, List, [], ◌∷◌, refl}
+use Rattle.std.proofs.Common.{◌≡◌, ◌⊎◌, inl, inr, ⊎_elim, ℕ, ◌+◌, ◌*◌, ◌^◌, ◌<◌, ◌≤◌, List, [], ◌∷◌, length, get_or, refl}
 use Rattle.std.proofs.Common.{sym, ◌∙◌, ap, subst, arith}
 use Rattle.std.specs.Prelude.{All}
-use Rattle.std.proofs.lemmas.Grind.{get_or_default_zero}
 use Rattle.std.proofs.lemmas.Bool.{cases_eq, cases_lt}
+use Rattle.std.proofs.lemmas.List.{ext_get_or}
+use Rattle.std.proofs.lemmas.List.Elements.{All-from_get_or}
 use Rattle.journal.specs.declared.log_format.LogFormat.{LogFormat}
 use Rattle.journal.specs.declared.log_format.LogFormat.TheVariants.{One, Two}
 use Rattle.journal.specs.Places.{Shape, IsFirstHome, slot_sectors_of, gap_of}
 use Rattle.journal.specs.Spelling.{spelling, number_in, super_mark, head_mark}
 use Rattle.journal.specs.Sectors.{version_of, IsSuper, IsHead, IsRising}
-use Rattle.journal.proofs.SectorNumbers.{head_stamp, super_blocks}
-use Rattle.journal.proofs.SectorNumbers.{super_slots, super_home}
+use Rattle.journal.proofs.AllOrFirst.{all_or_first}
+use Rattle.journal.proofs.SectorNumbers.{head_stamp, super_blocks, super_slots, super_home}
 
 -- so or not
 abbrev pub Decided : Type 0 → Type 0
@@ -32,54 +33,30 @@ below_or_not a b = ⊎_elim (λ l. inl l) (λ ge. inr (λ l. omega arith)) (case
 pub at_most_or_not : (a b : ℕ) → Decided (a ≤ b)
 at_most_or_not a b = ⊎_elim (λ l. inr (λ le. omega arith)) (λ ge. inl ge) (cases_lt b a)
 
+-- all of so many or not
+pub each_or_not : (P : ℕ → Type 0) (n : ℕ) → ((k : ℕ) → Decided (P k)) → Decided ((k : ℕ) → k < n → P k)
+each_or_not P n p = ⊎_elim (λ all. inl all) (λ bad. inr (λ all. bad.3 (all bad.0 bad.1)))
+    (all_or_first P (λ k. ¬ P k) n (λ k below. p k))
+
 -- two lists of numbers are the same or not
 pub same_or_not : (xs ys : List ℕ) → Decided (xs ≡ ys)
-same_or_not [] [] = inl refl
-same_or_not [] (y ∷ ys) = inr (λ e. cc)
-same_or_not (x ∷ xs) [] = inr (λ e. cc)
-same_or_not (x ∷ xs) (y ∷ ys) = elim (cases_eq x y) [
-  | inl first ↦ elim (same_or_not xs ys) [ inl rest ↦ inl cc | inr not ↦ inr (λ e. not (cc e)) ]
-  | inr not ↦ inr (λ e. not (cc e))
-]
+same_or_not xs ys =
+    along (λ h. ext_get_or 0 xs ys h.0 h.1) (λ e. (ap length e, λ k below. ap (λ (l : List ℕ). get_or l k 0) e))
+    (both (cases_eq (length xs) (length ys))
+    (each_or_not (λ k. get_or xs k 0 ≡ get_or ys k 0) (length xs) (λ k. cases_eq (get_or xs k 0) (get_or ys k 0))))
 
 -- all of a list or not
-pub all_or_not : {A : Type 0} (P : A → Type 0) → ((x : A) → Decided (P x)) → (xs : List A) → Decided (All P xs)
-all_or_not P each [] = inl (λ k d below. absurd (omega arith))
-all_or_not P each (x ∷ xs) = elim (each x) [
-  | inl first ↦ elim (all_or_not P each xs) [
-    | inl rest ↦ inl (joined first rest)
-    | inr not ↦ inr (λ all. not (λ k d below. all (suc k) d (omega arith)))
-  ]
-  | inr not ↦ inr (λ all. not (all 0 x (omega arith)))
-]
-  where
-    joined : P x → All P xs → All P (x ∷ xs)
-    joined first rest zero d below = first
-    joined first rest (suc k) d below = rest k d (omega arith)
+pub all_or_not : {A : Type 0} (P : A → Type 0) → ((x : A) → Decided (P x)) → (xs : List A) (d : A) → Decided (All P xs)
+all_or_not P each xs d =
+    along (All-from_get_or P xs d) (λ all k below. all k d below)
+    (each_or_not (λ k. P (get_or xs k d)) (length xs) (λ k. each (get_or xs k d)))
 
 -- numbers rise or not
 pub rising_or_not : (numbers : List ℕ) → Decided (IsRising numbers)
-rising_or_not [] = inl (λ i j less below. absurd (omega arith))
-rising_or_not (x ∷ xs) = elim (all_or_not (λ y. x < y) (below_or_not x) xs) [
-  | inl above ↦ elim (rising_or_not xs) [
-    | inl rest ↦ inl (joined above rest)
-    | inr not ↦ inr (λ all. not (λ i j less below. all (suc i) (suc j) (omega arith) (omega arith)))
-  ]
-  | inr not ↦ inr (λ all. not (later all))
-]
-  where
-    joined : All (λ y. x < y) xs → IsRising xs → IsRising (x ∷ xs)
-    joined above rest i zero less below = absurd (omega arith)
-    joined above rest zero (suc j) less below = above j 0 (omega arith)
-    joined above rest (suc i) (suc j) less below = rest i j (omega arith) (omega arith)
-
-    later : IsRising (x ∷ xs) → All (λ y. x < y) xs
-    later all k d below = subst (λ y. x < y) (sym (get_or_default_zero xs k d below)) (all 0 (suc k) (omega arith) (omega arith))
-
--- so many numbers of a sector from a place on
-abbrev read_numbers : List ℕ → ℕ → ℕ → List ℕ
-read_numbers bytes place zero = []
-read_numbers bytes place (suc n) = number_in bytes place ∷ read_numbers bytes (suc place) n
+rising_or_not numbers =
+    along (λ h i j less below. h j below i less) (λ rising j below i less. rising i j less below)
+    (each_or_not (λ j. (i : ℕ) → i < j → get_or numbers i 0 < get_or numbers j 0) (length numbers)
+    (λ j. each_or_not (λ i. get_or numbers i 0 < get_or numbers j 0) j (λ i. below_or_not (get_or numbers i 0) (get_or numbers j 0))))
 
 -- a sector is a head or not
 pub head_or_not : (bytes : List ℕ) → Decided ((stamp : ℕ) × IsHead stamp bytes)
@@ -87,14 +64,12 @@ head_or_not bytes =
     let s = number_in bytes 1 in
     along (λ h. (s, record { spelled = h.0; least = h.1.0; most = h.1.1 }))
     (λ h.
-    let same : s ≡ h.0 = head_stamp h.0 bytes h.1 in (
-      h.1.spelled ∙ ap (λ (n : ℕ). spelling (head_mark ∷ n ∷ [])) (sym same),
-      (subst (λ n. 1 ≤ n) (sym same) h.1.least, subst (λ n. n < 2 ^ 63) (sym same) h.1.most),
-    ))
+    let i = subst (λ (n : ℕ). IsHead n bytes) (sym (head_stamp h.1)) h.1 in
+    (i.spelled, (i.least, i.most)))
     (both (same_or_not bytes (spelling (head_mark ∷ s ∷ []))) (both (at_most_or_not 1 s) (below_or_not s (2 ^ 63))))
 
 -- home begins where it has to or not
-pub first_home_or_not : (format : LogFormat) (slots home : ℕ) → Decided (IsFirstHome format slots home)
+first_home_or_not : (format : LogFormat) (slots home : ℕ) → Decided (IsFirstHome format slots home)
 first_home_or_not format slots home =
     let end : ℕ = 2 + slot_sectors_of format * slots in
     both (at_most_or_not end home) (below_or_not home (end + gap_of format))
@@ -120,31 +95,14 @@ super_of_format format bytes =
       },
     ))
     (λ w.
-    let s = w.2 in
-    let blocks : n ≡ w.0.blocks = super_blocks w.0 bytes s in
-    let slots : k ≡ w.0.slots = super_slots w.0 bytes s in
-    let home : h ≡ w.0.home = super_home w.0 bytes s in (
-      s.spelled
-          ∙ ap (λ (f : LogFormat). spelling (super_mark ∷ version_of f ∷ w.0.blocks ∷ w.0.slots ∷ 2 ∷ w.0.home ∷ [])) w.1
-          ∙ ap (λ (x : ℕ). spelling (super_mark ∷ version_of format ∷ x ∷ w.0.slots ∷ 2 ∷ w.0.home ∷ [])) (sym blocks)
-          ∙ ap (λ (x : ℕ). spelling (super_mark ∷ version_of format ∷ n ∷ x ∷ 2 ∷ w.0.home ∷ [])) (sym slots)
-          ∙ ap (λ (x : ℕ). spelling (super_mark ∷ version_of format ∷ n ∷ k ∷ 2 ∷ x ∷ [])) (sym home),
-      (
-        subst (λ x. 1 ≤ x) (sym blocks) s.some_blocks,
-        (
-          subst (λ x. x ≤ 2 ^ 31) (sym blocks) s.most_blocks,
-          (
-            subst (λ x. 1 ≤ x) (sym slots) s.some_slots,
-            (
-              subst (λ x. x ≤ 64) (sym slots) s.most_slots,
-              subst (λ (x : ℕ). IsFirstHome format k x) (sym home)
-                  (subst (λ (x : ℕ). IsFirstHome format x w.0.home) (sym slots)
-                  (subst (λ (f : LogFormat). IsFirstHome f w.0.slots w.0.home) w.1 s.home_is)),
-            ),
-          ),
-        ),
-      ),
-    ))
+    let same : w.0 ≡ shape = λ i. record {
+      format = w.1 i;
+      blocks = sym (super_blocks w.2) i;
+      slots = sym (super_slots w.2) i;
+      home = sym (super_home w.2) i;
+    } in
+    let s = subst (λ (x : Shape). IsSuper x bytes) same w.2 in
+    (s.spelled, (s.some_blocks, (s.most_blocks, (s.some_slots, (s.most_slots, s.home_is))))))
     (both (same_or_not bytes (spelling (super_mark ∷ version_of format ∷ n ∷ k ∷ 2 ∷ h ∷ [])))
     (both (at_most_or_not 1 n)
     (both (at_most_or_not n (2 ^ 31)) (both (at_most_or_not 1 k) (both (at_most_or_not k 64) (first_home_or_not format k h))))))

@@ -1,11 +1,11 @@
--- The entries of a descriptor of format 2.
-use Rattle.std.proofs.Common.{◌≡◌, inl, inr, ℕ, suc, ◌+◌, ◌*◌, ◌-◌, ◌^◌, ◌<◌, ◌≤◌, List, [], ◌∷◌, ◌++◌, length, get_or, take, drop, refl}
+-- The numbers and the entries in the sectors of format 2.
+use Rattle.std.proofs.Common.{◌≡◌, inl, inr, ℕ, zero, suc, ◌+◌, ◌*◌, ◌-◌, ◌^◌, ◌<◌, ◌≤◌, List, [], ◌∷◌, ◌++◌, length, get_or, take, drop, refl}
 use Rattle.std.proofs.Common.{sym, ◌∙◌, ap, arith, length-append}
-use Rattle.std.specs.Prelude.{All, min, zip, slice_range, replicate}
+use Rattle.std.specs.Prelude.{All, min, zip, slice_range}
 use Rattle.std.specs.List.{flat_map}
 use Rattle.std.proofs.lemmas.Bool.{cases_lt}
-use Rattle.std.proofs.lemmas.List.{take_all, length-take, length-drop, append_assoc, append-nil, take_more, drop-drop, drop-take}
-use Rattle.std.proofs.lemmas.List.{get_or-take, get_or-drop, ext_get_or}
+use Rattle.std.proofs.lemmas.List.{take_all, take_at, drop_at, length-take, length-take-le, length-drop, append_assoc, append-nil, take_more}
+use Rattle.std.proofs.lemmas.List.{drop-drop, drop-take, get_or-take, get_or-drop, ext_get_or}
 use Rattle.std.proofs.lemmas.List.Elements.{All-take, All-from_get_or}
 use Rattle.std.proofs.lemmas.Slice.Zip.{length-zip, get_or-zip}
 use Rattle.std.proofs.lemmas.Grind.{flat_map-append}
@@ -14,16 +14,60 @@ use Rattle.byteorder.specs.Numbers.{little_number-reads_back, little_from-take}
 use Rattle.journal.specs.Entry.{Entry}
 use Rattle.journal.specs.Spelling.{number_in}
 use Rattle.journal.specs.Sectors.{IsRising}
-use Rattle.journal.specs.SectorsTwo.{padded, entry_bytes, commit_bytes, descriptor_mark, commit_mark, entries_here, IsDescriptorTwo}
+use Rattle.journal.specs.SectorsTwo.{padded, entry_bytes, descriptor_bytes, place_bytes, commit_bytes, entries_here, IsDescriptorTwo}
 use Rattle.journal.specs.SectorsTwo.{IsCommitTwo}
-use Rattle.journal.proofs.BytesTwo.{length_entry, entry_at}
+
+-- the stamp in a descriptor
+pub descriptor_says : (s : ℕ) (entries : List Entry) (j : ℕ) → s < 2 ^ 64 → number_in (descriptor_bytes s entries j) 1 ≡ s
+unfolding number_in descriptor_bytes padded
+descriptor_says s entries j small = little_number-reads_back 8 s [] small
+
+-- in a data place, which begins with it
+pub place_says : (s : ℕ) (block : List ℕ) → s < 2 ^ 64 → number_in (place_bytes s block) 0 ≡ s
+unfolding number_in place_bytes
+place_says s block small = little_number-reads_back 8 s [] small
+
+-- and in a commit
+pub commit_says : (s n : ℕ) → s < 2 ^ 64 → number_in (commit_bytes s n) 1 ≡ s
+unfolding number_in commit_bytes padded
+commit_says s n small = little_number-reads_back 8 s [] small
+
+-- the count in a commit
+pub commit_counts : (s n : ℕ) → n < 2 ^ 64 → number_in (commit_bytes s n) 2 ≡ n
+unfolding number_in commit_bytes padded
+commit_counts s n small = little_number-reads_back 8 n [] small
+
+-- the bytes of a block behind its first 8
+pub place_rest : (s : ℕ) (block : List ℕ) → drop 8 (place_bytes s block) ≡ drop 8 block
+unfolding place_bytes
+place_rest s block = refl
 
 -- each entry has the 8 bytes that a descriptor keeps
 abbrev pub AreLong : List Entry → Type 0
 AreLong entries = All (λ (e : Entry). 8 ≤ length e.1) entries
 
+length_entry : (e : Entry) → 8 ≤ length e.1 → length (entry_bytes e) ≡ 16
+unfolding entry_bytes
+length_entry e size = omega (arith, length-append (little_bytes 8 e.0) (take 8 e.1), length-take-le 8 e.1 (omega arith))
+
+-- entry e of a descriptor, 16 bytes each
+entry_at : (es : List Entry) (e : ℕ) (rest : List ℕ) → e < length es → AreLong es
+    → take 16 (drop (16 * e) (flat_map entry_bytes es ++ rest)) ≡ entry_bytes (get_or es e (0, []))
+entry_at [] e rest below sized = absurd (omega arith)
+entry_at (x ∷ es) zero rest below sized =
+    rw (append_assoc (entry_bytes x) (flat_map entry_bytes es) rest)
+    (take_at (entry_bytes x) (flat_map entry_bytes es ++ rest) 16 (length_entry x (sized 0 (0, []) (omega arith))))
+entry_at (x ∷ es) (suc e) rest below sized =
+    let step : 16 * suc e ≡ 16 + 16 * e = omega arith in
+    let all = flat_map entry_bytes (x ∷ es) ++ rest in
+    let behind = drop_at (entry_bytes x) (flat_map entry_bytes es ++ rest) 16 (length_entry x (sized 0 (0, []) (omega arith))) in
+    ap (λ (k : ℕ). take 16 (drop k all)) step
+    ∙ ap (λ (l : List ℕ). take 16 l) (sym (drop-drop (16 * e) 16 all))
+    ∙ ap (λ (l : List ℕ). take 16 (drop (16 * e) l)) (ap (λ (l : List ℕ). drop 16 l) (append_assoc (entry_bytes x) _ rest) ∙ behind)
+    ∙ entry_at es e rest (omega arith) (λ k d inside. sized (suc k) d (omega arith))
+
 -- entries take 16 bytes each
-pub length_entries : (es : List Entry) → AreLong es → length (flat_map entry_bytes es) ≡ 16 * length es
+length_entries : (es : List Entry) → AreLong es → length (flat_map entry_bytes es) ≡ 16 * length es
 length_entries [] long = refl
 length_entries (x ∷ es) long =
     omega (
@@ -70,19 +114,17 @@ module _ (numbers : List ℕ) (firsts : List (List ℕ)) (each : length firsts �
     unfolding entry_bytes
     entries_more before e below =
         let es : List Entry = zip numbers firsts in
-        let fm : List ℕ = flat_map entry_bytes (take e (zip numbers firsts)) in
+        let fm : List ℕ = flat_map entry_bytes (take e es) in
         let x : Entry = (get_or numbers e 0, get_or firsts e []) in
-        let eight : take 8 (get_or firsts e []) ≡ get_or firsts e [] =
-        take_all 8 (get_or firsts e []) (omega (arith, sized e [] (omega arith))) in
-        let longer : take (e + 1) (zip numbers firsts) ≡ take e (zip numbers firsts) ++ x ∷ [] =
-        take_more (zip numbers firsts) e (0, []) (omega (arith, length_zipped))
-        ∙ ap (λ (y : Entry). take e (zip numbers firsts) ++ y ∷ []) (zipped e below) in
-        append_assoc (before ++ fm) (little_bytes 8 (get_or numbers e 0)) (get_or firsts e [])
-        ∙ append_assoc before fm (little_bytes 8 (get_or numbers e 0) ++ get_or firsts e [])
-        ∙ ap (λ (l : List ℕ). before ++ (fm ++ (little_bytes 8 (get_or numbers e 0) ++ l))) (sym eight)
-        ∙ ap (λ (l : List ℕ). before ++ (fm ++ l)) (sym (append-nil (entry_bytes x)))
-        ∙ ap (λ (l : List ℕ). before ++ l) (sym (flat_map-append entry_bytes (take e (zip numbers firsts)) (x ∷ [])))
-        ∙ ap (λ (l : List Entry). before ++ flat_map entry_bytes l) (sym longer)
+        cc (
+          take_all 8 (get_or firsts e []) (omega (arith, sized e [] (omega arith))),
+          take_more es e (0, []) (omega (arith, length_zipped)),
+          zipped e below,
+          append_assoc (before ++ fm) (little_bytes 8 (get_or numbers e 0)) (get_or firsts e []),
+          append_assoc before fm (little_bytes 8 (get_or numbers e 0) ++ get_or firsts e []),
+          append-nil (entry_bytes x),
+          flat_map-append entry_bytes (take e es) (x ∷ []),
+        )
 
 -- a part of what rises rises
 pub rising_part : (numbers : List ℕ) (from count : ℕ) → IsRising numbers → IsRising (take count (drop from numbers))
@@ -118,73 +160,39 @@ sized_from firsts count bytes at size inside each = All-from_get_or (λ (first :
     let small : i < count = omega arith in
     ap (λ (l : List ℕ). length l) (each i small) ∙ (length_range bytes (at i) (at i + 8) (omega arith) (inside i small) ∙ (omega arith)))
 
--- the second number of a sector
-pub second_number : (a b : ℕ) (xs bytes : List ℕ) → b < 2 ^ 64
-    → bytes ≡ padded (little_bytes 8 a ++ (little_bytes 8 b ++ xs)) → number_in bytes 1 ≡ b
-unfolding number_in padded
-second_number a b xs bytes small is =
-    ap (λ (l : List ℕ). little_number 8 (drop 8 l)) is
-    ∙ little_number-reads_back 8 b (xs ++ replicate (512 - length (little_bytes 8 a ++ (little_bytes 8 b ++ xs))) 0) small
-
--- the third
-pub third_number : (a b c : ℕ) (xs bytes : List ℕ) → c < 2 ^ 64
-    → bytes ≡ padded (little_bytes 8 a ++ (little_bytes 8 b ++ (little_bytes 8 c ++ xs))) → number_in bytes 2 ≡ c
-unfolding number_in padded
-third_number a b c xs bytes small is =
-    ap (λ (l : List ℕ). little_number 8 (drop 16 l)) is
-    ∙ little_number-reads_back 8 c
-    (xs ++ replicate (512 - length (little_bytes 8 a ++ (little_bytes 8 b ++ (little_bytes 8 c ++ xs)))) 0) small
-
-module _ (a b c d : ℕ) (xs bytes : List ℕ)
-    (is : bytes ≡ padded (little_bytes 8 a ++ (little_bytes 8 b ++ (little_bytes 8 c ++ (little_bytes 8 d ++ xs))))) where
-  -- the fourth
-  pub fourth_number : d < 2 ^ 64 → number_in bytes 3 ≡ d
-  unfolding number_in padded
-  fourth_number small =
-      ap (λ (l : List ℕ). little_number 8 (drop 24 l)) is
-      ∙ little_number-reads_back 8 d
-      (xs ++ replicate (512 - length (little_bytes 8 a ++ (little_bytes 8 b ++ (little_bytes 8 c ++ (little_bytes 8 d ++ xs))))) 0)
-      small
-
-  -- and what stands behind it
-  pub behind_four : drop 32 bytes
-      ≡ xs ++ replicate (512 - length (little_bytes 8 a ++ (little_bytes 8 b ++ (little_bytes 8 c ++ (little_bytes 8 d ++ xs))))) 0
-  unfolding padded
-  behind_four = ap (λ (l : List ℕ). drop 32 l) is
-
 -- the numbers of a commit
 module _ (stamp count : ℕ) (bytes : List ℕ) (c : IsCommitTwo stamp count bytes) where
   pub commit_stamp : number_in bytes 1 ≡ stamp
-  unfolding commit_bytes
-  commit_stamp = second_number commit_mark stamp (little_bytes 8 count) bytes (omega (arith, c.most)) c.spelled
+  commit_stamp = rw c.spelled (commit_says stamp count (omega (arith, c.most)))
 
   pub commit_count : number_in bytes 2 ≡ count
-  unfolding commit_bytes
-  commit_count = third_number commit_mark stamp count [] bytes (omega (arith, c.few)) c.spelled
+  commit_count = rw c.spelled (commit_counts stamp count (omega (arith, c.few)))
 
 -- what the bytes of a descriptor say
-module _ (stamp count j : ℕ) (numbers : List ℕ) (firsts : List (List ℕ)) (bytes : List ℕ)
+module _ {stamp count j : ℕ} {numbers : List ℕ} {firsts : List (List ℕ)} {bytes : List ℕ}
     (d : IsDescriptorTwo stamp count j numbers firsts bytes) where
   pub stamp_is : number_in bytes 1 ≡ stamp
-  stamp_is =
-      second_number descriptor_mark stamp (little_bytes 8 count ++ (little_bytes 8 j ++ flat_map entry_bytes (zip numbers firsts))) bytes
-      (omega (arith, d.most)) d.spelled
+  unfolding number_in padded
+  stamp_is = rw d.spelled (little_number-reads_back 8 stamp [] (omega (arith, d.most)))
 
   pub count_is : number_in bytes 2 ≡ count
-  count_is =
-      third_number descriptor_mark stamp count (little_bytes 8 j ++ flat_map entry_bytes (zip numbers firsts)) bytes
-      (omega (arith, d.entries.few)) d.spelled
+  unfolding number_in padded
+  count_is = rw d.spelled (little_number-reads_back 8 count [] (omega (arith, d.entries.few)))
 
   pub index_is : number_in bytes 3 ≡ j
-  index_is =
-      fourth_number descriptor_mark stamp count j (flat_map entry_bytes (zip numbers firsts)) bytes d.spelled
-      (omega (arith, d.entries.few, d.entries.used))
+  unfolding number_in padded
+  index_is = rw d.spelled (little_number-reads_back 8 j [] (omega (arith, d.entries.few, d.entries.used)))
+
+  -- how many entries these numbers say
+  pub here_is : {here many index : ℕ} → here ≡ min 30 (many - 30 * index) → many ≡ number_in bytes 2 → index ≡ number_in bytes 3
+      → here ≡ entries_here count j
+  here_is is a b = cc (is, a, b, count_is, index_is)
 
   entry_is : (e : ℕ) → e < length numbers → take 16 (drop (32 + 16 * e) bytes) ≡ entry_bytes (get_or numbers e 0, get_or firsts e [])
+  unfolding padded
   entry_is e below =
       ap (λ (l : List ℕ). take 16 l) (sym (drop-drop (16 * e) 32 bytes))
-      ∙ ap (λ (l : List ℕ). take 16 (drop (16 * e) l))
-      (behind_four descriptor_mark stamp count j (flat_map entry_bytes (zip numbers firsts)) bytes d.spelled)
+      ∙ ap (λ (l : List ℕ). take 16 (drop (16 * e) (drop 32 l))) d.spelled
       ∙ entry_at (zip numbers firsts) e _ (omega (arith, length_zipped numbers firsts d.entries.each))
       (zipped_long numbers firsts d.entries.each d.entries.sized)
       ∙ ap entry_bytes (zipped numbers firsts d.entries.each e below)
@@ -196,19 +204,15 @@ module _ (stamp count j : ℕ) (numbers : List ℕ) (firsts : List (List ℕ)) (
       ap (λ (k : ℕ). little_number 8 (drop k bytes)) at
       ∙ sym (little_from-take 0 8 16 (drop (32 + 16 * e) bytes) (omega arith))
       ∙ ap (little_number 8) (entry_is e below)
-      ∙ little_number-reads_back 8 (get_or numbers e 0) (take 8 (get_or firsts e [])) (omega (arith, d.entries.small e 0 below))
+      ∙ little_number-reads_back 8 (get_or numbers e 0) [] (omega (arith, d.entries.small e 0 below))
 
   pub first_is : (e : ℕ) → e < length numbers → slice_range bytes (40 + 16 * e) (40 + 16 * e + 8) ≡ get_or firsts e []
   unfolding entry_bytes
   first_is e below =
       let eight : 40 + 16 * e + 8 - (40 + 16 * e) ≡ 8 = omega arith in
       let at : 40 + 16 * e ≡ 32 + 16 * e + 8 = omega arith in
-      ap (λ (k : ℕ). take k (drop (40 + 16 * e) bytes)) eight
-      ∙ ap (λ (k : ℕ). take 8 (drop k bytes)) at
-      ∙ ap (λ (l : List ℕ). take 8 l) (sym (drop-drop 8 (32 + 16 * e) bytes))
-      ∙ sym (drop-take 8 8 (drop (32 + 16 * e) bytes))
-      ∙ ap (λ (l : List ℕ). drop 8 l) (entry_is e below)
-      ∙ take_all 8 (get_or firsts e []) (omega (arith, d.entries.sized e [] (omega (arith, d.entries.each))))
+      rw (eight, at, ← (drop-drop 8 (32 + 16 * e) bytes), ← (drop-take 8 8 (drop (32 + 16 * e) bytes)), entry_is e below)
+      (take_all 8 (get_or firsts e []) (omega (arith, d.entries.sized e [] (omega (arith, d.entries.each)))))
 
   -- numbers that were read from the entries are those of the descriptor
   pub numbers_are : (here : ℕ) (list : List ℕ) → here ≡ entries_here count j → length list ≡ here
@@ -229,13 +233,12 @@ pub IsDescriptorTwo-one : (bytes : List ℕ) (a b m n i j : ℕ) (ns ms : List �
     → IsDescriptorTwo a m i ns fs bytes → IsDescriptorTwo b n j ms gs bytes
     → (a ≡ b) × (m ≡ n) × (i ≡ j) × (ns ≡ ms) × (fs ≡ gs)
 IsDescriptorTwo-one bytes a b m n i j ns ms fs gs d e =
-    let counts : m ≡ n = sym (count_is a m i ns fs bytes d) ∙ count_is b n j ms gs bytes e in
-    let indices : i ≡ j = sym (index_is a m i ns fs bytes d) ∙ index_is b n j ms gs bytes e in
-    let here : length ns ≡ entries_here n j =
-    d.entries.many ∙ ap (λ (k : ℕ). entries_here k i) counts ∙ ap (λ (k : ℕ). entries_here n k) indices in (
-      sym (stamp_is a m i ns fs bytes d) ∙ stamp_is b n j ms gs bytes e,
+    let counts = sym (count_is d) ∙ count_is e in
+    let indices = sym (index_is d) ∙ index_is e in
+    let here : length ns ≡ entries_here n j = cc (d.entries.many, counts, indices) in (
+      sym (stamp_is d) ∙ stamp_is e,
       counts,
       indices,
-      numbers_are b n j ms gs bytes e (length ns) ns here refl (λ x below. sym (number_is a m i ns fs bytes d x below)),
-      firsts_are b n j ms gs bytes e (length ns) fs here d.entries.each (λ x below. sym (first_is a m i ns fs bytes d x below)),
+      numbers_are e (length ns) ns here refl (λ x below. sym (number_is d x below)),
+      firsts_are e (length ns) fs here d.entries.each (λ x below. sym (first_is d x below)),
     )

@@ -17,12 +17,11 @@ use Rattle.journal.proofs.DecidingRecords.{count_of}
 use Rattle.journal.proofs.StandingLaws.{count_stands}
 
 -- a super has no fault
-pub no_fault : (fault : SuperFault) (shape : Shape) (bytes : List ℕ) → IsSuperFault fault bytes
-    → ¬ IsSuper shape bytes
-no_fault Magic shape bytes f s = f ((super_begins shape bytes s).0)
-no_fault Version shape bytes f s = f.1 ((super_begins shape bytes s).1)
-no_fault Rest shape bytes f s = f.2 ((super_begins shape bytes s).2)
-no_fault Sizes shape bytes f s = f.3 shape s
+no_fault : (fault : SuperFault) {shape : Shape} {bytes : List ℕ} → IsSuperFault fault bytes → IsSuper shape bytes → ⊥
+no_fault Magic f s = f (super_begins s).0
+no_fault Version f s = f.1 (super_begins s).1
+no_fault Rest f s = f.2 (super_begins s).2
+no_fault Sizes {shape} f s = f.3 shape s
 
 -- a version is known or not
 version_or_not : (bytes : List ℕ) → HasVersion bytes ⊎ (¬ HasVersion bytes)
@@ -83,62 +82,63 @@ stands_or_fault size image = elim (cases_lt 0 size) [
         let stood = count_stands size shape image head c.0 fits super head_is c.1 in
         (shape, stood.array, head + c.0 + 1, stood.stands)
 
+-- the place of a fault in their order
+abbrev rank : ImageFault → ℕ
+rank BadSuper = 0
+rank BadVersion = 1
+rank BadSize = 2
+rank BadHead = 3
+
+rank_one : (a b : ImageFault) → rank a ≡ rank b → a ≡ b
+rank_one BadSuper BadSuper e = refl
+rank_one BadVersion BadVersion e = refl
+rank_one BadSize BadSize e = refl
+rank_one BadHead BadHead e = refl
+rank_one a b e = absurd (omega arith)
+
 module _ (size : ℕ) (image : Image) where
-  -- two faults are never both there
-  super_version : HasFault size image BadSuper → ¬ HasFault size image BadVersion
-  super_version h k = ⊎_elim (λ m. m (k.1.0)) (λ r. k.1.1 (r.1)) h.1
-
-  -- nor these
-  super_size : HasFault size image BadSuper → ¬ HasFault size image BadSize
-  super_size h k =
-      ⊎_elim (λ e. omega arith)
-      (λ q. ⊎_elim (λ z. ⊎_elim (λ m. m (z.0)) (λ r. r.2 (z.2)) h.1)
-      (λ short. ⊎_elim (λ m. no_fault Magic short.0 (image 0) m short.1) (λ r. no_fault Rest short.0 (image 0) r short.1) h.1) q) k
-
-  -- nor these
-  super_head : HasFault size image BadSuper → ¬ HasFault size image BadHead
-  super_head h k = ⊎_elim (λ m. no_fault Magic k.0 (image 0) m k.1.super) (λ r. no_fault Rest k.0 (image 0) r k.1.super) h.1
-
-  -- nor these
-  version_size : HasFault size image BadVersion → ¬ HasFault size image BadSize
-  version_size h k =
-      ⊎_elim (λ e. omega arith) (λ q. ⊎_elim (λ z. h.1.1 (z.1)) (λ short. no_fault Version short.0 (image 0) h.1 short.1) q) k
-
-  -- nor these
-  version_head : HasFault size image BadVersion → ¬ HasFault size image BadHead
-  version_head h k = no_fault Version k.0 (image 0) h.1 k.1.super
-
   -- a medium that is long enough for its super has no bad size
   size_shape : HasFault size image BadSize → (shape : Shape) → ¬ HasShape size shape image
   size_shape h shape k = ⊎_elim (λ e. omega (arith, k.fits))
-      (λ q. ⊎_elim (λ z. no_fault Sizes shape (image 0) z k.super)
+      (λ q. ⊎_elim (λ z. no_fault Sizes z k.super)
       (λ short. let one : short.0 ≡ shape = IsSuper-one short.0 shape (image 0) short.1 k.super in
       let less : size < sectors_of shape = subst (λ (x : Shape). size < sectors_of x) one short.2 in
       omega (arith, less, k.fits)) q) h
 
+  -- nor has it the faults before that
+  no_super : (a : ImageFault) → rank a < 2 → HasFault size image a → (shape : Shape) → ¬ IsSuper shape (image 0)
+  no_super BadSuper early h shape s = ⊎_elim (λ m. no_fault Magic m s) (λ r. no_fault Rest r s) h.1
+  no_super BadVersion early h shape s = no_fault Version h.1 s
+  no_super a early h shape s = omega arith
+
+  -- two faults are never both there
+  clash : (a b : ImageFault) → rank a < rank b → HasFault size image a → HasFault size image b → ⊥
+  clash BadSuper BadVersion before h k = ⊎_elim (λ m. m k.1.0) (λ r. k.1.1 r.1) h.1
+  clash BadSuper BadSize before h k =
+      ⊎_elim (λ e. omega (arith, e, h.0)) (λ q. ⊎_elim (λ z. ⊎_elim (λ m. m z.0) (λ r. r.2 z.2) h.1)
+      (λ short. no_super BadSuper (omega arith) h short.0 short.1) q) k
+  clash BadVersion BadSize before h k =
+      ⊎_elim (λ e. omega (arith, e, h.0)) (λ q. ⊎_elim (λ z. h.1.1 z.1)
+      (λ short. no_super BadVersion (omega arith) h short.0 short.1) q) k
+  clash BadSuper BadHead before h k = no_super BadSuper (omega arith) h k.0 k.1.super
+  clash BadVersion BadHead before h k = no_super BadVersion (omega arith) h k.0 k.1.super
+  clash BadSize BadHead before h k = size_shape h k.0 k.1
+  clash BadHead BadHead before h k = omega arith
+  clash a b before h k = omega arith
+
   -- an image has at most one fault
   pub HasFault-one : (a b : ImageFault) → HasFault size image a → HasFault size image b → a ≡ b
-  HasFault-one BadSuper BadSuper h k = refl
-  HasFault-one BadSuper BadVersion h k = absurd (super_version h k)
-  HasFault-one BadSuper BadSize h k = absurd (super_size h k)
-  HasFault-one BadSuper BadHead h k = absurd (super_head h k)
-  HasFault-one BadVersion BadSuper h k = absurd (super_version k h)
-  HasFault-one BadVersion BadVersion h k = refl
-  HasFault-one BadVersion BadSize h k = absurd (version_size h k)
-  HasFault-one BadVersion BadHead h k = absurd (version_head h k)
-  HasFault-one BadSize BadSuper h k = absurd (super_size k h)
-  HasFault-one BadSize BadVersion h k = absurd (version_size k h)
-  HasFault-one BadSize BadSize h k = refl
-  HasFault-one BadSize BadHead h k = absurd (size_shape h k.0 k.1)
-  HasFault-one BadHead BadSuper h k = absurd (super_head k h)
-  HasFault-one BadHead BadVersion h k = absurd (version_head k h)
-  HasFault-one BadHead BadSize h k = absurd (size_shape k h.0 h.1)
-  HasFault-one BadHead BadHead h k = refl
+  HasFault-one a b h k = elim (cases_lt (rank a) (rank b)) [
+    | inl before ↦ absurd (clash a b before h k)
+    | inr not ↦ elim (cases_lt (rank b) (rank a)) [
+      | inl behind ↦ absurd (clash b a behind k h)
+      | inr same ↦ rank_one a b (omega arith)
+    ]
+  ]
 
   -- an image that stands for something has none
   pub HasFault-stands : (fault : ImageFault) → HasFault size image fault → ¬ Stands size image
-  HasFault-stands BadSuper h s =
-      ⊎_elim (λ m. no_fault Magic s.0 (image 0) m s.3.keeps.super) (λ r. no_fault Rest s.0 (image 0) r s.3.keeps.super) h.1
-  HasFault-stands BadVersion h s = no_fault Version s.0 (image 0) h.1 s.3.keeps.super
+  HasFault-stands BadSuper h s = no_super BadSuper (omega arith) h s.0 s.3.keeps.super
+  HasFault-stands BadVersion h s = no_super BadVersion (omega arith) h s.0 s.3.keeps.super
   HasFault-stands BadSize h s = size_shape h s.0 (record { super = s.3.keeps.super; fits = s.3.fits })
   HasFault-stands BadHead h s = h.2 s.3.head s.3.keeps.head_is

@@ -1,22 +1,27 @@
 -- Both formats keep the laws of a layout.
-use Rattle.std.proofs.Common.{◌≡◌, inr, ◌+◌, ◌-◌, ◌/◌, [], length, refl, sym, ◌∙◌, ap, arith}
-use Rattle.std.proofs.lemmas.List.{ext_get_or}
+use Rattle.std.proofs.Common.{◌≡◌, inr, List, length, refl, sym, ◌∙◌, ap, ℕ, ◌+◌, ◌-◌, ◌/◌, arith}
 use Rattle.journal.specs.declared.log_format.LogFormat.{LogFormat}
 use Rattle.journal.specs.declared.log_format.LogFormat.TheVariants.{One, Two}
 use Rattle.journal.specs.Places.{limit_of, slot_sectors_of}
+use Rattle.journal.specs.Spelling.{number_in}
 use Rattle.journal.specs.SectorsTwo.{commit_bytes}
-use Rattle.journal.proofs.BytesTwo.{commit_count as commit_count2}
 use Rattle.journal.specs.LayoutLaws.{Laws}
 use Rattle.journal.specs.Format1.{format1, commit1}
 use Rattle.journal.specs.Format2.{format2}
 use Rattle.journal.specs.Formats.{layout_of}
-use Rattle.journal.proofs.Format1Laws.{inside1, apart1, carries1, one_stamp1, commit_count as commit_count1, kind_of as kind_of1}
-use Rattle.journal.proofs.Format1Laws.{same_entry as same_entry1, part_commit as part_commit1, offset_commit as offset_commit1}
-use Rattle.journal.proofs.Format2Laws.{inside2, apart2, carries2, one_stamp2, kind_of as kind_of2, same_entry as same_entry2}
+use Rattle.journal.proofs.SectorNumbers.{commit_count}
+use Rattle.journal.proofs.EntriesTwo.{commit_counts}
+use Rattle.journal.proofs.ExactParts.{exact_parts}
+use Rattle.journal.proofs.Format1Laws.{inside1, apart1, carries1, one_stamp1, zeros1, commit_of}
+use Rattle.journal.proofs.Format1Laws.{part_commit as part_commit1, offset_commit as offset_commit1}
+use Rattle.journal.proofs.Format2Laws.{inside2, apart2, carries2, one_stamp2, zeros2}
 use Rattle.journal.proofs.Format2Laws.{part_commit as part_commit2, offset_commit as offset_commit2}
-use Rattle.journal.proofs.ReadingOne.{record_read as read1, zeros_carry_none as zeros1}
-use Rattle.journal.proofs.SlotRecord.{record_read as read2}
-use Rattle.journal.proofs.Zeros.{zeros_carry_none as zeros2}
+use Rattle.journal.proofs.ReadingOne.{record_read as read1}
+use Rattle.journal.proofs.WholeTwo.{record_read as read2}
+
+-- the third number of two parts that are the same
+third : {a b : List ℕ} → a ≡ b → number_in a 2 ≡ number_in b 2
+third e = ap (λ (l : List ℕ). number_in l 2) e
 
 pub format1_laws : Laws format1
 format1_laws = record {
@@ -24,34 +29,36 @@ format1_laws = record {
   inside = inside1;
   apart = apart1;
   last = λ n. offset_commit1 n (n + 2 - 1) (omega arith);
-  carries = carries1;
+  carries = λ blocks s entries p r below. carries1 r p below;
   last_is_late = λ n. omega arith;
-  one_stamp = λ blocks s t entries p r below c. one_stamp1 blocks s t entries p r (kind_of1 (length entries) p) c;
+  one_stamp = λ blocks s t entries p r below c. one_stamp1 blocks s t entries p r c;
   last_part = λ s a b same.
       part_commit1 s a (length a + 2 - 1) (omega arith) ∙ (ap (commit1 s) same ∙ sym (part_commit1 s b (length b + 2 - 1) (omega arith)));
-  count = λ blocks s a b ra rb e. commit_count1 s (length a) (length b) (omega (arith, ra.fit.few)) (omega (arith, rb.fit.few))
-      (sym (part_commit1 s a (length a + 2 - 1) (omega arith)) ∙ (e ∙ part_commit1 s b (length b + 2 - 1) (omega arith)));
-  exact = λ blocks s a b ra rb same each. ext_get_or (0, []) a b same (same_entry1 blocks s a b ra rb same each);
-  read = λ shape image s es w. read1 shape image s es w;
+  count = λ blocks s a b ra rb e. sym (commit_count (commit_of ra))
+      ∙ third (sym (part_commit1 s a (length a + 2 - 1) (omega arith)) ∙ e ∙ part_commit1 s b (length b + 2 - 1) (omega arith))
+      ∙ commit_count (commit_of rb);
+  exact = exact_parts format1 apart1 read1;
+  read = read1;
   zeros = zeros1;
 }
 
 pub format2_laws : Laws format2
 format2_laws = record {
   some_parts = λ n. omega arith;
-  inside = λ n p few below. inside2 n p few (kind_of2 n p);
-  apart = λ n p q few hp hq e. apart2 n p q few hp hq e (kind_of2 n p) (kind_of2 n q);
+  inside = inside2;
+  apart = apart2;
   last = λ n. offset_commit2 n ((n + 29) / 30 + n + 1 - 1) (omega arith);
-  carries = λ blocks s entries p r below. inr (carries2 blocks s entries p r (kind_of2 (length entries) p));
+  carries = λ blocks s entries p r below. inr (carries2 blocks s entries p r);
   last_is_late = λ n. omega arith;
-  one_stamp = λ blocks s t entries p r below c. one_stamp2 blocks s t entries p r (kind_of2 (length entries) p) c;
+  one_stamp = λ blocks s t entries p r below c. one_stamp2 blocks s t entries p r c;
   last_part = λ s a b same. part_commit2 s a ((length a + 29) / 30 + length a + 1 - 1) (omega arith)
       ∙ (ap (commit_bytes s) same ∙ sym (part_commit2 s b ((length b + 29) / 30 + length b + 1 - 1) (omega arith)));
-  count = λ blocks s a b ra rb e. commit_count2 s s (length a) (length b) (omega (arith, ra.fit.few)) (omega (arith, rb.fit.few))
-      (sym (part_commit2 s a ((length a + 29) / 30 + length a + 1 - 1) (omega arith))
-      ∙ (e ∙ part_commit2 s b ((length b + 29) / 30 + length b + 1 - 1) (omega arith)));
-  exact = λ blocks s a b ra rb same each. ext_get_or (0, []) a b same (same_entry2 blocks s a b ra rb same each);
-  read = λ shape image s es w. read2 shape image s es w;
+  count = λ blocks s a b ra rb e. sym (commit_counts s (length a) (omega (arith, ra.fit.few)))
+      ∙ third (sym (part_commit2 s a ((length a + 29) / 30 + length a + 1 - 1) (omega arith))
+      ∙ e ∙ part_commit2 s b ((length b + 29) / 30 + length b + 1 - 1) (omega arith))
+      ∙ commit_counts s (length b) (omega (arith, rb.fit.few));
+  exact = exact_parts format2 apart2 read2;
+  read = read2;
   zeros = zeros2;
 }
 

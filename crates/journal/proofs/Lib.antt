@@ -1,7 +1,7 @@
 pub mod OneSpelling
 pub mod SectorNumbers
+pub mod AllOrFirst
 pub mod DecidingSectors
-pub mod BytesTwo
 pub mod PaddedBytes
 pub mod EntriesTwo
 pub mod RecordTwo
@@ -13,11 +13,12 @@ pub mod WrittenRecord
 pub mod Engine
 pub mod FaultLaws
 pub mod Finding
+pub mod PartKinds
+pub mod ExactParts
 pub mod Format1Laws
 pub mod Format2Laws
 pub mod Formats
 pub mod Overlay
-pub mod SlotRecord
 pub mod ReadingOne
 pub mod RetiredRecord
 pub mod SectorsRead
@@ -29,4 +30,3 @@ pub mod SlotTwo
 pub mod Naming
 pub mod Within
 pub mod Wholeness
-pub mod Zeros

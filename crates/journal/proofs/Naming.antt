@@ -43,12 +43,6 @@ module _ (j : ℕ) (numbers more : List ℕ) (long : length numbers ≡ 30 * j) 
         )
   ]
 
--- the first bytes of these entries
-pub firsts_of_chunk : (es : List Entry) (j : ℕ) → firsts_of (chunk_of es j) ≡ take 30 (drop (30 * j) (firsts_of es))
-firsts_of_chunk es j =
-    let f : Entry → List ℕ = λ e. take 8 e.1 in
-    sym (take-map f 30 (drop (30 * j) es)) ∙ ap (λ (l : List (List ℕ)). take 30 l) (sym (drop-map f (30 * j) es))
-
 -- descriptors that name so many blocks are there
 pub each_there : (image : Image) (at stamp count : ℕ) (numbers : List ℕ) → length numbers ≡ count → HasDescriptors image at stamp numbers
     → (j : ℕ) → j < descriptors_of count → HasDescriptor image at stamp count j
@@ -58,9 +52,3 @@ each_there image at stamp count numbers long has j below =
       is.0,
       subst (λ (n : ℕ). IsDescriptorTwo stamp n j (take 30 (drop (30 * j) numbers)) is.0 (image (at + j))) long is.1,
     )
-
--- these numbers are what is named
-pub names_these : (image : Image) (at stamp blocks count : ℕ) (numbers : List ℕ) → length numbers ≡ count
-    → HasDescriptors image at stamp numbers → IsRising numbers → All (λ b. b < blocks) numbers
-    → NamesBlocks image at stamp blocks count
-names_these image at stamp blocks count numbers long has rising inside = (numbers, long, has, rising, inside)

@@ -1,20 +1,17 @@
--- The record that stands in a slot of format 1, read back, and what zeros carry.
-use Rattle.std.proofs.Common.{◌≡◌, inl, inr, ℕ, zero, suc, ◌+◌, ◌-◌, ◌*◌, ◌%◌, ◌<◌, List, [], ◌∷◌, length, get_or, refl, sym, ◌∙◌, ap}
-use Rattle.std.proofs.Common.{subst, arith}
-use Rattle.std.specs.Prelude.{replicate}
-use Rattle.std.proofs.lemmas.Bool.{cases_lt}
+-- The record that stands in a slot of format 1, read back.
+use Rattle.std.proofs.Common.{◌≡◌, ℕ, zero, suc, ◌+◌, ◌-◌, ◌*◌, ◌%◌, ◌<◌, List, [], ◌∷◌, length, get_or, refl, sym, ◌∙◌, ap, arith}
 use Rattle.std.proofs.lemmas.List.{length-map}
 use Rattle.std.proofs.lemmas.List.FromFn.{fill_by_all}
 use Rattle.medium.specs.Medium.{Image}
 use Rattle.journal.specs.Places.{Shape}
 use Rattle.journal.specs.Spelling.{number_in}
-use Rattle.journal.specs.Sectors.{IsDescriptor}
-use Rattle.journal.proofs.SectorNumbers.{descriptor_stamp, descriptor_count, descriptor_number, commit_stamp}
+use Rattle.journal.specs.Sectors.{IsDescriptor, IsCommit}
 use Rattle.journal.specs.Record.{Entry, numbers_of, block_of, entries_in}
 use Rattle.journal.specs.Layout.{IsWholeIn}
-use Rattle.journal.specs.LayoutLaws.{IsRecordOf}
-use Rattle.journal.specs.Format1.{format1, offset1, numbers_in, record_in, Carries1}
-use Rattle.journal.proofs.Format1Laws.{offset_early, part_descriptor, part_place, descriptor_of}
+use Rattle.journal.specs.Format1.{format1, offset1, descriptor1, commit1, numbers_in, record_in}
+use Rattle.journal.proofs.SectorNumbers.{descriptor_count, descriptor_number}
+use Rattle.journal.proofs.Format1Laws.{offset_early, offset_commit, part_descriptor, part_place, part_commit, descriptor_of, commit_of}
+use Rattle.journal.proofs.Wholeness.{record_of}
 
 -- entries are the same by their block numbers and their bytes
 pub entries_same : (es fs : List Entry) → numbers_of es ≡ numbers_of fs → ((i : ℕ) → i < length es
@@ -52,51 +49,38 @@ bytes_of-entries_in image place (suc i) (b ∷ numbers) below =
 -- the numbers that a descriptor spells are those of its record
 pub numbers_read : (stamp : ℕ) (numbers bytes : List ℕ) → IsDescriptor stamp numbers bytes → numbers ≡ numbers_in bytes
 numbers_read stamp numbers bytes d =
-    fill_by_all (λ i. number_in bytes (3 + i)) numbers (number_in bytes 2) 0 (sym (descriptor_count stamp numbers bytes d))
-    (λ i below. sym (descriptor_number stamp numbers bytes d i (omega (arith, descriptor_count stamp numbers bytes d))))
+    fill_by_all (λ i. number_in bytes (3 + i)) numbers (number_in bytes 2) 0 (sym (descriptor_count d))
+    (λ i below. sym (descriptor_number d i (omega (arith, descriptor_count d))))
 
 module _ (shape : Shape) (image : Image) (s : ℕ) (es : List Entry) (w : IsWholeIn format1 shape image s es) where
-  record_is : IsRecordOf format1 shape.blocks s es
-  record_is = record { fit = w.fit; least = w.least; below = w.below }
-
   pub descriptor_there : IsDescriptor s (numbers_of es) (image (2 + 50 * (s % shape.slots)))
   descriptor_there =
-      let o : 0 ≡ offset1 (length es) 0 = sym (offset_early (length es) 0 (omega arith)) in
       let at : 2 + 50 * (s % shape.slots) ≡ 2 + 50 * (s % shape.slots) + 0 = omega arith in
-      subst (IsDescriptor s (numbers_of es))
-      (sym (ap image at
-      ∙ (ap (λ (x : ℕ). image (2 + 50 * (s % shape.slots) + x)) o
-      ∙ (w.there 0 (omega arith) ∙ part_descriptor s es 0 (omega arith)))))
-      (descriptor_of shape.blocks s es record_is)
+      let there : image (2 + 50 * (s % shape.slots)) ≡ descriptor1 s (numbers_of es) =
+      cc (at, w.there 0 (omega arith), offset_early (length es) 0 (omega arith), part_descriptor s es 0 (omega arith)) in
+      rw there (descriptor_of (record_of w))
 
   pub place_there : (i : ℕ) → i < length es → image (2 + 50 * (s % shape.slots) + 1 + i) ≡ block_of es i
   place_there i below =
-      let o : 1 + i ≡ offset1 (length es) (i + 1) = omega (arith, offset_early (length es) (i + 1) (omega arith)) in
-      let at : 2 + 50 * (s % shape.slots) + 1 + i ≡ 2 + 50 * (s % shape.slots) + (1 + i) = omega arith in
+      let at : 2 + 50 * (s % shape.slots) + 1 + i ≡ 2 + 50 * (s % shape.slots) + offset1 (length es) (i + 1) =
+      omega (arith, offset_early (length es) (i + 1) (omega arith)) in
       let back : i + 1 - 1 ≡ i = omega arith in
-      ap image at ∙ (ap (λ (x : ℕ). image (2 + 50 * (s % shape.slots) + x)) o ∙ (w.there (i + 1) (omega arith)
-      ∙ (part_place s es (i + 1) (omega arith) (omega arith) ∙ ap (λ (k : ℕ). block_of es k) back)))
+      cc (at, w.there (i + 1) (omega arith), part_place s es (i + 1) (omega arith) (omega arith), back)
+
+  -- its commit
+  pub commit_there : IsCommit s (length (numbers_of es)) (image (2 + 50 * (s % shape.slots) + 49))
+  commit_there =
+      let n = length es + 1 in
+      let there : image (2 + 50 * (s % shape.slots) + 49) ≡ commit1 s (length es) =
+      cc (w.there n (omega arith), offset_commit (length es) n (omega arith), part_commit s es n (omega arith)) in
+      rw (there, length-map es (λ (e : Entry). e.0)) (commit_of (record_of w))
 
   -- a whole record is the one that its slot spells
   pub record_read : es ≡ record_in image (2 + 50 * (s % shape.slots))
   record_read =
       let at : ℕ = 2 + 50 * (s % shape.slots) in
-      let numbers : numbers_of es ≡ numbers_in (image (2 + 50 * (s % shape.slots))) =
-      numbers_read s (numbers_of es) (image (2 + 50 * (s % shape.slots))) descriptor_there in
+      let numbers : numbers_of es ≡ numbers_in (image at) = numbers_read s (numbers_of es) (image at) descriptor_there in
       let f : Entry → ℕ = λ e. e.0 in
-      entries_same es (record_in image (2 + 50 * (s % shape.slots)))
-      (numbers ∙ sym (numbers_of-entries_in image (2 + 50 * (s % shape.slots) + 1) (numbers_in (image (2 + 50 * (s % shape.slots))))))
-      (λ i below. sym (place_there i below)
-      ∙ sym (bytes_of-entries_in image (2 + 50 * (s % shape.slots) + 1) i (numbers_in (image (2 + 50 * (s % shape.slots))))
+      entries_same es (record_in image at) (numbers ∙ sym (numbers_of-entries_in image (at + 1) (numbers_in (image at))))
+      (λ i below. sym (place_there i below) ∙ sym (bytes_of-entries_in image (at + 1) i (numbers_in (image at))
       (omega (arith, below, length-map es f, ap length numbers))))
-
-zero_number : number_in (replicate 512 0) 1 ≡ 0
-unfolding number_in
-zero_number = refl
-
--- zeros carry no stamp
-pub zeros_carry_none : (o s : ℕ) → Carries1 o s (replicate 512 0) → s ≡ 0
-zeros_carry_none o s c = elim (cases_lt o 1) [
-  | inl d ↦ let f = c.descriptor d in sym (descriptor_stamp s f.0 (replicate 512 0) f.1) ∙ zero_number
-  | inr b ↦ let f = c.commit (c.place b) in sym (commit_stamp s f.0 (replicate 512 0) f.1) ∙ zero_number
-]

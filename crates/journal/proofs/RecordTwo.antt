@@ -1,5 +1,5 @@
 -- The descriptors of a record of format 2, by its entries.
-use Rattle.std.proofs.Common.{◌≡◌, ℕ, ◌*◌, ◌-◌, ◌^◌, ◌<◌, ◌≤◌, List, [], ◌∷◌, ◌++◌, length, get_or, take, drop, refl, sym, ◌∙◌, ap, subst}
+use Rattle.std.proofs.Common.{◌≡◌, ℕ, ◌*◌, ◌-◌, ◌<◌, List, [], ◌∷◌, ◌++◌, length, get_or, take, drop, refl, sym, ◌∙◌, ap, subst}
 use Rattle.std.proofs.Common.{arith}
 use Rattle.std.specs.Prelude.{All, zip}
 use Rattle.std.specs.List.{flat_map}
@@ -9,8 +9,10 @@ use Rattle.std.proofs.Math.ListN.{get_or-map}
 use Rattle.byteorder.specs.Endian.{little_bytes}
 use Rattle.journal.specs.Entry.{Entry, numbers_of}
 use Rattle.journal.specs.Sectors.{IsRising}
-use Rattle.journal.specs.SectorsTwo.{padded, entry_bytes, descriptor_bytes, descriptor_mark, place_bytes, firsts_of, chunk_of}
+use Rattle.journal.specs.SectorsTwo.{padded, entry_bytes, descriptor_bytes, place_bytes, firsts_of, chunk_of}
 use Rattle.journal.specs.SectorsTwo.{spelled_two, IsDescriptorTwo}
+use Rattle.journal.specs.LayoutLaws.{IsRecordOf}
+use Rattle.journal.specs.Format2.{format2}
 use Rattle.journal.proofs.EntriesTwo.{rising_part}
 
 -- the bytes of entries are those of their numbers and first bytes
@@ -26,11 +28,7 @@ entries_same (e ∷ es) =
 pub descriptor_spelled : (stamp : ℕ) (es : List Entry) (j : ℕ)
     → descriptor_bytes stamp es j ≡ spelled_two stamp (length es) j (numbers_of (chunk_of es j)) (firsts_of (chunk_of es j))
 unfolding descriptor_bytes
-descriptor_spelled stamp es j =
-    ap
-    (λ (l : List ℕ).
-    padded (little_bytes 8 descriptor_mark ++ (little_bytes 8 stamp ++ (little_bytes 8 (length es) ++ (little_bytes 8 j ++ l)))))
-    (sym (entries_same (chunk_of es j)))
+descriptor_spelled stamp es j = rw (entries_same (chunk_of es j))
 
 -- the numbers of these entries
 pub numbers_of_chunk : (es : List Entry) (j : ℕ) → numbers_of (chunk_of es j) ≡ take 30 (drop (30 * j) (numbers_of es))
@@ -38,52 +36,43 @@ numbers_of_chunk es j =
     let f : Entry → ℕ = λ e. e.0 in
     sym (take-map f 30 (drop (30 * j) es)) ∙ ap (λ (l : List ℕ). take 30 l) (sym (drop-map f (30 * j) es))
 
--- the first bytes of a block are 8
-eight : (es : List Entry) (i : ℕ) → i < length es → All (λ (e : Entry). length e.1 ≡ 512) es → length (get_or (firsts_of es) i []) ≡ 8
-eight es i below sized =
-    let first : Entry → List ℕ = λ e. take 8 e.1 in
-    ap (λ (l : List ℕ). length l) (get_or-map first es i (0, []))
-    ∙ length-take-le 8 (get_or es i (0, [])).1 (omega (arith, sized i (0, []) below))
+-- their first bytes
+pub firsts_of_chunk : (es : List Entry) (j : ℕ) → firsts_of (chunk_of es j) ≡ take 30 (drop (30 * j) (firsts_of es))
+firsts_of_chunk es j =
+    let f : Entry → List ℕ = λ e. take 8 e.1 in
+    sym (take-map f 30 (drop (30 * j) es)) ∙ ap (λ (l : List (List ℕ)). take 30 l) (sym (drop-map f (30 * j) es))
 
 -- in a record in the limits it is a descriptor
-pub descriptor_two : (stamp : ℕ) (es : List Entry) (j : ℕ) → 1 ≤ stamp → stamp < 2 ^ 63 - 1 → length es ≤ 240 → 30 * j < length es
-    → IsRising (numbers_of es) → All (λ b. b < 2 ^ 31) (numbers_of es) → All (λ (e : Entry). length e.1 ≡ 512) es
+pub descriptor_two : {blocks stamp : ℕ} {es : List Entry} (j : ℕ) → IsRecordOf format2 blocks stamp es → 30 * j < length es
     → IsDescriptorTwo stamp (length es) j (numbers_of (chunk_of es j)) (firsts_of (chunk_of es j)) (descriptor_bytes stamp es j)
-descriptor_two stamp es j least most few used rising small sized =
+descriptor_two {stamp = stamp} {es = es} j r used =
     let number : Entry → ℕ = λ e. e.0 in
     let first : Entry → List ℕ = λ e. take 8 e.1 in
     let fits : ℕ → Type 0 = λ b. b < 2147483648 in
     let full : Entry → Type 0 = λ e. length e.1 ≡ 512 in
+    let chunk : List Entry = chunk_of es j in
     let numbers = numbers_of_chunk es j in
-    let long_numbers = length-map (chunk_of es j) number in
-    let long_firsts = length-map (chunk_of es j) first in
+    let long_numbers = length-map chunk number in
+    let long_firsts = length-map chunk first in
+    let sized = All-take full 30 (drop (30 * j) es) (All-drop full (30 * j) es r.fit.sized) in
     record {
       spelled = descriptor_spelled stamp es j;
-      least = least;
-      most = most;
+      least = r.least;
+      most = r.below;
       entries = record {
-        few = few;
+        few = r.fit.few;
         used = used;
         many = omega (arith, long_numbers, length-take 30 (drop (30 * j) es), length-drop (30 * j) es);
         each = omega (arith, long_numbers, long_firsts);
-        rising = subst IsRising (sym numbers) (rising_part (numbers_of es) (30 * j) 30 rising);
+        rising = subst IsRising (sym numbers) (rising_part (numbers_of es) (30 * j) 30 r.fit.rising);
         small = subst (All fits) (sym numbers)
-            (All-take fits 30 (drop (30 * j) (numbers_of es)) (All-drop fits (30 * j) (numbers_of es) small));
-        sized = All-from_get_or (λ (l : List ℕ). length l ≡ 8) (firsts_of (chunk_of es j)) []
-            (λ i below. eight (chunk_of es j) i (omega (arith, below, long_firsts))
-            (All-take full 30 (drop (30 * j) es) (All-drop full (30 * j) es sized)));
+            (All-take fits 30 (drop (30 * j) (numbers_of es)) (All-drop fits (30 * j) (numbers_of es) r.fit.small));
+        sized = All-from_get_or (λ (l : List ℕ). length l ≡ 8) (firsts_of chunk) [] (λ i below.
+            let block = (get_or chunk i (0, [])).1 in
+            rw (get_or-map first chunk i (0, []))
+            (length-take-le 8 block (omega (arith, sized i (0, []) (omega (arith, below, long_firsts))))));
       };
     }
-
--- a descriptor of these entries' numbers and first bytes is descriptor j of the record
-pub descriptor_of_two : (stamp j : ℕ) (es : List Entry) (numbers : List ℕ) (firsts : List (List ℕ)) (bytes : List ℕ)
-    → IsDescriptorTwo stamp (length es) j numbers firsts bytes → numbers ≡ numbers_of (chunk_of es j) → firsts ≡ firsts_of (chunk_of es j)
-    → bytes ≡ descriptor_bytes stamp es j
-descriptor_of_two stamp j es numbers firsts bytes d same alike =
-    d.spelled
-    ∙ ap (λ (l : List ℕ). spelled_two stamp (length es) j l firsts) same
-    ∙ ap (λ (l : List (List ℕ)). spelled_two stamp (length es) j (numbers_of (chunk_of es j)) l) alike
-    ∙ sym (descriptor_spelled stamp es j)
 
 -- a data place is one for its own bytes
 pub place_own : (stamp : ℕ) (block sector : List ℕ) → sector ≡ place_bytes stamp block → sector ≡ place_bytes stamp sector

@@ -1,8 +1,10 @@
 -- An image stands for one array and one next stamp.
-use Rattle.std.proofs.Common.{◌≡◌, ⊎_elim, ℕ, zero, suc, ◌+◌, ◌*◌, ◌<◌, ◌≤◌, List, [], ◌∷◌, length, get_or, refl, sym, ◌∙◌, ap, subst}
+use Rattle.std.proofs.Common.{◌≡◌, inl, inr, ℕ, ◌+◌, ◌*◌, ◌<◌, ◌≤◌, List, [], ◌∷◌, length, get_or, map, refl, sym, ◌∙◌, ap, subst}
 use Rattle.std.proofs.Common.{arith}
 use Rattle.std.proofs.lemmas.Bool.{cases_lt}
 use Rattle.std.proofs.lemmas.List.{ext_get_or}
+use Rattle.std.proofs.lemmas.List.FromFn.{get_or-map-range_with_len, length-map-range_with_len}
+use Rattle.std.specs.List.{range_with_len}
 use Rattle.medium.specs.Medium.{Image}
 use Rattle.spec.specs.Blocks.{Array}
 use Rattle.journal.specs.Places.{Shape, sectors_of}
@@ -12,10 +14,15 @@ use Rattle.journal.specs.Layout.{slot_at}
 use Rattle.journal.specs.Formats.{layout_of, IsWhole}
 use Rattle.journal.specs.Standing.{IsCount, StandsFor, IsOurs}
 use Rattle.journal.specs.ImageFaults.{HasShape}
-use Rattle.journal.proofs.OneSpelling.{IsHead-one}
-use Rattle.journal.proofs.SectorNumbers.{IsSuper-one}
+use Rattle.journal.proofs.SectorNumbers.{IsSuper-one, IsHead-one}
 use Rattle.journal.proofs.Formats.{laws_of, sectors_are}
 use Rattle.journal.proofs.Wholeness.{IsWhole-one, HasWhole-same, CarriesBelow-agree, Keeps-same, slot_inside}
+
+-- with one head there are no fewer records of what an image stands for
+not_fewer : (size other : ℕ) (shape : Shape) (image : Image) (a b : Array) (t u : ℕ) (h : StandsFor size shape image a t)
+    (k : StandsFor other shape image b u) → h.head ≡ k.head → ¬ (length h.records < length k.records)
+not_fewer size other shape image a b t u h k heads less =
+    h.ends (omega (arith, k.few)) (get_or k.records (length h.records) [], rw heads (k.keeps.whole (length h.records) less))
 
 module _ (size other : ℕ) (shape : Shape) (image : Image) (a b : Array) (t u : ℕ) (h : StandsFor size shape image a t)
     (k : StandsFor other shape image b u) where
@@ -25,29 +32,20 @@ module _ (size other : ℕ) (shape : Shape) (image : Image) (a b : Array) (t u :
 
   -- there are as many records
   pub counts : length h.records ≡ length k.records
-  counts =
-      ⊎_elim
-      (λ (less : length h.records < length k.records). absurd (h.ends (omega (arith, k.few)) (
-        get_or k.records (length h.records) [],
-        subst (λ s. IsWhole shape image s (get_or k.records (length h.records) [])) (omega (arith, heads))
-            (k.keeps.whole (length h.records) less),
-      )))
-      (λ (ge : length k.records ≤ length h.records). ⊎_elim
-      (λ (less : length k.records < length h.records). absurd (k.ends (omega (arith, h.few)) (
-        get_or h.records (length k.records) [],
-        subst (λ s. IsWhole shape image s (get_or h.records (length k.records) [])) (omega (arith, heads))
-            (h.keeps.whole (length k.records) less),
-      )))
-      (λ (le : length h.records ≤ length k.records). omega arith) (cases_lt (length k.records) (length h.records)))
-      (cases_lt (length h.records) (length k.records))
+  counts = elim (cases_lt (length h.records) (length k.records)) [
+    | inl less ↦ absurd (not_fewer size other shape image a b t u h k heads less)
+    | inr ge ↦ elim (cases_lt (length k.records) (length h.records)) [
+      | inl less ↦ absurd (not_fewer other size shape image b a u t k h (sym heads) less)
+      | inr le ↦ omega arith
+    ]
+  ]
 
   -- they are the same records
   pub records_same : h.records ≡ k.records
   records_same =
       ext_get_or [] h.records k.records counts
       (λ j below. IsWhole-one (layout_of shape.format) (laws_of shape.format) shape image (h.head + j) (get_or h.records j [])
-      (get_or k.records j []) (h.keeps.whole j below)
-      (subst (λ s. IsWhole shape image s (get_or k.records j [])) (omega (arith, heads)) (k.keeps.whole j (omega (arith, counts)))))
+      (get_or k.records j []) (h.keeps.whole j below) (rw heads (k.keeps.whole j (omega (arith, counts)))))
 
   -- so are the next stamp and the blocks of the array
   pub same_stamp_and_blocks : (t ≡ u) × ((x : ℕ) → x < shape.blocks → a x ≡ b x)
@@ -68,26 +66,6 @@ StandsFor-one size other s r image a b t u h k =
     let same = same_stamp_and_blocks size other s image a b t u h there in
     (one, same.0, same.1)
 
--- for each of n numbers there is an entry: all of them as a list
-abbrev Collected : ℕ → (ℕ → List Entry → Type 0) → Type 0
-Collected n P = (records : List (List Entry)) × (length records ≡ n) × ((j : ℕ) → j < n
-    → P j (get_or records j []))
-
--- one more in front
-one_more : (n : ℕ) (P : ℕ → List Entry → Type 0) → ((e : List Entry) × P 0 e)
-    → Collected n (λ j. P (suc j)) → Collected (suc n) P
-one_more n P first rest = (first.0 ∷ rest.0, (let e = rest.1 in omega (arith, e)), each)
-  where
-    each : (j : ℕ) → j < suc n → P j (get_or (first.0 ∷ rest.0) j [])
-    each zero below = first.1
-    each (suc j) below = rest.2 j (omega arith)
-
--- all of them
-collect : (n : ℕ) (P : ℕ → List Entry → Type 0) → ((j : ℕ) → j < n → (e : List Entry) × P j e)
-    → Collected n P
-collect zero P f = ([], refl, λ j below. absurd (omega arith))
-collect (suc n) P f = one_more n P (f 0 (omega arith)) (collect n (λ j. P (suc j)) (λ j below. f (suc j) (omega arith)))
-
 -- an image with a super, a head and so many whole records stands for an array
 pub record Stood (size : ℕ) (shape : Shape) (image : Image) (head count : ℕ) : Type 0 where
   pub array : Array
@@ -100,17 +78,29 @@ pub count_stands : (size : ℕ) (shape : Shape) (image : Image) (head count : �
     → sectors_of shape ≤ size → IsSuper shape (image 0) → IsHead head (image 1)
     → IsCount shape image head count → Stood size shape image head count
 count_stands size shape image head count fits s h c =
-    let found = collect count (λ j e. IsWhole shape image (head + j) e) (λ j below. c.whole j below) in
-    let long : length found.0 ≡ count = found.1 in
+    let L = layout_of shape.format in
+    let read : ℕ → List Entry = λ j. L.read image (slot_at L shape (head + j)) in
+    let records : List (List Entry) = map read (range_with_len 0 count) in
+    let long : length records ≡ count = length-map-range_with_len read 0 count in
     record {
-      array = with_records found.0 (home_of shape image);
+      array = with_records records (home_of shape image);
       stands = record {
         fits = fits;
         head = head;
-        records = found.0;
-        keeps = record { super = s; head_is = h; whole = λ j below. found.2 j (omega (arith, long)); blocks = λ b below. refl };
+        records = records;
+        keeps = record {
+          super = s;
+          head_is = h;
+          whole = λ j below.
+              let w = c.whole j (omega (arith, below, long)) in
+              rw (
+                get_or-map-range_with_len read 0 count j j [] (omega (arith, below, long)) (omega arith),
+                ← ((laws_of shape.format).read shape image (head + j) w.0 w.1),
+              ) w.1;
+          blocks = λ b below. refl;
+        };
         few = omega (arith, long, c.few);
-        ends = λ less w. c.ends (omega (arith, long)) (w.0, subst (λ (n : ℕ). IsWhole shape image (head + n) w.0) long w.1);
+        ends = λ less w. c.ends (omega (arith, long)) (w.0, rw long at w.1);
         next_is = omega (arith, long);
       };
       head_is = refl;
@@ -160,15 +150,6 @@ module _ (size : ℕ) (shape : Shape) (before image : Image) (agree : Agree 0 si
             (λ x low high. sym (slot_agrees (before 0) s.keeps.super s.fits (s.head + length s.records) x low high)) w);
         next_is = s.next_is;
       }
-
-  -- an image with the same sectors is ours too
-  pub IsOurs-same : (array : Array) (next : ℕ)
-      → IsOurs size shape before array next → IsOurs size shape image array next
-  IsOurs-same array next o = record {
-    stands = StandsFor-same array next o.stands;
-    carries = CarriesBelow-agree (layout_of shape.format) (laws_of shape.format) shape before image next
-        (log_agrees (before 0) o.stands.keeps.super o.stands.fits) o.carries;
-  }
 
 -- an image that stands for something has the shape of its super
 pub StandsFor-shape : (size : ℕ) (shape : Shape) (image : Image) (array : Array) (next : ℕ) → StandsFor size shape image array next

@@ -3,13 +3,29 @@ use Rattle.std.proofs.Common.{◌≡◌, ℕ, ◌+◌, ◌-◌, ◌*◌, ◌%◌
 use Rattle.std.proofs.lemmas.Nat.{mod_below}
 use Rattle.medium.specs.Medium.{Image}
 use Rattle.spec.specs.Blocks.{Array}
+use Rattle.journal.specs.declared.log_format.LogFormat.{LogFormat}
 use Rattle.journal.specs.Places.{Shape}
 use Rattle.journal.specs.Sectors.{IsSuper, IsHead}
 use Rattle.journal.specs.Record.{Entry, home_of, Agree}
 use Rattle.journal.specs.Layout.{Layout, IsWholeIn, HasWholeIn, CarriesBelowIn, KeepsIn, slot_at}
-use Rattle.journal.specs.LayoutLaws.{Laws}
+use Rattle.journal.specs.LayoutLaws.{Laws, IsRecordOf}
+use Rattle.journal.specs.Formats.{layout_of, IsWhole}
 use Rattle.journal.proofs.Apart.{in_log}
 use Rattle.journal.proofs.Overlay.{with_records-same}
+
+-- a whole record is one of its stamp
+pub record_of : {L : Layout} {shape : Shape} {image : Image} {stamp : ℕ} {entries : List Entry} → IsWholeIn L shape image stamp entries
+    → IsRecordOf L shape.blocks stamp entries
+record_of w = record { fit = w.fit; least = w.least; below = w.below }
+
+-- a record of a format, as one of its layout
+pub as_format : {format : LogFormat} {shape : Shape} {image : Image} {stamp : ℕ} {entries : List Entry} → shape.format ≡ format
+    → IsWhole shape image stamp entries → IsWholeIn (layout_of format) shape image stamp entries
+as_format {shape = s} {image = i} {stamp = t} {entries = es} is w = subst (λ (f : LogFormat). IsWholeIn (layout_of f) s i t es) is w
+
+pub of_format : {format : LogFormat} {shape : Shape} {image : Image} {stamp : ℕ} {entries : List Entry} → shape.format ≡ format
+    → IsWholeIn (layout_of format) shape image stamp entries → IsWhole shape image stamp entries
+of_format {shape = s} {image = i} {stamp = t} {entries = es} is w = subst (λ (f : LogFormat). IsWholeIn (layout_of f) s i t es) (sym is) w
 
 module _ (L : Layout) (laws : Laws L) (shape : Shape) where
   -- an image has at most one whole record of a stamp

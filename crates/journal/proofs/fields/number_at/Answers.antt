@@ -15,4 +15,4 @@ returns-clause-is c =
 
 pub returns-clause-spelled : goal.returns-clause-spelled
 returns-clause-spelled c numbers below fit is = returns-clause-is c
-    ∙ spelling-get c.args.i numbers c.args.sector.now below fit is
+    ∙ spelling-get c.args.i numbers c.args.sector.now below (fit c.args.i 0 below) is

@@ -5,7 +5,7 @@ use Rattle.journal.proofs.super_sector.Super.decode.Goals as goal
 
 pub returns-then-not-has_zero_rest-clause-all : goal.returns-then-not-has_zero_rest-clause-all
 returns-then-not-has_zero_rest-clause-all c shape s =
-    let zeros : IsTrue c.has_zero_rest.result = c.has_zero_rest.ensures.1 ((super_begins shape c.args.sector.now s).2) in
+    let zeros : IsTrue c.has_zero_rest.result = c.has_zero_rest.ensures.1 (super_begins s).2 in
     search rules
 
 pub returns-in_default-clause-err : goal.returns-in_default-clause-err

@@ -1,5 +1,4 @@
-use Rattle.std.proofs.Common.{◌≡◌, ℕ, rules, arith, sym, ◌∙◌, ap}
-use Rattle.journal.specs.SectorsTwo.{commit_bytes}
+use Rattle.std.proofs.Common.{◌≡◌, rules, arith, ◌∙◌}
 use Rattle.journal.proofs.EntriesTwo.{commit_stamp, commit_count}
 use Rattle.journal.proofs.v2.commit.Commit.decode.Goals as goal
 use Rattle.journal.proofs.v2.commit.Commit.decode.Goals.{then-stamp-lt1-via-then-stamp-lt1, then-stamp-lt1-via-else-stamp-lt1+then-stamp}
@@ -25,10 +24,12 @@ returns-then-eq-clause-all c stamp count d = (
 
 pub returns-else-eq-clause-all : goal.returns-else-eq-clause-all
 returns-else-eq-clause-all c stamp count d =
-    let st : c.number_at-stamp.result ≡ stamp = c.number_at-stamp.ensures.is ∙ commit_stamp stamp count c.args.sector.now d in
-    let many : c.number_at-count.result ≡ count = c.number_at-count.ensures.is ∙ commit_count stamp count c.args.sector.now d in
-    let e : c.encode.result ≡ c.args.sector.now = c.encode.ensures.spelled
-    ∙ ap (λ (s : ℕ). commit_bytes s c.number_at-count.result) st
-    ∙ ap (λ (n : ℕ). commit_bytes stamp n) many
-    ∙ sym d.spelled in
+    let e : c.encode.result ≡ c.args.sector.now = cc (
+      c.encode.ensures.spelled,
+      c.number_at-stamp.ensures.is,
+      commit_stamp stamp count c.args.sector.now d,
+      c.number_at-count.ensures.is,
+      commit_count stamp count c.args.sector.now d,
+      d.spelled,
+    ) in
     search rules
