@@ -1,14 +1,11 @@
 -- The block numbers of a record, read descriptor by descriptor.
 use Rattle.std.proofs.Common.{◌≡◌, inl, inr, ℕ, ◌+◌, ◌*◌, ◌<◌, ◌≤◌, List, ◌++◌, length, take, drop, sym, ◌∙◌, ap, subst, arith}
 use Rattle.std.proofs.lemmas.Bool.{cases_eq}
-use Rattle.std.proofs.lemmas.List.{drop_at, take_all, drop-append-le, take-append-le, length-drop, take-map, drop-map}
+use Rattle.std.proofs.lemmas.List.{drop_at, take_all, drop-append-le, take-append-le, length-drop}
 use Rattle.medium.specs.Medium.{Image}
-use Rattle.std.specs.Prelude.{All}
-use Rattle.journal.specs.Sectors.{IsRising}
-use Rattle.journal.specs.Entry.{Entry}
-use Rattle.journal.specs.SectorsTwo.{descriptors_of, chunk_of, firsts_of, IsDescriptorTwo}
+use Rattle.journal.specs.SectorsTwo.{descriptors_of, IsDescriptorTwo}
 use Rattle.journal.specs.SlotTwo.{HasDescriptors}
-use Rattle.journal.specs.SlotReads.{HasDescriptor, NamesBlocks}
+use Rattle.journal.specs.SlotReads.{HasDescriptor}
 
 module _ (j : ℕ) (numbers more : List ℕ) (long : length numbers ≡ 30 * j) where
   -- the numbers that were there

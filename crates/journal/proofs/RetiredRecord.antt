@@ -9,7 +9,7 @@ use Rattle.journal.specs.Places.{Shape}
 use Rattle.journal.specs.Sectors.{IsSuper, IsHead}
 use Rattle.journal.specs.Record.{Entry, Agree, with_blocks, with_records, home_of, Hides}
 use Rattle.journal.specs.Layout.{Layout, IsWholeIn, CarriesBelowIn, part_at}
-use Rattle.journal.specs.LayoutLaws.{Laws, IsRecordOf}
+use Rattle.journal.specs.LayoutLaws.{Laws}
 use Rattle.journal.specs.Staged.{View, stamp_of, with_less, IsHomed, KeepsView, WrittenSoFar, Guarded, Resting, HasSlots}
 use Rattle.journal.proofs.Overlay.{with_records-same, with_blocks-home}
 use Rattle.journal.proofs.Wholeness.{IsWhole-same, CarriesBelow-agree, slot_inside}

@@ -1,5 +1,5 @@
 -- A record of format 2 is whole where the sectors of its slot say what they should, and there alone.
-use Rattle.std.proofs.Common.{◌≡◌, ℕ, ◌+◌, ◌*◌, ◌%◌, ◌<◌, ◌≤◌, List, length, arith}
+use Rattle.std.proofs.Common.{◌≡◌, ℕ, ◌+◌, ◌*◌, ◌%◌, ◌<◌, List, length, arith}
 use Rattle.std.specs.Prelude.{true, false, IsTrue, All}
 use Rattle.medium.specs.Medium.{Image}
 use Rattle.journal.specs.declared.log_format.LogFormat.TheVariants.{Two}

@@ -1,4 +1,4 @@
-use Rattle.std.proofs.Common.{◌≡◌, ◌∙◌, ◌+◌, ◌*◌, ◌%◌, ◌<◌, ◌≤◌, ℕ, List, Result, Ok, inl, inr, refl, sym, subst, rules, arith}
+use Rattle.std.proofs.Common.{◌≡◌, ◌∙◌, ◌+◌, ◌*◌, ◌<◌, ◌≤◌, ℕ, List, Result, Ok, inl, inr, refl, sym, rules, arith}
 use Rattle.std.specs.Prelude.{length, All}
 use Rattle.std.proofs.lemmas.List.{length-map}
 use Rattle.medium.specs.Medium.{State, LooksOnly}
